@@ -1,0 +1,244 @@
+//! What a scheduler is opened with.
+ghost use Rattle.std.specs.Prelude.{◌≡◌, ◌<◌, ◌≤◌, length, IfOk, IfErr, IfSome, IfNone, All, slice_index};
+ghost use Rattle.fq_model.specs.Limits.{InLimits, FirstFault, FirstBadWeight, IsWeight};
+
+use std::marker::Model;
+
+/// Which waiting request a worker takes.
+#[derive(Clone, Copy, Debug, PartialEq, Eq)]
+pub enum Policy {
+    /// The least finish tag (after Demers, Keshav and Shenker, 1989; Parekh and Gallager, 1993).
+    Wfq,
+    /// The least finish tag of those that have started in virtual time (after Bennett and Zhang, 1996).
+    Wf2q,
+    /// As `Wf2q`, with start values by the virtual time that passed while a tenant was not active
+    /// (after Blanquer and Özden, 2001; the rule is this project's own).
+    Msf2q,
+    /// As `Wf2q`, with a start that is staggered by worker (after Mace and others, 2016).
+    TwoDfq,
+}
+
+/// What a request is thought to cost before it is done.
+#[derive(Clone, Copy, Debug, PartialEq, Eq)]
+pub enum Estimator {
+    /// What its submitter named.
+    Declared,
+    /// The mean of its tenant's and kind's last eight costs.
+    Recent,
+    /// The greatest of its tenant's and kind's costs, each decayed once for each that came later.
+    Pessimistic,
+}
+
+/// The weights of the tenants, by number. Contracts see the list.
+#[derive(Drop)]
+pub struct Weights {
+    items: Vec<u32>,
+}
+
+impl Model for Weights {
+    ghost use Rattle.std.specs.Prelude.{List, ℕ};
+
+    ghost Value = { List ℕ };
+
+    ghost view = { λ w. w.items.items };
+}
+
+impl Weights {
+    /// Takes the vector over; takes no memory.
+    pub fn from_vec(items: Vec<u32>) -> Weights
+        ensures { result ≡ items.items }
+    {
+        Weights { items }
+    }
+
+    /// Gives the vector back; takes no memory.
+    pub fn into_vec(self) -> Vec<u32>
+        ensures { result.items ≡ self }
+    {
+        self.items
+    }
+
+    /// The weights in order.
+    pub fn as_slice(&self) -> &[u32]
+        ensures { result.now ≡ self.now }
+    {
+        self.items.as_slice()
+    }
+}
+
+/// A configuration that nobody has looked at: `check` says whether its numbers are in their limits.
+#[derive(Drop)]
+pub struct Config {
+    /// 1 to 64.
+    pub workers: u32,
+    /// One weight a tenant, each 1 to 1,000; 1 to 4,096 tenants.
+    pub weights: Weights,
+    /// 1 to 64; tenants times kinds is at most 65,536.
+    pub kinds: u32,
+    /// How many entries the history may have: 4 to 4,194,304.
+    pub entries: u32,
+    /// How many requests may wait at once: 1 to 262,144.
+    pub requests: u32,
+    pub policy: Policy,
+    pub estimate: Estimator,
+    /// The estimate before any completion, in microseconds: 1 to 1,000,000,000.
+    pub initial: u64,
+}
+
+/// The first number of a configuration that is out of its limit, in the order of these variants.
+/// `Weight` carries the least tenant whose weight is out of range.
+#[derive(Clone, Copy, Debug, PartialEq, Eq)]
+pub enum ConfigFault {
+    Workers(u32),
+    Tenants(u64),
+    Weight(u32),
+    Kinds(u32),
+    Pairs(u64),
+    Entries(u32),
+    Requests(u32),
+    Initial(u64),
+}
+
+/// A configuration whose numbers are in their limits.
+#[derive(Drop)]
+pub struct Checked {
+    config: Config,
+}
+
+impl Model for Checked {
+    ghost use Rattle.fq_model.specs.declared.config.Config.{Config};
+    ghost use Rattle.fq_model.specs.Limits.{InLimits};
+
+    ghost Value = { Config };
+
+    ghost view = { λ c. c.config };
+
+    ghost invariant = { λ c. InLimits c.config };
+}
+
+impl Checked {
+    /// 1 to 64.
+    pub fn workers(&self) -> u32
+        ensures value { result ≡ self.now.workers }
+        ensures limits { InLimits self.now }
+    {
+        self.config.workers
+    }
+
+    /// 1 to 4,096.
+    pub fn tenants(&self) -> u32
+        ensures value { result ≡ length self.now.weights }
+        ensures limits { InLimits self.now }
+    {
+        self.config.weights.as_slice().len() as u32
+    }
+
+    /// 1 to 1,000.
+    pub fn weight(&self, t: u32) -> u32
+        requires { t < length self.now.weights }
+        ensures value { result ≡ slice_index self.now.weights t }
+        ensures lower { 1 ≤ result }
+        ensures upper { result ≤ 1000 }
+    {
+        self.config.weights.as_slice()[t as usize]
+    }
+
+    /// 1 to 64.
+    pub fn kinds(&self) -> u32
+        ensures value { result ≡ self.now.kinds }
+        ensures limits { InLimits self.now }
+    {
+        self.config.kinds
+    }
+
+    /// 4 to 4,194,304.
+    pub fn entries(&self) -> u32
+        ensures value { result ≡ self.now.entries }
+        ensures limits { InLimits self.now }
+    {
+        self.config.entries
+    }
+
+    /// 1 to 262,144.
+    pub fn requests(&self) -> u32
+        ensures value { result ≡ self.now.requests }
+        ensures limits { InLimits self.now }
+    {
+        self.config.requests
+    }
+
+    /// Which waiting request a worker takes.
+    pub fn policy(&self) -> Policy
+        ensures value { result ≡ self.now.policy }
+        ensures limits { InLimits self.now }
+    {
+        self.config.policy
+    }
+
+    /// What a request is thought to cost.
+    pub fn estimate(&self) -> Estimator
+        ensures value { result ≡ self.now.estimate }
+        ensures limits { InLimits self.now }
+    {
+        self.config.estimate
+    }
+
+    /// 1 to 1,000,000,000 microseconds.
+    pub fn initial(&self) -> u64
+        ensures value { result ≡ self.now.initial }
+        ensures limits { InLimits self.now }
+    {
+        self.config.initial
+    }
+}
+
+impl Config {
+    /// Looks at each number, in the order of the fault's variants. Takes no memory.
+    pub fn check(self) -> Result<Checked, ConfigFault>
+        ensures ok { IfOk result (λ c. c ≡ self) }
+        ensures limits { IfOk result (λ _. InLimits self) }
+        ensures fault { IfErr result (FirstFault self) }
+    {
+        if self.workers < 1 || self.workers > 64 {
+            return Err(ConfigFault::Workers(self.workers));
+        }
+        let tenants = self.weights.as_slice().len();
+        if tenants < 1 || tenants > 4096 {
+            return Err(ConfigFault::Tenants(tenants as u64));
+        }
+        if let Some(t) = bad_weight(self.weights.as_slice()) {
+            return Err(ConfigFault::Weight(t));
+        }
+        if self.kinds < 1 || self.kinds > 64 {
+            return Err(ConfigFault::Kinds(self.kinds));
+        }
+        let pairs = tenants as u64 * self.kinds as u64;
+        if pairs > 65536 {
+            return Err(ConfigFault::Pairs(pairs));
+        }
+        if self.entries < 4 || self.entries > 4194304 {
+            return Err(ConfigFault::Entries(self.entries));
+        }
+        if self.requests < 1 || self.requests > 262144 {
+            return Err(ConfigFault::Requests(self.requests));
+        }
+        if self.initial < 1 || self.initial > 1000000000 {
+            return Err(ConfigFault::Initial(self.initial));
+        }
+        Ok(Checked { config: self })
+    }
+}
+
+// The least tenant whose weight is out of its limit.
+fn bad_weight(weights: &[u32]) -> Option<u32>
+    requires { length weights.now ≤ 4096 }
+    ensures none { IfNone result (All IsWeight weights.now) }
+    ensures some { IfSome result (FirstBadWeight weights.now) }
+{
+    for (t, w) in weights.iter().enumerate() {
+        if *w < 1 || *w > 1000 {
+            return Some(t as u32);
+        }
+    }
+    None
+}

@@ -1,0 +1,128 @@
+//! Entries of a history, calls and replies.
+
+/// What an entry says was done. Moments and costs are microseconds.
+#[derive(Clone, Copy, Debug, PartialEq, Eq)]
+pub enum Act {
+    /// A request came. `declared` is the cost that its submitter names, `label` the number of its job.
+    Submit {
+        request: u32,
+        tenant: u32,
+        kind: u32,
+        declared: u64,
+        label: u64,
+    },
+    /// A worker began a request, which was charged this estimate of its cost.
+    Take {
+        worker: u32,
+        request: u32,
+        estimate: u64,
+    },
+    /// A running request was seen to have used this much so far.
+    Report {
+        worker: u32,
+        request: u32,
+        used: u64,
+    },
+    /// A request ended, and its measured cost is this.
+    Done {
+        worker: u32,
+        request: u32,
+        cost: u64,
+    },
+    /// From here on nothing more is submitted.
+    Close,
+}
+
+/// One accepted call: who made it, at what moment in microseconds, and what it did.
+#[derive(Clone, Copy, Debug, PartialEq, Eq)]
+pub struct Entry {
+    pub who: u32,
+    pub moment: u64,
+    pub act: Act,
+}
+
+/// Why a call is refused. Each carries the number concerned.
+#[derive(Clone, Copy, Debug, PartialEq, Eq)]
+pub enum Cause {
+    /// The history is closed.
+    Closed,
+    /// No tenant has this number.
+    Tenant(u32),
+    /// No kind has this number.
+    Kind(u32),
+    /// A cost or a use that is out of its range.
+    Cost(u64),
+    /// As many requests wait as there are slots, which is this number.
+    Slots(u32),
+    /// The history, which may have this many entries, lacks room for the call and all that must follow it.
+    Full(u32),
+    /// No worker has this number.
+    Worker(u32),
+    /// The worker runs this request already.
+    Busy(u32),
+    /// The worker runs nothing.
+    NotRunning,
+    /// The use or cost `given` is less than `last`, the greatest use reported so far.
+    Falling { last: u64, given: u64 },
+}
+
+/// What a scheduler is asked. `who` is the caller's number, which is written down and not looked at;
+/// `moment` is the caller's clock in microseconds, and may be any number.
+#[derive(Clone, Copy, Debug, PartialEq, Eq)]
+pub enum Call {
+    /// A request comes.
+    Submit {
+        who: u32,
+        moment: u64,
+        tenant: u32,
+        kind: u32,
+        declared: u64,
+        label: u64,
+    },
+    /// A worker that runs nothing asks for work.
+    Take {
+        who: u32,
+        moment: u64,
+        worker: u32,
+    },
+    /// A worker says what its request has used so far.
+    Report {
+        who: u32,
+        moment: u64,
+        worker: u32,
+        used: u64,
+    },
+    /// A worker says what its request cost, now that it has ended.
+    Done {
+        who: u32,
+        moment: u64,
+        worker: u32,
+        cost: u64,
+    },
+    /// No more requests will come.
+    Close {
+        who: u32,
+        moment: u64,
+    },
+}
+
+/// What a scheduler answers.
+#[derive(Clone, Copy, Debug, PartialEq, Eq)]
+pub enum Reply {
+    /// The submitted request has this number.
+    Request(u32),
+    /// The worker runs this request, which is charged this estimate; its job has this label.
+    Run {
+        request: u32,
+        estimate: u64,
+        label: u64,
+    },
+    /// The report, completion or close is written down.
+    Accepted,
+    /// Nothing waits now; more may come.
+    Idle,
+    /// Nothing waits, and nothing more will come.
+    Drained,
+    /// Nothing was done, for this cause.
+    Refused(Cause),
+}
