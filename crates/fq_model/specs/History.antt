@@ -1,0 +1,164 @@
+-- A history is the list of its entries, the newest first. What is submitted, waits and runs in it.
+use Rattle.std.specs.Prelude.{ℕ, suc, ◌^◌, ◌≤◌, ◌≡◌, ◌==◌, max, Bool, true, false, not, ◌&&◌, ◌||◌, if◌then◌else◌, List, [], ◌∷◌, ◌++◌, Option, Some, None, reverse, drop, slice_index}
+use Rattle.fq_model.specs.declared.config.Config.{Config}
+use Rattle.fq_model.specs.declared.event.Act.{Act}
+use Rattle.fq_model.specs.declared.event.Act.TheVariants.{Submit, Take, Report, Done, Close}
+use Rattle.fq_model.specs.declared.event.Entry.{Entry}
+use Rattle.fq_model.specs.Sums.{count_below, least_below}
+
+abbrev pub History : Type 0
+History = List Entry
+
+-- the history of entries in order of time
+abbrev pub history_of : List Entry → History
+history_of entries = reverse entries
+
+-- the act is the Submit of r
+abbrev pub is_submit_of : ℕ → Act → Bool
+is_submit_of r (Submit request tenant kind declared label) = request == r
+is_submit_of r _ = false
+
+-- the act is a Take of r
+abbrev pub is_take_of : ℕ → Act → Bool
+is_take_of r (Take worker request estimate) = request == r
+is_take_of r _ = false
+
+-- the act is a Take of r by worker i
+abbrev pub is_take_by : ℕ → ℕ → Act → Bool
+is_take_by i r (Take worker request estimate) = (worker == i) && (request == r)
+is_take_by i r _ = false
+
+-- the act is a Done of r
+abbrev pub is_done_of : ℕ → Act → Bool
+is_done_of r (Done worker request cost) = request == r
+is_done_of r _ = false
+
+abbrev pub is_close : Act → Bool
+is_close Close = true
+is_close _ = false
+
+-- the act of some entry passes the test
+abbrev pub has_act : (Act → Bool) → History → Bool
+has_act test [] = false
+has_act test (e ∷ P) = test e.act || has_act test P
+
+unfoldable pub is_submitted : History → ℕ → Bool
+is_submitted P r = has_act (is_submit_of r) P
+
+unfoldable pub is_taken : History → ℕ → Bool
+is_taken P r = has_act (is_take_of r) P
+
+unfoldable pub is_done : History → ℕ → Bool
+is_done P r = has_act (is_done_of r) P
+
+unfoldable pub is_closed : History → Bool
+is_closed P = has_act is_close P
+
+-- r is submitted and not taken
+unfoldable pub is_waiting : History → ℕ → Bool
+is_waiting P r = is_submitted P r && not (is_taken P r)
+
+-- r is taken and not done
+unfoldable pub is_running : History → ℕ → Bool
+is_running P r = is_taken P r && not (is_done P r)
+
+-- no request has a number of this or above, since it is 32 bits wide
+unfoldable pub request_bound : ℕ
+request_bound = 2 ^ 32
+
+-- the number of waiting requests
+unfoldable pub waiting : History → ℕ
+waiting P = count_below (is_waiting P) request_bound
+
+-- the number of running requests
+unfoldable pub running : History → ℕ
+running P = count_below (is_running P) request_bound
+
+-- one more for a Submit
+abbrev pub with_submit : Act → ℕ → ℕ
+with_submit (Submit request tenant kind declared label) older = suc older
+with_submit _ older = older
+
+-- the number of Submits
+abbrev pub submits : History → ℕ
+submits [] = 0
+submits (e ∷ P) = with_submit e.act (submits P)
+
+-- what the Submit of a request says of it
+pub record Request : Type 0 where
+  pub tenant : ℕ
+  pub kind : ℕ
+  pub declared : ℕ
+  pub label : ℕ
+
+abbrev pub request_in : ℕ → Act → Option Request → Option Request
+request_in r (Submit request tenant kind declared label) older = if request == r then Some (record { tenant = tenant; kind = kind; declared = declared; label = label }) else older
+request_in r _ older = older
+
+-- what the Submit of r says of it, if it is submitted
+abbrev pub request_at : History → ℕ → Option Request
+request_at [] r = None
+request_at (e ∷ P) r = request_in r e.act (request_at P r)
+
+-- it is a request of tenant t
+abbrev pub is_of_tenant : ℕ → Option Request → Bool
+is_of_tenant t None = false
+is_of_tenant t (Some q) = q.tenant == t
+
+-- r is a request of tenant t, and waits
+unfoldable pub waits_for : History → ℕ → ℕ → Bool
+waits_for P t r = is_of_tenant t (request_at P r) && not (is_taken P r)
+
+-- the head of tenant t: its least waiting request, if one waits
+unfoldable pub head : History → ℕ → Option ℕ
+head P t = least_below (waits_for P t) request_bound
+
+abbrev pub WaitsFor : History → ℕ → ℕ → Type 0
+WaitsFor P t r = waits_for P t r ≡ true
+
+-- r is the least waiting request of tenant t (a law says that this is the head)
+pub record IsHead (P : History) (t r : ℕ) : Type 0 where
+  pub waits : WaitsFor P t r
+  pub least : (s : ℕ) → WaitsFor P t s → r ≤ s
+
+-- worker i runs r: it has taken r, and r is not done
+pub record Runs (P : History) (i r : ℕ) : Type 0 where
+  pub taken : has_act (is_take_by i r) P ≡ true
+  pub not_done : is_done P r ≡ false
+
+abbrev pub use_in : ℕ → Act → ℕ
+use_in r (Report worker request used) = if request == r then used else 0
+use_in r _ = 0
+
+-- the greatest use reported of r, or 0
+abbrev pub last_use : History → ℕ → ℕ
+last_use [] r = 0
+last_use (e ∷ P) r = max (use_in r e.act) (last_use P r)
+
+-- the weight of tenant t at P
+unfoldable pub weight_at : Config → History → ℕ → ℕ
+weight_at C P t = slice_index C.weights t
+
+-- the number of workers at P
+unfoldable pub pool_at : Config → History → ℕ
+pool_at C P = C.workers
+
+abbrev pub running_after : ℕ → Act → Option ℕ → Option ℕ
+running_after i (Take worker request estimate) older = if worker == i then Some request else older
+running_after i (Done worker request cost) older = if worker == i then None else older
+running_after i _ older = older
+
+-- what runs on worker i: the request of its last Take, unless its Done follows (a law ties it to `Runs`)
+abbrev pub running_on : History → ℕ → Option ℕ
+running_on [] i = None
+running_on (e ∷ P) i = running_after i e.act (running_on P i)
+
+abbrev pub queue_after : History → ℕ → Act → List ℕ → List ℕ
+queue_after P t (Submit request tenant kind declared label) older = if tenant == t then older ++ request ∷ [] else older
+queue_after P t (Take worker request estimate) older = if is_of_tenant t (request_at P request) then drop 1 older else older
+queue_after P t _ older = older
+
+-- the waiting requests of tenant t, the oldest first (a law ties it to `waits_for`)
+abbrev pub queue : History → ℕ → List ℕ
+queue [] t = []
+queue (e ∷ P) t = queue_after P t e.act (queue P t)

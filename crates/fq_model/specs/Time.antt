@@ -1,0 +1,52 @@
+-- Active tenants, moments and virtual time.
+use Rattle.std.specs.Prelude.{ℕ, ◌+◌, ◌-◌, max, min, Bool, not, ◌&&◌, if◌then◌else◌, [], ◌∷◌, length, nat_lt}
+use Rattle.vt_fixed.specs.Rounding.{advance_of}
+use Rattle.fq_model.specs.declared.config.Config.{Config}
+use Rattle.fq_model.specs.Sums.{sum_below, count_below}
+use Rattle.fq_model.specs.History.{History, request_at, is_of_tenant, is_done, request_bound, weight_at, pool_at}
+
+-- r is a request of tenant t, and is not done
+unfoldable pub is_open : History → ℕ → ℕ → Bool
+is_open P t r = is_of_tenant t (request_at P r) && not (is_done P r)
+
+-- how many requests of tenant t are submitted and not done
+unfoldable pub open_requests : History → ℕ → ℕ
+open_requests P t = count_below (is_open P t) request_bound
+
+-- tenant t has a request waiting or running
+unfoldable pub is_active : History → ℕ → Bool
+is_active P t = nat_lt 0 (open_requests P t)
+
+abbrev pub weight_if_active : Config → History → ℕ → ℕ
+weight_if_active C P t = if is_active P t then weight_at C P t else 0
+
+-- the sum of the weights of the active tenants
+unfoldable pub active_weight : Config → History → ℕ
+active_weight C P = sum_below (weight_if_active C P) (length C.weights)
+
+-- the greatest moment of an entry, in microseconds
+abbrev pub greatest_moment : ℕ
+greatest_moment = 1000000000000000
+
+-- the moment of the last entry, or 0
+abbrev pub last_moment : History → ℕ
+last_moment [] = 0
+last_moment (e ∷ P) = e.moment
+
+-- the moment at which a call that names m takes effect
+abbrev pub effective_moment : History → ℕ → ℕ
+effective_moment P m = min (max m (last_moment P)) greatest_moment
+
+-- how far virtual time moves from the last entry to m: at the rate of the workers over the active weights
+unfoldable pub virtual_advance : Config → History → ℕ → ℕ
+virtual_advance C P m = advance_of (m - last_moment P) (pool_at C P) (active_weight C P)
+
+-- virtual time at m, which is not before the last entry: the sum of its pieces between entries
+unfoldable pub virtual_time : Config → History → ℕ → ℕ
+virtual_time C [] m = 0
+virtual_time C (e ∷ P) m = virtual_time C P e.moment + virtual_advance C (e ∷ P) m
+
+-- the virtual time up to m that passed while tenant t was not active
+unfoldable pub virtual_idle_time : Config → History → ℕ → ℕ → ℕ
+virtual_idle_time C [] m t = 0
+virtual_idle_time C (e ∷ P) m t = virtual_idle_time C P e.moment t + (if is_active (e ∷ P) t then 0 else virtual_advance C (e ∷ P) m)
