@@ -1,0 +1,2 @@
+//! Laws of the definitions: what follows from them, for the crates that stand on them.
+#![tactic(auto)]
