@@ -1,0 +1,7 @@
+//! What a history says, folded anew from its entries: the definitions as plain functions over slices. They take no
+//! memory, keep nothing between calls, and stand as the reference that faster bodies are compared with.
+#![tactic(auto)]
+
+pub mod counts;
+pub mod entries;
+pub mod requests;
