@@ -4,4 +4,6 @@
 
 pub mod counts;
 pub mod entries;
+pub mod heads;
+pub mod refusals;
 pub mod requests;
