@@ -9,6 +9,11 @@ use Rattle.fq_model.specs.Limits.{InLimits}
 use Rattle.fq_model.specs.Rules.{IsLegal, Fits, FitsUse}
 use Rattle.fq_laws.proofs.Legality.{after, submitted_below, asked_submitted, taken_submitted, done_taken, take_waits, waits_submitted, worker_runs, runs_taken, unasked, small_requests, has_room}
 
+-- nothing is taken at first
+pub untaken_nil : (r : ℕ) → is_taken [] r ≡ false
+unfolding is_taken
+untaken_nil r = refl
+
 -- ---- the next number
 
 -- of a number that no Submit has given yet nothing is known
@@ -105,3 +110,10 @@ tenant_below C P t r l h = go (request_at P r) refl h
     go : (o : Option Request) → request_at P r ≡ o → is_of_tenant t o ≡ true → t < length C.weights
     go None is k = absurd (false≢true k)
     go (Some a) is k = let e : a.tenant ≡ t = eqb-true _ _ k in let b : a.tenant < length C.weights = (request_known C P r a l is).tenant_known in omega arith
+
+-- whether a request is one of tenant t, by what is known of it
+pub of_own : (P : History) (t q : ℕ) (a : Request) → request_at P q ≡ Some a → a.tenant ≡ t → is_of_tenant t (request_at P q) ≡ true
+of_own P t q a is e = rw is (eq-eqb a.tenant t e)
+
+pub of_other : (P : History) (t q : ℕ) (a : Request) → request_at P q ≡ Some a → a.tenant ≢ t → is_of_tenant t (request_at P q) ≡ false
+of_other P t q a is ne = rw is (ne_eqb a.tenant t ne)
