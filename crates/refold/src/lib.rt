@@ -2,6 +2,7 @@
 //! memory, keep nothing between calls, and stand as the reference that faster bodies are compared with.
 #![tactic(auto)]
 
+pub mod clock;
 pub mod counts;
 pub mod entries;
 pub mod heads;
