@@ -24,6 +24,10 @@ unsubmitted_unknown C P q l n = go (request_at P q) refl
     go None is = is
     go (Some a) is = let b : q < submits P = submitted_below C P q l (asked_submitted P q a is) in absurd (omega arith)
 
+-- it is not submitted
+pub unsubmitted : (C : Config) (P : History) (q : ℕ) → IsLegal C P → q ≡ submits P → is_submitted P q ≡ false
+unsubmitted C P q l n = false_from_ne_true _ (λ h. let b : q < submits P = submitted_below C P q l h in omega arith)
+
 -- it is not taken
 pub unsubmitted_untaken : (C : Config) (P : History) (q : ℕ) → IsLegal C P → q ≡ submits P → is_taken P q ≡ false
 unsubmitted_untaken C P q l n = false_from_ne_true _ (λ h. let b : q < submits P = submitted_below C P q l (taken_submitted C P q l h) in omega arith)
