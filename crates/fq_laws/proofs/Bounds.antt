@@ -22,7 +22,7 @@ use Rattle.fq_model.specs.Keys.{tag_base, is_submit_for, tag, start, start_for}
 use Rattle.fq_model.specs.Rules.{IsLegal, Fits, FitsUse, FitsTake}
 use Rattle.fq_laws.proofs.Counting.{count_more, count_zero, sum_at_most}
 use Rattle.fq_laws.proofs.Legality.{after, take_waits, waits_untaken, submits_le_length, waiting_none, running_none, has_room, needs, waits_submitted, taken_submitted, runs_taken, is_of_asked, asked_submitted}
-use Rattle.fq_laws.proofs.Known.{take_request_small, next_small, tenant_below, unsubmitted}
+use Rattle.fq_laws.proofs.Requests.{take_request_small, next_small, tenant_below, unsubmitted}
 use Rattle.fq_laws.proofs.Charges.{charge_submit, charge_close, charge_take, charge_take_other, charge_report, charge_report_other, charge_done, charge_done_other, taken_weight_is}
 use Rattle.fq_laws.proofs.VirtualCharges.{charged_untaken, charged_taken, net_charged_untaken, net_charged_taken}
 use Rattle.fq_laws.proofs.Bases.{start_is}
