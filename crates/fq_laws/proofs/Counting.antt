@@ -142,3 +142,8 @@ pub count_zero : (p : ℕ → Bool) (n : ℕ) → ((r : ℕ) → p r ≡ false) 
 unfolding count_below
 count_zero p zero h = refl
 count_zero p (suc n) h = rw (h n) (omega (arith, count_zero p n h))
+
+pub sum_zero : (f : ℕ → ℕ) (n : ℕ) → ((r : ℕ) → f r ≡ 0) → sum_below f n ≡ 0
+unfolding sum_below
+sum_zero f zero h = refl
+sum_zero f (suc n) h = omega (arith, h n, sum_zero f n h)

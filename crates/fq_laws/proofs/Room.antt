@@ -9,7 +9,8 @@ use Rattle.fq_model.specs.Time.{last_moment, greatest_moment, effective_moment}
 use Rattle.fq_model.specs.Rules.{IsLegal, Fits}
 use Rattle.fq_laws.proofs.Counting.{count_some}
 use Rattle.fq_laws.proofs.Legality.{after, has_room, take_waits, waits_submitted, worker_runs, waiting_submit, waiting_take, waiting_report, waiting_done, waiting_close, waiting_none}
-use Rattle.fq_laws.proofs.Requests.{submits_small, submitted_small, runs_small}
+use Rattle.fq_laws.proofs.Fresh.{submits_small, runs_small}
+use Rattle.fq_laws.proofs.Requests.{submitted_small}
 
 -- ---- moments
 

@@ -1,0 +1,146 @@
+-- How the charge of a request changes at one entry more.
+use Rattle.std.proofs.Common.{ℕ, zero, suc, ◌+◌, ◌^◌, ◌==◌, ◌<◌, ◌≤◌, ◌≡◌, ◌≢◌, max, Bool, true, false, cond, ◌&&◌, ◌||◌, arith, refl, ap, sym, ◌∙◌, subst, inl, inr, [], ◌∷◌, Option, Some, None}
+use Rattle.std.proofs.lemmas.Bool.{cases_eq, eqb-true, eq-eqb, ne_eqb, or_cases, or_parts, cases_Bool, false≢true, both_ways}
+use Rattle.fq_model.specs.declared.config.Config.{Config}
+use Rattle.fq_model.specs.declared.event.Act.{Act}
+use Rattle.fq_model.specs.declared.event.Act.TheVariants.{Submit, Take, Report, Done, Close}
+use Rattle.fq_model.specs.declared.event.Entry.{Entry}
+use Rattle.fq_model.specs.History.{History, is_taken, is_done, is_take_of, is_done_of, last_use, use_in, weight_at, pool_at}
+use Rattle.fq_model.specs.Charge.{charge, charge_from, taken_estimate, estimate_in, final_cost, cost_in, taken_weight}
+use Rattle.fq_model.specs.Rules.{IsLegal, Fits, FitsUse}
+use Rattle.fq_laws.proofs.Legality.{after, take_waits, waits_untaken}
+use Rattle.fq_laws.proofs.Requests.{use_taken, use_undone, untaken_undone}
+
+-- ---- weights and workers: no act changes them
+
+pub weight_stays : (C : Config) (P : History) (e : Entry) (t : ℕ) → weight_at C (e ∷ P) t ≡ weight_at C P t
+unfolding weight_at
+weight_stays C P e t = refl
+
+pub pool_stays : (C : Config) (P : History) (e : Entry) → pool_at C (e ∷ P) ≡ pool_at C P
+unfolding pool_at
+pool_stays C P e = refl
+
+-- ---- the estimate, the cost and the greatest use, as far as they are there
+
+zero_max : (x : ℕ) → max 0 x ≡ x
+zero_max x = omega arith
+
+estimate_none_at : (r : ℕ) (a : Act) (P : History) → (is_taken P r ≡ false → taken_estimate P r ≡ None) → (is_take_of r a || is_taken P r) ≡ false → estimate_in r a (taken_estimate P r) ≡ None
+estimate_none_at r (Submit request tenant kind declared label) P ih h = ih h
+estimate_none_at r (Take worker request estimate) P ih h = let p = or_parts (request == r) (is_taken P r) h in rw p.0 (ih p.1)
+estimate_none_at r (Report worker request used) P ih h = ih h
+estimate_none_at r (Done worker request cost) P ih h = ih h
+estimate_none_at r Close P ih h = ih h
+
+-- what is not taken has no estimate
+pub estimate_none : (P : History) (r : ℕ) → is_taken P r ≡ false → taken_estimate P r ≡ None
+unfolding is_taken
+estimate_none [] r h = refl
+estimate_none (e ∷ P) r h = estimate_none_at r e.act P (estimate_none P r) h
+
+estimate_some_at : (r : ℕ) (a : Act) (P : History) → (is_taken P r ≡ true → (x : ℕ) × (taken_estimate P r ≡ Some x)) → (is_take_of r a || is_taken P r) ≡ true → (x : ℕ) × (estimate_in r a (taken_estimate P r) ≡ Some x)
+estimate_some_at r (Submit request tenant kind declared label) P ih h = ih h
+estimate_some_at r (Take worker request estimate) P ih h = elim (cases_Bool (request == r)) [ inl e ↦ (estimate, rw e refl) | inr e ↦ rw e (ih (rw e at h)) ]
+estimate_some_at r (Report worker request used) P ih h = ih h
+estimate_some_at r (Done worker request cost) P ih h = ih h
+estimate_some_at r Close P ih h = ih h
+
+-- what is taken has one
+pub estimate_some : (P : History) (r : ℕ) → is_taken P r ≡ true → (x : ℕ) × (taken_estimate P r ≡ Some x)
+unfolding is_taken
+estimate_some [] r h = absurd (false≢true h)
+estimate_some (e ∷ P) r h = estimate_some_at r e.act P (estimate_some P r) h
+
+cost_none_at : (r : ℕ) (a : Act) (P : History) → (is_done P r ≡ false → final_cost P r ≡ None) → (is_done_of r a || is_done P r) ≡ false → cost_in r a (final_cost P r) ≡ None
+cost_none_at r (Submit request tenant kind declared label) P ih h = ih h
+cost_none_at r (Take worker request estimate) P ih h = ih h
+cost_none_at r (Report worker request used) P ih h = ih h
+cost_none_at r (Done worker request cost) P ih h = let p = or_parts (request == r) (is_done P r) h in rw p.0 (ih p.1)
+cost_none_at r Close P ih h = ih h
+
+-- what is not done has no cost
+pub cost_none : (P : History) (r : ℕ) → is_done P r ≡ false → final_cost P r ≡ None
+unfolding is_done
+cost_none [] r h = refl
+cost_none (e ∷ P) r h = cost_none_at r e.act P (cost_none P r) h
+
+unused_at : (C : Config) (P : History) (m r : ℕ) (a : Act) → Fits C P m a → (is_taken P r ≡ false → last_use P r ≡ 0) → (is_take_of r a || is_taken P r) ≡ false → max (use_in r a) (last_use P r) ≡ 0
+unused_at C P m r (Submit request tenant kind declared label) f ih h = omega (arith, ih h)
+unused_at C P m r (Take worker request estimate) f ih h = omega (arith, ih (or_parts (request == r) (is_taken P r) h).1)
+unused_at C P m r (Report worker request used) f ih h = rw (ne_eqb request r (λ e. both_ways (is_taken P r) h (rw e at (use_taken P worker request used f.0)))) (omega (arith, ih h))
+unused_at C P m r (Done worker request cost) f ih h = omega (arith, ih h)
+unused_at C P m r Close f ih h = omega (arith, ih h)
+
+-- of what is not taken no use was reported
+pub unused : (C : Config) (P : History) (r : ℕ) → IsLegal C P → is_taken P r ≡ false → last_use P r ≡ 0
+unfolding is_taken
+unused C [] r l h = refl
+unused C (e ∷ P) r l h = unused_at C P e.moment r e.act l.3 (unused C P r l.0) h
+
+-- ---- the charge by cases
+
+-- what is not taken is charged nothing
+pub charge_untaken : (P : History) (r : ℕ) → is_taken P r ≡ false → charge P r ≡ 0
+charge_untaken P r h = rw (estimate_none P r h) refl
+
+-- what runs is charged at least its greatest use
+pub charge_covers_use : (P : History) (r : ℕ) → is_taken P r ≡ true → is_done P r ≡ false → last_use P r ≤ charge P r
+charge_covers_use P r h d = let x = estimate_some P r h in rw (x.1, cost_none P r d) (omega arith)
+
+-- ---- the charge at one entry more
+
+pub charge_submit : (P : History) (who m r q u kind declared label : ℕ) → charge (after who m (Submit q u kind declared label) P) r ≡ charge P r
+charge_submit P who m r q u kind declared label = rw (zero_max (last_use P r)) refl
+
+pub charge_close : (P : History) (who m r : ℕ) → charge (after who m Close P) r ≡ charge P r
+charge_close P who m r = rw (zero_max (last_use P r)) refl
+
+-- a Take of another request
+pub charge_take_other : (P : History) (who m r w q c : ℕ) → q ≢ r → charge (after who m (Take w q c) P) r ≡ charge P r
+charge_take_other P who m r w q c ne = rw (ne_eqb q r ne, zero_max (last_use P r)) refl
+
+-- its Take charges a request its estimate
+pub charge_take : (C : Config) (P : History) (who m w q c : ℕ) → IsLegal C P → Fits C P m (Take w q c) → charge (after who m (Take w q c) P) q ≡ c
+charge_take C P who m w q c l f =
+    let un : is_taken P q ≡ false = waits_untaken P q (take_waits C P m w q c f) in
+    rw (eq-eqb q q refl, cost_none P q (untaken_undone C P q l un), unused C P q l un) (omega arith)
+
+pub charge_report_other : (P : History) (who m r w q used : ℕ) → q ≢ r → charge (after who m (Report w q used) P) r ≡ charge P r
+charge_report_other P who m r w q used ne = rw (ne_eqb q r ne, zero_max (last_use P r)) refl
+
+-- a use above its charge raises the charge of a request to that use
+pub charge_report : (P : History) (who m w q used : ℕ) → FitsUse P w q used → charge (after who m (Report w q used) P) q ≡ max used (charge P q)
+charge_report P who m w q used f =
+    let x = estimate_some P q (use_taken P w q used f) in
+    rw (eq-eqb q q refl, x.1, cost_none P q (use_undone P w q used f)) (omega arith)
+
+pub charge_done_other : (P : History) (who m r w q cost : ℕ) → q ≢ r → charge (after who m (Done w q cost) P) r ≡ charge P r
+charge_done_other P who m r w q cost ne = rw (ne_eqb q r ne, zero_max (last_use P r)) refl
+
+-- its Done charges a request its measured cost
+pub charge_done : (P : History) (who m w q cost : ℕ) → FitsUse P w q cost → charge (after who m (Done w q cost) P) q ≡ cost
+charge_done P who m w q cost f = let x = estimate_some P q (use_taken P w q cost f) in rw (eq-eqb q q refl, x.1) refl
+
+-- ---- the weight at the Take
+
+weight_found_at : (C : Config) (P : History) (t r : ℕ) (a : Act) (e : Entry) → (is_taken P r ≡ true → taken_weight C P t r ≡ weight_at C (e ∷ P) t) → (is_take_of r a || is_taken P r) ≡ true → cond (is_take_of r a) (weight_at C P t) (taken_weight C P t r) ≡ weight_at C (e ∷ P) t
+unfolding weight_at
+weight_found_at C P t r a e ih h = elim (cases_Bool (is_take_of r a)) [ inl x ↦ rw x refl | inr x ↦ rw x (ih (rw x at h)) ]
+
+-- weights do not change, so it is the weight now
+pub taken_weight_is : (C : Config) (P : History) (t r : ℕ) → is_taken P r ≡ true → taken_weight C P t r ≡ weight_at C P t
+unfolding is_taken weight_at
+taken_weight_is C [] t r h = absurd (false≢true h)
+taken_weight_is C (e ∷ P) t r h = weight_found_at C P t r e.act e (taken_weight_is C P t r) h
+
+-- the Take sets it
+pub taken_weight_take : (C : Config) (P : History) (who m t w q c : ℕ) → taken_weight C (after who m (Take w q c) P) t q ≡ weight_at C P t
+taken_weight_take C P who m t w q c = rw (eq-eqb q q refl) refl
+
+pub taken_weight_take_other : (C : Config) (P : History) (who m t r w q c : ℕ) → q ≢ r → taken_weight C (after who m (Take w q c) P) t r ≡ taken_weight C P t r
+taken_weight_take_other C P who m t r w q c ne = rw (ne_eqb q r ne) refl
+
+-- once a request is taken no act changes it
+pub taken_weight_kept : (C : Config) (P : History) (e : Entry) (t r : ℕ) → is_taken P r ≡ true → taken_weight C (e ∷ P) t r ≡ taken_weight C P t r
+taken_weight_kept C P e t r h = elim (cases_Bool (is_take_of r e.act)) [ inl x ↦ rw x (sym (taken_weight_is C P t r h)) | inr x ↦ rw x refl ]

@@ -1,0 +1,162 @@
+-- Completed requests at one entry more, and what the estimators make of them.
+use Rattle.std.proofs.Common.{ℕ, zero, suc, ◌+◌, ◌*◌, ◌/◌, ◌==◌, ◌<◌, ◌≤◌, ◌≡◌, ◌≢◌, max, Bool, true, false, cond, ◌&&◌, arith, refl, ap, sym, ◌∙◌, inl, inr, List, [], ◌∷◌, ◌++◌, length, take, Option, Some, None}
+use Rattle.std.specs.Prelude.{sum}
+use Rattle.std.proofs.Math.Nat.{div-le_of_le-mul, add-mul}
+use Rattle.std.proofs.lemmas.List.Sums.{sum_by-cons}
+use Rattle.std.proofs.lemmas.Bool.{cases_lt, cases_eq, eq-eqb, ne_eqb, cases_Bool, and_left, and_right}
+use Rattle.vt_fixed.specs.Rounding.{decay_of}
+use Rattle.vt_fixed.proofs.Bounds.{decay_mono, decay_at_most}
+use Rattle.fq_model.specs.declared.config.Config.{Config}
+use Rattle.fq_model.specs.declared.config.Estimator.{Estimator}
+use Rattle.fq_model.specs.declared.config.Estimator.TheVariants.{Declared, Recent, Pessimistic}
+use Rattle.fq_model.specs.declared.event.Act.{Act}
+use Rattle.fq_model.specs.declared.event.Act.TheVariants.{Submit, Take, Report, Done, Close}
+use Rattle.fq_model.specs.Limits.{InLimits}
+use Rattle.fq_model.specs.History.{History, Request, request_at}
+use Rattle.fq_model.specs.Charge.{Completed, completed, with_completion, with_cost, completed_costs, mean, recent_mean, decayed, decayed_by_age, greatest, pessimistic_cost, estimate_from, estimate_at, request_estimate}
+use Rattle.fq_model.specs.Rules.{IsLegal, Fits, FitsUse}
+use Rattle.fq_laws.proofs.Legality.{after}
+use Rattle.fq_laws.proofs.Requests.{IsKnown, request_known}
+
+-- ---- the completed requests at one entry more
+
+-- a Done completes the request that it is of
+pub completed_done : (P : History) (who m w q cost : ℕ) (a : Request) → request_at P q ≡ Some a → completed (after who m (Done w q cost) P) ≡ record { tenant = a.tenant; kind = a.kind; cost = cost } ∷ completed P
+completed_done P who m w q cost a is = rw is refl
+
+pub completed_submit : (P : History) (who m q u kind declared label : ℕ) → completed (after who m (Submit q u kind declared label) P) ≡ completed P
+completed_submit P who m q u kind declared label = refl
+
+pub completed_take : (P : History) (who m w q c : ℕ) → completed (after who m (Take w q c) P) ≡ completed P
+completed_take P who m w q c = refl
+
+pub completed_report : (P : History) (who m w q used : ℕ) → completed (after who m (Report w q used) P) ≡ completed P
+completed_report P who m w q used = refl
+
+pub completed_close : (P : History) (who m : ℕ) → completed (after who m Close P) ≡ completed P
+completed_close P who m = refl
+
+-- the costs of its tenant and kind gain one
+pub costs_own : (cs : List Completed) (t k cost : ℕ) → completed_costs (record { tenant = t; kind = k; cost = cost } ∷ cs) t k ≡ cost ∷ completed_costs cs t k
+costs_own cs t k cost = rw (eq-eqb t t refl, eq-eqb k k refl) refl
+
+-- those of another tenant do not
+pub costs_other_tenant : (cs : List Completed) (t k u l cost : ℕ) → u ≢ t → completed_costs (record { tenant = u; kind = l; cost = cost } ∷ cs) t k ≡ completed_costs cs t k
+costs_other_tenant cs t k u l cost ne = rw (ne_eqb u t ne) refl
+
+-- nor those of another kind
+pub costs_other_kind : (cs : List Completed) (t k u l cost : ℕ) → l ≢ k → completed_costs (record { tenant = u; kind = l; cost = cost } ∷ cs) t k ≡ completed_costs cs t k
+costs_other_kind cs t k u l cost ne = rw (ne_eqb l k ne, and_right (u == t) false refl) refl
+
+-- ---- the greatest decayed cost
+
+-- the decay of the greater of two is the greater of their decays
+pub decay_max : (a b : ℕ) → decay_of (max a b) ≡ max (decay_of a) (decay_of b)
+decay_max a b = elim (cases_lt a b) [
+  | inl h ↦ let m : decay_of a ≤ decay_of b = decay_mono a b (omega arith) in let e : max a b ≡ b = omega arith in rw e (omega arith)
+  | inr h ↦ let m : decay_of b ≤ decay_of a = decay_mono b a h in let e : max a b ≡ a = omega arith in rw e (omega arith)
+]
+
+decay_zero : decay_of 0 ≡ 0
+decay_zero = omega (arith, decay_at_most 0)
+
+-- where each of them decays once more, so does the greatest
+pub greatest_decays : (age : ℕ) (cs : List ℕ) → greatest (decayed_by_age (suc age) cs) ≡ decay_of (greatest (decayed_by_age age cs))
+greatest_decays age [] = sym decay_zero
+greatest_decays age (c ∷ cs) = rw (decay_max (decayed age c) (greatest (decayed_by_age (suc age) cs))) (ap (λ x. max (decay_of (decayed age c)) x) (greatest_decays (suc age) cs))
+
+-- the greatest of the costs, the newest first, each decayed once for each that is newer, the initial value the oldest
+abbrev pub greatest_cost_from : ℕ → List ℕ → ℕ
+greatest_cost_from initial cs = greatest (decayed_by_age 0 (cs ++ initial ∷ []))
+
+pub greatest_first : (initial : ℕ) → greatest_cost_from initial [] ≡ initial
+greatest_first initial = omega arith
+
+-- one cost more: the greater of it and the decay of what was greatest
+pub greatest_next : (initial c : ℕ) (cs : List ℕ) → greatest_cost_from initial (c ∷ cs) ≡ max c (decay_of (greatest_cost_from initial cs))
+greatest_next initial c cs = ap (λ x. max c x) (greatest_decays 0 (cs ++ initial ∷ []))
+
+pub pessimistic_is : (initial : ℕ) (cs : List ℕ) → pessimistic_cost initial cs ≡ max 1 (greatest_cost_from initial cs)
+pessimistic_is initial cs = refl
+
+-- ---- limits
+
+-- each is at most the greatest cost of a request
+abbrev pub AreLow : List ℕ → Type 0
+AreLow [] = Unit {0}
+AreLow (x ∷ xs) = (x ≤ 1000000000) × AreLow xs
+
+low_costs_with : (P : History) (t k cost : ℕ) (o : Option Request) (cs : List Completed) → cost ≤ 1000000000 → AreLow (completed_costs cs t k) → AreLow (completed_costs (with_cost o cost cs) t k)
+low_costs_with P t k cost None cs b h = h
+low_costs_with P t k cost (Some a) cs b h = elim (cases_Bool ((a.tenant == t) && (a.kind == k))) [ inl e ↦ rw e (b, h) | inr e ↦ rw e h ]
+
+low_costs_at : (C : Config) (P : History) (m t k : ℕ) (a : Act) → Fits C P m a → AreLow (completed_costs (completed P) t k) → AreLow (completed_costs (with_completion P a (completed P)) t k)
+low_costs_at C P m t k (Submit request tenant kind declared label) f h = h
+low_costs_at C P m t k (Take worker request estimate) f h = h
+low_costs_at C P m t k (Report worker request used) f h = h
+low_costs_at C P m t k (Done worker request cost) f h = low_costs_with P t k cost (request_at P request) (completed P) f.in_range h
+low_costs_at C P m t k Close f h = h
+
+-- each completed cost is in range
+pub low_costs : (C : Config) (P : History) (t k : ℕ) → IsLegal C P → AreLow (completed_costs (completed P) t k)
+low_costs C [] t k l = tt
+low_costs C (e ∷ P) t k l = low_costs_at C P e.moment t k e.act l.3 (low_costs C P t k l.0)
+
+pub low_take : (n : ℕ) (xs : List ℕ) → AreLow xs → AreLow (take n xs)
+low_take zero [] h = tt
+low_take zero (x ∷ xs) h = tt
+low_take (suc n) [] h = tt
+low_take (suc n) (x ∷ xs) h = (h.0, low_take n xs h.1)
+
+pub low_sum : (xs : List ℕ) → AreLow xs → sum xs ≤ length xs * 1000000000
+low_sum [] h = omega arith
+low_sum (x ∷ xs) h = omega (arith, sum_by-cons (λ y. y) x xs, low_sum xs h.1, h.0, add-mul 1 (length xs) 1000000000)
+
+pub low_mean : (xs : List ℕ) → AreLow xs → mean xs ≤ 1000000000
+low_mean xs h = div-le_of_le-mul (length xs) (low_sum xs h)
+
+few_taken : (n : ℕ) (xs : List ℕ) → length (take n xs) ≤ n
+few_taken zero [] = omega arith
+few_taken zero (x ∷ xs) = omega arith
+few_taken (suc n) [] = omega arith
+few_taken (suc n) (x ∷ xs) = omega (arith, few_taken n xs)
+
+-- the sum of the last eight costs of a tenant and kind
+pub recent_sum_low : (C : Config) (P : History) (t k : ℕ) → IsLegal C P → sum (take 8 (completed_costs (completed P) t k)) ≤ 8000000000
+recent_sum_low C P t k l =
+    let xs = completed_costs (completed P) t k in
+    go xs (low_sum (take 8 xs) (low_take 8 xs (low_costs C P t k l))) (few_taken 8 xs)
+  where
+    go : (xs : List ℕ) → sum (take 8 xs) ≤ length (take 8 xs) * 1000000000 → length (take 8 xs) ≤ 8 → sum (take 8 xs) ≤ 8000000000
+    go xs a b = omega arith
+
+pub decayed_low : (age c : ℕ) → decayed age c ≤ c
+decayed_low zero c = omega arith
+decayed_low (suc age) c = omega (arith, decay_at_most (decayed age c), decayed_low age c)
+
+pub low_greatest : (age : ℕ) (cs : List ℕ) → AreLow cs → greatest (decayed_by_age age cs) ≤ 1000000000
+low_greatest age [] h = omega arith
+low_greatest age (c ∷ cs) h = omega (arith, decayed_low age c, low_greatest (suc age) cs h.1, h.0)
+
+low_end : (x : ℕ) (cs : List ℕ) → x ≤ 1000000000 → AreLow cs → AreLow (cs ++ x ∷ [])
+low_end x [] b h = (b, tt)
+low_end x (c ∷ cs) b h = (h.0, low_end x cs b h.1)
+
+-- the greatest decayed cost of a tenant and kind
+pub greatest_cost_low : (C : Config) (P : History) (t k : ℕ) → InLimits C → IsLegal C P → greatest_cost_from C.initial (completed_costs (completed P) t k) ≤ 1000000000
+greatest_cost_low C P t k lim l = low_greatest 0 _ (low_end C.initial _ lim.initial.1 (low_costs C P t k l))
+
+low_from : (e : Estimator) (initial : ℕ) (cs : List ℕ) (declared : ℕ) → 1 ≤ initial → initial ≤ 1000000000 → 1 ≤ declared → declared ≤ 1000000000 → AreLow cs → (1 ≤ estimate_from e initial cs declared) × (estimate_from e initial cs declared ≤ 1000000000)
+low_from Declared initial cs declared i i2 d d2 h = (d, d2)
+low_from Recent initial [] declared i i2 d d2 h = (i, i2)
+low_from Recent initial (c ∷ cs) declared i i2 d d2 h = let k : mean (take 8 (c ∷ cs)) ≤ 1000000000 = low_mean (take 8 (c ∷ cs)) (low_take 8 (c ∷ cs) h) in (omega arith, omega arith)
+low_from Pessimistic initial cs declared i i2 d d2 h = let k = low_greatest 0 (cs ++ initial ∷ []) (low_end initial cs i2 h) in (omega arith, omega (arith, k))
+
+-- an estimate of a cost in range, whichever the estimator
+pub estimate_at_range : (C : Config) (P : History) (t k declared : ℕ) → InLimits C → IsLegal C P → 1 ≤ declared → declared ≤ 1000000000 → (1 ≤ estimate_at C P t k declared) × (estimate_at C P t k declared ≤ 1000000000)
+unfolding estimate_at
+estimate_at_range C P t k declared lim l low high = low_from C.estimate C.initial (completed_costs (completed P) t k) declared lim.initial.0 lim.initial.1 low high (low_costs C P t k l)
+
+-- the estimate of a submitted request
+pub estimate_range : (C : Config) (P : History) (r : ℕ) (a : Request) → InLimits C → IsLegal C P → request_at P r ≡ Some a → (1 ≤ request_estimate C P a) × (request_estimate C P a ≤ 1000000000)
+estimate_range C P r a lim l h = let x : IsKnown C a = request_known C P r a l h in estimate_at_range C P a.tenant a.kind a.declared lim l x.declared_low x.declared_high
