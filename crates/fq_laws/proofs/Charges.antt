@@ -9,7 +9,7 @@ use Rattle.fq_model.specs.History.{History, is_taken, is_done, is_take_of, is_do
 use Rattle.fq_model.specs.Charge.{charge, charge_from, taken_estimate, estimate_in, final_cost, cost_in, taken_weight}
 use Rattle.fq_model.specs.Rules.{IsLegal, Fits, FitsUse}
 use Rattle.fq_laws.proofs.Legality.{after, take_waits, waits_untaken}
-use Rattle.fq_laws.proofs.Known.{use_taken, use_undone, untaken_undone}
+use Rattle.fq_laws.proofs.Requests.{use_taken, use_undone, untaken_undone}
 
 -- ---- weights and workers: no act changes them
 

@@ -14,7 +14,7 @@ use Rattle.fq_model.specs.Time.{open_requests, is_active, weight_if_active, acti
 use Rattle.fq_model.specs.Rules.{IsLegal, Fits, FitsUse}
 use Rattle.fq_laws.proofs.Counting.{sum_same, sum_at, sum_zero}
 use Rattle.fq_laws.proofs.Legality.{after, is_of_asked}
-use Rattle.fq_laws.proofs.Known.{of_other, tenant_below}
+use Rattle.fq_laws.proofs.Requests.{of_other, tenant_below}
 use Rattle.fq_laws.proofs.Opens.{inactive_nil, open_submit, open_done, active_use, open_take, open_report, open_close}
 use Rattle.fq_laws.proofs.Charges.{weight_stays}
 

@@ -16,7 +16,7 @@ use Rattle.fq_model.specs.History.{History, Request, request_at}
 use Rattle.fq_model.specs.Charge.{Completed, completed, with_completion, with_cost, completed_costs, mean, recent_mean, decayed, decayed_by_age, greatest, pessimistic_cost, estimate_from, estimate_at, request_estimate}
 use Rattle.fq_model.specs.Rules.{IsLegal, Fits, FitsUse}
 use Rattle.fq_laws.proofs.Legality.{after}
-use Rattle.fq_laws.proofs.Known.{IsKnown, request_known}
+use Rattle.fq_laws.proofs.Requests.{IsKnown, request_known}
 
 -- ---- the completed requests at one entry more
 

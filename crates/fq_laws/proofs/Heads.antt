@@ -8,7 +8,8 @@ use Rattle.fq_model.specs.History.{History, Request, request_at, is_taken, is_su
 use Rattle.fq_model.specs.Rules.{IsLegal}
 use Rattle.fq_laws.proofs.Counting.{least_by, least_same, least_exists, count_found, count_some}
 use Rattle.fq_laws.proofs.Legality.{after, heads, Heads, no_head, of_waits, submitted_below, asked_submitted, is_of_asked, unasked}
-use Rattle.fq_laws.proofs.Requests.{fresh, fresh_untaken, tenant_small, tenant_known}
+use Rattle.fq_laws.proofs.Fresh.{fresh, fresh_untaken, tenant_small}
+use Rattle.fq_laws.proofs.Requests.{tenant_below}
 
 -- ---- which requests of t wait, at one entry more
 
@@ -64,7 +65,7 @@ waits_small C P t r lim l w = tenant_small C P t r lim l (and_parts _ _ w).0
 
 pub waits_tenant_known : (C : Config) (P : History) (t r : ℕ) → IsLegal C P → WaitsFor P t r → t < length C.weights
 unfolding waits_for
-waits_tenant_known C P t r l w = tenant_known C P t r l (and_parts _ _ w).0
+waits_tenant_known C P t r l w = tenant_below C P t r l (and_parts _ _ w).0
 
 -- ---- the head of a tenant
 

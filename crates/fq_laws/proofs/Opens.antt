@@ -11,7 +11,7 @@ use Rattle.fq_model.specs.Time.{is_open, open_requests, is_active}
 use Rattle.fq_model.specs.Rules.{IsLegal, Fits, FitsUse}
 use Rattle.fq_laws.proofs.Counting.{count_same, count_more, count_some, count_zero}
 use Rattle.fq_laws.proofs.Legality.{after}
-use Rattle.fq_laws.proofs.Known.{unsubmitted_unknown, unsubmitted_undone, next_small, use_small, use_undone}
+use Rattle.fq_laws.proofs.Requests.{unsubmitted_unknown, unsubmitted_undone, next_small, use_small, use_undone}
 
 -- no request is open at first
 pub open_nil : (t : ℕ) → open_requests [] t ≡ 0

@@ -1,92 +1,123 @@
--- What is known of the requests of a legal history.
-use Rattle.std.proofs.Common.{ℕ, ◌^◌, ◌<◌, ◌≤◌, ◌≡◌, true, false, arith, refl, sym, ◌∙◌, subst, inl, inr, [], ◌∷◌, length, Option, Some, None}
-use Rattle.std.proofs.lemmas.Bool.{cases_eq, eq-eqb, ne_eqb, false_from_ne_true}
+-- What is known of the requests of legal histories: their numbers, their limits, and who runs them.
+use Rattle.std.proofs.Common.{ℕ, zero, suc, ◌+◌, ◌^◌, ◌==◌, ◌<◌, ◌≤◌, ◌≡◌, ◌≢◌, Bool, true, false, ◌||◌, arith, refl, sym, subst, inl, inr, [], ◌∷◌, length, Option, Some, None}
+use Rattle.std.proofs.lemmas.Bool.{cases_eq, eqb-true, eq-eqb, ne_eqb, or_cases, or_parts, false_from_ne_true, cases_Bool, false≢true, both_ways}
 use Rattle.fq_model.specs.declared.config.Config.{Config}
 use Rattle.fq_model.specs.declared.event.Act.{Act}
 use Rattle.fq_model.specs.declared.event.Act.TheVariants.{Submit, Take, Report, Done, Close}
-use Rattle.fq_model.specs.declared.event.Entry.{Entry}
+use Rattle.fq_model.specs.History.{History, Request, request_at, request_in, is_submitted, is_taken, is_done, submits, Runs, is_of_tenant}
 use Rattle.fq_model.specs.Limits.{InLimits}
-use Rattle.fq_model.specs.History.{History, Request, request_at, request_in, is_submitted, is_taken, is_done, is_of_tenant, submits, Runs}
-use Rattle.fq_model.specs.Rules.{IsLegal, Fits}
-use Rattle.fq_laws.proofs.Legality.{submitted_below, asked_submitted, taken_submitted, done_taken, small_requests, has_room, is_of_asked, worker_runs, runs_taken}
+use Rattle.fq_model.specs.Rules.{IsLegal, Fits, FitsUse}
+use Rattle.fq_laws.proofs.Legality.{after, submitted_below, asked_submitted, taken_submitted, done_taken, take_waits, waits_submitted, worker_runs, runs_taken, unasked, small_requests, has_room}
 
--- ---- numbers
+-- nothing is taken at first
+pub untaken_nil : (r : ℕ) → is_taken [] r ≡ false
+unfolding is_taken
+untaken_nil r = refl
 
-pub submits_small : (C : Config) (P : History) → InLimits C → IsLegal C P → submits P < 2 ^ 32
-submits_small C P lim l = small_requests C P lim (has_room C P lim l)
+-- ---- the next number
 
-pub submitted_small : (C : Config) (P : History) (r : ℕ) → InLimits C → IsLegal C P → is_submitted P r ≡ true → r < 2 ^ 32
-submitted_small C P r lim l h = omega (arith, submits_small C P lim l, submitted_below C P r l h)
-
-pub asked_small : (C : Config) (P : History) (r : ℕ) (q : Request) → InLimits C → IsLegal C P → request_at P r ≡ Some q → r < 2 ^ 32
-asked_small C P r q lim l h = submitted_small C P r lim l (asked_submitted P r q h)
-
-pub taken_small : (C : Config) (P : History) (r : ℕ) → InLimits C → IsLegal C P → is_taken P r ≡ true → r < 2 ^ 32
-taken_small C P r lim l h = submitted_small C P r lim l (taken_submitted C P r l h)
-
-pub runs_small : (C : Config) (P : History) (i r : ℕ) → InLimits C → IsLegal C P → Runs P i r → r < 2 ^ 32
-runs_small C P i r lim l h = taken_small C P r lim l (runs_taken P r (worker_runs P i r h))
-
-pub tenant_small : (C : Config) (P : History) (t r : ℕ) → InLimits C → IsLegal C P → is_of_tenant t (request_at P r) ≡ true → r < 2 ^ 32
-tenant_small C P t r lim l h = let x = is_of_asked t (request_at P r) h in asked_small C P r x.0 lim l x.1
-
--- ---- what was not submitted yet
-
-pub fresh : (C : Config) (P : History) (r : ℕ) → IsLegal C P → submits P ≤ r → request_at P r ≡ None
-fresh C P r l n = go (request_at P r) refl
+-- of a number that no Submit has given yet nothing is known
+pub unsubmitted_unknown : (C : Config) (P : History) (q : ℕ) → IsLegal C P → q ≡ submits P → request_at P q ≡ None
+unsubmitted_unknown C P q l n = go (request_at P q) refl
   where
-    go : (o : Option Request) → request_at P r ≡ o → request_at P r ≡ None
+    go : (o : Option Request) → request_at P q ≡ o → request_at P q ≡ None
     go None is = is
-    go (Some q) is = let b : r < submits P = submitted_below C P r l (asked_submitted P r q is) in absurd (omega arith)
+    go (Some a) is = let b : q < submits P = submitted_below C P q l (asked_submitted P q a is) in absurd (omega arith)
 
-pub fresh_unsubmitted : (C : Config) (P : History) (r : ℕ) → IsLegal C P → submits P ≤ r → is_submitted P r ≡ false
-fresh_unsubmitted C P r l n = false_from_ne_true _ (λ h. let b : r < submits P = submitted_below C P r l h in omega arith)
+-- it is not submitted
+pub unsubmitted : (C : Config) (P : History) (q : ℕ) → IsLegal C P → q ≡ submits P → is_submitted P q ≡ false
+unsubmitted C P q l n = false_from_ne_true _ (λ h. let b : q < submits P = submitted_below C P q l h in omega arith)
 
-pub fresh_untaken : (C : Config) (P : History) (r : ℕ) → IsLegal C P → submits P ≤ r → is_taken P r ≡ false
-fresh_untaken C P r l n = false_from_ne_true _ (λ h. let b : r < submits P = submitted_below C P r l (taken_submitted C P r l h) in omega arith)
+-- it is not taken
+pub unsubmitted_untaken : (C : Config) (P : History) (q : ℕ) → IsLegal C P → q ≡ submits P → is_taken P q ≡ false
+unsubmitted_untaken C P q l n = false_from_ne_true _ (λ h. let b : q < submits P = submitted_below C P q l (taken_submitted C P q l h) in omega arith)
 
-pub fresh_undone : (C : Config) (P : History) (r : ℕ) → IsLegal C P → submits P ≤ r → is_done P r ≡ false
-fresh_undone C P r l n = false_from_ne_true _ (λ h. let b : r < submits P = submitted_below C P r l (taken_submitted C P r l (done_taken C P r l h)) in omega arith)
+-- it is not done
+pub unsubmitted_undone : (C : Config) (P : History) (q : ℕ) → IsLegal C P → q ≡ submits P → is_done P q ≡ false
+unsubmitted_undone C P q l n = false_from_ne_true _ (λ d. both_ways _ (unsubmitted_untaken C P q l n) (done_taken C P q l d))
 
--- ---- what a request asked
+-- what is not taken is not done
+pub untaken_undone : (C : Config) (P : History) (q : ℕ) → IsLegal C P → is_taken P q ≡ false → is_done P q ≡ false
+untaken_undone C P q l h = false_from_ne_true _ (λ d. both_ways _ h (done_taken C P q l d))
 
--- the numbers of a request are in their ranges
-pub record InRange (C : Config) (q : Request) : Type 0 where
-  pub tenant_known : q.tenant < length C.weights
-  pub kind_known : q.kind < C.kinds
-  pub declared_low : 1 ≤ q.declared
-  pub declared_high : q.declared ≤ 1000000000
+-- ---- numbers fit 32 bits
 
-range_at : (C : Config) (P : History) (m r : ℕ) (a : Act) (q : Request) → Fits C P m a → (request_at P r ≡ Some q → InRange C q) → request_in r a (request_at P r) ≡ Some q → InRange C q
-range_at C P m r (Submit request tenant kind declared label) q f ih h = elim (cases_eq request r) [
-  | inl e ↦ (let k : Some (record { tenant = tenant; kind = kind; declared = declared; label = label }) ≡ Some q = rw (eq-eqb request r e) at h in let j : record { tenant = tenant; kind = kind; declared = declared; label = label } ≡ q = cc in subst (InRange C) j (record { tenant_known = f.tenant_known; kind_known = f.kind_known; declared_low = f.declared_low; declared_high = f.declared_high }))
+pub submitted_small : (C : Config) (P : History) (q : ℕ) → InLimits C → IsLegal C P → is_submitted P q ≡ true → q < 2 ^ 32
+submitted_small C P q lim l h = let b : q < submits P = submitted_below C P q l h in omega (arith, small_requests C P lim (has_room C P lim l))
+
+pub taken_small : (C : Config) (P : History) (q : ℕ) → InLimits C → IsLegal C P → is_taken P q ≡ true → q < 2 ^ 32
+taken_small C P q lim l h = submitted_small C P q lim l (taken_submitted C P q l h)
+
+-- the number of the next Submit
+pub next_small : (C : Config) (P : History) (q : ℕ) → InLimits C → IsLegal C P → q ≡ submits P → q < 2 ^ 32
+next_small C P q lim l n = omega (arith, small_requests C P lim (has_room C P lim l))
+
+-- the number of a Take that fits
+pub take_request_small : (C : Config) (P : History) (m w q c : ℕ) → InLimits C → IsLegal C P → Fits C P m (Take w q c) → q < 2 ^ 32
+take_request_small C P m w q c lim l f = submitted_small C P q lim l (waits_submitted P q (take_waits C P m w q c f))
+
+-- ---- what a worker may report of and finish
+
+-- a use that fits is of a request that is taken
+pub use_taken : (P : History) (w q used : ℕ) → FitsUse P w q used → is_taken P q ≡ true
+use_taken P w q used f = runs_taken P q (worker_runs P w q f.runs)
+
+-- and not done
+pub use_undone : (P : History) (w q used : ℕ) → FitsUse P w q used → is_done P q ≡ false
+use_undone P w q used f = f.runs.not_done
+
+-- and whose number fits
+pub use_small : (C : Config) (P : History) (w q used : ℕ) → InLimits C → IsLegal C P → FitsUse P w q used → q < 2 ^ 32
+use_small C P w q used lim l f = taken_small C P q lim l (use_taken P w q used f)
+
+-- what was submitted is known
+pub submitted_known : (P : History) (q : ℕ) → is_submitted P q ≡ true → (a : Request) × (request_at P q ≡ Some a)
+submitted_known P q h = go (request_at P q) refl
+  where
+    go : (o : Option Request) → request_at P q ≡ o → (a : Request) × (request_at P q ≡ Some a)
+    go None is = absurd (both_ways _ (unasked P q is) h)
+    go (Some a) is = (a, is)
+
+pub taken_known : (C : Config) (P : History) (q : ℕ) → IsLegal C P → is_taken P q ≡ true → (a : Request) × (request_at P q ≡ Some a)
+taken_known C P q l h = submitted_known P q (taken_submitted C P q l h)
+
+pub use_known : (C : Config) (P : History) (w q used : ℕ) → IsLegal C P → FitsUse P w q used → (a : Request) × (request_at P q ≡ Some a)
+use_known C P w q used l f = taken_known C P q l (use_taken P w q used f)
+
+-- ---- the limits of a request
+
+-- its tenant and its kind are there, and its declared cost is in range
+pub record IsKnown (C : Config) (a : Request) : Type 0 where
+  pub tenant_known : a.tenant < length C.weights
+  pub kind_known : a.kind < C.kinds
+  pub declared_low : 1 ≤ a.declared
+  pub declared_high : a.declared ≤ 1000000000
+
+known_at : (C : Config) (P : History) (m r : ℕ) (act : Act) (a : Request) → Fits C P m act → (request_at P r ≡ Some a → IsKnown C a) → request_in r act (request_at P r) ≡ Some a → IsKnown C a
+known_at C P m r (Submit request tenant kind declared label) a f ih h = elim (cases_eq request r) [
+  | inl e ↦ (let k : Some (record { tenant = tenant; kind = kind; declared = declared; label = label }) ≡ Some a = rw (eq-eqb request r e) at h in let j : record { tenant = tenant; kind = kind; declared = declared; label = label } ≡ a = cc in subst (IsKnown C) j (record { tenant_known = f.tenant_known; kind_known = f.kind_known; declared_low = f.declared_low; declared_high = f.declared_high }))
   | inr ne ↦ ih (rw (ne_eqb request r ne) at h)
 ]
-range_at C P m r (Take worker request estimate) q f ih h = ih h
-range_at C P m r (Report worker request used) q f ih h = ih h
-range_at C P m r (Done worker request cost) q f ih h = ih h
-range_at C P m r Close q f ih h = ih h
+known_at C P m r (Take worker request estimate) a f ih h = ih h
+known_at C P m r (Report worker request used) a f ih h = ih h
+known_at C P m r (Done worker request cost) a f ih h = ih h
+known_at C P m r Close a f ih h = ih h
 
-pub asked_range : (C : Config) (P : History) (r : ℕ) (q : Request) → IsLegal C P → request_at P r ≡ Some q → InRange C q
-asked_range C [] r q l h = absurd (cc)
-asked_range C (e ∷ P) r q l h = range_at C P e.moment r e.act q l.3 (asked_range C P r q l.0) h
+pub request_known : (C : Config) (P : History) (r : ℕ) (a : Request) → IsLegal C P → request_at P r ≡ Some a → IsKnown C a
+request_known C [] r a l h = absurd (cc)
+request_known C (e ∷ P) r a l h = known_at C P e.moment r e.act a l.3 (request_known C P r a l.0) h
 
-pub tenant_known : (C : Config) (P : History) (t r : ℕ) → IsLegal C P → is_of_tenant t (request_at P r) ≡ true → t < length C.weights
-tenant_known C P t r l h =
-    let x = is_of_asked t (request_at P r) h in
-    let b : x.0.tenant < length C.weights = (asked_range C P r x.0 l x.1).tenant_known in
-    omega (arith, x.2)
+-- the tenant of a request is there
+pub tenant_below : (C : Config) (P : History) (t r : ℕ) → IsLegal C P → is_of_tenant t (request_at P r) ≡ true → t < length C.weights
+tenant_below C P t r l h = go (request_at P r) refl h
+  where
+    go : (o : Option Request) → request_at P r ≡ o → is_of_tenant t o ≡ true → t < length C.weights
+    go None is k = absurd (false≢true k)
+    go (Some a) is k = let e : a.tenant ≡ t = eqb-true _ _ k in let b : a.tenant < length C.weights = (request_known C P r a l is).tenant_known in omega arith
 
-stays_at : (C : Config) (P : History) (m r : ℕ) (a : Act) (q : Request) → IsLegal C P → Fits C P m a → request_at P r ≡ Some q → request_in r a (request_at P r) ≡ Some q
-stays_at C P m r (Submit request tenant kind declared label) q l f h = elim (cases_eq request r) [
-  | inl e ↦ (let k : request_at P r ≡ None = fresh C P r l (omega (arith, f.numbered)) in let j : Some q ≡ None = sym h ∙ k in absurd (cc))
-  | inr ne ↦ rw (ne_eqb request r ne) h
-]
-stays_at C P m r (Take worker request estimate) q l f h = h
-stays_at C P m r (Report worker request used) q l f h = h
-stays_at C P m r (Done worker request cost) q l f h = h
-stays_at C P m r Close q l f h = h
+-- whether a request is one of tenant t, by what is known of it
+pub of_own : (P : History) (t q : ℕ) (a : Request) → request_at P q ≡ Some a → a.tenant ≡ t → is_of_tenant t (request_at P q) ≡ true
+of_own P t q a is e = rw is (eq-eqb a.tenant t e)
 
--- what a request asked does not change
-pub asked_stays : (C : Config) (P : History) (e : Entry) (r : ℕ) (q : Request) → IsLegal C (e ∷ P) → request_at P r ≡ Some q → request_at (e ∷ P) r ≡ Some q
-asked_stays C P e r q l h = stays_at C P e.moment r e.act q l.0 l.3 h
+pub of_other : (P : History) (t q : ℕ) (a : Request) → request_at P q ≡ Some a → a.tenant ≢ t → is_of_tenant t (request_at P q) ≡ false
+of_other P t q a is ne = rw is (ne_eqb a.tenant t ne)

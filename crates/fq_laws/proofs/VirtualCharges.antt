@@ -12,7 +12,7 @@ use Rattle.fq_model.specs.Charge.{charge, taken_weight, is_taken_of, charged, vi
 use Rattle.fq_model.specs.Rules.{IsLegal, Fits, FitsUse}
 use Rattle.fq_laws.proofs.Counting.{sum_same, sum_at, sum_zero}
 use Rattle.fq_laws.proofs.Legality.{after, take_waits, waits_untaken}
-use Rattle.fq_laws.proofs.Known.{untaken_nil, unsubmitted_unknown, unsubmitted_untaken, take_request_small, use_small, use_taken}
+use Rattle.fq_laws.proofs.Requests.{untaken_nil, unsubmitted_unknown, unsubmitted_untaken, take_request_small, use_small, use_taken}
 use Rattle.fq_laws.proofs.Charges.{charge_submit, charge_close, charge_take, charge_take_other, charge_report, charge_report_other, charge_done, charge_done_other, taken_weight_is, taken_weight_take, taken_weight_take_other}
 
 -- ---- which requests of a tenant are taken, at one entry more
