@@ -2,6 +2,9 @@
 use Rattle.std.proofs.Common.{ℕ, zero, suc, ◌+◌, ◌-◌, ◌*◌, ◌==◌, ◌<◌, ◌≤◌, ◌≡◌, ◌≢◌, Bool, true, false, cond, arith, refl, ap, sym, ◌∙◌, subst, inl, inr, ◌⊎◌, List, [], ◌∷◌, length, Option, Some, None, ℤ, pos, slice_index, slice_set, get_or-set_same, get_or-set_other, length-set, replicate}
 use Rattle.std.proofs.lemmas.Bool.{cases_eq, eq-eqb, ne_eqb, eqb-true, cases_Bool, cases_lt}
 use Rattle.std.proofs.lemmas.List.{get_or-replicate, get_or_past, length-replicate}
+use Rattle.std.proofs.lemmas.Int.{ints}
+use Rattle.std.specs.Int.{w128}
+use mir.Val.{to_z, of_z}
 use Rattle.vt_fixed.specs.Rounding.{advance_of}
 use Rattle.fq_model.specs.declared.config.Config.{Config}
 use Rattle.fq_model.specs.declared.event.Act.{Act}
@@ -11,11 +14,16 @@ use Rattle.fq_model.specs.History.{History, Request, request_at, is_of_tenant, w
 use Rattle.fq_model.specs.Limits.{InLimits}
 use Rattle.fq_model.specs.Rules.{IsLegal, Fits, FitsSubmit, FitsUse}
 use Rattle.fq_model.specs.Time.{virtual_time, virtual_advance, last_moment, active_weight, open_requests, is_active}
-use Rattle.fq_laws.proofs.Legality.{after}
+use Rattle.fq_laws.proofs.Legality.{after, has_room, submits_le_length}
+use Rattle.fq_laws.proofs.Bounds.{virtual_time_low, active_weight_low, open_requests_low}
 use Rattle.fq_laws.proofs.Clocks.{virtual_time_step, virtual_time_nil, active_weight_nil, active_weight_take, active_weight_report, active_weight_close, active_weight_submit, active_weight_done, active_of_open, inactive_of_open}
+use Rattle.fq_laws.proofs.Requests.{request_known, use_known}
 use Rattle.fq_laws.proofs.Opens.{open_nil, open_submit, open_done, open_take, open_report, open_close, open_use}
 use Rattle.refold.specs.declared.clock.Clock.{Clock}
+use Rattle.std.specs.Prelude.{option_map}
 use Rattle.refold.specs.Clock.{ClockIs, Passes, Joins, Leaves}
+use Rattle.refold.specs.Requests.{asked}
+use Rattle.refold.specs.declared.requests.Request as kept
 
 -- noughts are 0 at each place
 pub noughts : (n t : ℕ) → slice_index (replicate n 0) t ≡ 0
@@ -32,6 +40,25 @@ clock_start C k l v w n e is = record {
   sized = ap length is ∙ (length-replicate {A = ℕ} n 0 ∙ e);
   open_counts = λ t h. ap (λ xs. slice_index xs t) is ∙ (noughts n t ∙ sym (open_nil t));
 }
+
+-- a virtual time fits 128 bits
+pub held : (C : Config) (P : History) (m : ℕ) (z : ℤ) → InLimits C → IsLegal C P → last_moment P ≤ m → m ≤ 1000000000000000 → z ≡ pos (virtual_time C P m) → to_z w128 (of_z w128 z) ≡ pos (virtual_time C P m)
+held C P m z lim l b c e = let low = virtual_time_low C P m lim l b in omega (arith, ints)
+
+-- the counts and the weight of a clock are far from the ends of their types
+pub record IsFew (C : Config) (P : History) (k : Clock) (t : ℕ) : Type 0 where
+  pub counted : slice_index k.counts t ≡ open_requests P t
+  pub few : slice_index k.counts t ≤ 4194304
+  pub light : k.weights ≤ 4096000
+
+pub few_open : (C : Config) (P : History) (k b : Clock) (v : ℤ) (m t : ℕ) → InLimits C → IsLegal C P → ClockIs C P k → Passes k v m b → t < length C.weights → IsFew C P b t
+few_open C P k b v m t lim l is p h =
+    let now : slice_index b.counts t ≡ open_requests P t = ap (λ xs. slice_index xs t) p.counts ∙ is.open_counts t h in
+    record {
+      counted = now;
+      few = omega (arith, open_requests_low C P t lim l, submits_le_length P, has_room C P lim l, lim.entries);
+      light = omega (arith, active_weight_low C P lim, p.weights, is.weights);
+    }
 
 -- the advance from the clock's numbers
 pub advance_is : (C : Config) (P : History) (m last workers weights : ℕ) → last ≡ last_moment P → workers ≡ C.workers → weights ≡ active_weight C P → advance_of (m - last) workers weights ≡ virtual_advance C P m
@@ -119,3 +146,42 @@ clock_done C P who m w q cost weight x k a b lim l f asked known heavy is p j =
             )
       ];
     }
+
+-- what a Done concerns
+pub record IsLeft (C : Config) (P : History) (k : Clock) (u : ℕ) : Type 0 where
+  pub known : u < length C.weights
+  pub some : 1 ≤ slice_index k.counts u
+  pub heavy : slice_index k.counts u ≡ 1 → weight_at C P u ≤ k.weights
+
+pub is_left : (C : Config) (P : History) (who m w q cost : ℕ) (x : Request) (k b : Clock) (v : ℤ) → InLimits C → IsLegal C P → FitsUse P w q cost → request_at P q ≡ Some x → ClockIs C P k → Passes k v m b → IsLeft C P b x.tenant
+is_left C P who m w q cost x k b v lim l f asked is p =
+    let known = request_known C P q x l asked in
+    let own : is_of_tenant x.tenant (request_at P q) ≡ true = rw asked (eq-eqb x.tenant x.tenant refl) in
+    let now : slice_index b.counts x.tenant ≡ open_requests P x.tenant = ap (λ xs. slice_index xs x.tenant) p.counts ∙ is.open_counts x.tenant known.tenant_known in
+    let lighter : active_weight C (after who m (Done w q cost) P) + cond (open_requests P x.tenant == 1) (weight_at C P x.tenant) 0 ≡ active_weight C P = active_weight_done C P who m w q cost x.tenant lim l f own in
+    record {
+      known = known.tenant_known;
+      some = omega (arith, open_use C P x.tenant w q cost lim l f own);
+      heavy = λ one. (
+        let at_one : (open_requests P x.tenant == 1) ≡ true = eq-eqb (open_requests P x.tenant) 1 (sym now ∙ one) in
+        let all : active_weight C (after who m (Done w q cost) P) + weight_at C P x.tenant ≡ active_weight C P = rw at_one at lighter in
+        omega (arith, p.weights, is.weights)
+      );
+    }
+
+-- a worker's request was submitted
+pub use_asked : (C : Config) (P : History) (w q cost : ℕ) → IsLegal C P → FitsUse P w q cost → request_at P q ≡ None → ⊥
+use_asked C P w q cost l f none = let known = use_known C P w q cost l f in let e : Some known.0 ≡ None = sym known.1 ∙ none in absurd (cc)
+
+-- the weight of a tenant, as it is read
+pub weight_is : (C : Config) (P : History) (t weight : ℕ) → weight ≡ slice_index C.weights t → weight ≡ weight_at C P t
+unfolding weight_at
+weight_is C P t weight e = e
+
+-- what was looked for is there, or is not
+pub found : (o : Option kept.Request) (q : kept.Request) (x : Option Request) → o ≡ Some q → option_map asked o ≡ x → x ≡ Some (asked q)
+found o q x e f = sym f ∙ ap (option_map asked) e
+
+pub missing : (o : Option kept.Request) (x : Option Request) → ((q : kept.Request) → o ≡ Some q → ⊥) → option_map asked o ≡ x → x ≡ None
+missing None x none f = sym f
+missing (Some q) x none f = absurd (none q refl)
