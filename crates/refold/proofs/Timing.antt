@@ -163,10 +163,10 @@ is_left C P who m w q cost x k b v lim l f asked is p =
       known = known.tenant_known;
       some = omega (arith, open_use C P x.tenant w q cost lim l f own);
       heavy = λ one. (
-        let at_one : (open_requests P x.tenant == 1) ≡ true = eq-eqb (open_requests P x.tenant) 1 (sym now ∙ one) in
-        let all : active_weight C (after who m (Done w q cost) P) + weight_at C P x.tenant ≡ active_weight C P = rw at_one at lighter in
-        omega (arith, p.weights, is.weights)
-      );
+          let at_one : (open_requests P x.tenant == 1) ≡ true = eq-eqb (open_requests P x.tenant) 1 (sym now ∙ one) in
+          let all : active_weight C (after who m (Done w q cost) P) + weight_at C P x.tenant ≡ active_weight C P = rw at_one at lighter in
+          omega (arith, p.weights, is.weights)
+          );
     }
 
 -- a worker's request was submitted

@@ -1,3 +1,6 @@
 pub mod Requests
 pub mod Pasts
 pub mod Clock
+pub mod Takes
+pub mod Change
+pub mod Account

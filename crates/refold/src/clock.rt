@@ -3,7 +3,7 @@ ghost use Rattle.std.specs.Prelude.{◌≡◌, ◌≤◌, ◌<◌, ◌^◌, ◌+
 ghost use Rattle.fq_model.specs.declared.config.Config.{Config};
 ghost use Rattle.fq_model.specs.History.{history_of};
 ghost use Rattle.fq_model.specs.Rules.{IsLegal};
-ghost use Rattle.fq_model.specs.Time.{virtual_time, virtual_advance, last_moment, greatest_moment};
+ghost use Rattle.fq_model.specs.Time.{virtual_time, virtual_advance, last_moment, greatest_moment, is_active};
 ghost use Rattle.refold.specs.Pasts.{IsPast};
 
 use crate::requests::submitted;
@@ -62,6 +62,17 @@ impl Clock {
         ensures { result ≡ pos (virtual_time config.now (history_of past.now) moment) }
     {
         self.time + self.advance_to(config, past, moment)
+    }
+
+    /// Whether the tenant has a request that is submitted and not done.
+    #[tactic(auto, unfolding(fq_model::specs::Time::is_active))]
+    pub fn is_active(&self, config: &Checked, past: &[Entry], tenant: u32) -> bool
+        requires clock { ClockIs config.now (history_of past.now) self.now }
+        requires past { IsPast config.now past.now }
+        requires known { tenant < length config.now.weights }
+        ensures { result ≡ is_active (history_of past.now) tenant }
+    {
+        self.counts[tenant as usize] > 0
     }
 
     /// Goes on past one entry more, which follows these.

@@ -2,6 +2,8 @@
 //! memory, keep nothing between calls, and stand as the reference that faster bodies are compared with.
 #![tactic(auto)]
 
+pub mod account;
+pub mod change;
 pub mod clock;
 pub mod counts;
 pub mod entries;
