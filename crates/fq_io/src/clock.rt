@@ -3,11 +3,12 @@ ghost use Rattle.std.specs.Prelude.{◌≡◌, ℕ};
 
 use std::marker::Model;
 
-/// What tells the moment, in microseconds. Its answers may fall: a history makes them effective.
+/// What tells the moment. Its answers may fall.
 pub trait Clock {
     /// Whether the clock may answer this number.
     ghost tells: { Self → ℕ → Type 0 };
 
+    /// The moment, in microseconds.
     fn now(&self) -> u64
         ensures { tells self.now result };
 }
@@ -25,6 +26,7 @@ impl Model for FixedClock {
 }
 
 impl FixedClock {
+    /// Stands at this moment, in microseconds.
     pub fn new(moment: u64) -> FixedClock
         ensures { result ≡ moment }
     {

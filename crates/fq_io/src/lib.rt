@@ -1,16 +1,16 @@
 //! Sources of bytes, sinks of bytes and clocks, each behind a trait that counts what fails.
 #![tactic(auto)]
 
-pub mod clock;
-pub mod fault;
-pub mod memory_sink;
-pub mod memory_source;
-pub mod reading;
-pub mod sink;
-pub mod source;
-pub mod std_sink;
-pub mod std_source;
-pub mod writing;
+mod clock;
+mod fault;
+mod memory_sink;
+mod memory_source;
+mod reading;
+mod sink;
+mod source;
+mod std_sink;
+mod std_source;
+mod writing;
 
 pub use clock::{Clock, FixedClock};
 pub use fault::{Failed, NoMemory};

@@ -26,6 +26,7 @@ impl<W> Model for StdSink<W> {
 }
 
 impl<W: Write> StdSink<W> {
+    /// Has no fault yet.
     pub fn new(writer: W) -> StdSink<W>
         ensures { result ≡ 0 }
     {

@@ -26,6 +26,7 @@ impl<R> Model for StdSource<R> {
 }
 
 impl<R: Read> StdSource<R> {
+    /// Has no fault yet.
     pub fn new(reader: R) -> StdSource<R>
         ensures { result ≡ 0 }
     {
