@@ -1,0 +1,27 @@
+//! Sources of bytes, sinks of bytes and clocks, each behind a trait that counts what fails.
+#![tactic(auto)]
+
+mod clock;
+mod fault;
+mod memory_sink;
+mod memory_source;
+mod reading;
+mod sink;
+mod source;
+mod std_sink;
+mod std_source;
+mod writing;
+
+pub use clock::{Clock, FixedClock};
+pub use fault::{Failed, NoMemory};
+pub use memory_sink::MemSink;
+pub use memory_source::MemSource;
+pub use reading::{ReadAllFault, read_all};
+pub use sink::Sink;
+pub use source::Source;
+pub use std_sink::StdSink;
+pub use std_source::StdSource;
+pub use writing::{WriteFault, write_all};
+
+#[cfg(test)]
+mod tests;
