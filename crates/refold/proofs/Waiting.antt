@@ -71,20 +71,20 @@ take_count C P who m t w q estimate lim l f =
     let gone : waits_for Q t q ≡ false = waits_take_gone P who m t w q estimate in
     elim (cases_Bool (is_of_tenant t (request_at P q))) [
       | inl own ↦ (
-        let here : waits_for P t q ≡ true = rw (own, untaken) refl in
-        let more : count_below (waits_for P t) (2 ^ 32) ≡ count_below (waits_for Q t) (2 ^ 32) + 1 = count_more (waits_for Q t) (waits_for P t) q (2 ^ 32) small gone here (λ s ne. waits_take_same P who m t s w q estimate (λ x. ne (sym x))) in
-        record { some = λ _. omega arith; count = rw own (omega arith) }
-      )
+          let here : waits_for P t q ≡ true = rw (own, untaken) refl in
+          let more : count_below (waits_for P t) (2 ^ 32) ≡ count_below (waits_for Q t) (2 ^ 32) + 1 = count_more (waits_for Q t) (waits_for P t) q (2 ^ 32) small gone here (λ s ne. waits_take_same P who m t s w q estimate (λ x. ne (sym x))) in
+          record { some = λ _. omega arith; count = rw own (omega arith) }
+          )
       | inr not_own ↦ (
-        let here : waits_for P t q ≡ false = rw not_own refl in
-        record {
-          some = λ e. absurd (false≢true (sym not_own ∙ e));
-          count = rw not_own (count_same (waits_for Q t) (waits_for P t) (2 ^ 32) (λ r b. elim (cases_eq q r) [
-            | inl same ↦ subst (λ x. waits_for Q t x ≡ waits_for P t x) same (gone ∙ sym here)
-            | inr ne ↦ waits_take_same P who m t r w q estimate ne
-          ]));
-        }
-      )
+          let here : waits_for P t q ≡ false = rw not_own refl in
+          record {
+            some = λ e. absurd (false≢true (sym not_own ∙ e));
+            count = rw not_own (count_same (waits_for Q t) (waits_for P t) (2 ^ 32) (λ r b. elim (cases_eq q r) [
+              | inl same ↦ subst (λ x. waits_for Q t x ≡ waits_for P t x) same (gone ∙ sym here)
+              | inr ne ↦ waits_take_same P who m t r w q estimate ne
+            ]));
+          }
+          )
     ]
 
 pub waits_after : (C : Config) (P : History) (who m t : ℕ) (a : Act) → InLimits C → IsLegal C P → Fits C P m a → WaitsAfter P t a (after who m a P)

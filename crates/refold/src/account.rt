@@ -80,6 +80,8 @@ impl Account {
 
     // The base after an entry at virtual time v, which submits a request of the tenant or doesn't.
     fn base_after(self, v: i128, joins: bool) -> i128
+        requires base_low { pos 0 ≤ℤ self.base }
+        requires base_high { self.base ≤ℤ pos 100000000000000000000000 }
         requires credit_low { pos 0 ≤ℤ self.credit }
         requires credit_high { self.credit ≤ℤ pos 10000000000000000000000 }
         requires v_low { pos 0 ≤ℤ v }
@@ -96,7 +98,7 @@ impl Account {
 
 // The virtual charge after a change.
 fn credit_after(credit: i128, change: Change, weight: u32) -> i128
-    requires low { pos (length_of change.charged weight) ≤ℤ credit }
+    requires low { pos 0 ≤ℤ credit }
     requires high { credit ≤ℤ pos 10000000000000000000000 }
     requires charged { change.charged ≤ 1000000000 }
     requires recharged { change.recharged ≤ 1000000000 }
