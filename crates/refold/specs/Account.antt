@@ -3,7 +3,7 @@ use Rattle.std.specs.Prelude.{ℕ, ◌≡◌, ◌==◌, Bool, ◌&&◌, ℤ, pos
 use Rattle.std.specs.Int.{int_max}
 use Rattle.fq_model.specs.declared.config.Config.{Config}
 use Rattle.fq_model.specs.History.{History}
-use Rattle.fq_model.specs.Time.{virtual_idle_time, last_moment}
+use Rattle.fq_model.specs.Time.{virtual_idle_time, virtual_advance, last_moment, is_active}
 use Rattle.fq_model.specs.Charge.{virtual_charge}
 use Rattle.fq_model.specs.Keys.{tag_base}
 use Rattle.refold.specs.Takes.{waiting_of}
@@ -19,3 +19,7 @@ pub record AccountIs (C : Config) (P : History) (t : ℕ) (a : Account) : Type 0
 -- the base at virtual time v, raised where a request joins and none waits
 abbrev pub raised : Account → ℤ → Bool → ℤ
 raised a v joins = if joins && (a.waits == 0) then int_max a.base (v -ℤ a.credit) else a.base
+
+-- the virtual time from the last entry to m, where tenant t is not active in it
+abbrev pub idle_since : Config → History → ℕ → ℕ → ℕ
+idle_since C P m t = if is_active P t then 0 else virtual_advance C P m

@@ -10,3 +10,4 @@ pub mod entries;
 pub mod heads;
 pub mod refusals;
 pub mod requests;
+pub mod walk;
