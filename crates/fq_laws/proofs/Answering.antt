@@ -19,7 +19,7 @@ use Rattle.fq_model.specs.Rules.{IsLegal, Fits, IsChosen, request_on, submit_ref
 use Rattle.fq_laws.proofs.Legality.{after, choice_head}
 use Rattle.fq_laws.proofs.Choices.{chosen, chosen_keys, keys_of, KeysOf}
 use Rattle.fq_laws.proofs.Room.{effective_rises, effective_small}
-use Rattle.fq_laws.proofs.Refusals.{SomeAnswer, MayTake, refused_exists, refused_one, refused_keeps, submit_fits, take_may, report_fits, done_fits, close_fits}
+use Rattle.fq_laws.proofs.Refusals.{SomeReply, MayTake, refused_exists, refused_one, refused_keeps, submit_fits, take_may, report_fits, done_fits, close_fits}
 
 -- ---- the request that a worker takes
 
@@ -54,10 +54,10 @@ chosen_estimate_one C P m i r s a b p q x y =
 
 -- ---- there is an answer
 
-accepted : (P : History) (who moment : ℕ) (a : Act) (wanted : Reply) → SomeAnswer (λ reply Q. IsAccepted P who moment a wanted reply Q)
+accepted : (P : History) (who moment : ℕ) (a : Act) (wanted : Reply) → SomeReply (λ reply Q. IsAccepted P who moment a wanted reply Q)
 accepted P who moment a wanted = (wanted, after who (effective_moment P moment) a P, (refl, refl))
 
-free_at : (C : Config) (P : History) (who moment i : ℕ) (b : Bool) → IsLegal C P → (waiting P == 0) ≡ b → SomeAnswer (λ reply Q. MatchBool b (IsAnswered P (cond (is_closed P) answer.Drained answer.Idle) reply Q) (RunsChosen C P who moment i reply Q))
+free_at : (C : Config) (P : History) (who moment i : ℕ) (b : Bool) → IsLegal C P → (waiting P == 0) ≡ b → SomeReply (λ reply Q. MatchBool b (IsAnswered P (cond (is_closed P) answer.Drained answer.Idle) reply Q) (RunsChosen C P who moment i reply Q))
 free_at C P who moment i true l e = (cond (is_closed P) answer.Drained answer.Idle, P, (refl, refl))
 free_at C P who moment i false l e =
     let w : 1 ≤ waiting P = omega (arith, eqb-false (waiting P) 0 e) in
@@ -67,11 +67,11 @@ free_at C P who moment i false l e =
       record { request = x.0; estimate = x.1; asked = x.2; chosen = x.3; accepted = (refl, refl) },
     )
 
-pub free_answered : (C : Config) (P : History) (who moment i : ℕ) → IsLegal C P → SomeAnswer (λ reply Q. AnswersFree C P who moment i reply Q)
+pub free_answered : (C : Config) (P : History) (who moment i : ℕ) → IsLegal C P → SomeReply (λ reply Q. AnswersFree C P who moment i reply Q)
 free_answered C P who moment i l = free_at C P who moment i (waiting P == 0) l refl
 
 -- each call has an answer
-pub answered : (C : Config) (P : History) (c : Call) → IsLegal C P → SomeAnswer (λ reply Q. Answers C P c reply Q)
+pub answered : (C : Config) (P : History) (c : Call) → IsLegal C P → SomeReply (λ reply Q. Answers C P c reply Q)
 answered C P (call.Submit who moment tenant kind declared label) l =
     refused_exists (submit_refusal C P tenant kind declared) P (λ reply Q. IsAccepted P who moment (Submit (submits P) tenant kind declared label) (answer.Request (submits P)) reply Q) (λ e. accepted P who moment (Submit (submits P) tenant kind declared label) (answer.Request (submits P)))
 answered C P (call.Take who moment worker) l =

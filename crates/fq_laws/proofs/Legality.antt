@@ -56,7 +56,7 @@ asked_submitted (e ∷ P) r x h = asked_at P r e.act x (asked_submitted P r x) h
 
 unasked_at : (P : History) (r : ℕ) (a : Act) → (request_at P r ≡ None → is_submitted P r ≡ false) → request_in r a (request_at P r) ≡ None → (is_submit_of r a || is_submitted P r) ≡ false
 unasked_at P r (Submit request tenant kind declared label) ih h = elim (cases_Bool (request == r)) [
-  | inl e ↦ (let k : Some (record { tenant = tenant; kind = kind; declared = declared; label = label }) ≡ None = rw e at h in absurd (cc))
+  | inl e ↦ (let q : Request = record { tenant = tenant; kind = kind; declared = declared; label = label } in let k : Some q ≡ None = rw e at h in absurd (cc))
   | inr e ↦ rw e (ih (rw e at h))
 ]
 unasked_at P r (Take worker request estimate) ih h = ih h
