@@ -1,7 +1,12 @@
--- Words for the laws: how often something is done, and what a list begins with.
-use Rattle.std.specs.Prelude.{ℕ, suc, ◌<◌, ◌≡◌, ◌⊎◌, Bool, if◌then◌else◌, List, [], ◌∷◌, Option, Some, None}
+-- Words for the laws.
+use Rattle.std.specs.Prelude.{ℕ, suc, ◌<◌, ◌≡◌, ◌==◌, ◌⊎◌, Bool, false, if◌then◌else◌, List, [], ◌∷◌, Option, Some, None}
 use Rattle.fq_model.specs.declared.event.Act.{Act}
-use Rattle.fq_model.specs.History.{History}
+use Rattle.fq_model.specs.declared.event.Act.TheVariants.{Submit, Take, Report, Done, Close}
+use Rattle.fq_model.specs.declared.config.Config.{Config}
+use Rattle.fq_model.specs.History.{History, Request, request_at, is_of_tenant, head}
+use Rattle.fq_model.specs.Time.{open_requests}
+use Rattle.fq_model.specs.Charge.{virtual_charge, net_charge, completed, completed_costs}
+use Rattle.fq_model.specs.Keys.{tag_base}
 
 -- the number of entries whose act passes the test
 abbrev pub times : (Act → Bool) → History → ℕ
@@ -22,3 +27,20 @@ Member r (x ∷ xs) = (r ≡ x) ⊎ Member r xs
 abbrev pub Ascends : List ℕ → Type 0
 Ascends [] = Unit {0}
 Ascends (x ∷ xs) = ((s : ℕ) → Member s xs → x < s) × Ascends xs
+
+-- the act submits a request of tenant t, or is done to one
+abbrev pub concerns : History → ℕ → Act → Bool
+concerns P t (Submit request tenant kind declared label) = tenant == t
+concerns P t (Take worker request estimate) = is_of_tenant t (request_at P request)
+concerns P t (Report worker request used) = is_of_tenant t (request_at P request)
+concerns P t (Done worker request cost) = is_of_tenant t (request_at P request)
+concerns P t _ = false
+
+-- tenant t stands in Q as it stands in P
+pub record Leaves (C : Config) (P Q : History) (t : ℕ) : Type 0 where
+  pub head_same : head Q t ≡ head P t
+  pub charge_same : virtual_charge C Q t ≡ virtual_charge C P t
+  pub net_same : net_charge Q t ≡ net_charge P t
+  pub base_same : tag_base C Q t ≡ tag_base C P t
+  pub open_same : open_requests Q t ≡ open_requests P t
+  pub costs_same : (kind : ℕ) → completed_costs (completed Q) t kind ≡ completed_costs (completed P) t kind

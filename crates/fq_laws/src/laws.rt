@@ -1,5 +1,5 @@
 //! The laws, one function a law: its contract is the law, and its body is empty.
-ghost use Rattle.fq_laws.specs.Laws.{EachOnce, NumbersFit, RunningLaw, HeadLaw, QueueLaw, ChoiceExists, OneChoice, AnswerExists, OneAnswer, AnswersKeepLegality, AnswersAddOne, RoomRemains, OutcomeExists, OneOutcome, OutcomesAreLegal};
+ghost use Rattle.fq_laws.specs.Laws.{EachOnce, NumbersFit, RunningLaw, HeadLaw, QueueLaw, ChoiceExists, OneChoice, EntriesLeaveOthers, KeysDoNotAge, OthersKeepKeys, AnswerExists, OneAnswer, AnswersKeepLegality, AnswersAddOne, RoomRemains, OutcomeExists, OneOutcome, OutcomesAreLegal};
 
 /// In a legal history a request is submitted, taken and done once at most.
 pub fn each_once()
@@ -34,6 +34,22 @@ pub fn choice_exists()
 /// A worker has one choice at most.
 pub fn one_choice()
     ensures { OneChoice }
+{}
+
+/// An entry leaves each tenant that it does not concern as it stood: its head, its charges, the base of its tag, its
+/// open requests and its costs.
+pub fn entries_leave_others()
+    ensures { EntriesLeaveOthers }
+{}
+
+/// The keys of a tenant do not change while no entry comes, under any policy.
+pub fn keys_do_not_age()
+    ensures { KeysDoNotAge }
+{}
+
+/// An entry leaves the keys of each tenant that it does not concern.
+pub fn others_keep_keys()
+    ensures { OthersKeepKeys }
 {}
 
 /// Each call on a legal history has an answer.
