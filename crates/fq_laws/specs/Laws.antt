@@ -4,12 +4,14 @@ use Rattle.fq_model.specs.declared.config.Config.{Config}
 use Rattle.fq_model.specs.declared.event.Entry.{Entry}
 use Rattle.fq_model.specs.declared.event.Call.{Call}
 use Rattle.fq_model.specs.declared.event.Reply.{Reply}
+use Rattle.fq_model.specs.declared.event.Reply.TheVariants as answer
+use Rattle.fq_model.specs.declared.event.Cause.{Cause}
 use Rattle.fq_model.specs.Limits.{InLimits}
 use Rattle.fq_model.specs.History.{History, is_submit_of, is_take_of, is_done_of, is_submitted, is_closed, waiting, running, running_on, Runs, WaitsFor, IsHead, head, queue}
 use Rattle.fq_model.specs.Keys.{HeadKeys, keys_at, IsChoiceAt}
 use Rattle.fq_model.specs.Rules.{IsLegal, RunsNothing, Answers}
 use Rattle.fq_model.specs.Outcome.{Outcome}
-use Rattle.fq_laws.specs.Words.{times, first, Member, Ascends, concerns, Leaves}
+use Rattle.fq_laws.specs.Words.{times, first, Member, Ascends, concerns, Leaves, caller, named_moment, Extends}
 
 -- ---- requests
 
@@ -93,9 +95,13 @@ OneAnswer = (C : Config) (P H K : History) (c : Call) (r s : Reply) → Answers 
 abbrev pub AnswersKeepLegality : Type 0
 AnswersKeepLegality = (C : Config) (P H : History) (c : Call) (r : Reply) → InLimits C → IsLegal C P → Answers C P c r H → IsLegal C H
 
--- an answer leaves the history as it is, or adds one entry to it
+-- an answer leaves the history as it is, or adds one entry to it, which is of the call's maker and moment
 abbrev pub AnswersAddOne : Type 0
-AnswersAddOne = (C : Config) (P H : History) (c : Call) (r : Reply) → Answers C P c r H → (H ≡ P) ⊎ ((e : Entry) × (H ≡ e ∷ P))
+AnswersAddOne = (C : Config) (P H : History) (c : Call) (r : Reply) → Answers C P c r H → Extends (caller c) (named_moment c) P H
+
+-- a refused call leaves the history as it is
+abbrev pub RefusalsChangeNothing : Type 0
+RefusalsChangeNothing = (C : Config) (P H : History) (c : Call) (x : Cause) → Answers C P c (answer.Refused x) H → H ≡ P
 
 -- ---- room
 

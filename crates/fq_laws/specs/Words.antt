@@ -3,8 +3,10 @@ use Rattle.std.specs.Prelude.{ℕ, suc, ◌<◌, ◌≡◌, ◌==◌, ◌⊎◌,
 use Rattle.fq_model.specs.declared.event.Act.{Act}
 use Rattle.fq_model.specs.declared.event.Act.TheVariants.{Submit, Take, Report, Done, Close}
 use Rattle.fq_model.specs.declared.config.Config.{Config}
+use Rattle.fq_model.specs.declared.event.Call.{Call}
+use Rattle.fq_model.specs.declared.event.Call.TheVariants as call
 use Rattle.fq_model.specs.History.{History, Request, request_at, is_of_tenant, head}
-use Rattle.fq_model.specs.Time.{open_requests}
+use Rattle.fq_model.specs.Time.{open_requests, effective_moment}
 use Rattle.fq_model.specs.Charge.{virtual_charge, net_charge, completed, completed_costs}
 use Rattle.fq_model.specs.Keys.{tag_base}
 
@@ -44,3 +46,23 @@ pub record Leaves (C : Config) (P Q : History) (t : ℕ) : Type 0 where
   pub base_same : tag_base C Q t ≡ tag_base C P t
   pub open_same : open_requests Q t ≡ open_requests P t
   pub costs_same : (kind : ℕ) → completed_costs (completed Q) t kind ≡ completed_costs (completed P) t kind
+
+-- who makes the call
+abbrev pub caller : Call → ℕ
+caller (call.Submit who moment tenant kind declared label) = who
+caller (call.Take who moment worker) = who
+caller (call.Report who moment worker used) = who
+caller (call.Done who moment worker cost) = who
+caller (call.Close who moment) = who
+
+-- the moment that the call names
+abbrev pub named_moment : Call → ℕ
+named_moment (call.Submit who moment tenant kind declared label) = moment
+named_moment (call.Take who moment worker) = moment
+named_moment (call.Report who moment worker used) = moment
+named_moment (call.Done who moment worker cost) = moment
+named_moment (call.Close who moment) = moment
+
+-- Q is P, or P and one entry more, of this caller and at the moment at which its call takes effect
+abbrev pub Extends : ℕ → ℕ → History → History → Type 0
+Extends who moment P Q = (Q ≡ P) ⊎ ((a : Act) × (Q ≡ record { who = who; moment = effective_moment P moment; act = a } ∷ P))
