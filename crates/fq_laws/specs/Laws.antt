@@ -4,12 +4,14 @@ use Rattle.fq_model.specs.declared.config.Config.{Config}
 use Rattle.fq_model.specs.declared.event.Entry.{Entry}
 use Rattle.fq_model.specs.declared.event.Call.{Call}
 use Rattle.fq_model.specs.declared.event.Reply.{Reply}
+use Rattle.fq_model.specs.declared.event.Reply.TheVariants as answer
+use Rattle.fq_model.specs.declared.event.Cause.{Cause}
 use Rattle.fq_model.specs.Limits.{InLimits}
 use Rattle.fq_model.specs.History.{History, is_submit_of, is_take_of, is_done_of, is_submitted, is_closed, waiting, running, running_on, Runs, WaitsFor, IsHead, head, queue}
-use Rattle.fq_model.specs.Keys.{HeadKeys, IsChoiceAt}
+use Rattle.fq_model.specs.Keys.{HeadKeys, keys_at, IsChoiceAt}
 use Rattle.fq_model.specs.Rules.{IsLegal, RunsNothing, Answers}
 use Rattle.fq_model.specs.Outcome.{Outcome}
-use Rattle.fq_laws.specs.Words.{times, first, Member, Ascends}
+use Rattle.fq_laws.specs.Words.{times, first, Member, Ascends, concerns, Leaves, caller, named_moment, Extends}
 
 -- ---- requests
 
@@ -61,6 +63,20 @@ ChoiceExists = (C : Config) (P : History) (m i : ℕ) → IsLegal C P → 1 ≤ 
 abbrev pub OneChoice : Type 0
 OneChoice = (C : Config) (P : History) (m i t u : ℕ) (k l : HeadKeys) → IsChoiceAt C P m i t k → IsChoiceAt C P m i u l → (t ≡ u) × (k ≡ l)
 
+-- ---- what stays
+
+-- an entry leaves each tenant that it does not concern as it stood
+abbrev pub EntriesLeaveOthers : Type 0
+EntriesLeaveOthers = (C : Config) (P : History) (e : Entry) (t : ℕ) → InLimits C → IsLegal C (e ∷ P) → concerns P t e.act ≡ false → Leaves C P (e ∷ P) t
+
+-- the keys of a tenant are the same at each moment
+abbrev pub KeysDoNotAge : Type 0
+KeysDoNotAge = (C : Config) (P : History) (m n t : ℕ) → IsLegal C P → keys_at C P m t ≡ keys_at C P n t
+
+-- nor does an entry that does not concern the tenant change them
+abbrev pub OthersKeepKeys : Type 0
+OthersKeepKeys = (C : Config) (P : History) (e : Entry) (m n t : ℕ) → InLimits C → IsLegal C (e ∷ P) → concerns P t e.act ≡ false → keys_at C (e ∷ P) m t ≡ keys_at C P n t
+
 -- ---- answers
 
 -- some reply and some history answer the call
@@ -79,9 +95,13 @@ OneAnswer = (C : Config) (P H K : History) (c : Call) (r s : Reply) → Answers 
 abbrev pub AnswersKeepLegality : Type 0
 AnswersKeepLegality = (C : Config) (P H : History) (c : Call) (r : Reply) → InLimits C → IsLegal C P → Answers C P c r H → IsLegal C H
 
--- an answer leaves the history as it is, or adds one entry to it
+-- an answer leaves the history as it is, or adds one entry to it, which is of the call's maker and moment
 abbrev pub AnswersAddOne : Type 0
-AnswersAddOne = (C : Config) (P H : History) (c : Call) (r : Reply) → Answers C P c r H → (H ≡ P) ⊎ ((e : Entry) × (H ≡ e ∷ P))
+AnswersAddOne = (C : Config) (P H : History) (c : Call) (r : Reply) → Answers C P c r H → Extends (caller c) (named_moment c) P H
+
+-- a refused call leaves the history as it is
+abbrev pub RefusalsChangeNothing : Type 0
+RefusalsChangeNothing = (C : Config) (P H : History) (c : Call) (x : Cause) → Answers C P c (answer.Refused x) H → H ≡ P
 
 -- ---- room
 

@@ -1,5 +1,5 @@
 //! The laws, one function a law: its contract is the law, and its body is empty.
-ghost use Rattle.fq_laws.specs.Laws.{EachOnce, NumbersFit, RunningLaw, HeadLaw, QueueLaw, ChoiceExists, OneChoice, AnswerExists, OneAnswer, AnswersKeepLegality, AnswersAddOne, RoomRemains, OutcomeExists, OneOutcome, OutcomesAreLegal};
+ghost use Rattle.fq_laws.specs.Laws.{EachOnce, NumbersFit, RunningLaw, HeadLaw, QueueLaw, ChoiceExists, OneChoice, EntriesLeaveOthers, KeysDoNotAge, OthersKeepKeys, AnswerExists, OneAnswer, AnswersKeepLegality, AnswersAddOne, RefusalsChangeNothing, RoomRemains, OutcomeExists, OneOutcome, OutcomesAreLegal};
 
 /// In a legal history a request is submitted, taken and done once at most.
 pub fn each_once()
@@ -36,6 +36,22 @@ pub fn one_choice()
     ensures { OneChoice }
 {}
 
+/// An entry leaves each tenant that it does not concern as it stood: its head, its charges, the base of its tag, its
+/// open requests and its costs.
+pub fn entries_leave_others()
+    ensures { EntriesLeaveOthers }
+{}
+
+/// The keys of a tenant do not change while no entry comes, under any policy.
+pub fn keys_do_not_age()
+    ensures { KeysDoNotAge }
+{}
+
+/// An entry leaves the keys of each tenant that it does not concern.
+pub fn others_keep_keys()
+    ensures { OthersKeepKeys }
+{}
+
 /// Each call on a legal history has an answer.
 pub fn answer_exists()
     ensures { AnswerExists }
@@ -51,9 +67,15 @@ pub fn answers_keep_legality()
     ensures { AnswersKeepLegality }
 {}
 
-/// An answer takes no entry from the history, and adds one at most.
+/// An answer takes no entry from the history, and adds one at most, of the caller's number and the moment at which its
+/// call takes effect.
 pub fn answers_add_one()
     ensures { AnswersAddOne }
+{}
+
+/// A refused call leaves the history as it was.
+pub fn refusals_change_nothing()
+    ensures { RefusalsChangeNothing }
 {}
 
 /// A legal history always has room for what has to follow: what waits can be taken and ended, what runs can be ended,
