@@ -1,12 +1,12 @@
 -- How the charge of a request changes at one entry more.
-use Rattle.std.proofs.Common.{ℕ, zero, suc, ◌+◌, ◌^◌, ◌==◌, ◌<◌, ◌≤◌, ◌≡◌, ◌≢◌, max, Bool, true, false, cond, ◌&&◌, ◌||◌, arith, refl, ap, sym, ◌∙◌, subst, inl, inr, [], ◌∷◌, Option, Some, None}
-use Rattle.std.proofs.lemmas.Bool.{cases_eq, eqb-true, eq-eqb, ne_eqb, or_cases, or_parts, cases_Bool, false≢true, both_ways}
+use Rattle.std.proofs.Common.{ℕ, ◌==◌, ◌≤◌, ◌≡◌, ◌≢◌, max, true, false, cond, ◌||◌, arith, refl, sym, inl, inr, [], ◌∷◌, Some, None}
+use Rattle.std.proofs.lemmas.Bool.{eq-eqb, ne_eqb, or_parts, cases_Bool, false≢true, both_ways}
 use Rattle.fq_model.specs.declared.config.Config.{Config}
 use Rattle.fq_model.specs.declared.event.Act.{Act}
 use Rattle.fq_model.specs.declared.event.Act.TheVariants.{Submit, Take, Report, Done, Close}
 use Rattle.fq_model.specs.declared.event.Entry.{Entry}
 use Rattle.fq_model.specs.History.{History, is_taken, is_done, is_take_of, is_done_of, last_use, use_in, weight_at, pool_at}
-use Rattle.fq_model.specs.Charge.{charge, charge_from, taken_estimate, estimate_in, final_cost, cost_in, taken_weight}
+use Rattle.fq_model.specs.Charge.{charge, taken_estimate, estimate_in, final_cost, cost_in, taken_weight}
 use Rattle.fq_model.specs.Rules.{IsLegal, Fits, FitsUse}
 use Rattle.fq_laws.proofs.Legality.{after, take_waits, waits_untaken}
 use Rattle.fq_laws.proofs.Requests.{use_taken, use_undone, untaken_undone}

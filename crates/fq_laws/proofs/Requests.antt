@@ -1,13 +1,13 @@
 -- What is known of the requests of legal histories: their numbers, their limits, and who runs them.
-use Rattle.std.proofs.Common.{ℕ, zero, suc, ◌+◌, ◌^◌, ◌==◌, ◌<◌, ◌≤◌, ◌≡◌, ◌≢◌, Bool, true, false, ◌||◌, arith, refl, sym, subst, inl, inr, [], ◌∷◌, length, Option, Some, None}
-use Rattle.std.proofs.lemmas.Bool.{cases_eq, eqb-true, eq-eqb, ne_eqb, or_cases, or_parts, false_from_ne_true, cases_Bool, false≢true, both_ways}
+use Rattle.std.proofs.Common.{ℕ, ◌^◌, ◌<◌, ◌≤◌, ◌≡◌, ◌≢◌, true, false, arith, refl, subst, inl, inr, [], ◌∷◌, length, Option, Some, None}
+use Rattle.std.proofs.lemmas.Bool.{cases_eq, eqb-true, eq-eqb, ne_eqb, false_from_ne_true, false≢true, both_ways}
 use Rattle.fq_model.specs.declared.config.Config.{Config}
 use Rattle.fq_model.specs.declared.event.Act.{Act}
 use Rattle.fq_model.specs.declared.event.Act.TheVariants.{Submit, Take, Report, Done, Close}
-use Rattle.fq_model.specs.History.{History, Request, request_at, request_in, is_submitted, is_taken, is_done, submits, Runs, is_of_tenant}
+use Rattle.fq_model.specs.History.{History, Request, request_at, request_in, is_submitted, is_taken, is_done, submits, is_of_tenant}
 use Rattle.fq_model.specs.Limits.{InLimits}
 use Rattle.fq_model.specs.Rules.{IsLegal, Fits, FitsUse}
-use Rattle.fq_laws.proofs.Legality.{after, submitted_below, asked_submitted, taken_submitted, done_taken, take_waits, waits_submitted, worker_runs, runs_taken, unasked, small_requests, has_room}
+use Rattle.fq_laws.proofs.Legality.{submitted_below, asked_submitted, taken_submitted, done_taken, take_waits, waits_submitted, worker_runs, runs_taken, unasked, small_requests, has_room}
 
 -- nothing is taken at first
 pub untaken_nil : (r : ℕ) → is_taken [] r ≡ false

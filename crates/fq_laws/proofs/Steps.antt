@@ -1,8 +1,5 @@
 -- What one entry more changes for a tenant, in one table.
-use Rattle.std.proofs.Common.{ℕ, zero, suc, ◌+◌, ◌-◌, ◌<◌, ◌≤◌, ◌≡◌, ◌==◌, max, Bool, true, false, cond, ◌&&◌, arith, refl, ap, sym, ◌∙◌, subst, List, [], ◌∷◌, ◌++◌, length, take, drop, get_or, Option, Some, None, reverse}
-use Rattle.std.specs.Prelude.{slice_index}
-use Rattle.std.proofs.Math.Seq.{take-suc}
-use Rattle.std.proofs.lemmas.List.{reverse-append, take-append-drop}
+use Rattle.std.proofs.Common.{ℕ, ◌+◌, ◌≡◌, ◌==◌, max, Bool, true, false, cond, arith, refl, ap, ◌∷◌}
 use Rattle.vt_fixed.specs.Rounding.{length_of}
 use Rattle.vt_fixed.proofs.Bounds.{length_none}
 use Rattle.fq_model.specs.declared.config.Config.{Config}
@@ -10,8 +7,8 @@ use Rattle.fq_model.specs.declared.event.Act.{Act}
 use Rattle.fq_model.specs.declared.event.Act.TheVariants.{Submit, Take, Report, Done, Close}
 use Rattle.fq_model.specs.declared.event.Entry.{Entry}
 use Rattle.fq_model.specs.Limits.{InLimits}
-use Rattle.fq_model.specs.History.{History, history_of, request_at, is_of_tenant, weight_at}
-use Rattle.fq_model.specs.Time.{open_requests, last_moment, greatest_moment}
+use Rattle.fq_model.specs.History.{History, request_at, is_of_tenant, weight_at}
+use Rattle.fq_model.specs.Time.{open_requests}
 use Rattle.fq_model.specs.Charge.{charge, virtual_charge, net_charge}
 use Rattle.fq_model.specs.Rules.{IsLegal, Fits}
 use Rattle.fq_laws.proofs.Legality.{after}
