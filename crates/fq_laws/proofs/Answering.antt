@@ -1,11 +1,10 @@
 -- Each call has exactly one answer, and what it leaves is legal.
-use Rattle.std.proofs.Common.{◌≢◌, ℕ, ◌==◌, ◌≤◌, ◌≡◌, Bool, true, false, cond, arith, refl, ap, sym, ◌∙◌, subst, inl, inr, ◌⊎◌, ◌∷◌, Some}
+use Rattle.std.proofs.Common.{◌≢◌, ℕ, ◌==◌, ◌≤◌, ◌≡◌, Bool, true, false, cond, arith, refl, ap, sym, ◌∙◌, subst, inl, inr, Some}
 use Rattle.std.specs.Prelude.{MatchBool}
 use Rattle.std.proofs.lemmas.Bool.{eqb-false}
 use Rattle.fq_model.specs.declared.config.Config.{Config}
 use Rattle.fq_model.specs.declared.event.Act.{Act}
 use Rattle.fq_model.specs.declared.event.Act.TheVariants.{Submit, Take, Report, Done, Close}
-use Rattle.fq_model.specs.declared.event.Entry.{Entry}
 use Rattle.fq_model.specs.declared.event.Call.{Call}
 use Rattle.fq_model.specs.declared.event.Call.TheVariants as call
 use Rattle.fq_model.specs.declared.event.Reply.{Reply}

@@ -1,9 +1,9 @@
 -- The numbers of waiting and running requests, at one entry more that fits.
-use Rattle.std.proofs.Common.{ℕ, suc, ◌+◌, ◌^◌, ◌<◌, ◌≤◌, ◌≡◌, true, arith}
+use Rattle.std.proofs.Common.{ℕ, suc, ◌≡◌, arith}
 use Rattle.fq_model.specs.declared.config.Config.{Config}
 use Rattle.fq_model.specs.declared.event.Act.TheVariants.{Submit, Take, Done}
 use Rattle.fq_model.specs.Limits.{InLimits}
-use Rattle.fq_model.specs.History.{History, waiting, running, is_waiting}
+use Rattle.fq_model.specs.History.{History, waiting, running}
 use Rattle.fq_model.specs.Rules.{IsLegal, FitsSubmit, FitsTake, FitsUse}
 use Rattle.fq_laws.proofs.Legality.{after, take_waits, worker_runs, waiting_submit, waiting_take, running_take, running_done}
 use Rattle.fq_laws.proofs.Requests.{next_small, take_request_small, use_small}

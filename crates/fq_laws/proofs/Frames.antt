@@ -1,16 +1,16 @@
 -- What an entry leaves of the tenants that it does not concern, and when keys stay.
-use Rattle.std.proofs.Common.{ℕ, ◌+◌, ◌^◌, ◌==◌, ◌<◌, ◌≤◌, ◌≡◌, ◌≢◌, Bool, true, false, cond, not, ◌&&◌, arith, refl, ap, sym, ◌∙◌, subst, inl, inr, List, [], ◌∷◌, length, Option, Some, None}
+use Rattle.std.proofs.Common.{ℕ, ◌+◌, ◌^◌, ◌≡◌, true, false, arith, refl, ap, sym, ◌∙◌, List, ◌∷◌, Option, Some, None}
 use Rattle.std.proofs.lemmas.Bool.{eqb-false, false_from_ne_true, both_ways, and_parts, and_from, not-true, not_from_false}
 use Rattle.fq_model.specs.declared.config.Config.{Config}
 use Rattle.fq_model.specs.declared.event.Act.{Act}
 use Rattle.fq_model.specs.declared.event.Act.TheVariants.{Submit, Take, Report, Done, Close}
 use Rattle.fq_model.specs.declared.event.Entry.{Entry}
 use Rattle.fq_model.specs.Limits.{InLimits}
-use Rattle.fq_model.specs.History.{History, Request, request_at, is_of_tenant, is_taken, is_done, head, waits_for, request_bound}
-use Rattle.fq_model.specs.Time.{is_open, open_requests, is_active, last_moment, virtual_idle_time}
+use Rattle.fq_model.specs.History.{History, Request, request_at, is_of_tenant, is_done, head, waits_for, request_bound}
+use Rattle.fq_model.specs.Time.{is_open, open_requests, is_active, last_moment}
 use Rattle.fq_model.specs.Charge.{Completed, with_cost, completed, completed_costs, estimate_at, estimate_from, request_estimate}
-use Rattle.fq_model.specs.Keys.{HeadKeys, tag, start, keys_at, keys_of_head, keys_of_request}
-use Rattle.fq_model.specs.Rules.{IsLegal, Fits}
+use Rattle.fq_model.specs.Keys.{tag, start, keys_at, keys_of_head, keys_of_request}
+use Rattle.fq_model.specs.Rules.{IsLegal}
 use Rattle.fq_laws.specs.Words.{concerns, Leaves}
 use Rattle.fq_laws.proofs.Counting.{count_some}
 use Rattle.fq_laws.proofs.Legality.{after, done_taken, is_of_asked, heads, Heads}

@@ -1,5 +1,5 @@
 -- The waiting requests of a tenant in order.
-use Rattle.std.proofs.Common.{ℕ, zero, suc, ◌+◌, ◌^◌, ◌==◌, ◌<◌, ◌≤◌, ◌≡◌, ◌≢◌, Bool, true, false, cond, not, ◌&&◌, arith, refl, ap, sym, ◌∙◌, subst, inl, inr, ◌⊎◌, List, [], ◌∷◌, ◌++◌, drop, Option, Some, None}
+use Rattle.std.proofs.Common.{ℕ, ◌^◌, ◌==◌, ◌<◌, ◌≡◌, Bool, true, false, cond, arith, refl, sym, ◌∙◌, inl, inr, ◌⊎◌, List, [], ◌∷◌, ◌++◌, drop, Some}
 use Rattle.std.proofs.lemmas.Bool.{cond_both, cases_eq, false_from_ne_true, false≢true, both_ways, and_left}
 use Rattle.fq_model.specs.declared.config.Config.{Config}
 use Rattle.fq_model.specs.declared.event.Act.{Act}
@@ -12,7 +12,7 @@ use Rattle.fq_model.specs.Rules.{IsLegal, Fits, FitsTake}
 use Rattle.fq_laws.specs.Words.{first, Member, Ascends}
 use Rattle.fq_laws.specs.Laws.{IsQueue}
 use Rattle.fq_laws.proofs.Counting.{IsLeast, least_by}
-use Rattle.fq_laws.proofs.Legality.{after, take_head, TakesHead, Heads, is_of_asked}
+use Rattle.fq_laws.proofs.Legality.{after, take_head, Heads, is_of_asked}
 use Rattle.fq_laws.proofs.Heads.{waits_submit_same, waits_submit_new, waits_fresh, waits_take_same, waits_take_gone, waits_below, waits_small}
 
 -- xs are the waiting requests of t in order

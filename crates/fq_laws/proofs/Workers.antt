@@ -1,10 +1,10 @@
 -- Which worker runs a request.
-use Rattle.std.proofs.Common.{ℕ, ◌==◌, ◌<◌, ◌≡◌, Bool, true, false, ◌&&◌, ◌||◌, refl, inl, inr, subst, [], ◌∷◌}
+use Rattle.std.proofs.Common.{ℕ, ◌==◌, ◌<◌, ◌≡◌, true, refl, inl, inr, subst, [], ◌∷◌}
 use Rattle.std.proofs.lemmas.Bool.{eqb-true, eq-eqb, or_cases, and_parts, and_from, not-true, false≢true, or_left, or_right}
 use Rattle.fq_model.specs.declared.config.Config.{Config}
 use Rattle.fq_model.specs.declared.event.Act.{Act}
 use Rattle.fq_model.specs.declared.event.Act.TheVariants.{Submit, Take, Report, Done, Close}
-use Rattle.fq_model.specs.History.{History, is_take_of, is_take_by, has_act, is_taken, is_done, is_running, Runs, pool_at}
+use Rattle.fq_model.specs.History.{History, is_take_of, is_take_by, has_act, is_taken, is_running, Runs, pool_at}
 use Rattle.fq_model.specs.Rules.{IsLegal, Fits}
 
 by_worker_at : (r : ℕ) (a : Act) → is_take_of r a ≡ true → (i : ℕ) × (is_take_by i r a ≡ true)

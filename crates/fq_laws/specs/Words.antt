@@ -1,11 +1,11 @@
 -- Words for the laws.
 use Rattle.std.specs.Prelude.{ℕ, suc, ◌<◌, ◌≡◌, ◌==◌, ◌⊎◌, Bool, false, if◌then◌else◌, List, [], ◌∷◌, Option, Some, None}
 use Rattle.fq_model.specs.declared.event.Act.{Act}
-use Rattle.fq_model.specs.declared.event.Act.TheVariants.{Submit, Take, Report, Done, Close}
+use Rattle.fq_model.specs.declared.event.Act.TheVariants.{Submit, Take, Report, Done}
 use Rattle.fq_model.specs.declared.config.Config.{Config}
 use Rattle.fq_model.specs.declared.event.Call.{Call}
 use Rattle.fq_model.specs.declared.event.Call.TheVariants as call
-use Rattle.fq_model.specs.History.{History, Request, request_at, is_of_tenant, head}
+use Rattle.fq_model.specs.History.{History, request_at, is_of_tenant, head}
 use Rattle.fq_model.specs.Time.{open_requests, effective_moment}
 use Rattle.fq_model.specs.Charge.{virtual_charge, net_charge, completed, completed_costs}
 use Rattle.fq_model.specs.Keys.{tag_base}
