@@ -21,19 +21,14 @@ use Rattle.fq_model.specs.Keys.{tag_base, is_submit_for, tag, start, start_for}
 use Rattle.fq_model.specs.Rules.{IsLegal, Fits}
 use Rattle.fq_laws.proofs.Counting.{count_more, count_zero, sum_at_most}
 use Rattle.fq_laws.proofs.Legality.{after, submits_le_length, has_room, needs, waits_submitted, taken_submitted, runs_taken, is_of_asked, asked_submitted}
-use Rattle.fq_laws.proofs.Requests.{next_small, tenant_below, unsubmitted}
+use Rattle.fq_laws.proofs.Requests.{next_small, tenant_below}
+use Rattle.fq_laws.proofs.Fresh.{fresh_unsubmitted}
+use Rattle.fq_laws.proofs.Room.{last_moment_small}
 use Rattle.fq_laws.proofs.Charges.{charge_submit, charge_close, charge_take, charge_take_other, charge_report, charge_report_other, charge_done, charge_done_other}
 use Rattle.fq_laws.proofs.VirtualCharges.{charged_untaken, charged_taken, net_charged_untaken, net_charged_taken}
 use Rattle.fq_laws.proofs.Bases.{start_is}
 use Rattle.fq_laws.proofs.Clocks.{idle_low}
 use Rattle.fq_laws.proofs.Estimates.{estimate_range}
-
--- ---- moments
-
--- no entry is later than the greatest moment
-pub last_moment_low : (C : Config) (P : History) → IsLegal C P → last_moment P ≤ 1000000000000000
-last_moment_low C [] l = omega arith
-last_moment_low C (e ∷ P) l = l.2
 
 -- ---- virtual time
 
@@ -143,7 +138,7 @@ submitted_count_at : (C : Config) (P : History) (who m : ℕ) (a : Act) → InLi
 unfolding is_submitted
 submitted_count_at C P who m (Submit request tenant kind declared label) lim l f ih =
     let small : request < 2 ^ 32 = next_small C P request lim l f.numbered in
-    let one : count_below (is_submitted (after who m (Submit request tenant kind declared label) P)) (2 ^ 32) ≡ count_below (is_submitted P) (2 ^ 32) + 1 = count_more (is_submitted P) (is_submitted (after who m (Submit request tenant kind declared label) P)) request (2 ^ 32) small (unsubmitted C P request l f.numbered) (or_left _ _ (eq-eqb request request refl)) (λ s ne. rw (ne_eqb request s (λ e. ne (sym e))) refl) in
+    let one : count_below (is_submitted (after who m (Submit request tenant kind declared label) P)) (2 ^ 32) ≡ count_below (is_submitted P) (2 ^ 32) + 1 = count_more (is_submitted P) (is_submitted (after who m (Submit request tenant kind declared label) P)) request (2 ^ 32) small (fresh_unsubmitted C P request l (omega (arith, f.numbered))) (or_left _ _ (eq-eqb request request refl)) (λ s ne. rw (ne_eqb request s (λ e. ne (sym e))) refl) in
     omega arith
 submitted_count_at C P who m (Take worker request estimate) lim l f ih = ih
 submitted_count_at C P who m (Report worker request used) lim l f ih = ih
@@ -265,10 +260,10 @@ pub net_charge_within : (C : Config) (P : History) (t : ℕ) → InLimits C → 
 net_charge_within C P t lim l = let k = submits_low C P lim l in omega (arith, net_charge_low C P t lim l, k.1)
 
 pub base_within : (C : Config) (P : History) (t : ℕ) → InLimits C → IsLegal C P → tag_base C P t ≤ 67108864000000000000000
-base_within C P t lim l = omega (arith, base_low C P t lim l, last_moment_low C P l)
+base_within C P t lim l = omega (arith, base_low C P t lim l, last_moment_small C P l)
 
 pub tag_within : (C : Config) (P : History) (t : ℕ) → InLimits C → IsLegal C P → tag C P t ≤ 100000000000000000000000
-tag_within C P t lim l = let k = submits_low C P lim l in omega (arith, tag_low C P t lim l, last_moment_low C P l, k.1)
+tag_within C P t lim l = let k = submits_low C P lim l in omega (arith, tag_low C P t lim l, last_moment_small C P l, k.1)
 
 pub start_within : (C : Config) (P : History) (m t : ℕ) → InLimits C → IsLegal C P → last_moment P ≤ m → m ≤ 1000000000000000 → start C P m t ≤ 100000000000000000000000
 start_within C P m t lim l h b = let k = submits_low C P lim l in omega (arith, start_low C P m t lim l h, k.1)

@@ -11,7 +11,8 @@ use Rattle.fq_model.specs.Time.{is_open, open_requests, is_active}
 use Rattle.fq_model.specs.Rules.{IsLegal, FitsUse}
 use Rattle.fq_laws.proofs.Counting.{count_same, count_more, count_some, count_zero}
 use Rattle.fq_laws.proofs.Legality.{after}
-use Rattle.fq_laws.proofs.Requests.{unsubmitted_unknown, unsubmitted_undone, next_small, use_small, use_undone}
+use Rattle.fq_laws.proofs.Requests.{next_small, use_small, use_undone}
+use Rattle.fq_laws.proofs.Fresh.{fresh, fresh_undone}
 
 -- no request is open at first
 pub open_nil : (t : ℕ) → open_requests [] t ≡ 0
@@ -24,13 +25,13 @@ inactive_nil t = rw (open_nil t) refl
 
 not_open_next : (C : Config) (P : History) (t q : ℕ) → IsLegal C P → q ≡ submits P → is_open P t q ≡ false
 unfolding is_open
-not_open_next C P t q l n = rw (unsubmitted_unknown C P q l n) refl
+not_open_next C P t q l n = rw (fresh C P q l (omega arith)) refl
 
 -- a Submit opens a request of its tenant
 pub open_submit : (C : Config) (P : History) (who m t q u kind declared label : ℕ) → InLimits C → IsLegal C P → q ≡ submits P → open_requests (after who m (Submit q u kind declared label) P) t ≡ open_requests P t + cond (u == t) 1 0
 unfolding open_requests is_open is_done request_bound
 open_submit C P who m t q u kind declared label lim l n = let b : q < 2 ^ 32 = next_small C P q lim l n in elim (cases_Bool (u == t)) [
-  | inl e ↦ rw e (count_more _ _ q (2 ^ 32) b (not_open_next C P t q l n) (rw (eq-eqb q q refl) (and_from (u == t) _ e (not_from_false _ (unsubmitted_undone C P q l n)))) (λ s ne. rw (ne_eqb q s (λ x. ne (sym x))) refl))
+  | inl e ↦ rw e (count_more _ _ q (2 ^ 32) b (not_open_next C P t q l n) (rw (eq-eqb q q refl) (and_from (u == t) _ e (not_from_false _ (fresh_undone C P q l (omega arith))))) (λ s ne. rw (ne_eqb q s (λ x. ne (sym x))) refl))
   | inr e ↦ rw e (same e)
 ]
   where

@@ -10,7 +10,8 @@ use Rattle.fq_model.specs.Charge.{charge, taken_weight, is_taken_of, charged, vi
 use Rattle.fq_model.specs.Rules.{IsLegal, Fits, FitsUse}
 use Rattle.fq_laws.proofs.Counting.{sum_same, sum_at, sum_zero}
 use Rattle.fq_laws.proofs.Legality.{after, take_waits, waits_untaken}
-use Rattle.fq_laws.proofs.Requests.{untaken_nil, unsubmitted_untaken, take_request_small, use_small, use_taken}
+use Rattle.fq_laws.proofs.Requests.{untaken_nil, take_request_small, use_small, use_taken}
+use Rattle.fq_laws.proofs.Fresh.{fresh_untaken}
 use Rattle.fq_laws.proofs.Charges.{charge_submit, charge_close, charge_take, charge_take_other, charge_report, charge_report_other, charge_done, charge_done_other, taken_weight_is, taken_weight_take_other}
 
 -- ---- which requests of a tenant are taken, at one entry more
@@ -31,7 +32,7 @@ untaken_of P t r h = and_right _ _ h
 pub taken_of_submit : (C : Config) (P : History) (who m t r q u kind declared label : ℕ) → IsLegal C P → q ≡ submits P → is_taken_of (after who m (Submit q u kind declared label) P) t r ≡ is_taken_of P t r
 unfolding is_taken_of is_taken
 taken_of_submit C P who m t r q u kind declared label l n = elim (cases_eq q r) [
-  | inl e ↦ (let un : is_taken P r ≡ false = rw e at (unsubmitted_untaken C P q l n) in and_right _ _ un ∙ sym (and_right _ _ un))
+  | inl e ↦ (let un : is_taken P r ≡ false = rw e at (fresh_untaken C P q l (omega arith)) in and_right _ _ un ∙ sym (and_right _ _ un))
   | inr ne ↦ rw (ne_eqb q r ne) refl
 ]
 
