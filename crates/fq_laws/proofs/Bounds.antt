@@ -6,7 +6,7 @@ use Rattle.std.proofs.lemmas.List.{get_or_past}
 use Rattle.std.proofs.lemmas.Nat.{mul-le}
 use Rattle.std.proofs.lemmas.Bool.{or_left, cases_lt, cases_eq, eq-eqb, ne_eqb, cases_Bool, and_left, and_parts, false_from_ne_true}
 use Rattle.vt_fixed.specs.Rounding.{advance_of, length_of}
-use Rattle.vt_fixed.proofs.Bounds.{length_high}
+use Rattle.vt_fixed.proofs.Bounds.{length_high, div_mono}
 use Rattle.fq_model.specs.declared.config.Config.{Config}
 use Rattle.fq_model.specs.declared.config.Policy.{Policy}
 use Rattle.fq_model.specs.declared.config.Policy.TheVariants.{Wfq, Wf2q, Msf2q, TwoDfq}
@@ -25,7 +25,7 @@ use Rattle.fq_laws.proofs.Requests.{next_small, tenant_below, unsubmitted}
 use Rattle.fq_laws.proofs.Charges.{charge_submit, charge_close, charge_take, charge_take_other, charge_report, charge_report_other, charge_done, charge_done_other}
 use Rattle.fq_laws.proofs.VirtualCharges.{charged_untaken, charged_taken, net_charged_untaken, net_charged_taken}
 use Rattle.fq_laws.proofs.Bases.{start_is}
-use Rattle.fq_laws.proofs.Clocks.{idle_low, virtual_time_split}
+use Rattle.fq_laws.proofs.Clocks.{idle_low}
 use Rattle.fq_laws.proofs.Estimates.{estimate_range}
 
 -- ---- moments
@@ -63,9 +63,18 @@ virtual_time_low C (e ∷ P) m lim l h =
     let a : virtual_time C P e.moment ≤ e.moment * 67108864 = virtual_time_low C P e.moment lim l.0 l.1 in
     omega (arith, virtual_advance_low C (e ∷ P) m lim)
 
+advance_rises : (a b n w : ℕ) → a ≤ b → advance_of a n w ≤ advance_of b n w
+unfolding advance_of
+advance_rises a b n w h = elim (cases_eq w 0) [
+  | inl e ↦ rw e (omega arith)
+  | inr ne ↦ rw (ne_eqb w 0 ne) (let k : a * n ≤ b * n = mul-le a n b n h (omega arith) in div_mono (a * n * 1048576) (b * n * 1048576) w (omega arith) (omega arith))
+]
+
 -- virtual time never falls
-pub virtual_time_rises : (C : Config) (P : History) (m : ℕ) → virtual_time C P (last_moment P) ≤ virtual_time C P m
-virtual_time_rises C P m = omega (arith, virtual_time_split C P m)
+pub virtual_time_rises : (C : Config) (P : History) (m k : ℕ) → m ≤ k → virtual_time C P m ≤ virtual_time C P k
+unfolding virtual_time virtual_advance
+virtual_time_rises C [] m k h = omega arith
+virtual_time_rises C (e ∷ P) m k h = let a = advance_rises (m - e.moment) (k - e.moment) (pool_at C (e ∷ P)) (active_weight C (e ∷ P)) (omega arith) in omega (arith, a)
 
 pub virtual_idle_time_low : (C : Config) (P : History) (m t : ℕ) → InLimits C → IsLegal C P → last_moment P ≤ m → virtual_idle_time C P m t ≤ m * 67108864
 virtual_idle_time_low C P m t lim l h = omega (arith, idle_low C P m t, virtual_time_low C P m lim l h)

@@ -15,6 +15,7 @@ use Rattle.fq_model.specs.Limits.{InLimits}
 use Rattle.fq_model.specs.History.{History, Request, request_at}
 use Rattle.fq_model.specs.Charge.{Completed, completed, with_completion, with_cost, completed_costs, mean, recent_mean, decayed, decayed_by_age, greatest, pessimistic_cost, estimate_from, estimate_at, request_estimate}
 use Rattle.fq_model.specs.Rules.{IsLegal, Fits}
+use Rattle.fq_laws.specs.Changes.{greatest_cost_from}
 use Rattle.fq_laws.proofs.Legality.{after}
 use Rattle.fq_laws.proofs.Requests.{IsKnown, request_known}
 
@@ -64,10 +65,6 @@ decay_zero = omega (arith, decay_at_most 0)
 pub greatest_decays : (age : ℕ) (cs : List ℕ) → greatest (decayed_by_age (suc age) cs) ≡ decay_of (greatest (decayed_by_age age cs))
 greatest_decays age [] = sym decay_zero
 greatest_decays age (c ∷ cs) = rw (decay_max (decayed age c) (greatest (decayed_by_age (suc age) cs))) (ap (λ x. max (decay_of (decayed age c)) x) (greatest_decays (suc age) cs))
-
--- the greatest of the costs, the newest first, each decayed once for each that is newer, the initial value the oldest
-abbrev pub greatest_cost_from : ℕ → List ℕ → ℕ
-greatest_cost_from initial cs = greatest (decayed_by_age 0 (cs ++ initial ∷ []))
 
 pub greatest_first : (initial : ℕ) → greatest_cost_from initial [] ≡ initial
 greatest_first initial = omega arith

@@ -20,7 +20,8 @@ use Rattle.fq_laws.proofs.Queues.{head_submit, head_take_other}
 use Rattle.fq_laws.proofs.Charges.{weight_stays}
 use Rattle.fq_laws.proofs.Clocks.{idle_step, idle_active, active_of_open}
 use Rattle.fq_laws.proofs.Bases.{base_submit_other, base_take, base_report, base_done, base_close}
-use Rattle.fq_laws.proofs.Steps.{Changes, change_of, changes}
+use Rattle.fq_laws.specs.Changes.{Changes, change_of}
+use Rattle.fq_laws.proofs.Steps.{changes}
 
 -- ---- tenants that an entry does not concern
 
