@@ -1,25 +1,26 @@
 -- Each call has exactly one answer, and what it leaves is legal.
-use Rattle.std.proofs.Common.{ℕ, ◌==◌, ◌≤◌, ◌≡◌, Bool, true, false, cond, arith, refl, ap, sym, ◌∙◌, subst, inl, inr, ◌⊎◌, ◌∷◌, Some}
+use Rattle.std.proofs.Common.{◌≢◌, ℕ, ◌==◌, ◌≤◌, ◌≡◌, Bool, true, false, cond, arith, refl, ap, sym, ◌∙◌, subst, inl, inr, Some}
 use Rattle.std.specs.Prelude.{MatchBool}
 use Rattle.std.proofs.lemmas.Bool.{eqb-false}
 use Rattle.fq_model.specs.declared.config.Config.{Config}
 use Rattle.fq_model.specs.declared.event.Act.{Act}
 use Rattle.fq_model.specs.declared.event.Act.TheVariants.{Submit, Take, Report, Done, Close}
-use Rattle.fq_model.specs.declared.event.Entry.{Entry}
 use Rattle.fq_model.specs.declared.event.Call.{Call}
 use Rattle.fq_model.specs.declared.event.Call.TheVariants as call
 use Rattle.fq_model.specs.declared.event.Reply.{Reply}
 use Rattle.fq_model.specs.declared.event.Reply.TheVariants as answer
+use Rattle.fq_model.specs.declared.event.Cause.{Cause}
 use Rattle.fq_model.specs.Limits.{InLimits}
 use Rattle.fq_model.specs.History.{History, Request, request_at, is_closed, waiting, submits}
 use Rattle.fq_model.specs.Time.{effective_moment}
 use Rattle.fq_model.specs.Charge.{request_estimate}
 use Rattle.fq_model.specs.Keys.{HeadKeys, IsChoiceAt}
 use Rattle.fq_model.specs.Rules.{IsLegal, Fits, IsChosen, request_on, submit_refusal, take_refusal, report_refusal, done_refusal, close_refusal, IsAnswered, IsAccepted, RunsChosen, AnswersFree, Answers}
+use Rattle.fq_laws.specs.Words.{caller, named_moment, Extends}
 use Rattle.fq_laws.proofs.Legality.{after, choice_head}
 use Rattle.fq_laws.proofs.Choices.{chosen, chosen_keys, keys_of, KeysOf}
 use Rattle.fq_laws.proofs.Room.{effective_rises, effective_small}
-use Rattle.fq_laws.proofs.Refusals.{SomeAnswer, MayTake, refused_exists, refused_one, refused_keeps, submit_fits, take_may, report_fits, done_fits, close_fits}
+use Rattle.fq_laws.proofs.Refusals.{SomeReply, MayTake, refused_exists, refused_one, refused_keeps, submit_fits, take_may, report_fits, done_fits, close_fits}
 
 -- ---- the request that a worker takes
 
@@ -54,10 +55,10 @@ chosen_estimate_one C P m i r s a b p q x y =
 
 -- ---- there is an answer
 
-accepted : (P : History) (who moment : ℕ) (a : Act) (wanted : Reply) → SomeAnswer (λ reply Q. IsAccepted P who moment a wanted reply Q)
+accepted : (P : History) (who moment : ℕ) (a : Act) (wanted : Reply) → SomeReply (λ reply Q. IsAccepted P who moment a wanted reply Q)
 accepted P who moment a wanted = (wanted, after who (effective_moment P moment) a P, (refl, refl))
 
-free_at : (C : Config) (P : History) (who moment i : ℕ) (b : Bool) → IsLegal C P → (waiting P == 0) ≡ b → SomeAnswer (λ reply Q. MatchBool b (IsAnswered P (cond (is_closed P) answer.Drained answer.Idle) reply Q) (RunsChosen C P who moment i reply Q))
+free_at : (C : Config) (P : History) (who moment i : ℕ) (b : Bool) → IsLegal C P → (waiting P == 0) ≡ b → SomeReply (λ reply Q. MatchBool b (IsAnswered P (cond (is_closed P) answer.Drained answer.Idle) reply Q) (RunsChosen C P who moment i reply Q))
 free_at C P who moment i true l e = (cond (is_closed P) answer.Drained answer.Idle, P, (refl, refl))
 free_at C P who moment i false l e =
     let w : 1 ≤ waiting P = omega (arith, eqb-false (waiting P) 0 e) in
@@ -67,11 +68,11 @@ free_at C P who moment i false l e =
       record { request = x.0; estimate = x.1; asked = x.2; chosen = x.3; accepted = (refl, refl) },
     )
 
-pub free_answered : (C : Config) (P : History) (who moment i : ℕ) → IsLegal C P → SomeAnswer (λ reply Q. AnswersFree C P who moment i reply Q)
+pub free_answered : (C : Config) (P : History) (who moment i : ℕ) → IsLegal C P → SomeReply (λ reply Q. AnswersFree C P who moment i reply Q)
 free_answered C P who moment i l = free_at C P who moment i (waiting P == 0) l refl
 
 -- each call has an answer
-pub answered : (C : Config) (P : History) (c : Call) → IsLegal C P → SomeAnswer (λ reply Q. Answers C P c reply Q)
+pub answered : (C : Config) (P : History) (c : Call) → IsLegal C P → SomeReply (λ reply Q. Answers C P c reply Q)
 answered C P (call.Submit who moment tenant kind declared label) l =
     refused_exists (submit_refusal C P tenant kind declared) P (λ reply Q. IsAccepted P who moment (Submit (submits P) tenant kind declared label) (answer.Request (submits P)) reply Q) (λ e. accepted P who moment (Submit (submits P) tenant kind declared label) (answer.Request (submits P)))
 answered C P (call.Take who moment worker) l =
@@ -157,26 +158,44 @@ answer_legal C P (call.Done who moment worker cost) r Q lim l x =
 answer_legal C P (call.Close who moment) r Q lim l x =
     refused_keeps (close_refusal P) P r Q (IsAccepted P who moment Close answer.Accepted r Q) (IsLegal C) l (λ e y. accepted_keeps C P who moment Close answer.Accepted r Q l (close_fits P e) y) x
 
--- the history is the same, or gains one entry
-abbrev pub Extends : History → History → Type 0
-Extends P Q = (Q ≡ P) ⊎ ((e : Entry) × (Q ≡ e ∷ P))
+accepted_extends : (P : History) (who moment : ℕ) (a : Act) (wanted r : Reply) (Q : History) → IsAccepted P who moment a wanted r Q → Extends who moment P Q
+accepted_extends P who moment a wanted r Q x = inr (a, x.1)
 
-accepted_extends : (P : History) (who moment : ℕ) (a : Act) (wanted r : Reply) (Q : History) → IsAccepted P who moment a wanted r Q → Extends P Q
-accepted_extends P who moment a wanted r Q x = inr (record { who = who; moment = effective_moment P moment; act = a }, x.1)
-
-free_extends_at : (C : Config) (P : History) (who moment i : ℕ) (b : Bool) (wanted r : Reply) (Q : History) → MatchBool b (IsAnswered P wanted r Q) (RunsChosen C P who moment i r Q) → Extends P Q
+free_extends_at : (C : Config) (P : History) (who moment i : ℕ) (b : Bool) (wanted r : Reply) (Q : History) → MatchBool b (IsAnswered P wanted r Q) (RunsChosen C P who moment i r Q) → Extends who moment P Q
 free_extends_at C P who moment i true wanted r Q x = inl x.1
 free_extends_at C P who moment i false wanted r Q x = accepted_extends P who moment (Take i x.request x.estimate) (answer.Run x.request x.estimate x.asked.label) r Q x.accepted
 
 -- an answer leaves the history as it was, or adds one entry
-pub answer_extends : (C : Config) (P : History) (c : Call) (r : Reply) (Q : History) → Answers C P c r Q → Extends P Q
+pub answer_extends : (C : Config) (P : History) (c : Call) (r : Reply) (Q : History) → Answers C P c r Q → Extends (caller c) (named_moment c) P Q
 answer_extends C P (call.Submit who moment tenant kind declared label) r Q x =
-    refused_keeps (submit_refusal C P tenant kind declared) P r Q (IsAccepted P who moment (Submit (submits P) tenant kind declared label) (answer.Request (submits P)) r Q) (Extends P) (inl refl) (λ e y. accepted_extends P who moment (Submit (submits P) tenant kind declared label) (answer.Request (submits P)) r Q y) x
+    refused_keeps (submit_refusal C P tenant kind declared) P r Q (IsAccepted P who moment (Submit (submits P) tenant kind declared label) (answer.Request (submits P)) r Q) (Extends who moment P) (inl refl) (λ e y. accepted_extends P who moment (Submit (submits P) tenant kind declared label) (answer.Request (submits P)) r Q y) x
 answer_extends C P (call.Take who moment worker) r Q x =
-    refused_keeps (take_refusal C P worker) P r Q (AnswersFree C P who moment worker r Q) (Extends P) (inl refl) (λ e y. free_extends_at C P who moment worker (waiting P == 0) (cond (is_closed P) answer.Drained answer.Idle) r Q y) x
+    refused_keeps (take_refusal C P worker) P r Q (AnswersFree C P who moment worker r Q) (Extends who moment P) (inl refl) (λ e y. free_extends_at C P who moment worker (waiting P == 0) (cond (is_closed P) answer.Drained answer.Idle) r Q y) x
 answer_extends C P (call.Report who moment worker used) r Q x =
-    refused_keeps (report_refusal C P worker used) P r Q (IsAccepted P who moment (Report worker (request_on P worker) used) answer.Accepted r Q) (Extends P) (inl refl) (λ e y. accepted_extends P who moment (Report worker (request_on P worker) used) answer.Accepted r Q y) x
+    refused_keeps (report_refusal C P worker used) P r Q (IsAccepted P who moment (Report worker (request_on P worker) used) answer.Accepted r Q) (Extends who moment P) (inl refl) (λ e y. accepted_extends P who moment (Report worker (request_on P worker) used) answer.Accepted r Q y) x
 answer_extends C P (call.Done who moment worker cost) r Q x =
-    refused_keeps (done_refusal C P worker cost) P r Q (IsAccepted P who moment (Done worker (request_on P worker) cost) answer.Accepted r Q) (Extends P) (inl refl) (λ e y. accepted_extends P who moment (Done worker (request_on P worker) cost) answer.Accepted r Q y) x
+    refused_keeps (done_refusal C P worker cost) P r Q (IsAccepted P who moment (Done worker (request_on P worker) cost) answer.Accepted r Q) (Extends who moment P) (inl refl) (λ e y. accepted_extends P who moment (Done worker (request_on P worker) cost) answer.Accepted r Q y) x
 answer_extends C P (call.Close who moment) r Q x =
-    refused_keeps (close_refusal P) P r Q (IsAccepted P who moment Close answer.Accepted r Q) (Extends P) (inl refl) (λ e y. accepted_extends P who moment Close answer.Accepted r Q y) x
+    refused_keeps (close_refusal P) P r Q (IsAccepted P who moment Close answer.Accepted r Q) (Extends who moment P) (inl refl) (λ e y. accepted_extends P who moment Close answer.Accepted r Q y) x
+
+-- ---- what is refused changes nothing
+
+accepted_unlike : (P : History) (who moment : ℕ) (a : Act) (wanted r : Reply) (Q : History) → wanted ≢ r → IsAccepted P who moment a wanted r Q → Q ≡ P
+accepted_unlike P who moment a wanted r Q ne x = absurd (ne (sym x.0))
+
+free_refused_at : (C : Config) (P : History) (who moment i : ℕ) (b : Bool) (wanted : Reply) (x : Cause) (Q : History) → MatchBool b (IsAnswered P wanted (answer.Refused x) Q) (RunsChosen C P who moment i (answer.Refused x) Q) → Q ≡ P
+free_refused_at C P who moment i true wanted x Q h = h.1
+free_refused_at C P who moment i false wanted x Q h = accepted_unlike P who moment (Take i h.request h.estimate) (answer.Run h.request h.estimate h.asked.label) (answer.Refused x) Q (λ e. cc) h.accepted
+
+-- a refused call leaves the history as it was
+pub refused_leaves : (C : Config) (P : History) (c : Call) (x : Cause) (Q : History) → Answers C P c (answer.Refused x) Q → Q ≡ P
+refused_leaves C P (call.Submit who moment tenant kind declared label) x Q h =
+    refused_keeps (submit_refusal C P tenant kind declared) P (answer.Refused x) Q (IsAccepted P who moment (Submit (submits P) tenant kind declared label) (answer.Request (submits P)) (answer.Refused x) Q) (λ R. R ≡ P) refl (λ e y. accepted_unlike P who moment (Submit (submits P) tenant kind declared label) (answer.Request (submits P)) (answer.Refused x) Q (λ u. cc) y) h
+refused_leaves C P (call.Take who moment worker) x Q h =
+    refused_keeps (take_refusal C P worker) P (answer.Refused x) Q (AnswersFree C P who moment worker (answer.Refused x) Q) (λ R. R ≡ P) refl (λ e y. free_refused_at C P who moment worker (waiting P == 0) (cond (is_closed P) answer.Drained answer.Idle) x Q y) h
+refused_leaves C P (call.Report who moment worker used) x Q h =
+    refused_keeps (report_refusal C P worker used) P (answer.Refused x) Q (IsAccepted P who moment (Report worker (request_on P worker) used) answer.Accepted (answer.Refused x) Q) (λ R. R ≡ P) refl (λ e y. accepted_unlike P who moment (Report worker (request_on P worker) used) answer.Accepted (answer.Refused x) Q (λ u. cc) y) h
+refused_leaves C P (call.Done who moment worker cost) x Q h =
+    refused_keeps (done_refusal C P worker cost) P (answer.Refused x) Q (IsAccepted P who moment (Done worker (request_on P worker) cost) answer.Accepted (answer.Refused x) Q) (λ R. R ≡ P) refl (λ e y. accepted_unlike P who moment (Done worker (request_on P worker) cost) answer.Accepted (answer.Refused x) Q (λ u. cc) y) h
+refused_leaves C P (call.Close who moment) x Q h =
+    refused_keeps (close_refusal P) P (answer.Refused x) Q (IsAccepted P who moment Close answer.Accepted (answer.Refused x) Q) (λ R. R ≡ P) refl (λ e y. accepted_unlike P who moment Close answer.Accepted (answer.Refused x) Q (λ u. cc) y) h

@@ -1,7 +1,7 @@
 -- How the tag of a tenant and its base change at one entry more.
-use Rattle.std.proofs.Common.{ℕ, ◌+◌, ◌-◌, ◌≤◌, ◌≡◌, ◌≢◌, ◌==◌, max, Bool, true, false, cond, ◌&&◌, arith, refl, sym, ◌∙◌, inl, inr, [], ◌∷◌, Option, Some, None}
+use Rattle.std.proofs.Common.{ℕ, subst, sym, ◌+◌, ◌-◌, ◌≤◌, ◌≡◌, ◌≢◌, ◌==◌, max, cond, ◌&&◌, arith, refl, inl, inr, [], ◌∷◌, Some, None}
 use Rattle.std.specs.Prelude.{is_none}
-use Rattle.std.proofs.lemmas.Bool.{cases_eq, eq-eqb, ne_eqb, cases_Bool}
+use Rattle.std.proofs.lemmas.Bool.{eq-eqb, ne_eqb, cases_Bool}
 use Rattle.fq_model.specs.declared.config.Config.{Config}
 use Rattle.fq_model.specs.declared.config.Policy.{Policy}
 use Rattle.fq_model.specs.declared.config.Policy.TheVariants.{Wfq, Wf2q, Msf2q, TwoDfq}
@@ -9,10 +9,12 @@ use Rattle.fq_model.specs.declared.event.Act.{Act}
 use Rattle.fq_model.specs.declared.event.Act.TheVariants.{Submit, Take, Report, Done, Close}
 use Rattle.fq_model.specs.declared.event.Entry.{Entry}
 use Rattle.fq_model.specs.History.{History, head}
-use Rattle.fq_model.specs.Time.{virtual_time, virtual_idle_time, last_moment}
+use Rattle.fq_model.specs.Time.{virtual_time, virtual_idle_time}
 use Rattle.fq_model.specs.Charge.{virtual_charge}
 use Rattle.fq_model.specs.Keys.{tag_base, is_submit_for, tag, start, start_for}
+use Rattle.fq_model.specs.Rules.{IsLegal, Fits, FitsSubmit}
 use Rattle.fq_laws.proofs.Legality.{after}
+use Rattle.fq_laws.proofs.VirtualCharges.{virtual_charge_submit}
 
 pub base_nil : (C : Config) (t : ℕ) → tag_base C [] t ≡ 0
 unfolding tag_base
@@ -69,6 +71,13 @@ tag_is C P t = refl
 pub tag_submit : (C : Config) (P : History) (who m q t kind declared label : ℕ) → head P t ≡ None → virtual_charge C (after who m (Submit q t kind declared label) P) t ≡ virtual_charge C P t → tag C (after who m (Submit q t kind declared label) P) t ≡ max (virtual_time C P m) (tag C P t)
 unfolding tag
 tag_submit C P who m q t kind declared label h same = omega (arith, base_submit C P who m q t kind declared label h, same)
+
+-- the same in a legal history, at an entry whose act is known
+pub tag_after : (C : Config) (P : History) (e : Entry) (request tenant kind declared label : ℕ) → IsLegal C (e ∷ P) → e.act ≡ Submit request tenant kind declared label → head P tenant ≡ None → tag C (e ∷ P) tenant ≡ max (virtual_time C P e.moment) (tag C P tenant)
+tag_after C P e request tenant kind declared label l is h =
+    let f : FitsSubmit C P request tenant kind declared = subst (Fits C P e.moment) is l.3 in
+    subst (λ (a : Act). tag C (after e.who e.moment a P) tenant ≡ max (virtual_time C P e.moment) (tag C P tenant)) (sym is)
+    (tag_submit C P e.who e.moment request tenant kind declared label h (virtual_charge_submit C P e.who e.moment tenant request tenant kind declared label l.0 f.numbered))
 
 pub start_msf2q : (C : Config) (P : History) (m t : ℕ) → C.policy ≡ Msf2q → start C P m t ≡ virtual_charge C P t + virtual_idle_time C P m t
 unfolding start

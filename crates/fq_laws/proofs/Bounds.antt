@@ -1,40 +1,34 @@
 -- Limits of counts, weights, charges and virtual times in legal histories.
-use Rattle.std.proofs.Common.{ℕ, zero, suc, ◌+◌, ◌-◌, ◌*◌, ◌/◌, ◌^◌, ◌==◌, ◌<◌, ◌≤◌, ◌≡◌, ◌≢◌, max, Bool, true, false, cond, ◌&&◌, ◌||◌, arith, refl, sym, ◌∙◌, inl, inr, ◌⊎◌, [], ◌∷◌, length, Option, Some, None, get_or}
+use Rattle.std.proofs.Common.{ℕ, zero, suc, ◌+◌, ◌-◌, ◌*◌, ◌/◌, ◌^◌, ◌==◌, ◌<◌, ◌≤◌, ◌≡◌, Bool, true, false, cond, ◌&&◌, arith, refl, sym, inl, inr, ◌⊎◌, [], ◌∷◌, length, get_or}
 use Rattle.std.specs.Prelude.{is_none}
-use Rattle.std.proofs.Math.Nat.{div-le_of_le-mul, add-mul, suc-mul, div-zero}
+use Rattle.std.proofs.Math.Nat.{div-le_of_le-mul}
 use Rattle.std.proofs.lemmas.List.{get_or_past}
 use Rattle.std.proofs.lemmas.Nat.{mul-le}
 use Rattle.std.proofs.lemmas.Bool.{or_left, cases_lt, cases_eq, eq-eqb, ne_eqb, cases_Bool, and_left, and_parts, false_from_ne_true}
-use Rattle.vt_fixed.specs.Rounding.{advance_of, length_of, steps_per_unit}
-use Rattle.vt_fixed.proofs.Bounds.{length_high}
+use Rattle.vt_fixed.specs.Rounding.{advance_of, length_of}
+use Rattle.vt_fixed.proofs.Bounds.{length_high, div_mono}
 use Rattle.fq_model.specs.declared.config.Config.{Config}
 use Rattle.fq_model.specs.declared.config.Policy.{Policy}
 use Rattle.fq_model.specs.declared.config.Policy.TheVariants.{Wfq, Wf2q, Msf2q, TwoDfq}
 use Rattle.fq_model.specs.declared.event.Act.{Act}
 use Rattle.fq_model.specs.declared.event.Act.TheVariants.{Submit, Take, Report, Done, Close}
-use Rattle.fq_model.specs.declared.event.Entry.{Entry}
 use Rattle.fq_model.specs.Limits.{InLimits}
 use Rattle.fq_model.specs.Sums.{sum_below, count_below}
-use Rattle.fq_model.specs.History.{History, Request, request_at, is_of_tenant, is_taken, is_submitted, is_waiting, is_running, waiting, running, submits, head, request_bound, weight_at, pool_at}
+use Rattle.fq_model.specs.History.{History, request_at, is_of_tenant, is_taken, is_submitted, is_waiting, is_running, waiting, running, submits, head, request_bound, weight_at, pool_at}
 use Rattle.fq_model.specs.Time.{is_open, open_requests, is_active, weight_if_active, active_weight, last_moment, virtual_advance, virtual_time, virtual_idle_time}
-use Rattle.fq_model.specs.Charge.{charge, taken_weight, is_taken_of, charged, virtual_charge, net_charged, net_charge}
+use Rattle.fq_model.specs.Charge.{charge, charged, virtual_charge, net_charged, net_charge}
 use Rattle.fq_model.specs.Keys.{tag_base, is_submit_for, tag, start, start_for}
-use Rattle.fq_model.specs.Rules.{IsLegal, Fits, FitsUse, FitsTake}
+use Rattle.fq_model.specs.Rules.{IsLegal, Fits}
 use Rattle.fq_laws.proofs.Counting.{count_more, count_zero, sum_at_most}
-use Rattle.fq_laws.proofs.Legality.{after, take_waits, waits_untaken, submits_le_length, waiting_none, running_none, has_room, needs, waits_submitted, taken_submitted, runs_taken, is_of_asked, asked_submitted}
-use Rattle.fq_laws.proofs.Requests.{take_request_small, next_small, tenant_below, unsubmitted}
-use Rattle.fq_laws.proofs.Charges.{charge_submit, charge_close, charge_take, charge_take_other, charge_report, charge_report_other, charge_done, charge_done_other, taken_weight_is}
+use Rattle.fq_laws.proofs.Legality.{after, submits_le_length, has_room, needs, waits_submitted, taken_submitted, runs_taken, is_of_asked, asked_submitted}
+use Rattle.fq_laws.proofs.Requests.{next_small, tenant_below}
+use Rattle.fq_laws.proofs.Fresh.{fresh_unsubmitted}
+use Rattle.fq_laws.proofs.Room.{last_moment_small}
+use Rattle.fq_laws.proofs.Charges.{charge_submit, charge_close, charge_take, charge_take_other, charge_report, charge_report_other, charge_done, charge_done_other}
 use Rattle.fq_laws.proofs.VirtualCharges.{charged_untaken, charged_taken, net_charged_untaken, net_charged_taken}
 use Rattle.fq_laws.proofs.Bases.{start_is}
-use Rattle.fq_laws.proofs.Clocks.{idle_low, virtual_time_split}
+use Rattle.fq_laws.proofs.Clocks.{idle_low}
 use Rattle.fq_laws.proofs.Estimates.{estimate_range}
-
--- ---- moments
-
--- no entry is later than the greatest moment
-pub last_moment_low : (C : Config) (P : History) → IsLegal C P → last_moment P ≤ 1000000000000000
-last_moment_low C [] l = omega arith
-last_moment_low C (e ∷ P) l = l.2
 
 -- ---- virtual time
 
@@ -64,9 +58,18 @@ virtual_time_low C (e ∷ P) m lim l h =
     let a : virtual_time C P e.moment ≤ e.moment * 67108864 = virtual_time_low C P e.moment lim l.0 l.1 in
     omega (arith, virtual_advance_low C (e ∷ P) m lim)
 
+advance_rises : (a b n w : ℕ) → a ≤ b → advance_of a n w ≤ advance_of b n w
+unfolding advance_of
+advance_rises a b n w h = elim (cases_eq w 0) [
+  | inl e ↦ rw e (omega arith)
+  | inr ne ↦ rw (ne_eqb w 0 ne) (let k : a * n ≤ b * n = mul-le a n b n h (omega arith) in div_mono (a * n * 1048576) (b * n * 1048576) w (omega arith) (omega arith))
+]
+
 -- virtual time never falls
-pub virtual_time_rises : (C : Config) (P : History) (m : ℕ) → virtual_time C P (last_moment P) ≤ virtual_time C P m
-virtual_time_rises C P m = omega (arith, virtual_time_split C P m)
+pub virtual_time_rises : (C : Config) (P : History) (m k : ℕ) → m ≤ k → virtual_time C P m ≤ virtual_time C P k
+unfolding virtual_time virtual_advance
+virtual_time_rises C [] m k h = omega arith
+virtual_time_rises C (e ∷ P) m k h = let a = advance_rises (m - e.moment) (k - e.moment) (pool_at C (e ∷ P)) (active_weight C (e ∷ P)) (omega arith) in omega (arith, a)
 
 pub virtual_idle_time_low : (C : Config) (P : History) (m t : ℕ) → InLimits C → IsLegal C P → last_moment P ≤ m → virtual_idle_time C P m t ≤ m * 67108864
 virtual_idle_time_low C P m t lim l h = omega (arith, idle_low C P m t, virtual_time_low C P m lim l h)
@@ -135,7 +138,7 @@ submitted_count_at : (C : Config) (P : History) (who m : ℕ) (a : Act) → InLi
 unfolding is_submitted
 submitted_count_at C P who m (Submit request tenant kind declared label) lim l f ih =
     let small : request < 2 ^ 32 = next_small C P request lim l f.numbered in
-    let one : count_below (is_submitted (after who m (Submit request tenant kind declared label) P)) (2 ^ 32) ≡ count_below (is_submitted P) (2 ^ 32) + 1 = count_more (is_submitted P) (is_submitted (after who m (Submit request tenant kind declared label) P)) request (2 ^ 32) small (unsubmitted C P request l f.numbered) (or_left _ _ (eq-eqb request request refl)) (λ s ne. rw (ne_eqb request s (λ e. ne (sym e))) refl) in
+    let one : count_below (is_submitted (after who m (Submit request tenant kind declared label) P)) (2 ^ 32) ≡ count_below (is_submitted P) (2 ^ 32) + 1 = count_more (is_submitted P) (is_submitted (after who m (Submit request tenant kind declared label) P)) request (2 ^ 32) small (fresh_unsubmitted C P request l (omega (arith, f.numbered))) (or_left _ _ (eq-eqb request request refl)) (λ s ne. rw (ne_eqb request s (λ e. ne (sym e))) refl) in
     omega arith
 submitted_count_at C P who m (Take worker request estimate) lim l f ih = ih
 submitted_count_at C P who m (Report worker request used) lim l f ih = ih
@@ -241,3 +244,26 @@ start_low C P m t lim l h = rw (start_is C P m t) (go C.policy)
     go Wf2q = omega (arith, virtual_charge_low C P t lim l, base_low C P t lim l)
     go Msf2q = omega (arith, virtual_charge_low C P t lim l, virtual_idle_time_low C P m t lim l h)
     go TwoDfq = omega (arith, virtual_charge_low C P t lim l, base_low C P t lim l)
+
+-- ---- the same in whole numbers, wherever a legal history ends
+
+pub virtual_time_within : (C : Config) (P : History) (m : ℕ) → InLimits C → IsLegal C P → last_moment P ≤ m → m ≤ 1000000000000000 → virtual_time C P m ≤ 67108864000000000000000
+virtual_time_within C P m lim l h k = omega (arith, virtual_time_low C P m lim l h)
+
+pub virtual_idle_time_within : (C : Config) (P : History) (m t : ℕ) → InLimits C → IsLegal C P → last_moment P ≤ m → m ≤ 1000000000000000 → virtual_idle_time C P m t ≤ 67108864000000000000000
+virtual_idle_time_within C P m t lim l h k = omega (arith, virtual_idle_time_low C P m t lim l h)
+
+pub virtual_charge_within : (C : Config) (P : History) (t : ℕ) → InLimits C → IsLegal C P → virtual_charge C P t ≤ 4398046511104000000000
+virtual_charge_within C P t lim l = let k = submits_low C P lim l in omega (arith, virtual_charge_low C P t lim l, k.1)
+
+pub net_charge_within : (C : Config) (P : History) (t : ℕ) → InLimits C → IsLegal C P → net_charge P t ≤ 4194304000000000
+net_charge_within C P t lim l = let k = submits_low C P lim l in omega (arith, net_charge_low C P t lim l, k.1)
+
+pub base_within : (C : Config) (P : History) (t : ℕ) → InLimits C → IsLegal C P → tag_base C P t ≤ 67108864000000000000000
+base_within C P t lim l = omega (arith, base_low C P t lim l, last_moment_small C P l)
+
+pub tag_within : (C : Config) (P : History) (t : ℕ) → InLimits C → IsLegal C P → tag C P t ≤ 100000000000000000000000
+tag_within C P t lim l = let k = submits_low C P lim l in omega (arith, tag_low C P t lim l, last_moment_small C P l, k.1)
+
+pub start_within : (C : Config) (P : History) (m t : ℕ) → InLimits C → IsLegal C P → last_moment P ≤ m → m ≤ 1000000000000000 → start C P m t ≤ 100000000000000000000000
+start_within C P m t lim l h b = let k = submits_low C P lim l in omega (arith, start_low C P m t lim l h, k.1)

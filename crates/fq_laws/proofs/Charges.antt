@@ -1,14 +1,15 @@
 -- How the charge of a request changes at one entry more.
-use Rattle.std.proofs.Common.{ℕ, zero, suc, ◌+◌, ◌^◌, ◌==◌, ◌<◌, ◌≤◌, ◌≡◌, ◌≢◌, max, Bool, true, false, cond, ◌&&◌, ◌||◌, arith, refl, ap, sym, ◌∙◌, subst, inl, inr, [], ◌∷◌, Option, Some, None}
-use Rattle.std.proofs.lemmas.Bool.{cases_eq, eqb-true, eq-eqb, ne_eqb, or_cases, or_parts, cases_Bool, false≢true, both_ways}
+use Rattle.std.proofs.Common.{ℕ, subst, ◌==◌, ◌≤◌, ◌≡◌, ◌≢◌, max, true, false, cond, ◌||◌, arith, refl, sym, inl, inr, [], ◌∷◌, Some, None}
+use Rattle.std.proofs.lemmas.Bool.{cases_eq, true_from_ne_false, eq-eqb, ne_eqb, or_parts, cases_Bool, false≢true, both_ways}
 use Rattle.fq_model.specs.declared.config.Config.{Config}
 use Rattle.fq_model.specs.declared.event.Act.{Act}
 use Rattle.fq_model.specs.declared.event.Act.TheVariants.{Submit, Take, Report, Done, Close}
 use Rattle.fq_model.specs.declared.event.Entry.{Entry}
 use Rattle.fq_model.specs.History.{History, is_taken, is_done, is_take_of, is_done_of, last_use, use_in, weight_at, pool_at}
-use Rattle.fq_model.specs.Charge.{charge, charge_from, taken_estimate, estimate_in, final_cost, cost_in, taken_weight}
+use Rattle.fq_model.specs.Charge.{charge, taken_estimate, estimate_in, final_cost, cost_in, taken_weight}
 use Rattle.fq_model.specs.Rules.{IsLegal, Fits, FitsUse}
-use Rattle.fq_laws.proofs.Legality.{after, take_waits, waits_untaken}
+use Rattle.fq_laws.specs.Changes.{charge_after}
+use Rattle.fq_laws.proofs.Legality.{after, take_waits, waits_untaken, done_taken}
 use Rattle.fq_laws.proofs.Requests.{use_taken, use_undone, untaken_undone}
 
 -- ---- weights and workers: no act changes them
@@ -144,3 +145,26 @@ taken_weight_take_other C P who m t r w q c ne = rw (ne_eqb q r ne) refl
 -- once a request is taken no act changes it
 pub taken_weight_kept : (C : Config) (P : History) (e : Entry) (t r : ℕ) → is_taken P r ≡ true → taken_weight C (e ∷ P) t r ≡ taken_weight C P t r
 taken_weight_kept C P e t r h = elim (cases_Bool (is_take_of r e.act)) [ inl x ↦ rw x (sym (taken_weight_is C P t r h)) | inr x ↦ rw x refl ]
+
+-- ---- the charge of each request, by the act of the entry that comes
+
+if_own : (q r x y z : ℕ) → (q ≡ r → x ≡ y) → (q ≢ r → x ≡ z) → x ≡ cond (q == r) y z
+if_own q r x y z own other = elim (cases_eq q r) [ inl e ↦ rw (eq-eqb q r e) (own e) | inr ne ↦ rw (ne_eqb q r ne) (other ne) ]
+
+charge_next_at : (C : Config) (P : History) (who m r : ℕ) (a : Act) → IsLegal C P → Fits C P m a → charge (after who m a P) r ≡ charge_after P r a
+charge_next_at C P who m r (Submit request tenant kind declared label) l f = charge_submit P who m r request tenant kind declared label
+charge_next_at C P who m r (Take worker request estimate) l f = if_own request r _ _ _ (λ e. subst (λ s. charge (after who m (Take worker request estimate) P) s ≡ estimate) e (charge_take C P who m worker request estimate l f)) (λ ne. charge_take_other P who m r worker request estimate ne)
+charge_next_at C P who m r (Report worker request used) l f = if_own request r _ _ _ (λ e. subst (λ s. charge (after who m (Report worker request used) P) s ≡ max used (charge P s)) e (charge_report P who m worker request used f.0)) (λ ne. charge_report_other P who m r worker request used ne)
+charge_next_at C P who m r (Done worker request cost) l f = if_own request r _ _ _ (λ e. subst (λ s. charge (after who m (Done worker request cost) P) s ≡ cost) e (charge_done P who m worker request cost f)) (λ ne. charge_done_other P who m r worker request cost ne)
+charge_next_at C P who m r Close l f = charge_close P who m r
+
+-- a charge, one entry on
+pub charge_next : (C : Config) (P : History) (e : Entry) (r : ℕ) → IsLegal C (e ∷ P) → charge (e ∷ P) r ≡ charge_after P r e.act
+charge_next C P e r l = charge_next_at C P e.who e.moment r e.act l.0 l.3
+
+-- the charge of a request that is done is its measured cost
+pub charge_final : (C : Config) (P : History) (r cost : ℕ) → IsLegal C P → final_cost P r ≡ Some cost → charge P r ≡ cost
+charge_final C P r cost l h =
+    let done : is_done P r ≡ true = true_from_ne_false (is_done P r) (λ no. let none : final_cost P r ≡ None = cost_none P r no in absurd (cc)) in
+    let x = estimate_some P r (done_taken C P r l done) in
+    rw (x.1, h) refl

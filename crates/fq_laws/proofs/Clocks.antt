@@ -1,15 +1,13 @@
 -- How the active weight, virtual time and virtual idle times change at one entry more.
-use Rattle.std.proofs.Common.{ℕ, zero, suc, ◌+◌, ◌-◌, ◌*◌, ◌/◌, ◌==◌, ◌<◌, ◌≤◌, ◌≡◌, ◌≢◌, Bool, true, false, cond, arith, refl, ap, sym, ◌∙◌, inl, inr, [], ◌∷◌, length}
+use Rattle.std.proofs.Common.{ℕ, ◌+◌, ◌-◌, ◌==◌, ◌<◌, ◌≤◌, ◌≡◌, ◌≢◌, true, false, cond, arith, refl, sym, ◌∙◌, inl, inr, [], ◌∷◌, length}
 use Rattle.std.proofs.lemmas.Bool.{cases_eq, eq-eqb, ne_eqb, cases_Bool, lt-ltb, ltb-true}
 use Rattle.vt_fixed.specs.Rounding.{advance_of}
 use Rattle.vt_fixed.proofs.Bounds as fixed
 use Rattle.fq_model.specs.declared.config.Config.{Config}
-use Rattle.fq_model.specs.declared.event.Act.{Act}
 use Rattle.fq_model.specs.declared.event.Act.TheVariants.{Submit, Take, Report, Done, Close}
 use Rattle.fq_model.specs.declared.event.Entry.{Entry}
 use Rattle.fq_model.specs.Limits.{InLimits}
-use Rattle.fq_model.specs.Sums.{sum_below}
-use Rattle.fq_model.specs.History.{History, request_at, is_of_tenant, weight_at, pool_at, submits}
+use Rattle.fq_model.specs.History.{History, request_at, is_of_tenant, weight_at, pool_at}
 use Rattle.fq_model.specs.Time.{open_requests, is_active, weight_if_active, active_weight, last_moment, virtual_advance, virtual_time, virtual_idle_time}
 use Rattle.fq_model.specs.Rules.{IsLegal, Fits, FitsUse}
 use Rattle.fq_laws.proofs.Counting.{sum_same, sum_at, sum_zero}
@@ -28,6 +26,11 @@ advance_idle dt n = refl
 pub active_weight_nil : (C : Config) → active_weight C [] ≡ 0
 unfolding active_weight
 active_weight_nil C = sum_zero (weight_if_active C []) (length C.weights) (λ t. rw (inactive_nil t) refl)
+
+-- by what virtual time moves on
+pub virtual_advance_is : (C : Config) (P : History) (m : ℕ) → virtual_advance C P m ≡ advance_of (m - last_moment P) (pool_at C P) (active_weight C P)
+unfolding virtual_advance
+virtual_advance_is C P m = refl
 
 -- no time, no advance
 pub advance_none : (C : Config) (P : History) → virtual_advance C P (last_moment P) ≡ 0
@@ -87,6 +90,13 @@ idle_active C P m t h = let k : virtual_idle_time C P m t ≡ virtual_idle_time 
 -- while it is not, this moves along with virtual time
 pub idle_inactive : (C : Config) (P : History) (m t : ℕ) → is_active P t ≡ false → virtual_idle_time C P m t + virtual_time C P (last_moment P) ≡ virtual_idle_time C P (last_moment P) t + virtual_time C P m
 idle_inactive C P m t h = let k : virtual_idle_time C P m t ≡ virtual_idle_time C P (last_moment P) t + virtual_advance C P m = rw h at (idle_split C P m t) in omega (arith, virtual_time_split C P m)
+
+-- the same at the moment of one entry more, by whether the tenant was active before it
+pub idle_next_active : (C : Config) (P : History) (e : Entry) (t : ℕ) → is_active P t ≡ true → virtual_idle_time C (e ∷ P) e.moment t ≡ virtual_idle_time C P (last_moment P) t
+idle_next_active C P e t h = idle_step C P e t ∙ idle_active C P e.moment t h
+
+pub idle_next_inactive : (C : Config) (P : History) (e : Entry) (t : ℕ) → is_active P t ≡ false → virtual_idle_time C (e ∷ P) e.moment t + virtual_time C P (last_moment P) ≡ virtual_idle_time C P (last_moment P) t + virtual_time C (e ∷ P) e.moment
+idle_next_inactive C P e t h = omega (arith, idle_step C P e t, virtual_time_step C P e, idle_inactive C P e.moment t h)
 
 -- it is at most virtual time
 pub idle_low : (C : Config) (P : History) (m t : ℕ) → virtual_idle_time C P m t ≤ virtual_time C P m

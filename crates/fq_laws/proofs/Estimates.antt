@@ -1,9 +1,9 @@
 -- Completed requests at one entry more, and what the estimators make of them.
-use Rattle.std.proofs.Common.{ℕ, zero, suc, ◌+◌, ◌*◌, ◌/◌, ◌==◌, ◌<◌, ◌≤◌, ◌≡◌, ◌≢◌, max, Bool, true, false, cond, ◌&&◌, arith, refl, ap, sym, ◌∙◌, inl, inr, List, [], ◌∷◌, ◌++◌, length, take, Option, Some, None}
+use Rattle.std.proofs.Common.{ℕ, zero, suc, ◌+◌, ◌*◌, ◌/◌, ◌==◌, ◌≤◌, ◌≡◌, ◌≢◌, max, false, ◌&&◌, arith, refl, ap, sym, inl, inr, List, [], ◌∷◌, ◌++◌, length, take, get_or, Option, Some, None}
 use Rattle.std.specs.Prelude.{sum}
 use Rattle.std.proofs.Math.Nat.{div-le_of_le-mul, add-mul}
 use Rattle.std.proofs.lemmas.List.Sums.{sum_by-cons}
-use Rattle.std.proofs.lemmas.Bool.{cases_lt, cases_eq, eq-eqb, ne_eqb, cases_Bool, and_left, and_right}
+use Rattle.std.proofs.lemmas.Bool.{cases_lt, eq-eqb, ne_eqb, cases_Bool, and_right}
 use Rattle.vt_fixed.specs.Rounding.{decay_of}
 use Rattle.vt_fixed.proofs.Bounds.{decay_mono, decay_at_most}
 use Rattle.fq_model.specs.declared.config.Config.{Config}
@@ -14,7 +14,8 @@ use Rattle.fq_model.specs.declared.event.Act.TheVariants.{Submit, Take, Report, 
 use Rattle.fq_model.specs.Limits.{InLimits}
 use Rattle.fq_model.specs.History.{History, Request, request_at}
 use Rattle.fq_model.specs.Charge.{Completed, completed, with_completion, with_cost, completed_costs, mean, recent_mean, decayed, decayed_by_age, greatest, pessimistic_cost, estimate_from, estimate_at, request_estimate}
-use Rattle.fq_model.specs.Rules.{IsLegal, Fits, FitsUse}
+use Rattle.fq_model.specs.Rules.{IsLegal, Fits}
+use Rattle.fq_laws.specs.Changes.{greatest_cost_from}
 use Rattle.fq_laws.proofs.Legality.{after}
 use Rattle.fq_laws.proofs.Requests.{IsKnown, request_known}
 
@@ -65,10 +66,6 @@ pub greatest_decays : (age : ℕ) (cs : List ℕ) → greatest (decayed_by_age (
 greatest_decays age [] = sym decay_zero
 greatest_decays age (c ∷ cs) = rw (decay_max (decayed age c) (greatest (decayed_by_age (suc age) cs))) (ap (λ x. max (decay_of (decayed age c)) x) (greatest_decays (suc age) cs))
 
--- the greatest of the costs, the newest first, each decayed once for each that is newer, the initial value the oldest
-abbrev pub greatest_cost_from : ℕ → List ℕ → ℕ
-greatest_cost_from initial cs = greatest (decayed_by_age 0 (cs ++ initial ∷ []))
-
 pub greatest_first : (initial : ℕ) → greatest_cost_from initial [] ≡ initial
 greatest_first initial = omega arith
 
@@ -78,6 +75,21 @@ greatest_next initial c cs = ap (λ x. max c x) (greatest_decays 0 (cs ++ initia
 
 pub pessimistic_is : (initial : ℕ) (cs : List ℕ) → pessimistic_cost initial cs ≡ max 1 (greatest_cost_from initial cs)
 pessimistic_is initial cs = refl
+
+-- ---- the mean of the last costs
+
+pub recent_is : (initial c : ℕ) (cs : List ℕ) → recent_mean initial (c ∷ cs) ≡ max 1 (sum (take 8 (c ∷ cs)) / length (take 8 (c ∷ cs)))
+recent_is initial c cs = refl
+
+sum_taken : (n : ℕ) (cs : List ℕ) → sum (take (suc n) cs) ≡ sum (take n cs) + get_or cs n 0
+sum_taken zero [] = refl
+sum_taken zero (c ∷ cs) = omega (arith, sum_by-cons (λ y. y) c [])
+sum_taken (suc n) [] = refl
+sum_taken (suc n) (c ∷ cs) = omega (arith, sum_by-cons (λ y. y) c (take (suc n) cs), sum_by-cons (λ y. y) c (take n cs), sum_taken n cs)
+
+-- one cost more: it comes into the sum of the last eight, and what was the eighth goes
+pub recent_sum_next : (c : ℕ) (cs : List ℕ) → sum (take 8 (c ∷ cs)) + get_or cs 7 0 ≡ c + sum (take 8 cs)
+recent_sum_next c cs = omega (arith, sum_by-cons (λ y. y) c (take 7 cs), sum_taken 7 cs)
 
 -- ---- limits
 

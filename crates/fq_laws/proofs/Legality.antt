@@ -27,7 +27,7 @@ unfolding is_submitted
 submitted_below C [] r l h = absurd (false≢true h)
 submitted_below C (e ∷ P) r l h = submitted_at C P e.moment r e.act l.3 (submitted_below C P r l.0) h
 
--- who is_waiting was submitted, and was not taken
+-- what waits was submitted, and was not taken
 pub waits_submitted : (P : History) (r : ℕ) → is_waiting P r ≡ true → is_submitted P r ≡ true
 unfolding is_waiting
 waits_submitted P r h = (and_parts _ _ h).0
@@ -36,7 +36,7 @@ pub waits_untaken : (P : History) (r : ℕ) → is_waiting P r ≡ true → is_t
 unfolding is_waiting
 waits_untaken P r h = not-true _ (and_parts _ _ h).1
 
--- ---- what was request_at
+-- ---- what a request asked
 
 asked_at : (P : History) (r : ℕ) (a : Act) (x : Request) → (request_at P r ≡ Some x → is_submitted P r ≡ true) → request_in r a (request_at P r) ≡ Some x → (is_submit_of r a || is_submitted P r) ≡ true
 asked_at P r (Submit request tenant kind declared label) x ih h = elim (cases_Bool (request == r)) [
@@ -48,7 +48,7 @@ asked_at P r (Report worker request used) x ih h = ih h
 asked_at P r (Done worker request cost) x ih h = ih h
 asked_at P r Close x ih h = ih h
 
--- what was request_at of was submitted
+-- a request of which something is known was submitted
 pub asked_submitted : (P : History) (r : ℕ) (x : Request) → request_at P r ≡ Some x → is_submitted P r ≡ true
 unfolding is_submitted
 asked_submitted [] r x h = cc
@@ -56,7 +56,7 @@ asked_submitted (e ∷ P) r x h = asked_at P r e.act x (asked_submitted P r x) h
 
 unasked_at : (P : History) (r : ℕ) (a : Act) → (request_at P r ≡ None → is_submitted P r ≡ false) → request_in r a (request_at P r) ≡ None → (is_submit_of r a || is_submitted P r) ≡ false
 unasked_at P r (Submit request tenant kind declared label) ih h = elim (cases_Bool (request == r)) [
-  | inl e ↦ (let k : Some (record { tenant = tenant; kind = kind; declared = declared; label = label }) ≡ None = rw e at h in absurd (cc))
+  | inl e ↦ (let q : Request = record { tenant = tenant; kind = kind; declared = declared; label = label } in let k : Some q ≡ None = rw e at h in absurd (cc))
   | inr e ↦ rw e (ih (rw e at h))
 ]
 unasked_at P r (Take worker request estimate) ih h = ih h
@@ -103,7 +103,7 @@ pub no_head : (P : History) (t s : ℕ) → head P t ≡ None → s < 2 ^ 32 →
 unfolding head request_bound
 no_head P t s h b = least_none (waits_for P t) (2 ^ 32) h s b
 
--- a request of t that is_waiting, is_waiting
+-- a waiting request of t waits
 pub of_waits : (P : History) (t r : ℕ) → waits_for P t r ≡ true → is_waiting P r ≡ true
 unfolding is_waiting waits_for
 of_waits P t r h =
@@ -131,7 +131,7 @@ take_head C P m i r c f =
     let o = is_of_asked c.tenant (request_at P r) (and_parts _ _ x.waits_now).0 in
     record { what = o.0; was_asked = o.1; heads_it = rw o.2 x; is_head = rw o.2 is }
 
--- the request of a fitting Take is_waiting
+-- the request of a fitting Take waits
 pub take_waits : (C : Config) (P : History) (m i r c : ℕ) → FitsTake C P m i r c → is_waiting P r ≡ true
 take_waits C P m i r c f = let x = take_head C P m i r c f in of_waits P x.what.tenant r x.heads_it.waits_now
 
@@ -195,7 +195,7 @@ done_taken C (e ∷ P) r l h = done_at C P e.moment r e.act l.3 (done_taken C P 
 abbrev pub after : ℕ → ℕ → Act → History → History
 after who m a P = record { who = who; moment = m; act = a } ∷ P
 
--- only the Submit or the Take of r changes whether r is_waiting
+-- only the Submit or the Take of r changes whether r waits
 pub waiting_submit : (C : Config) (P : History) (who m request tenant kind declared label : ℕ) → IsLegal C P → request ≡ submits P → request < 2 ^ 32 → waiting (after who m (Submit request tenant kind declared label) P) ≡ waiting P + 1
 unfolding waiting is_waiting is_submitted is_taken request_bound
 waiting_submit C P who m request tenant kind declared label l n b =

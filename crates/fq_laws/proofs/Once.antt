@@ -8,7 +8,7 @@ use Rattle.fq_model.specs.declared.event.Entry.{Entry}
 use Rattle.fq_model.specs.History.{History, is_take_by, is_take_of, is_done_of, has_act, is_taken, is_done, is_submitted, is_submit_of, submits, Runs, running_after, running_on}
 use Rattle.fq_model.specs.Rules.{IsLegal, Fits, FitsTake, RunsNothing}
 use Rattle.fq_laws.proofs.Legality.{take_waits, waits_untaken, worker_took, done_taken, submitted_below, after}
-use Rattle.fq_laws.specs.Once.{times}
+use Rattle.fq_laws.specs.Words.{times}
 
 -- what worker i has taken is taken
 pub took : (P : History) (i r : ℕ) → has_act (is_take_by i r) P ≡ true → is_taken P r ≡ true

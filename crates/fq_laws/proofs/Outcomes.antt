@@ -1,13 +1,16 @@
 -- What a list of calls comes to.
-use Rattle.std.proofs.Common.{suc, ◌≡◌, refl, ap, sym, ◌∙◌, subst, inl, inr, List, [], ◌∷◌, ◌++◌, length}
+use Rattle.std.proofs.Common.{ℕ, suc, ◌≡◌, refl, ap, sym, ◌∙◌, subst, inl, inr, List, [], ◌∷◌, ◌++◌, length}
 use Rattle.fq_model.specs.declared.config.Config.{Config}
+use Rattle.fq_model.specs.declared.event.Entry.{Entry}
 use Rattle.fq_model.specs.declared.event.Call.{Call}
 use Rattle.fq_model.specs.declared.event.Reply.{Reply}
 use Rattle.fq_model.specs.Limits.{InLimits}
 use Rattle.fq_model.specs.History.{History}
+use Rattle.fq_model.specs.Time.{effective_moment}
 use Rattle.fq_model.specs.Rules.{IsLegal, Answers}
 use Rattle.fq_model.specs.Outcome.{OutcomeFrom, Outcome}
-use Rattle.fq_laws.proofs.Answering.{answered, answer_one, answer_legal, answer_extends, Extends}
+use Rattle.fq_laws.proofs.Answering.{answered, answer_one, answer_legal, answer_extends}
+use Rattle.fq_laws.specs.Words.{caller, named_moment, Extends}
 
 -- one call more
 pub outcome_snoc : (C : Config) (P Q H : History) (cs : List Call) (rs : List Reply) (c : Call) (r : Reply) → OutcomeFrom C P cs rs Q → Answers C Q c r H → OutcomeFrom C P (cs ++ c ∷ []) (rs ++ r ∷ []) H
@@ -66,11 +69,14 @@ outcome_from_exists C P (c ∷ cs) lim l =
 pub outcome_exists : (C : Config) (cs : List Call) → InLimits C → (rs : List Reply) × (H : History) × Outcome C cs rs H
 outcome_exists C cs lim = outcome_from_exists C [] cs lim tt
 
-grown : (P Q H : History) → Extends P Q → (added : History) × (H ≡ added ++ Q) → (added : History) × (H ≡ added ++ P)
-grown P Q H (inl same) x = (x.0, x.1 ∙ ap (λ z. x.0 ++ z) same)
-grown P Q H (inr more) x = (x.0 ++ more.0 ∷ [], x.1 ∙ (ap (λ z. x.0 ++ z) more.1 ∙ sym (regroup x.0)))
+grown : (who moment : ℕ) (P Q H : History) → Extends who moment P Q → (added : History) × (H ≡ added ++ Q) → (added : History) × (H ≡ added ++ P)
+grown who moment P Q H (inl same) x = (x.0, x.1 ∙ ap (λ z. x.0 ++ z) same)
+grown who moment P Q H (inr more) x = (x.0 ++ entry ∷ [], x.1 ∙ (ap (λ z. x.0 ++ z) more.1 ∙ sym (regroup x.0)))
   where
-    regroup : (xs : History) → (xs ++ more.0 ∷ []) ++ P ≡ xs ++ more.0 ∷ P
+    entry : Entry
+    entry = record { who = who; moment = effective_moment P moment; act = more.0 }
+
+    regroup : (xs : History) → (xs ++ entry ∷ []) ++ P ≡ xs ++ entry ∷ P
     regroup [] = refl
     regroup (y ∷ ys) = ap (λ z. y ∷ z) (regroup ys)
 
@@ -79,4 +85,4 @@ pub outcome_grows : (C : Config) (P H : History) (cs : List Call) (rs : List Rep
 outcome_grows C P H [] [] o = ([], o)
 outcome_grows C P H [] (s ∷ rs) o = absurd o
 outcome_grows C P H (d ∷ cs) [] o = absurd o
-outcome_grows C P H (d ∷ cs) (s ∷ rs) o = grown P o.0 H (answer_extends C P d s o.0 o.1) (outcome_grows C o.0 H cs rs o.2)
+outcome_grows C P H (d ∷ cs) (s ∷ rs) o = grown (caller d) (named_moment d) P o.0 H (answer_extends C P d s o.0 o.1) (outcome_grows C o.0 H cs rs o.2)

@@ -1,5 +1,5 @@
 -- Histories as they grow: the first entries of a legal history make one.
-use Rattle.std.proofs.Common.{ℕ, zero, suc, ◌+◌, ◌<◌, ◌≤◌, ◌≡◌, arith, refl, sym, ◌∙◌, subst, List, [], ◌∷◌, ◌++◌, length, take, drop, get_or, reverse}
+use Rattle.std.proofs.Common.{ℕ, suc, ◌<◌, ◌≡◌, subst, List, [], ◌∷◌, ◌++◌, length, take, drop, get_or}
 use Rattle.std.proofs.Math.Seq.{take-suc}
 use Rattle.std.proofs.lemmas.List.{reverse-append, take-append-drop}
 use Rattle.fq_model.specs.declared.config.Config.{Config}

@@ -38,11 +38,11 @@ none_true [] h = refl
 none_true (row ∷ rows) h = rw h.0 (none_true rows h.1)
 
 -- some reply and history are so
-abbrev pub SomeAnswer : (Reply → History → Type 0) → Type 0
-SomeAnswer A = (reply : Reply) × (Q : History) × A reply Q
+abbrev pub SomeReply : (Reply → History → Type 0) → Type 0
+SomeReply A = (reply : Reply) × (Q : History) × A reply Q
 
 -- what is refused, or else answered, is answered
-pub refused_exists : (o : Option Cause) (P : History) (A : Reply → History → Type 0) → (o ≡ None → SomeAnswer A) → SomeAnswer (λ reply Q. RefusedOrElse o P reply Q (A reply Q))
+pub refused_exists : (o : Option Cause) (P : History) (A : Reply → History → Type 0) → (o ≡ None → SomeReply A) → SomeReply (λ reply Q. RefusedOrElse o P reply Q (A reply Q))
 refused_exists None P A h = h refl
 refused_exists (Some c) P A h = (answer.Refused c, P, (refl, refl))
 

@@ -1,40 +1,18 @@
 -- What is known of the requests of legal histories: their numbers, their limits, and who runs them.
-use Rattle.std.proofs.Common.{ℕ, zero, suc, ◌+◌, ◌^◌, ◌==◌, ◌<◌, ◌≤◌, ◌≡◌, ◌≢◌, Bool, true, false, ◌||◌, arith, refl, sym, subst, inl, inr, [], ◌∷◌, length, Option, Some, None}
-use Rattle.std.proofs.lemmas.Bool.{cases_eq, eqb-true, eq-eqb, ne_eqb, or_cases, or_parts, false_from_ne_true, cases_Bool, false≢true, both_ways}
+use Rattle.std.proofs.Common.{ℕ, ◌^◌, ◌<◌, ◌≤◌, ◌≡◌, ◌≢◌, true, false, arith, refl, subst, inl, inr, [], ◌∷◌, length, Option, Some, None}
+use Rattle.std.proofs.lemmas.Bool.{cases_eq, eqb-true, eq-eqb, ne_eqb, false_from_ne_true, false≢true, both_ways}
 use Rattle.fq_model.specs.declared.config.Config.{Config}
 use Rattle.fq_model.specs.declared.event.Act.{Act}
 use Rattle.fq_model.specs.declared.event.Act.TheVariants.{Submit, Take, Report, Done, Close}
-use Rattle.fq_model.specs.History.{History, Request, request_at, request_in, is_submitted, is_taken, is_done, submits, Runs, is_of_tenant}
+use Rattle.fq_model.specs.History.{History, Request, request_at, request_in, is_submitted, is_taken, is_done, submits, is_of_tenant}
 use Rattle.fq_model.specs.Limits.{InLimits}
 use Rattle.fq_model.specs.Rules.{IsLegal, Fits, FitsUse}
-use Rattle.fq_laws.proofs.Legality.{after, submitted_below, asked_submitted, taken_submitted, done_taken, take_waits, waits_submitted, worker_runs, runs_taken, unasked, small_requests, has_room}
+use Rattle.fq_laws.proofs.Legality.{submitted_below, taken_submitted, done_taken, take_waits, waits_submitted, worker_runs, runs_taken, unasked, small_requests, has_room}
 
 -- nothing is taken at first
 pub untaken_nil : (r : ℕ) → is_taken [] r ≡ false
 unfolding is_taken
 untaken_nil r = refl
-
--- ---- the next number
-
--- of a number that no Submit has given yet nothing is known
-pub unsubmitted_unknown : (C : Config) (P : History) (q : ℕ) → IsLegal C P → q ≡ submits P → request_at P q ≡ None
-unsubmitted_unknown C P q l n = go (request_at P q) refl
-  where
-    go : (o : Option Request) → request_at P q ≡ o → request_at P q ≡ None
-    go None is = is
-    go (Some a) is = let b : q < submits P = submitted_below C P q l (asked_submitted P q a is) in absurd (omega arith)
-
--- it is not submitted
-pub unsubmitted : (C : Config) (P : History) (q : ℕ) → IsLegal C P → q ≡ submits P → is_submitted P q ≡ false
-unsubmitted C P q l n = false_from_ne_true _ (λ h. let b : q < submits P = submitted_below C P q l h in omega arith)
-
--- it is not taken
-pub unsubmitted_untaken : (C : Config) (P : History) (q : ℕ) → IsLegal C P → q ≡ submits P → is_taken P q ≡ false
-unsubmitted_untaken C P q l n = false_from_ne_true _ (λ h. let b : q < submits P = submitted_below C P q l (taken_submitted C P q l h) in omega arith)
-
--- it is not done
-pub unsubmitted_undone : (C : Config) (P : History) (q : ℕ) → IsLegal C P → q ≡ submits P → is_done P q ≡ false
-unsubmitted_undone C P q l n = false_from_ne_true _ (λ d. both_ways _ (unsubmitted_untaken C P q l n) (done_taken C P q l d))
 
 -- what is not taken is not done
 pub untaken_undone : (C : Config) (P : History) (q : ℕ) → IsLegal C P → is_taken P q ≡ false → is_done P q ≡ false

@@ -7,6 +7,7 @@ use Rattle.fq_model.specs.Limits.{InLimits}
 use Rattle.fq_model.specs.History.{History, waiting, running, is_waiting, is_running, is_closed, Runs, request_bound}
 use Rattle.fq_model.specs.Time.{last_moment, greatest_moment, effective_moment}
 use Rattle.fq_model.specs.Rules.{IsLegal, Fits}
+use Rattle.fq_laws.specs.Laws.{Room}
 use Rattle.fq_laws.proofs.Counting.{count_some}
 use Rattle.fq_laws.proofs.Legality.{after, has_room, take_waits, waits_submitted, worker_runs, waiting_submit, waiting_take, waiting_report, waiting_done, waiting_close, waiting_none}
 use Rattle.fq_laws.proofs.Fresh.{submits_small, runs_small}
@@ -87,3 +88,12 @@ room_fits C P m (Take worker request estimate) lim l f =
 room_fits C P m (Report worker request used) lim l f = omega (arith, f.1)
 room_fits C P m (Done worker request cost) lim l f = room_done C P worker request lim l f.runs
 room_fits C P m Close lim l f = room_close C P lim l f
+
+-- all that there is room for
+pub room_now : (C : Config) (P : History) → InLimits C → IsLegal C P → Room C P
+room_now C P lim l = record {
+  for_all = has_room C P lim l;
+  for_take = λ w. omega (arith, room_take C P lim l w);
+  for_done = λ i r h. room_done C P i r lim l h;
+  for_close = λ h. room_close C P lim l h;
+}

@@ -1,8 +1,5 @@
 -- What one entry more changes for a tenant, in one table.
-use Rattle.std.proofs.Common.{ℕ, zero, suc, ◌+◌, ◌-◌, ◌<◌, ◌≤◌, ◌≡◌, ◌==◌, max, Bool, true, false, cond, ◌&&◌, arith, refl, ap, sym, ◌∙◌, subst, List, [], ◌∷◌, ◌++◌, length, take, drop, get_or, Option, Some, None, reverse}
-use Rattle.std.specs.Prelude.{slice_index}
-use Rattle.std.proofs.Math.Seq.{take-suc}
-use Rattle.std.proofs.lemmas.List.{reverse-append, take-append-drop}
+use Rattle.std.proofs.Common.{ℕ, ◌+◌, ◌≡◌, max, Bool, true, false, cond, arith, refl, ap, ◌∷◌}
 use Rattle.vt_fixed.specs.Rounding.{length_of}
 use Rattle.vt_fixed.proofs.Bounds.{length_none}
 use Rattle.fq_model.specs.declared.config.Config.{Config}
@@ -10,39 +7,13 @@ use Rattle.fq_model.specs.declared.event.Act.{Act}
 use Rattle.fq_model.specs.declared.event.Act.TheVariants.{Submit, Take, Report, Done, Close}
 use Rattle.fq_model.specs.declared.event.Entry.{Entry}
 use Rattle.fq_model.specs.Limits.{InLimits}
-use Rattle.fq_model.specs.History.{History, history_of, request_at, is_of_tenant, weight_at}
-use Rattle.fq_model.specs.Time.{open_requests, last_moment, greatest_moment}
-use Rattle.fq_model.specs.Charge.{charge, virtual_charge, net_charge}
+use Rattle.fq_model.specs.History.{History, request_at, is_of_tenant, weight_at}
+use Rattle.fq_model.specs.Charge.{charge}
 use Rattle.fq_model.specs.Rules.{IsLegal, Fits}
+use Rattle.fq_laws.specs.Changes.{change_of, Changes}
 use Rattle.fq_laws.proofs.Legality.{after}
 use Rattle.fq_laws.proofs.Opens.{open_submit, open_done, open_take, open_report, open_close}
 use Rattle.fq_laws.proofs.VirtualCharges.{virtual_charge_submit, virtual_charge_taken, virtual_charge_reported, virtual_charge_finished, virtual_charge_close, net_charge_submit, net_charge_taken, net_charge_reported, net_charge_finished, net_charge_close}
-
--- what an entry changes for a tenant: how many requests it opens and closes, and what it makes of the charge of a
--- request of the tenant, which was `charged` and then is `recharged` (both 0 where it charges none)
-pub record Change : Type 0 where
-  pub opened : ℕ
-  pub closed : ℕ
-  pub charged : ℕ
-  pub recharged : ℕ
-
--- the change of a request's charge, where the request is one of the tenant
-abbrev pub recharge : Bool → ℕ → ℕ → ℕ → Change
-recharge own closed charged recharged = record { opened = 0; closed = closed; charged = cond own charged 0; recharged = cond own recharged 0 }
-
--- what the act changes at P for tenant t
-abbrev pub change_of : History → ℕ → Act → Change
-change_of P t (Submit request tenant kind declared label) = record { opened = cond (tenant == t) 1 0; closed = 0; charged = 0; recharged = 0 }
-change_of P t (Take worker request estimate) = recharge (is_of_tenant t (request_at P request)) 0 0 estimate
-change_of P t (Report worker request used) = recharge (is_of_tenant t (request_at P request)) 0 (charge P request) (max used (charge P request))
-change_of P t (Done worker request cost) = recharge (is_of_tenant t (request_at P request)) (cond (is_of_tenant t (request_at P request)) 1 0) (charge P request) cost
-change_of P t Close = record { opened = 0; closed = 0; charged = 0; recharged = 0 }
-
--- the history Q has this change for tenant t over P
-pub record Changes (C : Config) (P Q : History) (t : ℕ) (d : Change) : Type 0 where
-  pub open_is : open_requests Q t + d.closed ≡ open_requests P t + d.opened
-  pub charge_is : virtual_charge C Q t + length_of d.charged (weight_at C P t) ≡ virtual_charge C P t + length_of d.recharged (weight_at C P t)
-  pub net_is : net_charge Q t + d.charged ≡ net_charge P t + d.recharged
 
 length_if : (b : Bool) (c w : ℕ) → length_of (cond b c 0) w ≡ cond b (length_of c w) 0
 length_if true c w = refl

@@ -1,19 +1,18 @@
 -- How the virtual charge and the net charge of a tenant change at one entry more.
-use Rattle.std.proofs.Common.{ℕ, zero, suc, ◌+◌, ◌^◌, ◌==◌, ◌<◌, ◌≤◌, ◌≡◌, ◌≢◌, max, Bool, true, false, cond, ◌&&◌, ◌||◌, arith, refl, ap, sym, ◌∙◌, subst, inl, inr, [], ◌∷◌, Option, Some, None}
-use Rattle.std.proofs.lemmas.Bool.{cases_eq, eq-eqb, ne_eqb, cases_Bool, and_right, or_left}
+use Rattle.std.proofs.Common.{ℕ, ◌+◌, ◌^◌, ◌<◌, ◌≡◌, ◌≢◌, max, Bool, true, false, cond, ◌&&◌, arith, refl, sym, ◌∙◌, inl, inr, []}
+use Rattle.std.proofs.lemmas.Bool.{cases_eq, eq-eqb, ne_eqb, and_right, or_left}
 use Rattle.vt_fixed.specs.Rounding.{length_of}
 use Rattle.fq_model.specs.declared.config.Config.{Config}
-use Rattle.fq_model.specs.declared.event.Act.{Act}
 use Rattle.fq_model.specs.declared.event.Act.TheVariants.{Submit, Take, Report, Done, Close}
 use Rattle.fq_model.specs.Limits.{InLimits}
-use Rattle.fq_model.specs.Sums.{sum_below}
-use Rattle.fq_model.specs.History.{History, Request, request_at, is_of_tenant, is_taken, submits, request_bound, weight_at, is_take_of}
+use Rattle.fq_model.specs.History.{History, request_at, is_of_tenant, is_taken, submits, request_bound, weight_at}
 use Rattle.fq_model.specs.Charge.{charge, taken_weight, is_taken_of, charged, virtual_charge, net_charged, net_charge}
 use Rattle.fq_model.specs.Rules.{IsLegal, Fits, FitsUse}
 use Rattle.fq_laws.proofs.Counting.{sum_same, sum_at, sum_zero}
 use Rattle.fq_laws.proofs.Legality.{after, take_waits, waits_untaken}
-use Rattle.fq_laws.proofs.Requests.{untaken_nil, unsubmitted_unknown, unsubmitted_untaken, take_request_small, use_small, use_taken}
-use Rattle.fq_laws.proofs.Charges.{charge_submit, charge_close, charge_take, charge_take_other, charge_report, charge_report_other, charge_done, charge_done_other, taken_weight_is, taken_weight_take, taken_weight_take_other}
+use Rattle.fq_laws.proofs.Requests.{untaken_nil, take_request_small, use_small, use_taken}
+use Rattle.fq_laws.proofs.Fresh.{fresh_untaken}
+use Rattle.fq_laws.proofs.Charges.{charge_submit, charge_close, charge_take, charge_take_other, charge_report, charge_report_other, charge_done, charge_done_other, taken_weight_is, taken_weight_take_other}
 
 -- ---- which requests of a tenant are taken, at one entry more
 
@@ -33,7 +32,7 @@ untaken_of P t r h = and_right _ _ h
 pub taken_of_submit : (C : Config) (P : History) (who m t r q u kind declared label : ℕ) → IsLegal C P → q ≡ submits P → is_taken_of (after who m (Submit q u kind declared label) P) t r ≡ is_taken_of P t r
 unfolding is_taken_of is_taken
 taken_of_submit C P who m t r q u kind declared label l n = elim (cases_eq q r) [
-  | inl e ↦ (let un : is_taken P r ≡ false = rw e at (unsubmitted_untaken C P q l n) in and_right _ _ un ∙ sym (and_right _ _ un))
+  | inl e ↦ (let un : is_taken P r ≡ false = rw e at (fresh_untaken C P q l (omega arith)) in and_right _ _ un ∙ sym (and_right _ _ un))
   | inr ne ↦ rw (ne_eqb q r ne) refl
 ]
 

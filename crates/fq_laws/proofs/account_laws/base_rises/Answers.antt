@@ -1,0 +1,5 @@
+use Rattle.fq_laws.proofs.Bases.{base_rises}
+use Rattle.fq_laws.proofs.account_laws.base_rises.Goals as goal
+
+pub returns : goal.returns
+returns c = base_rises

@@ -1,0 +1,5 @@
+use Rattle.fq_laws.proofs.Bounds.{charge_low}
+use Rattle.fq_laws.proofs.account_laws.charge_limit.Goals as goal
+
+pub returns : goal.returns
+returns c = charge_low

@@ -1,0 +1,5 @@
+use Rattle.fq_laws.proofs.Charges.{charge_next}
+use Rattle.fq_laws.proofs.account_laws.charge_steps.Goals as goal
+
+pub returns : goal.returns
+returns c = charge_next

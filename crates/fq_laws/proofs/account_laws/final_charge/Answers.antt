@@ -1,0 +1,5 @@
+use Rattle.fq_laws.proofs.Charges.{charge_final}
+use Rattle.fq_laws.proofs.account_laws.final_charge.Goals as goal
+
+pub returns : goal.returns
+returns c = charge_final

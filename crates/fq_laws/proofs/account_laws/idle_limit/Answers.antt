@@ -1,0 +1,5 @@
+use Rattle.fq_laws.proofs.Clocks.{idle_low}
+use Rattle.fq_laws.proofs.account_laws.idle_limit.Goals as goal
+
+pub returns : goal.returns
+returns c = idle_low

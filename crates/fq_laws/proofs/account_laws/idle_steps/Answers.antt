@@ -1,0 +1,5 @@
+use Rattle.fq_laws.proofs.Clocks.{idle_next_active, idle_next_inactive}
+use Rattle.fq_laws.proofs.account_laws.idle_steps.Goals as goal
+
+pub returns : goal.returns
+returns c = λ C P e t. record { stays = idle_next_active C P e t; moves = idle_next_inactive C P e t }

@@ -1,0 +1,5 @@
+use Rattle.fq_laws.proofs.Bounds.{start_within}
+use Rattle.fq_laws.proofs.account_laws.start_limit.Goals as goal
+
+pub returns : goal.returns
+returns c = start_within

@@ -1,0 +1,5 @@
+use Rattle.fq_laws.proofs.Steps.{changes}
+use Rattle.fq_laws.proofs.account_laws.tenant_steps.Goals as goal
+
+pub returns : goal.returns
+returns c = changes

@@ -1,0 +1,5 @@
+use Rattle.fq_laws.proofs.Bounds.{virtual_time_rises}
+use Rattle.fq_laws.proofs.account_laws.time_rises.Goals as goal
+
+pub returns : goal.returns
+returns c = virtual_time_rises

@@ -1,0 +1,5 @@
+use Rattle.fq_laws.proofs.Answering.{answered}
+use Rattle.fq_laws.proofs.laws.answer_exists.Goals as goal
+
+pub returns : goal.returns
+returns c = answered

@@ -1,0 +1,5 @@
+use Rattle.fq_laws.proofs.Choices.{chosen}
+use Rattle.fq_laws.proofs.laws.choice_exists.Goals as goal
+
+pub returns : goal.returns
+returns c = chosen

@@ -1,0 +1,5 @@
+use Rattle.fq_laws.proofs.Frames.{leaves}
+use Rattle.fq_laws.proofs.laws.entries_leave_others.Goals as goal
+
+pub returns : goal.returns
+returns c = leaves

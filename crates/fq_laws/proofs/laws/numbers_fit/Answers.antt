@@ -1,0 +1,5 @@
+use Rattle.fq_laws.proofs.Requests.{submitted_small}
+use Rattle.fq_laws.proofs.laws.numbers_fit.Goals as goal
+
+pub returns : goal.returns
+returns c = submitted_small

@@ -1,0 +1,5 @@
+use Rattle.fq_laws.proofs.Outcomes.{outcome_one}
+use Rattle.fq_laws.proofs.laws.one_outcome.Goals as goal
+
+pub returns : goal.returns
+returns c = outcome_one

@@ -1,0 +1,5 @@
+use Rattle.fq_laws.proofs.Frames.{keys_unconcerned}
+use Rattle.fq_laws.proofs.laws.others_keep_keys.Goals as goal
+
+pub returns : goal.returns
+returns c = keys_unconcerned

@@ -1,0 +1,5 @@
+use Rattle.fq_laws.proofs.Outcomes.{outcome_exists}
+use Rattle.fq_laws.proofs.laws.outcome_exists.Goals as goal
+
+pub returns : goal.returns
+returns c = outcome_exists

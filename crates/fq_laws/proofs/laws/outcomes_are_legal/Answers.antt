@@ -1,0 +1,5 @@
+use Rattle.fq_laws.proofs.Outcomes.{outcome_legal}
+use Rattle.fq_laws.proofs.laws.outcomes_are_legal.Goals as goal
+
+pub returns : goal.returns
+returns c = outcome_legal

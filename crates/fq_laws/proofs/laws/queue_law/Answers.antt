@@ -1,0 +1,5 @@
+use Rattle.fq_laws.proofs.Queues.{queue_law}
+use Rattle.fq_laws.proofs.laws.queue_law.Goals as goal
+
+pub returns : goal.returns
+returns c = queue_law

@@ -1,0 +1,5 @@
+use Rattle.fq_laws.proofs.Room.{room_now}
+use Rattle.fq_laws.proofs.laws.room_remains.Goals as goal
+
+pub returns : goal.returns
+returns c = room_now

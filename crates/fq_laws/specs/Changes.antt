@@ -1,0 +1,46 @@
+-- What one entry changes: of the charge of a request, of what a tenant is charged, and of an estimate.
+use Rattle.std.specs.Prelude.{ℕ, ◌+◌, ◌≡◌, ◌==◌, max, Bool, if◌then◌else◌, List, [], ◌∷◌, ◌++◌}
+use Rattle.vt_fixed.specs.Rounding.{length_of}
+use Rattle.fq_model.specs.declared.config.Config.{Config}
+use Rattle.fq_model.specs.declared.event.Act.{Act}
+use Rattle.fq_model.specs.declared.event.Act.TheVariants.{Submit, Take, Report, Done, Close}
+use Rattle.fq_model.specs.History.{History, request_at, is_of_tenant, weight_at}
+use Rattle.fq_model.specs.Time.{open_requests}
+use Rattle.fq_model.specs.Charge.{charge, virtual_charge, net_charge, greatest, decayed_by_age}
+
+-- the charge of r after the act
+abbrev pub charge_after : History → ℕ → Act → ℕ
+charge_after P r (Take worker request estimate) = if request == r then estimate else charge P r
+charge_after P r (Report worker request used) = if request == r then max used (charge P r) else charge P r
+charge_after P r (Done worker request cost) = if request == r then cost else charge P r
+charge_after P r _ = charge P r
+
+-- what an entry changes for a tenant: how many requests it opens and closes, and what it makes of the charge of a
+-- request of the tenant, which was `charged` and then is `recharged` (both 0 where it charges none)
+pub record Change : Type 0 where
+  pub opened : ℕ
+  pub closed : ℕ
+  pub charged : ℕ
+  pub recharged : ℕ
+
+-- the change of a request's charge, where the request is one of the tenant
+abbrev pub recharge : Bool → ℕ → ℕ → ℕ → Change
+recharge own closed charged recharged = record { opened = 0; closed = closed; charged = if own then charged else 0; recharged = if own then recharged else 0 }
+
+-- what the act changes at P for tenant t
+abbrev pub change_of : History → ℕ → Act → Change
+change_of P t (Submit request tenant kind declared label) = record { opened = if tenant == t then 1 else 0; closed = 0; charged = 0; recharged = 0 }
+change_of P t (Take worker request estimate) = recharge (is_of_tenant t (request_at P request)) 0 0 estimate
+change_of P t (Report worker request used) = recharge (is_of_tenant t (request_at P request)) 0 (charge P request) (max used (charge P request))
+change_of P t (Done worker request cost) = recharge (is_of_tenant t (request_at P request)) (if is_of_tenant t (request_at P request) then 1 else 0) (charge P request) cost
+change_of P t Close = record { opened = 0; closed = 0; charged = 0; recharged = 0 }
+
+-- the history Q has this change for tenant t over P
+pub record Changes (C : Config) (P Q : History) (t : ℕ) (d : Change) : Type 0 where
+  pub open_is : open_requests Q t + d.closed ≡ open_requests P t + d.opened
+  pub charge_is : virtual_charge C Q t + length_of d.charged (weight_at C P t) ≡ virtual_charge C P t + length_of d.recharged (weight_at C P t)
+  pub net_is : net_charge Q t + d.charged ≡ net_charge P t + d.recharged
+
+-- the greatest of the costs, the newest first, each decayed once for each that is newer, the initial value the oldest
+abbrev pub greatest_cost_from : ℕ → List ℕ → ℕ
+greatest_cost_from initial cs = greatest (decayed_by_age 0 (cs ++ initial ∷ []))

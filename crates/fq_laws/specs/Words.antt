@@ -1,0 +1,68 @@
+-- Words for the laws.
+use Rattle.std.specs.Prelude.{ℕ, suc, ◌<◌, ◌≡◌, ◌==◌, ◌⊎◌, Bool, false, if◌then◌else◌, List, [], ◌∷◌, Option, Some, None}
+use Rattle.fq_model.specs.declared.event.Act.{Act}
+use Rattle.fq_model.specs.declared.event.Act.TheVariants.{Submit, Take, Report, Done}
+use Rattle.fq_model.specs.declared.config.Config.{Config}
+use Rattle.fq_model.specs.declared.event.Call.{Call}
+use Rattle.fq_model.specs.declared.event.Call.TheVariants as call
+use Rattle.fq_model.specs.History.{History, request_at, is_of_tenant, head}
+use Rattle.fq_model.specs.Time.{open_requests, effective_moment}
+use Rattle.fq_model.specs.Charge.{virtual_charge, net_charge, completed, completed_costs}
+use Rattle.fq_model.specs.Keys.{tag_base}
+
+-- the number of entries whose act passes the test
+abbrev pub times : (Act → Bool) → History → ℕ
+times test [] = 0
+times test (e ∷ P) = if test e.act then suc (times test P) else times test P
+
+-- the first of a list, if there is one
+abbrev pub first : List ℕ → Option ℕ
+first [] = None
+first (x ∷ xs) = Some x
+
+-- r is one of the list
+abbrev pub Member : ℕ → List ℕ → Type 0
+Member r [] = ⊥
+Member r (x ∷ xs) = (r ≡ x) ⊎ Member r xs
+
+-- each is less than those that follow it
+abbrev pub Ascends : List ℕ → Type 0
+Ascends [] = Unit {0}
+Ascends (x ∷ xs) = ((s : ℕ) → Member s xs → x < s) × Ascends xs
+
+-- the act submits a request of tenant t, or is done to one
+abbrev pub concerns : History → ℕ → Act → Bool
+concerns P t (Submit request tenant kind declared label) = tenant == t
+concerns P t (Take worker request estimate) = is_of_tenant t (request_at P request)
+concerns P t (Report worker request used) = is_of_tenant t (request_at P request)
+concerns P t (Done worker request cost) = is_of_tenant t (request_at P request)
+concerns P t _ = false
+
+-- tenant t stands in Q as it stands in P
+pub record Leaves (C : Config) (P Q : History) (t : ℕ) : Type 0 where
+  pub head_same : head Q t ≡ head P t
+  pub charge_same : virtual_charge C Q t ≡ virtual_charge C P t
+  pub net_same : net_charge Q t ≡ net_charge P t
+  pub base_same : tag_base C Q t ≡ tag_base C P t
+  pub open_same : open_requests Q t ≡ open_requests P t
+  pub costs_same : (kind : ℕ) → completed_costs (completed Q) t kind ≡ completed_costs (completed P) t kind
+
+-- who makes the call
+abbrev pub caller : Call → ℕ
+caller (call.Submit who moment tenant kind declared label) = who
+caller (call.Take who moment worker) = who
+caller (call.Report who moment worker used) = who
+caller (call.Done who moment worker cost) = who
+caller (call.Close who moment) = who
+
+-- the moment that the call names
+abbrev pub named_moment : Call → ℕ
+named_moment (call.Submit who moment tenant kind declared label) = moment
+named_moment (call.Take who moment worker) = moment
+named_moment (call.Report who moment worker used) = moment
+named_moment (call.Done who moment worker cost) = moment
+named_moment (call.Close who moment) = moment
+
+-- Q is P, or P and one entry more, of this caller and at the moment at which its call takes effect
+abbrev pub Extends : ℕ → ℕ → History → History → Type 0
+Extends who moment P Q = (Q ≡ P) ⊎ ((a : Act) × (Q ≡ record { who = who; moment = effective_moment P moment; act = a } ∷ P))
