@@ -18,10 +18,12 @@ use Rattle.fq_model.specs.Charge.{virtual_charge, charge}
 use Rattle.fq_model.specs.Keys.{tag_base, is_submit_for}
 use Rattle.fq_laws.proofs.Legality.{after, has_room, submits_le_length}
 use Rattle.fq_laws.proofs.Bases.{base_nil, base_step}
-use Rattle.fq_laws.proofs.Bounds.{virtual_time_low, virtual_advance_low, virtual_charge_low, base_low, virtual_idle_time_low, last_moment_low, charge_low}
+use Rattle.fq_laws.proofs.Bounds.{virtual_time_low, virtual_advance_low, virtual_charge_low, base_low, charge_low}
+use Rattle.fq_laws.proofs.Room.{last_moment_small}
 use Rattle.fq_laws.proofs.Estimates.{estimate_range}
 use Rattle.fq_laws.proofs.Clocks.{idle_nil, idle_next, idle_low}
-use Rattle.fq_laws.proofs.Steps.{changes, Changes, change_of}
+use Rattle.fq_laws.specs.Changes.{Changes, change_of}
+use Rattle.fq_laws.proofs.Steps.{changes}
 use Rattle.fq_laws.proofs.VirtualCharges.{virtual_charge_nil}
 use Rattle.refold.specs.Account.{AccountIs, raised}
 use Rattle.refold.specs.Change.{change_in}
@@ -49,7 +51,7 @@ pub record IsSmall (C : Config) (P : History) (m t : ℕ) : Type 0 where
 
 pub is_small : (C : Config) (P : History) (m t : ℕ) → InLimits C → IsLegal C P → last_moment P ≤ m → m ≤ 1000000000000000 → IsSmall C P m t
 is_small C P m t lim l low high =
-    let early = last_moment_low C P l in
+    let early = last_moment_small C P l in
     let before = virtual_time_low C P (last_moment P) lim l (omega arith) in
     record {
       credit = omega (arith, virtual_charge_low C P t lim l, submits_le_length P, has_room C P lim l, lim.entries);

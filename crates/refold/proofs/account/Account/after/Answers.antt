@@ -4,7 +4,6 @@ use Rattle.fq_model.specs.History.{history_of}
 use Rattle.fq_model.specs.Time.{virtual_idle_time}
 use Rattle.fq_model.specs.Charge.{virtual_charge}
 use Rattle.fq_model.specs.Keys.{tag_base}
-use Rattle.fq_laws.proofs.Bounds.{last_moment_low}
 use Rattle.refold.proofs.Accounting.{is_small, is_cheap, credit_is, base_is, idle_is, waits_is, waits_some, fits}
 use Rattle.refold.proofs.Timing.{weight_is}
 use Rattle.refold.proofs.account.Account.after.Goals as goal
