@@ -4,3 +4,4 @@ pub mod Clock
 pub mod Takes
 pub mod Change
 pub mod Account
+pub mod Answer

@@ -3,11 +3,13 @@
 #![tactic(auto)]
 
 pub mod account;
+pub mod answer;
 pub mod change;
 pub mod clock;
 pub mod counts;
 pub mod entries;
 pub mod heads;
 pub mod refusals;
+pub mod reply;
 pub mod requests;
 pub mod walk;
