@@ -4,3 +4,5 @@ pub mod Clock
 pub mod Takes
 pub mod Change
 pub mod Account
+pub mod Estimates
+pub mod Scan
