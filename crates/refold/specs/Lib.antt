@@ -5,3 +5,5 @@ pub mod Takes
 pub mod Change
 pub mod Account
 pub mod Answer
+pub mod Estimates
+pub mod Scan
