@@ -11,7 +11,8 @@ use Rattle.fq_model.specs.declared.event.Act.TheVariants.{Submit, Take, Report, 
 use Rattle.fq_model.specs.declared.event.Entry.{Entry}
 use Rattle.fq_model.specs.Charge.{Completed, completed_costs, with_cost}
 use Rattle.fq_model.specs.History.{History, Request, history_of, request_at}
-use Rattle.fq_laws.proofs.Estimates.{greatest_cost_from, greatest_next, greatest_cost_low, recent_sum_low}
+use Rattle.fq_laws.specs.Changes.{greatest_cost_from}
+use Rattle.fq_laws.proofs.Estimates.{greatest_next, greatest_cost_low, recent_sum_low}
 use Rattle.fq_laws.proofs.Prefixes.{history_take, legal_prefix}
 use Rattle.refold.specs.declared.estimate.Recent.{Recent}
 use Rattle.refold.specs.Estimates.{costs_of, cost_added, cost_where, in_front, IsRecent}

@@ -24,8 +24,12 @@ pub fn keys(config: &Checked, past: &[Entry], moment: u64, tenant: u32) -> Optio
     ensures keys { option_map seen result ≡ keys_at config.now (history_of past.now) moment tenant }
     ensures small { IfSome result IsSmall }
 {
-    let request = head(config, past, tenant)?;
-    let asked = submitted(past, request)?;
+    let Some(request) = head(config, past, tenant) else {
+        return None;
+    };
+    let Some(asked) = submitted(past, request) else {
+        return None;
+    };
     let estimate = estimate(config, past, asked.tenant, asked.kind, asked.declared);
     Some(HeadKeys {
         start: start(config, past, moment, tenant),

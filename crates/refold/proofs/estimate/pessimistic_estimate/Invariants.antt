@@ -1,6 +1,6 @@
 use Rattle.std.proofs.Common.{◌≡◌, take}
 use Rattle.fq_model.specs.History.{history_of}
-use Rattle.fq_laws.proofs.Estimates.{greatest_cost_from}
+use Rattle.fq_laws.specs.Changes.{greatest_cost_from}
 use Rattle.refold.specs.Estimates.{costs_of}
 use Rattle.refold.proofs.estimate.pessimistic_estimate.Given as goal
 
