@@ -6,3 +6,5 @@ pub mod Change
 pub mod Account
 pub mod Estimates
 pub mod Scan
+pub mod Firsts
+pub mod Bests

@@ -12,4 +12,5 @@ pub mod head_keys;
 pub mod heads;
 pub mod refusals;
 pub mod requests;
+pub mod scan;
 pub mod turn;
