@@ -1,5 +1,5 @@
 -- Comparing keys of heads, and the best of them as a scan goes over the tenants.
-use Rattle.std.proofs.Common.{ℕ, Option, Some, None, ◌+◌, ◌≢◌, inl, inr, sym, ◌∙◌, subst, ◌+◌, ◌<◌, ◌≡◌, ◌≢◌, ℤ, Bool, true, false, nat_lt, IsTrue, ◌↔◌, inl, inr, arith, tests, rules, sym, ◌∙◌, subst, Option, Some, None}
+use Rattle.std.proofs.Common.{ℕ, ◌*◌, length, ap, pos, ◌≤◌, Option, Some, None, ◌+◌, ◌≢◌, inl, inr, sym, ◌∙◌, subst, ◌+◌, ◌<◌, ◌≡◌, ◌≢◌, ℤ, Bool, true, false, nat_lt, IsTrue, ◌↔◌, inl, inr, arith, tests, rules, sym, ◌∙◌, subst, Option, Some, None}
 use Rattle.std.proofs.lemmas.Int.{ints}
 use Rattle.std.specs.Int.{w128}
 use lib.Signed.{mag}
@@ -7,11 +7,23 @@ use mir.Val.{to_z, of_z}
 use Rattle.std.proofs.lemmas.Bool.{cases_eq, false≢true}
 use Rattle.fq_model.specs.Keys.{HeadKeys, Turn, IsEligible, FinishBefore, EligibleBefore, Every, IsChoice}
 use Rattle.fq_laws.proofs.Choices.{IsOrder}
+use Rattle.vt_fixed.specs.Rounding.{length_of}
+use Rattle.fq_model.specs.declared.config.Config.{Config}
+use Rattle.fq_model.specs.Charge.{request_estimate}
+use Rattle.fq_model.specs.History.{History, submits, weight_at}
+use Rattle.fq_model.specs.Limits.{InLimits}
+use Rattle.fq_model.specs.Rules.{IsLegal}
+use Rattle.fq_model.specs.Time.{last_moment}
+use Rattle.fq_model.specs.Keys.{start, keys_at, turn_at, IsChoiceAt}
+use Rattle.fq_laws.proofs.Bounds.{start_low, submits_low, length_low}
+use Rattle.fq_laws.proofs.Choices.{keys_of, keys_tenant_known}
+use Rattle.fq_laws.proofs.Estimates.{estimate_range}
+use Rattle.refold.specs.Scan.{IsSmall}
 use Rattle.refold.specs.declared.head_keys.HeadKeys as kept
 use Rattle.refold.specs.Scan.{ComesBefore, seen}
 use Rattle.std.specs.Prelude.{MatchOption}
 use Rattle.refold.specs.declared.scan.Best.{Best}
-use Rattle.refold.specs.Bests.{GoesOn, Chooses}
+use Rattle.refold.specs.Bests.{IsBestBelow, GoesOn, Chooses}
 use Rattle.refold.specs.Firsts.{IsFirstBelow, LeadsBelow, TakesIn, StandBelow, NoneHas}
 
 reads_back : (z : ℤ) → mag z < 170141183460469231731687303715884105728 → to_z w128 (of_z w128 z) ≡ z
@@ -115,3 +127,25 @@ choose_any best is = λ at K tenants stand h. go at K tenants stand best.any (su
     go : (at : Turn) (K : ℕ → Option HeadKeys) (tenants : ℕ) → StandBelow K tenants → (any : Option (ℕ × kept.HeadKeys)) → IsFirstBelow (IsEligible at) FinishBefore K tenants None → IsFirstBelow Every (EligibleBefore at) K tenants any → MatchOption any (NoneHas K) (λ r. IsChoice at (λ t k. K t ≡ Some k) r.0 (seen r.1))
     go at K tenants stand None none h = λ t k has. h t k (stand t k has) has tt
     go at K tenants stand (Some found) none h = inr (λ u l has. none u l (stand u l has) has, record { has = h.has; passes = tt; first = λ u l ne has p. h.first u l (stand u l has) ne has p })
+
+-- ---- over histories
+
+-- the keys of a head of a legal history are small
+pub keys_small : (C : Config) (P : History) (m t : ℕ) (k : kept.HeadKeys) → InLimits C → IsLegal C P → last_moment P ≤ m → m ≤ 1000000000000000 → keys_at C P m t ≡ Some (seen k) → IsSmall k
+keys_small C P m t k lim l order in_range h =
+    let x = keys_of C P m t (seen k) h in
+    let starts : k.start ≡ pos (start C P m t) = ap (λ (y : HeadKeys). y.start) x.is in
+    let lasts : k.len ≡ pos (length_of (request_estimate C P x.what) (weight_at C P t)) = ap (λ (y : HeadKeys). y.len) x.is in
+    let start_high : start C P m t ≤ submits P * 1048576000000000 + m * 67108864 = start_low C P m t lim l order in
+    let few : submits P ≤ 4194304 = (submits_low C P lim l).1 in
+    let len_high : length_of (request_estimate C P x.what) (weight_at C P t) ≤ 1048576000000000 = length_low C P t (request_estimate C P x.what) lim (keys_tenant_known C P m t (seen k) l h) (estimate_range C P k.request x.what lim l x.was_asked).1 in
+    record {
+      start_low = rw starts (omega (arith, ints));
+      start_high = rw starts (omega (arith, ints));
+      len_low = rw lasts (omega (arith, ints));
+      len_high = rw lasts (omega (arith, ints));
+    }
+
+-- what a scan over all tenants chooses is the choice
+pub scan_chooses : (C : Config) (P : History) (m i : ℕ) (best : Best) (choice : Option (ℕ × kept.HeadKeys)) → IsLegal C P → Chooses best choice → IsBestBelow (turn_at C P m i) (keys_at C P m) (length C.weights) best → MatchOption choice (NoneHas (keys_at C P m)) (λ r. IsChoiceAt C P m i r.0 (seen r.1))
+scan_chooses C P m i best choice l chooses is = chooses (turn_at C P m i) (keys_at C P m) (length C.weights) (λ t k h. keys_tenant_known C P m t k l h) is

@@ -113,3 +113,71 @@ fn first_of_all(
         None => Some((tenant, keys)),
     }
 }
+
+#[cfg(test)]
+mod tests {
+    use super::*;
+    use fq_model::config::Policy;
+
+    // Of two tenants, 0 starts at 10 and finishes at 18, 1 starts at 3 and finishes at 19; 2 has no keys.
+    fn chosen(turn: Turn) -> Option<u32>
+        requires { turn.worker < turn.workers }
+    {
+        let first = HeadKeys {
+            start: 10,
+            len: 8,
+            request: 5,
+        };
+        let second = HeadKeys {
+            start: 3,
+            len: 16,
+            request: 4,
+        };
+        let best = Best::none()
+            .with(turn, 0, Some(first))
+            .with(turn, 1, Some(second))
+            .with(turn, 2, None);
+        match best.choice() {
+            Some((tenant, _)) => Some(tenant),
+            None => None,
+        }
+    }
+
+    fn turn(policy: Policy, worker: u32, virtual_time: i128) -> Turn
+        ensures worker { result.worker ≡ worker }
+        ensures workers { result.workers ≡ 4 }
+    {
+        Turn {
+            policy,
+            workers: 4,
+            worker,
+            virtual_time,
+        }
+    }
+
+    #[test]
+    fn first_to_finish(rt: HostRuntime) {
+        assert!(rt; chosen(turn(Policy::Wfq, 0, 0)) == Some(0));
+    }
+
+    // At 4 tenant 1 alone has started; at 2 none has, and it starts first.
+    #[test]
+    fn first_to_start(rt: HostRuntime) {
+        assert!(rt; chosen(turn(Policy::Wf2q, 0, 4)) == Some(1));
+        assert!(rt; chosen(turn(Policy::Wf2q, 0, 2)) == Some(1));
+        assert!(rt; chosen(turn(Policy::Wf2q, 0, 10)) == Some(0));
+    }
+
+    // Worker 3 of 4 begins three quarters of a length early: tenant 0 at 4, tenant 1 at -9.
+    #[test]
+    fn staggered(rt: HostRuntime) {
+        assert!(rt; chosen(turn(Policy::TwoDfq, 3, 4)) == Some(0));
+        assert!(rt; chosen(turn(Policy::TwoDfq, 3, 3)) == Some(1));
+        assert!(rt; chosen(turn(Policy::TwoDfq, 0, 4)) == Some(1));
+    }
+
+    #[test]
+    fn nobody(rt: HostRuntime) {
+        assert!(rt; Best::none().choice() == None);
+    }
+}
