@@ -7,3 +7,5 @@ pub mod Account
 pub mod Answer
 pub mod Estimates
 pub mod Scan
+pub mod Firsts
+pub mod Bests

@@ -15,5 +15,6 @@ pub mod keys;
 pub mod refusals;
 pub mod reply;
 pub mod requests;
+pub mod scan;
 pub mod turn;
 pub mod walk;
