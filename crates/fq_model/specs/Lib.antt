@@ -1,1 +1,4 @@
 pub mod Limits
+pub mod Numbers
+pub mod Texts
+pub mod Script
