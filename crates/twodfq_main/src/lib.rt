@@ -1,0 +1,4 @@
+//! The program's parts: the reader of scripts and the printer of replies.
+#![tactic(auto)]
+
+pub mod script;

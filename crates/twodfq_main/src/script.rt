@@ -1,0 +1,10 @@
+//! Reads scripts, up to their first fault.
+
+pub mod calls;
+pub mod fault;
+pub mod head;
+pub mod lines;
+pub mod names;
+pub mod numbers;
+pub mod reading;
+pub mod words;
