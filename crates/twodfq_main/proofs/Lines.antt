@@ -1,9 +1,8 @@
 -- A text's first line ends at its first LF, or with the text.
-use Rattle.std.proofs.Common.{ℕ, suc, ◌+◌, ◌-◌, ◌<◌, ◌≤◌, ◌≡◌, ◌==◌, Bool, true, false, List, [], ◌∷◌, length, take, drop, refl, arith, Option, Some, None, nat_lt, if◌then◌else◌, ap, ◌∙◌, subst, length-drop}
+use Rattle.std.proofs.Common.{ℕ, suc, ◌+◌, ◌-◌, ◌<◌, ◌≤◌, ◌≡◌, ◌==◌, Bool, true, false, List, [], ◌∷◌, length, take, drop, refl, arith, Some, None, nat_lt, if◌then◌else◌, ap, ◌∙◌, subst, length-drop}
 use borrow.Author.Tests.{ltb-true, ltb-false}
 use Rattle.std.specs.List.{position_or_len, position, onto_first}
-use Rattle.std.proofs.lemmas.Grind.{common_steps}
-use Rattle.std.proofs.lemmas.List.{take_rest, drop_all, take_all}
+use Rattle.std.proofs.lemmas.List.{take_rest, drop_all}
 use Rattle.fq_model.specs.Script.{lines_of}
 use Rattle.twodfq_main.specs.Reading.{IsFirstLine}
 

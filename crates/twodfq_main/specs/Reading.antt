@@ -1,7 +1,7 @@
 -- What the reader returns, against what a script says.
-use Rattle.std.specs.Prelude.{ℕ, ◌<◌, ◌≡◌, List, [], ◌∷◌, length, Result, Ok, Err}
+use Rattle.std.specs.Prelude.{ℕ, ◌<◌, ◌≡◌, List, ◌∷◌, length, Result, Ok, Err}
 use Rattle.fq_model.specs.declared.fault.Kind.{Kind}
-use Rattle.fq_model.specs.Script.{Script, lines_of}
+use Rattle.fq_model.specs.Script.{lines_of}
 use Rattle.twodfq_main.specs.declared.script.fault.LineError.{LineError}
 use Rattle.twodfq_main.specs.declared.script.fault.LineError.TheVariants as errors
 use Rattle.twodfq_main.specs.declared.script.fault.ScriptFault.{ScriptFault}

@@ -1,4 +1,4 @@
-use Rattle.std.proofs.Common.{◌≡◌, sym, ◌∙◌}
+use Rattle.std.proofs.Common.{sym, ◌∙◌}
 use Rattle.twodfq_main.proofs.Lines.{first_line_at, first_line_open}
 use Rattle.twodfq_main.proofs.script.lines.next_line.Goals as goal
 
