@@ -1,13 +1,13 @@
 -- A script's configuration is within its limits.
-use Rattle.std.proofs.Common.{ℕ, zero, suc, ◌+◌, ◌*◌, ◌<◌, ◌≤◌, ◌≡◌, ◌==◌, Bool, true, false, not, ◌||◌, ◌&&◌, nat_lt, if◌then◌else◌, ◌⊎◌, inl, inr, List, [], ◌∷◌, ◌++◌, length, All, Result, Ok, Err, refl, subst, arith, rules, length-append}
-use borrow.Author.Tests.{ltb-true, ltb-false}
+use Rattle.std.proofs.Common.{ℕ, zero, suc, ◌+◌, ◌*◌, ◌<◌, ◌≤◌, ◌≡◌, ◌==◌, Bool, true, false, not, ◌||◌, ◌&&◌, nat_lt, if◌then◌else◌, ◌⊎◌, inl, inr, List, [], ◌∷◌, ◌++◌, length, All, Result, Ok, Err, refl, subst, arith, length-append}
+use borrow.Author.Tests.{ltb-false}
 use Rattle.std.specs.Prelude.{codes}
 use Rattle.std.proofs.lemmas.Bool.{eqb-true, eqb-false}
 use Rattle.std.proofs.lemmas.List.Elements.{All-append}
 use Rattle.fq_model.specs.Limits.{IsWithin, IsWeight, InLimits}
 use Rattle.fq_model.specs.declared.fault.Kind.{Kind}
 use Rattle.fq_model.specs.declared.fault.Kind.TheVariants.{TooMany}
-use Rattle.fq_model.specs.Script.{Settings, Script, Words, config_of, ◌>>=◌, number_at, ranged_at, policy_at, estimator_at, with_count, settings_of, name_at, new_among, not_too_many, with_tenant, with_kind, with_call, call_of, begins_with, is_empty, with_line, with_head, with_lines, at_line, opened, config_line, below_header, is_header, script_of_lines, script_of, lines_of, words_of}
+use Rattle.fq_model.specs.Script.{Settings, Script, Words, config_of, ◌>>=◌, number_at, ranged_at, policy_at, estimator_at, with_count, settings_of, name_at, new_among, not_too_many, with_tenant, with_kind, with_call, call_of, begins_with, is_empty, with_line, with_lines, at_line, opened, config_line, below_header, is_header, script_of_lines, script_of, lines_of, words_of}
 
 -- what a first step gave, where both steps gave something
 pub bind_ok : {A B F : Type 0} (r : Result A F) (f : A → Result B F) (y : B) → (r >>= f) ≡ Ok y → (x : A) × (r ≡ Ok x) × (f x ≡ Ok y)
@@ -168,12 +168,12 @@ pub with_line-kept : (s u : Script) (line : Words) → IsKept s → with_line s 
 unfolding with_line
 with_line-kept s u line kept h =
     elim (which (begins_with line (codes "tenant") && is_empty s.kinds) _ _ (Ok u) h) [
-      inl a ↦ with_tenant-kept s u line (none_if (length s.kinds) (right_of (begins_with line (codes "tenant")) _ a.0)) kept a.1
-    | inr a ↦ elim (which (begins_with line (codes "kind") && (not (is_empty s.tenants) && is_empty s.calls)) _ _ (Ok u) a.1) [
-        inl b ↦ with_kind-kept s u line (some_if (length s.tenants) (not_true _ (left_of (not (is_empty s.tenants)) (is_empty s.calls) (right_of (begins_with line (codes "kind")) _ b.0)))) kept b.1
-      | inr b ↦ elim (which (is_empty s.kinds) _ _ (Ok u) b.1) [
-          inl c ↦ absurd (cc)
-        | inr c ↦ with_call-kept s u line kept c.1
+      | inl a ↦ with_tenant-kept s u line (none_if (length s.kinds) (right_of (begins_with line (codes "tenant")) _ a.0)) kept a.1
+      | inr a ↦ elim (which (begins_with line (codes "kind") && (not (is_empty s.tenants) && is_empty s.calls)) _ _ (Ok u) a.1) [
+        | inl b ↦ with_kind-kept s u line (some_if (length s.tenants) (not_true _ (left_of (not (is_empty s.tenants)) (is_empty s.calls) (right_of (begins_with line (codes "kind")) _ b.0)))) kept b.1
+        | inr b ↦ elim (which (is_empty s.kinds) _ _ (Ok u) b.1) [
+          | inl c ↦ absurd (cc)
+          | inr c ↦ with_call-kept s u line kept c.1
         ]
       ]
     ]
@@ -190,8 +190,8 @@ pub record IsWhole (s : Script) : Type 0 where
 pub with_lines-whole : (lines : List (List ℕ)) (place : ℕ) (s u : Script) → IsKept s → with_lines place s lines ≡ Ok u → IsWhole u
 with_lines-whole [] place s u kept h =
     elim (which (is_empty s.kinds) _ _ (Ok u) h) [
-      inl a ↦ absurd (cc)
-    | inr a ↦ subst IsWhole (Ok-injective a.1) (record { kept = kept; some = some_if (length s.kinds) a.0 })
+      | inl a ↦ absurd (cc)
+      | inr a ↦ subst IsWhole (Ok-injective a.1) (record { kept = kept; some = some_if (length s.kinds) a.0 })
     ]
 with_lines-whole (line ∷ lines) place s u kept h =
     let more = bind_ok (at_line place (with_line s (words_of line))) _ u h in
@@ -212,11 +212,11 @@ config_line-kept : (line : Words) (s : Script) → config_line line ≡ Ok s →
 unfolding config_line
 config_line-kept line s h =
     elim (which (begins_with line (codes "config")) _ _ (Ok s) h) [
-      inl a ↦
-        let settings = bind_ok (settings_of line) _ s a.1 in
-        let same : opened settings.0 ≡ s = Ok-injective settings.2 in
-        subst IsKept same (opened-kept settings.0 (settings_of-within line settings.0 settings.1))
-    | inr a ↦ absurd (cc)
+      | inl a ↦
+          let settings = bind_ok (settings_of line) _ s a.1 in
+          let same : opened settings.0 ≡ s = Ok-injective settings.2 in
+          subst IsKept same (opened-kept settings.0 (settings_of-within line settings.0 settings.1))
+      | inr a ↦ absurd (cc)
     ]
 
 below_header-whole : (lines : List (List ℕ)) (s : Script) → below_header lines ≡ Ok s → IsWhole s
@@ -229,8 +229,8 @@ script_of_lines-whole : (lines : List (List ℕ)) (s : Script) → script_of_lin
 script_of_lines-whole [] s h = absurd (cc)
 script_of_lines-whole (line ∷ lines) s h =
     elim (which (is_header line) _ _ (Ok s) h) [
-      inl a ↦ below_header-whole lines s a.1
-    | inr a ↦ absurd (cc)
+      | inl a ↦ below_header-whole lines s a.1
+      | inr a ↦ absurd (cc)
     ]
 
 -- the configuration of every script is one that a scheduler can be opened with

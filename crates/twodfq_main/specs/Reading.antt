@@ -1,7 +1,8 @@
 -- What the reader returns, against what a script says.
 use Rattle.std.specs.Prelude.{ℕ, ◌<◌, ◌≡◌, List, ◌∷◌, length, Result, Ok, Err}
 use Rattle.fq_model.specs.declared.fault.Kind.{Kind}
-use Rattle.fq_model.specs.Script.{lines_of}
+use Rattle.fq_model.specs.declared.config.Config.{Config}
+use Rattle.fq_model.specs.Script.{Settings, lines_of}
 use Rattle.twodfq_main.specs.declared.script.fault.LineError.{LineError}
 use Rattle.twodfq_main.specs.declared.script.fault.LineError.TheVariants as errors
 use Rattle.twodfq_main.specs.declared.script.fault.ScriptFault.{ScriptFault}
@@ -30,3 +31,7 @@ fault_at line errors.Memory = faults.NoMemory
 pub record IsFirstLine (text line below : List ℕ) : Type 0 where
   pub lines : lines_of text ≡ line ∷ lines_of below
   pub shorter : length below < length text
+
+-- what the config line of a script with this configuration says
+abbrev pub settings_in : Config → Settings
+settings_in c = record { workers = c.workers; policy = c.policy; estimate = c.estimate; initial = c.initial; entries = c.entries; requests = c.requests }

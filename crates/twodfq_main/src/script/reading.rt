@@ -1,6 +1,7 @@
 //! The reader of scripts.
 ghost use Rattle.std.specs.Prelude.{◌≡◌, ◌+◌, ◌<◌, ◌≤◌, ◌^◌, length, map, Ok, IfOk, IfErr};
-ghost use Rattle.fq_model.specs.Script.{not_too_many, with_tenant, with_kind, with_call, with_line, with_lines, opened, config_line, below_header, script_of, words_of, lines_of};
+ghost use Rattle.fq_model.specs.Script.{not_too_many, with_tenant, with_kind, with_call, with_line, with_lines, opened, config_line, below_header, config_of, script_of, words_of, lines_of};
+ghost use Rattle.fq_model.specs.Limits.{InLimits};
 ghost use Rattle.twodfq_main.specs.Reading.{Gives, IsFirstFault};
 
 use crate::script::calls::call;
@@ -9,14 +10,84 @@ use crate::script::head::{Settings, read_settings};
 use crate::script::lines::{next_line, words};
 use crate::script::names::{Name, is_among};
 use crate::script::words::{begins_with, expect_count, name_at, small_at};
+use fq_model::config::{Checked, Config, Weights};
 use fq_model::event::Call;
 use fq_model::fault::Kind;
 use std::alloc::Global;
 use std::marker::Model;
 
-/// A script: what its head says, and its calls.
+/// A script: the configuration of the scheduler on which its calls are made, the names of tenants and
+/// kinds by number, and the calls in order.
 #[derive(Drop)]
 pub struct Script {
+    config: Checked,
+    tenants: Vec<Name>,
+    kinds: Vec<Name>,
+    calls: Vec<Call>,
+}
+
+impl Model for Script {
+    ghost use Rattle.std.specs.Prelude.{◌≡◌, length};
+    ghost use Rattle.fq_model.specs.Script.{Script};
+
+    ghost Value = { Script };
+
+    ghost use Rattle.twodfq_main.specs.Reading.{settings_in};
+
+    ghost view = { λ s. record { settings = settings_in s.config; tenants = s.tenants.items; weights = s.config.weights; kinds = s.kinds.items; calls = s.calls.items } };
+
+    ghost invariant = { λ s. s.config.kinds ≡ length s.kinds.items };
+}
+
+impl Script {
+    /// What the scheduler is opened with.
+    pub fn config(&self) -> &Checked
+        ensures { result.now ≡ config_of self.now }
+    {
+        &self.config
+    }
+
+    /// The tenants' names by number.
+    pub fn tenants(&self) -> &[Name]
+        ensures { result.now ≡ self.now.tenants }
+    {
+        self.tenants.as_slice()
+    }
+
+    /// The kinds' names by number.
+    pub fn kinds(&self) -> &[Name]
+        ensures { result.now ≡ self.now.kinds }
+    {
+        self.kinds.as_slice()
+    }
+
+    /// The calls in order.
+    pub fn calls(&self) -> &[Call]
+        ensures { result.now ≡ self.now.calls }
+    {
+        self.calls.as_slice()
+    }
+
+    /// The configuration, the tenants' names, the kinds' names and the calls. Takes no memory.
+    pub fn into_parts(self) -> (Checked, Vec<Name>, Vec<Name>, Vec<Call>)
+        ensures config { result.0 ≡ config_of self }
+        ensures tenants { result.1.items ≡ self.tenants }
+        ensures kinds { result.2.items ≡ self.kinds }
+        ensures calls { result.3.items ≡ self.calls }
+    {
+        let Script {
+            config,
+            tenants,
+            kinds,
+            calls,
+        } = self;
+        (config, tenants, kinds, calls)
+    }
+}
+
+// What the lines so far say.
+#[derive(Drop)]
+struct Draft {
     settings: Settings,
     tenants: Vec<Name>,
     weights: Vec<u32>,
@@ -24,7 +95,7 @@ pub struct Script {
     calls: Vec<Call>,
 }
 
-impl Model for Script {
+impl Model for Draft {
     ghost use Rattle.fq_model.specs.Script.{Script};
 
     ghost Value = { Script };
@@ -32,17 +103,50 @@ impl Model for Script {
     ghost view = { λ s. record { settings = s.settings; tenants = s.tenants.items; weights = s.weights.items; kinds = s.kinds.items; calls = s.calls.items } };
 }
 
-impl Script {
+impl Draft {
     // The script of a config line alone.
-    fn opened(alloc: Global, settings: Settings) -> Script
+    fn opened(alloc: Global, settings: Settings) -> Draft
         ensures { result ≡ opened settings }
     {
-        Script {
+        Draft {
             settings,
             tenants: Vec::new(alloc),
             weights: Vec::new(alloc),
             kinds: Vec::new(alloc),
             calls: Vec::new(alloc),
+        }
+    }
+
+    // The script, now that its lines are read.
+    fn finish(self) -> Script
+        requires { InLimits (config_of self) }
+        ensures { result ≡ self }
+    {
+        let Draft {
+            settings,
+            tenants,
+            weights,
+            kinds,
+            calls,
+        } = self;
+        let config = Config {
+            workers: settings.workers,
+            weights: Weights::from_vec(weights),
+            kinds: kinds.len() as u32,
+            entries: settings.entries,
+            requests: settings.requests,
+            policy: settings.policy,
+            estimate: settings.estimate,
+            initial: settings.initial,
+        };
+        match config.check() {
+            Ok(config) => Script {
+                config,
+                tenants,
+                kinds,
+                calls,
+            },
+            Err(_) => unreachable!(),
         }
     }
 
@@ -119,16 +223,16 @@ impl Script {
 }
 
 #[tactic(auto, unfolding(fq_model::specs::Script::config_line))]
-fn config_words(alloc: Global, words: &[&[u8]]) -> Result<Script, LineError>
+fn config_words(alloc: Global, words: &[&[u8]]) -> Result<Draft, LineError>
     ensures { Gives (λ s. s) result (config_line (map (λ w. w.now) words.now)) }
 {
     if !begins_with(words, b"config") {
         return Err(LineError::Fault(Kind::Word));
     }
-    Ok(Script::opened(alloc, read_settings(words)?))
+    Ok(Draft::opened(alloc, read_settings(words)?))
 }
 
-fn config_line(alloc: Global, line: &[u8]) -> Result<Script, LineError>
+fn config_line(alloc: Global, line: &[u8]) -> Result<Draft, LineError>
     ensures { Gives (λ s. s) result (config_line (words_of line.now)) }
 {
     let words = words(alloc, line)?;
@@ -136,7 +240,7 @@ fn config_line(alloc: Global, line: &[u8]) -> Result<Script, LineError>
 }
 
 // Adds the lines below the config line, which are a text of their own.
-fn with_lines(alloc: Global, mut script: Script, text: &[u8]) -> Result<Script, ScriptFault>
+fn with_lines(alloc: Global, mut script: Draft, text: &[u8]) -> Result<Draft, ScriptFault>
     ensures ok { IfOk result (λ s. with_lines 3 script (lines_of text.now) ≡ Ok s) }
     ensures fault { IfErr result (λ f. IsFirstFault f (with_lines 3 script (lines_of text.now))) }
 {
@@ -158,7 +262,7 @@ fn with_lines(alloc: Global, mut script: Script, text: &[u8]) -> Result<Script, 
     Ok(script)
 }
 
-fn below_header(alloc: Global, text: &[u8]) -> Result<Script, ScriptFault>
+fn below_header(alloc: Global, text: &[u8]) -> Result<Draft, ScriptFault>
     ensures ok { IfOk result (λ s. below_header (lines_of text.now) ≡ Ok s) }
     ensures fault { IfErr result (λ f. IsFirstFault f (below_header (lines_of text.now))) }
 {
@@ -174,8 +278,7 @@ fn below_header(alloc: Global, text: &[u8]) -> Result<Script, ScriptFault>
     }
 }
 
-/// Reads a script, or names its first fault. An answer that memory ran out says nothing of the text.
-pub fn read_script(alloc: Global, bytes: &[u8]) -> Result<Script, ScriptFault>
+fn read_draft(alloc: Global, bytes: &[u8]) -> Result<Draft, ScriptFault>
     ensures ok { IfOk result (λ s. script_of bytes.now ≡ Ok s) }
     ensures fault { IfErr result (λ f. IsFirstFault f (script_of bytes.now)) }
 {
@@ -188,4 +291,13 @@ pub fn read_script(alloc: Global, bytes: &[u8]) -> Result<Script, ScriptFault>
         line: 1,
         kind: Kind::Header,
     })
+}
+
+/// Reads a script, or names its first fault. An answer that memory ran out says nothing of the text.
+pub fn read_script(alloc: Global, bytes: &[u8]) -> Result<Script, ScriptFault>
+    ensures ok { IfOk result (λ s. script_of bytes.now ≡ Ok s) }
+    ensures fault { IfErr result (λ f. IsFirstFault f (script_of bytes.now)) }
+{
+    let draft = read_draft(alloc, bytes)?;
+    Ok(draft.finish())
 }
