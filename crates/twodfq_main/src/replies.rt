@@ -76,3 +76,49 @@ fn falling_line(alloc: Global, last: u64, given: u64) -> Result<String, AllocErr
     let line = format!(in alloc; "refused falling {last} {given}\n")?;
     Ok(line)
 }
+
+#[cfg(test)]
+mod tests {
+    use super::*;
+    use std::test::Fail;
+
+    #[test]
+    fn prints_every_reply(rt: HostRuntime) -> Result<(), Fail> {
+        let replies = [
+            Reply::Request(0),
+            Reply::Run {
+                request: 4294967295,
+                estimate: 5,
+                label: 18446744073709551615,
+            },
+            Reply::Accepted,
+            Reply::Idle,
+            Reply::Drained,
+            Reply::Refused(Cause::Closed),
+            Reply::Refused(Cause::Tenant(2)),
+            Reply::Refused(Cause::Kind(1)),
+            Reply::Refused(Cause::Cost(1000000001)),
+            Reply::Refused(Cause::Slots(10)),
+            Reply::Refused(Cause::Full(100)),
+            Reply::Refused(Cause::Worker(64)),
+            Reply::Refused(Cause::Busy(3)),
+            Reply::Refused(Cause::NotRunning),
+            Reply::Refused(Cause::Falling { last: 8, given: 7 }),
+        ];
+        let text = replies_text(rt.alloc(), &replies)?;
+        let lines = "request 0\nrun 4294967295 5 18446744073709551615\nok\nidle\ndrained\n\
+            refused closed\nrefused tenant 2\nrefused kind 1\nrefused cost 1000000001\n\
+            refused slots 10\nrefused full 100\nrefused worker 64\nrefused busy 3\n\
+            refused not-running\nrefused falling 8 7\n";
+        assert_eq!(rt; text.as_slice(), lines.as_bytes());
+        Ok(())
+    }
+
+    #[test]
+    fn appends_a_line(rt: HostRuntime) -> Result<(), Fail> {
+        let mut out = Vec::from_slice(rt.alloc(), b"ok\n")?;
+        reply_line(rt.alloc(), &Reply::Idle, &mut out)?;
+        assert_eq!(rt; out.as_slice(), b"ok\nidle\n".as_slice());
+        Ok(())
+    }
+}

@@ -7,4 +7,6 @@ pub mod lines;
 pub mod names;
 pub mod numbers;
 pub mod reading;
+#[cfg(test)]
+mod tests;
 pub mod words;
