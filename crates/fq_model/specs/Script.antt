@@ -260,5 +260,5 @@ script_of_lines [] = Err (1, Header)
 script_of_lines (line ∷ lines) = if is_header line then below_header lines else Err (1, Header)
 
 -- the script that a text spells, or its first fault
-abbrev pub script_of : List ℕ → Result Script (ℕ × Kind)
+unfoldable pub script_of : List ℕ → Result Script (ℕ × Kind)
 script_of bytes = script_of_lines (lines_of bytes)

@@ -235,6 +235,7 @@ script_of_lines-whole (line ∷ lines) s h =
 
 -- the configuration of every script is one that a scheduler can be opened with
 pub config_of-in_limits : (bytes : List ℕ) (s : Script) → script_of bytes ≡ Ok s → InLimits (config_of s)
+unfolding script_of
 config_of-in_limits bytes s h =
     let whole = script_of_lines-whole (lines_of bytes) s h in
     let kept = whole.kept in

@@ -278,6 +278,7 @@ fn below_header(alloc: Global, text: &[u8]) -> Result<Draft, ScriptFault>
     }
 }
 
+#[tactic(auto, unfolding(fq_model::specs::Script::script_of))]
 fn read_draft(alloc: Global, bytes: &[u8]) -> Result<Draft, ScriptFault>
     ensures ok { IfOk result (λ s. script_of bytes.now ≡ Ok s) }
     ensures fault { IfErr result (λ f. IsFirstFault f (script_of bytes.now)) }
