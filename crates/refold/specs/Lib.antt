@@ -5,3 +5,7 @@ pub mod Takes
 pub mod Change
 pub mod Account
 pub mod Answer
+pub mod Estimates
+pub mod Scan
+pub mod Firsts
+pub mod Bests
