@@ -1,4 +1,9 @@
-//! The state of a scheduler: its history, and the jobs of the requests that wait.
+//! One history of one scheduler, with the jobs of the requests that wait.
 #![tactic(auto)]
 
 mod jobs;
+mod replies;
+mod scheduler;
+
+pub use replies::{AlreadyClosed, NoMemory, Refused, Taken};
+pub use scheduler::Scheduler;
