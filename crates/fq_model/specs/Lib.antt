@@ -6,3 +6,6 @@ pub mod Charge
 pub mod Keys
 pub mod Rules
 pub mod Outcome
+pub mod Numbers
+pub mod Texts
+pub mod Script

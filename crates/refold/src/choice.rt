@@ -15,12 +15,7 @@ use fq_model::config::Checked;
 use fq_model::event::Entry;
 
 /// The tenant whose head the worker takes at a moment, with its keys, if anything waits.
-pub fn choice(
-    config: &Checked,
-    past: &[Entry],
-    moment: u64,
-    worker: u32,
-) -> Option<(u32, HeadKeys)>
+pub fn choice(config: &Checked, past: &[Entry], moment: u64, worker: u32) -> Option<(u32, HeadKeys)>
     requires past { IsPast config.now past.now }
     requires known { worker < config.now.workers }
     requires in_range { moment ≤ greatest_moment }

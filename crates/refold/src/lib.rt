@@ -5,6 +5,7 @@
 pub mod account;
 pub mod answer;
 pub mod change;
+pub mod choice;
 pub mod clock;
 pub mod counts;
 pub mod entries;
@@ -16,5 +17,6 @@ pub mod refusals;
 pub mod reply;
 pub mod requests;
 pub mod scan;
+pub mod take;
 pub mod turn;
 pub mod walk;

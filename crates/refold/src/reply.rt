@@ -9,8 +9,44 @@ use crate::answer::Answer;
 use crate::counts::submitted_count;
 use crate::entries::{effective, running};
 use crate::refusals::{close_refusal, done_refusal, report_refusal, submit_refusal};
+use crate::take::take;
 use fq_model::config::Checked;
-use fq_model::event::{Act, Entry, Reply};
+use fq_model::event::{Act, Call, Entry, Reply};
+
+/// What a call is answered at a history, with the entry that it leaves.
+pub fn reply(config: &Checked, past: &[Entry], call: Call) -> Answer
+    requires { IsPast config.now past.now }
+    ensures { Answers config.now (history_of past.now) call result.reply (with_entry result.entry (history_of past.now)) }
+{
+    match call {
+        Call::Submit {
+            who,
+            moment,
+            tenant,
+            kind,
+            declared,
+            label,
+        } => submit(config, past, who, moment, tenant, kind, declared, label),
+        Call::Take {
+            who,
+            moment,
+            worker,
+        } => take(config, past, who, moment, worker),
+        Call::Report {
+            who,
+            moment,
+            worker,
+            used,
+        } => report(config, past, who, moment, worker, used),
+        Call::Done {
+            who,
+            moment,
+            worker,
+            cost,
+        } => done(config, past, who, moment, worker, cost),
+        Call::Close { who, moment } => close(config, past, who, moment),
+    }
+}
 
 /// What a submit is answered.
 pub fn submit(
