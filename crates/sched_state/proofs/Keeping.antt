@@ -1,6 +1,6 @@
 -- What a scheduler keeps, call by call.
-use Rattle.std.proofs.Common.{ℕ, suc, ◌+◌, ◌==◌, ◌<◌, ◌≤◌, ◌≡◌, ◌≢◌, Bool, true, false, cond, arith, refl, ap, sym, ◌∙◌, subst, List, [], ◌∷◌, length, Option, Some, None, OnSome}
-use Rattle.std.specs.Prelude.{MatchBool, option_map, is_some}
+use Rattle.std.proofs.Common.{ℕ, suc, ◌+◌, ◌-◌, ◌==◌, ◌<◌, ◌≤◌, ◌≡◌, ◌≢◌, Bool, true, false, cond, arith, refl, ap, sym, ◌∙◌, subst, List, [], ◌∷◌, length, reverse, Option, Some, None, OnSome}
+use Rattle.std.specs.Prelude.{MatchBool, option_map, is_some, nat_le}
 use Rattle.std.specs.Ordering.{nat_cmp}
 use Rattle.std.specs.Cmp.{nat_cmp_total}
 use Rattle.std.specs.FinMap as map
@@ -12,17 +12,20 @@ use Rattle.fq_model.specs.declared.event.Call.TheVariants as call
 use Rattle.fq_model.specs.declared.event.Reply.{Reply}
 use Rattle.fq_model.specs.declared.event.Reply.TheVariants as answer
 use Rattle.fq_model.specs.declared.event.Cause.{Cause}
+use Rattle.fq_model.specs.declared.event.Cause.TheVariants as cause
 use Rattle.fq_model.specs.Limits.{InLimits}
-use Rattle.fq_model.specs.History.{History, Request, request_at, is_closed, waiting, submits}
+use Rattle.fq_model.specs.History.{History, history_of, Request, request_at, is_closed, is_waiting, waiting, submits, running_on}
 use Rattle.fq_model.specs.Time.{effective_moment}
-use Rattle.fq_model.specs.Rules.{IsLegal, FitsSubmit, FitsTake, IsAnswered, IsAccepted, IsChosen, RunsChosen, RefusedOrElse, Answers, request_on, submit_refusal, take_refusal, done_refusal, close_refusal}
-use Rattle.fq_laws.proofs.Legality.{after, waiting_done, waiting_close, waiting_none}
+use Rattle.fq_model.specs.Rules.{IsLegal, FitsSubmit, FitsTake, IsAnswered, IsAccepted, IsChosen, RunsChosen, AnswersFree, RefusedOrElse, first_true, Answers, request_on, submit_refusal, take_refusal, done_refusal, close_refusal}
+use Rattle.std.proofs.lemmas.List.{reverse-reverse}
+use Rattle.fq_laws.proofs.Legality.{after, take_waits, waiting_done, waiting_close, waiting_none}
 use Rattle.fq_laws.proofs.Counts.{waiting_submitted, waiting_taken}
 use Rattle.fq_laws.proofs.Room.{length_entries}
-use Rattle.fq_laws.proofs.Refusals.{refused_keeps, submit_fits, take_may}
+use Rattle.fq_laws.proofs.Refusals.{MayTake, refused_keeps, submit_fits, take_may}
 use Rattle.fq_laws.proofs.Answering.{answer_legal, refused_leaves}
 use Rattle.refold.specs.Answer.{with_entry}
 use Rattle.sched_state.specs.Jobs.{JobMap, Kept}
+use Rattle.sched_state.specs.Replies.{IsTakeCause}
 use Rattle.sched_state.specs.Held.{waiting_label, HoldsWaiting, Keeps}
 use Rattle.sched_state.proofs.JobMaps.{found_with, found_without}
 use Rattle.sched_state.proofs.Labels.{label_nil, label_submit, label_take, label_done, label_close, label_new}
@@ -35,6 +38,10 @@ enter_room label C P capacity kept c reply None len k a e = tt
 enter_room label C P capacity kept c reply (Some entry) len k a e =
     let l : IsLegal C (entry ∷ P) = answer_legal C P c reply (entry ∷ P) k.limits k.legal a in
     omega (arith, length_entries C (entry ∷ P) k.limits l, k.entries_fit, e)
+
+-- one history has one list of entries
+pub same_past : (xs ys : List Entry) → history_of xs ≡ history_of ys → xs ≡ ys
+same_past xs ys e = sym (reverse-reverse xs) ∙ (ap reverse e ∙ reverse-reverse ys)
 
 -- ---- what stays
 
@@ -159,3 +166,92 @@ pub submit_reply_is : (C : Config) (P Q : History) (who moment tenant kind decla
 submit_reply_is C P Q who moment tenant kind declared label reply no_number no_cause a =
     let x = not_refused (submit_refusal C P tenant kind declared) P reply Q (IsAccepted P who moment (Submit (submits P) tenant kind declared label) (answer.Request (submits P)) reply Q) no_cause a in
     no_number (submits P) x.1.0
+
+-- ---- a take
+
+free_runs : (C : Config) (P Q : History) (who moment i r estimate label : ℕ) (b : Bool) → MatchBool b (IsAnswered P (cond (is_closed P) answer.Drained answer.Idle) (answer.Run r estimate label) Q) (RunsChosen C P who moment i (answer.Run r estimate label) Q) → RunsChosen C P who moment i (answer.Run r estimate label) Q
+free_runs C P Q who moment i r estimate label true x = absurd (no_run (is_closed P) x.0)
+  where
+    no_run : (b : Bool) → answer.Run r estimate label ≡ cond b answer.Drained answer.Idle → ⊥
+    no_run true e = cc
+    no_run false e = cc
+free_runs C P Q who moment i r estimate label false x = x
+
+-- a request that is taken, with this number and label
+pub record Leaves (C : Config) (P : History) (who moment i r estimate label : ℕ) (Q : History) : Type 0 where
+  pub fits : FitsTake C P (effective_moment P moment) i r estimate
+  pub labelled : waiting_label P r ≡ Some label
+  pub left : Q ≡ after who (effective_moment P moment) (Take i r estimate) P
+
+pub leaves : (C : Config) (P Q : History) (who moment i r estimate label : ℕ) → IsLegal C P → Answers C P (call.Take who moment i) (answer.Run r estimate label) Q → Leaves C P who moment i r estimate label Q
+leaves C P Q who moment i r estimate label l a =
+    let x : (take_refusal C P i ≡ None) × AnswersFree C P who moment i (answer.Run r estimate label) Q = not_refused (take_refusal C P i) P (answer.Run r estimate label) Q (AnswersFree C P who moment i (answer.Run r estimate label) Q) (λ c e. cc) a in
+    let may : MayTake C P i = take_may C P i l x.0 in
+    let y : RunsChosen C P who moment i (answer.Run r estimate label) Q = free_runs C P Q who moment i r estimate label (waiting P == 0) x.1 in
+    let same : answer.Run r estimate label ≡ answer.Run y.request y.estimate y.asked.label = y.accepted.0 in
+    let number : r ≡ y.request = cc in
+    let cost : estimate ≡ y.estimate = cc in
+    let name : label ≡ y.asked.label = cc in
+    let fits : FitsTake C P (effective_moment P moment) i y.request y.estimate = record { worker_known = may.worker_known; free = may.free; asked = y.asked; chosen = y.chosen } in
+    let waits : is_waiting P y.request ≡ true = take_waits C P (effective_moment P moment) i y.request y.estimate fits in
+    let labelled : waiting_label P y.request ≡ Some y.asked.label = rw (waits, y.chosen.asked) refl in
+    record {
+      fits = subst (λ z. FitsTake C P (effective_moment P moment) i z estimate) (sym number) (subst (λ z. FitsTake C P (effective_moment P moment) i y.request z) (sym cost) fits);
+      labelled = ap (waiting_label P) number ∙ (labelled ∙ ap Some (sym name));
+      left = y.accepted.1 ∙ (ap (λ z. after who (effective_moment P moment) (Take i z y.estimate) P) (sym number) ∙ ap (λ z. after who (effective_moment P moment) (Take i r z) P) (sym cost));
+    }
+
+-- its job has the label
+pub handed_label : {J : Type 0} (label : J → ℕ) (C : Config) (P Q : History) (who moment i r estimate name : ℕ) (capacity : ℕ) (kept : Kept J) → Keeps label C P capacity kept → Answers C P (call.Take who moment i) (answer.Run r estimate name) Q → option_map label (map.get kept.by_request r) ≡ Some name
+handed_label label C P Q who moment i r estimate name capacity kept k a = k.held r ∙ (leaves C P Q who moment i r estimate name k.legal a).labelled
+
+mapped_some : {J : Type 0} (label : J → ℕ) (o : Option J) (name : ℕ) → option_map label o ≡ Some name → is_some o ≡ true
+mapped_some label None name h = absurd (cc)
+mapped_some label (Some job) name h = refl
+
+pub keeps_take : {J : Type 0} (label : J → ℕ) (C : Config) (P Q : History) (who moment i r estimate name : ℕ) (capacity more : ℕ) (kept new : Kept J) → Keeps label C P capacity kept → Answers C P (call.Take who moment i) (answer.Run r estimate name) Q → capacity ≤ more → new.room ≡ kept.room → new.by_request ≡ map.remove kept.by_request r → Keeps label C Q more new
+keeps_take label C P Q who moment i r estimate name capacity more kept new k a cap room is =
+    let x : Leaves C P who moment i r estimate name Q = leaves C P Q who moment i r estimate name k.legal a in
+    let m : ℕ = effective_moment P moment in
+    let H : History = after who m (Take i r estimate) P in
+    let some : is_some (map.get kept.by_request r) ≡ true = mapped_some label (map.get kept.by_request r) name (k.held r ∙ x.labelled) in
+    let one : map.len (map.remove kept.by_request r) ≡ map.len kept.by_request - 1 = map.len-remove nat_cmp_total kept.by_request r ∙ ap (λ b. cond b (map.len kept.by_request - 1) (map.len kept.by_request)) some in
+    let count : suc (waiting H) ≡ waiting P = waiting_taken C P who m i r estimate k.limits k.legal x.fits in
+    let total : map.len new.by_request ≡ waiting H = ap map.len is ∙ (one ∙ omega (arith, k.counted, count)) in
+    let found : (q : ℕ) → option_map label (map.get new.by_request q) ≡ waiting_label H q = λ q. ap (λ n. option_map label (map.get n q)) is ∙ (ap (option_map label) (found_without kept.by_request r q) ∙ (mapped_cond label (q == r) None (map.get kept.by_request q) ∙ (ap (cond (q == r) None) (k.held q) ∙ sym (label_take P who m i r estimate q)))) in
+    record {
+      limits = k.limits;
+      legal = answer_legal C P (call.Take who moment i) (answer.Run r estimate name) Q k.limits k.legal a;
+      entries_fit = omega (arith, k.entries_fit, cap);
+      requests_fit = omega (arith, k.requests_fit, room);
+      counted = total ∙ ap waiting (sym x.left);
+      held = λ q. found q ∙ ap (λ z. waiting_label z q) (sym x.left);
+    }
+
+free_rests : (C : Config) (P Q : History) (who moment i : ℕ) (wanted reply : Reply) (b : Bool) → ((r estimate label : ℕ) → reply ≢ answer.Run r estimate label) → MatchBool b (IsAnswered P wanted reply Q) (RunsChosen C P who moment i reply Q) → Q ≡ P
+free_rests C P Q who moment i wanted reply true h x = x.1
+free_rests C P Q who moment i wanted reply false h x = absurd (h x.request x.estimate x.asked.label x.accepted.0)
+
+-- a take that runs nothing changes nothing
+pub rests : (C : Config) (P Q : History) (who moment i : ℕ) (reply : Reply) → ((r estimate label : ℕ) → reply ≢ answer.Run r estimate label) → Answers C P (call.Take who moment i) reply Q → Q ≡ P
+rests C P Q who moment i reply h a = refused_keeps (take_refusal C P i) P reply Q (AnswersFree C P who moment i reply Q) (λ R. R ≡ P) refl (λ e x. free_rests C P Q who moment i (cond (is_closed P) answer.Drained answer.Idle) reply (waiting P == 0) h x) a
+
+-- what a take is refused for
+pub take_cause : (C : Config) (P Q : History) (who moment i : ℕ) (c : Cause) → Answers C P (call.Take who moment i) (answer.Refused c) Q → IsTakeCause c
+take_cause C P Q who moment i c a = go (nat_le C.workers i) (is_some (running_on P i)) a
+  where
+    is_cause : (x : Cause) → IsTakeCause x → answer.Refused c ≡ answer.Refused x → IsTakeCause c
+    is_cause x h e = let same : c ≡ x = cc in subst IsTakeCause (sym same) h
+
+    no_refusal : (b : Bool) → answer.Refused c ≡ cond b answer.Drained answer.Idle → ⊥
+    no_refusal true e = cc
+    no_refusal false e = cc
+
+    free : (b : Bool) → MatchBool b (IsAnswered P (cond (is_closed P) answer.Drained answer.Idle) (answer.Refused c) Q) (RunsChosen C P who moment i (answer.Refused c) Q) → ⊥
+    free true x = no_refusal (is_closed P) x.0
+    free false x = let e : answer.Refused c ≡ answer.Run x.request x.estimate x.asked.label = x.accepted.0 in cc
+
+    go : (unknown busy : Bool) → RefusedOrElse (first_true ((unknown, cause.Worker i) ∷ (busy, cause.Busy (request_on P i)) ∷ [])) P (answer.Refused c) Q (AnswersFree C P who moment i (answer.Refused c) Q) → IsTakeCause c
+    go true busy x = is_cause (cause.Worker i) tt x.0
+    go false true x = is_cause (cause.Busy (request_on P i)) tt x.0
+    go false false x = absurd (free (waiting P == 0) x)

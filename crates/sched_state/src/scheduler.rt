@@ -8,14 +8,15 @@ ghost use Rattle.fq_model.specs.History.{history_of};
 ghost use Rattle.fq_model.specs.Rules.{Answers, IsLegal};
 ghost use Rattle.refold.specs.Answer.{with_entry};
 ghost use Rattle.sched_state.specs.Held.{HoldsWaiting};
-ghost use Rattle.sched_state.specs.Replies.{submit_reply, done_reply, close_reply};
+ghost use Rattle.sched_state.specs.Replies.{submit_reply, take_reply, done_reply, close_reply, HandsOut, IsTakeCause, IsWithheld};
 
 use crate::jobs::Jobs;
-use crate::replies::{AlreadyClosed, NoMemory, Refused};
+use crate::replies::{AlreadyClosed, NoMemory, Refused, Taken};
 use fq_model::config::Checked;
 use fq_model::event::{Cause, Entry, Reply};
 use fq_model::job::Job;
 use refold::reply;
+use refold::take::take;
 use std::alloc::Global;
 use std::marker::Model;
 
@@ -105,6 +106,36 @@ impl<J: Job + Drop> Scheduler<J> {
         }
     }
 
+    /// A worker asks for work, and gets the job of the request that is its turn, if one waits.
+    pub fn take(&mut self, who: u32, moment: u64, worker: u32) -> Taken<J>
+        ensures answers { Answers self.old.config (history_of self.old.past) (call.Take who moment worker) (take_reply J.label_of result) (history_of self.new.past) }
+        ensures config { self.new.config ≡ self.old.config }
+        ensures jobs { HandsOut self.old result self.new }
+    {
+        let answer = take(&self.config, self.past.as_slice(), who, moment, worker);
+        enter(&mut self.past, answer.entry);
+        match answer.reply {
+            Reply::Run {
+                request,
+                estimate,
+                ..
+            } => {
+                let Some(job) = self.jobs.hand_out(request) else {
+                    unreachable!()
+                };
+                Taken::Run {
+                    request,
+                    estimate,
+                    job,
+                }
+            }
+            Reply::Idle => Taken::Idle,
+            Reply::Drained => Taken::Drained,
+            Reply::Refused(cause) => withheld(cause),
+            _ => unreachable!(),
+        }
+    }
+
     /// The worker's request has ended, and this is its measured cost, in microseconds.
     pub fn done(&mut self, who: u32, moment: u64, worker: u32, cost: u64) -> Result<(), Cause>
         ensures answers { Answers self.old.config (history_of self.old.past) (call.Done who moment worker cost) (done_reply result) (history_of self.new.past) }
@@ -156,6 +187,18 @@ impl<J: Job + Drop> Scheduler<J> {
         ensures { result.now ≡ self.now.config }
     {
         &self.config
+    }
+}
+
+// What a worker is given that is refused for this cause.
+fn withheld<J>(cause: Cause) -> Taken<J>
+    requires { IsTakeCause cause }
+    ensures { IsWithheld cause result }
+{
+    match cause {
+        Cause::Worker(worker) => Taken::UnknownWorker(worker),
+        Cause::Busy(request) => Taken::Busy(request),
+        _ => unreachable!(),
     }
 }
 
