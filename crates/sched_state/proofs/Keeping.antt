@@ -25,7 +25,9 @@ use Rattle.fq_laws.proofs.Refusals.{MayTake, refused_keeps, submit_fits, take_ma
 use Rattle.fq_laws.proofs.Answering.{answer_legal, refused_leaves}
 use Rattle.refold.specs.Answer.{with_entry}
 use Rattle.sched_state.specs.Jobs.{JobMap, Kept}
-use Rattle.sched_state.specs.Replies.{IsTakeCause}
+use Rattle.sched_state.specs.State.{State}
+use Rattle.sched_state.specs.declared.replies.Taken.{Taken}
+use Rattle.sched_state.specs.Replies.{HandsOut, IsWithheld}
 use Rattle.sched_state.specs.Held.{waiting_label, HoldsWaiting, Keeps}
 use Rattle.sched_state.proofs.JobMaps.{found_with, found_without}
 use Rattle.sched_state.proofs.Labels.{label_nil, label_submit, label_take, label_done, label_close, label_new}
@@ -161,12 +163,6 @@ keeps_submit label C P Q who moment tenant kind declared r job capacity more kep
       held = λ q. found q ∙ ap (λ z. waiting_label z q) (sym x.left);
     }
 
--- what a submission is answered: a number, or a refusal
-pub submit_reply_is : (C : Config) (P Q : History) (who moment tenant kind declared label : ℕ) (reply : Reply) → ((r : ℕ) → reply ≢ answer.Request r) → ((c : Cause) → reply ≢ answer.Refused c) → Answers C P (call.Submit who moment tenant kind declared label) reply Q → ⊥
-submit_reply_is C P Q who moment tenant kind declared label reply no_number no_cause a =
-    let x = not_refused (submit_refusal C P tenant kind declared) P reply Q (IsAccepted P who moment (Submit (submits P) tenant kind declared label) (answer.Request (submits P)) reply Q) no_cause a in
-    no_number (submits P) x.1.0
-
 -- ---- a take
 
 free_runs : (C : Config) (P Q : History) (who moment i r estimate label : ℕ) (b : Bool) → MatchBool b (IsAnswered P (cond (is_closed P) answer.Drained answer.Idle) (answer.Run r estimate label) Q) (RunsChosen C P who moment i (answer.Run r estimate label) Q) → RunsChosen C P who moment i (answer.Run r estimate label) Q
@@ -236,22 +232,15 @@ free_rests C P Q who moment i wanted reply false h x = absurd (h x.request x.est
 pub rests : (C : Config) (P Q : History) (who moment i : ℕ) (reply : Reply) → ((r estimate label : ℕ) → reply ≢ answer.Run r estimate label) → Answers C P (call.Take who moment i) reply Q → Q ≡ P
 rests C P Q who moment i reply h a = refused_keeps (take_refusal C P i) P reply Q (AnswersFree C P who moment i reply Q) (λ R. R ≡ P) refl (λ e x. free_rests C P Q who moment i (cond (is_closed P) answer.Drained answer.Idle) reply (waiting P == 0) h x) a
 
--- what a take is refused for
-pub take_cause : (C : Config) (P Q : History) (who moment i : ℕ) (c : Cause) → Answers C P (call.Take who moment i) (answer.Refused c) Q → IsTakeCause c
-take_cause C P Q who moment i c a = go (nat_le C.workers i) (is_some (running_on P i)) a
-  where
-    is_cause : (x : Cause) → IsTakeCause x → answer.Refused c ≡ answer.Refused x → IsTakeCause c
-    is_cause x h e = let same : c ≡ x = cc in subst IsTakeCause (sym same) h
-
-    no_refusal : (b : Bool) → answer.Refused c ≡ cond b answer.Drained answer.Idle → ⊥
-    no_refusal true e = cc
-    no_refusal false e = cc
-
-    free : (b : Bool) → MatchBool b (IsAnswered P (cond (is_closed P) answer.Drained answer.Idle) (answer.Refused c) Q) (RunsChosen C P who moment i (answer.Refused c) Q) → ⊥
-    free true x = no_refusal (is_closed P) x.0
-    free false x = let e : answer.Refused c ≡ answer.Run x.request x.estimate x.asked.label = x.accepted.0 in cc
-
-    go : (unknown busy : Bool) → RefusedOrElse (first_true ((unknown, cause.Worker i) ∷ (busy, cause.Busy (request_on P i)) ∷ [])) P (answer.Refused c) Q (AnswersFree C P who moment i (answer.Refused c) Q) → IsTakeCause c
-    go true busy x = is_cause (cause.Worker i) tt x.0
-    go false true x = is_cause (cause.Busy (request_on P i)) tt x.0
-    go false false x = absurd (free (waiting P == 0) x)
+-- a worker that is refused is handed nothing
+pub withheld_same : {J : Type 0} (old new : State J) (c : Cause) (t : Taken J) → IsWithheld c t → new ≡ old → HandsOut old t new
+withheld_same old new (cause.Worker worker) t h e = subst (λ z. HandsOut old z new) (sym h) e
+withheld_same old new (cause.Busy request) t h e = subst (λ z. HandsOut old z new) (sym h) e
+withheld_same old new cause.Closed t h e = absurd h
+withheld_same old new (cause.Tenant tenant) t h e = absurd h
+withheld_same old new (cause.Kind kind) t h e = absurd h
+withheld_same old new (cause.Cost cost) t h e = absurd h
+withheld_same old new (cause.Slots slots) t h e = absurd h
+withheld_same old new (cause.Full entries) t h e = absurd h
+withheld_same old new cause.NotRunning t h e = absurd h
+withheld_same old new (cause.Falling last given) t h e = absurd h

@@ -7,3 +7,6 @@ mod scheduler;
 
 pub use replies::{AlreadyClosed, NoMemory, Refused, Taken};
 pub use scheduler::Scheduler;
+
+#[cfg(test)]
+mod tests;

@@ -61,11 +61,7 @@ impl<J: Job + Drop> Scheduler<J> {
         let Ok(jobs) = Jobs::open(alloc, config.requests() as usize) else {
             return Err(NoMemory);
         };
-        Ok(Scheduler {
-            config,
-            past,
-            jobs,
-        })
+        Ok(Scheduler { config, past, jobs })
     }
 
     /// A request of this tenant and kind comes, with the cost that its submitter names for it, in microseconds.
