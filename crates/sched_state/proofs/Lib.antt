@@ -1,0 +1,3 @@
+pub mod JobMaps
+pub mod Labels
+pub mod Keeping

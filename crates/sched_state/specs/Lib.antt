@@ -1,0 +1,4 @@
+pub mod Jobs
+pub mod State
+pub mod Held
+pub mod Replies

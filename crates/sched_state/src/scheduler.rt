@@ -1,0 +1,212 @@
+//! A scheduler.
+ghost use Rattle.std.specs.Prelude.{◌≡◌, ◌≤◌, ◌<◌, [], IfOk, IfErr, OnErr, OnSome, vec_len, vec_capacity};
+ghost use Rattle.std.specs.FinMap as map;
+ghost use Rattle.fq_model.specs.declared.config.Policy.TheVariants.{TwoDfq};
+ghost use Rattle.fq_model.specs.declared.config.Estimator.TheVariants.{Declared};
+ghost use Rattle.fq_model.specs.declared.event.Call.TheVariants as call;
+ghost use Rattle.fq_model.specs.History.{history_of};
+ghost use Rattle.fq_model.specs.Rules.{Answers, IsLegal};
+ghost use Rattle.refold.specs.Answer.{with_entry};
+ghost use Rattle.sched_state.specs.Held.{HoldsWaiting};
+ghost use Rattle.sched_state.specs.Replies.{submit_reply, take_reply, done_reply, close_reply, HandsOut, IsTakeCause, IsWithheld};
+
+use crate::jobs::Jobs;
+use crate::replies::{AlreadyClosed, NoMemory, Refused, Taken};
+use fq_model::config::Checked;
+use fq_model::event::{Cause, Entry, Reply};
+use fq_model::job::Job;
+use refold::reply;
+use refold::take::take;
+use std::alloc::Global;
+use std::marker::Model;
+
+/// One history, from its opening on, and the jobs of the requests that wait in it. Contracts see the entries in
+/// order of time, and the jobs by the numbers of their requests. Whoever makes a call names itself by `who`, which
+/// is written down and not looked at, and its clock by `moment`, in microseconds. A call that is answered by
+/// a refusal, by `Idle` or by `Drained` changes nothing; each other call adds one entry.
+#[derive(Drop)]
+pub struct Scheduler<J: Job> {
+    config: Checked,
+    past: Vec<Entry>,
+    jobs: Jobs<J>,
+}
+
+impl<J: Job> Model for Scheduler<J> {
+    ghost use Rattle.std.specs.Prelude.{vec_capacity};
+    ghost use Rattle.fq_model.specs.History.{history_of};
+    ghost use Rattle.sched_state.specs.State.{State, state_code};
+    ghost use Rattle.sched_state.specs.Held.{Keeps};
+
+    ghost Value = { State J };
+
+    ghost coded = { state_code J.code };
+
+    ghost view = { λ s. record { config = s.config; past = s.past.items; jobs = s.jobs.by_request } };
+
+    ghost invariant = { λ s. Keeps J.label_of s.config (history_of s.past.items) (vec_capacity s.past) s.jobs };
+}
+
+impl<J: Job + Drop> Scheduler<J> {
+    /// Takes all the memory that the scheduler will use.
+    pub fn open(alloc: Global, config: Checked) -> Result<Scheduler<J>, NoMemory>
+        requires policy { config.policy ≡ TwoDfq }
+        requires estimator { config.estimate ≡ Declared }
+        ensures config { IfOk result (λ s. s.config ≡ config) }
+        ensures past { IfOk result (λ s. s.past ≡ []) }
+        ensures jobs { IfOk result (λ s. s.jobs ≡ map.empty) }
+    {
+        let Ok(past) = Vec::with_capacity(alloc, config.entries() as usize) else {
+            return Err(NoMemory);
+        };
+        let Ok(jobs) = Jobs::open(alloc, config.requests() as usize) else {
+            return Err(NoMemory);
+        };
+        Ok(Scheduler { config, past, jobs })
+    }
+
+    /// A request of this tenant and kind comes, with the cost that its submitter names for it, in microseconds.
+    /// It gets the next number.
+    pub fn submit(
+        &mut self,
+        who: u32,
+        moment: u64,
+        tenant: u32,
+        kind: u32,
+        declared: u64,
+        job: J,
+    ) -> Result<u32, Refused<J>>
+        ensures answers { Answers self.old.config (history_of self.old.past) (call.Submit who moment tenant kind declared (J.label_of job)) (submit_reply result) (history_of self.new.past) }
+        ensures config { self.new.config ≡ self.old.config }
+        ensures jobs { IfOk result (λ r. self.new.jobs ≡ map.insert self.old.jobs r job) }
+        ensures job_back { IfErr result (λ f. f.job ≡ job) }
+        ensures unchanged { OnErr result (self.new ≡ self.old) }
+    {
+        let answer = reply::submit(
+            &self.config,
+            self.past.as_slice(),
+            who,
+            moment,
+            tenant,
+            kind,
+            declared,
+            job.label(),
+        );
+        enter(&mut self.past, answer.entry);
+        match answer.reply {
+            Reply::Request(request) => {
+                self.jobs.keep(request, job);
+                Ok(request)
+            }
+            Reply::Refused(cause) => Err(Refused { job, cause }),
+            _ => unreachable!(),
+        }
+    }
+
+    /// A worker asks for work, and gets the job of the request that is its turn, if one waits.
+    pub fn take(&mut self, who: u32, moment: u64, worker: u32) -> Taken<J>
+        ensures answers { Answers self.old.config (history_of self.old.past) (call.Take who moment worker) (take_reply J.label_of result) (history_of self.new.past) }
+        ensures config { self.new.config ≡ self.old.config }
+        ensures jobs { HandsOut self.old result self.new }
+    {
+        let answer = take(&self.config, self.past.as_slice(), who, moment, worker);
+        enter(&mut self.past, answer.entry);
+        match answer.reply {
+            Reply::Run {
+                request,
+                estimate,
+                ..
+            } => {
+                let Some(job) = self.jobs.hand_out(request) else {
+                    unreachable!()
+                };
+                Taken::Run {
+                    request,
+                    estimate,
+                    job,
+                }
+            }
+            Reply::Idle => Taken::Idle,
+            Reply::Drained => Taken::Drained,
+            Reply::Refused(cause) => withheld(cause),
+            _ => unreachable!(),
+        }
+    }
+
+    /// The worker's request has ended, and this is its measured cost, in microseconds.
+    pub fn done(&mut self, who: u32, moment: u64, worker: u32, cost: u64) -> Result<(), Cause>
+        ensures answers { Answers self.old.config (history_of self.old.past) (call.Done who moment worker cost) (done_reply result) (history_of self.new.past) }
+        ensures config { self.new.config ≡ self.old.config }
+        ensures jobs { self.new.jobs ≡ self.old.jobs }
+        ensures unchanged { OnErr result (self.new ≡ self.old) }
+    {
+        let answer = reply::done(
+            &self.config,
+            self.past.as_slice(),
+            who,
+            moment,
+            worker,
+            cost,
+        );
+        enter(&mut self.past, answer.entry);
+        match answer.reply {
+            Reply::Refused(cause) => Err(cause),
+            _ => Ok(()),
+        }
+    }
+
+    /// Nothing more is submitted from here on.
+    pub fn close(&mut self, who: u32, moment: u64) -> Result<(), AlreadyClosed>
+        ensures answers { Answers self.old.config (history_of self.old.past) (call.Close who moment) (close_reply result) (history_of self.new.past) }
+        ensures config { self.new.config ≡ self.old.config }
+        ensures jobs { self.new.jobs ≡ self.old.jobs }
+        ensures unchanged { OnErr result (self.new ≡ self.old) }
+    {
+        let answer = reply::close(&self.config, self.past.as_slice(), who, moment);
+        enter(&mut self.past, answer.entry);
+        match answer.reply {
+            Reply::Refused(_) => Err(AlreadyClosed),
+            _ => Ok(()),
+        }
+    }
+
+    /// The entries, in order of time. Each request that waits has its job here, and no other has.
+    pub fn past(&self) -> &[Entry]
+        ensures entries { result.now ≡ self.now.past }
+        ensures legal { IsLegal self.now.config (history_of self.now.past) }
+        ensures held { HoldsWaiting J.label_of (history_of self.now.past) self.now.jobs }
+    {
+        self.past.as_slice()
+    }
+
+    /// What the scheduler was opened with.
+    pub fn config(&self) -> &Checked
+        ensures { result.now ≡ self.now.config }
+    {
+        &self.config
+    }
+}
+
+// What a worker is given that is refused for this cause.
+fn withheld<J>(cause: Cause) -> Taken<J>
+    requires { IsTakeCause cause }
+    ensures { IsWithheld cause result }
+{
+    match cause {
+        Cause::Worker(worker) => Taken::UnknownWorker(worker),
+        Cause::Busy(request) => Taken::Busy(request),
+        _ => unreachable!(),
+    }
+}
+
+// Adds the entry, if there is one, for which there is room.
+fn enter(past: &mut Vec<Entry>, entry: Option<Entry>)
+    requires { OnSome entry (vec_len past.old < vec_capacity past.old) }
+    ensures history { history_of past.new.items ≡ with_entry entry (history_of past.old.items) }
+    ensures capacity { vec_capacity past.old ≤ vec_capacity past.new }
+{
+    if let Some(entry) = entry {
+        if past.push(entry).is_err() {
+            unreachable!();
+        }
+    }
+}
