@@ -143,16 +143,19 @@ weight_at C P t = slice_index C.weights t
 unfoldable pub pool_at : Config → History → ℕ
 pool_at C P = C.workers
 
+-- what runs on worker i after one act more
 abbrev pub running_after : ℕ → Act → Option ℕ → Option ℕ
 running_after i (Take worker request estimate) older = if worker == i then Some request else older
 running_after i (Done worker request cost) older = if worker == i then None else older
 running_after i _ older = older
 
--- what runs on worker i: the request of its last Take, unless its Done follows (a law ties it to `Runs`)
+-- the request of worker i's last Take, or none where a Done by this worker follows it: in a legal history this is what
+-- the worker runs (a law ties it to `Runs`)
 abbrev pub running_on : History → ℕ → Option ℕ
 running_on [] i = None
 running_on (e ∷ P) i = running_after i e.act (running_on P i)
 
+-- the queue of tenant t after one act more
 abbrev pub queue_after : History → ℕ → Act → List ℕ → List ℕ
 queue_after P t (Submit request tenant kind declared label) older = if tenant == t then older ++ request ∷ [] else older
 queue_after P t (Take worker request estimate) older = if is_of_tenant t (request_at P request) then drop 1 older else older

@@ -21,6 +21,7 @@ unfoldable pub tag_base : Config → History → ℕ → ℕ
 tag_base C [] t = 0
 tag_base C (e ∷ P) t = if is_submit_for t e.act && is_none (head P t) then max (virtual_time C P e.moment - virtual_charge C P t) (tag_base C P t) else tag_base C P t
 
+-- the tag of tenant t: its virtual charge and its base
 unfoldable pub tag : Config → History → ℕ → ℕ
 tag C P t = virtual_charge C P t + tag_base C P t
 
@@ -28,7 +29,8 @@ abbrev pub start_for : Policy → ℕ → ℕ → ℕ
 start_for Msf2q by_tag by_idle_time = by_idle_time
 start_for _ by_tag by_idle_time = by_tag
 
--- where tenant t starts at m: its tag, or under msf2q its virtual charge and its idle time
+-- where tenant t starts at m: its tag; under msf2q its virtual charge plus the virtual time that passed while it was
+-- not active
 unfoldable pub start : Config → History → ℕ → ℕ → ℕ
 start C P m t = start_for C.policy (tag C P t) (virtual_charge C P t + virtual_idle_time C P m t)
 
@@ -38,6 +40,7 @@ pub record HeadKeys : Type 0 where
   pub len : ℤ
   pub request : ℕ
 
+-- where the head finishes
 abbrev pub finish : HeadKeys → ℤ
 finish k = k.start +ℤ k.len
 
@@ -54,9 +57,11 @@ abbrev pub stagger : Policy → ℤ → ℕ → ℕ → ℤ
 stagger TwoDfq len i n = pos (part_of (unsigned_abs len) i n)
 stagger _ len i n = pos 0
 
+-- the virtual time from which on the head is eligible for this worker
 abbrev pub eligible_key : Turn → HeadKeys → ℤ
 eligible_key at k = k.start -ℤ stagger at.policy k.len at.worker at.workers
 
+-- under wfq every head is eligible
 abbrev pub IsEligible : Turn → HeadKeys → Type 0
 IsEligible at k = (at.policy ≡ Wfq) ⊎ (eligible_key at k ≤ℤ at.virtual_time)
 
@@ -64,7 +69,7 @@ IsEligible at k = (at.policy ≡ Wfq) ⊎ (eligible_key at k ≤ℤ at.virtual_t
 abbrev pub FinishBefore : HeadKeys → HeadKeys → Type 0
 FinishBefore a b = (finish a <ℤ finish b) ⊎ ((finish a ≡ finish b) × (a.request < b.request))
 
--- by eligible key, then by finish, then by number
+-- by eligible key, then by finish, then by number: the order where none is eligible
 abbrev pub EligibleBefore : Turn → HeadKeys → HeadKeys → Type 0
 EligibleBefore at a b = (eligible_key at a <ℤ eligible_key at b) ⊎ ((eligible_key at a ≡ eligible_key at b) × FinishBefore a b)
 

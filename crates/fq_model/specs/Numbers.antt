@@ -11,7 +11,7 @@ use Rattle.fq_model.specs.declared.config.Estimator.TheVariants.{Declared, Recen
 abbrev pub is_digit : ℕ → Bool
 is_digit b = nat_le 48 b && nat_le b 57
 
--- the number n with one digit more at its end, if it still has 64 bits
+-- the number n with the digit b at its end; none where b is no digit or the number passes 2^64 - 1
 abbrev pub with_digit : ℕ → ℕ → Option ℕ
 with_digit n b = if is_digit b && nat_le (10 * n + (b - 48)) 18446744073709551615 then Some (10 * n + (b - 48)) else None
 

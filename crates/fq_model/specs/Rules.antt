@@ -22,9 +22,11 @@ greatest_cost = 1000000000
 abbrev pub needed_room : History → ℕ → ℕ
 needed_room P x = length P + 2 * waiting P + running P + x
 
+-- the configuration's entries are that many at least
 abbrev pub HasRoom : Config → History → ℕ → Type 0
 HasRoom C P x = needed_room P x ≤ C.entries
 
+-- worker i runs no request
 abbrev pub RunsNothing : History → ℕ → Type 0
 RunsNothing P i = (r : ℕ) → ¬ Runs P i r
 
@@ -37,6 +39,7 @@ pub record IsChosen (C : Config) (P : History) (m i request estimate : ℕ) (q :
   pub asked : request_at P request ≡ Some q
   pub estimate_is : estimate ≡ request_estimate C P q
 
+-- a Submit that fits
 pub record FitsSubmit (C : Config) (P : History) (request tenant kind declared : ℕ) : Type 0 where
   pub open_still : is_closed P ≡ false
   pub numbered : request ≡ submits P
@@ -47,6 +50,7 @@ pub record FitsSubmit (C : Config) (P : History) (request tenant kind declared :
   pub slot : waiting P < C.requests
   pub room : HasRoom C P 4
 
+-- a Take that fits
 pub record FitsTake (C : Config) (P : History) (m worker request estimate : ℕ) : Type 0 where
   pub worker_known : worker < pool_at C P
   pub free : RunsNothing P worker
@@ -77,7 +81,7 @@ abbrev pub first_true : List (Bool × Cause) → Option Cause
 first_true [] = None
 first_true (row ∷ rows) = if row.0 then Some row.1 else first_true rows
 
--- the request that runs on worker i, or 0
+-- the request that runs on worker i, or 0 (read only below the row that asks whether it runs one)
 abbrev pub request_on : History → ℕ → ℕ
 request_on P i = unwrap_or (running_on P i) 0
 
@@ -128,7 +132,7 @@ IsAnswered P wanted reply P2 = (reply ≡ wanted) × (P2 ≡ P)
 abbrev pub IsAccepted : History → ℕ → ℕ → Act → Reply → Reply → History → Type 0
 IsAccepted P who moment act wanted reply P2 = (reply ≡ wanted) × (P2 ≡ record { who = who; moment = effective_moment P moment; act = act } ∷ P)
 
--- refused for this cause, if there is one, or else so
+-- refused for the cause, if there is one; if there is none, `Accepted` holds
 abbrev pub RefusedOrElse : Option Cause → History → Reply → History → Type 0 → Type 0
 RefusedOrElse None P reply P2 Accepted = Accepted
 RefusedOrElse (Some c) P reply P2 Accepted = IsAnswered P (answer.Refused c) reply P2
@@ -141,7 +145,7 @@ pub record RunsChosen (C : Config) (P : History) (who moment i : ℕ) (reply : R
   pub chosen : IsChosen C P (effective_moment P moment) i request estimate asked
   pub accepted : IsAccepted P who moment (Take i request estimate) (answer.Run request estimate asked.label) reply P2
 
--- what a worker that runs nothing is answered: a request where one waits, else that nothing does, or will
+-- what a worker that runs nothing is answered: Drained or Idle where nothing waits, else the chosen request
 abbrev pub AnswersFree : Config → History → ℕ → ℕ → ℕ → Reply → History → Type 0
 AnswersFree C P who moment i reply P2 = MatchBool (waiting P == 0) (IsAnswered P (if is_closed P then answer.Drained else answer.Idle) reply P2) (RunsChosen C P who moment i reply P2)
 

@@ -55,7 +55,7 @@ or_fault kind (Some x) = Ok x
 
 -- Lines and words.
 
--- the pieces between LF bytes; an LF at the very end starts no further line
+-- the pieces between LF bytes; an LF at the very end starts no further line (`onto_first b []` is the one line b)
 abbrev pub lines_of : List ℕ → List (List ℕ)
 lines_of [] = []
 lines_of (b ∷ bs) = if b == 10 then [] ∷ lines_of bs else onto_first b (lines_of bs)

@@ -17,6 +17,7 @@ open_requests P t = count_below (is_open P t) request_bound
 unfoldable pub is_active : History → ℕ → Bool
 is_active P t = nat_lt 0 (open_requests P t)
 
+-- the weight of tenant t where it is active, else 0
 abbrev pub weight_if_active : Config → History → ℕ → ℕ
 weight_if_active C P t = if is_active P t then weight_at C P t else 0
 

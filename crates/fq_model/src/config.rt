@@ -25,7 +25,8 @@ pub enum Estimator {
     Declared,
     /// The mean of its tenant's and kind's last eight costs.
     Recent,
-    /// The greatest of its tenant's and kind's costs, each decayed once for each that came later.
+    /// The greatest of 1 and its tenant's and kind's costs, each decayed once for each that came later; the initial value
+    /// counts as the oldest cost.
     Pessimistic,
 }
 

@@ -137,6 +137,7 @@ mod tests {
         };
         assert_eq!(rt; eight.with(2).mean(1000), 5);
         assert_eq!(rt; Recent::none().mean(1000), 1000);
-        assert_eq!(rt; Recent::none().with(0).mean(1000), 1);
+        let nothing = Recent { total: 0, count: 0 };
+        assert_eq!(rt; nothing.with(0).mean(1000), 1);
     }
 }

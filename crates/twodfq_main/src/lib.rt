@@ -3,3 +3,5 @@
 
 pub mod replies;
 pub mod script;
+pub mod stop;
+pub mod words;
