@@ -2,10 +2,10 @@
 use Rattle.std.proofs.Common.{ℕ, zero, suc, ◌+◌, ◌<◌, ◌==◌, ◌≡◌, ◌≢◌, Bool, true, false, cond, arith, refl, ap, sym, ◌∙◌, List, [], ◌∷◌, ◌++◌, length, subst, Option, Some, None, inl, inr}
 use Rattle.std.specs.Prelude.{is_some}
 use Rattle.std.specs.List.{slice_get, remove}
-use Rattle.std.specs.Ordering.{nat_cmp, eq_by_cmp}
+use Rattle.std.specs.Ordering.{nat_cmp}
 use Rattle.std.specs.Cmp.{unsigned_tied, nat_cmp_total}
 use Rattle.std.specs.FinMap as map
-use Rattle.std.proofs.lemmas.Bool.{cases_eq, eq-eqb, ne_eqb, cases_Bool, eqb-false}
+use Rattle.std.proofs.lemmas.Bool.{cases_eq, eq-eqb, ne_eqb, eqb-false}
 use Rattle.sched_state.specs.declared.jobs.Waiting.{Waiting}
 use Rattle.sched_state.specs.Jobs.{JobMap, jobs_of, AreDistinct, IsPlaceOf}
 

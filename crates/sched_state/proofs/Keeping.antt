@@ -1,6 +1,6 @@
 -- What a scheduler keeps, call by call.
 use Rattle.std.proofs.Common.{ℕ, suc, ◌+◌, ◌-◌, ◌==◌, ◌<◌, ◌≤◌, ◌≡◌, ◌≢◌, Bool, true, false, cond, arith, refl, ap, sym, ◌∙◌, subst, List, [], ◌∷◌, length, reverse, Option, Some, None, OnSome}
-use Rattle.std.specs.Prelude.{MatchBool, option_map, is_some, nat_le}
+use Rattle.std.specs.Prelude.{MatchBool, option_map, is_some}
 use Rattle.std.specs.Ordering.{nat_cmp}
 use Rattle.std.specs.Cmp.{nat_cmp_total}
 use Rattle.std.specs.FinMap as map
@@ -14,21 +14,21 @@ use Rattle.fq_model.specs.declared.event.Reply.TheVariants as answer
 use Rattle.fq_model.specs.declared.event.Cause.{Cause}
 use Rattle.fq_model.specs.declared.event.Cause.TheVariants as cause
 use Rattle.fq_model.specs.Limits.{InLimits}
-use Rattle.fq_model.specs.History.{History, history_of, Request, request_at, is_closed, is_waiting, waiting, submits, running_on}
+use Rattle.fq_model.specs.History.{History, history_of, is_closed, is_waiting, waiting, submits}
 use Rattle.fq_model.specs.Time.{effective_moment}
-use Rattle.fq_model.specs.Rules.{IsLegal, FitsSubmit, FitsTake, IsAnswered, IsAccepted, IsChosen, RunsChosen, AnswersFree, RefusedOrElse, first_true, Answers, request_on, submit_refusal, take_refusal, done_refusal, close_refusal}
+use Rattle.fq_model.specs.Rules.{IsLegal, FitsSubmit, FitsTake, IsAnswered, IsAccepted, RunsChosen, AnswersFree, RefusedOrElse, Answers, request_on, submit_refusal, take_refusal, done_refusal, close_refusal}
 use Rattle.std.proofs.lemmas.List.{reverse-reverse}
 use Rattle.fq_laws.proofs.Legality.{after, take_waits, waiting_done, waiting_close, waiting_none}
 use Rattle.fq_laws.proofs.Counts.{waiting_submitted, waiting_taken}
 use Rattle.fq_laws.proofs.Room.{length_entries}
 use Rattle.fq_laws.proofs.Refusals.{MayTake, refused_keeps, submit_fits, take_may}
-use Rattle.fq_laws.proofs.Answering.{answer_legal, refused_leaves}
+use Rattle.fq_laws.proofs.Answering.{answer_legal}
 use Rattle.refold.specs.Answer.{with_entry}
-use Rattle.sched_state.specs.Jobs.{JobMap, Kept}
+use Rattle.sched_state.specs.Jobs.{Kept}
 use Rattle.sched_state.specs.State.{State}
 use Rattle.sched_state.specs.declared.replies.Taken.{Taken}
 use Rattle.sched_state.specs.Replies.{HandsOut, IsWithheld}
-use Rattle.sched_state.specs.Held.{waiting_label, HoldsWaiting, Keeps}
+use Rattle.sched_state.specs.Held.{waiting_label, Keeps}
 use Rattle.sched_state.proofs.JobMaps.{found_with, found_without}
 use Rattle.sched_state.proofs.Labels.{label_nil, label_submit, label_take, label_done, label_close, label_new}
 

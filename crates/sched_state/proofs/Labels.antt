@@ -1,10 +1,10 @@
 -- The labels of waiting requests, at one entry more.
-use Rattle.std.proofs.Common.{ℕ, ◌==◌, ◌≡◌, ◌≢◌, Bool, ◌&&◌, true, false, cond, arith, refl, ap, sym, ◌∙◌, subst, inl, inr, [], ◌∷◌, Option, Some, None}
+use Rattle.std.proofs.Common.{ℕ, ◌==◌, ◌≡◌, Bool, ◌&&◌, true, false, cond, arith, refl, sym, inl, inr, [], Option, Some, None}
 use Rattle.std.specs.Prelude.{option_map}
 use Rattle.std.proofs.lemmas.Bool.{cases_eq, eq-eqb, ne_eqb}
 use Rattle.fq_model.specs.declared.config.Config.{Config}
 use Rattle.fq_model.specs.declared.event.Act.TheVariants.{Submit, Take, Done, Close}
-use Rattle.fq_model.specs.History.{History, Request, request_at, is_waiting, is_submitted, is_taken, submits}
+use Rattle.fq_model.specs.History.{History, request_at, is_waiting, is_submitted, is_taken, submits}
 use Rattle.fq_model.specs.Rules.{IsLegal}
 use Rattle.fq_laws.proofs.Legality.{after}
 use Rattle.fq_laws.proofs.Fresh.{fresh_untaken, fresh_unsubmitted}

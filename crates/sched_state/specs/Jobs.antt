@@ -1,5 +1,5 @@
 -- Jobs, by the numbers of their requests.
-use Rattle.std.specs.Prelude.{ℕ, refl, ◌≡◌, List, [], ◌∷◌, Option, Some, None, slice_get}
+use Rattle.std.specs.Prelude.{ℕ, refl, ◌≡◌, List, [], ◌∷◌, Some, None, slice_get}
 use Rattle.std.specs.Ordering.{nat_cmp}
 use Rattle.std.specs.FinMap as map
 use Rattle.std.specs.Coded.{Coded, code_by, coded×, coded_ℕ}

@@ -1,18 +1,15 @@
 use crate::{AlreadyClosed, Refused, Scheduler, Taken};
-use fq_model::config::{Checked, Config, Estimator, Policy, Weights};
+use fq_model::config::{Config, Estimator, Policy, Weights};
 use fq_model::event::{Act, Cause, Entry};
 use fq_model::job::Job;
+use std::alloc::Global;
 use std::test::Fail;
 
-// One worker, two tenants of weight 1, one kind.
-fn opened<J: Job + Drop>(
-    rt: &HostRuntime,
-    entries: u32,
-    requests: u32,
-) -> Result<Scheduler<J>, Fail> {
+// One worker, two tenants of weight 1, one kind. None where there is no memory.
+fn opened<J: Job + Drop>(alloc: Global, entries: u32, requests: u32) -> Option<Scheduler<J>> {
     let config = Config {
         workers: 1,
-        weights: Weights::from_vec(vec![in rt.alloc(); 1, 1]?),
+        weights: Weights::from_vec(vec![in alloc; 1, 1].ok()?),
         kinds: 1,
         entries,
         requests,
@@ -20,16 +17,12 @@ fn opened<J: Job + Drop>(
         estimate: Estimator::Declared,
         initial: 1000,
     };
-    let checked = config
-        .check()
-        .expect(rt, "the configuration is in its limits");
-    let scheduler = Scheduler::open(rt.alloc(), checked).expect(rt, "there is memory");
-    Ok(scheduler)
+    Scheduler::open(alloc, config.check().ok()?).ok()
 }
 
 #[test]
 fn one_request_from_submit_to_drained(rt: HostRuntime) -> Result<(), Fail> {
-    let mut scheduler = opened::<u64>(&rt, 100, 10)?;
+    let mut scheduler = opened::<u64>(rt.alloc(), 100, 10).expect(&rt, "a scheduler");
     assert_eq!(rt; scheduler.submit(0, 0, 0, 0, 5, 7), Ok(0));
     assert_eq!(rt;
         scheduler.take(9, 0, 0),
@@ -83,7 +76,7 @@ fn one_request_from_submit_to_drained(rt: HostRuntime) -> Result<(), Fail> {
 
 #[test]
 fn one_slot(rt: HostRuntime) -> Result<(), Fail> {
-    let mut scheduler = opened::<u64>(&rt, 100, 1)?;
+    let mut scheduler = opened::<u64>(rt.alloc(), 100, 1).expect(&rt, "a scheduler");
     assert_eq!(rt; scheduler.submit(0, 0, 0, 0, 5, 1), Ok(0));
     assert_eq!(rt;
         scheduler.submit(0, 0, 0, 0, 5, 2),
@@ -106,7 +99,7 @@ fn one_slot(rt: HostRuntime) -> Result<(), Fail> {
 
 #[test]
 fn refusals(rt: HostRuntime) -> Result<(), Fail> {
-    let mut scheduler = opened::<u64>(&rt, 100, 10)?;
+    let mut scheduler = opened::<u64>(rt.alloc(), 100, 10).expect(&rt, "a scheduler");
     for (tenant, kind, declared, cause) in [
         (2, 0, 5, Cause::Tenant(2)),
         (0, 1, 5, Cause::Kind(1)),
@@ -142,7 +135,7 @@ fn refusals(rt: HostRuntime) -> Result<(), Fail> {
 // Four entries have room for one request: its Submit, Take and Done, and the Close.
 #[test]
 fn room(rt: HostRuntime) -> Result<(), Fail> {
-    let mut scheduler = opened::<u64>(&rt, 4, 10)?;
+    let mut scheduler = opened::<u64>(rt.alloc(), 4, 10).expect(&rt, "a scheduler");
     assert_eq!(rt; scheduler.submit(0, 0, 0, 0, 5, 1), Ok(0));
     assert_eq!(rt;
         scheduler.submit(0, 0, 0, 0, 5, 2),
@@ -182,7 +175,7 @@ impl Job for Letter {
 // The second tenant's request comes first; at equal finishes the lower request number goes first.
 #[test]
 fn jobs_are_handed_out(rt: HostRuntime) -> Result<(), Fail> {
-    let mut scheduler = opened::<Letter>(&rt, 100, 10)?;
+    let mut scheduler = opened::<Letter>(rt.alloc(), 100, 10).expect(&rt, "a scheduler");
     for (tenant, number, text) in [(1, 1, "first"), (0, 2, "second")] {
         let text = text.to_string(rt.alloc())?;
         let given = scheduler.submit(tenant, 0, tenant, 0, 4, Letter { number, text });

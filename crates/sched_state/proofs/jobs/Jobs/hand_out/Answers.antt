@@ -1,9 +1,7 @@
-use Rattle.std.proofs.Common.{arith, ◌≡◌, ◌<◌, None, Some, ap, sym, ◌∙◌, subst, length}
+use Rattle.std.proofs.Common.{arith, ◌≡◌, None, Some, ap, sym, ◌∙◌, subst, length}
 use Rattle.std.specs.Prelude.{vec_len}
-use Rattle.std.specs.List.{remove}
 use Rattle.std.specs.FinMap as map
 use Rattle.std.proofs.lemmas.Option.{get_or_from_slice_get}
-use Rattle.sched_state.specs.declared.jobs.Waiting.{Waiting}
 use Rattle.sched_state.specs.Jobs.{jobs_of, AreDistinct, IsPlaceOf}
 use Rattle.sched_state.proofs.JobMaps.{found_nowhere, none_out, found_at, jobs_remove, distinct_remove, place_below}
 use Rattle.sched_state.proofs.jobs.Jobs.hand_out.Goals as goal

@@ -1,4 +1,4 @@
-use Rattle.std.proofs.Common.{arith, ◌≡◌, ap, sym, refl, ◌∙◌, subst, length}
+use Rattle.std.proofs.Common.{arith, ◌≡◌, ap, ◌∙◌, length}
 use Rattle.std.specs.Prelude.{vec_len}
 use Rattle.std.proofs.lemmas.List.{length-reverse}
 use Rattle.fq_model.specs.declared.event.Call.TheVariants as call

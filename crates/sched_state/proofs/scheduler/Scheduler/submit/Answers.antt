@@ -1,11 +1,8 @@
-use Rattle.std.proofs.Common.{arith, ◌≡◌, ap, sym, refl, ◌∙◌, subst, length}
-use Rattle.std.specs.Prelude.{vec_len}
-use Rattle.std.proofs.lemmas.List.{length-reverse}
+use Rattle.std.proofs.Common.{◌≡◌, ap, ◌∙◌}
 use Rattle.fq_model.specs.declared.event.Call.TheVariants as call
 use Rattle.fq_model.specs.declared.event.Reply.TheVariants as answer
 use Rattle.fq_model.specs.History.{history_of}
 use Rattle.fq_model.specs.Rules.{Answers}
-use Rattle.refold.specs.Answer.{with_entry}
 use Rattle.fq_laws.proofs.Answering.{refused_leaves}
 use Rattle.sched_state.proofs.Keeping.{Enters, enters, new_job, job_room, keeps_submit, keeps_on, same_past}
 use Rattle.sched_state.proofs.scheduler.Scheduler.submit.Goals as goal

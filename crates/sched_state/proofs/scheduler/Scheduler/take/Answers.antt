@@ -1,4 +1,4 @@
-use Rattle.std.proofs.Common.{arith, ◌≡◌, None, Some, ap, sym, refl, ◌∙◌, subst, length}
+use Rattle.std.proofs.Common.{arith, ◌≡◌, None, Some, ap, sym, ◌∙◌, length}
 use Rattle.std.specs.Prelude.{vec_len, option_map}
 use Rattle.std.specs.FinMap as map
 use Rattle.std.proofs.lemmas.List.{length-reverse}
@@ -7,7 +7,6 @@ use Rattle.fq_model.specs.declared.event.Reply.TheVariants as answer
 use Rattle.fq_model.specs.History.{history_of}
 use Rattle.fq_model.specs.Rules.{Answers}
 use Rattle.refold.specs.Answer.{with_entry}
-use Rattle.fq_laws.proofs.Answering.{refused_leaves}
 use Rattle.sched_state.proofs.Keeping.{enter_room, handed_label, keeps_take, rests, same_past, withheld_same}
 use Rattle.sched_state.proofs.scheduler.Scheduler.take.Goals as goal
 
