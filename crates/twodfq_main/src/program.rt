@@ -1,7 +1,7 @@
 //! The program, over any source, sinks and clock.
-ghost use Rattle.std.specs.Prelude.{map, MatchResult};
+ghost use Rattle.std.specs.Prelude.{◌≡◌, map, MatchResult, Err};
 ghost use Rattle.std.specs.String.{string_bytes};
-ghost use Rattle.twodfq_main.specs.Program.{Ends, IsRun, Outputs, IsOutputStop};
+ghost use Rattle.twodfq_main.specs.Program.{Ends, IsRun, Tells, Outputs, IsOutputStop, status_of, message_of};
 
 use crate::replies::replies_text;
 use crate::script::fault::ScriptFault;
@@ -51,11 +51,18 @@ pub fn plain<R: Source, W: Sink, E: Sink>(
 {
     match run(alloc, words, source, sink) {
         Ok(()) => 0,
-        Err(stop) => {
-            let _ = write_all(errs, stop.message().as_bytes());
-            stop.status()
-        }
+        Err(stop) => tell(errs, stop),
     }
+}
+
+/// Writes the message of a stop, and gives its status. A fault of `errs` changes nothing else.
+pub fn tell<E: Sink>(errs: &mut E, stop: Stop) -> u8
+    ensures status { result ≡ status_of (Err stop) }
+    ensures told { Tells
+        (record { bytes = E.written errs.old; faults = E.faults errs.old }) (record { bytes = E.written errs.new; faults = E.faults errs.new }) (message_of stop) }
+{
+    let _ = write_all(errs, stop.message().as_bytes());
+    stop.status()
 }
 
 // Reads, serves and writes, or says why not.
