@@ -1,12 +1,12 @@
 -- Lists that have just been opened.
-use Rattle.std.proofs.Common.{◌≡◌, ◌≢◌, ℕ, zero, suc, ◌+◌, ◌-◌, ◌*◌, ◌<◌, ◌≤◌, ◌^◌, List, [], ◌∷◌, ◌++◌, Option, Some, None, length, get_or, map, cond, ltb, eqb, replicate, sum_by, arith, refl, sym, ap, ◌∙◌, subst, inl, inr, ◌⊎◌}
-use Rattle.std.proofs.lemmas.Bool.{cases_eq, cases_lt, cond-true, cond-false, lt-ltb, le-ltb}
+use Rattle.std.proofs.Common.{◌≡◌, ℕ, zero, suc, ◌+◌, ◌<◌, ◌^◌, List, [], ◌∷◌, ◌++◌, Option, Some, None, length, get_or, cond, ltb, replicate, arith, refl, sym, ap, ◌∙◌, subst, inl, inr}
+use Rattle.std.proofs.lemmas.Bool.{cases_eq, cond-true, cond-false, lt-ltb, le-ltb}
 use Rattle.std.proofs.lemmas.List.{get_or-replicate, get_or_push, get_or_append_left, length_push, length-replicate}
 use Rattle.std.proofs.lemmas.List.Folds.{sum_by-replicate}
 use Rattle.waiting_lists.specs.declared.item.Item.{Item}
 use Rattle.waiting_lists.specs.declared.links.Slot.{Slot}
 use Rattle.waiting_lists.specs.declared.links.Ends.{Ends}
-use Rattle.waiting_lists.specs.Linked.{StandsIn, slot_at, first_of, items_from, lists_of, count_of, AreLinked, AreListOf, Keeps, KeepsCount}
+use Rattle.waiting_lists.specs.Linked.{StandsIn, slot_at, items_from, lists_of, count_of, AreLinked, AreListOf, KeepsCount}
 use Rattle.waiting_lists.specs.Waiting.{Waiting}
 use Rattle.waiting_lists.proofs.Owners.{updated, updated_same, updated_other}
 use Rattle.waiting_lists.proofs.Counts.{whole}

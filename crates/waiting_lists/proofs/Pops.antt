@@ -1,11 +1,11 @@
 -- The first item of a list.
-use Rattle.std.proofs.Common.{◌≡◌, ◌≢◌, ℕ, zero, suc, ◌+◌, ◌-◌, ◌<◌, ◌≤◌, List, [], ◌∷◌, ◌++◌, Option, Some, None, length, get_or, set, drop, is_some, IsSome, IfSome, MatchOption, sum_by, slice_get, arith, refl, sym, ap, ◌∙◌, subst, inl, inr, ◌⊎◌, length-append}
+use Rattle.std.proofs.Common.{◌≡◌, ◌≢◌, ℕ, ◌<◌, List, [], ◌∷◌, ◌++◌, Option, Some, None, length, get_or, set, drop, IsSome, IfSome, slice_get, arith, refl, sym, ap, ◌∙◌, subst, inl, inr}
 use Rattle.std.proofs.lemmas.List.{get_or-set_same, get_or-set_other, length-set, set-get_or}
 use Rattle.waiting_lists.specs.declared.item.Item.{Item}
 use Rattle.waiting_lists.specs.declared.links.Slot.{Slot}
 use Rattle.waiting_lists.specs.declared.links.Ends.{Ends}
-use Rattle.waiting_lists.specs.Linked.{StandsIn, slot_at, put_before, first_of, lists_of, count_of, AreLinked, AreListOf, Keeps}
-use Rattle.waiting_lists.proofs.Chains.{some_is, none_not_some, linked_bound, first_once, linked_stays, items_at, items_at_stay, some_item, slot_at_same, slot_at_other}
+use Rattle.waiting_lists.specs.Linked.{StandsIn, slot_at, put_before, first_of, lists_of, AreLinked, AreListOf, Keeps}
+use Rattle.waiting_lists.proofs.Chains.{some_is, none_not_some, first_once, linked_stays, items_at, items_at_stay, some_item, slot_at_same, slot_at_other}
 use Rattle.waiting_lists.proofs.Owners.{updated, updated_same, updated_other, list_is, IsMove, keeps_moved, lists_moved}
 use Rattle.waiting_lists.proofs.Pushes.{none_linked}
 

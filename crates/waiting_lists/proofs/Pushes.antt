@@ -1,12 +1,12 @@
 -- An item that joins the end of a list.
-use Rattle.std.proofs.Common.{◌≡◌, ◌≢◌, ℕ, zero, suc, ◌+◌, ◌-◌, ◌<◌, ◌≤◌, List, [], ◌∷◌, ◌++◌, Option, Some, None, length, get_or, set, is_some, IsSome, IfSome, MatchOption, sum_by, arith, refl, sym, ap, ◌∙◌, subst, inl, inr, ◌⊎◌, length-append}
+use Rattle.std.proofs.Common.{◌≡◌, ◌≢◌, ℕ, ◌<◌, List, [], ◌∷◌, ◌++◌, Option, Some, None, length, get_or, set, IsSome, IfSome, MatchOption, arith, refl, sym, ap, ◌∙◌, subst, inl, inr}
 use Rattle.std.proofs.lemmas.Bool.{cases_eq}
 use Rattle.std.proofs.lemmas.List.{get_or-set_same, get_or-set_other, length-set, length_push}
 use Rattle.waiting_lists.specs.declared.item.Item.{Item}
 use Rattle.waiting_lists.specs.declared.links.Slot.{Slot}
 use Rattle.waiting_lists.specs.declared.links.Ends.{Ends}
 use Rattle.waiting_lists.specs.Linked.{StandsIn, slot_at, first_of, lists_of, count_of, AreLinked, AreListOf, Keeps}
-use Rattle.waiting_lists.proofs.Chains.{some_is, none_not_some, stands_push, stands_left, stands_last, linked_bound, first_once, last_link, last_once, linked_stays, linked_push, items_at, items_at_stay, items_at_push, slot_at_same, slot_at_other}
+use Rattle.waiting_lists.proofs.Chains.{some_is, none_not_some, stands_push, stands_left, stands_last, first_once, last_link, last_once, linked_stays, linked_push, items_at_stay, items_at_push, slot_at_same, slot_at_other}
 use Rattle.waiting_lists.proofs.Owners.{updated, updated_same, updated_other, list_is, IsMove, keeps_moved, lists_moved}
 
 module _ {J : Type 0} where

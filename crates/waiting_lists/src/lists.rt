@@ -134,7 +134,7 @@ mod tests {
             request,
             kind: 1,
             declared: 10,
-            job: Label(request + 100),
+            job: Label(request),
         }
     }
 

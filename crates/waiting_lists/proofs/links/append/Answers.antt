@@ -1,7 +1,7 @@
-use Rattle.std.proofs.Common.{◌≡◌, ◌<◌, Some, None, length, get_or, set, refl, sym, ap, ◌∙◌, subst, rules, arith}
+use Rattle.std.proofs.Common.{◌<◌, Some, None, length, get_or, refl, subst, rules}
 use Rattle.std.proofs.lemmas.List.{get_or_default}
-use Rattle.waiting_lists.specs.Linked.{slot_at, Keeps}
-use Rattle.waiting_lists.proofs.Pushes.{full_lists, has_room, free_bound, HasPushed, has_pushed, last_bound_of, appended_keeps, appended_lists}
+use Rattle.waiting_lists.specs.Linked.{Keeps}
+use Rattle.waiting_lists.proofs.Pushes.{full_lists, free_bound, HasPushed, has_pushed, last_bound_of, appended_keeps, appended_lists}
 use Rattle.waiting_lists.proofs.links.append.Goals as goal
 
 pub returns-in_default-clause-full : goal.returns-in_default-clause-full

@@ -1,4 +1,4 @@
-use Rattle.std.proofs.Common.{◌≡◌, ◌<◌, ◌-◌, [], Some, None, length, get_or, set, drop, slice_get, sym, ap, ◌∙◌, rules, arith}
+use Rattle.std.proofs.Common.{◌≡◌, ◌<◌, ◌-◌, [], Some, None, length, get_or, set, drop, slice_get, sym, ◌∙◌, rules}
 use Rattle.waiting_lists.specs.Linked.{lists_of}
 use Rattle.waiting_lists.proofs.Counts.{known_tenant, kept_back, counted_none, counted_pop}
 use Rattle.waiting_lists.proofs.lists.Lists.pop.Goals as goal

@@ -1,6 +1,6 @@
-use Rattle.std.proofs.Common.{◌≡◌, ◌<◌, ◌+◌, ◌++◌, [], ◌∷◌, Some, None, length, get_or, set, sym, ap, ◌∙◌, rules, arith}
+use Rattle.std.proofs.Common.{◌≡◌, ◌<◌, ◌+◌, ◌++◌, [], ◌∷◌, length, get_or, set, ◌∙◌, rules}
 use Rattle.waiting_lists.specs.Linked.{lists_of}
-use Rattle.waiting_lists.proofs.Counts.{known_tenant, on_err, kept_back, whole, whole_back, whole_same, counted_push}
+use Rattle.waiting_lists.proofs.Counts.{known_tenant, on_err, kept_back, whole_back, whole_same, counted_push}
 use Rattle.waiting_lists.proofs.lists.Lists.push.Goals as goal
 
 pub returns-in_err-append-clause-unchanged : goal.returns-in_err-append-clause-unchanged
