@@ -65,7 +65,11 @@ fn is_ahead(keys: &[Option<Key>], leaf: u32, other: u32) -> bool
 {
     match (&keys[leaf as usize], &keys[other as usize]) {
         (Some(key), Some(second)) => {
-            key.is_before(second) || (leaf < other && !second.is_before(key))
+            if key == second {
+                leaf < other
+            } else {
+                key.is_before(second)
+            }
         }
         _ => unreachable!(),
     }

@@ -22,6 +22,7 @@ impl From<AllocError> for NoMemory {
 #[derive(Drop)]
 pub struct Tree {
     keys: Vec<Option<Key>>,
+    // Two items that meet are neighbours, and a match reads the keys of the two leaves that they name and no others.
     winners: Vec<Option<u32>>,
 }
 
