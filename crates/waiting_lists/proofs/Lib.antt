@@ -1,0 +1,6 @@
+pub mod Chains
+pub mod Owners
+pub mod Pushes
+pub mod Pops
+pub mod Counts
+pub mod Opens

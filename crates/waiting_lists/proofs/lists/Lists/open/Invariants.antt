@@ -1,0 +1,5 @@
+use Rattle.waiting_lists.proofs.Opens.{AreLinkedSoFar}
+use Rattle.waiting_lists.proofs.lists.Lists.open.Given as goal
+
+abbrev pub invariant-loop-slot : goal.invariant-loop-slot
+invariant-loop-slot g l = AreLinkedSoFar l.places.items l.slot l.slots

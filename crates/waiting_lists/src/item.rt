@@ -1,0 +1,12 @@
+//! What waits.
+
+/// A request that waits.
+#[derive(Debug, PartialEq, Eq, Drop)]
+pub struct Item<J> {
+    /// The number of the request.
+    pub request: u32,
+    pub kind: u32,
+    /// The cost that was declared for it, in microseconds.
+    pub declared: u64,
+    pub job: J,
+}

@@ -1,0 +1,160 @@
+//! The lists.
+ghost use Rattle.std.specs.Prelude.{◌≡◌, ◌<◌, ◌≤◌, ◌++◌, [], ◌∷◌, drop, IfOk, None, OnOk, OnErr, IfErr, length, replicate, slice_get, option_copied};
+ghost use Rattle.waiting_lists.specs.Waiting.{Waiting, list_of, waiting, with_list};
+
+use crate::item::Item;
+use crate::links::{Ends, Slot, append, link_to, take_first};
+use std::alloc::{AllocError, Global};
+use std::marker::Model;
+
+/// There is no memory for the lists.
+#[derive(Clone, Copy, Debug, PartialEq, Eq)]
+pub struct NoMemory;
+
+impl From<AllocError> for NoMemory {
+    fn from(_: AllocError) -> Self {
+        NoMemory
+    }
+}
+
+/// One list of waiting items a tenant, in the order in which they came. All share a fixed number of slots.
+#[derive(Drop)]
+pub struct Lists<J> {
+    slots: Vec<Slot<J>>,
+    // the ends of each tenant's list that has an item
+    ends: Vec<Option<Ends>>,
+    // the first of the slots that hold no item, linked among themselves
+    free: Option<u32>,
+    len: u32,
+}
+
+impl<J> Model for Lists<J> {
+    ghost use Rattle.std.specs.Prelude.{length};
+    ghost use Rattle.waiting_lists.specs.Waiting.{Waiting, waiting_code};
+
+    ghost Value = { Waiting J };
+
+    ghost coded = { waiting_code J.code };
+
+    ghost use Rattle.waiting_lists.specs.Linked.{lists_of, KeepsCount};
+
+    ghost view = { λ l. record { lists = lists_of l.slots.items l.ends.items; slots = length l.slots.items } };
+
+    ghost invariant = { λ l. KeepsCount l.slots.items l.ends.items l.free l.len };
+}
+
+impl<J: Drop> Lists<J> {
+    /// Empty lists for so many tenants, with room for so many items in all.
+    pub fn open(alloc: Global, tenants: u32, slots: u32) -> Result<Lists<J>, NoMemory>
+        ensures { IfOk result (λ l. l ≡ record { lists = replicate tenants []; slots = slots }) }
+    {
+        let ends = empty_ends(alloc, tenants)?;
+        let mut places = Vec::with_capacity(alloc, slots as usize)?;
+        for slot in 0..slots {
+            let next = link_to(slot + 1, slots);
+            places
+                .push(Slot { item: None, next })
+                .map_err(|_| NoMemory)?;
+        }
+        Ok(Lists {
+            slots: places,
+            ends,
+            free: link_to(0, slots),
+            len: 0,
+        })
+    }
+
+    /// Appends an item to a tenant's list. Where no slot is free the item comes back.
+    pub fn push(&mut self, tenant: u32, item: Item<J>) -> Result<(), Item<J>>
+        requires { tenant < length self.old.lists }
+        ensures room { OnOk result (waiting self.old < self.old.slots) }
+        ensures pushed { OnOk result (self.new ≡ with_list self.old tenant (list_of self.old tenant ++ item ∷ [])) }
+        ensures full { OnErr result (waiting self.old ≡ self.old.slots) }
+        ensures back { IfErr result (λ i. i ≡ item) }
+        ensures unchanged { OnErr result (self.new ≡ self.old) }
+    {
+        append(
+            &mut self.slots,
+            &mut self.ends,
+            &mut self.free,
+            tenant,
+            item,
+        )?;
+        self.len += 1;
+        Ok(())
+    }
+
+    /// The first item of a tenant's list.
+    pub fn head(&self, tenant: u32) -> Option<&Item<J>>
+        requires { tenant < length self.now.lists }
+        ensures { option_copied result ≡ slice_get (list_of self.now tenant) 0 }
+    {
+        let ends = self.ends[tenant as usize]?;
+        self.slots[ends.first as usize].item.as_ref()
+    }
+
+    /// Takes the first item of a tenant's list.
+    pub fn pop(&mut self, tenant: u32) -> Option<Item<J>>
+        requires { tenant < length self.old.lists }
+        ensures first { result ≡ slice_get (list_of self.old tenant) 0 }
+        ensures rest { self.new ≡ with_list self.old tenant (drop 1 (list_of self.old tenant)) }
+    {
+        let item = take_first(&mut self.slots, &mut self.ends, &mut self.free, tenant)?;
+        self.len -= 1;
+        Some(item)
+    }
+
+    /// How many items wait, over all tenants.
+    pub fn len(&self) -> u32
+        ensures all { result ≡ waiting self.now }
+        ensures within { result ≤ self.now.slots }
+    {
+        self.len
+    }
+}
+
+/// The ends of so many lists that have no item.
+fn empty_ends(alloc: Global, tenants: u32) -> Result<Vec<Option<Ends>>, AllocError>
+    ensures { IfOk result (λ v. v.items ≡ replicate tenants None) }
+{
+    vec![in alloc; None; tenants as usize]
+}
+
+#[cfg(test)]
+mod tests {
+    use super::*;
+    use std::test::Fail;
+
+    // A job that is not `Copy`.
+    #[derive(Debug, PartialEq, Eq, Drop)]
+    struct Label(u32);
+
+    fn item(request: u32) -> Item<Label> {
+        Item {
+            request,
+            kind: 1,
+            declared: 10,
+            job: Label(request),
+        }
+    }
+
+    #[test]
+    fn two_tenants_share_three_slots(rt: HostRuntime) -> Result<(), Fail> {
+        let mut lists = Lists::<Label>::open(rt.alloc(), 2, 3)?;
+        assert_eq!(rt; lists.push(1, item(0)), Ok(()));
+        assert_eq!(rt; lists.push(0, item(1)), Ok(()));
+        assert_eq!(rt; lists.push(1, item(2)), Ok(()));
+        assert_eq!(rt; lists.push(0, item(3)), Err(item(3)));
+        assert_eq!(rt; lists.len(), 3);
+        assert_eq!(rt; lists.head(1), Some(&item(0)));
+        assert_eq!(rt; lists.pop(1), Some(item(0)));
+        assert_eq!(rt; lists.push(0, item(4)), Ok(()));
+        assert_eq!(rt; lists.pop(1), Some(item(2)));
+        assert_eq!(rt; lists.pop(1), None);
+        assert_eq!(rt; lists.head(1), None);
+        assert_eq!(rt; lists.pop(0), Some(item(1)));
+        assert_eq!(rt; lists.pop(0), Some(item(4)));
+        assert_eq!(rt; lists.len(), 0);
+        Ok(())
+    }
+}

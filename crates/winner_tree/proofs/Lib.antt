@@ -1,0 +1,4 @@
+pub mod Orders
+pub mod Paths
+pub mod Least
+pub mod Steps

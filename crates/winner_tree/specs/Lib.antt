@@ -1,0 +1,3 @@
+pub mod Order
+pub mod Winners
+pub mod Laws

@@ -1,0 +1,109 @@
+//! The tree.
+ghost use Rattle.std.specs.Prelude.{◌≡◌, ◌<◌, ◌≤◌, None, IfOk, MatchOption, length, replicate, slice_set};
+ghost use Rattle.winner_tree.specs.Order.{IsFirst, HasNoKey};
+ghost use Rattle.winner_tree.specs.Winners.{AreWinners};
+
+use crate::key::Key;
+use crate::replay::set_leaf;
+use std::alloc::{AllocError, Global};
+use std::marker::Model;
+
+/// There is no memory for a tree.
+#[derive(Clone, Copy, Debug, PartialEq, Eq)]
+pub struct NoMemory;
+
+impl From<AllocError> for NoMemory {
+    fn from(_: AllocError) -> Self {
+        NoMemory
+    }
+}
+
+/// Leaves, numbered from 0, of which each has a key or none. Contracts see the keys as a list by leaf.
+#[derive(Drop)]
+pub struct Tree {
+    keys: Vec<Option<Key>>,
+    // Two items that meet are neighbours, and a match reads the keys of the two leaves that they name and no others.
+    winners: Vec<Option<u32>>,
+}
+
+impl Model for Tree {
+    ghost use Rattle.std.specs.Prelude.{List, Option};
+    ghost use Rattle.winner_tree.specs.declared.key.Key.{Key};
+    ghost use Rattle.winner_tree.specs.Winners.{Keeps};
+
+    ghost Value = { List (Option Key) };
+
+    ghost view = { λ t. t.keys.items };
+
+    ghost invariant = { λ t. Keeps t.keys.items t.winners.items };
+}
+
+impl Tree {
+    /// A tree of 1 to 4,096 leaves of which none has a key.
+    pub fn open(alloc: Global, leaves: u32) -> Result<Tree, NoMemory>
+        requires at_least_one { 1 ≤ leaves }
+        requires in_range { leaves ≤ 4096 }
+        ensures { IfOk result (λ t. t ≡ replicate leaves None) }
+    {
+        let width = (leaves as usize).next_power_of_two();
+        let keys = vec![in alloc; None; leaves as usize]?;
+        let winners = vec![in alloc; None; 2 * width]?;
+        Ok(Tree { keys, winners })
+    }
+
+    /// Gives a leaf a key or takes it away.
+    pub fn set(&mut self, leaf: u32, key: Option<Key>)
+        requires { leaf < length self.old }
+        ensures { self.new ≡ slice_set self.old leaf key }
+    {
+        set_leaf(&mut self.keys, &mut self.winners, leaf, key);
+    }
+
+    /// The leaf with the least key, of equal keys the least leaf, and its key.
+    pub fn first(&self) -> Option<(u32, Key)>
+        ensures { MatchOption result (HasNoKey self.now) (λ e. IsFirst self.now e.0 e.1) }
+    {
+        let leaf = self.winners[1]?;
+        let key = self.keys[leaf as usize]?;
+        Some((leaf, key))
+    }
+
+    /// The leaf that wins each subtree, by item: the root is item 1, and below item k stand items 2k and 2k + 1.
+    pub fn winners(&self) -> &[Option<u32>]
+        ensures { AreWinners self.now result.now }
+    {
+        &self.winners
+    }
+}
+
+#[cfg(test)]
+mod tests {
+    use super::*;
+    use std::test::Fail;
+
+    #[test]
+    fn three_leaves(rt: HostRuntime) -> Result<(), Fail> {
+        let mut tree = Tree::open(rt.alloc(), 3)?;
+        let key = Key { a: 5, b: 1, c: 0 };
+        let lesser = Key { a: 5, b: 0, c: 9 };
+        tree.set(0, Some(key));
+        tree.set(2, Some(lesser));
+        assert_eq!(rt; tree.first(), Some((2, lesser)));
+        let winners = [
+            None,
+            Some(2),
+            Some(0),
+            Some(2),
+            Some(0),
+            None,
+            Some(2),
+            None,
+        ];
+        assert_eq!(rt; tree.winners(), winners.as_slice());
+        tree.set(2, None);
+        assert_eq!(rt; tree.first(), Some((0, key)));
+        tree.set(0, None);
+        assert_eq!(rt; tree.first(), None);
+        Ok(())
+    }
+}
