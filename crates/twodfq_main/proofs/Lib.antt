@@ -1,2 +1,4 @@
 pub mod Lines
 pub mod ScriptLimits
+pub mod Singles
+pub mod Serving

@@ -1,8 +1,7 @@
 -- What the program does with its words, its input, its output and its messages.
-use Rattle.std.specs.Prelude.{ℕ, ◌+◌, ◌<◌, ◌≤◌, ◌≡◌, ◌==◌, Bool, true, false, not, ◌&&◌, if◌then◌else◌, List, [], ◌∷◌, ◌++◌, length, take, drop, map, Option, Some, None, Result, Ok, Err, codes}
+use Rattle.std.specs.Prelude.{ℕ, ◌+◌, ◌<◌, ◌≤◌, ◌≡◌, ◌==◌, Bool, true, false, not, ◌&&◌, if◌then◌else◌, List, [], ◌∷◌, ◌++◌, length, Option, Some, None, Result, Ok, Err, codes, ◌⊎◌}
 use Rattle.std.specs.List.{list_all}
 use Rattle.std.specs.Io.KnownBytes.{Appends}
-use Rattle.std.specs.String.{String, string_bytes}
 use Rattle.fq_io.specs.Faults.{Rose}
 use Rattle.fq_io.specs.Sources.{GaveAll, TookTooMany}
 use Rattle.fq_io.specs.Sinks.{AppendsPart}
@@ -26,8 +25,8 @@ abbrev pub greatest_input : ℕ
 greatest_input = 67108864
 
 -- the words, without the program's name, are the one word `script`
-abbrev pub IsCommandLine : List String → Type 0
-IsCommandLine words = map string_bytes words ≡ codes "script" ∷ []
+abbrev pub IsCommandLine : List (List ℕ) → Type 0
+IsCommandLine words = words ≡ codes "script" ∷ []
 
 abbrev pub is_report : Call → Bool
 is_report (call.Report who moment worker used) = true
@@ -80,14 +79,14 @@ pub record Device : Type 0 where
   pub faults : ℕ
 
 -- all of the output was written
-pub record Succeeds (words : List String) (source source2 sink sink2 : Device) : Type 0 where
+pub record Succeeds (words : List (List ℕ)) (source source2 sink sink2 : Device) : Type 0 where
   pub line : IsCommandLine words
   pub text : List ℕ
   pub served : IsServed source.bytes source2.bytes text
   pub wrote : Appends sink.bytes sink2.bytes text
 
 -- writing failed: the sink's faults rose, and a front part of the output was written
-pub record FailsWriting (words : List String) (source source2 sink sink2 : Device) : Type 0 where
+pub record FailsWriting (words : List (List ℕ)) (source source2 sink sink2 : Device) : Type 0 where
   pub line : IsCommandLine words
   pub rose : Rose sink.faults sink2.faults
   pub text : List ℕ
@@ -96,7 +95,7 @@ pub record FailsWriting (words : List String) (source source2 sink sink2 : Devic
 
 -- when each end comes, and what it leaves of the source and the sink. Want of memory may come at any step before
 -- writing.
-abbrev pub Ends : List String → Device → Device → Device → Device → Result (Unit {0}) Stop → Type 0
+abbrev pub Ends : List (List ℕ) → Device → Device → Device → Device → Result (Unit {0}) Stop → Type 0
 Ends words source source2 sink sink2 (Ok done) = Succeeds words source source2 sink sink2
 Ends words source source2 sink sink2 (Err Words) = ¬ IsCommandLine words × (source2 ≡ source) × (sink2 ≡ sink)
 Ends words source source2 sink sink2 (Err Reading) = IsCommandLine words × Rose source.faults source2.faults × (sink2 ≡ sink)
@@ -133,8 +132,20 @@ TellsEnd errs errs2 (Ok done) = errs2 ≡ errs
 TellsEnd errs errs2 (Err stop) = Tells errs errs2 (message_of stop)
 
 -- the whole of a call: it ends in some way, with that status and that message
-pub record IsRun (words : List String) (source source2 sink sink2 errs errs2 : Device) (status : ℕ) : Type 0 where
+pub record IsRun (words : List (List ℕ)) (source source2 sink sink2 errs errs2 : Device) (status : ℕ) : Type 0 where
   pub end : Result (Unit {0}) Stop
   pub ends : Ends words source source2 sink sink2 end
   pub status_is : status ≡ status_of end
   pub told : TellsEnd errs errs2 end
+
+-- the input is accepted, and this is its output
+pub record Outputs (bytes text : List ℕ) : Type 0 where
+  pub script : Script
+  pub accepted : accepted_script bytes ≡ Some script
+  pub output : IsOutput script text
+
+-- why an input has no output
+abbrev pub IsOutputStop : List ℕ → Stop → Type 0
+IsOutputStop bytes NotAccepted = accepted_script bytes ≡ None
+IsOutputStop bytes NoMemory = Unit {0}
+IsOutputStop bytes _ = ⊥

@@ -1,0 +1,142 @@
+//! A script's calls, made on a scheduler.
+ghost use Rattle.std.specs.Prelude.{◌≡◌, ◌↔◌, IsTrue, IfOk, true, false, not, length};
+ghost use Rattle.std.specs.List.{list_all};
+ghost use Rattle.fq_model.specs.declared.config.Policy.TheVariants.{TwoDfq};
+ghost use Rattle.fq_model.specs.declared.config.Estimator.TheVariants.{Declared};
+ghost use Rattle.fq_model.specs.History.{history_of};
+ghost use Rattle.fq_model.specs.Outcome.{Outcome};
+ghost use Rattle.fq_model.specs.Rules.{Answers};
+ghost use Rattle.twodfq_main.specs.Program.{is_report, is_served, is_two_dfq, is_declared};
+
+use crate::script::reading::Script;
+use fq_model::config::{Checked, Estimator, Policy};
+use fq_model::event::{Call, Cause, Reply};
+use sched_state::{AlreadyClosed, Scheduler, Taken};
+use std::alloc::Global;
+
+/// Memory ran out.
+#[derive(Clone, Copy, Debug, PartialEq, Eq)]
+pub struct NoMemory;
+
+/// The replies to the calls of a script, and the scheduler after them.
+#[derive(Drop)]
+pub struct Served {
+    pub replies: Vec<Reply>,
+    pub scheduler: Scheduler<u64>,
+}
+
+/// Whether the program serves the script: its policy is 2dfq, its estimator declared, and no line of it is a report.
+pub fn is_served(script: &Script) -> bool
+    ensures { result ≡ is_served script.now }
+{
+    let config = script.config();
+    is_two_dfq(config.policy()) && is_declared(config.estimate()) && has_no_report(script.calls())
+}
+
+/// Makes the calls in order on a scheduler that is opened for them.
+pub fn serve(alloc: Global, config: Checked, calls: &[Call]) -> Result<Served, NoMemory>
+    requires policy { config.policy ≡ TwoDfq }
+    requires estimator { config.estimate ≡ Declared }
+    requires no_reports { list_all (λ c. not (is_report c)) calls.now ≡ true }
+    ensures { IfOk result (λ s. Outcome config calls.now s.replies.items (history_of s.scheduler.past)) }
+{
+    let Ok(mut replies) = Vec::with_capacity(alloc, calls.len()) else {
+        return Err(NoMemory);
+    };
+    let Ok(mut scheduler) = Scheduler::open(alloc, config) else {
+        return Err(NoMemory);
+    };
+    for call in calls {
+        if replies.push(answer(&mut scheduler, *call)).is_err() {
+            return Err(NoMemory);
+        }
+    }
+    Ok(Served { replies, scheduler })
+}
+
+// What the scheduler answers to a call that is no report.
+fn answer(scheduler: &mut Scheduler<u64>, call: Call) -> Reply
+    requires { is_report call ≡ false }
+    ensures answers { Answers scheduler.old.config (history_of scheduler.old.past) call result (history_of scheduler.new.past) }
+    ensures config { scheduler.new.config ≡ scheduler.old.config }
+{
+    match call {
+        Call::Submit {
+            who,
+            moment,
+            tenant,
+            kind,
+            declared,
+            label,
+        } => match scheduler.submit(who, moment, tenant, kind, declared, label) {
+            Ok(request) => Reply::Request(request),
+            Err(refused) => Reply::Refused(refused.cause),
+        },
+        Call::Take {
+            who,
+            moment,
+            worker,
+        } => match scheduler.take(who, moment, worker) {
+            Taken::UnknownWorker(worker) => Reply::Refused(Cause::Worker(worker)),
+            Taken::Busy(request) => Reply::Refused(Cause::Busy(request)),
+            Taken::Run {
+                request,
+                estimate,
+                job,
+            } => Reply::Run {
+                request,
+                estimate,
+                label: job,
+            },
+            Taken::Drained => Reply::Drained,
+            Taken::Idle => Reply::Idle,
+        },
+        Call::Done {
+            who,
+            moment,
+            worker,
+            cost,
+        } => match scheduler.done(who, moment, worker, cost) {
+            Ok(()) => Reply::Accepted,
+            Err(cause) => Reply::Refused(cause),
+        },
+        Call::Close { who, moment } => match scheduler.close(who, moment) {
+            Ok(()) => Reply::Accepted,
+            Err(AlreadyClosed) => Reply::Refused(Cause::Closed),
+        },
+        Call::Report { .. } => unreachable!(),
+    }
+}
+
+fn is_two_dfq(policy: Policy) -> bool
+    ensures { result ≡ is_two_dfq policy }
+{
+    match policy {
+        Policy::TwoDfq => true,
+        _ => false,
+    }
+}
+
+fn is_declared(estimate: Estimator) -> bool
+    ensures { result ≡ is_declared estimate }
+{
+    match estimate {
+        Estimator::Declared => true,
+        _ => false,
+    }
+}
+
+fn has_no_report(calls: &[Call]) -> bool
+    ensures { result ≡ list_all (λ c. not (is_report c)) calls.now }
+{
+    calls.iter().all(|call| !is_report(call))
+}
+
+fn is_report(call: &Call) -> bool
+    ensures { result ≡ is_report call.now }
+{
+    match call {
+        Call::Report { .. } => true,
+        _ => false,
+    }
+}
