@@ -18,5 +18,7 @@ pub mod reply;
 pub mod requests;
 pub mod scan;
 pub mod take;
+#[cfg(test)]
+mod tests;
 pub mod turn;
 pub mod walk;
