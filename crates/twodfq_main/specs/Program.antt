@@ -3,7 +3,7 @@ use Rattle.std.specs.Prelude.{ℕ, ◌+◌, ◌<◌, ◌≤◌, ◌≡◌, ◌==
 use Rattle.std.specs.List.{list_all}
 use Rattle.std.specs.Io.KnownBytes.{Appends}
 use Rattle.fq_io.specs.Faults.{Rose}
-use Rattle.fq_io.specs.Sources.{GaveAll, TookTooMany}
+use Rattle.fq_io.specs.Sources.{GaveAll, TookAtMost, TookTooMany}
 use Rattle.fq_io.specs.Sinks.{AppendsPart}
 use Rattle.fq_model.specs.declared.config.Policy.{Policy}
 use Rattle.fq_model.specs.declared.config.Policy.TheVariants.{TwoDfq}
@@ -63,6 +63,7 @@ pub record IsOutput (s : Script) (text : List ℕ) : Type 0 where
 pub record IsServed (left_before left_after : Option (List ℕ)) (text : List ℕ) : Type 0 where
   pub bytes : List ℕ
   pub read : GaveAll left_before left_after bytes
+  pub within : length bytes ≤ greatest_input
   pub script : Script
   pub accepted : accepted_script bytes ≡ Some script
   pub output : IsOutput script text
@@ -71,6 +72,7 @@ pub record IsServed (left_before left_after : Option (List ℕ)) (text : List �
 pub record IsNotAccepted (left_before left_after : Option (List ℕ)) : Type 0 where
   pub bytes : List ℕ
   pub read : GaveAll left_before left_after bytes
+  pub within : length bytes ≤ greatest_input
   pub refused : accepted_script bytes ≡ None
 
 -- what a call left of a source or a sink: the bytes that it tells, and its count of faults
@@ -98,11 +100,11 @@ pub record FailsWriting (words : List (List ℕ)) (source source2 sink sink2 : D
 abbrev pub Ends : List (List ℕ) → Device → Device → Device → Device → Result (Unit {0}) Stop → Type 0
 Ends words source source2 sink sink2 (Ok done) = Succeeds words source source2 sink sink2
 Ends words source source2 sink sink2 (Err Words) = ¬ IsCommandLine words × (source2 ≡ source) × (sink2 ≡ sink)
-Ends words source source2 sink sink2 (Err Reading) = IsCommandLine words × Rose source.faults source2.faults × (sink2 ≡ sink)
+Ends words source source2 sink sink2 (Err Reading) = IsCommandLine words × Rose source.faults source2.faults × TookAtMost source.bytes source2.bytes (greatest_input + 1) × (sink2 ≡ sink)
 Ends words source source2 sink sink2 (Err TooLong) = IsCommandLine words × TookTooMany source.bytes source2.bytes greatest_input × (sink2 ≡ sink)
 Ends words source source2 sink sink2 (Err NotAccepted) = IsCommandLine words × IsNotAccepted source.bytes source2.bytes × (sink2 ≡ sink)
 Ends words source source2 sink sink2 (Err Writing) = FailsWriting words source source2 sink sink2
-Ends words source source2 sink sink2 (Err NoMemory) = IsCommandLine words × (sink2 ≡ sink)
+Ends words source source2 sink sink2 (Err NoMemory) = IsCommandLine words × TookAtMost source.bytes source2.bytes (greatest_input + 1) × (sink2 ≡ sink)
 
 -- the status of an end
 abbrev pub status_of : Result (Unit {0}) Stop → ℕ
@@ -131,12 +133,19 @@ abbrev pub TellsEnd : Device → Device → Result (Unit {0}) Stop → Type 0
 TellsEnd errs errs2 (Ok done) = errs2 ≡ errs
 TellsEnd errs errs2 (Err stop) = Tells errs errs2 (message_of stop)
 
+-- a count of faults never falls
+abbrev pub Later : Device → Device → Type 0
+Later before after = before.faults ≤ after.faults
+
 -- the whole of a call: it ends in some way, with that status and that message
 pub record IsRun (words : List (List ℕ)) (source source2 sink sink2 errs errs2 : Device) (status : ℕ) : Type 0 where
   pub end : Result (Unit {0}) Stop
   pub ends : Ends words source source2 sink sink2 end
   pub status_is : status ≡ status_of end
   pub told : TellsEnd errs errs2 end
+  pub source_later : Later source source2
+  pub sink_later : Later sink sink2
+  pub errs_later : Later errs errs2
 
 -- the input is accepted, and this is its output
 pub record Outputs (bytes text : List ℕ) : Type 0 where

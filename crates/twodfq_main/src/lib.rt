@@ -6,4 +6,6 @@ pub mod replies;
 pub mod script;
 pub mod serve;
 pub mod stop;
+#[cfg(test)]
+mod tests;
 pub mod words;

@@ -1,7 +1,9 @@
 //! The program, over any source, sinks and clock.
-ghost use Rattle.std.specs.Prelude.{◌≡◌, map, MatchResult, Err};
+ghost use Rattle.std.specs.Prelude.{◌≡◌, ◌≤◌, ◌↔◌, ◌⊎◌, map, MatchResult, Err};
 ghost use Rattle.std.specs.String.{string_bytes};
-ghost use Rattle.twodfq_main.specs.Program.{Ends, IsRun, Tells, Outputs, IsOutputStop, status_of, message_of};
+ghost use Rattle.twodfq_main.specs.Program.{Ends, IsRun, Tells, Outputs, IsCommandLine, IsOutputStop, status_of, message_of};
+ghost use Rattle.twodfq_main.specs.Causes.{MayRefuse, MustRefuse, MustServe};
+ghost use Rattle.fq_io.specs.Faults.{Rose};
 
 use crate::replies::replies_text;
 use crate::script::fault::ScriptFault;
@@ -32,6 +34,17 @@ pub fn twodfq<T: Wait + Threads + Sync, R: Source, W: Sink, E: Sink, K: Clock + 
         (record { bytes = R.left source.old; faults = R.faults source.old }) (record { bytes = R.left source.new; faults = R.faults source.new })
         (record { bytes = W.written sink.old; faults = W.faults sink.old }) (record { bytes = W.written sink.new; faults = W.faults sink.new })
         (record { bytes = E.written errs.old; faults = E.faults errs.old }) (record { bytes = E.written errs.new; faults = E.faults errs.new }) result }
+
+    // What a status says, and what it takes to be served.
+    ensures words { (result ≡ 2) ↔ ¬ IsCommandLine (map string_bytes words.now) }
+    ensures reading { result ≡ 4 → Rose (R.faults source.old) (R.faults source.new) }
+    ensures writing { result ≡ 5 → Rose (W.faults sink.old) (W.faults sink.new) }
+    ensures refused { result ≡ 3 → MayRefuse (R.left source.old) }
+    ensures refuses { IsCommandLine (map string_bytes words.now) → MustRefuse (R.left source.old)
+        → ¬ Rose (R.faults source.old) (R.faults source.new) → (result ≡ 3) ⊎ (result ≡ 6) }
+    ensures complete { IsCommandLine (map string_bytes words.now) → MustServe (R.left source.old)
+        → ¬ Rose (R.faults source.old) (R.faults source.new) → ¬ Rose (W.faults sink.old) (W.faults sink.new)
+        → (result ≡ 0) ⊎ (result ≡ 6) }
 {
     plain(alloc, words, source, sink, errs)
 }
@@ -48,6 +61,33 @@ pub fn plain<R: Source, W: Sink, E: Sink>(
         (record { bytes = R.left source.old; faults = R.faults source.old }) (record { bytes = R.left source.new; faults = R.faults source.new })
         (record { bytes = W.written sink.old; faults = W.faults sink.old }) (record { bytes = W.written sink.new; faults = W.faults sink.new })
         (record { bytes = E.written errs.old; faults = E.faults errs.old }) (record { bytes = E.written errs.new; faults = E.faults errs.new }) result }
+
+    // What a status says, and what it takes to be served.
+    ensures words { (result ≡ 2) ↔ ¬ IsCommandLine (map string_bytes words.now) }
+    ensures reading { result ≡ 4 → Rose (R.faults source.old) (R.faults source.new) }
+    ensures writing { result ≡ 5 → Rose (W.faults sink.old) (W.faults sink.new) }
+    ensures refused { result ≡ 3 → MayRefuse (R.left source.old) }
+    ensures refuses { IsCommandLine (map string_bytes words.now) → MustRefuse (R.left source.old)
+        → ¬ Rose (R.faults source.old) (R.faults source.new) → (result ≡ 3) ⊎ (result ≡ 6) }
+    ensures complete { IsCommandLine (map string_bytes words.now) → MustServe (R.left source.old)
+        → ¬ Rose (R.faults source.old) (R.faults source.new) → ¬ Rose (W.faults sink.old) (W.faults sink.new)
+        → (result ≡ 0) ⊎ (result ≡ 6) }
+{
+    told_run(alloc, words, source, sink, errs)
+}
+
+// Runs, and tells why it stopped.
+fn told_run<R: Source, W: Sink, E: Sink>(
+    alloc: Global,
+    words: &[String],
+    source: &mut R,
+    sink: &mut W,
+    errs: &mut E,
+) -> u8
+    ensures { IsRun (map string_bytes words.now)
+        (record { bytes = R.left source.old; faults = R.faults source.old }) (record { bytes = R.left source.new; faults = R.faults source.new })
+        (record { bytes = W.written sink.old; faults = W.faults sink.old }) (record { bytes = W.written sink.new; faults = W.faults sink.new })
+        (record { bytes = E.written errs.old; faults = E.faults errs.old }) (record { bytes = E.written errs.new; faults = E.faults errs.new }) result }
 {
     match run(alloc, words, source, sink) {
         Ok(()) => 0,
@@ -60,6 +100,7 @@ pub fn tell<E: Sink>(errs: &mut E, stop: Stop) -> u8
     ensures status { result ≡ status_of (Err stop) }
     ensures told { Tells
         (record { bytes = E.written errs.old; faults = E.faults errs.old }) (record { bytes = E.written errs.new; faults = E.faults errs.new }) (message_of stop) }
+    ensures later { E.faults errs.old ≤ E.faults errs.new }
 {
     let _ = write_all(errs, stop.message().as_bytes());
     stop.status()
@@ -72,9 +113,11 @@ fn run<R: Source, W: Sink>(
     source: &mut R,
     sink: &mut W,
 ) -> Result<(), Stop>
-    ensures { Ends (map string_bytes words.now)
+    ensures ends { Ends (map string_bytes words.now)
         (record { bytes = R.left source.old; faults = R.faults source.old }) (record { bytes = R.left source.new; faults = R.faults source.new })
         (record { bytes = W.written sink.old; faults = W.faults sink.old }) (record { bytes = W.written sink.new; faults = W.faults sink.new }) result }
+    ensures source_later { R.faults source.old ≤ R.faults source.new }
+    ensures sink_later { W.faults sink.old ≤ W.faults sink.new }
 {
     if !is_command_line(words) {
         return Err(Stop::Words);
