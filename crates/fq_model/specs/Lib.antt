@@ -1,4 +1,7 @@
 pub mod Limits
+pub mod Numbers
+pub mod Texts
+pub mod Script
 pub mod Sums
 pub mod History
 pub mod Time

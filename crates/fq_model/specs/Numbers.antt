@@ -1,0 +1,50 @@
+-- Numbers, names, and the words for policies and estimators, as bytes of a text.
+use Rattle.std.specs.Prelude.{ℕ, ◌+◌, ◌-◌, ◌*◌, ◌==◌, nat_le, Bool, ◌&&◌, ◌||◌, if◌then◌else◌, List, [], ◌∷◌, length, Option, Some, None, codes, bytes_eq}
+use Rattle.std.specs.List.{list_all}
+use Rattle.std.specs.Option.{option_and_then}
+use Rattle.fq_model.specs.declared.config.Policy.{Policy}
+use Rattle.fq_model.specs.declared.config.Policy.TheVariants.{Wfq, Wf2q, Msf2q, TwoDfq}
+use Rattle.fq_model.specs.declared.config.Estimator.{Estimator}
+use Rattle.fq_model.specs.declared.config.Estimator.TheVariants.{Declared, Recent, Pessimistic}
+
+-- the bytes of `0` to `9`
+abbrev pub is_digit : ℕ → Bool
+is_digit b = nat_le 48 b && nat_le b 57
+
+-- the number n with one digit more at its end, if it still has 64 bits
+abbrev pub with_digit : ℕ → ℕ → Option ℕ
+with_digit n b = if is_digit b && nat_le (10 * n + (b - 48)) 18446744073709551615 then Some (10 * n + (b - 48)) else None
+
+-- the number n with these digits more at its end
+abbrev pub with_digits : ℕ → List ℕ → Option ℕ
+with_digits n [] = Some n
+with_digits n (b ∷ bs) = option_and_then (λ m. with_digits m bs) (with_digit n b)
+
+-- the number that a text spells: `0`, or digits of which the first is not `0`, with 64 bits at most
+abbrev pub number_of : List ℕ → Option ℕ
+number_of [] = None
+number_of (b ∷ []) = with_digits 0 (b ∷ [])
+number_of (b ∷ c ∷ bs) = if b == 48 then None else with_digits 0 (b ∷ c ∷ bs)
+
+-- an ASCII letter, a digit, `_`, `-` or `.`
+abbrev pub is_name_byte : ℕ → Bool
+is_name_byte b = is_digit b || ((nat_le 65 b && nat_le b 90) || ((nat_le 97 b && nat_le b 122) || ((b == 95) || ((b == 45) || (b == 46)))))
+
+-- 1 to 64 such bytes
+abbrev pub is_name : List ℕ → Bool
+is_name bytes = nat_le 1 (length bytes) && (nat_le (length bytes) 64 && list_all is_name_byte bytes)
+
+abbrev pub policy_of : List ℕ → Option Policy
+policy_of word =
+    if bytes_eq word (codes "wfq") then Some Wfq
+    else if bytes_eq word (codes "wf2q") then Some Wf2q
+    else if bytes_eq word (codes "msf2q") then Some Msf2q
+    else if bytes_eq word (codes "2dfq") then Some TwoDfq
+    else None
+
+abbrev pub estimator_of : List ℕ → Option Estimator
+estimator_of word =
+    if bytes_eq word (codes "declared") then Some Declared
+    else if bytes_eq word (codes "recent") then Some Recent
+    else if bytes_eq word (codes "pessimistic") then Some Pessimistic
+    else None

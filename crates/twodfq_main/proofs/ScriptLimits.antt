@@ -1,0 +1,251 @@
+-- A script's configuration is within its limits.
+use Rattle.std.proofs.Common.{ℕ, zero, suc, ◌+◌, ◌*◌, ◌<◌, ◌≤◌, ◌≡◌, ◌==◌, Bool, true, false, not, ◌||◌, ◌&&◌, nat_lt, if◌then◌else◌, ◌⊎◌, inl, inr, List, [], ◌∷◌, ◌++◌, length, All, Result, Ok, Err, refl, subst, arith, length-append}
+use borrow.Author.Tests.{ltb-false}
+use Rattle.std.specs.Prelude.{codes}
+use Rattle.std.proofs.lemmas.Bool.{eqb-true, eqb-false}
+use Rattle.std.proofs.lemmas.List.Elements.{All-append}
+use Rattle.fq_model.specs.Limits.{IsWithin, IsWeight, InLimits}
+use Rattle.fq_model.specs.declared.fault.Kind.{Kind}
+use Rattle.fq_model.specs.declared.fault.Kind.TheVariants.{TooMany}
+use Rattle.fq_model.specs.Script.{Settings, Script, Words, config_of, ◌>>=◌, number_at, ranged_at, policy_at, estimator_at, with_count, settings_of, name_at, new_among, not_too_many, with_tenant, with_kind, with_call, call_of, begins_with, is_empty, with_line, with_lines, at_line, opened, config_line, below_header, is_header, script_of_lines, script_of, lines_of, words_of}
+
+-- what a first step gave, where both steps gave something
+pub bind_ok : {A B F : Type 0} (r : Result A F) (f : A → Result B F) (y : B) → (r >>= f) ≡ Ok y → (x : A) × (r ≡ Ok x) × (f x ≡ Ok y)
+bind_ok (Ok x) f y h = (x, refl, h)
+bind_ok (Err e) f y h = absurd (cc)
+
+Ok-injective : {A F : Type 0} {x y : A} → ◌≡◌ {A = Result A F} (Ok x) (Ok y) → x ≡ y
+Ok-injective h = cc
+
+or_else : (a b : Bool) (k : Kind) (n m : ℕ) → (if a || b then Err k else Ok n) ≡ Ok m → (a ≡ false) × (b ≡ false) × (n ≡ m)
+or_else true b k n m h = absurd (cc)
+or_else false true k n m h = absurd (cc)
+or_else false false k n m h = (refl, refl, Ok-injective h)
+
+pub ranged_at-within : (words : Words) (k low high n : ℕ) → ranged_at words k low high ≡ Ok n → IsWithin low high n
+unfolding ranged_at
+ranged_at-within words k low high n h =
+    let b = bind_ok (number_at words k) _ n h in
+    let t = or_else (nat_lt b.0 low) (nat_lt high b.0) _ b.0 n b.2 in
+    (omega (arith, ltb-false b.0 low t.0, t.2), omega (arith, ltb-false high b.0 t.1, t.2))
+
+pub record SettingsAreWithin (s : Settings) : Type 0 where
+  pub workers : IsWithin 1 64 s.workers
+  pub initial : IsWithin 1 1000000000 s.initial
+  pub entries : IsWithin 4 4194304 s.entries
+  pub requests : IsWithin 1 262144 s.requests
+
+pub settings_of-within : (line : Words) (s : Settings) → settings_of line ≡ Ok s → SettingsAreWithin s
+unfolding settings_of
+settings_of-within line s h =
+    let words = bind_ok (with_count 7 line) _ s h in
+    let workers = bind_ok (ranged_at words.0 1 1 64) _ s words.2 in
+    let policy = bind_ok (policy_at words.0 2) _ s workers.2 in
+    let estimate = bind_ok (estimator_at words.0 3) _ s policy.2 in
+    let initial = bind_ok (ranged_at words.0 4 1 1000000000) _ s estimate.2 in
+    let entries = bind_ok (ranged_at words.0 5 4 4194304) _ s initial.2 in
+    let requests = bind_ok (ranged_at words.0 6 1 262144) _ s entries.2 in
+    let same : Ok (record { workers = workers.0; policy = policy.0; estimate = estimate.0; initial = initial.0; entries = entries.0; requests = requests.0 }) ≡ Ok s = requests.2 in
+    subst SettingsAreWithin (Ok-injective same) (record {
+      workers = ranged_at-within words.0 1 1 64 workers.0 workers.1;
+      initial = ranged_at-within words.0 4 1 1000000000 initial.0 initial.1;
+      entries = ranged_at-within words.0 5 4 4194304 entries.0 entries.1;
+      requests = ranged_at-within words.0 6 1 262144 requests.0 requests.1;
+    })
+
+-- what holds of a script that is being read
+pub record IsKept (s : Script) : Type 0 where
+  pub settings : SettingsAreWithin s.settings
+  pub same : length s.weights ≡ length s.tenants
+  pub weights : All IsWeight s.weights
+  pub tenants : length s.tenants ≤ 4096
+  pub kinds : length s.kinds ≤ 64
+  pub pairs : length s.tenants * length s.kinds ≤ 65536
+  pub order : 0 < length s.kinds → 0 < length s.tenants
+
+few : (t k p : Bool) (s u : Script) → (if t || (k || p) then Err TooMany else Ok s) ≡ Ok u → (t ≡ false) × (k ≡ false) × (p ≡ false) × (s ≡ u)
+few true k p s u h = absurd (cc)
+few false true p s u h = absurd (cc)
+few false false true s u h = absurd (cc)
+few false false false s u h = (refl, refl, refl, Ok-injective h)
+
+pub record IsFew (s u : Script) : Type 0 where
+  pub tenants : length s.tenants ≤ 4096
+  pub kinds : length s.kinds ≤ 64
+  pub pairs : length s.tenants * length s.kinds ≤ 65536
+  pub same : s ≡ u
+
+pub not_too_many-few : (s u : Script) → not_too_many s ≡ Ok u → IsFew s u
+not_too_many-few s u h =
+    let t = few (nat_lt 4096 (length s.tenants)) (nat_lt 64 (length s.kinds)) (nat_lt 65536 (length s.tenants * length s.kinds)) s u h in
+    record {
+      tenants = ltb-false 4096 (length s.tenants) t.0;
+      kinds = ltb-false 64 (length s.kinds) t.1;
+      pairs = ltb-false 65536 (length s.tenants * length s.kinds) t.2;
+      same = t.3;
+    }
+
+all_one : (w : ℕ) → IsWeight w → All IsWeight (w ∷ [])
+all_one w h zero d lt = h
+all_one w h (suc k) d lt = absurd (omega arith)
+
+pub with_tenant-kept : (s u : Script) (line : Words) → length s.kinds ≡ 0 → IsKept s → with_tenant s line ≡ Ok u → IsKept u
+unfolding with_tenant
+with_tenant-kept s u line none kept h =
+    let words = bind_ok (with_count 3 line) _ u h in
+    let name = bind_ok (name_at words.0 1) _ u words.2 in
+    let weight = bind_ok (ranged_at words.0 2 1 1000) _ u name.2 in
+    let new = bind_ok (new_among s.tenants name.0) _ u weight.2 in
+    let more : Script = record s { tenants = s.tenants ++ new.0 ∷ []; weights = s.weights ++ weight.0 ∷ [] } in
+    let is_few = not_too_many-few more u new.2 in
+    subst IsKept is_few.same (record {
+      settings = kept.settings;
+      same = omega (arith, kept.same, length-append s.tenants (new.0 ∷ []), length-append s.weights (weight.0 ∷ []));
+      weights = All-append IsWeight s.weights (weight.0 ∷ []) kept.weights (all_one weight.0 (ranged_at-within words.0 2 1 1000 weight.0 weight.1));
+      tenants = is_few.tenants;
+      kinds = is_few.kinds;
+      pairs = is_few.pairs;
+      order = λ some. omega (arith, length-append s.tenants (new.0 ∷ []));
+    })
+
+pub with_kind-kept : (s u : Script) (line : Words) → 0 < length s.tenants → IsKept s → with_kind s line ≡ Ok u → IsKept u
+unfolding with_kind
+with_kind-kept s u line some kept h =
+    let words = bind_ok (with_count 2 line) _ u h in
+    let name = bind_ok (name_at words.0 1) _ u words.2 in
+    let new = bind_ok (new_among s.kinds name.0) _ u name.2 in
+    let more : Script = record s { kinds = s.kinds ++ new.0 ∷ [] } in
+    let is_few = not_too_many-few more u new.2 in
+    subst IsKept is_few.same (record {
+      settings = kept.settings;
+      same = kept.same;
+      weights = kept.weights;
+      tenants = is_few.tenants;
+      kinds = is_few.kinds;
+      pairs = is_few.pairs;
+      order = λ _. some;
+    })
+
+pub with_call-kept : (s u : Script) (line : Words) → IsKept s → with_call s line ≡ Ok u → IsKept u
+unfolding with_call
+with_call-kept s u line kept h =
+    let call = bind_ok (call_of line) _ u h in
+    let more : Script = record s { calls = s.calls ++ call.0 ∷ [] } in
+    let same : more ≡ u = Ok-injective call.2 in
+    subst IsKept same (record {
+      settings = kept.settings;
+      same = kept.same;
+      weights = kept.weights;
+      tenants = kept.tenants;
+      kinds = kept.kinds;
+      pairs = kept.pairs;
+      order = kept.order;
+    })
+
+which : {A : Type 0} (t : Bool) (x y r : A) → (if t then x else y) ≡ r → ((t ≡ true) × (x ≡ r)) ⊎ ((t ≡ false) × (y ≡ r))
+which true x y r h = inl (refl, h)
+which false x y r h = inr (refl, h)
+
+right_of : (a b : Bool) → (a && b) ≡ true → b ≡ true
+right_of true b h = h
+right_of false b h = absurd (cc)
+
+left_of : (a b : Bool) → (a && b) ≡ true → a ≡ true
+left_of true b h = refl
+left_of false b h = absurd (cc)
+
+not_true : (a : Bool) → not a ≡ true → a ≡ false
+not_true true h = absurd (cc)
+not_true false h = refl
+
+some_if : (n : ℕ) → (n == 0) ≡ false → 0 < n
+some_if n h = omega (arith, eqb-false n 0 h)
+
+none_if : (n : ℕ) → (n == 0) ≡ true → n ≡ 0
+none_if n h = eqb-true n 0 h
+
+pub with_line-kept : (s u : Script) (line : Words) → IsKept s → with_line s line ≡ Ok u → IsKept u
+unfolding with_line
+with_line-kept s u line kept h =
+    elim (which (begins_with line (codes "tenant") && is_empty s.kinds) _ _ (Ok u) h) [
+      | inl a ↦ with_tenant-kept s u line (none_if (length s.kinds) (right_of (begins_with line (codes "tenant")) _ a.0)) kept a.1
+      | inr a ↦ elim (which (begins_with line (codes "kind") && (not (is_empty s.tenants) && is_empty s.calls)) _ _ (Ok u) a.1) [
+        | inl b ↦ with_kind-kept s u line (some_if (length s.tenants) (not_true _ (left_of (not (is_empty s.tenants)) (is_empty s.calls) (right_of (begins_with line (codes "kind")) _ b.0)))) kept b.1
+        | inr b ↦ elim (which (is_empty s.kinds) _ _ (Ok u) b.1) [
+          | inl c ↦ absurd (cc)
+          | inr c ↦ with_call-kept s u line kept c.1
+        ]
+      ]
+    ]
+
+at_line-ok : {A : Type 0} (place : ℕ) (r : Result A Kind) (x : A) → at_line place r ≡ Ok x → r ≡ Ok x
+at_line-ok place (Ok y) x h = cc
+at_line-ok place (Err k) x h = absurd (cc)
+
+-- a script that was read has a kind, and so a tenant
+pub record IsWhole (s : Script) : Type 0 where
+  pub kept : IsKept s
+  pub some : 0 < length s.kinds
+
+pub with_lines-whole : (lines : List (List ℕ)) (place : ℕ) (s u : Script) → IsKept s → with_lines place s lines ≡ Ok u → IsWhole u
+with_lines-whole [] place s u kept h =
+    elim (which (is_empty s.kinds) _ _ (Ok u) h) [
+      | inl a ↦ absurd (cc)
+      | inr a ↦ subst IsWhole (Ok-injective a.1) (record { kept = kept; some = some_if (length s.kinds) a.0 })
+    ]
+with_lines-whole (line ∷ lines) place s u kept h =
+    let more = bind_ok (at_line place (with_line s (words_of line))) _ u h in
+    with_lines-whole lines (place + 1) more.0 u (with_line-kept s more.0 (words_of line) kept (at_line-ok place _ more.0 more.1)) more.2
+
+opened-kept : (settings : Settings) → SettingsAreWithin settings → IsKept (opened settings)
+opened-kept settings within = record {
+  settings = within;
+  same = refl;
+  weights = λ k d lt. absurd (omega arith);
+  tenants = omega arith;
+  kinds = omega arith;
+  pairs = omega arith;
+  order = λ some. absurd (omega arith);
+}
+
+config_line-kept : (line : Words) (s : Script) → config_line line ≡ Ok s → IsKept s
+unfolding config_line
+config_line-kept line s h =
+    elim (which (begins_with line (codes "config")) _ _ (Ok s) h) [
+      | inl a ↦
+          let settings = bind_ok (settings_of line) _ s a.1 in
+          let same : opened settings.0 ≡ s = Ok-injective settings.2 in
+          subst IsKept same (opened-kept settings.0 (settings_of-within line settings.0 settings.1))
+      | inr a ↦ absurd (cc)
+    ]
+
+below_header-whole : (lines : List (List ℕ)) (s : Script) → below_header lines ≡ Ok s → IsWhole s
+below_header-whole [] s h = absurd (cc)
+below_header-whole (line ∷ lines) s h =
+    let start = bind_ok (at_line 2 (config_line (words_of line))) _ s h in
+    with_lines-whole lines 3 start.0 s (config_line-kept (words_of line) start.0 (at_line-ok 2 _ start.0 start.1)) start.2
+
+script_of_lines-whole : (lines : List (List ℕ)) (s : Script) → script_of_lines lines ≡ Ok s → IsWhole s
+script_of_lines-whole [] s h = absurd (cc)
+script_of_lines-whole (line ∷ lines) s h =
+    elim (which (is_header line) _ _ (Ok s) h) [
+      | inl a ↦ below_header-whole lines s a.1
+      | inr a ↦ absurd (cc)
+    ]
+
+-- the configuration of every script is one that a scheduler can be opened with
+pub config_of-in_limits : (bytes : List ℕ) (s : Script) → script_of bytes ≡ Ok s → InLimits (config_of s)
+config_of-in_limits bytes s h =
+    let whole = script_of_lines-whole (lines_of bytes) s h in
+    let kept = whole.kept in
+    let some : 0 < length s.tenants = kept.order whole.some in
+    record {
+      workers = kept.settings.workers;
+      tenants = (omega (arith, some, kept.same), omega (arith, kept.tenants, kept.same));
+      weights = kept.weights;
+      kinds = (omega (arith, whole.some), kept.kinds);
+      pairs = rw kept.same kept.pairs;
+      entries = kept.settings.entries;
+      requests = kept.settings.requests;
+      initial = kept.settings.initial;
+    }

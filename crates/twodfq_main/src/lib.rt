@@ -1,0 +1,5 @@
+//! The program's parts: the reader of scripts and the printer of replies.
+#![tactic(auto)]
+
+pub mod replies;
+pub mod script;

@@ -1,0 +1,53 @@
+//! Why a script was not read.
+ghost use Rattle.std.specs.Prelude.{◌≡◌};
+ghost use Rattle.twodfq_main.specs.declared.script.fault.LineError.TheVariants.{Memory};
+ghost use Rattle.twodfq_main.specs.Reading.{fault_at};
+
+use fq_model::fault::Kind;
+use std::alloc::{AllocError, AllocFailed};
+
+/// Why a script was not read.
+#[derive(Clone, Copy, Debug, PartialEq, Eq)]
+pub enum ScriptFault {
+    /// The first fault: its line, counted from 1, and what is wrong there.
+    At { line: u64, kind: Kind },
+    /// Memory ran out.
+    NoMemory,
+}
+
+/// Why a line was not read.
+#[derive(Clone, Copy, Debug, PartialEq, Eq)]
+pub enum LineError {
+    /// The line's first fault.
+    Fault(Kind),
+    /// Memory ran out.
+    Memory,
+}
+
+impl LineError {
+    /// The same, with the line's number.
+    pub fn at(self, line: u64) -> ScriptFault
+        ensures { result ≡ fault_at line self }
+    {
+        match self {
+            LineError::Fault(kind) => ScriptFault::At { line, kind },
+            LineError::Memory => ScriptFault::NoMemory,
+        }
+    }
+}
+
+impl From<AllocError> for LineError {
+    ghost from_gives = { λ _ e. e ≡ Memory };
+
+    fn from(_e: AllocError) -> LineError {
+        LineError::Memory
+    }
+}
+
+impl<T: Drop> From<AllocFailed<T>> for LineError {
+    ghost from_gives = { λ _ e. e ≡ Memory };
+
+    fn from(_e: AllocFailed<T>) -> LineError {
+        LineError::Memory
+    }
+}

@@ -1,0 +1,54 @@
+//! The config line.
+ghost use Rattle.std.specs.Prelude.{◌≡◌, map};
+ghost use Rattle.fq_model.specs.Script.{settings_of};
+ghost use Rattle.twodfq_main.specs.Reading.{Gives};
+
+use crate::script::fault::LineError;
+use crate::script::words::{estimator_at, expect_count, policy_at, ranged_at, small_at};
+use fq_model::config::{Estimator, Policy};
+use std::marker::Model;
+
+/// What the config line says.
+#[derive(Drop)]
+pub struct Settings {
+    /// 1 to 64.
+    pub workers: u32,
+    pub policy: Policy,
+    pub estimate: Estimator,
+    /// 1 to 1,000,000,000 microseconds.
+    pub initial: u64,
+    /// 4 to 4,194,304.
+    pub entries: u32,
+    /// 1 to 262,144.
+    pub requests: u32,
+}
+
+impl Model for Settings {
+    ghost use Rattle.fq_model.specs.Script.{Settings};
+
+    ghost Value = { Settings };
+
+    ghost view = { λ s. record { workers = s.workers; policy = s.policy; estimate = s.estimate; initial = s.initial; entries = s.entries; requests = s.requests } };
+}
+
+/// Reads the words of a config line. Takes no memory.
+#[tactic(auto, unfolding(fq_model::specs::Script::settings_of))]
+pub fn read_settings(words: &[&[u8]]) -> Result<Settings, LineError>
+    ensures { Gives (λ s. s) result (settings_of (map (λ w. w.now) words.now)) }
+{
+    expect_count(words, 7)?;
+    let workers = small_at(words, 1, 1, 64)?;
+    let policy = policy_at(words, 2)?;
+    let estimate = estimator_at(words, 3)?;
+    let initial = ranged_at(words, 4, 1, 1000000000)?;
+    let entries = small_at(words, 5, 4, 4194304)?;
+    let requests = small_at(words, 6, 1, 262144)?;
+    Ok(Settings {
+        workers,
+        policy,
+        estimate,
+        initial,
+        entries,
+        requests,
+    })
+}

@@ -1,0 +1,114 @@
+//! What single words say. The first word is word 0; faults count from 1.
+ghost use Rattle.std.specs.Prelude.{◌≡◌, ◌<◌, ◌≤◌, map, length, IfOk};
+ghost use Rattle.fq_model.specs.Script.{begins_with, with_count, number_at, ranged_at, index_at, name_at, policy_at, estimator_at};
+ghost use Rattle.twodfq_main.specs.Reading.{Gives};
+
+use crate::script::fault::LineError;
+use crate::script::numbers::{estimator, is_name, number, policy};
+use fq_model::config::{Estimator, Policy};
+use fq_model::fault::Kind;
+
+/// Whether a line's first word is this.
+pub fn begins_with(words: &[&[u8]], first: &[u8]) -> bool
+    ensures { result ≡ begins_with (map (λ w. w.now) words.now) first.now }
+{
+    if words.is_empty() {
+        return first.is_empty();
+    }
+    words[0] == first
+}
+
+/// That there are this many words.
+pub fn expect_count(words: &[&[u8]], count: usize) -> Result<(), LineError>
+    ensures { Gives (λ _. map (λ w. w.now) words.now) result (with_count count (map (λ w. w.now) words.now)) }
+{
+    if words.len() != count {
+        return Err(LineError::Fault(Kind::Fields(words.len() as u64)));
+    }
+    Ok(())
+}
+
+/// A number.
+#[tactic(auto, unfolding(fq_model::specs::Script::number_at))]
+pub fn number_at(words: &[&[u8]], k: u32) -> Result<u64, LineError>
+    requires there { k < length words.now }
+    requires small { k < 7 }
+    ensures { Gives (λ n. n) result (number_at (map (λ w. w.now) words.now) k) }
+{
+    match number(words[k as usize]) {
+        Some(n) => Ok(n),
+        None => Err(LineError::Fault(Kind::Number(k + 1))),
+    }
+}
+
+/// A number from `low` to `high`.
+#[tactic(auto, unfolding(fq_model::specs::Script::ranged_at))]
+pub fn ranged_at(words: &[&[u8]], k: u32, low: u64, high: u64) -> Result<u64, LineError>
+    requires there { k < length words.now }
+    requires small { k < 7 }
+    ensures given { Gives (λ n. n) result (ranged_at (map (λ w. w.now) words.now) k low high) }
+    ensures upper { IfOk result (λ n. n ≤ high) }
+{
+    let n = number_at(words, k)?;
+    if n < low || n > high {
+        return Err(LineError::Fault(Kind::Range(k + 1)));
+    }
+    Ok(n)
+}
+
+/// A number of 32 bits: of a caller, a tenant, a kind or a worker.
+#[tactic(auto, unfolding(fq_model::specs::Script::index_at))]
+pub fn index_at(words: &[&[u8]], k: u32) -> Result<u32, LineError>
+    requires there { k < length words.now }
+    requires small { k < 7 }
+    ensures { Gives (λ n. n) result (index_at (map (λ w. w.now) words.now) k) }
+{
+    small_at(words, k, 0, 4294967295)
+}
+
+/// A number from `low` to `high`, which is of 32 bits.
+pub fn small_at(words: &[&[u8]], k: u32, low: u32, high: u32) -> Result<u32, LineError>
+    requires there { k < length words.now }
+    requires small { k < 7 }
+    ensures { Gives (λ n. n) result (ranged_at (map (λ w. w.now) words.now) k low high) }
+{
+    let n = ranged_at(words, k, low as u64, high as u64)?;
+    Ok(n as u32)
+}
+
+/// A name.
+#[tactic(auto, unfolding(fq_model::specs::Script::name_at))]
+pub fn name_at<'a>(words: &[&'a [u8]], k: u32) -> Result<&'a [u8], LineError>
+    requires { k < length words.now }
+    ensures { Gives (λ n. n.now) result (name_at (map (λ w. w.now) words.now) k) }
+{
+    let name = words[k as usize];
+    if !is_name(name) {
+        return Err(LineError::Fault(Kind::Word));
+    }
+    Ok(name)
+}
+
+/// A policy.
+#[tactic(auto, unfolding(fq_model::specs::Script::policy_at))]
+pub fn policy_at(words: &[&[u8]], k: u32) -> Result<Policy, LineError>
+    requires { k < length words.now }
+    ensures { Gives (λ p. p) result (policy_at (map (λ w. w.now) words.now) k) }
+{
+    match policy(words[k as usize]) {
+        Some(policy) => Ok(policy),
+        None => Err(LineError::Fault(Kind::Word)),
+    }
+}
+
+/// An estimator.
+#[tactic(auto, unfolding(fq_model::specs::Script::estimator_at))]
+pub fn estimator_at(words: &[&[u8]], k: u32) -> Result<Estimator, LineError>
+    requires { k < length words.now }
+    ensures { Gives (λ e. e) result (estimator_at (map (λ w. w.now) words.now) k) }
+{
+    match estimator(words[k as usize]) {
+        Some(estimator) => Ok(estimator),
+        None => Err(LineError::Fault(Kind::Word)),
+    }
+}
