@@ -1,4 +1,7 @@
 pub mod Limits
+pub mod Numbers
+pub mod Texts
+pub mod Script
 pub mod Sums
 pub mod History
 pub mod Time
@@ -6,6 +9,3 @@ pub mod Charge
 pub mod Keys
 pub mod Rules
 pub mod Outcome
-pub mod Numbers
-pub mod Texts
-pub mod Script

@@ -1,0 +1,4 @@
+pub mod Rows
+pub mod Ledger
+pub mod Histories
+pub mod Laws

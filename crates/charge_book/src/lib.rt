@@ -1,0 +1,9 @@
+//! What runs on each worker, and what its tenants are charged for it.
+#![tactic(auto)]
+
+pub mod book;
+pub mod laws;
+pub mod refusal;
+pub mod row;
+#[cfg(test)]
+mod tests;

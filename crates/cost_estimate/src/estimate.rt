@@ -1,0 +1,67 @@
+//! What every estimator does.
+ghost use Rattle.std.specs.Prelude.{◌≡◌, ◌<◌, ◌≤◌, ℕ, List, [], ◌∷◌, length, IfOk};
+ghost use Rattle.fq_model.specs.Charge.{Completed, completed_costs, estimate_from};
+ghost use Rattle.fq_model.specs.declared.config.Estimator.{Estimator};
+
+use fq_model::config::Checked;
+use std::alloc::{AllocError, Global};
+
+/// There was no memory for what is kept.
+#[derive(Clone, Copy, Debug, PartialEq, Eq)]
+pub struct NoMemory;
+
+impl From<AllocError> for NoMemory {
+    fn from(_fault: AllocError) -> NoMemory {
+        NoMemory
+    }
+}
+
+/// Estimates what a request costs, in microseconds, from the costs of the completed requests of its tenant
+/// and kind. Not every cost is kept, so an estimator has no list of them: its meaning is which lists it
+/// stands for, the newest cost first.
+pub trait Estimate: Sized {
+    /// By which rule it estimates.
+    ghost rule: { Self → Estimator };
+
+    /// By which it estimates after it was opened with a configuration that names this one.
+    ghost opened_rule: { Estimator → Estimator };
+
+    /// Its estimate where there is no completed request yet.
+    ghost initial: { Self → ℕ };
+
+    /// How many tenants there are.
+    ghost tenants: { Self → ℕ };
+
+    /// How many kinds there are.
+    ghost kinds: { Self → ℕ };
+
+    /// It stands for these completed requests, the newest first.
+    ghost stands_for: { Self → List Completed → Type 0 };
+
+    /// An estimator that has seen no completed request. All its memory is taken here.
+    fn open(alloc: Global, config: &Checked) -> Result<Self, NoMemory>
+        ensures rule { IfOk result (λ e. rule e ≡ opened_rule config.now.estimate) }
+        ensures initial { IfOk result (λ e. initial e ≡ config.now.initial) }
+        ensures tenants { IfOk result (λ e. tenants e ≡ length config.now.weights) }
+        ensures kinds { IfOk result (λ e. kinds e ≡ config.now.kinds) }
+        ensures empty { IfOk result (λ e. stands_for e []) };
+
+    /// What a request of this tenant and kind is thought to cost now, of which its submitter declared this
+    /// number, in microseconds.
+    fn now(&self, tenant: u32, kind: u32, declared: u64) -> u64
+        requires tenant { tenant < tenants self.now }
+        requires kind { kind < kinds self.now }
+        ensures { (cs : List Completed) → stands_for self.now cs → result ≡ estimate_from (rule self.now) (initial self.now) (completed_costs cs tenant kind) declared };
+
+    /// A request of this tenant and kind was completed, and cost so many microseconds: at most
+    /// 1,000,000,000.
+    fn learn(&mut self, tenant: u32, kind: u32, cost: u64)
+        requires tenant { tenant < tenants self.old }
+        requires kind { kind < kinds self.old }
+        requires cost { cost ≤ 1000000000 }
+        ensures rule { rule self.new ≡ rule self.old }
+        ensures initial { initial self.new ≡ initial self.old }
+        ensures tenants { tenants self.new ≡ tenants self.old }
+        ensures kinds { kinds self.new ≡ kinds self.old }
+        ensures learned { (cs : List Completed) → stands_for self.old cs → stands_for self.new (record { tenant = tenant; kind = kind; cost = cost } ∷ cs) };
+}

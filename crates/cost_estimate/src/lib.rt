@@ -1,0 +1,11 @@
+//! What a request is thought to cost before it is done, by the costs of the requests completed so far.
+#![tactic(auto)]
+
+pub mod any;
+pub mod declared;
+pub mod estimate;
+pub mod pairs;
+pub mod pessimistic;
+pub mod recent;
+#[cfg(test)]
+mod tests;

@@ -1,0 +1,16 @@
+use Rattle.std.proofs.Common.{sym, ◌∙◌}
+use Rattle.tenant_table.specs.Rows.{kinds_of}
+use Rattle.tenant_table.proofs.Tables.{number_kinds, found, absent}
+use Rattle.tenant_table.proofs.kinds.Kinds.find.Goals as goal
+
+pub returns-in_default-clause-number : goal.returns-in_default-clause-number
+returns-in_default-clause-number c = rw (← c.self.view_is) (c.in_default.ensures.index ∙ sym (number_kinds c.args.name.now c.self.inside.names.keys))
+
+pub returns-in_default-clause-absent : goal.returns-in_default-clause-absent
+returns-in_default-clause-absent c = rw (← c.self.view_is) (absent (kinds_of c.self.inside.names.keys) c.args.name.now (number_kinds c.args.name.now c.self.inside.names.keys ∙ sym c.in_default.ensures.index))
+
+pub returns-clause-number : goal.returns-clause-number
+returns-clause-number c = rw (← c.self.view_is) (c.in-Some.ensures.index ∙ sym (number_kinds c.args.name.now c.self.inside.names.keys))
+
+pub returns-clause-found : goal.returns-clause-found
+returns-clause-found c = rw (← c.self.view_is) (found (kinds_of c.self.inside.names.keys) c.args.name.now c.in-Some.found (number_kinds c.args.name.now c.self.inside.names.keys ∙ sym c.in-Some.ensures.index))

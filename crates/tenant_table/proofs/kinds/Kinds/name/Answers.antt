@@ -1,0 +1,6 @@
+use Rattle.std.proofs.Common.{sym, ap, ◌∙◌, Some}
+use Rattle.tenant_table.proofs.Tables.{key_at}
+use Rattle.tenant_table.proofs.kinds.Kinds.name.Goals as goal
+
+pub returns-clause-value : goal.returns-clause-value
+returns-clause-value c = rw (← c.self.view_is) (key_at c.self.inside.names.keys c.args.k c.in-Some.name.now (sym c.in-Some.ensures.key) ∙ ap Some (sym c.as_str.ensures.value))

@@ -1,0 +1,124 @@
+//! The kinds' names.
+ghost use Rattle.std.specs.Prelude.{◌≡◌, ◌<◌, ◌==◌, ◌++◌, [], ◌∷◌, length, Some, None, IfOk, IfErr, OnOk, OnErr, IfSome, IfNone, Contains, slice_get};
+ghost use Rattle.tenant_table.specs.Names.{number_among, AreNames, kind_refusal, IsReason};
+ghost use Rattle.tenant_table.specs.Rows.{kinds_of};
+
+use crate::fault::NameFault;
+use crate::name::is_name;
+use indexmap::IndexSet;
+use std::alloc::Global;
+use std::marker::Model;
+
+/// How many kinds there may be.
+pub const MOST_KINDS: u32 = 64;
+
+/// Kinds, numbered in the order in which they were added. Contracts see the list of their names, as
+/// bytes.
+#[derive(Drop)]
+pub struct Kinds {
+    alloc: Global,
+    names: IndexSet<String>,
+}
+
+impl Model for Kinds {
+    ghost use Rattle.std.specs.Prelude.{List, ℕ};
+    ghost use Rattle.tenant_table.specs.Names.{AreNames};
+    ghost use Rattle.tenant_table.specs.Rows.{kinds_of};
+
+    ghost Value = { List (List ℕ) };
+
+    ghost view = { λ k. kinds_of k.names.keys };
+
+    ghost invariant = { λ k. AreNames 64 (kinds_of k.names.keys) };
+}
+
+impl Kinds {
+    /// No kinds yet. Takes no memory: `add` takes it from `alloc`.
+    pub fn new(alloc: Global) -> Kinds
+        ensures { result ≡ [] }
+    {
+        Kinds {
+            alloc,
+            names: IndexSet::new(alloc),
+        }
+    }
+
+    /// Adds a kind and gives its number, which is how many there were. A refusal is the first reason,
+    /// and leaves the kinds as they were. It is never `Weight`.
+    pub fn add(&mut self, name: &str) -> Result<u32, NameFault>
+        ensures number { IfOk result (λ k. k ≡ length self.old) }
+        ensures added { IfOk result (λ k. self.new ≡ self.old ++ name.now ∷ []) }
+        ensures accepted { IfOk result (λ k. kind_refusal self.old name.now ≡ None) }
+        ensures refused { IfErr result (λ fault. IsReason fault (kind_refusal self.old name.now)) }
+        ensures unchanged { OnErr result (self.new ≡ self.old) }
+    {
+        if !is_name(name.as_bytes()) {
+            return Err(NameFault::Word);
+        }
+        if let Some(k) = self.find(name) {
+            return Err(NameFault::Twice(k));
+        }
+        let number = self.len();
+        if number >= MOST_KINDS {
+            return Err(NameFault::TooMany(MOST_KINDS));
+        }
+        put(self.alloc, &mut self.names, name)?;
+        Ok(number)
+    }
+
+    /// The number of the kind of this name.
+    pub fn find(&self, name: &str) -> Option<u32>
+        ensures number { result ≡ number_among self.now name.now }
+        ensures found { IfSome result (λ k. slice_get self.now k ≡ Some name.now) }
+        ensures absent { IfNone result (¬ Contains self.now name.now) }
+        ensures limits { AreNames 64 self.now }
+    {
+        let Some(found) = self.names.get_index_of(name) else {
+            return None;
+        };
+        Some(found as u32)
+    }
+
+    /// How many kinds there are: at most 64.
+    pub fn len(&self) -> u32
+        ensures value { result ≡ length self.now }
+        ensures limits { AreNames 64 self.now }
+    {
+        self.names.len() as u32
+    }
+
+    /// Whether there are none.
+    pub fn is_empty(&self) -> bool
+        ensures { result ≡ (length self.now == 0) }
+    {
+        self.names.is_empty()
+    }
+
+    /// The name of kind `k`.
+    pub fn name(&self, k: u32) -> &str
+        requires { k < length self.now }
+        ensures value { slice_get self.now k ≡ Some result.now }
+        ensures limits { AreNames 64 self.now }
+    {
+        match self.names.get_index(k as usize) {
+            Some(name) => name.as_str(),
+            None => unreachable!(),
+        }
+    }
+}
+
+// Adds a name that is new.
+fn put(alloc: Global, names: &mut IndexSet<String>, name: &str) -> Result<(), NameFault>
+    requires { number_among (kinds_of names.old.keys) name.now ≡ None }
+    ensures ok { OnOk result (kinds_of names.new.keys ≡ kinds_of names.old.keys ++ name.now ∷ []) }
+    ensures err { IfErr result (λ fault. fault ≡ NameFault.NoMemory) }
+    ensures unchanged { OnErr result (kinds_of names.new.keys ≡ kinds_of names.old.keys) }
+{
+    let Ok(owned) = name.to_string(alloc) else {
+        return Err(NameFault::NoMemory);
+    };
+    match names.insert(owned) {
+        Ok(_) => Ok(()),
+        Err(_) => Err(NameFault::NoMemory),
+    }
+}

@@ -1,0 +1,10 @@
+//! The names of tenants and kinds, numbered in the order in which they were added.
+#![tactic(auto)]
+
+pub mod fault;
+pub mod kinds;
+pub mod laws;
+pub mod name;
+pub mod tenants;
+#[cfg(test)]
+mod tests;

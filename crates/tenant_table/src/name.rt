@@ -1,0 +1,29 @@
+//! What is a name.
+ghost use Rattle.std.specs.Prelude.{◌≡◌};
+ghost use Rattle.std.specs.List.{list_all};
+ghost use Rattle.fq_model.specs.Numbers.{is_name_byte, is_name};
+
+/// Whether a text is a name of a tenant or a kind: 1 to 64 bytes, each an ASCII letter, a digit, `_`,
+/// `-` or `.`.
+pub fn is_name(text: &[u8]) -> bool
+    ensures { result ≡ is_name text.now }
+{
+    text.len() >= 1 && text.len() <= 64 && all_name_bytes(text)
+}
+
+fn all_name_bytes(text: &[u8]) -> bool
+    ensures { result ≡ list_all is_name_byte text.now }
+{
+    text.iter().all(|b| is_name_byte(*b))
+}
+
+fn is_name_byte(b: u8) -> bool
+    ensures { result ≡ is_name_byte b }
+{
+    b >= b'0' && b <= b'9'
+        || b >= b'A' && b <= b'Z'
+        || b >= b'a' && b <= b'z'
+        || b == b'_'
+        || b == b'-'
+        || b == b'.'
+}

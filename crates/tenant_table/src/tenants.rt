@@ -1,0 +1,144 @@
+//! The tenants' names and weights.
+ghost use Rattle.std.specs.Prelude.{◌≡◌, ◌<◌, ◌==◌, ◌++◌, [], ◌∷◌, length, Some, None, IfOk, IfErr, OnOk, OnErr, IfSome, IfNone, Contains, slice_get, slice_index};
+ghost use Rattle.tenant_table.specs.Names.{names_of, weights_of, number_among, AreTenants, tenant_refusal, IsReason};
+ghost use Rattle.tenant_table.specs.Rows.{tenants_of};
+
+use crate::fault::NameFault;
+use crate::name::is_name;
+use indexmap::IndexMap;
+use std::alloc::Global;
+use std::marker::Model;
+
+/// How many tenants there may be.
+pub const MOST_TENANTS: u32 = 4096;
+
+/// Tenants, numbered in the order in which they were added. Contracts see the list of their names, as
+/// bytes, with their weights.
+#[derive(Drop)]
+pub struct Tenants {
+    alloc: Global,
+    rows: IndexMap<String, u32>,
+}
+
+impl Model for Tenants {
+    ghost use Rattle.std.specs.Prelude.{List, ℕ};
+    ghost use Rattle.tenant_table.specs.Names.{AreTenants};
+    ghost use Rattle.tenant_table.specs.Rows.{tenants_of};
+
+    ghost Value = { List (List ℕ × ℕ) };
+
+    ghost view = { λ t. tenants_of t.rows.entries };
+
+    ghost invariant = { λ t. AreTenants (tenants_of t.rows.entries) };
+}
+
+impl Tenants {
+    /// No tenants yet. Takes no memory: `add` takes it from `alloc`.
+    pub fn new(alloc: Global) -> Tenants
+        ensures { result ≡ [] }
+    {
+        Tenants {
+            alloc,
+            rows: IndexMap::new(alloc),
+        }
+    }
+
+    /// Adds a tenant and gives its number, which is how many there were. A refusal is the first reason,
+    /// and leaves the tenants as they were.
+    pub fn add(&mut self, name: &str, weight: u32) -> Result<u32, NameFault>
+        ensures number { IfOk result (λ t. t ≡ length self.old) }
+        ensures added { IfOk result (λ t. self.new ≡ self.old ++ (name.now, weight) ∷ []) }
+        ensures accepted { IfOk result (λ t. tenant_refusal self.old name.now weight ≡ None) }
+        ensures refused { IfErr result (λ fault. IsReason fault (tenant_refusal self.old name.now weight)) }
+        ensures unchanged { OnErr result (self.new ≡ self.old) }
+    {
+        if !is_name(name.as_bytes()) {
+            return Err(NameFault::Word);
+        }
+        if weight < 1 || weight > 1000 {
+            return Err(NameFault::Weight(weight));
+        }
+        if let Some(t) = self.find(name) {
+            return Err(NameFault::Twice(t));
+        }
+        let number = self.len();
+        if number >= MOST_TENANTS {
+            return Err(NameFault::TooMany(MOST_TENANTS));
+        }
+        put(self.alloc, &mut self.rows, name, weight)?;
+        Ok(number)
+    }
+
+    /// The number of the tenant of this name.
+    pub fn find(&self, name: &str) -> Option<u32>
+        ensures number { result ≡ number_among (names_of self.now) name.now }
+        ensures found { IfSome result (λ t. slice_get (names_of self.now) t ≡ Some name.now) }
+        ensures absent { IfNone result (¬ Contains (names_of self.now) name.now) }
+        ensures limits { AreTenants self.now }
+    {
+        let Some(found) = self.rows.get_index_of(name) else {
+            return None;
+        };
+        Some(found as u32)
+    }
+
+    /// How many tenants there are: at most 4,096.
+    pub fn len(&self) -> u32
+        ensures value { result ≡ length self.now }
+        ensures limits { AreTenants self.now }
+    {
+        self.rows.len() as u32
+    }
+
+    /// Whether there are none.
+    pub fn is_empty(&self) -> bool
+        ensures { result ≡ (length self.now == 0) }
+    {
+        self.rows.is_empty()
+    }
+
+    /// The name of tenant `t`.
+    pub fn name(&self, t: u32) -> &str
+        requires { t < length self.now }
+        ensures value { slice_get (names_of self.now) t ≡ Some result.now }
+        ensures limits { AreTenants self.now }
+    {
+        match self.rows.get_index(t as usize) {
+            Some((name, _)) => name.as_str(),
+            None => unreachable!(),
+        }
+    }
+
+    /// The weight of tenant `t`: 1 to 1,000.
+    pub fn weight(&self, t: u32) -> u32
+        requires { t < length self.now }
+        ensures value { result ≡ slice_index (weights_of self.now) t }
+        ensures limits { AreTenants self.now }
+    {
+        match self.rows.get_index(t as usize) {
+            Some((_, weight)) => *weight,
+            None => unreachable!(),
+        }
+    }
+}
+
+// Adds a row whose name is new.
+fn put(
+    alloc: Global,
+    rows: &mut IndexMap<String, u32>,
+    name: &str,
+    weight: u32,
+) -> Result<(), NameFault>
+    requires { number_among (names_of (tenants_of rows.old.entries)) name.now ≡ None }
+    ensures ok { OnOk result (tenants_of rows.new.entries ≡ tenants_of rows.old.entries ++ (name.now, weight) ∷ []) }
+    ensures err { IfErr result (λ fault. fault ≡ NameFault.NoMemory) }
+    ensures unchanged { OnErr result (tenants_of rows.new.entries ≡ tenants_of rows.old.entries) }
+{
+    let Ok(owned) = name.to_string(alloc) else {
+        return Err(NameFault::NoMemory);
+    };
+    match rows.insert(owned, weight) {
+        Ok(_) => Ok(()),
+        Err(_) => Err(NameFault::NoMemory),
+    }
+}
