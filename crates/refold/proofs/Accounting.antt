@@ -1,22 +1,21 @@
 -- The account of a tenant, at one entry more.
-use Rattle.std.proofs.Common.{ℕ, zero, suc, ◌+◌, ◌-◌, ◌*◌, ◌==◌, ◌<◌, ◌≤◌, ◌≡◌, max, Bool, true, false, cond, ◌&&◌, arith, refl, ap, sym, ◌∙◌, subst, inl, inr, List, [], ◌∷◌, length, Option, Some, None, ℤ, pos, ◌+ℤ◌, ◌-ℤ◌}
+use Rattle.std.proofs.Common.{ℕ, ◌+◌, ◌-◌, ◌==◌, ◌≤◌, ◌≡◌, max, Bool, true, false, cond, ◌&&◌, arith, refl, ap, sym, ◌∙◌, subst, [], ◌∷◌, ℤ, pos, ◌+ℤ◌, ◌-ℤ◌}
 use Rattle.std.specs.Prelude.{is_none}
 use Rattle.std.specs.Int.{w128, int_max}
 use mir.Val.{to_z, of_z}
 use Rattle.std.proofs.lemmas.Int.{ints, clamps}
-use Rattle.std.proofs.lemmas.Bool.{cases_Bool, cases_lt}
 use Rattle.vt_fixed.specs.Rounding.{length_of}
 use Rattle.fq_model.specs.declared.config.Config.{Config}
 use Rattle.fq_model.specs.declared.event.Act.{Act}
 use Rattle.fq_model.specs.declared.event.Act.TheVariants.{Submit, Take, Report, Done, Close}
 use Rattle.fq_model.specs.declared.event.Entry.{Entry}
-use Rattle.fq_model.specs.History.{History, history_of, head, weight_at, submits}
+use Rattle.fq_model.specs.History.{History, head, weight_at}
 use Rattle.fq_model.specs.Limits.{InLimits}
 use Rattle.fq_model.specs.Rules.{IsLegal, Fits}
 use Rattle.fq_model.specs.Time.{virtual_time, virtual_advance, virtual_idle_time, last_moment, is_active}
 use Rattle.fq_model.specs.Charge.{virtual_charge, charge}
 use Rattle.fq_model.specs.Keys.{tag_base, is_submit_for}
-use Rattle.fq_laws.proofs.Legality.{after, has_room, submits_le_length}
+use Rattle.fq_laws.proofs.Legality.{has_room, submits_le_length}
 use Rattle.fq_laws.proofs.Bases.{base_nil, base_step}
 use Rattle.fq_laws.proofs.Bounds.{virtual_time_low, virtual_advance_low, virtual_charge_low, base_low, charge_low}
 use Rattle.fq_laws.proofs.Room.{last_moment_small}
@@ -30,7 +29,7 @@ use Rattle.refold.specs.Change.{change_in}
 use Rattle.refold.specs.Takes.{waiting_of, is_take_for}
 use Rattle.refold.specs.declared.account.Account.{Account}
 use Rattle.refold.specs.declared.change.Change.{Change}
-use Rattle.refold.proofs.Waiting.{waiting_of_nil, waiting_of_low, none_waits, waits_after, WaitsAfter}
+use Rattle.refold.proofs.Waiting.{waiting_of_nil, waiting_of_low, none_waits, waits_after}
 
 pub account_start : (C : Config) (t : ℕ) (a : Account) → a.credit ≡ pos 0 → a.base ≡ pos 0 → a.idle ≡ pos 0 → a.waits ≡ 0 → AccountIs C [] t a
 account_start C t a c b i w = record {

@@ -1,5 +1,5 @@
 -- The choice of a worker, by a scan over the tenants.
-use Rattle.std.proofs.Common.{ℕ, ◌+◌, ◌<◌, ◌≤◌, ◌≡◌, arith, refl, sym, ◌∙◌, ap, subst, List, length, Option, Some, None, ℤ, pos, IfSome, IfNone}
+use Rattle.std.proofs.Common.{ℕ, ◌+◌, ◌≤◌, ◌≡◌, arith, refl, sym, ◌∙◌, ap, subst, length, Option, Some, None, ℤ, pos, IfSome, IfNone}
 use Rattle.std.specs.Prelude.{option_map, MatchOption}
 use Rattle.std.specs.Int.{w128}
 use mir.Val.{to_z, of_z}
@@ -10,7 +10,7 @@ use Rattle.fq_model.specs.History.{History, head, waiting, pool_at}
 use Rattle.fq_model.specs.Limits.{InLimits}
 use Rattle.fq_model.specs.Rules.{IsLegal}
 use Rattle.fq_model.specs.Time.{virtual_time, last_moment}
-use Rattle.fq_model.specs.Keys.{HeadKeys, Turn, turn_at, keys_at, IsChoiceAt}
+use Rattle.fq_model.specs.Keys.{Turn, turn_at, keys_at, IsChoiceAt}
 use Rattle.fq_laws.proofs.Bounds.{virtual_time_within}
 use Rattle.fq_laws.proofs.Choices.{head_has_keys, keys_differ}
 use Rattle.fq_laws.proofs.Heads.{heads_none_waiting}

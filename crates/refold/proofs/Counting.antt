@@ -1,5 +1,5 @@
 -- What waits and what runs, by counts of entries.
-use Rattle.std.proofs.Common.{ℕ, zero, suc, ◌+◌, ◌*◌, ◌^◌, ◌<◌, ◌≤◌, ◌≡◌, arith, refl, List, [], ◌∷◌, length}
+use Rattle.std.proofs.Common.{ℕ, ◌+◌, ◌*◌, ◌^◌, ◌<◌, ◌≤◌, ◌≡◌, arith, refl, List, [], ◌∷◌, length}
 use Rattle.fq_model.specs.declared.config.Config.{Config}
 use Rattle.std.proofs.lemmas.List.{length-reverse}
 use Rattle.fq_model.specs.declared.event.Act.{Act}
@@ -9,7 +9,7 @@ use Rattle.fq_model.specs.History.{History, history_of, waiting, running, submit
 use Rattle.fq_model.specs.Limits.{InLimits}
 use Rattle.fq_model.specs.Rules.{IsLegal, Fits}
 use Rattle.fq_laws.proofs.Legality.{after, waiting_submit, waiting_take, running_take, running_done, running_submit, running_report, waiting_report, waiting_done, running_close, waiting_close, waiting_none, running_none, take_waits, worker_runs, has_room, small_requests, submitted_below, waits_submitted, taken_submitted, runs_taken, submits_le_length}
-use Rattle.refold.specs.Pasts.{takes, dones, with_take, with_done, IsPast}
+use Rattle.refold.specs.Pasts.{takes, dones, IsPast}
 
 -- what waits is submitted and not taken; what runs is taken and not done
 pub record Counted (P : History) : Type 0 where

@@ -1,25 +1,22 @@
 -- The keys of a head, as they are computed.
-use Rattle.std.proofs.Common.{ℕ, ◌+◌, ◌<◌, ◌≤◌, ◌≡◌, ◌^◌, true, arith, refl, sym, ◌∙◌, ap, subst, List, length, Option, Some, None, ℤ, pos}
-use Rattle.std.specs.Prelude.{option_map}
+use Rattle.std.proofs.Common.{ℕ, ◌<◌, ◌≤◌, ◌≡◌, arith, refl, sym, ◌∙◌, ap, subst, length, Option, Some, None, ℤ, pos}
 use Rattle.std.specs.Int.{w128}
 use mir.Val.{to_z, of_z}
 use Rattle.std.proofs.lemmas.Int.{ints}
-use Rattle.std.proofs.lemmas.Bool.{and_parts, eqb-true}
+use Rattle.std.proofs.lemmas.Bool.{and_parts}
 use Rattle.vt_fixed.specs.Rounding.{length_of}
 use Rattle.vt_fixed.proofs.Bounds.{length_high}
 use Rattle.fq_model.specs.declared.config.Config.{Config}
-use Rattle.fq_model.specs.declared.event.Entry.{Entry}
 use Rattle.fq_model.specs.Limits.{InLimits}
-use Rattle.fq_model.specs.History.{History, Request, history_of, head, request_at, is_of_tenant, weight_at, waits_for}
+use Rattle.fq_model.specs.History.{History, Request, head, request_at, weight_at, waits_for}
 use Rattle.fq_model.specs.Rules.{IsLegal}
 use Rattle.fq_model.specs.Time.{last_moment}
-use Rattle.fq_model.specs.Charge.{estimate_at, request_estimate}
+use Rattle.fq_model.specs.Charge.{estimate_at}
 use Rattle.fq_model.specs.Keys.{keys_at, head_keys, start}
 use Rattle.fq_laws.proofs.Bounds.{start_within, weight_low}
-use Rattle.fq_laws.proofs.Choices.{head_keys_are, no_head_no_keys}
+use Rattle.fq_laws.proofs.Choices.{head_keys_are}
 use Rattle.fq_laws.proofs.Estimates.{estimate_range}
 use Rattle.fq_laws.proofs.Legality.{heads, Heads, is_of_asked}
-use Rattle.refold.specs.Pasts.{IsPast}
 use Rattle.refold.specs.Scan.{seen, IsSmall}
 use Rattle.refold.specs.declared.head_keys.HeadKeys as kept
 

@@ -1,10 +1,10 @@
 -- The least waiting request, found by going through the numbers.
-use Rattle.std.proofs.Common.{ℕ, ◌<◌, ◌≤◌, ◌≡◌, ◌^◌, Bool, true, false, Option, Some, None, arith, sym, ◌∙◌, List, inl, inr}
+use Rattle.std.proofs.Common.{ℕ, ◌<◌, ◌≤◌, ◌≡◌, ◌^◌, true, false, Some, None, arith, List, inl, inr}
 use Rattle.std.proofs.lemmas.Bool.{cases_lt}
 use Rattle.fq_model.specs.declared.config.Config.{Config}
 use Rattle.fq_model.specs.declared.event.Entry.{Entry}
-use Rattle.fq_model.specs.History.{History, history_of, waits_for, head, request_bound, submits}
-use Rattle.fq_laws.proofs.Counting.{IsLeast, least_by}
+use Rattle.fq_model.specs.History.{history_of, waits_for, head, request_bound, submits}
+use Rattle.fq_laws.proofs.Counting.{least_by}
 use Rattle.fq_laws.proofs.Heads.{waits_fresh, waits_small}
 use Rattle.refold.specs.Pasts.{IsPast}
 

@@ -1,6 +1,6 @@
 -- The clock of a walk, at one entry more.
-use Rattle.std.proofs.Common.{ℕ, zero, suc, ◌+◌, ◌-◌, ◌*◌, ◌==◌, ◌<◌, ◌≤◌, ◌≡◌, ◌≢◌, Bool, true, false, cond, arith, refl, ap, sym, ◌∙◌, subst, inl, inr, ◌⊎◌, List, [], ◌∷◌, length, Option, Some, None, ℤ, pos, slice_index, slice_set, get_or-set_same, get_or-set_other, length-set, replicate}
-use Rattle.std.proofs.lemmas.Bool.{cases_eq, eq-eqb, ne_eqb, eqb-true, cases_Bool, cases_lt}
+use Rattle.std.proofs.Common.{ℕ, zero, suc, ◌+◌, ◌-◌, ◌==◌, ◌<◌, ◌≤◌, ◌≡◌, true, false, cond, arith, refl, ap, sym, ◌∙◌, subst, inl, inr, [], ◌∷◌, length, Option, Some, None, ℤ, pos, slice_index, slice_set, get_or-set_same, get_or-set_other, length-set, replicate}
+use Rattle.std.proofs.lemmas.Bool.{cases_eq, eq-eqb, ne_eqb, cases_lt}
 use Rattle.std.proofs.lemmas.List.{get_or-replicate, get_or_past, length-replicate}
 use Rattle.std.proofs.lemmas.Int.{ints}
 use Rattle.std.specs.Int.{w128}
@@ -12,7 +12,7 @@ use Rattle.fq_model.specs.declared.event.Act.TheVariants.{Submit, Take, Report, 
 use Rattle.fq_model.specs.declared.event.Entry.{Entry}
 use Rattle.fq_model.specs.History.{History, Request, request_at, is_of_tenant, weight_at, pool_at}
 use Rattle.fq_model.specs.Limits.{InLimits}
-use Rattle.fq_model.specs.Rules.{IsLegal, Fits, FitsSubmit, FitsUse}
+use Rattle.fq_model.specs.Rules.{IsLegal, Fits, FitsUse}
 use Rattle.fq_model.specs.Time.{virtual_time, virtual_advance, last_moment, active_weight, open_requests, is_active}
 use Rattle.fq_laws.proofs.Legality.{after, has_room, submits_le_length}
 use Rattle.fq_laws.proofs.Bounds.{virtual_time_low, active_weight_low, open_requests_low}

@@ -1,5 +1,5 @@
 -- The entries of a past, one by one.
-use Rattle.std.proofs.Common.{ℕ, suc, ◌+◌, ◌<◌, ◌≤◌, ◌≡◌, arith, refl, sym, ◌∙◌, ap, subst, List, [], ◌∷◌, length, take, get_or, inl, inr, ◌⊎◌}
+use Rattle.std.proofs.Common.{ℕ, ◌+◌, ◌<◌, ◌≡◌, arith, sym, ◌∙◌, List, ◌∷◌, length, take, get_or, inl, inr, ◌⊎◌}
 use Rattle.fq_model.specs.declared.config.Config.{Config}
 use Rattle.fq_model.specs.declared.config.Policy.{Policy}
 use Rattle.fq_model.specs.declared.config.Policy.TheVariants.{Wfq, Wf2q, Msf2q, TwoDfq}
@@ -9,7 +9,7 @@ use Rattle.fq_model.specs.Rules.{IsLegal}
 use Rattle.fq_model.specs.Time.{virtual_idle_time, last_moment}
 use Rattle.fq_model.specs.Charge.{virtual_charge}
 use Rattle.fq_model.specs.Keys.{start, tag}
-use Rattle.fq_laws.proofs.Prefixes.{legal_prefix, legal_entry, history_take}
+use Rattle.fq_laws.proofs.Prefixes.{legal_prefix, legal_entry}
 use Rattle.fq_laws.proofs.Bases.{start_msf2q, start_by_tag}
 use Rattle.fq_laws.proofs.Clocks.{idle_split}
 use Rattle.refold.specs.Account.{idle_since}

@@ -1,4 +1,4 @@
-use Rattle.std.proofs.Common.{arith, sym, ◌∙◌}
+use Rattle.std.proofs.Common.{arith, sym}
 use Rattle.refold.proofs.Leasts.{head_found, head_missing}
 use Rattle.refold.proofs.heads.head.Goals as goal
 

@@ -1,4 +1,4 @@
-use Rattle.std.proofs.Common.{sym, refl, ◌∙◌, ap, Option, None, ◌≡◌, ℕ}
+use Rattle.std.proofs.Common.{sym, refl, ◌∙◌}
 use Rattle.fq_model.specs.History.{history_of}
 use Rattle.fq_laws.proofs.Choices.{no_head_no_keys}
 use Rattle.refold.specs.Requests.{asked}

@@ -1,4 +1,4 @@
-use Rattle.std.proofs.Common.{arith, sym, ◌∙◌, ap, subst, ◌≡◌, ◌∷◌, refl}
+use Rattle.std.proofs.Common.{arith, ◌∙◌, ◌∷◌, refl}
 use Rattle.std.proofs.lemmas.Int.{ints}
 use Rattle.fq_model.specs.History.{history_of}
 use Rattle.fq_model.specs.Time.{virtual_idle_time}

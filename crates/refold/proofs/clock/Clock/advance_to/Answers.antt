@@ -1,7 +1,6 @@
-use Rattle.std.proofs.Common.{arith, ◌≡◌, ap, ◌∙◌, pos, sym}
+use Rattle.std.proofs.Common.{arith, ap, ◌∙◌, pos}
 use Rattle.std.proofs.lemmas.Int.{ints}
-use Rattle.fq_model.specs.History.{history_of, pool_at}
-use Rattle.fq_model.specs.Time.{virtual_advance}
+use Rattle.fq_model.specs.History.{history_of}
 use Rattle.fq_laws.proofs.Bounds.{active_weight_low, virtual_advance_low}
 use Rattle.refold.proofs.Timing.{advance_is}
 use Rattle.refold.proofs.clock.Clock.advance_to.Goals as goal

@@ -1,7 +1,7 @@
 use Rattle.std.proofs.Common.{arith}
 use Rattle.std.proofs.lemmas.Int.{ints}
 use Rattle.fq_model.specs.History.{history_of}
-use Rattle.fq_laws.proofs.Bounds.{virtual_time_low, virtual_advance_low}
+use Rattle.fq_laws.proofs.Bounds.{virtual_time_low}
 use Rattle.fq_laws.proofs.Clocks.{virtual_time_split}
 use Rattle.refold.proofs.clock.Clock.at.Goals as goal
 

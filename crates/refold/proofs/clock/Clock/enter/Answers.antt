@@ -1,10 +1,7 @@
-use Rattle.std.proofs.Common.{arith, sym, ◌∙◌, ap, subst, ◌≡◌, ◌≤◌, ◌∷◌, Some, pos, Option, None}
-use Rattle.std.specs.Prelude.{option_map}
+use Rattle.std.proofs.Common.{arith, sym, subst, ◌∷◌}
 use Rattle.fq_model.specs.declared.event.Act.{Act}
-use Rattle.fq_model.specs.History.{history_of, weight_at, request_at}
-use Rattle.fq_model.specs.Rules.{Fits, FitsUse}
-use Rattle.fq_model.specs.Time.{virtual_time}
-use Rattle.refold.specs.Clock.{ClockIs, Passes}
+use Rattle.fq_model.specs.History.{history_of}
+use Rattle.refold.specs.Clock.{ClockIs}
 use Rattle.refold.specs.Requests.{asked}
 use Rattle.refold.specs.declared.requests.Request as kept
 use Rattle.refold.proofs.Timing.{clock_other, clock_submit, clock_done, held, few_open, is_left, use_asked, weight_is, found, missing}
