@@ -1,15 +1,14 @@
 -- The rows of a book at one entry more of a history.
-use Rattle.std.proofs.Common.{ℕ, zero, suc, ◌+◌, ◌<◌, ◌≤◌, ◌≡◌, ◌≢◌, ◌==◌, max, Bool, true, false, cond, List, [], ◌∷◌, Option, Some, None, unwrap_or, option_map, option_and_then, arith, refl, sym, ap, ◌∙◌, inl, inr}
-use Rattle.std.proofs.lemmas.Bool.{eq-eqb, ne_eqb}
-use Rattle.std.proofs.lemmas.Option.{none-some, same_Some}
+use Rattle.std.proofs.Common.{ℕ, ◌≡◌, ◌≢◌, max, Option, Some, None, unwrap_or, option_map, option_and_then, arith, refl, sym, ap, ◌∙◌}
+use Rattle.std.proofs.lemmas.Bool.{ne_eqb}
+use Rattle.std.proofs.lemmas.Option.{none-some}
 use Rattle.fq_model.specs.declared.config.Config.{Config}
 use Rattle.fq_model.specs.declared.event.Act.TheVariants.{Submit, Take, Report, Done, Close}
-use Rattle.fq_model.specs.History.{History, Request, request_at, running_on, last_use, Runs, is_submitted, submits, weight_at}
+use Rattle.fq_model.specs.History.{History, Request, request_at, running_on, last_use, Runs}
 use Rattle.fq_model.specs.Charge.{taken_estimate, taken_weight, charge, charge_from, final_cost}
-use Rattle.fq_model.specs.Rules.{IsLegal, Fits, FitsUse}
 use Rattle.fq_laws.proofs.Legality.{after}
-use Rattle.fq_laws.proofs.Once.{running_runs, runs_on_one, took}
-use Rattle.fq_laws.proofs.Charges.{cost_none, estimate_some, unused}
+use Rattle.fq_laws.proofs.Once.{took}
+use Rattle.fq_laws.proofs.Charges.{cost_none, estimate_some}
 use Rattle.charge_book.specs.declared.row.RunRow.{RunRow}
 use Rattle.charge_book.specs.Rows.{row_charge}
 use Rattle.charge_book.specs.Histories.{run_row, row_of_request, row_of_worker}

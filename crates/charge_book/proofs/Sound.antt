@@ -1,5 +1,5 @@
 -- A book stays sound where one worker's row and one tenant's net charge are written.
-use Rattle.std.proofs.Common.{ℕ, ◌+◌, ◌-◌, ◌*◌, ◌^◌, ◌<◌, ◌≤◌, ◌≡◌, ◌≢◌, ◌==◌, max, true, false, cond, List, length, get_or, slice_set, slice_index, slice_index_or, sum_by, All, Option, Some, None, arith, refl, sym, ap, subst, ◌∙◌, if◌then◌else◌, nat_lt, inl, inr, length-set, get_or-set_same, get_or-set_other}
+use Rattle.std.proofs.Common.{ℕ, ◌+◌, ◌-◌, ◌*◌, ◌^◌, ◌<◌, ◌≤◌, ◌≡◌, ◌≢◌, List, length, get_or, slice_set, slice_index, slice_index_or, sum_by, Option, Some, None, arith, refl, sym, ap, subst, ◌∙◌, if◌then◌else◌, nat_lt, inl, inr, length-set, get_or-set_same, get_or-set_other}
 use Rattle.std.proofs.lemmas.Bool.{cases_eq, cases_lt, lt-ltb, le-ltb, eq-eqb, ne_eqb}
 use Rattle.std.proofs.lemmas.Option.{none-some}
 use Rattle.std.proofs.lemmas.List.Elements.{All-set}

@@ -1,19 +1,18 @@
 -- The book of a history at one entry more.
-use Rattle.std.proofs.Common.{ℕ, zero, suc, ◌+◌, ◌-◌, ◌<◌, ◌≤◌, ◌≡◌, ◌≢◌, ◌^◌, ◌==◌, max, Bool, true, false, cond, List, [], ◌∷◌, length, get_or, slice_set, slice_index, slice_index_or, replicate, Option, Some, None, option_map, option_and_then, ℤ, pos, ◌+ℤ◌, ◌-ℤ◌, arith, refl, sym, ap, subst, ◌∙◌, inl, inr, length-set, get_or-set_same, get_or-set_other}
-use Rattle.std.proofs.lemmas.Bool.{cases_eq, eq-eqb, ne_eqb, cases_lt, false≢true}
+use Rattle.std.proofs.Common.{ℕ, suc, ◌+◌, ◌-◌, ◌<◌, ◌≤◌, ◌≡◌, ◌≢◌, ◌^◌, ◌==◌, max, Bool, true, false, cond, [], ◌∷◌, length, slice_set, slice_index, replicate, Option, Some, None, pos, ◌+ℤ◌, ◌-ℤ◌, arith, refl, sym, ap, subst, ◌∙◌, inl, inr, length-set, get_or-set_same, get_or-set_other}
+use Rattle.std.proofs.lemmas.Bool.{cases_eq, eq-eqb, ne_eqb, false≢true}
 use Rattle.std.proofs.lemmas.Int.{ints}
 use Rattle.std.proofs.lemmas.List.{get_or-replicate, length-replicate}
-use Rattle.std.proofs.lemmas.Option.{none-some, same_Some}
 use Rattle.vt_fixed.specs.Rounding.{length_of}
 use Rattle.fq_model.specs.declared.config.Config.{Config}
 use Rattle.fq_model.specs.declared.event.Act.{Act}
 use Rattle.fq_model.specs.declared.event.Act.TheVariants.{Submit, Take, Report, Done, Close}
 use Rattle.fq_model.specs.Limits.{InLimits}
-use Rattle.fq_model.specs.History.{History, Request, request_at, is_of_tenant, running_on, running_after, last_use, is_taken, Runs, submits, weight_at, pool_at, request_bound}
+use Rattle.fq_model.specs.History.{History, Request, request_at, is_of_tenant, running_on, last_use, is_taken, Runs, submits, weight_at, pool_at, request_bound}
 use Rattle.fq_model.specs.Sums.{sum_below}
-use Rattle.fq_model.specs.Charge.{charge, is_taken_of, charged, virtual_charge, net_charge, net_charged, taken_weight, taken_estimate}
+use Rattle.fq_model.specs.Charge.{charge, is_taken_of, charged, virtual_charge, net_charge, net_charged, taken_weight}
 use Rattle.fq_laws.proofs.Counting.{sum_at}
-use Rattle.fq_model.specs.Rules.{IsLegal, Fits, FitsTake, FitsUse}
+use Rattle.fq_model.specs.Rules.{IsLegal, FitsUse}
 use Rattle.fq_laws.proofs.Legality.{after, submitted_below, taken_submitted, take_waits, waits_untaken}
 use Rattle.fq_laws.proofs.Once.{running_runs, runs_running, nothing_running, runs_on_one, took}
 use Rattle.fq_laws.proofs.Bounds.{entries_low}
@@ -25,10 +24,10 @@ use Rattle.fq_laws.proofs.VirtualCharges.{taken_of, taken_of_report, taken_of_do
 use Rattle.charge_book.specs.declared.row.RunRow.{RunRow}
 use Rattle.charge_book.specs.Rows.{row_charge, length_change}
 use Rattle.charge_book.specs.Ledger.{Ledger, row_on, row_refusal, use_refusal, row_of_run, begun, recharged, with_use, reported_at, reported, report_change_at, report_change, finished_at, finished, finish_change_at, finish_change}
-use Rattle.charge_book.specs.Histories.{run_row, row_of_request, row_of_worker, with_take, takes, BookIs, IsChange}
+use Rattle.charge_book.specs.Histories.{run_row, row_of_worker, with_take, takes, BookIs}
 use Rattle.charge_book.specs.Laws.{Follows}
 use Rattle.charge_book.proofs.Sound.{accepted}
-use Rattle.charge_book.proofs.Rows.{Reads, of_worker_same, of_worker_known, of_worker_none, charge_is, reads_submit, reads_take, reads_report, reads_done, reads_close}
+use Rattle.charge_book.proofs.Rows.{of_worker_same, of_worker_known, of_worker_none, charge_is, reads_submit, reads_take, reads_report, reads_done, reads_close}
 
 -- ---- what stays
 

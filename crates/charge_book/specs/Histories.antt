@@ -1,5 +1,5 @@
 -- The book of a history.
-use Rattle.std.specs.Prelude.{ℕ, suc, ◌<◌, ◌≡◌, ◌≢◌, [], ◌∷◌, length, slice_index, Option, Some, None, unwrap_or, option_map, option_and_then, ℤ, pos, ◌+ℤ◌}
+use Rattle.std.specs.Prelude.{ℕ, suc, ◌<◌, ◌≡◌, ◌≢◌, [], ◌∷◌, length, slice_index, Option, unwrap_or, option_map, option_and_then, ℤ, pos, ◌+ℤ◌}
 use Rattle.fq_model.specs.declared.config.Config.{Config}
 use Rattle.fq_model.specs.declared.event.Act.{Act}
 use Rattle.fq_model.specs.declared.event.Act.TheVariants.{Take}

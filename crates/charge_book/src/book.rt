@@ -66,6 +66,8 @@ impl Book {
         requires few { self.old.begins < 2 ^ 32 }
         ensures change { result ≡ pos (length_of estimate weight) }
         ensures book { self.new ≡ begun self.old worker (row_of_run request tenant kind weight estimate) }
+        ensures workers { length self.new.rows ≡ length self.old.rows }
+        ensures tenants { length self.new.nets ≡ length self.old.nets }
     {
         self.rows[worker as usize] = Some(RunRow {
             request,
@@ -89,6 +91,8 @@ impl Book {
         ensures change { IfOk result (λ change. change ≡ report_change self.old worker used) }
         ensures book { OnOk result (self.new ≡ reported self.old worker used) }
         ensures unchanged { OnErr result (self.new ≡ self.old) }
+        ensures workers { length self.new.rows ≡ length self.old.rows }
+        ensures tenants { length self.new.nets ≡ length self.old.nets }
     {
         let row = self.charged_row(worker, used)?;
         let next = RunRow { last: used, ..row };
@@ -105,6 +109,8 @@ impl Book {
         ensures change { IfOk result (λ change. change ≡ finish_change self.old worker cost) }
         ensures book { OnOk result (self.new ≡ finished self.old worker cost) }
         ensures unchanged { OnErr result (self.new ≡ self.old) }
+        ensures workers { length self.new.rows ≡ length self.old.rows }
+        ensures tenants { length self.new.nets ≡ length self.old.nets }
     {
         let row = self.charged_row(worker, cost)?;
         self.rows[worker as usize] = None;

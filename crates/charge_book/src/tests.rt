@@ -33,7 +33,6 @@ fn send_away<T: Send + Drop>(_sent: T) {}
 fn charges_follow_uses(rt: HostRuntime) -> Result<(), Fail> {
     let config = two_tenants(rt.alloc())?;
     let mut book = Book::open(rt.alloc(), &config)?;
-    assert_eq!(rt; book.report(0, 4), Err(BookRefusal::NotRunning));
     assert_eq!(rt; book.begin(0, 7, 1, 0, 1, 10), 10485760);
     assert_eq!(rt; book.report(0, 4), Ok(0));
     assert_eq!(rt; book.report(0, 12), Ok(2097152));
@@ -60,6 +59,7 @@ fn charges_follow_uses(rt: HostRuntime) -> Result<(), Fail> {
     assert_eq!(rt; book.net(1), 15);
     assert_eq!(rt; book.net(0), 0);
     assert_eq!(rt; book.running(0), None);
+    assert_eq!(rt; book.report(0, 4), Err(BookRefusal::NotRunning));
     send_away(book);
     Ok(())
 }

@@ -1,4 +1,4 @@
-use Rattle.std.proofs.Common.{ℕ, ◌<◌, ◌≡◌, length, slice_index, slice_index_or, None, refl, ap, ◌∙◌, arith}
+use Rattle.std.proofs.Common.{◌<◌, ◌≡◌, length, slice_index, slice_index_or, None, refl, ap, ◌∙◌, arith}
 use Rattle.std.proofs.lemmas.Option.{slice_get_read, get_or_from_slice_get}
 use Rattle.charge_book.specs.Ledger.{Ledger, row_of_run, row_on, IsRunRow}
 use Rattle.charge_book.proofs.Sound.{sound_begun}

@@ -1,6 +1,6 @@
-use Rattle.std.proofs.Common.{ℕ, ◌<◌, ◌≤◌, ◌≡◌, length, slice_index_or, None, Some, refl, ap, subst, ◌∙◌, arith}
-use Rattle.charge_book.specs.Ledger.{Ledger, with_use, row_on, row_refusal, IsRow, IsRunRow}
-use Rattle.charge_book.proofs.Sound.{accepted, sound_recharged, sound_finished}
+use Rattle.std.proofs.Common.{◌<◌, ◌≤◌, ◌≡◌, length, slice_index_or, None, Some, ap, subst, ◌∙◌, arith}
+use Rattle.charge_book.specs.Ledger.{Ledger, row_on, row_refusal, IsRow, IsRunRow}
+use Rattle.charge_book.proofs.Sound.{accepted, sound_finished}
 use Rattle.charge_book.proofs.book.Book.finish.Goals as goal
 
 pub invariant_of-self : goal.invariant_of-self
