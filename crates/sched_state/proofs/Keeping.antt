@@ -6,7 +6,7 @@ use Rattle.std.specs.Cmp.{nat_cmp_total}
 use Rattle.std.specs.FinMap as map
 use Rattle.fq_model.specs.declared.config.Config.{Config}
 use Rattle.fq_model.specs.declared.event.Entry.{Entry}
-use Rattle.fq_model.specs.declared.event.Act.TheVariants.{Submit, Take, Done, Close}
+use Rattle.fq_model.specs.declared.event.Act.TheVariants.{Submit, Take, Report, Done, Close}
 use Rattle.fq_model.specs.declared.event.Call.{Call}
 use Rattle.fq_model.specs.declared.event.Call.TheVariants as call
 use Rattle.fq_model.specs.declared.event.Reply.{Reply}
@@ -16,9 +16,9 @@ use Rattle.fq_model.specs.declared.event.Cause.TheVariants as cause
 use Rattle.fq_model.specs.Limits.{InLimits}
 use Rattle.fq_model.specs.History.{History, history_of, is_closed, is_waiting, waiting, submits}
 use Rattle.fq_model.specs.Time.{effective_moment}
-use Rattle.fq_model.specs.Rules.{IsLegal, FitsSubmit, FitsTake, IsAnswered, IsAccepted, RunsChosen, AnswersFree, RefusedOrElse, Answers, request_on, submit_refusal, take_refusal, done_refusal, close_refusal}
+use Rattle.fq_model.specs.Rules.{IsLegal, FitsSubmit, FitsTake, IsAnswered, IsAccepted, RunsChosen, AnswersFree, RefusedOrElse, Answers, request_on, submit_refusal, take_refusal, report_refusal, done_refusal, close_refusal}
 use Rattle.std.proofs.lemmas.List.{reverse-reverse}
-use Rattle.fq_laws.proofs.Legality.{after, take_waits, waiting_done, waiting_close, waiting_none}
+use Rattle.fq_laws.proofs.Legality.{after, take_waits, waiting_report, waiting_done, waiting_close, waiting_none}
 use Rattle.fq_laws.proofs.Counts.{waiting_submitted, waiting_taken}
 use Rattle.fq_laws.proofs.Room.{length_entries}
 use Rattle.fq_laws.proofs.Refusals.{MayTake, refused_keeps, submit_fits, take_may}
@@ -30,7 +30,7 @@ use Rattle.sched_state.specs.declared.replies.Taken.{Taken}
 use Rattle.sched_state.specs.Replies.{HandsOut, IsWithheld}
 use Rattle.sched_state.specs.Held.{waiting_label, Keeps}
 use Rattle.sched_state.proofs.JobMaps.{found_with, found_without}
-use Rattle.sched_state.proofs.Labels.{label_nil, label_submit, label_take, label_done, label_close, label_new}
+use Rattle.sched_state.proofs.Labels.{label_nil, label_submit, label_take, label_report, label_done, label_close, label_new}
 
 -- ---- room
 
@@ -76,11 +76,19 @@ keeps_alike label C P Q capacity more kept k l same cap = record {
 same_alike : (P : History) → Alike P P
 same_alike P = record { count = refl; labels = λ q. refl }
 
+report_alike : (P Q : History) (who m i r used : ℕ) → Q ≡ after who m (Report i r used) P → Alike P Q
+report_alike P Q who m i r used e = subst (Alike P) (sym e) (record { count = waiting_report P who m i r used; labels = λ q. label_report P who m i r used q })
+
 done_alike : (P Q : History) (who m i r cost : ℕ) → Q ≡ after who m (Done i r cost) P → Alike P Q
 done_alike P Q who m i r cost e = subst (Alike P) (sym e) (record { count = waiting_done P who m i r cost; labels = λ q. label_done P who m i r cost q })
 
 close_alike : (P Q : History) (who m : ℕ) → Q ≡ after who m Close P → Alike P Q
 close_alike P Q who m e = subst (Alike P) (sym e) (record { count = waiting_close P who m; labels = λ q. label_close P who m q })
+
+pub keeps_report : {J : Type 0} (label : J → ℕ) (C : Config) (P Q : History) (who moment worker used : ℕ) (reply : Reply) (capacity more : ℕ) (kept : Kept J) → Keeps label C P capacity kept → Answers C P (call.Report who moment worker used) reply Q → capacity ≤ more → Keeps label C Q more kept
+keeps_report label C P Q who moment worker used reply capacity more kept k a cap =
+    let same : Alike P Q = refused_keeps (report_refusal C P worker used) P reply Q (IsAccepted P who moment (Report worker (request_on P worker) used) answer.Accepted reply Q) (Alike P) (same_alike P) (λ e x. report_alike P Q who (effective_moment P moment) worker (request_on P worker) used x.1) a in
+    keeps_alike label C P Q capacity more kept k (answer_legal C P (call.Report who moment worker used) reply Q k.limits k.legal a) same cap
 
 pub keeps_done : {J : Type 0} (label : J → ℕ) (C : Config) (P Q : History) (who moment worker cost : ℕ) (reply : Reply) (capacity more : ℕ) (kept : Kept J) → Keeps label C P capacity kept → Answers C P (call.Done who moment worker cost) reply Q → capacity ≤ more → Keeps label C Q more kept
 keeps_done label C P Q who moment worker cost reply capacity more kept k a cap =

@@ -3,7 +3,7 @@ use Rattle.std.proofs.Common.{ℕ, ◌==◌, ◌≡◌, Bool, ◌&&◌, true, fa
 use Rattle.std.specs.Prelude.{option_map}
 use Rattle.std.proofs.lemmas.Bool.{cases_eq, eq-eqb, ne_eqb}
 use Rattle.fq_model.specs.declared.config.Config.{Config}
-use Rattle.fq_model.specs.declared.event.Act.TheVariants.{Submit, Take, Done, Close}
+use Rattle.fq_model.specs.declared.event.Act.TheVariants.{Submit, Take, Report, Done, Close}
 use Rattle.fq_model.specs.History.{History, request_at, is_waiting, is_submitted, is_taken, submits}
 use Rattle.fq_model.specs.Rules.{IsLegal}
 use Rattle.fq_laws.proofs.Legality.{after}
@@ -34,6 +34,10 @@ label_take P who m i r estimate q = elim (cases_eq q r) [
   | inl e ↦ rw (eq-eqb q r e, eq-eqb r q (sym e)) (never (is_submitted P q) (option_map (λ a. a.label) (request_at P q)))
   | inr ne ↦ rw (ne_eqb q r ne, ne_eqb r q (λ x. ne (sym x))) refl
 ]
+
+pub label_report : (P : History) (who m i r used q : ℕ) → waiting_label (after who m (Report i r used) P) q ≡ waiting_label P q
+unfolding is_waiting is_submitted is_taken
+label_report P who m i r used q = refl
 
 pub label_done : (P : History) (who m i r cost q : ℕ) → waiting_label (after who m (Done i r cost) P) q ≡ waiting_label P q
 unfolding is_waiting is_submitted is_taken

@@ -23,6 +23,10 @@ take_reply label (taken.Run request estimate job) = answer.Run request estimate 
 take_reply label taken.Drained = answer.Drained
 take_reply label taken.Idle = answer.Idle
 
+abbrev pub report_reply : Result (Unit {0}) Cause → Reply
+report_reply (Ok reported) = answer.Accepted
+report_reply (Err why) = answer.Refused why
+
 abbrev pub done_reply : Result (Unit {0}) Cause → Reply
 done_reply (Ok done) = answer.Accepted
 done_reply (Err why) = answer.Refused why

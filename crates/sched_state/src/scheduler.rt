@@ -2,13 +2,12 @@
 ghost use Rattle.std.specs.Prelude.{◌≡◌, ◌≤◌, ◌<◌, [], IfOk, IfErr, OnErr, OnSome, vec_len, vec_capacity};
 ghost use Rattle.std.specs.FinMap as map;
 ghost use Rattle.fq_model.specs.declared.config.Policy.TheVariants.{TwoDfq};
-ghost use Rattle.fq_model.specs.declared.config.Estimator.TheVariants.{Declared};
 ghost use Rattle.fq_model.specs.declared.event.Call.TheVariants as call;
 ghost use Rattle.fq_model.specs.History.{history_of};
 ghost use Rattle.fq_model.specs.Rules.{Answers, IsLegal};
 ghost use Rattle.refold.specs.Answer.{with_entry};
 ghost use Rattle.sched_state.specs.Held.{HoldsWaiting};
-ghost use Rattle.sched_state.specs.Replies.{submit_reply, take_reply, done_reply, close_reply, HandsOut, IsTakeCause, IsWithheld};
+ghost use Rattle.sched_state.specs.Replies.{submit_reply, take_reply, report_reply, done_reply, close_reply, HandsOut, IsTakeCause, IsWithheld};
 
 use crate::jobs::Jobs;
 use crate::replies::{AlreadyClosed, NoMemory, Refused, Taken};
@@ -50,7 +49,6 @@ impl<J: Job + Drop> Scheduler<J> {
     /// Takes all the memory that the scheduler will use.
     pub fn open(alloc: Global, config: Checked) -> Result<Scheduler<J>, NoMemory>
         requires policy { config.policy ≡ TwoDfq }
-        requires estimator { config.estimate ≡ Declared }
         ensures config { IfOk result (λ s. s.config ≡ config) }
         ensures past { IfOk result (λ s. s.past ≡ []) }
         ensures jobs { IfOk result (λ s. s.jobs ≡ map.empty) }
@@ -129,6 +127,31 @@ impl<J: Job + Drop> Scheduler<J> {
             Reply::Drained => Taken::Drained,
             Reply::Refused(cause) => withheld(cause),
             _ => unreachable!(),
+        }
+    }
+
+    /// The worker's request has come to this use, in microseconds, and runs on. Its charge is from now on the greater
+    /// of its estimate and its use. Refused, by the first of these that is so: where no worker has this number, where
+    /// the worker runs nothing, where the use is above the greatest cost or below what was reported before, and where
+    /// the entries that are left are needed for what is submitted.
+    pub fn report(&mut self, who: u32, moment: u64, worker: u32, used: u64) -> Result<(), Cause>
+        ensures answers { Answers self.old.config (history_of self.old.past) (call.Report who moment worker used) (report_reply result) (history_of self.new.past) }
+        ensures config { self.new.config ≡ self.old.config }
+        ensures jobs { self.new.jobs ≡ self.old.jobs }
+        ensures unchanged { OnErr result (self.new ≡ self.old) }
+    {
+        let answer = reply::report(
+            &self.config,
+            self.past.as_slice(),
+            who,
+            moment,
+            worker,
+            used,
+        );
+        enter(&mut self.past, answer.entry);
+        match answer.reply {
+            Reply::Refused(why) => Err(why),
+            _ => Ok(()),
         }
     }
 

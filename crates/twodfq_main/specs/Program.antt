@@ -1,16 +1,11 @@
 -- What the program does with its words, its input, its output and its messages.
-use Rattle.std.specs.Prelude.{ℕ, ◌+◌, ◌<◌, ◌≤◌, ◌≡◌, ◌==◌, Bool, true, false, not, ◌&&◌, if◌then◌else◌, List, [], ◌∷◌, ◌++◌, length, Option, Some, None, Result, Ok, Err, codes, ◌⊎◌}
-use Rattle.std.specs.List.{list_all}
+use Rattle.std.specs.Prelude.{ℕ, ◌+◌, ◌<◌, ◌≤◌, ◌≡◌, ◌==◌, Bool, true, false, if◌then◌else◌, List, [], ◌∷◌, ◌++◌, length, Option, Some, None, Result, Ok, Err, codes, ◌⊎◌}
 use Rattle.std.specs.Io.KnownBytes.{Appends}
 use Rattle.fq_io.specs.Faults.{Rose}
 use Rattle.fq_io.specs.Sources.{GaveAll, TookAtMost, TookTooMany}
 use Rattle.fq_io.specs.Sinks.{AppendsPart}
 use Rattle.fq_model.specs.declared.config.Policy.{Policy}
 use Rattle.fq_model.specs.declared.config.Policy.TheVariants.{TwoDfq}
-use Rattle.fq_model.specs.declared.config.Estimator.{Estimator}
-use Rattle.fq_model.specs.declared.config.Estimator.TheVariants.{Declared}
-use Rattle.fq_model.specs.declared.event.Call.{Call}
-use Rattle.fq_model.specs.declared.event.Call.TheVariants as call
 use Rattle.fq_model.specs.declared.event.Reply.{Reply}
 use Rattle.fq_model.specs.declared.fault.Kind.{Kind}
 use Rattle.fq_model.specs.History.{History}
@@ -28,21 +23,13 @@ greatest_input = 67108864
 abbrev pub IsCommandLine : List (List ℕ) → Type 0
 IsCommandLine words = words ≡ codes "script" ∷ []
 
-abbrev pub is_report : Call → Bool
-is_report (call.Report who moment worker used) = true
-is_report _ = false
-
 abbrev pub is_two_dfq : Policy → Bool
 is_two_dfq TwoDfq = true
 is_two_dfq _ = false
 
-abbrev pub is_declared : Estimator → Bool
-is_declared Declared = true
-is_declared _ = false
-
--- the program serves the script: its policy is 2dfq, its estimator declared, and no line of it is a report
+-- the program serves the script: its policy is 2dfq
 abbrev pub is_served : Script → Bool
-is_served s = is_two_dfq s.settings.policy && (is_declared s.settings.estimate && list_all (λ c. not (is_report c)) s.calls)
+is_served s = is_two_dfq s.settings.policy
 
 abbrev pub served : Result Script (ℕ × Kind) → Option Script
 served (Ok s) = if is_served s then Some s else None

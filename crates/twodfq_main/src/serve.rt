@@ -1,15 +1,13 @@
 //! A script's calls, made on a scheduler.
-ghost use Rattle.std.specs.Prelude.{◌≡◌, ◌↔◌, IsTrue, IfOk, true, false, not, length};
-ghost use Rattle.std.specs.List.{list_all};
+ghost use Rattle.std.specs.Prelude.{◌≡◌, ◌↔◌, IsTrue, IfOk, true, false, length};
 ghost use Rattle.fq_model.specs.declared.config.Policy.TheVariants.{TwoDfq};
-ghost use Rattle.fq_model.specs.declared.config.Estimator.TheVariants.{Declared};
 ghost use Rattle.fq_model.specs.History.{history_of};
 ghost use Rattle.fq_model.specs.Outcome.{Outcome};
 ghost use Rattle.fq_model.specs.Rules.{Answers};
-ghost use Rattle.twodfq_main.specs.Program.{is_report, is_served, is_two_dfq, is_declared};
+ghost use Rattle.twodfq_main.specs.Program.{is_served, is_two_dfq};
 
 use crate::script::reading::Script;
-use fq_model::config::{Checked, Estimator, Policy};
+use fq_model::config::{Checked, Policy};
 use fq_model::event::{Call, Cause, Reply};
 use sched_state::{AlreadyClosed, Scheduler, Taken};
 use std::alloc::Global;
@@ -25,19 +23,16 @@ pub struct Served {
     pub scheduler: Scheduler<u64>,
 }
 
-/// Whether the program serves the script: its policy is 2dfq, its estimator declared, and no line of it is a report.
+/// Whether the program serves the script: its policy is 2dfq.
 pub fn is_served(script: &Script) -> bool
     ensures { result ≡ is_served script.now }
 {
-    let config = script.config();
-    is_two_dfq(config.policy()) && is_declared(config.estimate()) && has_no_report(script.calls())
+    is_two_dfq(script.config().policy())
 }
 
 /// Makes the calls in order on a scheduler that is opened for them.
 pub fn serve(alloc: Global, config: Checked, calls: &[Call]) -> Result<Served, NoMemory>
     requires policy { config.policy ≡ TwoDfq }
-    requires estimator { config.estimate ≡ Declared }
-    requires no_reports { list_all (λ c. not (is_report c)) calls.now ≡ true }
     ensures { IfOk result (λ s. Outcome config calls.now s.replies.items (history_of s.scheduler.past)) }
 {
     let Ok(mut replies) = Vec::with_capacity(alloc, calls.len()) else {
@@ -54,9 +49,8 @@ pub fn serve(alloc: Global, config: Checked, calls: &[Call]) -> Result<Served, N
     Ok(Served { replies, scheduler })
 }
 
-// What the scheduler answers to a call that is no report.
+// What the scheduler answers to a call.
 fn answer(scheduler: &mut Scheduler<u64>, call: Call) -> Reply
-    requires { is_report call ≡ false }
     ensures answers { Answers scheduler.old.config (history_of scheduler.old.past) call result (history_of scheduler.new.past) }
     ensures config { scheduler.new.config ≡ scheduler.old.config }
 {
@@ -91,6 +85,15 @@ fn answer(scheduler: &mut Scheduler<u64>, call: Call) -> Reply
             Taken::Drained => Reply::Drained,
             Taken::Idle => Reply::Idle,
         },
+        Call::Report {
+            who,
+            moment,
+            worker,
+            used,
+        } => match scheduler.report(who, moment, worker, used) {
+            Ok(()) => Reply::Accepted,
+            Err(cause) => Reply::Refused(cause),
+        },
         Call::Done {
             who,
             moment,
@@ -104,7 +107,6 @@ fn answer(scheduler: &mut Scheduler<u64>, call: Call) -> Reply
             Ok(()) => Reply::Accepted,
             Err(AlreadyClosed) => Reply::Refused(Cause::Closed),
         },
-        Call::Report { .. } => unreachable!(),
     }
 }
 
@@ -113,30 +115,6 @@ fn is_two_dfq(policy: Policy) -> bool
 {
     match policy {
         Policy::TwoDfq => true,
-        _ => false,
-    }
-}
-
-fn is_declared(estimate: Estimator) -> bool
-    ensures { result ≡ is_declared estimate }
-{
-    match estimate {
-        Estimator::Declared => true,
-        _ => false,
-    }
-}
-
-fn has_no_report(calls: &[Call]) -> bool
-    ensures { result ≡ list_all (λ c. not (is_report c)) calls.now }
-{
-    calls.iter().all(|call| !is_report(call))
-}
-
-fn is_report(call: &Call) -> bool
-    ensures { result ≡ is_report call.now }
-{
-    match call {
-        Call::Report { .. } => true,
         _ => false,
     }
 }

@@ -127,6 +127,66 @@ fn staggers_workers_and_falls_back(rt: HostRuntime) -> Result<(), Fail> {
     )
 }
 
+// A request that took 3 microseconds where 990 were charged: its tenant gets the difference back, and goes first.
+#[test]
+fn gives_back_what_was_not_used(rt: HostRuntime) -> Result<(), Fail> {
+    let input = "script 1\nconfig 1 2dfq pessimistic 990 100 10\ntenant a 1\ntenant b 2\nkind get\n\
+        submit 0 0 0 0 1 1\nsubmit 0 0 0 0 1 2\ntake 10 0 0\nsubmit 1 0 1 0 1 3\ndone 10 3 0 3\n\
+        take 10 3 0\ndone 10 993 0 990\nsubmit 1 993 1 0 1 4\ntake 10 993 0\n";
+    answers(
+        &rt,
+        rt.alloc(),
+        input,
+        "request 0\nrequest 1\nrun 0 990 1\nrequest 2\nok\nrun 2 990 3\nok\nrequest 3\n\
+        run 1 980 2\n",
+    )
+}
+
+// The mean of the costs so far, 4 and 7, is 5.
+#[test]
+fn estimates_the_mean(rt: HostRuntime) -> Result<(), Fail> {
+    let input = "script 1\nconfig 1 2dfq recent 9 100 10\ntenant a 1\nkind get\n\
+        submit 0 0 0 0 1 1\nsubmit 0 0 0 0 1 2\nsubmit 0 0 0 0 1 3\ntake 10 0 0\ndone 10 4 0 4\n\
+        take 10 4 0\nreport 10 7 0 7\ndone 10 7 0 7\ntake 10 7 0\n";
+    answers(
+        &rt,
+        rt.alloc(),
+        input,
+        "request 0\nrequest 1\nrequest 2\nrun 0 9 1\nok\nrun 1 4 2\nok\nok\nrun 2 5 3\n",
+    )
+}
+
+// Four entries have room for one request and the close, and none for a report.
+#[test]
+fn refuses_reports_without_room(rt: HostRuntime) -> Result<(), Fail> {
+    let input = "script 1\nconfig 1 2dfq declared 1000 4 10\ntenant a 1\ntenant b 1\nkind get\n\
+        submit 0 0 0 0 5 1\nsubmit 0 0 0 0 5 2\ntake 10 0 0\nreport 10 1 0 1\ndone 10 5 0 5\n\
+        close 0 5\nclose 0 5\n";
+    answers(
+        &rt,
+        rt.alloc(),
+        input,
+        "request 0\nrefused full 4\nrun 0 5 1\nrefused full 4\nok\nok\nrefused closed\n",
+    )
+}
+
+#[test]
+fn refuses_calls(rt: HostRuntime) -> Result<(), Fail> {
+    let input = format!(in rt.alloc();
+        "{HEAD}submit 0 0 2 0 5 1\nsubmit 0 0 0 1 5 1\nsubmit 0 0 0 0 0 1\ntake 10 0 1\n\
+        submit 0 0 0 0 5 1\ntake 10 0 0\ntake 10 0 0\nreport 10 7 0 7\nreport 10 8 0 6\n\
+        done 10 8 0 6\ndone 10 9 0 1000000001\ndone 10 9 0 7\ndone 10 9 0 7\n"
+    )?;
+    answers(
+        &rt,
+        rt.alloc(),
+        input.as_str(),
+        "refused tenant 2\nrefused kind 1\nrefused cost 0\nrefused worker 1\nrequest 0\n\
+        run 0 5 1\nrefused busy 0\nok\nrefused falling 7 6\nrefused falling 7 6\n\
+        refused cost 1000000001\nok\nrefused not-running\n",
+    )
+}
+
 #[test]
 fn refuses_inputs(rt: HostRuntime) -> Result<(), Fail> {
     let wanted = Wanted {
@@ -136,10 +196,8 @@ fn refuses_inputs(rt: HostRuntime) -> Result<(), Fail> {
     };
     for input in [
         "",
-        "script 1\nconfig 1 2dfq recent 1000 100 10\ntenant a 1\nkind get\n",
         "script 1\nconfig 1 wfq declared 1000 100 10\ntenant a 1\nkind get\n",
-        "script 1\nconfig 1 2dfq declared 1000 100 10\ntenant a 1\nkind get\n\
-        submit 0 0 0 0 5 1\ntake 10 0 0\nreport 10 1 0 1\n",
+        "script 1\nconfig 1 2dfq_nostagger recent 1000 100 10\ntenant a 1\nkind get\n",
     ] {
         let mut source = source_of(rt.alloc(), input)?;
         check(
