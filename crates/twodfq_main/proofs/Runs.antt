@@ -1,11 +1,11 @@
 -- What a whole run says of its status alone.
-use Rattle.std.proofs.Common.{ℕ, ◌+◌, ◌<◌, ◌≤◌, ◌≡◌, ◌↔◌, ◌⊎◌, inl, inr, arith, refl, sym, ◌∙◌, ap, subst, List, [], ◌∷◌, length, Option, None, Some, Result, Ok, Err, IsSome, IfSome, IsSomeAnd}
+use Rattle.std.proofs.Common.{ℕ, ◌≤◌, ◌≡◌, ◌↔◌, ◌⊎◌, inl, inr, arith, refl, sym, ◌∙◌, ap, List, length, Option, None, Some, Result, Ok, Err, IsSome}
 use Rattle.std.proofs.lemmas.Bool.{false≢true}
 use Rattle.fq_io.specs.Faults.{Rose}
 use Rattle.fq_io.specs.Sources.{TookTooMany}
 use Rattle.fq_model.specs.Script.{Script}
 use Rattle.twodfq_main.specs.Program.{Device, Ends, IsRun, IsCommandLine, IsServed, IsNotAccepted, accepted_script, greatest_input, status_of}
-use Rattle.twodfq_main.specs.Causes.{IsRefused, IsTaken, MayRefuse, MustRefuse, MustServe}
+use Rattle.twodfq_main.specs.Causes.{MayRefuse, MustRefuse, MustServe}
 use Rattle.twodfq_main.specs.declared.stop.Stop.{Stop}
 use Rattle.twodfq_main.specs.declared.stop.Stop.TheVariants.{Words, TooLong, NotAccepted, Reading, Writing, NoMemory}
 

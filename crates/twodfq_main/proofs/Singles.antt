@@ -1,5 +1,5 @@
 -- Lists of one item.
-use Rattle.std.proofs.Common.{ℕ, ◌<◌, ◌≤◌, ◌≡◌, ◌↔◌, arith, refl, sym, ◌∙◌, ap, Bool, IsTrue, List, [], ◌∷◌, length, get_or, map}
+use Rattle.std.proofs.Common.{ℕ, ◌≤◌, ◌≡◌, ◌↔◌, arith, sym, ◌∙◌, ap, Bool, IsTrue, List, [], ◌∷◌, length, get_or, map}
 use Rattle.std.specs.Str.{bytes_eq}
 use Rattle.std.proofs.lemmas.Slice.Eq.{bytes_eq-Decides}
 

@@ -1,5 +1,5 @@
 -- What a status of the program says of the words and of an input whose bytes are told, and the other way round.
-use Rattle.std.specs.Prelude.{ℕ, ◌<◌, ◌≤◌, ◌≡◌, List, length, Option, None, Some, ◌⊎◌, IsSome, IfSome, IsSomeAnd}
+use Rattle.std.specs.Prelude.{ℕ, ◌<◌, ◌≤◌, ◌≡◌, List, length, Option, None, ◌⊎◌, IsSome, IfSome, IsSomeAnd}
 use Rattle.twodfq_main.specs.Program.{accepted_script, greatest_input}
 
 -- the input is not accepted, or is longer than an input may be

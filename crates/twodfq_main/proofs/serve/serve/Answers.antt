@@ -1,4 +1,4 @@
-use Rattle.std.proofs.Common.{ap, ◌∙◌, sym, not}
+use Rattle.std.proofs.Common.{ap, ◌∙◌, not}
 use Rattle.fq_model.specs.History.{history_of}
 use Rattle.twodfq_main.proofs.Serving.{outcome_next}
 use Rattle.twodfq_main.proofs.serve.serve.Goals as goal
