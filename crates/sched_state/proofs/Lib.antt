@@ -1,3 +1,4 @@
 pub mod JobMaps
 pub mod Labels
+pub mod Charging
 pub mod Keeping

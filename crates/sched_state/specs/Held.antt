@@ -6,6 +6,8 @@ use Rattle.fq_model.specs.Limits.{InLimits}
 use Rattle.fq_model.specs.History.{History, request_at, is_waiting, waiting}
 use Rattle.fq_model.specs.Rules.{IsLegal}
 use Rattle.sched_state.specs.Jobs.{JobMap, Kept}
+use Rattle.sched_state.specs.Charges.{ChargesAre}
+use Rattle.sched_state.specs.declared.charges.Charges.{Charges}
 
 -- the label of request q, if it waits
 abbrev pub waiting_label : History → ℕ → Option ℕ
@@ -23,3 +25,8 @@ pub record Keeps {J : Type 0} (label : J → ℕ) (C : Config) (P : History) (ca
   pub requests_fit : C.requests ≤ kept.room
   pub counted : map.len kept.by_request ≡ waiting P
   pub held : HoldsWaiting label P kept.by_request
+
+-- and so are its charges
+pub record Stands {J : Type 0} (label : J → ℕ) (C : Config) (P : History) (capacity : ℕ) (kept : Kept J) (charges : Charges) : Type 0 where
+  pub keeps : Keeps label C P capacity kept
+  pub charges_are : ChargesAre C P charges

@@ -1,4 +1,5 @@
 pub mod Jobs
 pub mod State
+pub mod Charges
 pub mod Held
 pub mod Replies

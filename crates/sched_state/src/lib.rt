@@ -1,6 +1,7 @@
 //! One history of one scheduler, with the jobs of the requests that wait.
 #![tactic(auto)]
 
+mod charges;
 mod jobs;
 mod replies;
 mod scheduler;

@@ -3,19 +3,27 @@ ghost use Rattle.std.specs.Prelude.{◌≡◌, ◌≤◌, ◌<◌, [], IfOk, IfE
 ghost use Rattle.std.specs.FinMap as map;
 ghost use Rattle.fq_model.specs.declared.config.Policy.TheVariants.{TwoDfq};
 ghost use Rattle.fq_model.specs.declared.event.Call.TheVariants as call;
+ghost use Rattle.fq_model.specs.Limits.{InLimits};
 ghost use Rattle.fq_model.specs.History.{history_of};
 ghost use Rattle.fq_model.specs.Rules.{Answers, IsLegal};
 ghost use Rattle.refold.specs.Answer.{with_entry};
+ghost use Rattle.refold.specs.Pasts.{IsPast};
+ghost use Rattle.sched_state.specs.Charges.{ChargesAre};
 ghost use Rattle.sched_state.specs.Held.{HoldsWaiting};
 ghost use Rattle.sched_state.specs.Replies.{submit_reply, take_reply, report_reply, done_reply, close_reply, HandsOut, IsTakeCause, IsWithheld};
 
+use crate::charges::Charges;
 use crate::jobs::Jobs;
 use crate::replies::{AlreadyClosed, NoMemory, Refused, Taken};
 use fq_model::config::Checked;
-use fq_model::event::{Cause, Entry, Reply};
+use fq_model::event::{Act, Cause, Entry, Reply};
 use fq_model::job::Job;
+use refold::answer::Answer;
+use refold::choice::choice;
+use refold::entries::{closed, effective};
+use refold::refusals::take_refusal;
 use refold::reply;
-use refold::take::take;
+use refold::requests::submitted;
 use std::alloc::Global;
 use std::marker::Model;
 
@@ -28,13 +36,14 @@ pub struct Scheduler<J: Job> {
     config: Checked,
     past: Vec<Entry>,
     jobs: Jobs<J>,
+    charges: Charges,
 }
 
 impl<J: Job> Model for Scheduler<J> {
     ghost use Rattle.std.specs.Prelude.{vec_capacity};
     ghost use Rattle.fq_model.specs.History.{history_of};
     ghost use Rattle.sched_state.specs.State.{State, state_code};
-    ghost use Rattle.sched_state.specs.Held.{Keeps};
+    ghost use Rattle.sched_state.specs.Held.{Stands};
 
     ghost Value = { State J };
 
@@ -42,7 +51,7 @@ impl<J: Job> Model for Scheduler<J> {
 
     ghost view = { λ s. record { config = s.config; past = s.past.items; jobs = s.jobs.by_request } };
 
-    ghost invariant = { λ s. Keeps J.label_of s.config (history_of s.past.items) (vec_capacity s.past) s.jobs };
+    ghost invariant = { λ s. Stands J.label_of s.config (history_of s.past.items) (vec_capacity s.past) s.jobs s.charges };
 }
 
 impl<J: Job + Drop> Scheduler<J> {
@@ -59,7 +68,13 @@ impl<J: Job + Drop> Scheduler<J> {
         let Ok(jobs) = Jobs::open(alloc, config.requests() as usize) else {
             return Err(NoMemory);
         };
-        Ok(Scheduler { config, past, jobs })
+        let charges = Charges::open(alloc, &config)?;
+        Ok(Scheduler {
+            config,
+            past,
+            jobs,
+            charges,
+        })
     }
 
     /// A request of this tenant and kind comes, with the cost that its submitter names for it, in microseconds.
@@ -89,7 +104,12 @@ impl<J: Job + Drop> Scheduler<J> {
             declared,
             job.label(),
         );
-        enter(&mut self.past, answer.entry);
+        enter(
+            &self.config,
+            &mut self.past,
+            &mut self.charges,
+            answer.entry,
+        );
         match answer.reply {
             Reply::Request(request) => {
                 self.jobs.keep(request, job);
@@ -106,8 +126,20 @@ impl<J: Job + Drop> Scheduler<J> {
         ensures config { self.new.config ≡ self.old.config }
         ensures jobs { HandsOut self.old result self.new }
     {
-        let answer = take(&self.config, self.past.as_slice(), who, moment, worker);
-        enter(&mut self.past, answer.entry);
+        let answer = take(
+            &self.config,
+            self.past.as_slice(),
+            &self.charges,
+            who,
+            moment,
+            worker,
+        );
+        enter(
+            &self.config,
+            &mut self.past,
+            &mut self.charges,
+            answer.entry,
+        );
         match answer.reply {
             Reply::Run {
                 request,
@@ -148,7 +180,12 @@ impl<J: Job + Drop> Scheduler<J> {
             worker,
             used,
         );
-        enter(&mut self.past, answer.entry);
+        enter(
+            &self.config,
+            &mut self.past,
+            &mut self.charges,
+            answer.entry,
+        );
         match answer.reply {
             Reply::Refused(why) => Err(why),
             _ => Ok(()),
@@ -170,7 +207,12 @@ impl<J: Job + Drop> Scheduler<J> {
             worker,
             cost,
         );
-        enter(&mut self.past, answer.entry);
+        enter(
+            &self.config,
+            &mut self.past,
+            &mut self.charges,
+            answer.entry,
+        );
         match answer.reply {
             Reply::Refused(cause) => Err(cause),
             _ => Ok(()),
@@ -185,7 +227,12 @@ impl<J: Job + Drop> Scheduler<J> {
         ensures unchanged { OnErr result (self.new ≡ self.old) }
     {
         let answer = reply::close(&self.config, self.past.as_slice(), who, moment);
-        enter(&mut self.past, answer.entry);
+        enter(
+            &self.config,
+            &mut self.past,
+            &mut self.charges,
+            answer.entry,
+        );
         match answer.reply {
             Reply::Refused(_) => Err(AlreadyClosed),
             _ => Ok(()),
@@ -221,13 +268,60 @@ fn withheld<J>(cause: Cause) -> Taken<J>
     }
 }
 
-// Adds the entry, if there is one, for which there is room.
-fn enter(past: &mut Vec<Entry>, entry: Option<Entry>)
-    requires { OnSome entry (vec_len past.old < vec_capacity past.old) }
+// What a take is answered: the head of the chosen tenant, where something waits, at its estimate.
+fn take(
+    config: &Checked,
+    past: &[Entry],
+    charges: &Charges,
+    who: u32,
+    moment: u64,
+    worker: u32,
+) -> Answer
+    requires past { IsPast config.now past.now }
+    requires charges { ChargesAre config.now (history_of past.now) charges.now }
+    ensures { Answers config.now (history_of past.now) (call.Take who moment worker) result.reply (with_entry result.entry (history_of past.now)) }
+{
+    if let Some(cause) = take_refusal(config, past, worker) {
+        return Answer::refused(cause);
+    }
+    let moment = effective(past, moment);
+    let Some((_, keys)) = choice(config, past, moment, worker) else {
+        return Answer::kept(if closed(past) {
+            Reply::Drained
+        } else {
+            Reply::Idle
+        });
+    };
+    let request = keys.request;
+    let Some(asked) = submitted(past, request) else {
+        unreachable!()
+    };
+    let estimate = charges.estimate(asked);
+    let reply = Reply::Run {
+        request,
+        estimate,
+        label: asked.label,
+    };
+    let act = Act::Take {
+        worker,
+        request,
+        estimate,
+    };
+    Answer::accepted(reply, who, moment, act)
+}
+
+// Adds the entry, if there is one, which is legal and for which there is room.
+fn enter(config: &Checked, past: &mut Vec<Entry>, charges: &mut Charges, entry: Option<Entry>)
+    requires limits { InLimits config.now }
+    requires legal { IsLegal config.now (with_entry entry (history_of past.old.items)) }
+    requires charges { ChargesAre config.now (history_of past.old.items) charges.old }
+    requires room { OnSome entry (vec_len past.old < vec_capacity past.old) }
     ensures history { history_of past.new.items ≡ with_entry entry (history_of past.old.items) }
     ensures capacity { vec_capacity past.old ≤ vec_capacity past.new }
+    ensures charges { ChargesAre config.now (history_of past.new.items) charges.new }
 {
     if let Some(entry) = entry {
+        charges.follow(config, past.as_slice(), &entry);
         if past.push(entry).is_err() {
             unreachable!();
         }

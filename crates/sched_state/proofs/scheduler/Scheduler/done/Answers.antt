@@ -6,21 +6,26 @@ use Rattle.fq_model.specs.declared.event.Reply.TheVariants as answer
 use Rattle.fq_model.specs.History.{history_of}
 use Rattle.fq_model.specs.Rules.{Answers}
 use Rattle.refold.specs.Answer.{with_entry}
-use Rattle.fq_laws.proofs.Answering.{refused_leaves}
+use Rattle.fq_laws.proofs.Answering.{answer_legal, refused_leaves}
 use Rattle.sched_state.proofs.Keeping.{enter_room, keeps_done, same_past}
 use Rattle.sched_state.proofs.scheduler.Scheduler.done.Goals as goal
 use Rattle.sched_state.proofs.scheduler.Scheduler.done.Goals.{in-Refused, in_default}
 
-pub enter-requires : goal.enter-requires
-enter-requires g c =
+pub enter-requires-clause-legal : goal.enter-requires-clause-legal
+enter-requires-clause-legal g c =
+    let a : Answers c.self.inside.config (history_of c.self.inside.past.items) (call.Done c.args.who c.args.moment c.args.worker c.args.cost) c.done-answer.result.reply (with_entry c.done-answer.result.entry (history_of c.self.inside.past.items)) = rw c.as_slice.ensures.value at c.done-answer.ensures in
+    answer_legal c.self.inside.config (history_of c.self.inside.past.items) (call.Done c.args.who c.args.moment c.args.worker c.args.cost) c.done-answer.result.reply _ c.self.invariant.keeps.limits c.self.invariant.keeps.legal a
+
+pub enter-requires-clause-room : goal.enter-requires-clause-room
+enter-requires-clause-room g c =
     let a : Answers c.self.inside.config (history_of c.self.inside.past.items) (call.Done c.args.who c.args.moment c.args.worker c.args.cost) c.done-answer.result.reply (with_entry c.done-answer.result.entry (history_of c.self.inside.past.items)) = rw c.as_slice.ensures.value at c.done-answer.ensures in
     let sized : vec_len c.self.inside.past ≡ length (history_of c.self.inside.past.items) = let o = c.self.inside.past.ok in omega (arith, o, length-reverse c.self.inside.past.items) in
-    enter_room g.J.Job.label_of c.self.inside.config (history_of c.self.inside.past.items) _ c.self.inside.jobs (call.Done c.args.who c.args.moment c.args.worker c.args.cost) c.done-answer.result.reply c.done-answer.result.entry _ c.self.invariant a sized
+    enter_room g.J.Job.label_of c.self.inside.config (history_of c.self.inside.past.items) _ c.self.inside.jobs (call.Done c.args.who c.args.moment c.args.worker c.args.cost) c.done-answer.result.reply c.done-answer.result.entry _ c.self.invariant.keeps a sized
 
 pub invariant_of-self : goal.invariant_of-self
 invariant_of-self g c =
     let a : Answers c.self.inside.config (history_of c.self.inside.past.items) (call.Done c.args.who c.args.moment c.args.worker c.args.cost) c.done-answer.result.reply (with_entry c.done-answer.result.entry (history_of c.self.inside.past.items)) = rw c.as_slice.ensures.value at c.done-answer.ensures in
-    keeps_done g.J.Job.label_of c.self.inside.config (history_of c.self.inside.past.items) (history_of c.enter.new.past.items) c.args.who c.args.moment c.args.worker c.args.cost c.done-answer.result.reply _ _ c.self.inside.jobs c.self.invariant (rw (← c.enter.ensures.history) at a) c.enter.ensures.capacity
+    record { keeps = keeps_done g.J.Job.label_of c.self.inside.config (history_of c.self.inside.past.items) (history_of c.enter.new.past.items) c.args.who c.args.moment c.args.worker c.args.cost c.done-answer.result.reply _ _ c.self.inside.jobs c.self.invariant.keeps (rw (← c.enter.ensures.history) at a) c.enter.ensures.capacity; charges_are = c.enter.ensures.charges }
 
 pub returns-clause-unchanged : goal.returns-clause-unchanged
 returns-clause-unchanged g c = elim c.match-answer.branch [
