@@ -152,8 +152,36 @@ fn room(rt: HostRuntime) -> Result<(), Fail> {
             job: 1
         }
     );
+    assert_eq!(rt; scheduler.report(10, 1, 0, 1), Err(Cause::Full(4)));
     assert_eq!(rt; scheduler.done(10, 5, 0, 5), Ok(()));
     assert_eq!(rt; scheduler.close(0, 5), Ok(()));
+    Ok(())
+}
+
+#[test]
+fn reports(rt: HostRuntime) -> Result<(), Fail> {
+    let mut scheduler = opened::<u64>(rt.alloc(), 100, 10).expect(&rt, "a scheduler");
+    assert_eq!(rt; scheduler.report(10, 0, 1, 7), Err(Cause::Worker(1)));
+    assert_eq!(rt; scheduler.report(10, 0, 0, 7), Err(Cause::NotRunning));
+    assert_eq!(rt; scheduler.submit(0, 0, 0, 0, 5, 1), Ok(0));
+    assert_eq!(rt;
+        scheduler.take(10, 0, 0),
+        Taken::Run {
+            request: 0,
+            estimate: 5,
+            job: 1
+        }
+    );
+    assert_eq!(rt;
+        scheduler.report(10, 7, 0, 1000000001),
+        Err(Cause::Cost(1000000001))
+    );
+    assert_eq!(rt; scheduler.report(10, 7, 0, 7), Ok(()));
+    let falling = Cause::Falling { last: 7, given: 6 };
+    assert_eq!(rt; scheduler.report(10, 8, 0, 6), Err(falling));
+    assert_eq!(rt; scheduler.done(10, 8, 0, 6), Err(falling));
+    assert_eq!(rt; scheduler.past().len(), 3);
+    assert_eq!(rt; scheduler.done(10, 9, 0, 7), Ok(()));
     Ok(())
 }
 
