@@ -11,22 +11,22 @@ use Rattle.waiting_lists.specs.Waiting.{Waiting}
 use Rattle.waiting_lists.proofs.Owners.{updated, updated_same, updated_other}
 use Rattle.waiting_lists.proofs.Counts.{whole}
 
--- the link to a slot in a row of so many
+-- the link to a slot in a numbers_from of so many
 abbrev pub link_in : ℕ → ℕ → Option ℕ
 link_in slot slots = cond (ltb slot slots) (Some slot) None
 
 -- so many numbers from this one on
-abbrev pub row : ℕ → ℕ → List ℕ
-row from zero = []
-row from (suc more) = from ∷ row (from + 1) more
+abbrev pub numbers_from : ℕ → ℕ → List ℕ
+numbers_from from zero = []
+numbers_from from (suc more) = from ∷ numbers_from (from + 1) more
 
-pub length-row : (from many : ℕ) → length (row from many) ≡ many
-length-row from zero = refl
-length-row from (suc more) = ap suc (length-row (from + 1) more)
+pub length-numbers_from : (from many : ℕ) → length (numbers_from from many) ≡ many
+length-numbers_from from zero = refl
+length-numbers_from from (suc more) = ap suc (length-numbers_from (from + 1) more)
 
 -- at first all slots are free
 abbrev pub numbers_at_first : ℕ → ℕ → ℕ → List ℕ
-numbers_at_first tenants slots = updated (λ u. []) tenants (row 0 slots)
+numbers_at_first tenants slots = updated (λ u. []) tenants (numbers_from 0 slots)
 
 ends_none : (tenants t : ℕ) → t < tenants → get_or {A = Option Ends} (replicate tenants None) t None ≡ None
 ends_none tenants t lt = get_or-replicate {A = Option Ends} tenants t None None lt
@@ -51,13 +51,13 @@ module _ {J : Type 0} where
         ];
       }
 
-  -- all slots are linked in a row
-  row_linked : (places : List (Slot J)) (slots from more : ℕ) → AreLinkedSoFar places slots slots → from + more ≡ slots → AreLinked places (link_in from slots) (row from more)
-  row_linked places slots from zero h e = cond-false (ltb from slots) (Some from) None (le-ltb from slots (omega arith))
-  row_linked places slots from (suc more) h e = (
+  -- all slots are linked in a numbers_from
+  numbers_linked : (places : List (Slot J)) (slots from more : ℕ) → AreLinkedSoFar places slots slots → from + more ≡ slots → AreLinked places (link_in from slots) (numbers_from from more)
+  numbers_linked places slots from zero h e = cond-false (ltb from slots) (Some from) None (le-ltb from slots (omega arith))
+  numbers_linked places slots from (suc more) h e = (
     cond-true (ltb from slots) (Some from) None (lt-ltb from slots (omega arith)),
     omega (arith, h.size, e),
-    subst (λ o. AreLinked places o (row (from + 1) more)) (sym (ap (λ (s : Slot J). s.next) (h.linked from (omega arith)))) (row_linked places slots (from + 1) more h (omega arith)),
+    subst (λ o. AreLinked places o (numbers_from (from + 1) more)) (sym (ap (λ (s : Slot J). s.next) (h.linked from (omega arith)))) (numbers_linked places slots (from + 1) more h (omega arith)),
   )
 
   items_from_none : (slots : List (Slot J)) (fuel : ℕ) → items_from slots fuel None ≡ []
@@ -78,15 +78,15 @@ module _ {J : Type 0} where
       numbers = numbers_at_first tenants slots;
       owned = λ t i le stands. elim (cases_eq t tenants) [
         | inl e ↦ sym e
-        | inr ne ↦ absurd (subst (StandsIn i) (updated_other (λ u. []) tenants (row 0 slots) t ne) stands)
+        | inr ne ↦ absurd (subst (StandsIn i) (updated_other (λ u. []) tenants (numbers_from 0 slots) t ne) stands)
       ];
       listed = λ t lt.
           let known : t < tenants = omega (arith, lt, many) in
-          let empty : numbers_at_first tenants slots t ≡ [] = updated_other (λ u. []) tenants (row 0 slots) t (λ e. omega (arith, known, e)) in
+          let empty : numbers_at_first tenants slots t ≡ [] = updated_other (λ u. []) tenants (numbers_from 0 slots) t (λ e. omega (arith, known, e)) in
           subst (λ o. AreListOf places o (numbers_at_first tenants slots t)) (sym (ends_none tenants t known)) (subst (AreListOf places None) (sym empty) (record { linked = refl; occupied = λ i s. absurd s; last = tt }));
-      spare = subst (λ o. AreLinked places o (numbers_at_first tenants slots (length (replicate {A = Option Ends} tenants None)))) (sym free_is) (subst (AreLinked places (link_in 0 slots)) (sym free_numbers) (row_linked places slots 0 slots h (omega arith)));
-      short = λ t lt. omega (arith, ap (λ (l : List ℕ). length l) (updated_other (λ u. []) tenants (row 0 slots) t (λ e. omega (arith, lt, many, e))));
-      total = omega (arith, count_none places tenants, ap (λ (l : List ℕ). length l) free_numbers, length-row 0 slots, h.size);
+      spare = subst (λ o. AreLinked places o (numbers_at_first tenants slots (length (replicate {A = Option Ends} tenants None)))) (sym free_is) (subst (AreLinked places (link_in 0 slots)) (sym free_numbers) (numbers_linked places slots 0 slots h (omega arith)));
+      short = λ t lt. omega (arith, ap (λ (l : List ℕ). length l) (updated_other (λ u. []) tenants (numbers_from 0 slots) t (λ e. omega (arith, lt, many, e))));
+      total = omega (arith, count_none places tenants, ap (λ (l : List ℕ). length l) free_numbers, length-numbers_from 0 slots, h.size);
     };
     counted = sym (count_none places tenants);
     in_range = omega (arith, h.size, in_range);
@@ -95,8 +95,8 @@ module _ {J : Type 0} where
       many : length (replicate {A = Option Ends} tenants None) ≡ tenants
       many = length-replicate tenants None
 
-      free_numbers : numbers_at_first tenants slots (length (replicate {A = Option Ends} tenants None)) ≡ row 0 slots
-      free_numbers = ap (numbers_at_first tenants slots) many ∙ updated_same (λ u. []) tenants (row 0 slots)
+      free_numbers : numbers_at_first tenants slots (length (replicate {A = Option Ends} tenants None)) ≡ numbers_from 0 slots
+      free_numbers = ap (numbers_at_first tenants slots) many ∙ updated_same (λ u. []) tenants (numbers_from 0 slots)
 
 module _ {J : Type 0} where
   pub opened_whole : (places : List (Slot J)) (slots tenants : ℕ) (ends : List (Option Ends)) → ends ≡ replicate tenants None → length places ≡ slots → whole places ends ≡ record { lists = replicate tenants []; slots = slots }
