@@ -32,7 +32,7 @@ use Rattle.fq_laws.proofs.Estimates.{estimate_range}
 
 -- ---- virtual time
 
-advance_low : (dt n w : ℕ) → n ≤ 64 → advance_of dt n w ≤ dt * 67108864
+pub advance_low : (dt n w : ℕ) → n ≤ 64 → advance_of dt n w ≤ dt * 67108864
 unfolding advance_of
 advance_low dt n w h = elim (cases_Bool (w == 0)) [
   | inl e ↦ rw e (omega arith)

@@ -1,0 +1,40 @@
+-- What contracts see of a clock, and what its calls make of it.
+use Rattle.std.specs.Prelude.{ℕ, ◌+◌, ◌-◌, ◌*◌, ◌≤◌, ℤ, pos, ◌+ℤ◌, ◌≤ℤ◌}
+use Rattle.vt_fixed.specs.Rounding.{advance_of}
+
+-- the number of workers, the moment that it has come to, the sum of the active weights, and virtual time
+pub record ClockFace : Type 0 where
+  pub workers : ℕ
+  pub moment : ℕ
+  pub weights : ℕ
+  pub time : ℤ
+
+-- a clock that was not moved yet
+abbrev pub at_start : ℕ → ClockFace
+at_start workers = record { workers = workers; moment = 0; weights = 0; time = pos 0 }
+
+-- the clock at a moment: virtual time has moved on at the rate of the weights between
+abbrev pub moved_to : ClockFace → ℕ → ClockFace
+moved_to c moment = record {
+  workers = c.workers;
+  moment = moment;
+  weights = c.weights;
+  time = c.time +ℤ pos (advance_of (moment - c.moment) c.workers c.weights);
+}
+
+-- with one more active weight
+abbrev pub entered : ClockFace → ℕ → ClockFace
+entered c weight = record { workers = c.workers; moment = c.moment; weights = c.weights + weight; time = c.time }
+
+-- with one active weight less
+abbrev pub left : ClockFace → ℕ → ClockFace
+left c weight = record { workers = c.workers; moment = c.moment; weights = c.weights - weight; time = c.time }
+
+-- its numbers are in their limits; virtual time makes at most 64 units in a microsecond
+pub record IsInRange (c : ClockFace) : Type 0 where
+  pub workers_positive : 1 ≤ c.workers
+  pub workers_in_range : c.workers ≤ 64
+  pub moment_in_range : c.moment ≤ 1000000000000000
+  pub weights_in_range : c.weights ≤ 4096000
+  pub time_low : pos 0 ≤ℤ c.time
+  pub time_high : c.time ≤ℤ pos (c.moment * 67108864)

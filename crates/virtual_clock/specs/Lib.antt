@@ -1,0 +1,5 @@
+pub mod Clock
+pub mod Idles
+pub mod Activity
+pub mod Histories
+pub mod Laws
