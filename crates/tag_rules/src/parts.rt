@@ -1,0 +1,25 @@
+//! What heads are compared by.
+use std::marker::Model;
+
+/// What the head of a tenant is compared by: the start of its tenant and the length that it is thought to have, both
+/// in steps of virtual time, and its number. A start is 0 to 2 * 10^23, a length 0 to 1,048,576,000,000,000: `keys`
+/// makes such ones.
+#[derive(Clone, Copy, Debug, PartialEq, Eq)]
+pub struct Keys {
+    pub start: i128,
+    pub len: i128,
+    pub request: u32,
+}
+
+impl Model for Keys {
+    ghost use Rattle.fq_model.specs.Keys.{HeadKeys};
+    ghost use Rattle.tag_rules.specs.Keys.{IsInRange};
+
+    ghost Value = { HeadKeys };
+
+    ghost view = { λ k. record { start = k.start; len = k.len; request = k.request } };
+
+    ghost invariant = { λ k. IsInRange k.start k.len };
+
+    ghost inverse = { λ k. record { start = k.start; len = k.len; request = k.request } };
+}
