@@ -1,0 +1,47 @@
+-- The keys of the tenants' heads in a table, and what a choice over it reads.
+use Rattle.std.specs.Prelude.{ℕ, ◌≡◌, ◌≢◌, length, List, Option, Some, slice_get, ℤ}
+use Rattle.fq_model.specs.declared.config.Config.{Config}
+use Rattle.fq_model.specs.declared.config.Policy.{Policy}
+use Rattle.fq_model.specs.Keys.{HeadKeys, Turn, IsChoice}
+
+-- the numbers of a configuration that a choice reads
+pub record Setting : Type 0 where
+  pub policy : Policy
+  pub workers : ℕ
+  pub tenants : ℕ
+
+abbrev pub setting_of : Config → Setting
+setting_of C = record { policy = C.policy; workers = C.workers; tenants = length C.weights }
+
+-- by tenant, the keys of its head, if it has one
+abbrev pub Table : Type 0
+Table = List (Option HeadKeys)
+
+-- tenant t has the keys k
+abbrev pub Has : Table → ℕ → HeadKeys → Type 0
+Has table t k = slice_get table t ≡ Some (Some k)
+
+abbrev pub NoneHas : Table → Type 0
+NoneHas table = (t : ℕ) (k : HeadKeys) → ¬ Has table t k
+
+-- keys of tenant t are of another request than those of each other tenant
+abbrev pub IsNewTo : Table → ℕ → HeadKeys → Type 0
+IsNewTo table t k = (u : ℕ) (l : HeadKeys) → u ≢ t → Has table u l → k.request ≢ l.request
+
+-- no two tenants have keys of one request
+abbrev pub RequestsDiffer : Table → Type 0
+RequestsDiffer table = (t : ℕ) (k : HeadKeys) → Has table t k → IsNewTo table t k
+
+-- worker i chooses at virtual time v
+abbrev pub turn_of : Setting → ℕ → ℤ → Turn
+turn_of s i v = record { policy = s.policy; workers = s.workers; worker = i; virtual_time = v }
+
+-- tenant t is the choice over the table
+abbrev pub IsTableChoice : Setting → Table → ℕ → ℤ → ℕ → Type 0
+IsTableChoice s table i v t = (k : HeadKeys) × IsChoice (turn_of s i v) (Has table) t k
+
+-- what a chooser is
+pub record Choosing : Type 0 where
+  pub setting : Setting
+  pub table : Table
+  pub latest : ℤ

@@ -1,0 +1,9 @@
+//! Which tenant's head a worker takes: a choice over the keys of the heads, and four policies of it.
+#![tactic(auto)]
+
+pub mod chooser;
+pub mod plain;
+mod scan;
+#[cfg(test)]
+mod tests;
+mod turn;

@@ -1,0 +1,66 @@
+//! A chooser that goes through all keys.
+ghost use Rattle.std.specs.Prelude.{length};
+
+use crate::chooser::{Chooser, NoMemory};
+use crate::scan::{first_eligible, first_of_all};
+use crate::turn::Turn;
+use fq_model::config::{Checked, Policy};
+use std::alloc::Global;
+use std::marker::Model;
+use tag_rules::parts::Keys;
+
+/// Keeps the keys by tenant, and looks at each at a choice.
+#[derive(Drop)]
+pub struct PlainChooser {
+    policy: Policy,
+    workers: u32,
+    table: Vec<Option<Keys>>,
+    latest: i128,
+}
+
+impl Model for PlainChooser {
+    ghost use Rattle.std.specs.Prelude.{◌≤◌, length};
+    ghost use Rattle.rival_policies.specs.Tables.{Choosing, RequestsDiffer};
+
+    ghost Value = { Choosing };
+
+    ghost view = { λ c. record { setting = record { policy = c.policy; workers = c.workers; tenants = length c.table.items }; table = c.table.items; latest = c.latest } };
+
+    ghost invariant = { λ c. (length c.table.items ≤ 4096) × RequestsDiffer c.table.items };
+}
+
+impl Chooser for PlainChooser {
+    ghost setting = { λ c. c.setting };
+
+    ghost table = { λ c. c.table };
+
+    ghost latest = { λ c. c.latest };
+
+    fn open(alloc: Global, config: &Checked) -> Result<Self, NoMemory> {
+        let table = vec![in alloc; None; config.tenants() as usize]?;
+        Ok(PlainChooser {
+            policy: config.policy(),
+            workers: config.workers(),
+            table,
+            latest: 0,
+        })
+    }
+
+    fn set(&mut self, tenant: u32, keys: Option<Keys>) {
+        self.table[tenant as usize] = keys;
+    }
+
+    fn choose(&mut self, worker: u32, v: i128) -> Option<u32> {
+        self.latest = v;
+        let turn = Turn {
+            policy: self.policy,
+            workers: self.workers,
+            worker,
+            virtual_time: v,
+        };
+        match first_eligible(turn, self.table.as_slice()) {
+            Some(tenant) => Some(tenant),
+            None => first_of_all(turn, self.table.as_slice()),
+        }
+    }
+}

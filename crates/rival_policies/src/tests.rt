@@ -1,0 +1,139 @@
+ghost use Rattle.std.specs.Prelude.{◌≡◌, ◌≢◌, ◌≤◌, length, pos, IfOk};
+ghost use Rattle.rival_policies.specs.Tables.{setting_of};
+ghost use Rattle.rival_policies.specs.Tables as spec;
+
+use crate::chooser::Chooser;
+use crate::plain::PlainChooser;
+use fq_model::config::{Checked, Config, Estimator, Policy, Weights};
+use std::alloc::Global;
+use std::marker::Send;
+use std::test::Fail;
+use tag_rules::keys::keys;
+use tag_rules::parts::Keys;
+
+// One virtual unit, in steps.
+const UNIT: i128 = 1048576;
+
+// Two tenants of weight 1.
+fn two_tenants(alloc: Global, policy: Policy, workers: u32) -> Result<Checked, Fail>
+    requires low { 1 ≤ workers }
+    requires high { workers ≤ 64 }
+    ensures policy { IfOk result (λ c. c.policy ≡ policy) }
+    ensures workers { IfOk result (λ c. c.workers ≡ workers) }
+    ensures tenants { IfOk result (λ c. length c.weights ≡ 2) }
+{
+    let config = Config {
+        workers,
+        weights: Weights::from_vec(vec![in alloc; 1, 1]?),
+        kinds: 1,
+        entries: 4,
+        requests: 1,
+        policy,
+        estimate: Estimator::Declared,
+        initial: 1000,
+    };
+    Ok(config.check()?)
+}
+
+// Through any chooser: two tenants whose heads have these keys.
+fn with_heads<X: Chooser>(
+    alloc: Global,
+    policy: Policy,
+    workers: u32,
+    first: Keys,
+    second: Keys,
+) -> Result<X, Fail>
+    requires low { 1 ≤ workers }
+    requires high { workers ≤ 64 }
+    requires differ { first.request ≢ second.request }
+    ensures setting { IfOk result (λ x. X.setting x ≡ record { policy = policy; workers = workers; tenants = 2 }) }
+    ensures latest { IfOk result (λ x. X.latest x ≡ pos 0) }
+{
+    let config = two_tenants(alloc, policy, workers)?;
+    let mut chooser: X = Chooser::open(alloc, &config)?;
+    chooser.set(0, Some(first));
+    chooser.set(1, Some(second));
+    Ok(chooser)
+}
+
+fn plain(
+    alloc: Global,
+    policy: Policy,
+    workers: u32,
+    first: Keys,
+    second: Keys,
+) -> Result<PlainChooser, Fail>
+    requires low { 1 ≤ workers }
+    requires high { workers ≤ 64 }
+    requires differ { first.request ≢ second.request }
+    ensures workers { IfOk result (λ c. c.setting.workers ≡ workers) }
+    ensures tenants { IfOk result (λ c. c.setting.tenants ≡ 2) }
+    ensures latest { IfOk result (λ c. c.latest ≡ pos 0) }
+{
+    with_heads::<PlainChooser>(alloc, policy, workers, first, second)
+}
+
+// Only what may go to another thread can be passed here.
+fn send_away<T: Send + Drop>(_sent: T) {}
+
+// Of four workers the second begins a quarter of a length early: the first tenant's head is eligible from 6 units on,
+// the second's from 5.25 units.
+#[test]
+fn staggered(rt: HostRuntime) -> Result<(), Fail> {
+    let long = keys(8388608, 8, 1, 0);
+    let short = keys(5767168, 1, 1, 1);
+    let mut four = plain(rt.alloc(), Policy::TwoDfq, 4, long, short)?;
+    assert_eq!(rt; four.choose(1, 4718592), Some(1));
+    // Of two it begins half a length early: from 4 units on, and from 5.
+    let mut two = plain(rt.alloc(), Policy::TwoDfq, 2, long, short)?;
+    assert_eq!(rt; two.choose(1, 4718592), Some(0));
+    assert_eq!(rt; two.choose(0, 4718592), Some(1));
+    send_away(two);
+    Ok(())
+}
+
+// The first tenant's head finishes first, at 11 units, and starts at 10.
+#[test]
+fn eligibility(rt: HostRuntime) -> Result<(), Fail> {
+    let late = keys(10 * UNIT, 1, 1, 0);
+    let long = keys(2 * UNIT, 20, 1, 1);
+    let mut wfq = plain(rt.alloc(), Policy::Wfq, 1, late, long)?;
+    assert_eq!(rt; wfq.choose(0, 5 * UNIT), Some(0));
+    let mut wf2q = plain(rt.alloc(), Policy::Wf2q, 1, late, long)?;
+    assert_eq!(rt; wf2q.choose(0, 5 * UNIT), Some(1));
+    assert_eq!(rt; wf2q.choose(0, 10 * UNIT), Some(0));
+    // The last of two workers begins nothing early but under 2DFQ.
+    let mut msf2q = plain(rt.alloc(), Policy::Msf2q, 2, long, late)?;
+    assert_eq!(rt; msf2q.choose(1, 5 * UNIT), Some(0));
+    Ok(())
+}
+
+// Where none is eligible the first to become so is chosen, of these the first to finish, of these the lesser request.
+#[test]
+fn none_eligible(rt: HostRuntime) -> Result<(), Fail> {
+    let late = keys(10 * UNIT, 1, 1, 0);
+    let long = keys(8 * UNIT, 20, 1, 1);
+    let mut by_start = plain(rt.alloc(), Policy::Wf2q, 1, late, long)?;
+    assert_eq!(rt; by_start.choose(0, 5 * UNIT), Some(1));
+    let short = keys(8 * UNIT, 2, 1, 2);
+    let mut by_finish = plain(rt.alloc(), Policy::Wf2q, 1, long, short)?;
+    assert_eq!(rt; by_finish.choose(0, 5 * UNIT), Some(1));
+    let newer = keys(8 * UNIT, 2, 1, 3);
+    let mut by_request = plain(rt.alloc(), Policy::Wf2q, 1, newer, short)?;
+    assert_eq!(rt; by_request.choose(0, 5 * UNIT), Some(1));
+    Ok(())
+}
+
+// Of equal finishes the lesser request's is chosen.
+#[test]
+fn equal_finishes(rt: HostRuntime) -> Result<(), Fail> {
+    let newer = keys(3 * UNIT, 4, 1, 9);
+    let older = keys(4 * UNIT, 3, 1, 8);
+    let mut chooser = plain(rt.alloc(), Policy::Wf2q, 1, newer, older)?;
+    assert_eq!(rt; chooser.choose(0, 4 * UNIT), Some(1));
+    chooser.set(1, None);
+    assert_eq!(rt; chooser.choose(0, 4 * UNIT), Some(0));
+    chooser.set(0, None);
+    assert_eq!(rt; chooser.choose(0, 4 * UNIT), None);
+    Ok(())
+}

@@ -1,0 +1,77 @@
+//! Where a choice is made.
+ghost use Rattle.std.specs.Prelude.{◌≡◌, ◌↔◌, IsTrue};
+ghost use Rattle.fq_model.specs.Keys.{finish, eligible_key, IsEligible, FinishBefore, EligibleBefore};
+ghost use Rattle.rival_policies.specs.Orders.{ComesBefore};
+
+use fq_model::config::Policy;
+use std::marker::Model;
+use tag_rules::keys::eligible_key;
+use tag_rules::parts::Keys;
+
+/// Under which policy a worker, of how many, chooses, and at what virtual time, in steps.
+#[derive(Clone, Copy, Debug, PartialEq, Eq)]
+pub struct Turn {
+    pub policy: Policy,
+    pub workers: u32,
+    pub worker: u32,
+    pub virtual_time: i128,
+}
+
+impl Model for Turn {
+    ghost use Rattle.std.specs.Prelude.{◌<◌};
+    ghost use Rattle.fq_model.specs.Keys as spec;
+
+    ghost Value = { spec.Turn };
+
+    ghost view = { λ at. record { policy = at.policy; workers = at.workers; worker = at.worker; virtual_time = at.virtual_time } };
+
+    ghost invariant = { λ at. at.worker < at.workers };
+
+    ghost inverse = { λ at. record { policy = at.policy; workers = at.workers; worker = at.worker; virtual_time = at.virtual_time } };
+}
+
+impl Turn {
+    /// Whether the head may be chosen before each one that may not.
+    pub fn is_eligible(self, keys: Keys) -> bool
+        ensures { IsTrue result ↔ IsEligible self keys }
+    {
+        match self.policy {
+            Policy::Wfq => true,
+            Policy::Wf2q | Policy::Msf2q | Policy::TwoDfq => {
+                self.eligible_key(keys) <= self.virtual_time
+            }
+        }
+    }
+
+    /// Whether the head of keys `a` becomes eligible before that of `b`: by eligible key, then by finish, then by
+    /// number.
+    pub fn eligible_before(self, a: Keys, b: Keys) -> bool
+        ensures { IsTrue result ↔ EligibleBefore self a b }
+    {
+        is_before(
+            self.eligible_key(a),
+            self.eligible_key(b),
+            finishes_before(a, b),
+        )
+    }
+
+    fn eligible_key(self, keys: Keys) -> i128
+        ensures { result ≡ eligible_key self keys }
+    {
+        eligible_key(self.policy, keys, self.worker, self.workers)
+    }
+}
+
+/// Whether the head of keys `a` finishes before that of `b`: by finish, then by number.
+pub fn finishes_before(a: Keys, b: Keys) -> bool
+    ensures { IsTrue result ↔ FinishBefore a b }
+{
+    is_before(a.finish(), b.finish(), a.request < b.request)
+}
+
+// Whether a comes before b, where `next` says so of equal ones.
+fn is_before(a: i128, b: i128, next: bool) -> bool
+    ensures { IsTrue result ↔ ComesBefore a b (IsTrue next) }
+{
+    a < b || (a == b && next)
+}
