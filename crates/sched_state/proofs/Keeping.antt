@@ -1,254 +1,271 @@
--- What a scheduler keeps, call by call.
-use Rattle.std.proofs.Common.{ℕ, suc, ◌+◌, ◌-◌, ◌==◌, ◌<◌, ◌≤◌, ◌≡◌, ◌≢◌, Bool, true, false, cond, arith, refl, ap, sym, ◌∙◌, subst, List, [], ◌∷◌, length, reverse, Option, Some, None, OnSome}
-use Rattle.std.specs.Prelude.{MatchBool, option_map, is_some}
-use Rattle.std.specs.Ordering.{nat_cmp}
-use Rattle.std.specs.Cmp.{nat_cmp_total}
-use Rattle.std.specs.FinMap as map
+-- What the calls of a scheduler find and leave, over plain variables.
+use Rattle.std.proofs.Common.{ℕ, ◌<◌, ◌≤◌, ◌≡◌, ◌≢◌, Bool, true, false, cond, arith, refl, ap, sym, ◌∙◌, subst, List, [], ◌∷◌, length, Option, Some, None, slice_index, slice_get, ℤ, pos, ◌≤ℤ◌}
+use Rattle.std.specs.Prelude.{IfSome, IfNone, nat_le, is_some}
+use Rattle.std.proofs.lemmas.Bool.{ne_eqb}
 use Rattle.fq_model.specs.declared.config.Config.{Config}
 use Rattle.fq_model.specs.declared.event.Entry.{Entry}
 use Rattle.fq_model.specs.declared.event.Act.TheVariants.{Submit, Take, Report, Done, Close}
-use Rattle.fq_model.specs.declared.event.Call.{Call}
 use Rattle.fq_model.specs.declared.event.Call.TheVariants as call
 use Rattle.fq_model.specs.declared.event.Reply.{Reply}
 use Rattle.fq_model.specs.declared.event.Reply.TheVariants as answer
 use Rattle.fq_model.specs.declared.event.Cause.{Cause}
 use Rattle.fq_model.specs.declared.event.Cause.TheVariants as cause
 use Rattle.fq_model.specs.Limits.{InLimits}
-use Rattle.fq_model.specs.History.{History, history_of, is_closed, is_waiting, waiting, submits}
-use Rattle.fq_model.specs.Time.{effective_moment}
-use Rattle.fq_model.specs.Rules.{IsLegal, FitsSubmit, FitsTake, IsAnswered, IsAccepted, RunsChosen, AnswersFree, RefusedOrElse, Answers, request_on, submit_refusal, take_refusal, report_refusal, done_refusal, close_refusal}
-use Rattle.std.proofs.lemmas.List.{reverse-reverse}
-use Rattle.fq_laws.proofs.Legality.{after, take_waits, waiting_report, waiting_done, waiting_close, waiting_none}
-use Rattle.fq_laws.proofs.Counts.{waiting_submitted, waiting_taken}
-use Rattle.fq_laws.proofs.Room.{length_entries}
-use Rattle.fq_laws.proofs.Refusals.{MayTake, refused_keeps, submit_fits, take_may}
-use Rattle.fq_laws.proofs.Answering.{answer_legal}
-use Rattle.refold.specs.Answer.{with_entry}
-use Rattle.sched_state.specs.Jobs.{Kept}
-use Rattle.sched_state.specs.State.{State}
-use Rattle.sched_state.specs.declared.replies.Taken.{Taken}
-use Rattle.sched_state.specs.Replies.{HandsOut, IsWithheld}
-use Rattle.sched_state.specs.Held.{waiting_label, Keeps}
-use Rattle.sched_state.proofs.JobMaps.{found_with, found_without}
-use Rattle.sched_state.proofs.Labels.{label_nil, label_submit, label_take, label_report, label_done, label_close, label_new}
+use Rattle.fq_model.specs.History.{History, history_of, Request, request_at, is_of_tenant, is_closed, waiting, submits, running_on, head, weight_at}
+use Rattle.fq_model.specs.Time.{last_moment, effective_moment, virtual_time, virtual_idle_time}
+use Rattle.fq_model.specs.Charge.{estimate_at}
+use Rattle.fq_model.specs.Keys.{HeadKeys, keys_at, start, IsChoiceAt}
+use Rattle.fq_model.specs.Rules.{IsLegal, FitsSubmit, FitsTake, FitsUse, HasRoom, IsChosen, RunsChosen, AnswersFree, RefusedOrElse, Answers, request_on, first_true, submit_refusal, take_refusal, report_refusal, done_refusal}
+use Rattle.fq_laws.specs.Words.{concerns}
+use Rattle.fq_laws.proofs.Answering.{accepted_legal}
+use Rattle.fq_laws.proofs.Choices.{no_head_no_keys, keys_tenant_known}
+use Rattle.fq_laws.proofs.Clocks.{virtual_time_step}
+use Rattle.fq_laws.proofs.Legality.{after, choice_head, keys_head}
+use Rattle.fq_laws.proofs.Refusals.{MayTake, submit_fits, take_may, report_fits, done_fits, request_on_is}
+use Rattle.fq_laws.proofs.Requests.{of_other, request_known}
+use Rattle.fq_laws.proofs.Room.{last_moment_small, length_entries}
+use Rattle.charge_book.specs.declared.row.RunRow.{RunRow}
+use Rattle.waiting_lists.specs.declared.item.Item.{Item}
+use Rattle.waiting_lists.specs.Waiting as lists
+use Rattle.sched_state.specs.declared.charges.Charges.{Charges}
+use Rattle.sched_state.specs.declared.times.Times.{Times}
+use mir.Val.{to_z, of_z}
+use Rattle.std.specs.Int.{w128}
+use Rattle.std.proofs.lemmas.Int.{ints}
+use Rattle.fq_model.specs.declared.config.Policy.{Policy}
+use Rattle.cost_estimate.specs.AnyCost.{kinds_of}
+use Rattle.sched_state.specs.Charges.{ChargesAre, IsAskedBy, StartsAt}
+use Rattle.sched_state.specs.Times.{TimesAre}
+use Rattle.rival_policies.specs.Tables.{Choosing}
+use Rattle.sched_state.specs.declared.tally.Tally.{Tally}
+use Rattle.sched_state.specs.Heads.{HeadIs, ChoosingIs}
+use Rattle.sched_state.specs.Held.{Mirrors, Stands, Entered, MayEnter}
+use Rattle.sched_state.specs.Replies.{IsTakeCause}
+use Rattle.sched_state.specs.Tallies.{TallyIs}
+use Rattle.sched_state.specs.Queues.{QueuesAre}
+use Rattle.sched_state.proofs.Queueing.{item_head, no_item_head}
+use Rattle.sched_state.proofs.Rows.{RowSays}
+
+-- ---- answers
+
+-- refused for this cause
+pub refused : (o : Option Cause) (c : Cause) (P : History) (X : Type 0) → o ≡ Some c → RefusedOrElse o P (answer.Refused c) P X
+refused o c P X e = subst (λ z. RefusedOrElse z P (answer.Refused c) P X) (sym e) (refl, refl)
+
+-- or else
+pub not_refused : (o : Option Cause) (P : History) (reply : Reply) (Q : History) (X : Type 0) → o ≡ None → X → RefusedOrElse o P reply Q X
+not_refused o P reply Q X e x = subst (λ z. RefusedOrElse z P reply Q X) (sym e) x
+
+-- ---- the keys of a head
+
+module _ {J : Type 0} (label : J → ℕ) where
+  pub keys_none : (C : Config) (P : History) (t : ℕ) (w : lists.Waiting J) (charges : Charges) (times : Times) → Mirrors label C P w charges times → t < length C.weights → slice_get (lists.list_of w t) 0 ≡ None → keys_at C P (last_moment P) t ≡ None
+  keys_none C P t w charges times m known e = no_head_no_keys C P (last_moment P) t (no_item_head label C P t w m.limits m.legal known m.queues_are e)
+
+  weight_now : (C : Config) (P : History) (t weight : ℕ) → weight ≡ slice_index C.weights t → weight ≡ weight_at C P t
+  unfolding weight_at
+  weight_now C P t weight e = e
+
+  pub head_is : (C : Config) (P : History) (t estimate weight : ℕ) (i : Item J) (z : ℤ) (w : lists.Waiting J) (charges : Charges) (times : Times) → Mirrors label C P w charges times → t < length C.weights → slice_get (lists.list_of w t) 0 ≡ Some i → z ≡ pos (start C P (last_moment P) t) → estimate ≡ estimate_at C P t i.kind i.declared → weight ≡ slice_index C.weights t → HeadIs C P (last_moment P) t z estimate weight i.request
+  head_is C P t estimate weight i z w charges times m known e starts costs weighs =
+      let x = item_head label C P t i w m.limits m.legal known m.queues_are e in
+      record {
+        limits = m.limits;
+        legal = m.legal;
+        later = omega arith;
+        in_range = last_moment_small C P m.legal;
+        is_head = x.0;
+        asked = record { tenant = t; kind = i.kind; declared = i.declared; label = label i.job };
+        asked_is = x.1.asked;
+        start_is = starts;
+        estimate_is = costs;
+        weight_is = weight_now C P t weight weighs;
+      }
+
+  -- an item's kind is known
+  pub known_kind : (C : Config) (P : History) (t : ℕ) (i : Item J) (w : lists.Waiting J) (charges : Charges) (times : Times) → Mirrors label C P w charges times → t < length C.weights → slice_get (lists.list_of w t) 0 ≡ Some i → i.kind < kinds_of charges.costs
+  known_kind C P t i w charges times m known e =
+      let x = item_head label C P t i w m.limits m.legal known m.queues_are e in
+      omega (arith, (request_known C P i.request (record { tenant = t; kind = i.kind; declared = i.declared; label = label i.job }) m.legal x.1.asked).kind_known, m.charges_are.estimates.kinds)
+
+  -- what an account and the idle time give
+  pub starts : (C : Config) (P : History) (t : ℕ) (z idle : ℤ) (policy : Policy) (w : lists.Waiting J) (charges : Charges) (times : Times) → Mirrors label C P w charges times → t < length C.weights → policy ≡ C.policy → idle ≡ pos (virtual_idle_time C P (last_moment P) t) → idle ≤ℤ pos 67108864000000000000000 → (StartsAt C P (last_moment P) policy t (to_z w128 (of_z w128 idle)) → z ≡ pos (start C P (last_moment P) t)) → pos 0 ≤ℤ z → z ≤ℤ pos 200000000000000000000000 → to_z w128 (of_z w128 z) ≡ pos (start C P (last_moment P) t)
+  starts C P t z idle policy w charges times m known p i high from z_low z_high =
+      let back : to_z w128 (of_z w128 idle) ≡ pos (virtual_idle_time C P (last_moment P) t) = omega (arith, ints, i, high) in
+      let e : z ≡ pos (start C P (last_moment P) t) = from (record { known = known; policy_is = p; idle_is = back }) in
+      omega (arith, ints, e, z_low, z_high)
 
 -- ---- room
 
--- where an answer leaves an entry there is room for it
-pub enter_room : {J : Type 0} (label : J → ℕ) (C : Config) (P : History) (capacity : ℕ) (kept : Kept J) (c : Call) (reply : Reply) (o : Option Entry) (len : ℕ) → Keeps label C P capacity kept → Answers C P c reply (with_entry o P) → len ≡ length P → OnSome o (len < capacity)
-enter_room label C P capacity kept c reply None len k a e = tt
-enter_room label C P capacity kept c reply (Some entry) len k a e =
-    let l : IsLegal C (entry ∷ P) = answer_legal C P c reply (entry ∷ P) k.limits k.legal a in
-    omega (arith, length_entries C (entry ∷ P) k.limits l, k.entries_fit, e)
+pub room_for : (C : Config) (P : History) (e : Entry) (capacity len : ℕ) → InLimits C → IsLegal C (e ∷ P) → C.entries ≤ capacity → len ≡ length P → len < capacity
+room_for C P e capacity len lim l fit is = omega (arith, length_entries C (e ∷ P) lim l, fit, is)
 
--- one history has one list of entries
-pub same_past : (xs ys : List Entry) → history_of xs ≡ history_of ys → xs ≡ ys
-same_past xs ys e = sym (reverse-reverse xs) ∙ (ap reverse e ∙ reverse-reverse ys)
+-- virtual time at an entry
+pub time_at : (C : Config) (P : History) (e : Entry) (v : ℤ) → v ≡ pos (virtual_time C (e ∷ P) e.moment) → v ≡ pos (virtual_time C P e.moment)
+time_at C P e v is = is ∙ ap pos (virtual_time_step C P e)
 
--- ---- what stays
+-- ---- a Submit
 
--- where the history stays, so does all that is kept
-pub keeps_on : {J : Type 0} (label : J → ℕ) (C : Config) (P Q : History) (capacity more : ℕ) (kept : Kept J) → Keeps label C P capacity kept → Q ≡ P → capacity ≤ more → Keeps label C Q more kept
-keeps_on label C P Q capacity more kept k e cap = subst (λ H. Keeps label C H more kept) (sym e) (record {
-  limits = k.limits;
-  legal = k.legal;
-  entries_fit = omega (arith, k.entries_fit, cap);
-  requests_fit = k.requests_fit;
-  counted = k.counted;
-  held = k.held;
+-- it comes with this entry, is answered so, and concerns its tenant alone
+pub record Submitted (C : Config) (P : History) (who moment m tenant kind declared label r : ℕ) : Type 0 where
+  pub fits : FitsSubmit C P r tenant kind declared
+  pub legal : IsLegal C (after who m (Submit r tenant kind declared label) P)
+  pub answered : Answers C P (call.Submit who moment tenant kind declared label) (answer.Request r) (after who m (Submit r tenant kind declared label) P)
+  pub others : (u : ℕ) → u ≢ tenant → concerns P u (Submit r tenant kind declared label) ≡ false
+
+pub submitted : (C : Config) (P : History) (who moment m tenant kind declared label r : ℕ) → InLimits C → IsLegal C P → submit_refusal C P tenant kind declared ≡ None → m ≡ effective_moment P moment → r ≡ submits P → Submitted C P who moment m tenant kind declared label r
+submitted C P who moment m tenant kind declared label r lim l none m_is r_is = rw (m_is, r_is) (let f = submit_fits C P tenant kind declared lim l none in record {
+  fits = f;
+  legal = accepted_legal C P who moment (Submit (submits P) tenant kind declared label) l f;
+  answered = not_refused _ P _ _ _ none (refl, refl);
+  others = λ u ne. ne_eqb tenant u (λ e. ne (sym e));
 })
 
--- as many wait in Q as in P, with the same labels
-record Alike (P Q : History) : Type 0 where
-  count : waiting Q ≡ waiting P
-  labels : (q : ℕ) → waiting_label Q q ≡ waiting_label P q
+-- ---- a Take
 
-keeps_alike : {J : Type 0} (label : J → ℕ) (C : Config) (P Q : History) (capacity more : ℕ) (kept : Kept J) → Keeps label C P capacity kept → IsLegal C Q → Alike P Q → capacity ≤ more → Keeps label C Q more kept
-keeps_alike label C P Q capacity more kept k l same cap = record {
-  limits = k.limits;
-  legal = l;
-  entries_fit = omega (arith, k.entries_fit, cap);
-  requests_fit = k.requests_fit;
-  counted = k.counted ∙ sym same.count;
-  held = λ q. k.held q ∙ sym (same.labels q);
-}
+pub record Took (C : Config) (P : History) (who moment m worker t r estimate label : ℕ) : Type 0 where
+  pub legal : IsLegal C (after who m (Take worker r estimate) P)
+  pub answered : Answers C P (call.Take who moment worker) (answer.Run r estimate label) (after who m (Take worker r estimate) P)
+  pub asked_by : (kind : ℕ) → (declared : ℕ) → request_at P r ≡ Some (record { tenant = t; kind = kind; declared = declared; label = label }) → IsAskedBy P r t kind
+  pub others : (u : ℕ) → u ≢ t → concerns P u (Take worker r estimate) ≡ false
 
-same_alike : (P : History) → Alike P P
-same_alike P = record { count = refl; labels = λ q. refl }
+same_request : (P : History) (t a b : ℕ) → head P t ≡ Some a → head P t ≡ Some b → a ≡ b
+same_request P t a b x y = let e : Some a ≡ Some b = sym x ∙ y in cc
 
-report_alike : (P Q : History) (who m i r used : ℕ) → Q ≡ after who m (Report i r used) P → Alike P Q
-report_alike P Q who m i r used e = subst (Alike P) (sym e) (record { count = waiting_report P who m i r used; labels = λ q. label_report P who m i r used q })
+some_waits : (C : Config) (P : History) (who moment i : ℕ) (reply : Reply) (Q : History) → waiting P ≢ 0 → RunsChosen C P who moment i reply Q → AnswersFree C P who moment i reply Q
+some_waits C P who moment i reply Q some x = rw (ne_eqb (waiting P) 0 some) x
 
-done_alike : (P Q : History) (who m i r cost : ℕ) → Q ≡ after who m (Done i r cost) P → Alike P Q
-done_alike P Q who m i r cost e = subst (Alike P) (sym e) (record { count = waiting_done P who m i r cost; labels = λ q. label_done P who m i r cost q })
+pub took : (C : Config) (P : History) (who moment m worker t r estimate kind declared label : ℕ) (k : HeadKeys) → InLimits C → IsLegal C P → take_refusal C P worker ≡ None → waiting P ≢ 0 → m ≡ effective_moment P moment → IsChoiceAt C P m worker t k → head P t ≡ Some r → request_at P r ≡ Some (record { tenant = t; kind = kind; declared = declared; label = label }) → estimate ≡ estimate_at C P t kind declared → Took C P who moment m worker t r estimate label
+took C P who moment m worker t r estimate kind declared label k lim l none some m_is choice top known costs = rw m_is (
+    let may : MayTake C P worker = take_may C P worker l none in
+    let q : Request = record { tenant = t; kind = kind; declared = declared; label = label } in
+    let at : IsChoiceAt C P (effective_moment P moment) worker t k = subst (λ z. IsChoiceAt C P z worker t k) m_is choice in
+    let number : r ≡ k.request = same_request P t r k.request top (keys_head C P (effective_moment P moment) t k (choice_head C P (effective_moment P moment) worker t k at)).1 in
+    let chosen : IsChosen C P (effective_moment P moment) worker r estimate q = record { tenant = t; keys = k; choice = at; request_is = number; asked = known; estimate_is = costs } in
+    let f : FitsTake C P (effective_moment P moment) worker r estimate = record { worker_known = may.worker_known; free = may.free; asked = q; chosen = chosen } in
+    record {
+      legal = accepted_legal C P who moment (Take worker r estimate) l f;
+      answered = not_refused _ P _ _ _ none (some_waits C P who moment worker (answer.Run r estimate label) (after who (effective_moment P moment) (Take worker r estimate) P) some (record { request = r; estimate = estimate; asked = q; chosen = chosen; accepted = (refl, refl) }));
+      asked_by = λ kind2 declared2 is. record { asked = _; known = is; tenant_is = refl; kind_is = refl };
+      others = λ u ne. of_other P u r q known (λ e. ne (sym e));
+    }
+    )
 
-close_alike : (P Q : History) (who m : ℕ) → Q ≡ after who m Close P → Alike P Q
-close_alike P Q who m e = subst (Alike P) (sym e) (record { count = waiting_close P who m; labels = λ q. label_close P who m q })
+-- nothing waits
+pub rested : (C : Config) (P : History) (who moment worker : ℕ) (b : Bool) → take_refusal C P worker ≡ None → waiting P ≡ 0 → b ≡ is_closed P → Answers C P (call.Take who moment worker) (cond b answer.Drained answer.Idle) P
+rested C P who moment worker b none nothing e = not_refused _ P _ _ _ none (rw (nothing, e) (refl, refl))
 
-pub keeps_report : {J : Type 0} (label : J → ℕ) (C : Config) (P Q : History) (who moment worker used : ℕ) (reply : Reply) (capacity more : ℕ) (kept : Kept J) → Keeps label C P capacity kept → Answers C P (call.Report who moment worker used) reply Q → capacity ≤ more → Keeps label C Q more kept
-keeps_report label C P Q who moment worker used reply capacity more kept k a cap =
-    let same : Alike P Q = refused_keeps (report_refusal C P worker used) P reply Q (IsAccepted P who moment (Report worker (request_on P worker) used) answer.Accepted reply Q) (Alike P) (same_alike P) (λ e x. report_alike P Q who (effective_moment P moment) worker (request_on P worker) used x.1) a in
-    keeps_alike label C P Q capacity more kept k (answer_legal C P (call.Report who moment worker used) reply Q k.limits k.legal a) same cap
+-- ---- a use
 
-pub keeps_done : {J : Type 0} (label : J → ℕ) (C : Config) (P Q : History) (who moment worker cost : ℕ) (reply : Reply) (capacity more : ℕ) (kept : Kept J) → Keeps label C P capacity kept → Answers C P (call.Done who moment worker cost) reply Q → capacity ≤ more → Keeps label C Q more kept
-keeps_done label C P Q who moment worker cost reply capacity more kept k a cap =
-    let same : Alike P Q = refused_keeps (done_refusal C P worker cost) P reply Q (IsAccepted P who moment (Done worker (request_on P worker) cost) answer.Accepted reply Q) (Alike P) (same_alike P) (λ e x. done_alike P Q who (effective_moment P moment) worker (request_on P worker) cost x.1) a in
-    keeps_alike label C P Q capacity more kept k (answer_legal C P (call.Done who moment worker cost) reply Q k.limits k.legal a) same cap
+-- what runs on the worker is of this tenant
+pub record Used (C : Config) (P : History) (e : Entry) (worker r t used : ℕ) : Type 0 where
+  pub fits : FitsUse P worker r used
+  pub legal : IsLegal C (e ∷ P)
+  pub tenant_known : t < length C.weights
+  pub others : (u : ℕ) → u ≢ t → is_of_tenant u (request_at P r) ≡ false
 
-pub keeps_close : {J : Type 0} (label : J → ℕ) (C : Config) (P Q : History) (who moment : ℕ) (reply : Reply) (capacity more : ℕ) (kept : Kept J) → Keeps label C P capacity kept → Answers C P (call.Close who moment) reply Q → capacity ≤ more → Keeps label C Q more kept
-keeps_close label C P Q who moment reply capacity more kept k a cap =
-    let same : Alike P Q = refused_keeps (close_refusal P) P reply Q (IsAccepted P who moment Close answer.Accepted reply Q) (Alike P) (same_alike P) (λ e x. close_alike P Q who (effective_moment P moment) x.1) a in
-    keeps_alike label C P Q capacity more kept k (answer_legal C P (call.Close who moment) reply Q k.limits k.legal a) same cap
+pub record Reported (C : Config) (P : History) (who moment m worker r t used : ℕ) : Type 0 where
+  pub used_is : Used C P (record { who = who; moment = m; act = Report worker r used }) worker r t used
+  pub answered : Answers C P (call.Report who moment worker used) answer.Accepted (after who m (Report worker r used) P)
+
+pub record Finished (C : Config) (P : History) (who moment m worker r t cost : ℕ) : Type 0 where
+  pub used_is : Used C P (record { who = who; moment = m; act = Done worker r cost }) worker r t cost
+  pub answered : Answers C P (call.Done who moment worker cost) answer.Accepted (after who m (Done worker r cost) P)
+
+used : (C : Config) (P : History) (e : Entry) (worker r used : ℕ) (q : Request) → request_at P r ≡ Some q → IsLegal C (e ∷ P) → FitsUse P worker r used → q.tenant < length C.weights → Used C P e worker r q.tenant used
+used C P e worker r cost q known l f low = record { fits = f; legal = l; tenant_known = low; others = λ u ne. of_other P u r q known (λ x. ne (sym x)) }
+
+-- a Report
+pub reported : (C : Config) (P : History) (who moment m worker used : ℕ) (row : RunRow) → InLimits C → IsLegal C P → report_refusal C P worker used ≡ None → m ≡ effective_moment P moment → RowSays C P worker row → Reported C P who moment m worker row.request row.tenant used
+reported C P who moment m worker cost row lim l none m_is says = rw (m_is, ← says.tenant_is) (
+    let on : request_on P worker ≡ row.request = request_on_is P worker row.request says.running_is in
+    let f = subst (λ z. FitsUse P worker z cost × HasRoom C P 2) on (report_fits C P worker cost l none) in
+    let legal : IsLegal C (after who (effective_moment P moment) (Report worker row.request cost) P) = accepted_legal C P who moment (Report worker row.request cost) l f in
+    record {
+      used_is = used C P _ worker row.request cost says.asked says.known legal f.0 says.tenant_known.tenant_known;
+      answered = not_refused _ P _ _ _ none (rw on (refl, refl));
+    }
+    )
+
+-- a Done
+pub finished : (C : Config) (P : History) (who moment m worker cost : ℕ) (row : RunRow) → InLimits C → IsLegal C P → done_refusal C P worker cost ≡ None → m ≡ effective_moment P moment → RowSays C P worker row → Finished C P who moment m worker row.request row.tenant cost
+finished C P who moment m worker cost row lim l none m_is says = rw (m_is, ← says.tenant_is) (
+    let on : request_on P worker ≡ row.request = request_on_is P worker row.request says.running_is in
+    let f = subst (λ z. FitsUse P worker z cost) on (done_fits C P worker cost l none) in
+    let legal : IsLegal C (after who (effective_moment P moment) (Done worker row.request cost) P) = accepted_legal C P who moment (Done worker row.request cost) l f in
+    record {
+      used_is = used C P _ worker row.request cost says.asked says.known legal f says.tenant_known.tenant_known;
+      answered = not_refused _ P _ _ _ none (rw on (refl, refl));
+    }
+    )
+
+-- ---- a Close
+
+pub record Closed (C : Config) (P : History) (who moment m : ℕ) : Type 0 where
+  pub legal : IsLegal C (after who m Close P)
+  pub answered : Answers C P (call.Close who moment) answer.Accepted (after who m Close P)
+
+pub closed : (C : Config) (P : History) (who moment m : ℕ) → IsLegal C P → is_closed P ≡ false → m ≡ effective_moment P moment → Closed C P who moment m
+closed C P who moment m l open_still m_is = rw m_is (record {
+  legal = accepted_legal C P who moment Close l open_still;
+  answered = rw open_still (refl, refl);
+})
+
+pub closed_twice : (C : Config) (P : History) (who moment : ℕ) → is_closed P ≡ true → Answers C P (call.Close who moment) (answer.Refused cause.Closed) P
+closed_twice C P who moment e = rw e (refl, refl)
+
+-- ---- after an entry
+
+-- the history is the longer one, and all that is kept is its own
+pub stands_after : {J : Type 0} (label : J → ℕ) (C : Config) (P H : History) (e : Entry) (cap more : ℕ) (tally : Tally) (w : lists.Waiting J) (charges : Charges) (times : Times) (x : Choosing) → H ≡ e ∷ P → C.entries ≤ cap → cap ≤ more → Mirrors label C (e ∷ P) w charges times → TallyIs (e ∷ P) tally → ChoosingIs C (e ∷ P) e.moment x → Stands label C H more tally w charges times x
+stands_after label C P H e cap more tally w charges times x is fit wider m t keys = subst (λ Q. Stands label C Q more tally w charges times x) (sym is) (record { mirrors = m; tally_is = t; choosing_is = keys; entries_fit = omega (arith, fit, wider) })
+
+-- the chooser's keys are those of before the entry
+pub entered_by : {J : Type 0} (label : J → ℕ) (C : Config) (P : History) (e : Entry) (w : lists.Waiting J) (charges : Charges) (times : Times) (x : Choosing) (t : ℕ) → Mirrors label C (e ∷ P) w charges times → ChoosingIs C P e.moment x → t < length C.weights → ((u : ℕ) → u ≢ t → concerns P u e.act ≡ false) → Entered label C P e w charges times x t
+entered_by label C P e w charges times x t m keys known others = record { mirrors = m; choosing_is = keys; tenant_known = known; others = others }
+
+pub may_enter : {J : Type 0} (label : J → ℕ) (C : Config) (P : History) (e : Entry) (w : lists.Waiting J) (charges : Charges) (times : Times) (x : Choosing) (t : ℕ) → Entered label C P e w charges times x t → MayEnter label C w charges times x t
+may_enter label C P e w charges times x t n = record { history = P; entry = e; entered = n }
+
+-- virtual time at a moment, as it is handed on
+pub submit_time : (C : Config) (P : History) (e : Entry) (v : ℤ) → v ≡ pos (virtual_time C (e ∷ P) e.moment) → pos 0 ≤ℤ v → v ≤ℤ pos 67108864000000000000000 → to_z w128 (of_z w128 v) ≡ pos (virtual_time C P e.moment)
+submit_time C P e v is low high = let at : v ≡ pos (virtual_time C P e.moment) = time_at C P e v is in omega (arith, ints, at, low, high)
+
+-- ---- why a take is refused
+
+-- by one of two causes
+pub take_cause : (C : Config) (P : History) (i : ℕ) (c : Cause) → take_refusal C P i ≡ Some c → IsTakeCause c
+take_cause C P i c e = go (nat_le C.workers i) (is_some (running_on P i)) e
+  where
+    go : (a b : Bool) → first_true ((a, cause.Worker i) ∷ (b, cause.Busy (request_on P i)) ∷ []) ≡ Some c → IsTakeCause c
+    go true b e = let same : cause.Worker i ≡ c = cc in subst IsTakeCause same tt
+    go false true e = let same : cause.Busy (request_on P i) ≡ c = cc in subst IsTakeCause same tt
+    go false false e = absurd (cc)
+
+-- ---- what is chosen
+
+-- the chosen tenant is known, and has a head
+pub record ChosenTenant (C : Config) (P : History) (m i t : ℕ) : Type 0 where
+  pub keys : HeadKeys
+  pub choice : IsChoiceAt C P m i t keys
+  pub known : t < length C.weights
+  pub is_head : head P t ≡ Some keys.request
+
+pub chosen_tenant : (C : Config) (P : History) (m i t : ℕ) (o : Option ℕ) → IsLegal C P → o ≡ Some t → IfSome o (λ u. (k : HeadKeys) × IsChoiceAt C P m i u k) → ChosenTenant C P m i t
+chosen_tenant C P m i t o l e h =
+    let x : (k : HeadKeys) × IsChoiceAt C P m i t k = subst (λ z. IfSome z (λ u. (k : HeadKeys) × IsChoiceAt C P m i u k)) e h in
+    let at : keys_at C P m t ≡ Some x.0 = choice_head C P m i t x.0 x.1 in
+    record { keys = x.0; choice = x.1; known = keys_tenant_known C P m t x.0 l at; is_head = (keys_head C P m t x.0 at).1 }
+
+-- so its list isn't empty
+pub listed : {J : Type 0} (label : J → ℕ) (C : Config) (P : History) (m i t : ℕ) (w : lists.Waiting J) → InLimits C → IsLegal C P → QueuesAre label C P w → ChosenTenant C P m i t → slice_get (lists.list_of w t) 0 ≡ None → ⊥
+listed label C P m i t w lim l q x none = let e : ◌≡◌ {A = Option ℕ} None (Some x.keys.request) = sym (no_item_head label C P t w lim l x.known q none) ∙ x.is_head in absurd (cc)
+
+-- something waits where nothing is none
+pub none_chosen : (P : History) (o : Option ℕ) → o ≡ None → IfNone o (waiting P ≡ 0) → waiting P ≡ 0
+none_chosen P o e h = subst (λ z. IfNone z (waiting P ≡ 0)) e h
 
 -- ---- opening
 
-pub keeps_open : {J : Type 0} (label : J → ℕ) (C : Config) (P : History) (capacity : ℕ) (kept : Kept J) → InLimits C → P ≡ [] → C.entries ≤ capacity → C.requests ≤ kept.room → kept.by_request ≡ map.empty → Keeps label C P capacity kept
-keeps_open {J} label C P capacity kept lim e cap room none = subst (λ H. Keeps label C H capacity kept) (sym e) (record {
-  limits = lim;
-  legal = tt;
-  entries_fit = cap;
-  requests_fit = room;
-  counted = ap map.len none ∙ (map.len-empty nat_cmp J ∙ sym waiting_none);
-  held = λ q. ap (λ m. option_map label (map.get m q)) none ∙ (ap (option_map label) (map.get-empty nat_cmp q) ∙ sym (label_nil q));
-})
-
--- ---- a submission
-
--- an answer that is no refusal
-not_refused : (o : Option Cause) (P : History) (reply : Reply) (Q : History) (X : Type 0) → ((c : Cause) → reply ≢ answer.Refused c) → RefusedOrElse o P reply Q X → (o ≡ None) × X
-not_refused None P reply Q X h x = (refl, x)
-not_refused (Some c) P reply Q X h x = absurd (h c x.0)
-
--- a request that is submitted, with this number
-pub record Enters (C : Config) (P : History) (who moment tenant kind declared label r : ℕ) (Q : History) : Type 0 where
-  pub numbered : r ≡ submits P
-  pub fits : FitsSubmit C P r tenant kind declared
-  pub left : Q ≡ after who (effective_moment P moment) (Submit r tenant kind declared label) P
-
-pub enters : (C : Config) (P Q : History) (who moment tenant kind declared label r : ℕ) → InLimits C → IsLegal C P → Answers C P (call.Submit who moment tenant kind declared label) (answer.Request r) Q → Enters C P who moment tenant kind declared label r Q
-enters C P Q who moment tenant kind declared label r lim l a =
-    let x : (submit_refusal C P tenant kind declared ≡ None) × IsAccepted P who moment (Submit (submits P) tenant kind declared label) (answer.Request (submits P)) (answer.Request r) Q = not_refused (submit_refusal C P tenant kind declared) P (answer.Request r) Q (IsAccepted P who moment (Submit (submits P) tenant kind declared label) (answer.Request (submits P)) (answer.Request r) Q) (λ c e. cc) a in
-    let same : answer.Request r ≡ answer.Request (submits P) = x.1.0 in
-    let n : r ≡ submits P = cc in
-    record {
-      numbered = n;
-      fits = subst (λ z. FitsSubmit C P z tenant kind declared) (sym n) (submit_fits C P tenant kind declared lim l x.0);
-      left = x.1.1 ∙ ap (λ z. after who (effective_moment P moment) (Submit z tenant kind declared label) P) (sym n);
-    }
-
-no_job : {J : Type 0} (label : J → ℕ) (o : Option J) → option_map label o ≡ None → o ≡ None
-no_job label None h = refl
-no_job label (Some job) h = absurd (cc)
-
--- its job is new
-pub new_job : {J : Type 0} (label : J → ℕ) (C : Config) (P : History) (capacity : ℕ) (kept : Kept J) (r : ℕ) → Keeps label C P capacity kept → r ≡ submits P → map.get kept.by_request r ≡ None
-new_job label C P capacity kept r k n = no_job label (map.get kept.by_request r) (k.held r ∙ label_new C P r k.legal n)
-
--- and there is room for it
-pub job_room : {J : Type 0} (label : J → ℕ) (C : Config) (P : History) (capacity : ℕ) (kept : Kept J) (r tenant kind declared : ℕ) → Keeps label C P capacity kept → FitsSubmit C P r tenant kind declared → map.len kept.by_request < kept.room
-job_room label C P capacity kept r tenant kind declared k f = omega (arith, k.counted, f.slot, k.requests_fit)
-
-mapped_cond : {J : Type 0} (label : J → ℕ) (b : Bool) (x y : Option J) → option_map label (cond b x y) ≡ cond b (option_map label x) (option_map label y)
-mapped_cond label true x y = refl
-mapped_cond label false x y = refl
-
-pub keeps_submit : {J : Type 0} (label : J → ℕ) (C : Config) (P Q : History) (who moment tenant kind declared r : ℕ) (job : J) (capacity more : ℕ) (kept new : Kept J) → Keeps label C P capacity kept → Answers C P (call.Submit who moment tenant kind declared (label job)) (answer.Request r) Q → capacity ≤ more → kept.room ≤ new.room → new.by_request ≡ map.insert kept.by_request r job → Keeps label C Q more new
-keeps_submit label C P Q who moment tenant kind declared r job capacity more kept new k a cap room is =
-    let x : Enters C P who moment tenant kind declared (label job) r Q = enters C P Q who moment tenant kind declared (label job) r k.limits k.legal a in
-    let m : ℕ = effective_moment P moment in
-    let H : History = after who m (Submit r tenant kind declared (label job)) P in
-    let none : map.get kept.by_request r ≡ None = new_job label C P capacity kept r k x.numbered in
-    let one : map.len (map.insert kept.by_request r job) ≡ map.len kept.by_request + 1 = map.len-insert nat_cmp_total kept.by_request r job ∙ ap (λ o. cond (is_some o) (map.len kept.by_request) (map.len kept.by_request + 1)) none in
-    let count : waiting H ≡ suc (waiting P) = waiting_submitted C P who m r tenant kind declared (label job) k.limits k.legal x.fits in
-    let total : map.len new.by_request ≡ waiting H = ap map.len is ∙ (one ∙ omega (arith, k.counted, count)) in
-    let found : (q : ℕ) → option_map label (map.get new.by_request q) ≡ waiting_label H q = λ q. ap (λ n. option_map label (map.get n q)) is ∙ (ap (option_map label) (found_with kept.by_request r job q) ∙ (mapped_cond label (q == r) (Some job) (map.get kept.by_request q) ∙ (ap (cond (q == r) (Some (label job))) (k.held q) ∙ sym (label_submit C P who m r tenant kind declared (label job) q k.legal x.numbered)))) in
-    record {
-      limits = k.limits;
-      legal = answer_legal C P (call.Submit who moment tenant kind declared (label job)) (answer.Request r) Q k.limits k.legal a;
-      entries_fit = omega (arith, k.entries_fit, cap);
-      requests_fit = omega (arith, k.requests_fit, room);
-      counted = total ∙ ap waiting (sym x.left);
-      held = λ q. found q ∙ ap (λ z. waiting_label z q) (sym x.left);
-    }
-
--- ---- a take
-
-free_runs : (C : Config) (P Q : History) (who moment i r estimate label : ℕ) (b : Bool) → MatchBool b (IsAnswered P (cond (is_closed P) answer.Drained answer.Idle) (answer.Run r estimate label) Q) (RunsChosen C P who moment i (answer.Run r estimate label) Q) → RunsChosen C P who moment i (answer.Run r estimate label) Q
-free_runs C P Q who moment i r estimate label true x = absurd (no_run (is_closed P) x.0)
-  where
-    no_run : (b : Bool) → answer.Run r estimate label ≡ cond b answer.Drained answer.Idle → ⊥
-    no_run true e = cc
-    no_run false e = cc
-free_runs C P Q who moment i r estimate label false x = x
-
--- a request that is taken, with this number and label
-pub record Leaves (C : Config) (P : History) (who moment i r estimate label : ℕ) (Q : History) : Type 0 where
-  pub fits : FitsTake C P (effective_moment P moment) i r estimate
-  pub labelled : waiting_label P r ≡ Some label
-  pub left : Q ≡ after who (effective_moment P moment) (Take i r estimate) P
-
-pub leaves : (C : Config) (P Q : History) (who moment i r estimate label : ℕ) → IsLegal C P → Answers C P (call.Take who moment i) (answer.Run r estimate label) Q → Leaves C P who moment i r estimate label Q
-leaves C P Q who moment i r estimate label l a =
-    let x : (take_refusal C P i ≡ None) × AnswersFree C P who moment i (answer.Run r estimate label) Q = not_refused (take_refusal C P i) P (answer.Run r estimate label) Q (AnswersFree C P who moment i (answer.Run r estimate label) Q) (λ c e. cc) a in
-    let may : MayTake C P i = take_may C P i l x.0 in
-    let y : RunsChosen C P who moment i (answer.Run r estimate label) Q = free_runs C P Q who moment i r estimate label (waiting P == 0) x.1 in
-    let same : answer.Run r estimate label ≡ answer.Run y.request y.estimate y.asked.label = y.accepted.0 in
-    let number : r ≡ y.request = cc in
-    let cost : estimate ≡ y.estimate = cc in
-    let name : label ≡ y.asked.label = cc in
-    let fits : FitsTake C P (effective_moment P moment) i y.request y.estimate = record { worker_known = may.worker_known; free = may.free; asked = y.asked; chosen = y.chosen } in
-    let waits : is_waiting P y.request ≡ true = take_waits C P (effective_moment P moment) i y.request y.estimate fits in
-    let labelled : waiting_label P y.request ≡ Some y.asked.label = rw (waits, y.chosen.asked) refl in
-    record {
-      fits = subst (λ z. FitsTake C P (effective_moment P moment) i z estimate) (sym number) (subst (λ z. FitsTake C P (effective_moment P moment) i y.request z) (sym cost) fits);
-      labelled = ap (waiting_label P) number ∙ (labelled ∙ ap Some (sym name));
-      left = y.accepted.1 ∙ (ap (λ z. after who (effective_moment P moment) (Take i z y.estimate) P) (sym number) ∙ ap (λ z. after who (effective_moment P moment) (Take i r z) P) (sym cost));
-    }
-
--- its job has the label
-pub handed_label : {J : Type 0} (label : J → ℕ) (C : Config) (P Q : History) (who moment i r estimate name : ℕ) (capacity : ℕ) (kept : Kept J) → Keeps label C P capacity kept → Answers C P (call.Take who moment i) (answer.Run r estimate name) Q → option_map label (map.get kept.by_request r) ≡ Some name
-handed_label label C P Q who moment i r estimate name capacity kept k a = k.held r ∙ (leaves C P Q who moment i r estimate name k.legal a).labelled
-
-mapped_some : {J : Type 0} (label : J → ℕ) (o : Option J) (name : ℕ) → option_map label o ≡ Some name → is_some o ≡ true
-mapped_some label None name h = absurd (cc)
-mapped_some label (Some job) name h = refl
-
-pub keeps_take : {J : Type 0} (label : J → ℕ) (C : Config) (P Q : History) (who moment i r estimate name : ℕ) (capacity more : ℕ) (kept new : Kept J) → Keeps label C P capacity kept → Answers C P (call.Take who moment i) (answer.Run r estimate name) Q → capacity ≤ more → new.room ≡ kept.room → new.by_request ≡ map.remove kept.by_request r → Keeps label C Q more new
-keeps_take label C P Q who moment i r estimate name capacity more kept new k a cap room is =
-    let x : Leaves C P who moment i r estimate name Q = leaves C P Q who moment i r estimate name k.legal a in
-    let m : ℕ = effective_moment P moment in
-    let H : History = after who m (Take i r estimate) P in
-    let some : is_some (map.get kept.by_request r) ≡ true = mapped_some label (map.get kept.by_request r) name (k.held r ∙ x.labelled) in
-    let one : map.len (map.remove kept.by_request r) ≡ map.len kept.by_request - 1 = map.len-remove nat_cmp_total kept.by_request r ∙ ap (λ b. cond b (map.len kept.by_request - 1) (map.len kept.by_request)) some in
-    let count : suc (waiting H) ≡ waiting P = waiting_taken C P who m i r estimate k.limits k.legal x.fits in
-    let total : map.len new.by_request ≡ waiting H = ap map.len is ∙ (one ∙ omega (arith, k.counted, count)) in
-    let found : (q : ℕ) → option_map label (map.get new.by_request q) ≡ waiting_label H q = λ q. ap (λ n. option_map label (map.get n q)) is ∙ (ap (option_map label) (found_without kept.by_request r q) ∙ (mapped_cond label (q == r) None (map.get kept.by_request q) ∙ (ap (cond (q == r) None) (k.held q) ∙ sym (label_take P who m i r estimate q)))) in
-    record {
-      limits = k.limits;
-      legal = answer_legal C P (call.Take who moment i) (answer.Run r estimate name) Q k.limits k.legal a;
-      entries_fit = omega (arith, k.entries_fit, cap);
-      requests_fit = omega (arith, k.requests_fit, room);
-      counted = total ∙ ap waiting (sym x.left);
-      held = λ q. found q ∙ ap (λ z. waiting_label z q) (sym x.left);
-    }
-
-free_rests : (C : Config) (P Q : History) (who moment i : ℕ) (wanted reply : Reply) (b : Bool) → ((r estimate label : ℕ) → reply ≢ answer.Run r estimate label) → MatchBool b (IsAnswered P wanted reply Q) (RunsChosen C P who moment i reply Q) → Q ≡ P
-free_rests C P Q who moment i wanted reply true h x = x.1
-free_rests C P Q who moment i wanted reply false h x = absurd (h x.request x.estimate x.asked.label x.accepted.0)
-
--- a take that runs nothing changes nothing
-pub rests : (C : Config) (P Q : History) (who moment i : ℕ) (reply : Reply) → ((r estimate label : ℕ) → reply ≢ answer.Run r estimate label) → Answers C P (call.Take who moment i) reply Q → Q ≡ P
-rests C P Q who moment i reply h a = refused_keeps (take_refusal C P i) P reply Q (AnswersFree C P who moment i reply Q) (λ R. R ≡ P) refl (λ e x. free_rests C P Q who moment i (cond (is_closed P) answer.Drained answer.Idle) reply (waiting P == 0) h x) a
-
--- a worker that is refused is handed nothing
-pub withheld_same : {J : Type 0} (old new : State J) (c : Cause) (t : Taken J) → IsWithheld c t → new ≡ old → HandsOut old t new
-withheld_same old new (cause.Worker worker) t h e = subst (λ z. HandsOut old z new) (sym h) e
-withheld_same old new (cause.Busy request) t h e = subst (λ z. HandsOut old z new) (sym h) e
-withheld_same old new cause.Closed t h e = absurd h
-withheld_same old new (cause.Tenant tenant) t h e = absurd h
-withheld_same old new (cause.Kind kind) t h e = absurd h
-withheld_same old new (cause.Cost cost) t h e = absurd h
-withheld_same old new (cause.Slots slots) t h e = absurd h
-withheld_same old new (cause.Full entries) t h e = absurd h
-withheld_same old new cause.NotRunning t h e = absurd h
-withheld_same old new (cause.Falling last given) t h e = absurd h
+pub stands_open : {J : Type 0} (label : J → ℕ) (C : Config) (items : List Entry) (cap : ℕ) (tally : Tally) (w : lists.Waiting J) (charges : Charges) (times : Times) (x : Choosing) → InLimits C → items ≡ [] → C.entries ≤ cap → TallyIs [] tally → QueuesAre label C [] w → ChargesAre C [] charges → TimesAre C [] times → ChoosingIs C [] 0 x → Stands label C (history_of items) cap tally w charges times x
+stands_open label C items cap tally w charges times x lim none fit t q ch ti keys = subst (λ z. Stands label C (history_of z) cap tally w charges times x) (sym none) (record { mirrors = record { limits = lim; legal = tt; queues_are = q; charges_are = ch; times_are = ti }; tally_is = t; choosing_is = keys; entries_fit = fit })

@@ -1,4 +1,9 @@
 pub mod JobMaps
-pub mod Labels
+pub mod JobLists
+pub mod Queueing
+pub mod Tallying
+pub mod Rows
 pub mod Charging
+pub mod Timekeeping
+pub mod KeyTables
 pub mod Keeping

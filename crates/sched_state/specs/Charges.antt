@@ -1,21 +1,20 @@
 -- What a scheduler keeps of charges and costs.
-use Rattle.std.specs.Prelude.{ℕ, ℤ, pos, ◌<◌, ◌≡◌, List, length, slice_index_or}
+use Rattle.std.specs.Prelude.{ℕ, ℤ, pos, ◌<◌, ◌≡◌, Bool, is_none, Some, length}
 use Rattle.fq_model.specs.declared.config.Config.{Config}
+use Rattle.fq_model.specs.declared.config.Policy.{Policy}
 use Rattle.fq_model.specs.declared.event.Act.{Act}
+use Rattle.fq_model.specs.declared.event.Act.TheVariants.{Submit, Take}
 use Rattle.fq_model.specs.Limits.{InLimits}
-use Rattle.fq_model.specs.History.{History}
-use Rattle.fq_model.specs.Charge.{completed, virtual_charge}
+use Rattle.fq_model.specs.History.{History, Request, request_at, head}
+use Rattle.fq_model.specs.Time.{virtual_time, virtual_idle_time}
+use Rattle.fq_model.specs.Charge.{completed}
 use Rattle.fq_model.specs.Rules.{IsLegal}
 use Rattle.charge_book.specs.Histories.{BookIs}
 use Rattle.charge_book.specs.Laws.{one_more}
 use Rattle.cost_estimate.specs.declared.any.AnyCost.{AnyCost}
 use Rattle.cost_estimate.specs.AnyCost.{rule_of, initial_of, tenants_of, kinds_of, StandsFor}
+use Rattle.tag_rules.specs.Accounts.{AccountsAre}
 use Rattle.sched_state.specs.declared.charges.Charges.{Charges}
-
--- there is a credit for each tenant, which is its virtual charge
-pub record CreditsAre (C : Config) (P : History) (credits : List ℤ) : Type 0 where
-  pub tenants : length credits ≡ length C.weights
-  pub credits_are : (t : ℕ) → t < length C.weights → slice_index_or credits t (pos 0) ≡ pos (virtual_charge C P t)
 
 -- the estimator is the configuration's, and has seen what was completed
 pub record EstimatesAre (C : Config) (P : History) (costs : AnyCost) : Type 0 where
@@ -28,7 +27,7 @@ pub record EstimatesAre (C : Config) (P : History) (costs : AnyCost) : Type 0 wh
 -- all of them are those of the history
 pub record ChargesAre (C : Config) (P : History) (charges : Charges) : Type 0 where
   pub book : BookIs C P charges.book
-  pub credits : CreditsAre C P charges.credits.items
+  pub accounts : AccountsAre C P charges.accounts
   pub estimates : EstimatesAre C P charges.costs
 
 -- some entry with this act may come after P
@@ -47,3 +46,32 @@ pub record IsBefore (charges : Charges) (act : ℕ → Act) : Type 0 where
   pub limits : InLimits config
   pub may : MayGain config history (act request)
   pub charges_are : ChargesAre config history charges
+
+-- the request was submitted by this tenant and is of this kind
+pub record IsAskedBy (P : History) (request tenant kind : ℕ) : Type 0 where
+  pub asked : Request
+  pub known : request_at P request ≡ Some asked
+  pub tenant_is : asked.tenant ≡ tenant
+  pub kind_is : asked.kind ≡ kind
+
+-- the charges are those of a history after which the worker may take this request of this tenant and kind
+pub record IsBeforeTake (C : Config) (charges : Charges) (worker request tenant kind estimate : ℕ) : Type 0 where
+  pub history : History
+  pub limits : InLimits C
+  pub may : MayGain C history (Take worker request estimate)
+  pub asked_by : IsAskedBy history request tenant kind
+  pub charges_are : ChargesAre C history charges
+
+-- after each Submit of the tenant at a moment of virtual time v, which finds none of its requests waiting or some, the
+-- charges are these
+abbrev pub SubmitsAt : Config → History → ℕ → Bool → ℤ → Charges → Type 0
+SubmitsAt C P tenant is_first v charges =
+    (who m request kind declared label : ℕ) → InLimits C → IsLegal C (one_more who m (Submit request tenant kind declared label) P)
+    → is_first ≡ is_none (head P tenant) → v ≡ pos (virtual_time C P m)
+    → ChargesAre C (one_more who m (Submit request tenant kind declared label) P) charges
+
+-- the policy is the configuration's, and the tenant was not active for so long
+pub record StartsAt (C : Config) (P : History) (m : ℕ) (policy : Policy) (tenant : ℕ) (idle : ℤ) : Type 0 where
+  pub known : tenant < length C.weights
+  pub policy_is : policy ≡ C.policy
+  pub idle_is : idle ≡ pos (virtual_idle_time C P m tenant)

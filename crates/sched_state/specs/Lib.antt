@@ -1,5 +1,9 @@
-pub mod Jobs
-pub mod State
-pub mod Charges
-pub mod Held
 pub mod Replies
+pub mod State
+pub mod Tallies
+pub mod Counts
+pub mod Queues
+pub mod Charges
+pub mod Times
+pub mod Heads
+pub mod Held

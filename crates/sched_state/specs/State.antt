@@ -7,7 +7,7 @@ use Rattle.fq_model.specs.declared.config.Config.{Config}
 use Rattle.fq_model.specs.declared.event.Entry.{Entry}
 use Rattle.fq_model.specs.contracts.config.Config as config_type
 use Rattle.fq_model.specs.contracts.event.Entry as entry_type
-use Rattle.sched_state.specs.Jobs.{JobMap}
+use Rattle.sched_state.specs.Queues.{JobMap}
 
 -- a configuration, the entries in order of time, and the jobs of the waiting requests
 pub record State (J : Type 0) : Type 0 where

@@ -1,29 +1,30 @@
 //! What tenants are charged, and what their requests are thought to cost.
-ghost use Rattle.std.specs.Prelude.{◌≡◌, ◌<◌, ◌∷◌, ℕ, pos, ◌+ℤ◌, ◌≤ℤ◌, [], length, replicate, IfOk, slice_set, slice_index_or};
+ghost use Rattle.std.specs.Prelude.{◌≡◌, ◌<◌, ◌≤◌, ◌∷◌, ℕ, pos, ◌+ℤ◌, ◌≤ℤ◌, [], length, IfOk, Bool};
 ghost use Rattle.fq_model.specs.declared.config.Config.{Config};
 ghost use Rattle.fq_model.specs.Limits.{InLimits};
-ghost use Rattle.fq_model.specs.History.{History, history_of};
-ghost use Rattle.fq_model.specs.Charge.{request_estimate};
+ghost use Rattle.fq_model.specs.History.{History};
+ghost use Rattle.fq_model.specs.Charge.{estimate_at};
+ghost use Rattle.fq_model.specs.Keys.{start, start_for, tag};
 ghost use Rattle.fq_model.specs.declared.event.Act.TheVariants as act;
-ghost use Rattle.fq_model.specs.Rules.{IsLegal};
-ghost use Rattle.refold.specs.Requests.{asked};
+ghost use Rattle.charge_book.specs.Ledger.{row_on};
 ghost use Rattle.cost_estimate.specs.AnyCost.{tenants_of, kinds_of};
-ghost use Rattle.sched_state.specs.Charges.{ChargesAre, EstimatesAre, MayGain, Gains, IsBefore};
+ghost use Rattle.tag_rules.specs.Accounts.{credit_of, base_of};
+ghost use Rattle.sched_state.specs.Charges.{ChargesAre, EstimatesAre, Gains, IsBefore, IsBeforeTake, IsAskedBy, SubmitsAt, StartsAt};
 
 use crate::replies::NoMemory;
 use charge_book::book::Book;
+use charge_book::row::RunRow;
 use cost_estimate::any::AnyCost;
 use cost_estimate::estimate::Estimate;
-use fq_model::config::Checked;
-use fq_model::event::{Act, Entry};
-use refold::requests::{Request, submitted};
-use std::alloc::{AllocError, Global};
+use fq_model::config::{Checked, Policy};
+use std::alloc::Global;
+use tag_rules::accounts::Accounts;
 
-/// What runs and what is charged for it, the credit of each tenant, which is its virtual charge, and the estimator.
+/// What runs and what is charged for it, the virtual charge and the tag of each tenant, and the estimator.
 #[derive(Drop)]
 pub struct Charges {
     book: Book,
-    credits: Vec<i128>,
+    accounts: Accounts,
     costs: AnyCost,
 }
 
@@ -35,7 +36,7 @@ impl Charges {
         let Ok(book) = Book::open(alloc, config) else {
             return Err(NoMemory);
         };
-        let Ok(credits) = no_credits(alloc, config) else {
+        let Ok(accounts) = Accounts::open(alloc, config.tenants()) else {
             return Err(NoMemory);
         };
         let Ok(costs) = AnyCost::open(alloc, config) else {
@@ -43,58 +44,84 @@ impl Charges {
         };
         Ok(Charges {
             book,
-            credits,
+            accounts,
             costs,
         })
     }
 
-    /// What this request is thought to cost now, in microseconds.
-    pub fn estimate(&self, request: Request) -> u64
-        requires tenant { request.tenant < tenants_of self.now.costs }
-        requires kind { request.kind < kinds_of self.now.costs }
-        ensures { (C : Config) (P : History) → EstimatesAre C P self.now.costs → result ≡ request_estimate C P (asked request) }
+    /// What runs on each worker.
+    pub fn book(&self) -> &Book
+        ensures { result.now ≡ self.now.book }
     {
-        self.costs
-            .now(request.tenant, request.kind, request.declared)
+        &self.book
     }
 
-    /// One entry more.
-    pub fn follow(&mut self, config: &Checked, past: &[Entry], entry: &Entry)
-        requires limits { InLimits config.now }
-        requires legal { IsLegal config.now (entry.now ∷ history_of past.now) }
-        requires charges { ChargesAre config.now (history_of past.now) self.old }
-        ensures { ChargesAre config.now (entry.now ∷ history_of past.now) self.new }
+    /// What runs on the worker.
+    pub fn running(&self, worker: u32) -> Option<RunRow>
+        requires { worker < length self.now.book.rows }
+        ensures { result ≡ row_on self.now.book worker }
     {
-        match entry.act {
-            Act::Submit { .. } => {}
-            Act::Take {
-                worker,
-                request,
-                estimate,
-            } => self.take(config, past, worker, request, estimate),
-            Act::Report { worker, used, .. } => self.report(worker, used),
-            Act::Done { worker, cost, .. } => self.done(worker, cost),
-            Act::Close => {}
+        self.book.running(worker)
+    }
+
+    /// What a request of this tenant and kind is thought to cost now, in microseconds, where so much was declared.
+    pub fn estimate(&self, tenant: u32, kind: u32, declared: u64) -> u64
+        requires tenant { tenant < tenants_of self.now.costs }
+        requires kind { kind < kinds_of self.now.costs }
+        ensures { (C : Config) (P : History) → EstimatesAre C P self.now.costs → result ≡ estimate_at C P tenant kind declared }
+    {
+        self.costs.now(tenant, kind, declared)
+    }
+
+    /// Where the tenant starts, in steps, where so much virtual time passed while it was not active.
+    pub fn start(&self, policy: Policy, tenant: u32, idle: i128) -> i128
+        requires tenant { tenant < length self.now.accounts.credits }
+        requires idle_low { pos 0 ≤ℤ idle }
+        requires idle_high { idle ≤ℤ pos 67108864000000000000000 }
+        ensures value { (C : Config) (P : History) (m : ℕ) → ChargesAre C P self.now → StartsAt C P m policy tenant idle → result ≡ pos (start C P m tenant) }
+        ensures low { pos 0 ≤ℤ result }
+        ensures high { result ≤ℤ pos 200000000000000000000000 }
+    {
+        match policy {
+            Policy::Msf2q => self.accounts.credit(tenant) + idle,
+            Policy::Wfq | Policy::Wf2q | Policy::TwoDfq => self.accounts.tag(tenant),
         }
     }
 
-    // The worker takes the request, which is charged its estimate.
-    fn take(&mut self, config: &Checked, past: &[Entry], worker: u32, request: u32, estimate: u64)
-        requires limits { InLimits config.now }
-        requires may { MayGain config.now (history_of past.now) (act.Take worker request estimate) }
-        requires charges { ChargesAre config.now (history_of past.now) self.old }
-        ensures { Gains config.now (history_of past.now) (act.Take worker request estimate) self.new }
+    /// The tenant submits a request at this virtual time, in steps, which is its first that waits or not.
+    pub fn submit(&mut self, tenant: u32, is_first: bool, v: i128)
+        requires tenant { tenant < length self.old.accounts.credits }
+        requires low { pos 0 ≤ℤ v }
+        requires high { v ≤ℤ pos 100000000000000000000000 }
+        ensures { (C : Config) (P : History) → ChargesAre C P self.old → SubmitsAt C P tenant is_first v self.new }
     {
-        let Some(asked) = submitted(past, request) else {
-            unreachable!()
-        };
-        let weight = config.weight(asked.tenant);
-        let change = self.book.begin(worker, request, asked.tenant, asked.kind, weight, estimate);
-        add(&mut self.credits, asked.tenant, change);
+        if is_first {
+            self.accounts.raise(tenant, v);
+        }
     }
 
-    // The worker reports a use of its request, whose charge rises where the use is above it.
-    fn report(&mut self, worker: u32, used: u64)
+    /// The worker takes a request of this tenant and kind, which is charged its estimate.
+    pub fn take(
+        &mut self,
+        config: &Checked,
+        worker: u32,
+        request: u32,
+        tenant: u32,
+        kind: u32,
+        estimate: u64,
+    )
+        requires { IsBeforeTake config.now self.old worker request tenant kind estimate }
+        ensures { (P : History) → InLimits config.now → IsAskedBy P request tenant kind → ChargesAre config.now P self.old → Gains config.now P (act.Take worker request estimate) self.new }
+    {
+        let weight = config.weight(tenant);
+        let change = self
+            .book
+            .begin(worker, request, tenant, kind, weight, estimate);
+        self.accounts.charge(tenant, change);
+    }
+
+    /// The worker reports a use of its request, whose charge rises where the use is above it.
+    pub fn report(&mut self, worker: u32, used: u64)
         requires { IsBefore self.old (λ request. act.Report worker request used) }
         ensures { (C : Config) (P : History) (request : ℕ) → InLimits C → ChargesAre C P self.old → Gains C P (act.Report worker request used) self.new }
     {
@@ -104,11 +131,11 @@ impl Charges {
         let Ok(change) = self.book.report(worker, used) else {
             unreachable!()
         };
-        add(&mut self.credits, row.tenant, change);
+        self.accounts.charge(row.tenant, change);
     }
 
-    // The worker is done with its request, which is charged its cost, and later ones are estimated by that too.
-    fn done(&mut self, worker: u32, cost: u64)
+    /// The worker is done with its request, which is charged its cost, and later ones are estimated by that too.
+    pub fn done(&mut self, worker: u32, cost: u64)
         requires { IsBefore self.old (λ request. act.Done worker request cost) }
         ensures { (C : Config) (P : History) (request : ℕ) → InLimits C → ChargesAre C P self.old → Gains C P (act.Done worker request cost) self.new }
     {
@@ -118,24 +145,7 @@ impl Charges {
         let Ok(change) = self.book.finish(worker, cost) else {
             unreachable!()
         };
-        add(&mut self.credits, row.tenant, change);
+        self.accounts.charge(row.tenant, change);
         self.costs.learn(row.tenant, row.kind, cost);
     }
-}
-
-// A credit of 0 for each tenant.
-fn no_credits(alloc: Global, config: &Checked) -> Result<Vec<i128>, AllocError>
-    ensures { IfOk result (λ credits. credits.items ≡ replicate (length config.now.weights) (pos 0)) }
-{
-    vec![in alloc; 0; config.tenants() as usize]
-}
-
-// Moves the credit of a tenant by so much.
-fn add(credits: &mut Vec<i128>, tenant: u32, change: i128)
-    requires tenant { tenant < length credits.old.items }
-    requires low { pos 0 ≤ℤ (slice_index_or credits.old.items tenant (pos 0) +ℤ change) }
-    requires high { (slice_index_or credits.old.items tenant (pos 0) +ℤ change) ≤ℤ pos 10000000000000000000000 }
-    ensures { credits.new.items ≡ slice_set credits.old.items tenant (slice_index_or credits.old.items tenant (pos 0) +ℤ change) }
-{
-    credits[tenant as usize] += change;
 }

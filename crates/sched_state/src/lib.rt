@@ -2,9 +2,12 @@
 #![tactic(auto)]
 
 mod charges;
-mod jobs;
+mod heads;
+mod refusals;
 mod replies;
 mod scheduler;
+mod tally;
+mod times;
 
 pub use replies::{AlreadyClosed, NoMemory, Refused, Taken};
 pub use scheduler::Scheduler;

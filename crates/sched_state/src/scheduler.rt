@@ -1,63 +1,73 @@
 //! A scheduler.
-ghost use Rattle.std.specs.Prelude.{◌≡◌, ◌≤◌, ◌<◌, [], IfOk, IfErr, OnErr, OnSome, vec_len, vec_capacity};
+ghost use Rattle.std.specs.Prelude.{◌≡◌, ◌≤◌, ◌<◌, ◌∷◌, [], IfOk, IfErr, OnErr, is_none, length, slice_get, vec_len, vec_capacity};
 ghost use Rattle.std.specs.FinMap as map;
-ghost use Rattle.fq_model.specs.declared.config.Policy.TheVariants.{TwoDfq};
+ghost use Rattle.fq_model.specs.declared.event.Entry.{Entry};
 ghost use Rattle.fq_model.specs.declared.event.Call.TheVariants as call;
-ghost use Rattle.fq_model.specs.Limits.{InLimits};
-ghost use Rattle.fq_model.specs.History.{history_of};
+ghost use Rattle.fq_model.specs.History.{History, history_of};
+ghost use Rattle.fq_model.specs.Time.{last_moment};
+ghost use Rattle.fq_model.specs.Keys.{keys_at};
 ghost use Rattle.fq_model.specs.Rules.{Answers, IsLegal};
-ghost use Rattle.refold.specs.Answer.{with_entry};
-ghost use Rattle.refold.specs.Pasts.{IsPast};
-ghost use Rattle.sched_state.specs.Charges.{ChargesAre};
-ghost use Rattle.sched_state.specs.Held.{HoldsWaiting};
+ghost use Rattle.waiting_lists.specs.Waiting.{list_of};
+ghost use Rattle.sched_state.specs.Counts.{CountsAre};
+ghost use Rattle.sched_state.specs.Heads.{ChoosingIs};
+ghost use Rattle.sched_state.specs.Held.{Mirrors, MayHead, Entered, MayEnter};
+ghost use Rattle.sched_state.specs.Queues.{HoldsWaiting};
 ghost use Rattle.sched_state.specs.Replies.{submit_reply, take_reply, report_reply, done_reply, close_reply, HandsOut, IsTakeCause, IsWithheld};
+ghost use Rattle.fq_model.specs.declared.config.Config.{Config};
+ghost use Rattle.fq_model.specs.Limits.{InLimits};
+ghost use Rattle.sched_state.specs.Tallies.{TallyIs, MayCount};
 
 use crate::charges::Charges;
-use crate::jobs::Jobs;
+use crate::heads;
+use crate::refusals::{Counts, done_refusal, report_refusal, submit_refusal, take_refusal};
 use crate::replies::{AlreadyClosed, NoMemory, Refused, Taken};
+use crate::tally::Tally;
+use crate::times::Times;
 use fq_model::config::Checked;
-use fq_model::event::{Act, Cause, Entry, Reply};
+use fq_model::event::{Act, Cause, Entry};
 use fq_model::job::Job;
-use refold::answer::Answer;
-use refold::choice::choice;
-use refold::entries::{closed, effective};
-use refold::refusals::take_refusal;
-use refold::reply;
-use refold::requests::submitted;
+use rival_policies::chooser::Chooser;
 use std::alloc::Global;
 use std::marker::Model;
+use tag_rules::parts::Keys;
+use waiting_lists::item::Item;
+use waiting_lists::lists::Lists;
 
 /// One history, from its opening on, and the jobs of the requests that wait in it. Contracts see the entries in
 /// order of time, and the jobs by the numbers of their requests. Whoever makes a call names itself by `who`, which
 /// is written down and not looked at, and its clock by `moment`, in microseconds. A call that is answered by
-/// a refusal, by `Idle` or by `Drained` changes nothing; each other call adds one entry.
+/// a refusal, by `Idle` or by `Drained` changes nothing; each other call adds one entry. No call looks back in the
+/// history: what it needs is kept beside it, and `X` chooses among the heads of the tenants.
 #[derive(Drop)]
-pub struct Scheduler<J: Job> {
+pub struct Scheduler<J: Job, X: Chooser> {
     config: Checked,
     past: Vec<Entry>,
-    jobs: Jobs<J>,
+    tally: Tally,
+    lists: Lists<J>,
     charges: Charges,
+    times: Times,
+    chooser: X,
 }
 
-impl<J: Job> Model for Scheduler<J> {
+impl<J: Job, X: Chooser> Model for Scheduler<J, X> {
     ghost use Rattle.std.specs.Prelude.{vec_capacity};
     ghost use Rattle.fq_model.specs.History.{history_of};
     ghost use Rattle.sched_state.specs.State.{State, state_code};
+    ghost use Rattle.sched_state.specs.Queues.{jobs_in};
     ghost use Rattle.sched_state.specs.Held.{Stands};
 
     ghost Value = { State J };
 
     ghost coded = { state_code J.code };
 
-    ghost view = { λ s. record { config = s.config; past = s.past.items; jobs = s.jobs.by_request } };
+    ghost view = { λ s. record { config = s.config; past = s.past.items; jobs = jobs_in s.lists.lists } };
 
-    ghost invariant = { λ s. Stands J.label_of s.config (history_of s.past.items) (vec_capacity s.past) s.jobs s.charges };
+    ghost invariant = { λ s. Stands J.label_of s.config (history_of s.past.items) (vec_capacity s.past) s.tally s.lists s.charges s.times (record { setting = X.setting s.chooser; table = X.table s.chooser; latest = X.latest s.chooser }) };
 }
 
-impl<J: Job + Drop> Scheduler<J> {
+impl<J: Job + Drop, X: Chooser> Scheduler<J, X> {
     /// Takes all the memory that the scheduler will use.
-    pub fn open(alloc: Global, config: Checked) -> Result<Scheduler<J>, NoMemory>
-        requires policy { config.policy ≡ TwoDfq }
+    pub fn open(alloc: Global, config: Checked) -> Result<Scheduler<J, X>, NoMemory>
         ensures config { IfOk result (λ s. s.config ≡ config) }
         ensures past { IfOk result (λ s. s.past ≡ []) }
         ensures jobs { IfOk result (λ s. s.jobs ≡ map.empty) }
@@ -65,15 +75,20 @@ impl<J: Job + Drop> Scheduler<J> {
         let Ok(past) = Vec::with_capacity(alloc, config.entries() as usize) else {
             return Err(NoMemory);
         };
-        let Ok(jobs) = Jobs::open(alloc, config.requests() as usize) else {
+        let Ok(lists) = Lists::open(alloc, config.tenants(), config.requests()) else {
             return Err(NoMemory);
         };
         let charges = Charges::open(alloc, &config)?;
+        let times = Times::open(alloc, &config)?;
+        let chooser = heads::open(alloc, &config)?;
         Ok(Scheduler {
             config,
             past,
-            jobs,
+            tally: Tally::new(),
+            lists,
             charges,
+            times,
+            chooser,
         })
     }
 
@@ -94,30 +109,48 @@ impl<J: Job + Drop> Scheduler<J> {
         ensures job_back { IfErr result (λ f. f.job ≡ job) }
         ensures unchanged { OnErr result (self.new ≡ self.old) }
     {
-        let answer = reply::submit(
+        let counts = self.counts();
+        if let Some(cause) = submit_refusal(
             &self.config,
-            self.past.as_slice(),
-            who,
-            moment,
+            self.tally.closed,
+            counts,
             tenant,
             kind,
             declared,
-            job.label(),
-        );
-        enter(
-            &self.config,
-            &mut self.past,
-            &mut self.charges,
-            answer.entry,
-        );
-        match answer.reply {
-            Reply::Request(request) => {
-                self.jobs.keep(request, job);
-                Ok(request)
-            }
-            Reply::Refused(cause) => Err(Refused { job, cause }),
-            _ => unreachable!(),
+        ) {
+            return Err(Refused { job, cause });
         }
+        let moment = self.tally.effective(moment);
+        let request = self.tally.submits;
+        let act = Act::Submit {
+            request,
+            tenant,
+            kind,
+            declared,
+            label: job.label(),
+        };
+        let is_first = none_waits(&self.lists, tenant);
+        self.times.submit(&self.config, moment, tenant);
+        self.charges.submit(tenant, is_first, self.times.now());
+        let item = Item {
+            request,
+            kind,
+            declared,
+            job,
+        };
+        let Ok(()) = self.lists.push(tenant, item) else {
+            unreachable!()
+        };
+        enter(&mut self.past, &mut self.tally, Entry { who, moment, act });
+        renew(
+            &self.config,
+            &self.lists,
+            &self.charges,
+            &self.times,
+            &mut self.chooser,
+            tenant,
+        );
+        Ok(request)
     }
 
     /// A worker asks for work, and gets the job of the request that is its turn, if one waits.
@@ -126,39 +159,46 @@ impl<J: Job + Drop> Scheduler<J> {
         ensures config { self.new.config ≡ self.old.config }
         ensures jobs { HandsOut self.old result self.new }
     {
-        let answer = take(
-            &self.config,
-            self.past.as_slice(),
-            &self.charges,
-            who,
-            moment,
+        if let Some(cause) = take_refusal(&self.config, self.charges.book(), worker) {
+            return withheld(cause);
+        }
+        if self.lists.len() == 0 {
+            return if self.tally.closed {
+                Taken::Drained
+            } else {
+                Taken::Idle
+            };
+        }
+        let moment = self.tally.effective(moment);
+        self.times.pass(moment);
+        let Some(tenant) = heads::choose(&mut self.chooser, worker, self.times.now()) else {
+            unreachable!()
+        };
+        let Some(item) = self.lists.pop(tenant) else {
+            unreachable!()
+        };
+        let request = item.request;
+        let estimate = self.charges.estimate(tenant, item.kind, item.declared);
+        self.charges
+            .take(&self.config, worker, request, tenant, item.kind, estimate);
+        let act = Act::Take {
             worker,
-        );
-        enter(
+            request,
+            estimate,
+        };
+        enter(&mut self.past, &mut self.tally, Entry { who, moment, act });
+        renew(
             &self.config,
-            &mut self.past,
-            &mut self.charges,
-            answer.entry,
+            &self.lists,
+            &self.charges,
+            &self.times,
+            &mut self.chooser,
+            tenant,
         );
-        match answer.reply {
-            Reply::Run {
-                request,
-                estimate,
-                ..
-            } => {
-                let Some(job) = self.jobs.hand_out(request) else {
-                    unreachable!()
-                };
-                Taken::Run {
-                    request,
-                    estimate,
-                    job,
-                }
-            }
-            Reply::Idle => Taken::Idle,
-            Reply::Drained => Taken::Drained,
-            Reply::Refused(cause) => withheld(cause),
-            _ => unreachable!(),
+        Taken::Run {
+            request,
+            estimate,
+            job: item.job,
         }
     }
 
@@ -172,24 +212,37 @@ impl<J: Job + Drop> Scheduler<J> {
         ensures jobs { self.new.jobs ≡ self.old.jobs }
         ensures unchanged { OnErr result (self.new ≡ self.old) }
     {
-        let answer = reply::report(
+        let counts = self.counts();
+        if let Some(cause) = report_refusal(
             &self.config,
-            self.past.as_slice(),
-            who,
-            moment,
+            self.charges.book(),
+            counts,
             worker,
             used,
-        );
-        enter(
-            &self.config,
-            &mut self.past,
-            &mut self.charges,
-            answer.entry,
-        );
-        match answer.reply {
-            Reply::Refused(why) => Err(why),
-            _ => Ok(()),
+        ) {
+            return Err(cause);
         }
+        let Some(row) = self.charges.running(worker) else {
+            unreachable!()
+        };
+        let moment = self.tally.effective(moment);
+        let act = Act::Report {
+            worker,
+            request: row.request,
+            used,
+        };
+        self.times.pass(moment);
+        self.charges.report(worker, used);
+        enter(&mut self.past, &mut self.tally, Entry { who, moment, act });
+        renew(
+            &self.config,
+            &self.lists,
+            &self.charges,
+            &self.times,
+            &mut self.chooser,
+            row.tenant,
+        );
+        Ok(())
     }
 
     /// The worker's request has ended, and this is its measured cost, in microseconds.
@@ -199,24 +252,30 @@ impl<J: Job + Drop> Scheduler<J> {
         ensures jobs { self.new.jobs ≡ self.old.jobs }
         ensures unchanged { OnErr result (self.new ≡ self.old) }
     {
-        let answer = reply::done(
-            &self.config,
-            self.past.as_slice(),
-            who,
-            moment,
-            worker,
-            cost,
-        );
-        enter(
-            &self.config,
-            &mut self.past,
-            &mut self.charges,
-            answer.entry,
-        );
-        match answer.reply {
-            Reply::Refused(cause) => Err(cause),
-            _ => Ok(()),
+        if let Some(cause) = done_refusal(&self.config, self.charges.book(), worker, cost) {
+            return Err(cause);
         }
+        let Some(row) = self.charges.running(worker) else {
+            unreachable!()
+        };
+        let moment = self.tally.effective(moment);
+        let act = Act::Done {
+            worker,
+            request: row.request,
+            cost,
+        };
+        self.times.done(&self.config, moment, row.tenant);
+        self.charges.done(worker, cost);
+        enter(&mut self.past, &mut self.tally, Entry { who, moment, act });
+        renew(
+            &self.config,
+            &self.lists,
+            &self.charges,
+            &self.times,
+            &mut self.chooser,
+            row.tenant,
+        );
+        Ok(())
     }
 
     /// Nothing more is submitted from here on.
@@ -226,17 +285,14 @@ impl<J: Job + Drop> Scheduler<J> {
         ensures jobs { self.new.jobs ≡ self.old.jobs }
         ensures unchanged { OnErr result (self.new ≡ self.old) }
     {
-        let answer = reply::close(&self.config, self.past.as_slice(), who, moment);
-        enter(
-            &self.config,
-            &mut self.past,
-            &mut self.charges,
-            answer.entry,
-        );
-        match answer.reply {
-            Reply::Refused(_) => Err(AlreadyClosed),
-            _ => Ok(()),
+        if self.tally.closed {
+            return Err(AlreadyClosed);
         }
+        let moment = self.tally.effective(moment);
+        self.times.pass(moment);
+        let act = Act::Close;
+        enter(&mut self.past, &mut self.tally, Entry { who, moment, act });
+        Ok(())
     }
 
     /// The entries, in order of time. Each request that waits has its job here, and no other has.
@@ -254,6 +310,18 @@ impl<J: Job + Drop> Scheduler<J> {
     {
         &self.config
     }
+
+    // How many entries there are, and how many requests wait and run.
+    fn counts(&self) -> Counts
+        ensures counts { CountsAre (history_of self.now.past) result }
+        ensures entries { result.entries ≤ 4194304 }
+    {
+        Counts {
+            entries: self.past.len() as u64,
+            waiting: self.lists.len(),
+            running: self.tally.running,
+        }
+    }
 }
 
 // What a worker is given that is refused for this cause.
@@ -268,62 +336,57 @@ fn withheld<J>(cause: Cause) -> Taken<J>
     }
 }
 
-// What a take is answered: the head of the chosen tenant, where something waits, at its estimate.
-fn take(
-    config: &Checked,
-    past: &[Entry],
-    charges: &Charges,
-    who: u32,
-    moment: u64,
-    worker: u32,
-) -> Answer
-    requires past { IsPast config.now past.now }
-    requires charges { ChargesAre config.now (history_of past.now) charges.now }
-    ensures { Answers config.now (history_of past.now) (call.Take who moment worker) result.reply (with_entry result.entry (history_of past.now)) }
+// Adds an entry for which there is room.
+fn enter(past: &mut Vec<Entry>, tally: &mut Tally, entry: Entry)
+    requires count { MayCount tally.old entry }
+    requires room { vec_len past.old < vec_capacity past.old }
+    ensures history { history_of past.new.items ≡ entry ∷ history_of past.old.items }
+    ensures capacity { vec_capacity past.old ≤ vec_capacity past.new }
+    ensures tally { (C : Config) (P : History) → InLimits C → IsLegal C (entry ∷ P) → TallyIs P tally.old → TallyIs (entry ∷ P) tally.new }
 {
-    if let Some(cause) = take_refusal(config, past, worker) {
-        return Answer::refused(cause);
+    tally.follow(&entry);
+    if past.push(entry).is_err() {
+        unreachable!();
     }
-    let moment = effective(past, moment);
-    let Some((_, keys)) = choice(config, past, moment, worker) else {
-        return Answer::kept(if closed(past) {
-            Reply::Drained
-        } else {
-            Reply::Idle
-        });
-    };
-    let request = keys.request;
-    let Some(asked) = submitted(past, request) else {
-        unreachable!()
-    };
-    let estimate = charges.estimate(asked);
-    let reply = Reply::Run {
-        request,
-        estimate,
-        label: asked.label,
-    };
-    let act = Act::Take {
-        worker,
-        request,
-        estimate,
-    };
-    Answer::accepted(reply, who, moment, act)
 }
 
-// Adds the entry, if there is one, which is legal and for which there is room.
-fn enter(config: &Checked, past: &mut Vec<Entry>, charges: &mut Charges, entry: Option<Entry>)
-    requires limits { InLimits config.now }
-    requires legal { IsLegal config.now (with_entry entry (history_of past.old.items)) }
-    requires charges { ChargesAre config.now (history_of past.old.items) charges.old }
-    requires room { OnSome entry (vec_len past.old < vec_capacity past.old) }
-    ensures history { history_of past.new.items ≡ with_entry entry (history_of past.old.items) }
-    ensures capacity { vec_capacity past.old ≤ vec_capacity past.new }
-    ensures charges { ChargesAre config.now (history_of past.new.items) charges.new }
+// Whether no request of the tenant waits.
+fn none_waits<J: Job + Drop>(lists: &Lists<J>, tenant: u32) -> bool
+    requires { tenant < length lists.now.lists }
+    ensures { result ≡ is_none (slice_get (list_of lists.now tenant) 0) }
 {
-    if let Some(entry) = entry {
-        charges.follow(config, past.as_slice(), &entry);
-        if past.push(entry).is_err() {
-            unreachable!();
-        }
-    }
+    lists.head(tenant).is_none()
+}
+
+// The keys of the tenant's head, if it has one.
+fn keys_of<J: Job + Drop>(
+    config: &Checked,
+    lists: &Lists<J>,
+    charges: &Charges,
+    times: &Times,
+    tenant: u32,
+) -> Option<Keys>
+    requires { MayHead J.label_of config.now lists.now charges.now times.now tenant }
+    ensures { (P : History) → Mirrors J.label_of config.now P lists.now charges.now times.now → result ≡ keys_at config.now P (last_moment P) tenant }
+{
+    let item = lists.head(tenant)?;
+    let start = charges.start(config.policy(), tenant, times.idle(tenant));
+    let estimate = charges.estimate(tenant, item.kind, item.declared);
+    Some(heads::head_keys(start, estimate, config.weight(tenant), item.request))
+}
+
+// Gives the chooser the keys of the tenant's head, after an entry that concerns this tenant alone.
+fn renew<J: Job + Drop, X: Chooser>(
+    config: &Checked,
+    lists: &Lists<J>,
+    charges: &Charges,
+    times: &Times,
+    chooser: &mut X,
+    tenant: u32,
+)
+    requires { MayEnter J.label_of config.now lists.now charges.now times.now (record { setting = X.setting chooser.old; table = X.table chooser.old; latest = X.latest chooser.old }) tenant }
+    ensures { (P : History) (e : Entry) → Entered J.label_of config.now P e lists.now charges.now times.now (record { setting = X.setting chooser.old; table = X.table chooser.old; latest = X.latest chooser.old }) tenant → ChoosingIs config.now (e ∷ P) e.moment (record { setting = X.setting chooser.new; table = X.table chooser.new; latest = X.latest chooser.new }) }
+{
+    let keys = keys_of(config, lists, charges, times, tenant);
+    heads::renew(chooser, tenant, keys);
 }

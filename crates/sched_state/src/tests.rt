@@ -2,11 +2,16 @@ use crate::{AlreadyClosed, Refused, Scheduler, Taken};
 use fq_model::config::{Config, Estimator, Policy, Weights};
 use fq_model::event::{Act, Cause, Entry};
 use fq_model::job::Job;
+use rival_policies::plain::PlainChooser;
 use std::alloc::Global;
 use std::test::Fail;
 
 // One worker, two tenants of weight 1, one kind. None where there is no memory.
-fn opened<J: Job + Drop>(alloc: Global, entries: u32, requests: u32) -> Option<Scheduler<J>> {
+fn opened<J: Job + Drop>(
+    alloc: Global,
+    entries: u32,
+    requests: u32,
+) -> Option<Scheduler<J, PlainChooser>> {
     let config = Config {
         workers: 1,
         weights: Weights::from_vec(vec![in alloc; 1, 1].ok()?),

@@ -1,5 +1,5 @@
-use Rattle.std.proofs.Common.{arith, refl, ◌<◌, ◌≡◌, length, ◌∙◌}
-use Rattle.sched_state.proofs.Charging.{used_row, finish_step, no_row, no_refusal, step_low, step_high, step_charges, estimates_done}
+use Rattle.std.proofs.Common.{arith, refl}
+use Rattle.sched_state.proofs.Charging.{used_row, finish_step, no_row, no_refusal, step_credit, step_charges, estimates_done}
 use Rattle.sched_state.proofs.charges.Charges.done.Goals as goal
 
 pub running-requires : goal.running-requires
@@ -11,14 +11,14 @@ unreachable-requires c = no_row c.running.result _ _ c.in_default.is c.running.e
 pub unreachable-requires-in_default-finish : goal.unreachable-requires-in_default-finish
 unreachable-requires-in_default-finish c = no_refusal _ _ c.in_default-finish.ensures.refused (used_row c.requires.config c.requires.history c.args.self.now.book c.args.worker c.requires.request c.args.cost c.requires.may.2.0 c.requires.charges_are.book c.requires.may.2.3).accepted
 
-pub add-requires-clause-tenant : goal.add-requires-clause-tenant
-add-requires-clause-tenant c = let x = (finish_step c.requires.config c.requires.history c.args.self.now c.requires.may.0 c.requires.may.1 c.args.worker c.requires.request c.args.cost c.running.result c.in-Some.row c.requires.limits c.requires.may.2 c.requires.charges_are (c.in-Some.is, c.running.ensures)).step in omega (arith, x.tenant_known, c.requires.charges_are.credits.tenants)
+pub charge-requires-clause-tenant : goal.charge-requires-clause-tenant
+charge-requires-clause-tenant c = let x = (finish_step c.requires.config c.requires.history c.args.self.now c.requires.may.0 c.requires.may.1 c.args.worker c.requires.request c.args.cost c.running.result c.in-Some.row c.requires.limits c.requires.may.2 c.requires.charges_are (c.in-Some.is, c.running.ensures)).step in omega (arith, x.tenant_known, c.requires.charges_are.accounts.credits_sized)
 
-pub add-requires-clause-low : goal.add-requires-clause-low
-add-requires-clause-low c = step_low c.requires.config c.requires.history _ c.args.self.now _ _ _ c.in-Ok.change (finish_step c.requires.config c.requires.history c.args.self.now c.requires.may.0 c.requires.may.1 c.args.worker c.requires.request c.args.cost c.running.result c.in-Some.row c.requires.limits c.requires.may.2 c.requires.charges_are (c.in-Some.is, c.running.ensures)).step c.in-Ok.ensures.change
+pub charge-requires-clause-low : goal.charge-requires-clause-low
+charge-requires-clause-low c = (step_credit c.requires.config c.requires.history _ c.args.self.now _ _ _ c.in-Ok.change (finish_step c.requires.config c.requires.history c.args.self.now c.requires.may.0 c.requires.may.1 c.args.worker c.requires.request c.args.cost c.running.result c.in-Some.row c.requires.limits c.requires.may.2 c.requires.charges_are (c.in-Some.is, c.running.ensures)).step c.in-Ok.ensures.change).0
 
-pub add-requires-clause-high : goal.add-requires-clause-high
-add-requires-clause-high c = step_high c.requires.config c.requires.history _ c.args.self.now _ _ _ c.in-Ok.change (finish_step c.requires.config c.requires.history c.args.self.now c.requires.may.0 c.requires.may.1 c.args.worker c.requires.request c.args.cost c.running.result c.in-Some.row c.requires.limits c.requires.may.2 c.requires.charges_are (c.in-Some.is, c.running.ensures)).step c.in-Ok.ensures.change
+pub charge-requires-clause-high : goal.charge-requires-clause-high
+charge-requires-clause-high c = (step_credit c.requires.config c.requires.history _ c.args.self.now _ _ _ c.in-Ok.change (finish_step c.requires.config c.requires.history c.args.self.now c.requires.may.0 c.requires.may.1 c.args.worker c.requires.request c.args.cost c.running.result c.in-Some.row c.requires.limits c.requires.may.2 c.requires.charges_are (c.in-Some.is, c.running.ensures)).step c.in-Ok.ensures.change).1
 
 pub learn-requires-clause-tenant : goal.learn-requires-clause-tenant
 learn-requires-clause-tenant c = let x = (finish_step c.requires.config c.requires.history c.args.self.now c.requires.may.0 c.requires.may.1 c.args.worker c.requires.request c.args.cost c.running.result c.in-Some.row c.requires.limits c.requires.may.2 c.requires.charges_are (c.in-Some.is, c.running.ensures)).step in omega (arith, x.tenant_known, c.requires.charges_are.estimates.tenants)
@@ -29,6 +29,6 @@ learn-requires-clause-kind c = let x = finish_step c.requires.config c.requires.
 pub returns : goal.returns
 returns c = λ C P request lim is who m l. (
     let x = finish_step C P c.args.self.now who m c.args.worker request c.args.cost c.running.result c.in-Some.row lim l is (c.in-Some.is, c.running.ensures) in
-    step_charges C P _ c.args.self.now _ _ _ _ c.in-Ok.change x.step c.in-Ok.ensures.change c.in-Ok.ensures.book c.add.ensures
+    step_charges C P _ c.args.self.now _ _ _ _ c.in-Ok.change x.step refl c.in-Ok.ensures.change c.in-Ok.ensures.book c.charge.ensures
     (estimates_done C P _ (record { tenant = c.in-Some.row.tenant; kind = c.in-Some.row.kind; cost = c.args.cost }) c.args.self.now.costs c.learn.new.self is.estimates x.completed_is c.learn.ensures.rule c.learn.ensures.initial c.learn.ensures.tenants c.learn.ensures.kinds (c.learn.ensures.learned _ is.estimates.learned))
     )

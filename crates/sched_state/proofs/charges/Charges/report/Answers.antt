@@ -1,5 +1,5 @@
-use Rattle.std.proofs.Common.{arith, refl, ◌<◌, ◌≡◌, length, ◌∙◌}
-use Rattle.sched_state.proofs.Charging.{used_row, report_step, no_row, no_refusal, step_low, step_high, step_charges, estimates_stay}
+use Rattle.std.proofs.Common.{arith, refl}
+use Rattle.sched_state.proofs.Charging.{used_row, report_step, no_row, no_refusal, step_credit, step_charges, estimates_stay}
 use Rattle.sched_state.proofs.charges.Charges.report.Goals as goal
 
 pub running-requires : goal.running-requires
@@ -11,14 +11,14 @@ unreachable-requires c = no_row c.running.result _ _ c.in_default.is c.running.e
 pub unreachable-requires-in_default-report : goal.unreachable-requires-in_default-report
 unreachable-requires-in_default-report c = no_refusal _ _ c.in_default-report.ensures.refused (used_row c.requires.config c.requires.history c.args.self.now.book c.args.worker c.requires.request c.args.used c.requires.may.2.0 c.requires.charges_are.book c.requires.may.2.3.0).accepted
 
-pub add-requires-clause-tenant : goal.add-requires-clause-tenant
-add-requires-clause-tenant c = let x = (report_step c.requires.config c.requires.history c.args.self.now c.requires.may.0 c.requires.may.1 c.args.worker c.requires.request c.args.used c.running.result c.in-Some.row c.requires.limits c.requires.may.2 c.requires.charges_are (c.in-Some.is, c.running.ensures)) in omega (arith, x.tenant_known, c.requires.charges_are.credits.tenants)
+pub charge-requires-clause-tenant : goal.charge-requires-clause-tenant
+charge-requires-clause-tenant c = let x = (report_step c.requires.config c.requires.history c.args.self.now c.requires.may.0 c.requires.may.1 c.args.worker c.requires.request c.args.used c.running.result c.in-Some.row c.requires.limits c.requires.may.2 c.requires.charges_are (c.in-Some.is, c.running.ensures)) in omega (arith, x.tenant_known, c.requires.charges_are.accounts.credits_sized)
 
-pub add-requires-clause-low : goal.add-requires-clause-low
-add-requires-clause-low c = step_low c.requires.config c.requires.history _ c.args.self.now _ _ _ c.in-Ok.change (report_step c.requires.config c.requires.history c.args.self.now c.requires.may.0 c.requires.may.1 c.args.worker c.requires.request c.args.used c.running.result c.in-Some.row c.requires.limits c.requires.may.2 c.requires.charges_are (c.in-Some.is, c.running.ensures)) c.in-Ok.ensures.change
+pub charge-requires-clause-low : goal.charge-requires-clause-low
+charge-requires-clause-low c = (step_credit c.requires.config c.requires.history _ c.args.self.now _ _ _ c.in-Ok.change (report_step c.requires.config c.requires.history c.args.self.now c.requires.may.0 c.requires.may.1 c.args.worker c.requires.request c.args.used c.running.result c.in-Some.row c.requires.limits c.requires.may.2 c.requires.charges_are (c.in-Some.is, c.running.ensures)) c.in-Ok.ensures.change).0
 
-pub add-requires-clause-high : goal.add-requires-clause-high
-add-requires-clause-high c = step_high c.requires.config c.requires.history _ c.args.self.now _ _ _ c.in-Ok.change (report_step c.requires.config c.requires.history c.args.self.now c.requires.may.0 c.requires.may.1 c.args.worker c.requires.request c.args.used c.running.result c.in-Some.row c.requires.limits c.requires.may.2 c.requires.charges_are (c.in-Some.is, c.running.ensures)) c.in-Ok.ensures.change
+pub charge-requires-clause-high : goal.charge-requires-clause-high
+charge-requires-clause-high c = (step_credit c.requires.config c.requires.history _ c.args.self.now _ _ _ c.in-Ok.change (report_step c.requires.config c.requires.history c.args.self.now c.requires.may.0 c.requires.may.1 c.args.worker c.requires.request c.args.used c.running.result c.in-Some.row c.requires.limits c.requires.may.2 c.requires.charges_are (c.in-Some.is, c.running.ensures)) c.in-Ok.ensures.change).1
 
 pub returns : goal.returns
-returns c = λ C P request lim is who m l. step_charges C P _ c.args.self.now _ _ _ _ c.in-Ok.change (report_step C P c.args.self.now who m c.args.worker request c.args.used c.running.result c.in-Some.row lim l is (c.in-Some.is, c.running.ensures)) c.in-Ok.ensures.change c.in-Ok.ensures.book c.add.ensures (estimates_stay C P _ c.args.self.now.costs is.estimates refl)
+returns c = λ C P request lim is who m l. step_charges C P _ c.args.self.now _ _ _ _ c.in-Ok.change (report_step C P c.args.self.now who m c.args.worker request c.args.used c.running.result c.in-Some.row lim l is (c.in-Some.is, c.running.ensures)) refl c.in-Ok.ensures.change c.in-Ok.ensures.book c.charge.ensures (estimates_stay C P _ c.args.self.now.costs is.estimates refl)

@@ -1,37 +1,39 @@
-use Rattle.std.proofs.Common.{arith, ◌≡◌, ap, ◌∙◌, length}
+use Rattle.std.proofs.Common.{arith, sym, refl, ◌∙◌, ◌≡◌, ◌∷◌, false, length}
 use Rattle.std.specs.Prelude.{vec_len}
 use Rattle.std.proofs.lemmas.List.{length-reverse}
-use Rattle.fq_model.specs.declared.event.Call.TheVariants as call
-use Rattle.fq_model.specs.declared.event.Reply.TheVariants as answer
-use Rattle.fq_model.specs.History.{history_of}
-use Rattle.fq_model.specs.Rules.{Answers}
-use Rattle.refold.specs.Answer.{with_entry}
-use Rattle.fq_laws.proofs.Answering.{answer_legal, refused_leaves}
-use Rattle.sched_state.proofs.Keeping.{enter_room, keeps_close, same_past}
+use Rattle.fq_model.specs.declared.config.Config.{Config}
+use Rattle.fq_model.specs.declared.event.Act.TheVariants.{Close}
+use Rattle.fq_model.specs.declared.event.Entry.{Entry}
+use Rattle.fq_model.specs.History.{History, history_of, is_closed}
+use Rattle.fq_model.specs.Time.{last_moment}
+use Rattle.sched_state.specs.Held.{Mirrors}
+use Rattle.sched_state.specs.Times.{TimesAre, Passes}
+use Rattle.sched_state.proofs.Charging.{charges_close}
+use Rattle.sched_state.proofs.KeyTables.{choosing_later, choosing_stays}
+use Rattle.sched_state.proofs.Keeping.{Closed, closed, room_for, stands_after}
+use Rattle.sched_state.proofs.Queueing.{queues_close}
 use Rattle.sched_state.proofs.scheduler.Scheduler.close.Goals as goal
-use Rattle.sched_state.proofs.scheduler.Scheduler.close.Goals.{in-Refused, in_default}
-
-pub enter-requires-clause-legal : goal.enter-requires-clause-legal
-enter-requires-clause-legal g c =
-    let a : Answers c.self.inside.config (history_of c.self.inside.past.items) (call.Close c.args.who c.args.moment) c.close-answer.result.reply (with_entry c.close-answer.result.entry (history_of c.self.inside.past.items)) = rw c.as_slice.ensures.value at c.close-answer.ensures in
-    answer_legal c.self.inside.config (history_of c.self.inside.past.items) (call.Close c.args.who c.args.moment) c.close-answer.result.reply _ c.self.invariant.keeps.limits c.self.invariant.keeps.legal a
 
 pub enter-requires-clause-room : goal.enter-requires-clause-room
 enter-requires-clause-room g c =
-    let a : Answers c.self.inside.config (history_of c.self.inside.past.items) (call.Close c.args.who c.args.moment) c.close-answer.result.reply (with_entry c.close-answer.result.entry (history_of c.self.inside.past.items)) = rw c.as_slice.ensures.value at c.close-answer.ensures in
-    let sized : vec_len c.self.inside.past ≡ length (history_of c.self.inside.past.items) = let o = c.self.inside.past.ok in omega (arith, o, length-reverse c.self.inside.past.items) in
-    enter_room g.J.Job.label_of c.self.inside.config (history_of c.self.inside.past.items) _ c.self.inside.jobs (call.Close c.args.who c.args.moment) c.close-answer.result.reply c.close-answer.result.entry _ c.self.invariant.keeps a sized
+    let C : Config = c.self.inside.config in
+    let P : History = history_of c.self.inside.past.items in
+    let i = c.self.invariant in
+    let still : is_closed P ≡ false = sym i.tally_is.closed_is ∙ c.if-self.false in
+    let x : Closed C P c.args.who c.args.moment c.effective-moment.result = closed C P c.args.who c.args.moment c.effective-moment.result i.mirrors.legal still (c.effective-moment.ensures.value P i.tally_is) in
+    let e : Entry = record { who = c.args.who; moment = c.effective-moment.result; act = Close } in
+    let sized : vec_len c.self.inside.past ≡ length P = let o = c.self.inside.past.ok in omega (arith, o, length-reverse c.self.inside.past.items) in
+    room_for C P e _ _ i.mirrors.limits x.legal i.entries_fit sized
 
 pub invariant_of-self : goal.invariant_of-self
 invariant_of-self g c =
-    let a : Answers c.self.inside.config (history_of c.self.inside.past.items) (call.Close c.args.who c.args.moment) c.close-answer.result.reply (with_entry c.close-answer.result.entry (history_of c.self.inside.past.items)) = rw c.as_slice.ensures.value at c.close-answer.ensures in
-    record { keeps = keeps_close g.J.Job.label_of c.self.inside.config (history_of c.self.inside.past.items) (history_of c.enter.new.past.items) c.args.who c.args.moment c.close-answer.result.reply _ _ c.self.inside.jobs c.self.invariant.keeps (rw (← c.enter.ensures.history) at a) c.enter.ensures.capacity; charges_are = c.enter.ensures.charges }
-
-pub returns-clause-unchanged : goal.returns-clause-unchanged
-returns-clause-unchanged g c = elim c.match-answer.branch [
-  | in-Refused w ↦
-      let a : Answers c.self.inside.config (history_of c.self.inside.past.items) (call.Close c.args.who c.args.moment) (answer.Refused w.in-Refused.field-0) (with_entry c.close-answer.result.entry (history_of c.self.inside.past.items)) = rw (c.as_slice.ensures.value, w.in-Refused.is) at c.close-answer.ensures in
-      let same : c.enter.new.past.items ≡ c.self.inside.past.items = same_past c.enter.new.past.items c.self.inside.past.items (c.enter.ensures.history ∙ refused_leaves c.self.inside.config (history_of c.self.inside.past.items) (call.Close c.args.who c.args.moment) w.in-Refused.field-0 _ a) in
-      rw w.result-is (ap (λ z. record { config = c.self.inside.config; past = z; jobs = c.self.inside.jobs.by_request }) same ∙ c.self.view_is)
-  | in_default w ↦ rw w.result-is tt
-]
+    let C : Config = c.self.inside.config in
+    let P : History = history_of c.self.inside.past.items in
+    let i = c.self.invariant in
+    let still : is_closed P ≡ false = sym i.tally_is.closed_is ∙ c.if-self.false in
+    let x : Closed C P c.args.who c.args.moment c.effective-moment.result = closed C P c.args.who c.args.moment c.effective-moment.result i.mirrors.legal still (c.effective-moment.ensures.value P i.tally_is) in
+    let e : Entry = record { who = c.args.who; moment = c.effective-moment.result; act = Close } in
+    let goes : Passes c.effective-moment.result e = record { moment_is = refl; act_passes = refl } in
+    let times : TimesAre C (e ∷ P) c.pass.new.self = c.pass.ensures C P e goes i.mirrors.times_are in
+    let mirrors : Mirrors g.J.Job.label_of C (e ∷ P) c.self.inside.lists c.self.inside.charges c.pass.new.self = record { limits = i.mirrors.limits; legal = x.legal; queues_are = queues_close g.J.Job.label_of C P c.args.who c.effective-moment.result c.self.inside.lists x.legal i.mirrors.queues_are; charges_are = charges_close C P c.self.inside.charges c.args.who c.effective-moment.result i.mirrors.charges_are; times_are = times } in
+    stands_after g.J.Job.label_of C P (history_of c.enter.new.past.items) e _ _ _ _ _ _ _ c.enter.ensures.history i.entries_fit c.enter.ensures.capacity mirrors (c.enter.ensures.tally C P i.mirrors.limits x.legal i.tally_is) (choosing_stays C P e _ i.mirrors.limits x.legal (λ u. refl) (choosing_later C P (last_moment P) c.effective-moment.result _ x.legal.1 i.choosing_is))
