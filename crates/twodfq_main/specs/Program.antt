@@ -4,8 +4,6 @@ use Rattle.std.specs.Io.KnownBytes.{Appends}
 use Rattle.fq_io.specs.Faults.{Rose}
 use Rattle.fq_io.specs.Sources.{GaveAll, TookAtMost, TookTooMany}
 use Rattle.fq_io.specs.Sinks.{AppendsPart}
-use Rattle.fq_model.specs.declared.config.Policy.{Policy}
-use Rattle.fq_model.specs.declared.config.Policy.TheVariants.{TwoDfq}
 use Rattle.fq_model.specs.declared.event.Reply.{Reply}
 use Rattle.fq_model.specs.declared.fault.Kind.{Kind}
 use Rattle.fq_model.specs.History.{History}
@@ -23,16 +21,8 @@ greatest_input = 67108864
 abbrev pub IsCommandLine : List (List ℕ) → Type 0
 IsCommandLine words = words ≡ codes "script" ∷ []
 
-abbrev pub is_two_dfq : Policy → Bool
-is_two_dfq TwoDfq = true
-is_two_dfq _ = false
-
--- the program serves the script: its policy is 2dfq
-abbrev pub is_served : Script → Bool
-is_served s = is_two_dfq s.settings.policy
-
 abbrev pub served : Result Script (ℕ × Kind) → Option Script
-served (Ok s) = if is_served s then Some s else None
+served (Ok s) = Some s
 served (Err fault) = None
 
 -- the script that the input is, if the input is accepted

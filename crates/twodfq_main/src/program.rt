@@ -8,7 +8,7 @@ ghost use Rattle.fq_io.specs.Faults.{Rose};
 use crate::replies::replies_text;
 use crate::script::fault::ScriptFault;
 use crate::script::reading::read_script;
-use crate::serve::{is_served, serve};
+use crate::serve::serve;
 use crate::stop::Stop;
 use crate::words::is_command_line;
 use fq_io::{Clock, ReadAllFault, Sink, Source, read_all, write_all};
@@ -144,9 +144,6 @@ fn output(alloc: Global, bytes: &[u8]) -> Result<Vec<u8>, Stop>
         Err(ScriptFault::At { .. }) => return Err(Stop::NotAccepted),
         Err(ScriptFault::NoMemory) => return Err(Stop::NoMemory),
     };
-    if !is_served(&script) {
-        return Err(Stop::NotAccepted);
-    }
     let (config, _, _, calls) = script.into_parts();
     let Ok(served) = serve(alloc, config, calls.as_slice()) else {
         return Err(Stop::NoMemory);

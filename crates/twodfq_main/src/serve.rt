@@ -1,14 +1,13 @@
 //! A script's calls, made on a scheduler.
 ghost use Rattle.std.specs.Prelude.{◌≡◌, ◌↔◌, IsTrue, IfOk, true, false, length};
-ghost use Rattle.fq_model.specs.declared.config.Policy.TheVariants.{TwoDfq};
 ghost use Rattle.fq_model.specs.History.{history_of};
 ghost use Rattle.fq_model.specs.Outcome.{Outcome};
 ghost use Rattle.fq_model.specs.Rules.{Answers};
-ghost use Rattle.twodfq_main.specs.Program.{is_served, is_two_dfq};
 
 use crate::script::reading::Script;
-use fq_model::config::{Checked, Policy};
+use fq_model::config::Checked;
 use fq_model::event::{Call, Cause, Reply};
+use rival_policies::plain::PlainChooser;
 use sched_state::{AlreadyClosed, Scheduler, Taken};
 use std::alloc::Global;
 
@@ -20,19 +19,11 @@ pub struct NoMemory;
 #[derive(Drop)]
 pub struct Served {
     pub replies: Vec<Reply>,
-    pub scheduler: Scheduler<u64>,
-}
-
-/// Whether the program serves the script: its policy is 2dfq.
-pub fn is_served(script: &Script) -> bool
-    ensures { result ≡ is_served script.now }
-{
-    is_two_dfq(script.config().policy())
+    pub scheduler: Scheduler<u64, PlainChooser>,
 }
 
 /// Makes the calls in order on a scheduler that is opened for them.
 pub fn serve(alloc: Global, config: Checked, calls: &[Call]) -> Result<Served, NoMemory>
-    requires policy { config.policy ≡ TwoDfq }
     ensures { IfOk result (λ s. Outcome config calls.now s.replies.items (history_of s.scheduler.past)) }
 {
     let Ok(mut replies) = Vec::with_capacity(alloc, calls.len()) else {
@@ -49,8 +40,8 @@ pub fn serve(alloc: Global, config: Checked, calls: &[Call]) -> Result<Served, N
     Ok(Served { replies, scheduler })
 }
 
-// What the scheduler answers to a call.
-fn answer(scheduler: &mut Scheduler<u64>, call: Call) -> Reply
+/// What the scheduler answers to a call, whose label is the job of what is submitted.
+pub fn answer(scheduler: &mut Scheduler<u64, PlainChooser>, call: Call) -> Reply
     ensures answers { Answers scheduler.old.config (history_of scheduler.old.past) call result (history_of scheduler.new.past) }
     ensures config { scheduler.new.config ≡ scheduler.old.config }
 {
@@ -107,14 +98,5 @@ fn answer(scheduler: &mut Scheduler<u64>, call: Call) -> Reply
             Ok(()) => Reply::Accepted,
             Err(AlreadyClosed) => Reply::Refused(Cause::Closed),
         },
-    }
-}
-
-fn is_two_dfq(policy: Policy) -> bool
-    ensures { result ≡ is_two_dfq policy }
-{
-    match policy {
-        Policy::TwoDfq => true,
-        _ => false,
     }
 }

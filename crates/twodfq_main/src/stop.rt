@@ -9,7 +9,7 @@ pub enum Stop {
     Words,
     /// More bytes came than an input may have.
     TooLong,
-    /// The input is not a script that is served.
+    /// The input is not a script.
     NotAccepted,
     /// A read failed.
     Reading,

@@ -142,6 +142,44 @@ fn gives_back_what_was_not_used(rt: HostRuntime) -> Result<(), Fail> {
     )
 }
 
+// A tenant that comes back after a rest starts at virtual time by its tag, and earlier by the time that passed while it
+// was not active.
+const AFTER_A_REST: &str = "declared 1000 100 10\ntenant a 1\ntenant b 1\nkind get\n\
+    submit 1 0 1 0 1000 1\ntake 10 0 0\nsubmit 0 0 0 0 10 2\nsubmit 1 0 1 0 300 3\n\
+    done 10 1000 0 1000\ntake 10 1000 0\ndone 10 1010 0 10\nsubmit 0 2010 0 0 200 4\n\
+    take 10 2010 0\n";
+
+const BY_TAG: &str =
+    "request 0\nrun 0 1000 1\nrequest 1\nrequest 2\nok\nrun 1 10 2\nok\nrequest 3\n\
+    run 2 300 3\n";
+
+const BY_IDLE_TIME: &str =
+    "request 0\nrun 0 1000 1\nrequest 1\nrequest 2\nok\nrun 1 10 2\nok\nrequest 3\nrun 3 200 4\n";
+
+#[test]
+fn serves_wfq(rt: HostRuntime) -> Result<(), Fail> {
+    let input = format!(in rt.alloc(); "script 1\nconfig 1 wfq {AFTER_A_REST}")?;
+    answers(&rt, rt.alloc(), input.as_str(), BY_TAG)
+}
+
+#[test]
+fn serves_wf2q(rt: HostRuntime) -> Result<(), Fail> {
+    let input = format!(in rt.alloc(); "script 1\nconfig 1 wf2q {AFTER_A_REST}")?;
+    answers(&rt, rt.alloc(), input.as_str(), BY_TAG)
+}
+
+#[test]
+fn serves_2dfq(rt: HostRuntime) -> Result<(), Fail> {
+    let input = format!(in rt.alloc(); "script 1\nconfig 1 2dfq {AFTER_A_REST}")?;
+    answers(&rt, rt.alloc(), input.as_str(), BY_TAG)
+}
+
+#[test]
+fn serves_msf2q(rt: HostRuntime) -> Result<(), Fail> {
+    let input = format!(in rt.alloc(); "script 1\nconfig 1 msf2q {AFTER_A_REST}")?;
+    answers(&rt, rt.alloc(), input.as_str(), BY_IDLE_TIME)
+}
+
 // The mean of the costs so far, 4 and 7, is 5.
 #[test]
 fn estimates_the_mean(rt: HostRuntime) -> Result<(), Fail> {
@@ -196,7 +234,7 @@ fn refuses_inputs(rt: HostRuntime) -> Result<(), Fail> {
     };
     for input in [
         "",
-        "script 1\nconfig 1 wfq declared 1000 100 10\ntenant a 1\nkind get\n",
+        "script 1\nconfig 1 sfq declared 1000 100 10\ntenant a 1\nkind get\n",
         "script 1\nconfig 1 2dfq_nostagger recent 1000 100 10\ntenant a 1\nkind get\n",
     ] {
         let mut source = source_of(rt.alloc(), input)?;
