@@ -1,0 +1,14 @@
+pub mod Functions
+pub mod Lists
+pub mod Histories
+pub mod Stages
+pub mod Views
+pub mod Drawing
+pub mod Looking
+pub mod Giving
+pub mod Opening
+pub mod Splitting
+pub mod Joining
+pub mod Closing
+pub mod Turned
+pub mod Ringing

@@ -1,0 +1,42 @@
+use Rattle.std.proofs.Common.{rules, refl, sym, ap, ◌∙◌, subst, ◌≡◌}
+use Rattle.fq_model.specs.Outcome.{own_entries}
+use Rattle.history_lock.specs.Passes.{held, AllEnded}
+use Rattle.history_lock.specs.Views.{view_of}
+use Rattle.history_lock.proofs.Lists.{same_some}
+use Rattle.history_lock.proofs.Stages.{idle_is}
+use Rattle.history_lock.proofs.Closing.{settles, all_served, ends_moved}
+use Rattle.history_lock.proofs.lock.HistoryLock.close.Goals as goal
+
+pub returns-then-drawn-served-clause-settled : goal.returns-then-drawn-served-clause-settled
+returns-then-drawn-served-clause-settled g c = λ covers.
+    let same : view_of c.pass.inside.badge.views ≡ c.into_seat.result.me.0 = search rules in
+    let idle = ap (λ v. v.stage) (sym same) ∙ idle_is _ c.pass.invariant.idle in
+    let is = ap (held c.pass.inside.badge.table_id) (sym same) ∙ c.pass.view_is in
+    absurd (c.if-drawn-served.true (all_served g.M.Machine.past g.M.Machine.frame _ _ _ _ _ _ _ idle (ap (λ h. h.number) is ∙ c.requires.first) c.close_with-closed.ensures.values.2 c.word-drawn.ensures c.word-served.ensures
+    (subst (λ h. AllEnded h.made h.ended) (sym is) covers)))
+
+pub unreachable-requires : goal.unreachable-requires
+unreachable-requires g c =
+    let same : view_of c.pass.inside.badge.views ≡ c.into_seat.result.me.0 = search rules in
+    let idle = ap (λ v. v.stage) (sym same) ∙ idle_is _ c.pass.invariant.idle in
+    let zeroth = ap (λ v. v.number) (sym same) ∙ (ap (λ h. h.number) c.pass.view_is ∙ c.requires.first) in
+    let got = settles g.M.Machine.past g.M.Machine.frame _ c.pass.inside.badge.table_id _ _ _ _ _ _ _ idle zeroth c.close_with-closed.ensures.values.2 c.word-drawn.ensures c.word-served.ensures c.take-slot.ensures.value c.if-drawn-served.false in
+    c.in_default.not-Some got.0 got.1
+
+pub returns : goal.returns
+returns g c =
+    let same : view_of c.pass.inside.badge.views ≡ c.into_seat.result.me.0 = search rules in
+    let idle = ap (λ v. v.stage) (sym same) ∙ idle_is _ c.pass.invariant.idle in
+    let is = ap (held c.pass.inside.badge.table_id) (sym same) ∙ c.pass.view_is in
+    let got = settles g.M.Machine.past g.M.Machine.frame _ c.pass.inside.badge.table_id _ _ _ _ _ _ _ idle (ap (λ h. h.number) is ∙ c.requires.first) c.close_with-closed.ensures.values.2 c.word-drawn.ensures c.word-served.ensures c.take-slot.ensures.value c.if-drawn-served.false in
+    let machine = same_some _ _ _ got.1 c.in-Some.is in
+    let like = ap (λ l. l.frame) c.self.view_is in
+    let ends = ends_moved g.M.Machine.past g.M.Machine.frame _ _ _ _ _ _ like is machine got.2 in record {
+      frame = ends.0;
+      seen = ends.1;
+      mine = ap (own_entries (g.M.Machine.past c.in-Some.machine)) (sym c.requires.first) ∙ ends.2;
+      ended = ends.3;
+      above = ends.4;
+      unsettled = tt;
+      settled = λ _. refl;
+    }

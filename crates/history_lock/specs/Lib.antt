@@ -1,0 +1,7 @@
+pub mod Histories
+pub mod Views
+pub mod Rule
+pub mod Plays
+pub mod Passes
+pub mod Echoes
+pub mod Laws

@@ -1,0 +1,21 @@
+//! One history for all threads: a ticket lock round a machine, whose callers each know what they have seen and what is
+//! their own.
+//!
+//! Turns are served in the order in which they were drawn (a ticket lock: Mellor-Crummey and Scott, Algorithms for Scalable
+//! Synchronization on Shared-Memory Multiprocessors, 1991).
+#![tactic(auto)]
+
+pub mod laws;
+pub mod lock;
+pub mod machine;
+pub mod pass;
+mod plays;
+mod steps;
+mod table;
+
+pub use lock::{HistoryLock, NoMemory, Unsettled};
+pub use machine::Machine;
+pub use pass::Pass;
+
+#[cfg(test)]
+mod tests;

@@ -1,0 +1,34 @@
+//! What a lock goes round.
+ghost use Rattle.std.specs.Prelude.{◌≡◌, ℕ, List};
+ghost use Rattle.fq_model.specs.declared.event.Entry.{Entry};
+ghost use Rattle.history_lock.specs.Histories.{Grows};
+
+/// Something that keeps a history of its calls. `past` is that history, in order of time, and `frame` is what no step
+/// changes. `allowed` says which calls may be made. `answers` says of a history, a caller, a call and a reply which
+/// history follows: the same, or one entry more, which is the caller's.
+pub trait Machine {
+    /// What is asked.
+    type Call;
+
+    /// What is answered.
+    type Reply;
+
+    /// What no step changes, as plain data.
+    type Frame;
+
+    ghost past: { Self → List Entry };
+
+    ghost frame: { Self → Self.Frame };
+
+    ghost allowed: { Self.Frame → ℕ → Self.Call → Type 0 };
+
+    ghost answers: { Self.Frame → List Entry → ℕ → Self.Call → Self.Reply → List Entry → Type 0 };
+
+    /// Makes one call. `who` is the caller's number.
+    fn step(&mut self, who: u32, call: Self::Call) -> Self::Reply
+        requires { allowed (frame self.old) who call }
+        ensures answers { answers (frame self.old) (past self.old) who call result (past self.new) }
+        ensures frame { frame self.new ≡ frame self.old };
+
+    ghost grows: { (like : Self.Frame) (P : List Entry) (who : ℕ) (call : Self.Call) (reply : Self.Reply) (P2 : List Entry) → answers like P who call reply P2 → Grows who P P2 };
+}
