@@ -1,5 +1,5 @@
 -- What the rule says of the machine at the end.
-use Rattle.std.proofs.Common.{◌≡◌, ℕ, ◌%◌, List, ◌∷◌, sym, ap, ◌∙◌, subst, inl, inr, arith, Option, Some}
+use Rattle.std.proofs.Common.{◌≡◌, ℕ, ◌%◌, List, [], ◌∷◌, refl, sym, ap, ◌∙◌, subst, inl, inr, arith, Option, Some}
 use mathlib.Core.Logic.{dite}
 use mathlib.Core.Option.{none, some, some-ne-none, some-injective}
 use mathlib.Core.Option as maybe
@@ -15,6 +15,7 @@ use Rattle.history_lock.specs.Histories.{IsPrefix}
 use Rattle.history_lock.specs.Views.{turns_of, turns_at}
 use Rattle.history_lock.specs.Rule.{total, Fits, Slot, Kept}
 use Rattle.history_lock.specs.Passes.{Held, held, HasEnded, HasNoneAbove, AllEnded}
+use Rattle.history_lock.specs.Last.{WasLast}
 use Rattle.atomic_table.specs.Seated.{TableId}
 use Rattle.history_lock.proofs.Lists.{one_view, one_of, total_zero}
 use Rattle.history_lock.proofs.Histories.{own}
@@ -23,8 +24,14 @@ use Rattle.history_lock.proofs.Views.{fits}
 
 module _ {M F : Type 0} (past : M → List Entry) (frame : M → F) (like : F) where
   words_of : (s : State (Option M) (View F)) (r : Kept past frame like s) (ws : List ℕ) (d w : ℕ) → s.words ≡ ws → get_elem? ws 0 ≡ some d → get_elem? ws 1 ≡ some w → (r.marks.drawn % 18446744073709551616 ≡ d) × (r.marks.served % 18446744073709551616 ≡ w)
-  words_of s r ws d w is first second = let all : ws ≡ r.marks.drawn % 18446744073709551616 ∷ r.marks.served % 18446744073709551616 ∷ r.bells = sym is ∙ r.words in
+  words_of s r ws d w is first second = let all : ws ≡ r.marks.drawn % 18446744073709551616 ∷ r.marks.served % 18446744073709551616 ∷ [] = sym is ∙ r.words in
       (some-injective _ d (sym (ap (λ (l : List ℕ). get_elem? l 0) all) ∙ first), some-injective _ w (sym (ap (λ (l : List ℕ). get_elem? l 1) all) ∙ second))
+
+  -- the words that the table was closed with are those of the last moment
+  pub last_words : (table : TableId) (id : ℕ) (v : View F) (ws : List ℕ) (xs : List (Option M)) (d w : ℕ) → Final (Seen (Kept past frame like) id v) ws xs → get_elem? ws 0 ≡ some d → get_elem? ws 1 ≡ some w
+      → WasLast past frame like (held table v) d w
+  last_words table id v ws xs d w (s, (r, at), is, wide, keeps_home) first second = let p = words_of s r ws d w is first second in
+      (s, r, r.words ∙ (ap (λ (n : ℕ). n ∷ r.marks.served % 18446744073709551616 ∷ []) p.0 ∙ ap (λ (n : ℕ). d ∷ n ∷ []) p.1), (id, v, at, refl))
 
   -- what is then true of the machine, by the pass that closes
   abbrev pub Ends : Held F → M → Type 0
@@ -77,3 +84,6 @@ module _ {M F : Type 0} (past : M → List Entry) (frame : M → F) (like : F) w
 
 pub ends_moved : {M F : Type 0} (past : M → List Entry) (frame : M → F) (like like2 : F) (h h2 : Held F) (m m2 : M) → like ≡ like2 → h ≡ h2 → m ≡ m2 → Ends past frame like h m → Ends past frame like2 h2 m2
 ends_moved {M = M} {F = F} past frame like like2 h h2 m m2 a b c = subst (λ (x : F × Held F × M). Ends past frame x.0 x.1 x.2) (λ i. (a i, b i, c i))
+
+pub last_moved : {M F : Type 0} (past : M → List Entry) (frame : M → F) (like like2 : F) (h h2 : Held F) (d w : ℕ) → like ≡ like2 → h ≡ h2 → WasLast past frame like h d w → WasLast past frame like2 h2 d w
+last_moved {F = F} past frame like like2 h h2 d w a b = subst (λ (x : F × Held F). WasLast past frame x.0 x.1 d w) (λ i. (a i, b i))

@@ -1,5 +1,5 @@
 -- A turn is drawn: the rule stays.
-use Rattle.std.proofs.Common.{◌≡◌, ℕ, ◌+◌, ◌%◌, ◌^◌, List, ◌∷◌, get_or, set, refl, ap, ◌∙◌, arith, Option, length-set}
+use Rattle.std.proofs.Common.{◌≡◌, ℕ, ◌+◌, ◌%◌, ◌^◌, List, [], ◌∷◌, get_or, set, refl, ap, ◌∙◌, arith, Option, length-set}
 use mathlib.Core.Option.{none}
 use Rattle.atomic_table.specs.Table.{Me, step, keeps, Allows}
 use Rattle.fq_model.specs.declared.event.Entry.{Entry}
@@ -26,8 +26,7 @@ module _ {M F : Type 0} (past : M → List Entry) (frame : M → F) (like : F) w
         tt,
         record {
           marks = drawing k id;
-          bells = r.bells;
-          words = ap (λ (ws : List ℕ). set ws 0 ((get_or ws 0 0 + 1) % 18446744073709551616)) r.words ∙ ap (λ (n : ℕ). n ∷ k.served % 18446744073709551616 ∷ r.bells) (next_word k.drawn);
+          words = ap (λ (ws : List ℕ). set ws 0 ((get_or ws 0 0 + 1) % 18446744073709551616)) r.words ∙ ap (λ (n : ℕ). n ∷ k.served % 18446744073709551616 ∷ []) (next_word k.drawn);
           counted = (let a = total_set turns_of s.views id me.0 w at in let b : turns_at me.0.stage ≡ 0 = ap turns_at idle in omega arith);
           few = (let a = length-set s.views id w in let b = r.few in omega arith);
           bounded = r.bounded;

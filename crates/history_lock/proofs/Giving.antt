@@ -66,8 +66,7 @@ module _ {M F : Type 0} (past : M → List Entry) (frame : M → F) (like : F) w
         tt,
         subst (λ (cs : List (ℕ × Option M)). Kept past frame like (stepped s 1 ((get_or s.words 1 0 + 1) % 18446744073709551616) id cs w gives)) (sym carried) record {
           marks = ending k (past m);
-          bells = r.bells;
-          words = ap (λ (ws : List ℕ). set ws 1 ((get_or ws 1 0 + 1) % 18446744073709551616)) r.words ∙ ap (λ (n : ℕ). k.drawn % 18446744073709551616 ∷ n ∷ r.bells) (next_word k.served);
+          words = ap (λ (ws : List ℕ). set ws 1 ((get_or ws 1 0 + 1) % 18446744073709551616)) r.words ∙ ap (λ (n : ℕ). k.drawn % 18446744073709551616 ∷ n ∷ []) (next_word k.served);
           counted = (let a = total_set turns_of s.views id me.0 w at in let b : turns_at me.0.stage ≡ 1 = ap turns_at serves in let c = r.counted in omega arith);
           few = (let a = length-set s.views id w in let b = r.few in omega arith);
           bounded = r.bounded;

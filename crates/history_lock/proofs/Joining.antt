@@ -57,7 +57,6 @@ module _ {M F : Type 0} (past : M → List Entry) (frame : M → F) (like : F) w
             (at_snoc v.ended (w.number, w.mine) e i q);
       } in record {
         marks = k';
-        bells = r.bells;
         words = r.words;
         counted = (let a = total_set turns_of s.views id v jv at in let b = total_set turns_of vs other w spent_view there in let c : turns_at v.stage ≡ 0 = ap turns_at idle in let d : turns_at w.stage ≡ 0 = ap turns_at idle' in let e = r.counted in omega arith);
         few = (let a = length-set s.views id jv in let b = length-set vs other spent_view in let c = r.few in omega arith);

@@ -11,4 +11,3 @@ pub mod Splitting
 pub mod Joining
 pub mod Closing
 pub mod Turned
-pub mod Ringing

@@ -57,7 +57,6 @@ module _ {M F : Type 0} (past : M → List Entry) (frame : M → F) (like : F) w
             ap (λ (l : List (maybe.Option (Option M))). get_elem? l 0) homes_is,
             record {
               marks = r.marks;
-              bells = r.bells;
               words = ap (λ (ws : List ℕ). set ws 1 (get_or ws 1 0)) r.words;
               counted = (let a = total_set turns_of s.views id me.0 w at in let b : turns_at me.0.stage ≡ 1 = ap turns_at waits in let c = r.counted in omega arith);
               few = (let a = length-set s.views id w in let b = r.few in omega arith);

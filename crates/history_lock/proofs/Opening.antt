@@ -12,10 +12,9 @@ module _ {M F : Type 0} (past : M → List Entry) (frame : M → F) (like : F) w
   abbrev start : Marks
   start = record { drawn = 0; served = 0; made = 0; history = []; holder = λ _. 0; owner = λ _. 0; closed = λ _. 0 }
 
-  pub opens : (bells : List ℕ) (m : M) → past m ≡ [] → frame m ≡ like → Kept past frame like (opening (0 ∷ 0 ∷ bells) (Some m ∷ []) (newcomer like))
-  opens bells m empty is = record {
+  pub opens : (m : M) → past m ≡ [] → frame m ≡ like → Kept past frame like (opening (0 ∷ 0 ∷ []) (Some m ∷ []) (newcomer like))
+  opens m empty is = record {
     marks = start;
-    bells = bells;
     words = refl;
     counted = refl;
     few = omega arith;

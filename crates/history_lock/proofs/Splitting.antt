@@ -68,7 +68,6 @@ module _ {M F : Type 0} (past : M → List Entry) (frame : M → F) (like : F) w
         gone = λ i e h. absurd (some-ne-none e (sym h));
       } in record {
         marks = k';
-        bells = r.bells;
         words = r.words;
         counted = (let a = total_set turns_of s.views id v (parent v) at in let b = total_append turns_of (set s.views id (parent v)) (child v) in let c = r.counted in omega arith);
         few = (let a = length-set s.views id (parent v) in let b = length-append (set s.views id (parent v)) (child v ∷ []) in let c = r.few in omega arith);

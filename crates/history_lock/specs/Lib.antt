@@ -3,5 +3,6 @@ pub mod Views
 pub mod Rule
 pub mod Plays
 pub mod Passes
+pub mod Last
 pub mod Echoes
 pub mod Laws

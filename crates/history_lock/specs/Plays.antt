@@ -33,10 +33,6 @@ module _ {M F : Type 0} where
   abbrev pub gave : (M → List Entry) → At M → Holding M F → ℕ → Holding M F → Type 0
   gave past at me found me2 = (m : M) → me.1 ≡ (0, Some m) ∷ [] → me2 ≡ (learned me.0 (past m), [])
 
-  -- a bell is rung: nothing that a view tells changes
-  abbrev pub rang : At M → Holding M F → ℕ → Holding M F → Type 0
-  rang at me found me2 = me2 ≡ me
-
   -- what was seen has this number's own entries, and both that were seen before the last join are front parts of it
   abbrev pub noted : At M → Holding M F → ℕ → Holding M F → Type 0
   noted at me found me2 = (me2 ≡ me) × (own_entries me.0.seen me.0.number ≡ me.0.mine)

@@ -12,9 +12,9 @@ use Rattle.history_lock.specs.declared.table.Stage.TheVariants.{Spent, Idle, Wai
 use Rattle.history_lock.specs.Histories.{IsPrefix}
 use Rattle.history_lock.specs.Views.{turns_of}
 
--- the next turn to draw, the turn that is served, and 64 bells
+-- the next turn to draw, and the turn that is served
 abbrev pub word_count : ℕ
-word_count = 66
+word_count = 2
 
 abbrev pub total : {A : Type 0} → (A → ℕ) → List A → ℕ
 total count [] = 0
@@ -70,11 +70,10 @@ module _ {M F : Type 0} (past : M → List Entry) (frame : M → F) (like : F) w
       ((m : M) × (homes ≡ some (Some m) ∷ []) × (past m ≡ history) × (frame m ≡ like))
       ⊎ ((homes ≡ none ∷ []) × ((seat : ℕ) × (v : View F) × (turn : ℕ) × (P : List Entry) × (get_elem? views seat ≡ some v) × (v.stage ≡ Served turn P)))
 
-  -- The first two words count the turns drawn and served, modulo 2^64. Of the bells nothing is said: they tell sleepers to look again, and what they find is in the words
+  -- The words count the turns drawn and served, modulo 2^64
   pub record Kept (s : State (Option M) (View F)) : Type 0 where
     pub marks : Marks
-    pub bells : List ℕ
-    pub words : s.words ≡ marks.drawn % 2 ^ 64 ∷ marks.served % 2 ^ 64 ∷ bells
+    pub words : s.words ≡ marks.drawn % 2 ^ 64 ∷ marks.served % 2 ^ 64 ∷ []
     pub counted : marks.served + total turns_of s.views ≡ marks.drawn
     pub few : length s.views ≤ marks.made + 1
     pub bounded : marks.made < 2 ^ 32

@@ -4,6 +4,7 @@ ghost use Rattle.fq_model.specs.declared.event.Entry.{Entry};
 ghost use Rattle.fq_model.specs.Outcome.{own_entries};
 ghost use Rattle.history_lock.specs.Histories.{IsPrefix, Gains, longer};
 ghost use Rattle.history_lock.specs.Passes.{IsOf, HasEnded, HasNoneAbove, AllEnded};
+ghost use Rattle.history_lock.specs.Last.{WasLast};
 
 use crate::machine::Machine;
 use crate::pass::Pass;
@@ -156,7 +157,7 @@ impl<M: Machine + Drop> HistoryLock<M> {
     {
         let like = Snapshot::of(&machine);
         let slots = slot_with(alloc, machine)?;
-        let Ok((table, place)) = Table::new(alloc, &[0; 66], slots, &like) else {
+        let Ok((table, place)) = Table::new(alloc, &[0, 0], slots, &like) else {
             return Err(NoMemory);
         };
         let pass = Pass {
@@ -167,7 +168,8 @@ impl<M: Machine + Drop> HistoryLock<M> {
         Ok((HistoryLock { table }, pass))
     }
 
-    /// Ends the lock, and gives its machine where every turn that was drawn was served; else the machine is given up.
+    /// Ends the lock, and gives its machine where every turn that was drawn was served; else the machine is given up. Both
+    /// counts are those of the lock's last moment, at which the pass was one of its views.
     pub fn close(self, pass: Pass<M::Frame>) -> Result<M, Unsettled>
         requires own { IsOf self pass }
         requires first { pass.number ≡ 0 }
@@ -176,7 +178,10 @@ impl<M: Machine + Drop> HistoryLock<M> {
         ensures mine { IfOk result (λ m. own_entries (M.past m) 0 ≡ pass.mine) }
         ensures ended { IfOk result (λ m. HasEnded (M.past m) pass.ended) }
         ensures above { IfOk result (λ m. HasNoneAbove (M.past m) pass.made) }
-        ensures unsettled { IfErr result (λ u. u.drawn ≢ u.served) }
+        ensures exact { (drawn : ℕ) × (served : ℕ)
+            × WasLast M.past M.frame self.frame pass drawn served
+            × IfOk result (λ m. drawn ≡ served)
+            × IfErr result (λ u. (u.drawn ≡ drawn) × (u.served ≡ served) × (drawn ≢ served)) }
         ensures settled { AllEnded pass.made pass.ended → IsOk result }
     {
         let Pass {

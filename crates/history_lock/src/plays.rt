@@ -1,5 +1,5 @@
 //! What each step on the table tells.
-ghost use Rattle.history_lock.specs.Plays.{drew, looked, gave, rang, noted};
+ghost use Rattle.history_lock.specs.Plays.{drew, looked, gave, noted};
 ghost use Rattle.history_lock.specs.Views.{parent, child, joined, spent_view};
 
 use crate::machine::Machine;
@@ -25,13 +25,6 @@ pub(crate) struct Give;
 
 impl<M: Machine> Play<Option<M>, View<M::Frame>> for Give {
     ghost then = { gave M.past };
-}
-
-/// The bell of the next turn is rung.
-pub(crate) struct Ring;
-
-impl<M: Machine> Play<Option<M>, View<M::Frame>> for Ring {
-    ghost then = { rang };
 }
 
 /// A pass that holds no turn learns what the rule says of it.

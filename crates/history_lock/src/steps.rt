@@ -1,5 +1,5 @@
 //! The steps of one turn: to draw it, to wait until it is served, and to end it.
-ghost use Rattle.std.specs.Prelude.{◌≡◌, ℕ, ◌+◌, ◌%◌, ◌^◌, List, [], ◌∷◌, Some, None};
+ghost use Rattle.std.specs.Prelude.{◌≡◌, ℕ, ◌%◌, ◌^◌, List, [], ◌∷◌, Some, None};
 ghost use Rattle.fq_model.specs.declared.event.Entry.{Entry};
 ghost use Rattle.fq_model.specs.Outcome.{own_entries};
 ghost use Rattle.history_lock.specs.declared.table.Stage.TheVariants.{Idle, Waits, Served};
@@ -8,33 +8,36 @@ ghost use Rattle.history_lock.specs.Rule.{word_count};
 ghost use Rattle.history_lock.specs.Views.{at_stage, learned};
 
 use crate::machine::Machine;
-use crate::plays::{Draw, Give, Look, Ring};
+use crate::plays::{Draw, Give, Look};
 use crate::table::{LockTable, Place};
 use std::hint::spin_loop;
 use std::sync::Wait;
+use std::thread::yield_now;
 
 // The words and the slot of the table.
 const NEXT: usize = 0;
 
 const SERVED: usize = 1;
 
-const FIRST_BELL: usize = 2;
-
-const BELLS: u64 = 64;
-
 const MACHINE: usize = 0;
 
-// A sleep compares the low 32 bits of a word.
-const SLEEP_RANGE: u64 = 1 << 32;
+// How often a caller lets others run while there are some in line, before it joins the line all the same.
+const COURTESIES: u32 = 1000;
 
 // How often the next in line looks before it lets others run.
 const LOOKS: u32 = 100;
 
-// The bell that is rung when a turn comes. Turns that are a multiple of 64 apart share one.
-fn bell_of(turn: u64) -> usize
-    ensures { result ≡ 2 + turn % 64 }
+// Lets others run while turns are drawn that have not ended, but not for ever. A line moves in order, so each thread in it
+// has to run once before it moves on; a caller that stays out of it can be overtaken, and costs nobody a wait.
+fn stand_aside<M: Machine>(table: &LockTable<M>)
+    requires own { table.now.shared.table_id.words ≡ word_count }
 {
-    FIRST_BELL + (turn % BELLS) as usize
+    for _ in 0..COURTESIES {
+        if table.shared.peek(NEXT) == table.shared.peek(SERVED) {
+            return;
+        }
+        yield_now();
+    }
 }
 
 // Draws a turn.
@@ -60,17 +63,14 @@ fn comes_soon<M: Machine>(table: &LockTable<M>, turn: u64) -> bool
     false
 }
 
-// Lets time pass after a look that found another turn served. The next in line looks some more. Then a waiter sleeps, unless
-// its bell was rung since `rung` was read from it, which was before that look.
-fn pause<M: Machine, R: Wait>(table: &LockTable<M>, rt: &R, turn: u64, served: u64, rung: u64)
+// Lets time pass after a look that found another turn served. The next in line looks some more first.
+fn pause<M: Machine>(table: &LockTable<M>, turn: u64, served: u64)
     requires own { table.now.shared.table_id.words ≡ word_count }
 {
     if turn.wrapping_sub(served) == 1 && comes_soon(table, turn) {
         return;
     }
-    table
-        .shared
-        .park(rt, bell_of(turn), (rung % SLEEP_RANGE) as u32);
+    yield_now();
 }
 
 /// Waits for a turn of its own, and takes the machine out of its slot.
@@ -83,34 +83,19 @@ pub(crate) fn enter<M: Machine, R: Wait>(table: &LockTable<M>, rt: &R, place: &m
     ensures seen { IsPrefix place.old.me.0.seen (M.past result) }
     ensures mine { own_entries (M.past result) place.old.me.0.number ≡ place.old.me.0.mine }
 {
+    stand_aside(table);
     let turn = draw(table, place);
-    let bell = bell_of(turn);
     for _ in rt.forever() {
-        let rung = table.shared.peek(bell);
         let served = table.shared.load::<Look>(place, SERVED);
         if served == turn {
             return table.shared.exchange(place, MACHINE, None).unwrap();
         }
-        pause(table, rt, turn, served, rung);
+        pause(table, turn, served);
     }
     unreachable!()
 }
 
-// Wakes those who sleep until a turn, where it was drawn at all: who draws it later finds it served.
-fn ring<M: Machine>(table: &LockTable<M>, place: &mut Place<M>, turn: u64)
-    requires own { (place.old.table_id ≡ table.now.shared.table_id) × (table.now.shared.table_id.words ≡ word_count) }
-    ensures same { (place.new.table_id ≡ place.old.table_id) × (place.new.id ≡ place.old.id) }
-    ensures me { place.new.me ≡ place.old.me }
-{
-    if table.shared.peek(NEXT) == turn {
-        return;
-    }
-    let bell = bell_of(turn);
-    table.shared.fetch_add::<Ring>(place, bell, 1);
-    table.shared.wake_all(bell);
-}
-
-/// Puts the machine back after its step, ends the turn, and wakes the next in line.
+/// Puts the machine back after its step, and ends the turn.
 pub(crate) fn leave<M: Machine>(table: &LockTable<M>, place: &mut Place<M>, machine: M)
     requires own { (place.old.table_id ≡ table.now.shared.table_id) × (table.now.shared.table_id.words ≡ word_count) }
     requires served { (turn : ℕ) × (P : List Entry) × (place.old.me.0.stage ≡ Served turn P) × (place.old.me.1 ≡ (0, None) ∷ []) × Grows place.old.me.0.number P (M.past machine) }
@@ -120,6 +105,5 @@ pub(crate) fn leave<M: Machine>(table: &LockTable<M>, place: &mut Place<M>, mach
 {
     let empty = table.shared.exchange(place, MACHINE, Some(machine));
     let None = empty else { unreachable!() };
-    let turn = table.shared.fetch_add::<Give>(place, SERVED, 1);
-    ring(table, place, turn.wrapping_add(1));
+    table.shared.fetch_add::<Give>(place, SERVED, 1);
 }

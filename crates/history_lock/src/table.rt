@@ -1,5 +1,5 @@
-//! The table that all passes share. Word 0 is the next turn to draw, word 1 the turn that is served, words 2 to 65 are the
-//! bells that those who sleep until their turn are woken by, and slot 0 has the machine.
+//! The table that all passes share. Word 0 is the next turn to draw, word 1 the turn that is served, and slot 0 has the
+//! machine.
 use crate::machine::Machine;
 use atomic_table::{Seat, Table, TableRule};
 use fq_model::event::Entry;

@@ -3,8 +3,8 @@ use Rattle.atomic_table.specs.Table.{rest}
 use Rattle.history_lock.proofs.Giving.{gives_back}
 use Rattle.history_lock.proofs.steps.leave.Goals as goal
 
-pub fetch_add-turn-requires : goal.fetch_add-turn-requires
-fetch_add-turn-requires g c = let now = c.exchange-empty.ensures.3 in let was = c.requires.served in (
+pub fetch_add-requires : goal.fetch_add-requires
+fetch_add-requires g c = let now = c.exchange-empty.ensures.3 in let was = c.requires.served in (
   search rules,
   search rules,
   gives_back g.M.Machine.past g.M.Machine.frame _ _ _ _ was.0 was.1 c.args.machine

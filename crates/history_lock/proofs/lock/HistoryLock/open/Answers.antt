@@ -1,6 +1,6 @@
-use Rattle.std.proofs.Common.{refl, replicate}
+use Rattle.std.proofs.Common.{refl}
 use Rattle.history_lock.proofs.Opening.{opens}
 use Rattle.history_lock.proofs.lock.HistoryLock.open.Goals as goal
 
 pub new-requires : goal.new-requires
-new-requires g c = rw (c.in_ok-slots.ensures, c.of-like.ensures) (opens g.M.Machine.past g.M.Machine.frame (g.M.Machine.frame c.args.machine) (replicate 64 0) c.args.machine c.requires refl)
+new-requires g c = rw (c.in_ok-slots.ensures, c.of-like.ensures) (opens g.M.Machine.past g.M.Machine.frame (g.M.Machine.frame c.args.machine) c.args.machine c.requires refl)
