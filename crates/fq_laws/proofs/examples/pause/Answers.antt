@@ -1,0 +1,72 @@
+use Rattle.std.proofs.Common.{refl, arith}
+use Rattle.fq_model.specs.declared.config.Policy.TheVariants.{Wfq, Wf2q, Msf2q, TwoDfq}
+use Rattle.fq_laws.specs.Examples.{pause_config, pause_history}
+use Rattle.fq_laws.proofs.Computed.{IsShort, virtual_time_is, start_is, keys_are, computing}
+use Rattle.fq_laws.proofs.ChoiceTests.{choice_is}
+use Rattle.fq_laws.proofs.LegalTests.{legal_is, limits_are}
+use Rattle.fq_laws.proofs.examples.pause.Goals as goal
+
+short : IsShort 4 2 pause_history
+unfolding pause_history
+short = record { bound = omega arith; acts = refl }
+
+pub returns-clause-in_limits : goal.returns-clause-in_limits
+unfolding pause_config
+returns-clause-in_limits c = λ p. limits_are (pause_config p) refl
+
+pub returns-clause-legal : goal.returns-clause-legal
+unfolding computing pause_config pause_history
+returns-clause-legal c = elim [
+  | Wfq ↦ legal_is 4 2 (pause_config Wfq) pause_history short refl
+  | Wf2q ↦ legal_is 4 2 (pause_config Wf2q) pause_history short refl
+  | Msf2q ↦ legal_is 4 2 (pause_config Msf2q) pause_history short refl
+  | TwoDfq ↦ legal_is 4 2 (pause_config TwoDfq) pause_history short refl
+]
+
+pub returns-clause-time : goal.returns-clause-time
+unfolding computing pause_config pause_history
+returns-clause-time c = λ p. virtual_time_is 4 2 (pause_config p) pause_history 2010 short
+
+pub returns-clause-start_wfq : goal.returns-clause-start_wfq
+unfolding computing pause_config pause_history
+returns-clause-start_wfq c = start_is 4 2 (pause_config Wfq) pause_history 2010 0 short
+
+pub returns-clause-start_wf2q : goal.returns-clause-start_wf2q
+unfolding computing pause_config pause_history
+returns-clause-start_wf2q c = start_is 4 2 (pause_config Wf2q) pause_history 2010 0 short
+
+pub returns-clause-start_msf2q : goal.returns-clause-start_msf2q
+unfolding computing pause_config pause_history
+returns-clause-start_msf2q c = start_is 4 2 (pause_config Msf2q) pause_history 2010 0 short
+
+pub returns-clause-start_2dfq : goal.returns-clause-start_2dfq
+unfolding computing pause_config pause_history
+returns-clause-start_2dfq c = start_is 4 2 (pause_config TwoDfq) pause_history 2010 0 short
+
+pub returns-clause-other_keys : goal.returns-clause-other_keys
+unfolding computing pause_config pause_history
+returns-clause-other_keys c = elim [
+  | Wfq ↦ keys_are 4 2 (pause_config Wfq) pause_history 2010 1 short
+  | Wf2q ↦ keys_are 4 2 (pause_config Wf2q) pause_history 2010 1 short
+  | Msf2q ↦ keys_are 4 2 (pause_config Msf2q) pause_history 2010 1 short
+  | TwoDfq ↦ keys_are 4 2 (pause_config TwoDfq) pause_history 2010 1 short
+]
+
+pub returns-clause-other_finish : goal.returns-clause-other_finish
+returns-clause-other_finish c = refl
+
+pub returns-clause-choice_wfq : goal.returns-clause-choice_wfq
+unfolding computing pause_config pause_history
+returns-clause-choice_wfq c = choice_is 4 2 (pause_config Wfq) pause_history 2010 0 _ _ short refl refl
+
+pub returns-clause-choice_wf2q : goal.returns-clause-choice_wf2q
+unfolding computing pause_config pause_history
+returns-clause-choice_wf2q c = choice_is 4 2 (pause_config Wf2q) pause_history 2010 0 _ _ short refl refl
+
+pub returns-clause-choice_msf2q : goal.returns-clause-choice_msf2q
+unfolding computing pause_config pause_history
+returns-clause-choice_msf2q c = choice_is 4 2 (pause_config Msf2q) pause_history 2010 0 _ _ short refl refl
+
+pub returns-clause-choice_2dfq : goal.returns-clause-choice_2dfq
+unfolding computing pause_config pause_history
+returns-clause-choice_2dfq c = choice_is 4 2 (pause_config TwoDfq) pause_history 2010 0 _ _ short refl refl

@@ -1,0 +1,150 @@
+-- Worked histories, the newest entry first, small enough to find by hand what the definitions give on them. The numbers of
+-- an act stand in the order of its fields: Submit request tenant kind declared label, Take worker request estimate,
+-- Report worker request used, Done worker request cost.
+use Rattle.std.specs.Prelude.{ℕ, ◌*◌, [], ◌∷◌, pos}
+use Rattle.vt_fixed.specs.Rounding.{steps_per_unit}
+use Rattle.fq_model.specs.declared.config.Config.{Config}
+use Rattle.fq_model.specs.declared.config.Policy.{Policy}
+use Rattle.fq_model.specs.declared.config.Policy.TheVariants.{Wf2q, TwoDfq}
+use Rattle.fq_model.specs.declared.config.Estimator.TheVariants.{Declared, Pessimistic}
+use Rattle.fq_model.specs.declared.event.Act.{Act}
+use Rattle.fq_model.specs.declared.event.Act.TheVariants.{Submit, Take, Report, Done, Close}
+use Rattle.fq_model.specs.declared.event.Entry.{Entry}
+use Rattle.fq_model.specs.History.{History}
+use Rattle.fq_model.specs.Keys.{HeadKeys}
+
+-- an entry of this caller
+abbrev pub entry : ℕ → ℕ → Act → Entry
+entry who moment act = record { who = who; moment = moment; act = act }
+
+-- so many virtual units, in steps
+abbrev pub units : ℕ → ℕ
+units n = n * steps_per_unit
+
+-- the keys of a head that starts at so many units and is so many units long
+abbrev pub keys : ℕ → ℕ → ℕ → HeadKeys
+keys start len request = record { start = pos (units start); len = pos (units len); request = request }
+
+-- ---- stagger
+
+-- two workers, and two tenants of weight 1, under 2dfq
+unfoldable pub stagger_config : Config
+stagger_config = record { workers = 2; weights = 1 ∷ 1 ∷ []; kinds = 1; entries = 100; requests = 10; policy = TwoDfq; estimate = Declared; initial = 1000 }
+
+-- worker 1 runs a request of tenant 0 that is 8 long, while worker 0 runs requests of tenant 1 that are 1 long: the sixth
+-- of them has just begun
+unfoldable pub stagger_history : History
+stagger_history =
+    entry 10 5 (Take 0 7 1)
+    ∷ entry 10 5 (Done 0 6 1)
+    ∷ entry 10 4 (Take 0 6 1)
+    ∷ entry 10 4 (Done 0 5 1)
+    ∷ entry 10 3 (Take 0 5 1)
+    ∷ entry 10 3 (Done 0 4 1)
+    ∷ entry 10 2 (Take 0 4 1)
+    ∷ entry 10 2 (Done 0 3 1)
+    ∷ entry 10 1 (Take 0 3 1)
+    ∷ entry 10 1 (Done 0 2 1)
+    ∷ entry 10 0 (Take 0 2 1)
+    ∷ entry 1 0 (Submit 9 1 0 1 18)
+    ∷ entry 1 0 (Submit 8 1 0 1 17)
+    ∷ entry 1 0 (Submit 7 1 0 1 16)
+    ∷ entry 1 0 (Submit 6 1 0 1 15)
+    ∷ entry 1 0 (Submit 5 1 0 1 14)
+    ∷ entry 1 0 (Submit 4 1 0 1 13)
+    ∷ entry 1 0 (Submit 3 1 0 1 12)
+    ∷ entry 1 0 (Submit 2 1 0 1 11)
+    ∷ entry 11 0 (Take 1 0 8)
+    ∷ entry 0 0 (Submit 1 0 0 8 2)
+    ∷ entry 0 0 (Submit 0 0 0 8 1)
+    ∷ []
+
+-- the long request ends, and worker 1 is free
+unfoldable pub long_ended : History
+unfolding stagger_history
+long_ended = entry 11 5 (Done 1 0 8) ∷ stagger_history
+
+-- the sixth short request ends in its place, and worker 0 is free
+unfoldable pub sixth_ended : History
+unfolding stagger_history
+sixth_ended = entry 10 5 (Done 0 7 1) ∷ stagger_history
+
+-- ---- fallback
+
+-- two workers, and two tenants of weight 1, under wf2q
+unfoldable pub fallback_config : Config
+fallback_config = record { workers = 2; weights = 1 ∷ 1 ∷ []; kinds = 1; entries = 100; requests = 10; policy = Wf2q; estimate = Declared; initial = 1000 }
+
+-- a request of tenant 0 has ended, and one of tenant 1 runs; each has one that waits
+unfoldable pub fallback_history : History
+fallback_history =
+    entry 10 1 (Done 0 0 2)
+    ∷ entry 11 0 (Take 1 2 3)
+    ∷ entry 10 0 (Take 0 0 2)
+    ∷ entry 1 0 (Submit 3 1 0 1 4)
+    ∷ entry 1 0 (Submit 2 1 0 3 3)
+    ∷ entry 0 0 (Submit 1 0 0 10 2)
+    ∷ entry 0 0 (Submit 0 0 0 2 1)
+    ∷ []
+
+-- worker 0 then takes this request, at this estimate
+unfoldable pub fallback_taken : ℕ → ℕ → History
+unfolding fallback_history
+fallback_taken request estimate = entry 10 1 (Take 0 request estimate) ∷ fallback_history
+
+-- ---- refund
+
+-- one worker, and tenants of the weights 1 and 2, with pessimistic estimates that begin at 990
+unfoldable pub refund_config : Config
+refund_config = record { workers = 1; weights = 1 ∷ 2 ∷ []; kinds = 1; entries = 100; requests = 10; policy = TwoDfq; estimate = Pessimistic; initial = 990 }
+
+-- a request of tenant 0 that was estimated at 990 cost 3, and then one of tenant 1 cost the 990 that it was estimated at
+unfoldable pub refund_history : History
+refund_history =
+    entry 1 993 (Submit 3 1 0 1 4)
+    ∷ entry 10 993 (Done 0 2 990)
+    ∷ entry 10 3 (Take 0 2 990)
+    ∷ entry 10 3 (Done 0 0 3)
+    ∷ entry 1 0 (Submit 2 1 0 1 3)
+    ∷ entry 10 0 (Take 0 0 990)
+    ∷ entry 0 0 (Submit 1 0 0 1 2)
+    ∷ entry 0 0 (Submit 0 0 0 1 1)
+    ∷ []
+
+-- ---- pause
+
+-- one worker, and two tenants of weight 1, under each policy
+unfoldable pub pause_config : Policy → Config
+pause_config policy = record { workers = 1; weights = 1 ∷ 1 ∷ []; kinds = 1; entries = 100; requests = 10; policy = policy; estimate = Declared; initial = 1000 }
+
+-- tenant 0 has nothing to do from moment 1010 to moment 2010, while tenant 1 has a request that waits
+unfoldable pub pause_history : History
+pause_history =
+    entry 0 2010 (Submit 3 0 0 200 4)
+    ∷ entry 10 1010 (Done 0 1 10)
+    ∷ entry 10 1000 (Take 0 1 10)
+    ∷ entry 10 1000 (Done 0 0 1000)
+    ∷ entry 1 0 (Submit 2 1 0 300 3)
+    ∷ entry 0 0 (Submit 1 0 0 10 2)
+    ∷ entry 10 0 (Take 0 0 1000)
+    ∷ entry 1 0 (Submit 0 1 0 1000 1)
+    ∷ []
+
+-- ---- one request
+
+-- one worker, and one tenant
+unfoldable pub single_config : Config
+single_config = record { workers = 1; weights = 1 ∷ []; kinds = 1; entries = 5; requests = 1; policy = TwoDfq; estimate = Declared; initial = 1000 }
+
+-- its request was declared to cost 5, and is seen to have used 6
+unfoldable pub single_reported : History
+single_reported =
+    entry 10 7 (Report 0 0 6)
+    ∷ entry 10 1 (Take 0 0 5)
+    ∷ entry 0 0 (Submit 0 0 0 5 1)
+    ∷ []
+
+-- it ends at this cost, and the history is closed
+unfoldable pub single_ended : ℕ → History
+unfolding single_reported
+single_ended cost = entry 0 9 Close ∷ entry 10 8 (Done 0 0 cost) ∷ single_reported
