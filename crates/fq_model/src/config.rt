@@ -87,16 +87,23 @@ pub struct Config {
 }
 
 /// The first number of a configuration that is out of its limit, in the order of these variants.
-/// `Weight` carries the least tenant whose weight is out of range.
 #[derive(Clone, Copy, Debug, PartialEq, Eq)]
 pub enum ConfigFault {
+    /// So many workers; there may be 1 to 64.
     Workers(u32),
+    /// So many tenants; there may be 1 to 4,096.
     Tenants(u64),
+    /// The least tenant whose weight is not from 1 to 1,000.
     Weight(u32),
+    /// So many kinds; there may be 1 to 64.
     Kinds(u32),
+    /// So many tenants times kinds; there may be 65,536.
     Pairs(u64),
+    /// So many entries; there may be 4 to 4,194,304.
     Entries(u32),
+    /// So many requests that may wait; there may be 1 to 262,144.
     Requests(u32),
+    /// This initial value, in microseconds; it may be 1 to 10^9.
     Initial(u64),
 }
 

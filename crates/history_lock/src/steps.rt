@@ -21,19 +21,21 @@ const SERVED: usize = 1;
 
 const MACHINE: usize = 0;
 
-// How often a caller lets others run while there are some in line, before it joins the line all the same.
-const COURTESIES: u32 = 1000;
+// How many turns of others a caller lets pass while there is a line, before it joins the line.
+const PATIENCE: u64 = 4000;
 
 // How often the next in line looks before it lets others run.
 const LOOKS: u32 = 100;
 
-// Lets others run while turns are drawn that have not ended, but not for ever. A line moves in order, so each thread in it
-// has to run once before it moves on; a caller that stays out of it can be overtaken, and costs nobody a wait.
-fn stand_aside<M: Machine>(table: &LockTable<M>)
+// Lets others run while there are turns that were drawn and have not ended, until it has been overtaken often enough. A line
+// moves in order, so each thread in it has to run before it moves on; who stays out of it costs nobody a wait.
+fn stand_aside<M: Machine, R: Wait>(table: &LockTable<M>, rt: &R)
     requires own { table.now.shared.table_id.words ≡ word_count }
 {
-    for _ in 0..COURTESIES {
-        if table.shared.peek(NEXT) == table.shared.peek(SERVED) {
+    let at_first = table.shared.peek(SERVED);
+    for _ in rt.forever() {
+        let served = table.shared.peek(SERVED);
+        if table.shared.peek(NEXT) == served || served.wrapping_sub(at_first) >= PATIENCE {
             return;
         }
         yield_now();
@@ -83,7 +85,7 @@ pub(crate) fn enter<M: Machine, R: Wait>(table: &LockTable<M>, rt: &R, place: &m
     ensures seen { IsPrefix place.old.me.0.seen (M.past result) }
     ensures mine { own_entries (M.past result) place.old.me.0.number ≡ place.old.me.0.mine }
 {
-    stand_aside(table);
+    stand_aside(table, rt);
     let turn = draw(table, place);
     for _ in rt.forever() {
         let served = table.shared.load::<Look>(place, SERVED);

@@ -1,11 +1,11 @@
-//! The program's parts: the reader of scripts and the printer of replies.
+//! The program over any source and sinks. The reader of scripts and the printer of replies are its own.
 #![tactic(auto)]
 
 pub mod program;
-pub mod replies;
-pub mod script;
+mod replies;
+mod script;
 pub mod serve;
 pub mod stop;
 #[cfg(test)]
 mod tests;
-pub mod words;
+mod words;

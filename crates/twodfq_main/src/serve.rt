@@ -3,12 +3,13 @@ ghost use Rattle.std.specs.Prelude.{◌≡◌, ◌↔◌, IsTrue, IfOk, true, fa
 ghost use Rattle.fq_model.specs.History.{history_of};
 ghost use Rattle.fq_model.specs.Outcome.{Outcome};
 ghost use Rattle.fq_model.specs.Rules.{Answers};
+ghost use Rattle.sched_state.specs.Replies.{submit_reply, take_reply, report_reply, done_reply};
 
 use crate::script::reading::Script;
 use fq_model::config::Checked;
 use fq_model::event::{Call, Cause, Reply};
 use rival_policies::plain::PlainChooser;
-use sched_state::{AlreadyClosed, Scheduler, Taken};
+use sched_state::{AlreadyClosed, Refused, Scheduler, Taken};
 use std::alloc::Global;
 
 /// Memory ran out.
@@ -53,50 +54,69 @@ pub fn answer(scheduler: &mut Scheduler<u64, PlainChooser>, call: Call) -> Reply
             kind,
             declared,
             label,
-        } => match scheduler.submit(who, moment, tenant, kind, declared, label) {
-            Ok(request) => Reply::Request(request),
-            Err(refused) => Reply::Refused(refused.cause),
-        },
+        } => submitted(scheduler.submit(who, moment, tenant, kind, declared, label)),
         Call::Take {
             who,
             moment,
             worker,
-        } => match scheduler.take(who, moment, worker) {
-            Taken::UnknownWorker(worker) => Reply::Refused(Cause::Worker(worker)),
-            Taken::Busy(request) => Reply::Refused(Cause::Busy(request)),
-            Taken::Run {
-                request,
-                estimate,
-                job,
-            } => Reply::Run {
-                request,
-                estimate,
-                label: job,
-            },
-            Taken::Drained => Reply::Drained,
-            Taken::Idle => Reply::Idle,
-        },
+        } => taken(scheduler.take(who, moment, worker)),
         Call::Report {
             who,
             moment,
             worker,
             used,
-        } => match scheduler.report(who, moment, worker, used) {
-            Ok(()) => Reply::Accepted,
-            Err(cause) => Reply::Refused(cause),
-        },
+        } => used_or_refused(scheduler.report(who, moment, worker, used)),
         Call::Done {
             who,
             moment,
             worker,
             cost,
-        } => match scheduler.done(who, moment, worker, cost) {
-            Ok(()) => Reply::Accepted,
-            Err(cause) => Reply::Refused(cause),
-        },
+        } => used_or_refused(scheduler.done(who, moment, worker, cost)),
         Call::Close { who, moment } => match scheduler.close(who, moment) {
             Ok(()) => Reply::Accepted,
             Err(AlreadyClosed) => Reply::Refused(Cause::Closed),
         },
+    }
+}
+
+// The reply to a submit.
+fn submitted(outcome: Result<u32, Refused<u64>>) -> Reply
+    ensures { result ≡ submit_reply outcome }
+{
+    match outcome {
+        Ok(request) => Reply::Request(request),
+        Err(refused) => Reply::Refused(refused.cause),
+    }
+}
+
+// The reply to a take. The label of a job is the job.
+fn taken(outcome: Taken<u64>) -> Reply
+    ensures { result ≡ take_reply (λ job. job) outcome }
+{
+    match outcome {
+        Taken::UnknownWorker(worker) => Reply::Refused(Cause::Worker(worker)),
+        Taken::Busy(request) => Reply::Refused(Cause::Busy(request)),
+        Taken::Run {
+            request,
+            estimate,
+            job,
+        } => Reply::Run {
+            request,
+            estimate,
+            label: job,
+        },
+        Taken::Drained => Reply::Drained,
+        Taken::Idle => Reply::Idle,
+    }
+}
+
+// The reply to a report or a done.
+fn used_or_refused(outcome: Result<(), Cause>) -> Reply
+    ensures report { result ≡ report_reply outcome }
+    ensures done { result ≡ done_reply outcome }
+{
+    match outcome {
+        Ok(()) => Reply::Accepted,
+        Err(cause) => Reply::Refused(cause),
     }
 }
