@@ -2,7 +2,8 @@
 //! their own.
 //!
 //! Turns are served in the order in which they were drawn (a ticket lock: Mellor-Crummey and Scott, Algorithms for Scalable
-//! Synchronization on Shared-Memory Multiprocessors, 1991).
+//! Synchronization on Shared-Memory Multiprocessors, 1991). A caller draws one once it finds nobody in line, or has been
+//! overtaken often enough.
 #![tactic(auto)]
 
 pub mod laws;

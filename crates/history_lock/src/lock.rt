@@ -54,7 +54,8 @@ impl<M: Machine> Model for HistoryLock<M> {
 }
 
 impl<M: Machine> HistoryLock<M> {
-    /// Waits until all turns drawn before are served, and makes one step of the machine as this pass's caller.
+    /// Draws a turn, waits until all turns drawn before are served, and makes one step of the machine as this pass's caller.
+    /// While there is a line it first lets others run, for some thousands of their turns at most.
     pub fn turn<R: Wait>(&self, rt: &R, pass: &mut Pass<M::Frame>, call: M::Call) -> M::Reply
         requires own { IsOf self.now pass.old }
         requires allowed { M.allowed self.now.frame pass.old.number call }
