@@ -56,11 +56,8 @@ impl MemSink {
           faults = 0;
         }) }
     {
-        let Ok(bytes) = Vec::with_capacity(alloc, room) else {
-            return Err(NoMemory);
-        };
         Ok(MemSink {
-            bytes,
+            bytes: Vec::with_capacity(alloc, room)?,
             room,
             chunk,
             fails,
@@ -101,9 +98,7 @@ impl Sink for MemSink {
             return Err(Failed);
         }
         let count = free.min(self.chunk).min(piece.len());
-        if self.bytes.extend_from_slice(&piece[..count]).is_err() {
-            unreachable!();
-        }
+        self.bytes.extend_from_slice(&piece[..count]).unwrap();
         Ok(count)
     }
 }

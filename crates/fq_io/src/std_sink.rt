@@ -38,14 +38,12 @@ impl<W: Write> StdSink<W> {
 fn push<W: Write>(writer: &mut W, piece: &[u8]) -> Result<usize, Failed>
     ensures { TakesSome result piece.now }
 {
-    match writer.write(piece) {
-        Ok(0) if !piece.is_empty() => Err(Failed),
-        Ok(count) => match writer.flush() {
-            Ok(()) => Ok(count),
-            Err(_) => Err(Failed),
-        },
-        Err(_) => Err(Failed),
+    let count = writer.write(piece)?;
+    if count == 0 && !piece.is_empty() {
+        return Err(Failed);
     }
+    writer.flush()?;
+    Ok(count)
 }
 
 impl<W: Write> Sink for StdSink<W> {

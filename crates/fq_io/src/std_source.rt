@@ -46,12 +46,10 @@ impl<R: Read> Source for StdSource<R> {
         ensures cause { HasCause self.old self.new result }
         ensures count { self.new ≡ faults_after result self.old }
     {
-        match self.reader.read(buf) {
-            Ok(count) => Ok(count),
-            Err(_) => {
-                self.faults = self.faults.saturating_add(1);
-                Err(Failed)
-            }
+        let answer = self.reader.read(buf);
+        if answer.is_err() {
+            self.faults = self.faults.saturating_add(1);
         }
+        Ok(answer?)
     }
 }

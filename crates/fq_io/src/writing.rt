@@ -6,10 +6,18 @@ ghost use Rattle.fq_io.specs.Sinks.{AppendsPart};
 
 use crate::fault::Failed;
 use crate::sink::Sink;
+use thiserror::Error;
 
 /// A write failed before all was written.
-#[derive(Clone, Copy, Debug, PartialEq, Eq)]
+#[derive(Clone, Copy, Debug, PartialEq, Eq, Error)]
+#[error("a write failed before all was written")]
 pub struct WriteFault;
+
+impl From<Failed> for WriteFault {
+    fn from(_: Failed) -> WriteFault {
+        WriteFault
+    }
+}
 
 /// Writes all of `bytes`. It takes no memory.
 pub fn write_all<S: Sink>(sink: &mut S, bytes: &[u8]) -> Result<(), WriteFault>
@@ -20,10 +28,7 @@ pub fn write_all<S: Sink>(sink: &mut S, bytes: &[u8]) -> Result<(), WriteFault>
 {
     let mut at = 0;
     'writing: while at < bytes.len() {
-        match sink.write(&bytes[at..]) {
-            Ok(count) => at += count,
-            Err(Failed) => return Err(WriteFault),
-        }
+        at += sink.write(&bytes[at..])?;
     }
     Ok(())
 }

@@ -48,3 +48,16 @@ estimator_of word =
     else if bytes_eq word (codes "recent") then Some Recent
     else if bytes_eq word (codes "pessimistic") then Some Pessimistic
     else None
+
+-- the word that names a policy
+abbrev pub policy_word : Policy → List ℕ
+policy_word Wfq = codes "wfq"
+policy_word Wf2q = codes "wf2q"
+policy_word Msf2q = codes "msf2q"
+policy_word TwoDfq = codes "2dfq"
+
+-- the word that names an estimator
+abbrev pub estimator_word : Estimator → List ℕ
+estimator_word Declared = codes "declared"
+estimator_word Recent = codes "recent"
+estimator_word Pessimistic = codes "pessimistic"

@@ -10,13 +10,11 @@ use Rattle.fq_model.specs.declared.event.Reply.TheVariants as answer
 use Rattle.fq_model.specs.declared.event.Cause.{Cause}
 use Rattle.fq_model.specs.declared.event.Cause.TheVariants as cause
 use Rattle.fq_model.specs.History.{History, Request, request_at, waiting, running, running_on, submits, is_closed, Runs, last_use, pool_at}
-use Rattle.fq_model.specs.Time.{last_moment, greatest_moment, effective_moment}
+pub use Rattle.fq_model.specs.Rows.{first_true}
+use Rattle.vt_fixed.specs.declared.limits.TheConstants.{GREATEST_COST, GREATEST_MOMENT}
+use Rattle.fq_model.specs.Time.{last_moment, effective_moment}
 use Rattle.fq_model.specs.Charge.{request_estimate}
 use Rattle.fq_model.specs.Keys.{HeadKeys, IsChoiceAt}
-
--- the greatest cost of a request, in microseconds
-abbrev pub greatest_cost : ℕ
-greatest_cost = 1000000000
 
 -- the entries that a history has, those that its waiting and its running requests will need, and x more
 abbrev pub needed_room : History → ℕ → ℕ
@@ -46,7 +44,7 @@ pub record FitsSubmit (C : Config) (P : History) (request tenant kind declared :
   pub tenant_known : tenant < length C.weights
   pub kind_known : kind < C.kinds
   pub declared_low : 1 ≤ declared
-  pub declared_high : declared ≤ greatest_cost
+  pub declared_high : declared ≤ GREATEST_COST
   pub slot : waiting P < C.requests
   pub room : HasRoom C P 4
 
@@ -61,7 +59,7 @@ pub record FitsTake (C : Config) (P : History) (m worker request estimate : ℕ)
 pub record FitsUse (P : History) (worker request used : ℕ) : Type 0 where
   pub runs : Runs P worker request
   pub rising : last_use P request ≤ used
-  pub in_range : used ≤ greatest_cost
+  pub in_range : used ≤ GREATEST_COST
 
 -- the act fits the history at m
 abbrev pub Fits : Config → History → ℕ → Act → Type 0
@@ -74,12 +72,7 @@ Fits C P m Close = is_closed P ≡ false
 -- moments do not fall, and each act fits the history before it
 abbrev pub IsLegal : Config → History → Type 0
 IsLegal C [] = Unit {0}
-IsLegal C (e ∷ P) = IsLegal C P × (last_moment P ≤ e.moment) × (e.moment ≤ greatest_moment) × Fits C P e.moment e.act
-
--- the cause of the first row whose test is true, if there is one
-abbrev pub first_true : List (Bool × Cause) → Option Cause
-first_true [] = None
-first_true (row ∷ rows) = if row.0 then Some row.1 else first_true rows
+IsLegal C (e ∷ P) = IsLegal C P × (last_moment P ≤ e.moment) × (e.moment ≤ GREATEST_MOMENT) × Fits C P e.moment e.act
 
 -- the request that runs on worker i, or 0 (read only below the row that asks whether it runs one)
 abbrev pub request_on : History → ℕ → ℕ
@@ -91,7 +84,7 @@ submit_refusal C P tenant kind declared = first_true
     ((is_closed P, cause.Closed)
     ∷ (nat_le (length C.weights) tenant, cause.Tenant tenant)
     ∷ (nat_le C.kinds kind, cause.Kind kind)
-    ∷ ((declared == 0) || nat_lt greatest_cost declared, cause.Cost declared)
+    ∷ ((declared == 0) || nat_lt GREATEST_COST declared, cause.Cost declared)
     ∷ (waiting P == C.requests, cause.Slots C.requests)
     ∷ (nat_lt C.entries (needed_room P 4), cause.Full C.entries)
     ∷ [])
@@ -108,7 +101,7 @@ abbrev pub use_refusals : Config → History → ℕ → ℕ → List (Bool × C
 use_refusals C P i used =
     (nat_le C.workers i, cause.Worker i)
     ∷ (is_none (running_on P i), cause.NotRunning)
-    ∷ (nat_lt greatest_cost used, cause.Cost used)
+    ∷ (nat_lt GREATEST_COST used, cause.Cost used)
     ∷ (nat_lt used (last_use P (request_on P i)), cause.Falling (last_use P (request_on P i)) used)
     ∷ []
 

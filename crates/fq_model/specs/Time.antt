@@ -2,6 +2,7 @@
 use Rattle.std.specs.Prelude.{ℕ, ◌+◌, ◌-◌, max, min, Bool, not, ◌&&◌, if◌then◌else◌, [], ◌∷◌, length, nat_lt}
 use Rattle.vt_fixed.specs.Rounding.{advance_of}
 use Rattle.fq_model.specs.declared.config.Config.{Config}
+use Rattle.vt_fixed.specs.declared.limits.TheConstants.{GREATEST_MOMENT}
 use Rattle.fq_model.specs.Sums.{sum_below, count_below}
 use Rattle.fq_model.specs.History.{History, request_at, is_of_tenant, is_done, request_bound, weight_at, pool_at}
 
@@ -25,10 +26,6 @@ weight_if_active C P t = if is_active P t then weight_at C P t else 0
 unfoldable pub active_weight : Config → History → ℕ
 active_weight C P = sum_below (weight_if_active C P) (length C.weights)
 
--- the greatest moment of an entry, in microseconds
-abbrev pub greatest_moment : ℕ
-greatest_moment = 1000000000000000
-
 -- the moment of the last entry, or 0
 abbrev pub last_moment : History → ℕ
 last_moment [] = 0
@@ -36,7 +33,7 @@ last_moment (e ∷ P) = e.moment
 
 -- the moment at which a call that names m takes effect
 abbrev pub effective_moment : History → ℕ → ℕ
-effective_moment P m = min (max m (last_moment P)) greatest_moment
+effective_moment P m = min (max m (last_moment P)) GREATEST_MOMENT
 
 -- how far virtual time moves from the last entry to m: at the rate of the workers over the active weights
 unfoldable pub virtual_advance : Config → History → ℕ → ℕ

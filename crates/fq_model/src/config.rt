@@ -1,8 +1,13 @@
 //! What a scheduler is opened with.
-ghost use Rattle.std.specs.Prelude.{◌≡◌, ◌<◌, ◌≤◌, length, IfOk, IfErr, IfSome, IfNone, All, slice_index};
-ghost use Rattle.fq_model.specs.Limits.{InLimits, FirstFault, FirstBadWeight, IsWeight};
+ghost use Rattle.std.specs.Prelude.{◌≡◌, ◌<◌, ◌≤◌, length, IfOk, IfErr, IfNone, All, Some, None, slice_index};
+ghost use Rattle.fq_model.specs.Limits.{InLimits, IsWeight, is_outside, bad_weight, config_fault};
 
+use crate::limits::{
+    GREATEST_COST, GREATEST_WEIGHT, LEAST_ENTRIES, MOST_ENTRIES, MOST_KINDS, MOST_PAIRS,
+    MOST_REQUESTS, MOST_TENANTS, MOST_WORKERS,
+};
 use std::marker::Model;
+use thiserror::Error;
 
 /// Which waiting request a worker takes.
 #[derive(Clone, Copy, Debug, PartialEq, Eq)]
@@ -87,23 +92,31 @@ pub struct Config {
 }
 
 /// The first number of a configuration that is out of its limit, in the order of these variants.
-#[derive(Clone, Copy, Debug, PartialEq, Eq)]
+#[derive(Clone, Copy, Debug, PartialEq, Eq, Error)]
 pub enum ConfigFault {
     /// So many workers; there may be 1 to 64.
+    #[error("{0} workers, and there may be 1 to {MOST_WORKERS}")]
     Workers(u32),
     /// So many tenants; there may be 1 to 4,096.
+    #[error("{0} tenants, and there may be 1 to {MOST_TENANTS}")]
     Tenants(u64),
     /// The least tenant whose weight is not from 1 to 1,000.
+    #[error("the weight of tenant {0} is not from 1 to {GREATEST_WEIGHT}")]
     Weight(u32),
     /// So many kinds; there may be 1 to 64.
+    #[error("{0} kinds, and there may be 1 to {MOST_KINDS}")]
     Kinds(u32),
     /// So many tenants times kinds; there may be 65,536.
+    #[error("{0} pairs of a tenant and a kind, and there may be {MOST_PAIRS}")]
     Pairs(u64),
     /// So many entries; there may be 4 to 4,194,304.
+    #[error("{0} entries, and there may be {LEAST_ENTRIES} to {MOST_ENTRIES}")]
     Entries(u32),
     /// So many requests that may wait; there may be 1 to 262,144.
+    #[error("{0} requests that may wait, and there may be 1 to {MOST_REQUESTS}")]
     Requests(u32),
     /// This initial value, in microseconds; it may be 1 to 10^9.
+    #[error("an initial value of {0} microseconds, and it may be 1 to {GREATEST_COST}")]
     Initial(u64),
 }
 
@@ -146,7 +159,7 @@ impl Checked {
         requires { t < length self.now.weights }
         ensures value { result ≡ slice_index self.now.weights t }
         ensures lower { 1 ≤ result }
-        ensures upper { result ≤ 1000 }
+        ensures upper { result ≤ GREATEST_WEIGHT }
     {
         self.config.weights.as_slice()[t as usize]
     }
@@ -204,49 +217,63 @@ impl Config {
     /// Looks at each number, in the order of the fault's variants. Takes no memory.
     pub fn check(self) -> Result<Checked, ConfigFault>
         ensures ok { IfOk result (λ c. c ≡ self) }
+        ensures sound { IfOk result (λ _. config_fault self ≡ None) }
         ensures limits { IfOk result (λ _. InLimits self) }
-        ensures fault { IfErr result (FirstFault self) }
+        ensures fault { IfErr result (λ f. config_fault self ≡ Some f) }
     {
-        if self.workers < 1 || self.workers > 64 {
-            return Err(ConfigFault::Workers(self.workers));
+        match self.fault() {
+            Some(fault) => Err(fault),
+            None => Ok(Checked { config: self }),
         }
+    }
+
+    // The first number that is out of its limit.
+    fn fault(&self) -> Option<ConfigFault>
+        ensures first { result ≡ config_fault self.now }
+        ensures limits { IfNone result (InLimits self.now) }
+    {
         let tenants = self.weights.as_slice().len();
-        if tenants < 1 || tenants > 4096 {
-            return Err(ConfigFault::Tenants(tenants as u64));
+        if is_outside(1, MOST_WORKERS, self.workers) {
+            return Some(ConfigFault::Workers(self.workers));
+        }
+        if tenants < 1 || tenants > MOST_TENANTS as usize {
+            return Some(ConfigFault::Tenants(tenants as u64));
         }
         if let Some(t) = bad_weight(self.weights.as_slice()) {
-            return Err(ConfigFault::Weight(t));
+            return Some(ConfigFault::Weight(t as u32));
         }
-        if self.kinds < 1 || self.kinds > 64 {
-            return Err(ConfigFault::Kinds(self.kinds));
+        if is_outside(1, MOST_KINDS, self.kinds) {
+            return Some(ConfigFault::Kinds(self.kinds));
         }
         let pairs = tenants as u64 * self.kinds as u64;
-        if pairs > 65536 {
-            return Err(ConfigFault::Pairs(pairs));
+        if pairs > MOST_PAIRS {
+            return Some(ConfigFault::Pairs(pairs));
         }
-        if self.entries < 4 || self.entries > 4194304 {
-            return Err(ConfigFault::Entries(self.entries));
+        if is_outside(LEAST_ENTRIES, MOST_ENTRIES, self.entries) {
+            return Some(ConfigFault::Entries(self.entries));
         }
-        if self.requests < 1 || self.requests > 262144 {
-            return Err(ConfigFault::Requests(self.requests));
+        if is_outside(1, MOST_REQUESTS, self.requests) {
+            return Some(ConfigFault::Requests(self.requests));
         }
-        if self.initial < 1 || self.initial > 1000000000 {
-            return Err(ConfigFault::Initial(self.initial));
+        if self.initial < 1 || self.initial > GREATEST_COST {
+            return Some(ConfigFault::Initial(self.initial));
         }
-        Ok(Checked { config: self })
+        None
     }
 }
 
-// The least tenant whose weight is out of its limit.
-fn bad_weight(weights: &[u32]) -> Option<u32>
-    requires { length weights.now ≤ 4096 }
-    ensures none { IfNone result (All IsWeight weights.now) }
-    ensures some { IfSome result (FirstBadWeight weights.now) }
+fn is_outside(low: u32, high: u32, n: u32) -> bool
+    ensures { result ≡ is_outside low high n }
 {
-    for (t, w) in weights.iter().enumerate() {
-        if *w < 1 || *w > 1000 {
-            return Some(t as u32);
-        }
-    }
-    None
+    n < low || n > high
+}
+
+// The least tenant whose weight is out of its limit.
+fn bad_weight(weights: &[u32]) -> Option<usize>
+    ensures place { result ≡ bad_weight weights.now }
+    ensures none { IfNone result (All IsWeight weights.now) }
+{
+    weights
+        .iter()
+        .position(|w| is_outside(1, GREATEST_WEIGHT, *w))
 }

@@ -1,5 +1,8 @@
 //! Entries of a history, calls and replies.
 
+use crate::limits::GREATEST_COST;
+use thiserror::Error;
+
 /// What an entry says was done. Moments and costs are microseconds.
 #[derive(Clone, Copy, Debug, PartialEq, Eq)]
 pub enum Act {
@@ -42,27 +45,37 @@ pub struct Entry {
 }
 
 /// Why a call is refused. Each carries the number concerned.
-#[derive(Clone, Copy, Debug, PartialEq, Eq)]
+#[derive(Clone, Copy, Debug, PartialEq, Eq, Error)]
 pub enum Cause {
     /// The history is closed.
+    #[error("the history is closed")]
     Closed,
     /// No tenant has this number.
+    #[error("no tenant has the number {0}")]
     Tenant(u32),
     /// No kind has this number.
+    #[error("no kind has the number {0}")]
     Kind(u32),
     /// A cost or a use that is out of its range.
+    #[error("a cost or use of {0} microseconds, which is out of its range up to {GREATEST_COST}")]
     Cost(u64),
     /// As many requests wait as there are slots, which is this number.
+    #[error("{0} requests wait, and no more may")]
     Slots(u32),
     /// The history, which may have this many entries, lacks room for the call and all that must follow it.
+    #[error("the history may have {0} entries, and lacks room for the call and all that must follow it")]
     Full(u32),
     /// No worker has this number.
+    #[error("no worker has the number {0}")]
     Worker(u32),
     /// The worker runs this request already.
+    #[error("the worker runs request {0} already")]
     Busy(u32),
     /// The worker runs nothing.
+    #[error("the worker runs nothing")]
     NotRunning,
     /// The use or cost `given` is less than `last`, the greatest use reported so far.
+    #[error("a use or cost of {given} microseconds, after a use of {last} was reported")]
     Falling { last: u64, given: u64 },
 }
 

@@ -5,3 +5,5 @@ pub mod config;
 pub mod event;
 pub mod fault;
 pub mod job;
+pub mod limits;
+pub mod words;
