@@ -1,15 +1,17 @@
 -- What follows from the definitions of charges, of estimates, of virtual time and of tags.
-use Rattle.std.specs.Prelude.{ℕ, ◌+◌, ◌-◌, ◌*◌, ◌≤◌, ◌≡◌, max, true, false, List, [], ◌∷◌, Some, None}
+use Rattle.std.specs.Prelude.{ℕ, ◌+◌, ◌-◌, ◌*◌, ◌^◌, ◌≤◌, ◌≡◌, max, true, false, List, [], ◌∷◌, Some, None}
 use Rattle.vt_fixed.specs.Rounding.{advance_of, decay_of}
 use Rattle.fq_model.specs.declared.config.Config.{Config}
 use Rattle.fq_model.specs.declared.event.Act.TheVariants.{Submit}
 use Rattle.fq_model.specs.declared.event.Entry.{Entry}
 use Rattle.fq_model.specs.Limits.{InLimits, IsWithin}
 use Rattle.fq_model.specs.History.{History, Request, request_at, head, pool_at, submits, last_use, is_taken, is_done}
-use Rattle.fq_model.specs.Time.{open_requests, is_active, active_weight, last_moment, greatest_moment, virtual_time, virtual_idle_time}
+use Rattle.fq_model.specs.Time.{open_requests, is_active, active_weight, last_moment, virtual_time, virtual_idle_time}
 use Rattle.fq_model.specs.Charge.{charge, final_cost, virtual_charge, net_charge, request_estimate}
 use Rattle.fq_model.specs.Keys.{tag_base, tag, start}
-use Rattle.fq_model.specs.Rules.{IsLegal, greatest_cost}
+use Rattle.fq_model.specs.Rules.{IsLegal}
+use Rattle.vt_fixed.specs.declared.limits.TheConstants.{GREATEST_COST, GREATEST_MOMENT}
+use Rattle.fq_laws.specs.Words.{greatest_length, greatest_rate}
 use Rattle.fq_laws.specs.Changes.{charge_after, change_of, Changes, greatest_cost_from}
 
 -- ---- charges
@@ -28,7 +30,7 @@ ChargeCoversUse = (P : History) (r : ℕ) → is_taken P r ≡ true → is_done 
 
 -- no charge is above the greatest cost
 abbrev pub ChargeLimit : Type 0
-ChargeLimit = (C : Config) (P : History) (r : ℕ) → InLimits C → IsLegal C P → charge P r ≤ greatest_cost
+ChargeLimit = (C : Config) (P : History) (r : ℕ) → InLimits C → IsLegal C P → charge P r ≤ GREATEST_COST
 
 -- one entry on, the open requests and the charges of each tenant are changed as the act says
 abbrev pub TenantSteps : Type 0
@@ -37,8 +39,8 @@ TenantSteps = (C : Config) (P : History) (e : Entry) (t : ℕ) → InLimits C �
 -- what a tenant is charged is bounded by the number of requests
 pub record TenantLimit (C : Config) (P : History) (t : ℕ) : Type 0 where
   pub open_limit : open_requests P t ≤ submits P
-  pub virtual_limit : virtual_charge C P t ≤ submits P * 1048576000000000
-  pub net_limit : net_charge P t ≤ submits P * 1000000000
+  pub virtual_limit : virtual_charge C P t ≤ submits P * greatest_length
+  pub net_limit : net_charge P t ≤ submits P * GREATEST_COST
 
 abbrev pub TenantLimits : Type 0
 TenantLimits = (C : Config) (P : History) (t : ℕ) → InLimits C → IsLegal C P → TenantLimit C P t
@@ -47,7 +49,7 @@ TenantLimits = (C : Config) (P : History) (t : ℕ) → InLimits C → IsLegal C
 
 -- the estimate of a submitted request is a cost that it may have
 abbrev pub EstimateRange : Type 0
-EstimateRange = (C : Config) (P : History) (r : ℕ) (q : Request) → InLimits C → IsLegal C P → request_at P r ≡ Some q → IsWithin 1 greatest_cost (request_estimate C P q)
+EstimateRange = (C : Config) (P : History) (r : ℕ) (q : Request) → InLimits C → IsLegal C P → request_at P r ≡ Some q → IsWithin 1 GREATEST_COST (request_estimate C P q)
 
 -- the greatest decayed cost is a running one: it begins with the initial value, and with each cost it decays once
 abbrev pub GreatestRuns : Type 0
@@ -65,7 +67,7 @@ TimeRises = (C : Config) (P : History) (m k : ℕ) → m ≤ k → virtual_time 
 
 -- and makes at most 64 units in a microsecond
 abbrev pub TimeLimit : Type 0
-TimeLimit = (C : Config) (P : History) (m : ℕ) → InLimits C → IsLegal C P → last_moment P ≤ m → virtual_time C P m ≤ m * 67108864
+TimeLimit = (C : Config) (P : History) (m : ℕ) → InLimits C → IsLegal C P → last_moment P ≤ m → virtual_time C P m ≤ m * greatest_rate
 
 -- the virtual idle time of a tenant stays while the tenant is active, and else moves along with virtual time
 pub record IdleStep (C : Config) (P : History) (e : Entry) (t : ℕ) : Type 0 where
@@ -90,4 +92,4 @@ TagCatchesUp = (C : Config) (P : History) (e : Entry) (request tenant kind decla
 
 -- where a tenant starts is bounded
 abbrev pub StartLimit : Type 0
-StartLimit = (C : Config) (P : History) (m t : ℕ) → InLimits C → IsLegal C P → last_moment P ≤ m → m ≤ greatest_moment → start C P m t ≤ 100000000000000000000000
+StartLimit = (C : Config) (P : History) (m t : ℕ) → InLimits C → IsLegal C P → last_moment P ≤ m → m ≤ GREATEST_MOMENT → start C P m t ≤ 10 ^ 23

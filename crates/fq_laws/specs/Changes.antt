@@ -1,5 +1,5 @@
 -- What one entry changes: of the charge of a request, of what a tenant is charged, and of an estimate.
-use Rattle.std.specs.Prelude.{ℕ, ◌+◌, ◌≡◌, ◌==◌, max, Bool, if◌then◌else◌, List, [], ◌∷◌, ◌++◌}
+use Rattle.std.specs.Prelude.{ℕ, ◌+◌, ◌≡◌, ◌==◌, max, Bool, if◌then◌else◌, List, [], ◌∷◌, ◌++◌, ℤ, pos, ◌-ℤ◌}
 use Rattle.vt_fixed.specs.Rounding.{length_of}
 use Rattle.fq_model.specs.declared.config.Config.{Config}
 use Rattle.fq_model.specs.declared.event.Act.{Act}
@@ -14,6 +14,10 @@ charge_after P r (Take worker request estimate) = if request == r then estimate 
 charge_after P r (Report worker request used) = if request == r then max used (charge P r) else charge P r
 charge_after P r (Done worker request cost) = if request == r then cost else charge P r
 charge_after P r _ = charge P r
+
+-- how the length changes at this weight where the first charge becomes the second
+abbrev pub length_change : ℕ → ℕ → ℕ → ℤ
+length_change weight old new = pos (length_of new weight) -ℤ pos (length_of old weight)
 
 -- what an entry changes for a tenant: how many requests it opens and closes, and what it makes of the charge of a
 -- request of the tenant, which was `charged` and then is `recharged` (both 0 where it charges none)

@@ -6,12 +6,12 @@ use Rattle.vt_fixed.specs.Rounding.{steps_per_unit}
 use Rattle.fq_model.specs.declared.config.Config.{Config}
 use Rattle.fq_model.specs.declared.config.Policy.{Policy}
 use Rattle.fq_model.specs.declared.config.Policy.TheVariants.{Wf2q, TwoDfq}
-use Rattle.fq_model.specs.declared.config.Estimator.TheVariants.{Declared, Pessimistic}
+use Rattle.fq_model.specs.declared.config.Estimator.TheVariants.{Declared, Recent, Pessimistic}
 use Rattle.fq_model.specs.declared.event.Act.{Act}
 use Rattle.fq_model.specs.declared.event.Act.TheVariants.{Submit, Take, Report, Done, Close}
 use Rattle.fq_model.specs.declared.event.Entry.{Entry}
 use Rattle.fq_model.specs.History.{History}
-use Rattle.fq_model.specs.Keys.{HeadKeys}
+use Rattle.fq_model.specs.Keys.{HeadKeys, HasKeys, NoneIsEligible, turn_at}
 
 -- an entry of this caller
 abbrev pub entry : ℕ → ℕ → Act → Entry
@@ -24,6 +24,10 @@ units n = n * steps_per_unit
 -- the keys of a head that starts at so many units and is so many units long
 abbrev pub keys : ℕ → ℕ → ℕ → HeadKeys
 keys start len request = record { start = pos (units start); len = pos (units len); request = request }
+
+-- nothing is eligible for worker i at m
+abbrev pub NoneIsEligibleAt : Config → History → ℕ → ℕ → Type 0
+NoneIsEligibleAt C P m i = NoneIsEligible (turn_at C P m i) (HasKeys C P m)
 
 -- ---- stagger
 
@@ -148,3 +152,43 @@ single_reported =
 unfoldable pub single_ended : ℕ → History
 unfolding single_reported
 single_ended cost = entry 0 9 Close ∷ entry 10 8 (Done 0 0 cost) ∷ single_reported
+
+-- ---- recent costs
+
+-- one worker, and one tenant, whose estimates are the mean of its recent costs
+unfoldable pub recent_config : Config
+recent_config = record { workers = 1; weights = 1 ∷ []; kinds = 1; entries = 100; requests = 10; policy = TwoDfq; estimate = Recent; initial = 1000 }
+
+-- a request more, submitted, taken at this estimate and done at this cost
+abbrev pub served : ℕ → ℕ → ℕ → History → History
+served request estimate cost P = entry 10 0 (Done 0 request cost) ∷ entry 10 0 (Take 0 request estimate) ∷ entry 0 0 (Submit request 0 0 7 1) ∷ P
+
+-- nine requests, of which the first cost 100 and the others 2 to 9
+unfoldable pub recent_history : History
+recent_history =
+    served 8 16 9 (served 7 18 8 (served 6 20 7 (served 5 22 6 (served 4 27 5 (served 3 35 4 (served 2 51 3 (served 1 100 2 (served 0 1000 100 []))))))))
+
+-- ---- little room
+
+-- one worker, one tenant and one kind, and the least number of entries
+unfoldable pub small_config : Config
+small_config = record { workers = 1; weights = 1 ∷ []; kinds = 1; entries = 4; requests = 2; policy = TwoDfq; estimate = Declared; initial = 1000 }
+
+-- one request runs
+unfoldable pub small_history : History
+small_history = entry 10 0 (Take 0 0 5) ∷ entry 0 0 (Submit 0 0 0 5 1) ∷ []
+
+-- it ends, and the history is closed
+unfoldable pub small_ended : History
+unfolding small_history
+small_ended = entry 0 5 Close ∷ entry 10 5 (Done 0 0 5) ∷ small_history
+
+-- in place of that it is seen to have used 1
+unfoldable pub small_reported : History
+unfolding small_history
+small_reported = entry 10 1 (Report 0 0 1) ∷ small_history
+
+-- or another request is submitted
+unfoldable pub small_crowded : History
+unfolding small_history
+small_crowded = entry 0 1 (Submit 1 0 0 5 2) ∷ small_history

@@ -1,5 +1,7 @@
 -- Words for the laws.
-use Rattle.std.specs.Prelude.{ℕ, suc, ◌<◌, ◌≡◌, ◌==◌, ◌⊎◌, Bool, false, if◌then◌else◌, List, [], ◌∷◌, Option, Some, None}
+use Rattle.std.specs.Prelude.{ℕ, suc, ◌*◌, ◌<◌, ◌≡◌, ◌==◌, ◌⊎◌, Bool, false, if◌then◌else◌, List, [], ◌∷◌, Option, Some, None}
+use Rattle.vt_fixed.specs.Rounding.{steps_per_unit}
+use Rattle.vt_fixed.specs.declared.limits.TheConstants.{GREATEST_COST, MOST_WORKERS}
 use Rattle.fq_model.specs.declared.event.Act.{Act}
 use Rattle.fq_model.specs.declared.event.Act.TheVariants.{Submit, Take, Report, Done}
 use Rattle.fq_model.specs.declared.config.Config.{Config}
@@ -9,6 +11,18 @@ use Rattle.fq_model.specs.History.{History, request_at, is_of_tenant, head}
 use Rattle.fq_model.specs.Time.{open_requests, effective_moment}
 use Rattle.fq_model.specs.Charge.{virtual_charge, net_charge, completed, completed_costs}
 use Rattle.fq_model.specs.Keys.{tag_base}
+
+-- the history with one entry more
+abbrev pub one_more : ℕ → ℕ → Act → History → History
+one_more who moment act P = record { who = who; moment = moment; act = act } ∷ P
+
+-- the greatest length, in steps: that of the greatest cost at weight 1
+abbrev pub greatest_length : ℕ
+greatest_length = GREATEST_COST * steps_per_unit
+
+-- the most steps that virtual time makes in a microsecond: those of the most workers at an active weight of 1
+abbrev pub greatest_rate : ℕ
+greatest_rate = MOST_WORKERS * steps_per_unit
 
 -- the number of entries whose act passes the test
 abbrev pub times : (Act → Bool) → History → ℕ
@@ -65,4 +79,4 @@ named_moment (call.Close who moment) = moment
 
 -- Q is P, or P and one entry more, of this caller and at the moment at which its call takes effect
 abbrev pub Extends : ℕ → ℕ → History → History → Type 0
-Extends who moment P Q = (Q ≡ P) ⊎ ((a : Act) × (Q ≡ record { who = who; moment = effective_moment P moment; act = a } ∷ P))
+Extends who moment P Q = (Q ≡ P) ⊎ ((a : Act) × (Q ≡ one_more who (effective_moment P moment) a P))

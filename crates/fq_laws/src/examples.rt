@@ -7,9 +7,10 @@ ghost use Rattle.fq_model.specs.declared.config.Policy.TheVariants.{Wfq, Wf2q, M
 ghost use Rattle.fq_model.specs.Limits.{InLimits};
 ghost use Rattle.fq_model.specs.Time.{virtual_time};
 ghost use Rattle.fq_model.specs.Charge.{charge, estimate_at};
-ghost use Rattle.fq_model.specs.Keys.{tag, start, HeadKeys, finish, turn_at, eligible_key, HasKeys, NoneIsEligible, IsChoiceAt};
-ghost use Rattle.fq_model.specs.Rules.{IsLegal};
-ghost use Rattle.fq_laws.specs.Examples.{units, keys, stagger_config, long_ended, sixth_ended, fallback_config, fallback_history, fallback_taken, refund_config, refund_history, pause_config, pause_history, single_config, single_reported, single_ended};
+ghost use Rattle.fq_model.specs.Keys.{tag, start, HeadKeys, finish, turn_at, eligible_key, HasKeys, IsChoiceAt};
+ghost use Rattle.fq_model.specs.declared.event.Cause.TheVariants.{Tenant, Kind};
+ghost use Rattle.fq_model.specs.Rules.{IsLegal, submit_refusal};
+ghost use Rattle.fq_laws.specs.Examples.{units, keys, NoneIsEligibleAt, stagger_config, long_ended, sixth_ended, fallback_config, fallback_history, fallback_taken, refund_config, refund_history, pause_config, pause_history, single_config, single_reported, single_ended, recent_config, recent_history, small_config, small_history, small_ended, small_reported, small_crowded};
 
 /// The stagger example, where worker 1 is free. Two workers over two weights make one unit a microsecond. Tenant 0 was
 /// charged 8, and tenant 1 six times 1. Worker 1 of 2 takes half a head's length off its start: tenant 0 is eligible at
@@ -35,7 +36,7 @@ pub fn stagger_of_first_worker()
     ensures short_keys { HasKeys stagger_config sixth_ended 5 1 (keys 6 1 8) }
     ensures long_eligible_at { eligible_key (turn_at stagger_config sixth_ended 5 0) (keys 8 8 1) ≡ pos (units 8) }
     ensures short_eligible_at { eligible_key (turn_at stagger_config sixth_ended 5 0) (keys 6 1 8) ≡ pos (units 6) }
-    ensures none_eligible { NoneIsEligible (turn_at stagger_config sixth_ended 5 0) (HasKeys stagger_config sixth_ended 5) }
+    ensures none_eligible { NoneIsEligibleAt stagger_config sixth_ended 5 0 }
     ensures choice { IsChoiceAt stagger_config sixth_ended 5 0 1 (keys 6 1 8) }
     ensures no_other { (k : HeadKeys) → ¬ IsChoiceAt stagger_config sixth_ended 5 0 0 k }
 {}
@@ -50,7 +51,7 @@ pub fn fallback()
     ensures long_finish { finish (keys 2 10 1) ≡ pos (units 12) }
     ensures short_keys { HasKeys fallback_config fallback_history 1 1 (keys 3 1 3) }
     ensures short_finish { finish (keys 3 1 3) ≡ pos (units 4) }
-    ensures none_eligible { NoneIsEligible (turn_at fallback_config fallback_history 1 0) (HasKeys fallback_config fallback_history 1) }
+    ensures none_eligible { NoneIsEligibleAt fallback_config fallback_history 1 0 }
     ensures choice { IsChoiceAt fallback_config fallback_history 1 0 0 (keys 2 10 1) }
     ensures long_taken { IsLegal fallback_config (fallback_taken 1 10) }
     ensures short_taken { ¬ IsLegal fallback_config (fallback_taken 3 1) }
@@ -98,4 +99,23 @@ pub fn single_request()
     ensures ended { charge (single_ended 9) 0 ≡ 9 }
     ensures cost_of_the_use { IsLegal single_config (single_ended 6) }
     ensures cost_below_the_use { ¬ IsLegal single_config (single_ended 5) }
+{}
+
+/// Recent costs. Nine requests of one tenant and kind cost 100, 2, 3, 4, 5, 6, 7, 8 and 9. Each was taken at the mean of
+/// those before it, and the next is estimated at that of the last eight, which is 44 / 8, rounded down.
+pub fn recent_costs()
+    ensures in_limits { InLimits recent_config }
+    ensures legal { IsLegal recent_config recent_history }
+    ensures estimate { estimate_at recent_config recent_history 0 0 7 ≡ 5 }
+{}
+
+/// Little room. Four entries have room for the Submit, the Take and the Done of one request and for a Close, and for no
+/// Report and no second request. A submission with two faults, here of tenant and of kind, is refused for the first.
+pub fn little_room()
+    ensures in_limits { InLimits small_config }
+    ensures ended { IsLegal small_config small_ended }
+    ensures no_report { ¬ IsLegal small_config small_reported }
+    ensures no_second_request { ¬ IsLegal small_config small_crowded }
+    ensures first_fault { submit_refusal small_config small_history 1 1 5 ≡ Some (Tenant 1) }
+    ensures other_fault { submit_refusal small_config small_history 0 1 5 ≡ Some (Kind 1) }
 {}

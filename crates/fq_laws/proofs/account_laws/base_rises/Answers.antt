@@ -1,4 +1,4 @@
-use Rattle.fq_laws.proofs.Bases.{base_rises}
+use Rattle.fq_laws.proofs.Keys.Tags.{base_rises}
 use Rattle.fq_laws.proofs.account_laws.base_rises.Goals as goal
 
 pub returns : goal.returns

@@ -1,4 +1,4 @@
-use Rattle.fq_laws.proofs.Charges.{charge_covers_use}
+use Rattle.fq_laws.proofs.Charge.Requests.{charge_covers_use}
 use Rattle.fq_laws.proofs.account_laws.charge_covers_use.Goals as goal
 
 pub returns : goal.returns

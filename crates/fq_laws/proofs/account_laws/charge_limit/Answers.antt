@@ -1,4 +1,4 @@
-use Rattle.fq_laws.proofs.Bounds.{charge_low}
+use Rattle.fq_laws.proofs.Charge.Limits.{charge_low}
 use Rattle.fq_laws.proofs.account_laws.charge_limit.Goals as goal
 
 pub returns : goal.returns

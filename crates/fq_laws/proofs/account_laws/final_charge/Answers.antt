@@ -1,4 +1,4 @@
-use Rattle.fq_laws.proofs.Charges.{charge_final}
+use Rattle.fq_laws.proofs.Charge.Requests.{charge_final}
 use Rattle.fq_laws.proofs.account_laws.final_charge.Goals as goal
 
 pub returns : goal.returns

@@ -1,4 +1,4 @@
-use Rattle.fq_laws.proofs.Estimates.{greatest_first, greatest_next}
+use Rattle.fq_laws.proofs.Charge.Estimates.{greatest_first, greatest_next}
 use Rattle.fq_laws.proofs.account_laws.greatest_runs.Goals as goal
 
 pub returns : goal.returns

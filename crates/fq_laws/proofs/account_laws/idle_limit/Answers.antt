@@ -1,4 +1,4 @@
-use Rattle.fq_laws.proofs.Clocks.{idle_low}
+use Rattle.fq_laws.proofs.Time.Clock.{idle_low}
 use Rattle.fq_laws.proofs.account_laws.idle_limit.Goals as goal
 
 pub returns : goal.returns

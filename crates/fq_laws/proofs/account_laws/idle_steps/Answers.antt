@@ -1,4 +1,4 @@
-use Rattle.fq_laws.proofs.Clocks.{idle_next_active, idle_next_inactive}
+use Rattle.fq_laws.proofs.Time.Clock.{idle_next_active, idle_next_inactive}
 use Rattle.fq_laws.proofs.account_laws.idle_steps.Goals as goal
 
 pub returns : goal.returns

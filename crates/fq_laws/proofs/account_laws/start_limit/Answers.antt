@@ -1,4 +1,4 @@
-use Rattle.fq_laws.proofs.Bounds.{start_within}
+use Rattle.fq_laws.proofs.Keys.Tags.{start_within}
 use Rattle.fq_laws.proofs.account_laws.start_limit.Goals as goal
 
 pub returns : goal.returns

@@ -1,4 +1,5 @@
-use Rattle.fq_laws.proofs.Bounds.{open_requests_low, virtual_charge_low, net_charge_low}
+use Rattle.fq_laws.proofs.Time.Open.{open_requests_low}
+use Rattle.fq_laws.proofs.Charge.Limits.{virtual_charge_low, net_charge_low}
 use Rattle.fq_laws.proofs.account_laws.tenant_limits.Goals as goal
 
 pub returns : goal.returns

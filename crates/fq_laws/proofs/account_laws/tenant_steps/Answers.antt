@@ -1,4 +1,4 @@
-use Rattle.fq_laws.proofs.Steps.{changes}
+use Rattle.fq_laws.proofs.Charge.Changes.{changes}
 use Rattle.fq_laws.proofs.account_laws.tenant_steps.Goals as goal
 
 pub returns : goal.returns

@@ -1,4 +1,4 @@
-use Rattle.fq_laws.proofs.Bounds.{virtual_time_low}
+use Rattle.fq_laws.proofs.Time.Clock.{virtual_time_low}
 use Rattle.fq_laws.proofs.account_laws.time_limit.Goals as goal
 
 pub returns : goal.returns

@@ -1,6 +1,6 @@
 use Rattle.std.proofs.Common.{ap, ◌+◌, ◌∙◌}
 use Rattle.fq_model.specs.Time.{virtual_time, last_moment}
-use Rattle.fq_laws.proofs.Clocks.{virtual_time_next, virtual_advance_is}
+use Rattle.fq_laws.proofs.Time.Clock.{virtual_time_next, virtual_advance_is}
 use Rattle.fq_laws.proofs.account_laws.time_steps.Goals as goal
 
 pub returns : goal.returns

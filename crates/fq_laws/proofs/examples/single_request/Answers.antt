@@ -1,7 +1,7 @@
 use Rattle.std.proofs.Common.{ℕ, refl, arith}
 use Rattle.fq_laws.specs.Examples.{single_config, single_reported, single_ended}
-use Rattle.fq_laws.proofs.Computed.{IsShort, computing}
-use Rattle.fq_laws.proofs.LegalTests.{legal_is, limits_are}
+use Rattle.fq_laws.proofs.Computed.Histories.{IsShort, computing}
+use Rattle.fq_laws.proofs.Computed.Legal.{legal_is, limits_are}
 use Rattle.fq_laws.proofs.examples.single_request.Goals as goal
 
 short : (cost : ℕ) → IsShort 1 1 (single_ended cost)

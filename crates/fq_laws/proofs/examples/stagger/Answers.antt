@@ -1,8 +1,8 @@
 use Rattle.std.proofs.Common.{refl, arith}
 use Rattle.fq_laws.specs.Examples.{stagger_config, long_ended}
-use Rattle.fq_laws.proofs.Computed.{IsShort, virtual_time_is, keys_are, computing}
-use Rattle.fq_laws.proofs.ChoiceTests.{choice_is, choice_is_not}
-use Rattle.fq_laws.proofs.LegalTests.{legal_is, limits_are}
+use Rattle.fq_laws.proofs.Computed.Histories.{IsShort, virtual_time_is, keys_are, computing}
+use Rattle.fq_laws.proofs.Computed.Choice.{choice_is, choice_is_not}
+use Rattle.fq_laws.proofs.Computed.Legal.{legal_is, limits_are}
 use Rattle.fq_laws.proofs.examples.stagger.Goals as goal
 
 short : IsShort 10 2 long_ended

@@ -1,8 +1,8 @@
 use Rattle.std.proofs.Common.{refl, arith}
 use Rattle.fq_laws.specs.Examples.{stagger_config, sixth_ended}
-use Rattle.fq_laws.proofs.Computed.{IsShort, virtual_time_is, keys_are, computing}
-use Rattle.fq_laws.proofs.ChoiceTests.{choice_is, choice_is_not, none_is_eligible}
-use Rattle.fq_laws.proofs.LegalTests.{legal_is}
+use Rattle.fq_laws.proofs.Computed.Histories.{IsShort, virtual_time_is, keys_are, computing}
+use Rattle.fq_laws.proofs.Computed.Choice.{choice_is, choice_is_not, none_is_eligible}
+use Rattle.fq_laws.proofs.Computed.Legal.{legal_is}
 use Rattle.fq_laws.proofs.examples.stagger_of_first_worker.Goals as goal
 
 short : IsShort 10 2 sixth_ended

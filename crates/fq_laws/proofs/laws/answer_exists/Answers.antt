@@ -1,4 +1,4 @@
-use Rattle.fq_laws.proofs.Answering.{answered}
+use Rattle.fq_laws.proofs.Rules.Answers.{answered}
 use Rattle.fq_laws.proofs.laws.answer_exists.Goals as goal
 
 pub returns : goal.returns

@@ -1,4 +1,4 @@
-use Rattle.fq_laws.proofs.Answering.{answer_extends}
+use Rattle.fq_laws.proofs.Rules.Answers.{answer_extends}
 use Rattle.fq_laws.proofs.laws.answers_add_one.Goals as goal
 
 pub returns : goal.returns

@@ -1,4 +1,4 @@
-use Rattle.fq_laws.proofs.Answering.{answer_legal}
+use Rattle.fq_laws.proofs.Rules.Answers.{answer_legal}
 use Rattle.fq_laws.proofs.laws.answers_keep_legality.Goals as goal
 
 pub returns : goal.returns

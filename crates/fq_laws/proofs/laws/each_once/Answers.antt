@@ -1,4 +1,4 @@
-use Rattle.fq_laws.proofs.Once.{submitted_once, taken_once, done_once}
+use Rattle.fq_laws.proofs.History.Once.{submitted_once, taken_once, done_once}
 use Rattle.fq_laws.proofs.laws.each_once.Goals as goal
 
 pub returns : goal.returns

@@ -1,4 +1,4 @@
-use Rattle.fq_laws.proofs.Frames.{leaves}
+use Rattle.fq_laws.proofs.Keys.Others.{leaves}
 use Rattle.fq_laws.proofs.laws.entries_leave_others.Goals as goal
 
 pub returns : goal.returns

@@ -1,4 +1,4 @@
-use Rattle.fq_laws.proofs.Heads.{head_is_head, is_head_head, head_none_waits, waits_none_head}
+use Rattle.fq_laws.proofs.History.Heads.{head_is_head, is_head_head, head_none_waits, waits_none_head}
 use Rattle.fq_laws.proofs.laws.head_law.Goals as goal
 
 pub returns : goal.returns

@@ -1,4 +1,4 @@
-use Rattle.fq_laws.proofs.Frames.{keys_still}
+use Rattle.fq_laws.proofs.Keys.Others.{keys_still}
 use Rattle.fq_laws.proofs.laws.keys_do_not_age.Goals as goal
 
 pub returns : goal.returns

@@ -1,4 +1,4 @@
-use Rattle.fq_laws.proofs.Requests.{submitted_small}
+use Rattle.fq_laws.proofs.History.Numbers.{submitted_small}
 use Rattle.fq_laws.proofs.laws.numbers_fit.Goals as goal
 
 pub returns : goal.returns

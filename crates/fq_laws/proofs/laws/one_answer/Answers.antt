@@ -1,4 +1,4 @@
-use Rattle.fq_laws.proofs.Answering.{answer_one}
+use Rattle.fq_laws.proofs.Rules.Answers.{answer_one}
 use Rattle.fq_laws.proofs.laws.one_answer.Goals as goal
 
 pub returns : goal.returns

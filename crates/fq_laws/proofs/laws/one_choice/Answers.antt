@@ -1,4 +1,4 @@
-use Rattle.fq_laws.proofs.Choices.{chosen_one, chosen_keys}
+use Rattle.fq_laws.proofs.Keys.Choices.{chosen_one, chosen_keys}
 use Rattle.fq_laws.proofs.laws.one_choice.Goals as goal
 
 pub returns : goal.returns

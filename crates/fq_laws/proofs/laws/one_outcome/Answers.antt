@@ -1,4 +1,4 @@
-use Rattle.fq_laws.proofs.Outcomes.{outcome_one}
+use Rattle.fq_laws.proofs.Outcome.{outcome_one}
 use Rattle.fq_laws.proofs.laws.one_outcome.Goals as goal
 
 pub returns : goal.returns

@@ -1,4 +1,4 @@
-use Rattle.fq_laws.proofs.Outcomes.{outcome_exists}
+use Rattle.fq_laws.proofs.Outcome.{outcome_exists}
 use Rattle.fq_laws.proofs.laws.outcome_exists.Goals as goal
 
 pub returns : goal.returns

@@ -1,4 +1,4 @@
-use Rattle.fq_laws.proofs.Outcomes.{outcome_legal}
+use Rattle.fq_laws.proofs.Outcome.{outcome_legal}
 use Rattle.fq_laws.proofs.laws.outcomes_are_legal.Goals as goal
 
 pub returns : goal.returns

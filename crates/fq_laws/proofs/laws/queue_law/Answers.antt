@@ -1,4 +1,4 @@
-use Rattle.fq_laws.proofs.Queues.{queue_law}
+use Rattle.fq_laws.proofs.History.Queues.{queue_law}
 use Rattle.fq_laws.proofs.laws.queue_law.Goals as goal
 
 pub returns : goal.returns

@@ -1,4 +1,4 @@
-use Rattle.fq_laws.proofs.Answering.{refused_leaves}
+use Rattle.fq_laws.proofs.Rules.Answers.{refused_leaves}
 use Rattle.fq_laws.proofs.laws.refusals_change_nothing.Goals as goal
 
 pub returns : goal.returns

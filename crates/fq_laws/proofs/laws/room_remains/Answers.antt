@@ -1,4 +1,4 @@
-use Rattle.fq_laws.proofs.Room.{room_now}
+use Rattle.fq_laws.proofs.Rules.Limits.{room_now}
 use Rattle.fq_laws.proofs.laws.room_remains.Goals as goal
 
 pub returns : goal.returns

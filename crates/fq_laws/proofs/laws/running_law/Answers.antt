@@ -1,4 +1,4 @@
-use Rattle.fq_laws.proofs.Once.{running_runs, runs_running, running_nothing, nothing_running}
+use Rattle.fq_laws.proofs.History.Workers.{running_runs, runs_running, running_nothing, nothing_running}
 use Rattle.fq_laws.proofs.laws.running_law.Goals as goal
 
 pub returns : goal.returns

@@ -1,0 +1,5 @@
+pub mod Requests
+pub mod Tenants
+pub mod Estimates
+pub mod Limits
+pub mod Changes

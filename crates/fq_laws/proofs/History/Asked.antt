@@ -1,0 +1,66 @@
+-- What a request asked, and whether it was submitted.
+use Rattle.std.proofs.Common.{Bool, false, ◌&&◌, ℕ, ◌≡◌, true, ◌==◌, ◌||◌, refl, inl, inr, Some, [], ◌∷◌, None, Option, ◌≢◌}
+use Rattle.std.proofs.lemmas.Bool.{and_parts, not-true, cases_Bool, or_right, eqb-true, false≢true, both_ways, eq-eqb, ne_eqb}
+use Rattle.fq_model.specs.History.{History, is_submitted, is_waiting, is_taken, is_submit_of, Request, request_at, request_in, is_of_tenant}
+use Rattle.fq_model.specs.declared.event.Act.{Act}
+use Rattle.fq_model.specs.declared.event.Act.TheVariants.{Submit}
+
+-- a test and one that is true
+pub and_with_true : (b c : Bool) → c ≡ true → (b && c) ≡ b
+and_with_true true c h = h
+and_with_true false c h = refl
+
+-- what waits was submitted, and was not taken
+pub waits_submitted : (P : History) (r : ℕ) → is_waiting P r ≡ true → is_submitted P r ≡ true
+unfolding is_waiting
+waits_submitted P r h = (and_parts _ _ h).0
+
+pub waits_untaken : (P : History) (r : ℕ) → is_waiting P r ≡ true → is_taken P r ≡ false
+unfolding is_waiting
+waits_untaken P r h = not-true _ (and_parts _ _ h).1
+
+-- ---- what a request asked
+
+asked_at : (P : History) (r : ℕ) (a : Act) (x : Request) → (request_at P r ≡ Some x → is_submitted P r ≡ true) → request_in r a (request_at P r) ≡ Some x → (is_submit_of r a || is_submitted P r) ≡ true
+asked_at P r (Submit request tenant kind declared label) x ih h = elim (cases_Bool (request == r)) [
+  | inl e ↦ rw e refl
+  | inr e ↦ or_right _ _ (ih (rw e at h))
+]
+asked_at P r _ x ih h = ih h
+
+-- a request of which something is known was submitted
+pub asked_submitted : (P : History) (r : ℕ) (x : Request) → request_at P r ≡ Some x → is_submitted P r ≡ true
+unfolding is_submitted
+asked_submitted [] r x h = cc
+asked_submitted (e ∷ P) r x h = asked_at P r e.act x (asked_submitted P r x) h
+
+unasked_at : (P : History) (r : ℕ) (a : Act) → (request_at P r ≡ None → is_submitted P r ≡ false) → request_in r a (request_at P r) ≡ None → (is_submit_of r a || is_submitted P r) ≡ false
+unasked_at P r (Submit request tenant kind declared label) ih h = elim (cases_Bool (request == r)) [
+  | inl e ↦ (let q : Request = record { tenant = tenant; kind = kind; declared = declared; label = label } in let k : Some q ≡ None = rw e at h in absurd (cc))
+  | inr e ↦ rw e (ih (rw e at h))
+]
+unasked_at P r _ ih h = ih h
+
+pub unasked : (P : History) (r : ℕ) → request_at P r ≡ None → is_submitted P r ≡ false
+unfolding is_submitted
+unasked [] r h = refl
+unasked (e ∷ P) r h = unasked_at P r e.act (unasked P r) h
+
+pub is_of_asked : (t : ℕ) (o : Option Request) → is_of_tenant t o ≡ true → (a : Request) × (o ≡ Some a) × (a.tenant ≡ t)
+is_of_asked t None h = absurd (false≢true h)
+is_of_asked t (Some a) h = (a, refl, eqb-true _ _ h)
+
+-- what was submitted is known
+pub submitted_known : (P : History) (q : ℕ) → is_submitted P q ≡ true → (a : Request) × (request_at P q ≡ Some a)
+submitted_known P q h = go (request_at P q) refl
+  where
+    go : (o : Option Request) → request_at P q ≡ o → (a : Request) × (request_at P q ≡ Some a)
+    go None is = absurd (both_ways _ (unasked P q is) h)
+    go (Some a) is = (a, is)
+
+-- whether a request is one of tenant t, by what is known of it
+pub of_own : (P : History) (t q : ℕ) (a : Request) → request_at P q ≡ Some a → a.tenant ≡ t → is_of_tenant t (request_at P q) ≡ true
+of_own P t q a is e = rw is (eq-eqb a.tenant t e)
+
+pub of_other : (P : History) (t q : ℕ) (a : Request) → request_at P q ≡ Some a → a.tenant ≢ t → is_of_tenant t (request_at P q) ≡ false
+of_other P t q a is ne = rw is (ne_eqb a.tenant t ne)

@@ -1,0 +1,66 @@
+-- A request is submitted, taken and done once at most.
+use Rattle.std.proofs.Common.{ℕ, ◌<◌, ◌≡◌, true, false, arith, subst, ◌∷◌, Bool, refl, [], ◌≤◌, inl, inr}
+use Rattle.std.proofs.lemmas.Bool.{eqb-true, false_from_ne_true, false≢true, or_parts, cases_Bool}
+use Rattle.fq_model.specs.declared.config.Config.{Config}
+use Rattle.fq_model.specs.declared.event.Act.{Act}
+use Rattle.fq_model.specs.declared.event.Act.TheVariants.{Submit, Take, Done}
+use Rattle.fq_model.specs.History.{History, is_submitted, is_submit_of, submits, is_take_of, is_taken, is_done_of, is_done, has_act}
+use Rattle.fq_model.specs.Rules.{IsLegal, Fits}
+use Rattle.fq_model.specs.declared.event.Entry.{Entry}
+use Rattle.fq_laws.specs.Words.{times}
+use Rattle.fq_laws.proofs.History.Requests.{submitted_below}
+use Rattle.fq_laws.proofs.Rules.Takes.{take_waits}
+use Rattle.fq_laws.proofs.History.Asked.{waits_untaken}
+
+-- ---- an act that was done before is not done anew
+
+submits_new : (C : Config) (P : History) (m r : ℕ) (a : Act) → IsLegal C P → Fits C P m a → is_submit_of r a ≡ true → is_submitted P r ≡ false
+submits_new C P m r (Submit request tenant kind declared label) l f h = false_from_ne_true _ (λ old. let b : r < submits P = submitted_below C P r l old in let e : request ≡ r = eqb-true _ _ h in omega (arith, f.numbered))
+submits_new C P m r _ l f h = absurd (false≢true h)
+
+takes_new : (C : Config) (P : History) (m r : ℕ) (a : Act) → Fits C P m a → is_take_of r a ≡ true → is_taken P r ≡ false
+takes_new C P m r (Take worker request estimate) f h = subst (λ s. is_taken P s ≡ false) (eqb-true _ _ h) (waits_untaken P request (take_waits C P m worker request estimate f))
+takes_new C P m r _ f h = absurd (false≢true h)
+
+does_new : (C : Config) (P : History) (m r : ℕ) (a : Act) → Fits C P m a → is_done_of r a ≡ true → is_done P r ≡ false
+does_new C P m r (Done worker request cost) f h = subst (λ s. is_done P s ≡ false) (eqb-true _ _ h) f.runs.not_done
+does_new C P m r _ f h = absurd (false≢true h)
+
+pub submitted_new : (C : Config) (P : History) (e : Entry) (r : ℕ) → IsLegal C (e ∷ P) → is_submit_of r e.act ≡ true → is_submitted P r ≡ false
+submitted_new C P e r l h = submits_new C P e.moment r e.act l.0 l.3 h
+
+pub taken_new : (C : Config) (P : History) (e : Entry) (r : ℕ) → IsLegal C (e ∷ P) → is_take_of r e.act ≡ true → is_taken P r ≡ false
+taken_new C P e r l h = takes_new C P e.moment r e.act l.3 h
+
+pub done_new : (C : Config) (P : History) (e : Entry) (r : ℕ) → IsLegal C (e ∷ P) → is_done_of r e.act ≡ true → is_done P r ≡ false
+done_new C P e r l h = does_new C P e.moment r e.act l.3 h
+
+-- ---- so each is done once at most
+
+times_none : (test : Act → Bool) (P : History) → has_act test P ≡ false → times test P ≡ 0
+times_none test [] h = refl
+times_none test (e ∷ P) h =
+    let p = or_parts (test e.act) (has_act test P) h in
+    rw (p.0, times_none test P p.1) refl
+
+-- what is new where it comes is there once
+times_new : (test : Act → Bool) (e : Entry) (P : History) → (test e.act ≡ true → has_act test P ≡ false) → times test P ≤ 1 → times test (e ∷ P) ≤ 1
+times_new test e P new h = elim (cases_Bool (test e.act)) [
+  | inl is ↦ rw (is, times_none test P (new is)) (omega arith)
+  | inr is ↦ rw is h
+]
+
+pub submitted_once : (C : Config) (P : History) (r : ℕ) → IsLegal C P → times (is_submit_of r) P ≤ 1
+unfolding is_submitted
+submitted_once C [] r l = omega arith
+submitted_once C (e ∷ P) r l = times_new (is_submit_of r) e P (submitted_new C P e r l) (submitted_once C P r l.0)
+
+pub taken_once : (C : Config) (P : History) (r : ℕ) → IsLegal C P → times (is_take_of r) P ≤ 1
+unfolding is_taken
+taken_once C [] r l = omega arith
+taken_once C (e ∷ P) r l = times_new (is_take_of r) e P (taken_new C P e r l) (taken_once C P r l.0)
+
+pub done_once : (C : Config) (P : History) (r : ℕ) → IsLegal C P → times (is_done_of r) P ≤ 1
+unfolding is_done
+done_once C [] r l = omega arith
+done_once C (e ∷ P) r l = times_new (is_done_of r) e P (done_new C P e r l) (done_once C P r l.0)

@@ -1,0 +1,120 @@
+-- Tags, their bases and where a tenant starts: how they change at one entry more, and their limits.
+use Rattle.std.proofs.Common.{◌^◌, ℕ, ◌≡◌, refl, [], ◌-◌, max, cond, ◌&&◌, ◌∷◌, None, ◌==◌, inl, inr, Some, ◌≢◌, ◌≤◌, arith, ◌+◌, subst, sym, ◌*◌}
+use Rattle.std.specs.Prelude.{is_none}
+use Rattle.std.proofs.lemmas.Bool.{eq-eqb, cases_Bool, ne_eqb}
+use Rattle.fq_model.specs.declared.config.Config.{Config}
+use Rattle.fq_model.specs.Keys.{tag_base, is_submit_for, tag, start, start_for}
+use Rattle.fq_model.specs.declared.event.Entry.{Entry}
+use Rattle.fq_model.specs.History.{History, head, submits}
+use Rattle.fq_model.specs.Time.{virtual_time, virtual_idle_time, last_moment}
+use Rattle.fq_model.specs.Charge.{virtual_charge}
+use Rattle.fq_model.specs.declared.event.Act.TheVariants.{Submit, Take, Report, Done, Close}
+use Rattle.fq_model.specs.declared.event.Act.{Act}
+use Rattle.fq_model.specs.Rules.{IsLegal, Fits, FitsSubmit}
+use Rattle.fq_model.specs.declared.config.Policy.{Policy}
+use Rattle.fq_model.specs.declared.config.Policy.TheVariants.{Wfq, Wf2q, Msf2q, TwoDfq}
+use Rattle.fq_model.specs.Limits.{InLimits}
+use Rattle.vt_fixed.specs.declared.limits.TheConstants.{GREATEST_MOMENT}
+use Rattle.fq_laws.specs.Words.{one_more, greatest_rate, greatest_length}
+use Rattle.fq_laws.proofs.Charge.Tenants.{virtual_charge_submit}
+use Rattle.fq_laws.proofs.Time.Clock.{virtual_time_low, virtual_idle_time_low}
+use Rattle.fq_laws.proofs.Charge.Limits.{virtual_charge_low}
+use Rattle.fq_laws.proofs.Rules.Limits.{submits_low}
+
+pub base_nil : (C : Config) (t : ℕ) → tag_base C [] t ≡ 0
+unfolding tag_base
+base_nil C t = refl
+
+-- at each entry
+pub base_step : (C : Config) (P : History) (e : Entry) (t : ℕ) → tag_base C (e ∷ P) t ≡ cond (is_submit_for t e.act && is_none (head P t)) (max (virtual_time C P e.moment - virtual_charge C P t) (tag_base C P t)) (tag_base C P t)
+unfolding tag_base
+base_step C P e t = refl
+
+-- a Submit that finds none of its tenant's requests waiting raises the base to virtual time less virtual charge
+pub base_submit : (C : Config) (P : History) (who m q t kind declared label : ℕ) → head P t ≡ None → tag_base C (one_more who m (Submit q t kind declared label) P) t ≡ max (virtual_time C P m - virtual_charge C P t) (tag_base C P t)
+unfolding tag_base
+base_submit C P who m q t kind declared label h = rw (eq-eqb t t refl, h) refl
+
+-- one that finds some waiting leaves it
+pub base_submit_waiting : (C : Config) (P : History) (who m t q u kind declared label h : ℕ) → head P t ≡ Some h → tag_base C (one_more who m (Submit q u kind declared label) P) t ≡ tag_base C P t
+unfolding tag_base
+base_submit_waiting C P who m t q u kind declared label h is = rw is (elim (cases_Bool (u == t)) [ inl e ↦ rw e refl | inr e ↦ rw e refl ])
+
+-- so does one of another tenant
+pub base_submit_other : (C : Config) (P : History) (who m t q u kind declared label : ℕ) → u ≢ t → tag_base C (one_more who m (Submit q u kind declared label) P) t ≡ tag_base C P t
+unfolding tag_base
+base_submit_other C P who m t q u kind declared label ne = rw (ne_eqb u t ne) refl
+
+-- and each other act
+pub base_take : (C : Config) (P : History) (who m t w q c : ℕ) → tag_base C (one_more who m (Take w q c) P) t ≡ tag_base C P t
+unfolding tag_base
+base_take C P who m t w q c = refl
+
+pub base_report : (C : Config) (P : History) (who m t w q used : ℕ) → tag_base C (one_more who m (Report w q used) P) t ≡ tag_base C P t
+unfolding tag_base
+base_report C P who m t w q used = refl
+
+pub base_done : (C : Config) (P : History) (who m t w q cost : ℕ) → tag_base C (one_more who m (Done w q cost) P) t ≡ tag_base C P t
+unfolding tag_base
+base_done C P who m t w q cost = refl
+
+pub base_close : (C : Config) (P : History) (who m t : ℕ) → tag_base C (one_more who m Close P) t ≡ tag_base C P t
+unfolding tag_base
+base_close C P who m t = refl
+
+-- the base never falls
+pub base_rises : (C : Config) (P : History) (e : Entry) (t : ℕ) → tag_base C P t ≤ tag_base C (e ∷ P) t
+base_rises C P e t = rw (base_step C P e t) (elim (cases_Bool (is_submit_for t e.act && is_none (head P t))) [ inl h ↦ rw h (omega arith) | inr h ↦ rw h (omega arith) ])
+
+-- ---- tags and starts
+
+pub tag_is : (C : Config) (P : History) (t : ℕ) → tag C P t ≡ virtual_charge C P t + tag_base C P t
+unfolding tag
+tag_is C P t = refl
+
+-- the tag after a Submit that finds none waiting is at least virtual time
+pub tag_submit : (C : Config) (P : History) (who m q t kind declared label : ℕ) → head P t ≡ None → virtual_charge C (one_more who m (Submit q t kind declared label) P) t ≡ virtual_charge C P t → tag C (one_more who m (Submit q t kind declared label) P) t ≡ max (virtual_time C P m) (tag C P t)
+unfolding tag
+tag_submit C P who m q t kind declared label h same = omega (arith, base_submit C P who m q t kind declared label h, same)
+
+-- the same in a legal history, at an entry whose act is known
+pub tag_after : (C : Config) (P : History) (e : Entry) (request tenant kind declared label : ℕ) → IsLegal C (e ∷ P) → e.act ≡ Submit request tenant kind declared label → head P tenant ≡ None → tag C (e ∷ P) tenant ≡ max (virtual_time C P e.moment) (tag C P tenant)
+tag_after C P e request tenant kind declared label l is h =
+    let f : FitsSubmit C P request tenant kind declared = subst (Fits C P e.moment) is l.3 in
+    subst (λ (a : Act). tag C (one_more e.who e.moment a P) tenant ≡ max (virtual_time C P e.moment) (tag C P tenant)) (sym is)
+    (tag_submit C P e.who e.moment request tenant kind declared label h (virtual_charge_submit C P e.who e.moment tenant request tenant kind declared label l.0 f.numbered))
+
+-- whatever the policy
+pub start_is : (C : Config) (P : History) (m t : ℕ) → start C P m t ≡ virtual_charge C P t + start_for C.policy (tag_base C P t) (virtual_idle_time C P m t)
+unfolding start tag
+start_is C P m t = go C.policy
+  where
+    go : (p : Policy) → start_for p (virtual_charge C P t + tag_base C P t) (virtual_charge C P t + virtual_idle_time C P m t) ≡ virtual_charge C P t + start_for p (tag_base C P t) (virtual_idle_time C P m t)
+    go Wfq = refl
+    go Wf2q = refl
+    go Msf2q = refl
+    go TwoDfq = refl
+
+-- ---- tags
+
+-- a base is at most the greatest virtual time of its moment
+pub base_low : (C : Config) (P : History) (t : ℕ) → InLimits C → IsLegal C P → tag_base C P t ≤ last_moment P * greatest_rate
+unfolding tag_base
+base_low C [] t lim l = omega arith
+base_low C (e ∷ P) t lim l =
+    let v : virtual_time C P e.moment ≤ e.moment * greatest_rate = virtual_time_low C P e.moment lim l.0 l.1 in
+    let older : tag_base C P t ≤ last_moment P * greatest_rate = base_low C P t lim l.0 in
+    let order : last_moment P ≤ e.moment = l.1 in
+    elim (cases_Bool (is_submit_for t e.act && is_none (head P t))) [ inl h ↦ rw h (omega (arith, v, older, order)) | inr h ↦ rw h (omega (arith, older, order)) ]
+
+pub start_low : (C : Config) (P : History) (m t : ℕ) → InLimits C → IsLegal C P → last_moment P ≤ m → start C P m t ≤ submits P * greatest_length + m * greatest_rate
+start_low C P m t lim l h = rw (start_is C P m t) (go C.policy)
+  where
+    go : (p : Policy) → virtual_charge C P t + start_for p (tag_base C P t) (virtual_idle_time C P m t) ≤ submits P * greatest_length + m * greatest_rate
+    go Wfq = omega (arith, virtual_charge_low C P t lim l, base_low C P t lim l)
+    go Wf2q = omega (arith, virtual_charge_low C P t lim l, base_low C P t lim l)
+    go Msf2q = omega (arith, virtual_charge_low C P t lim l, virtual_idle_time_low C P m t lim l h)
+    go TwoDfq = omega (arith, virtual_charge_low C P t lim l, base_low C P t lim l)
+
+pub start_within : (C : Config) (P : History) (m t : ℕ) → InLimits C → IsLegal C P → last_moment P ≤ m → m ≤ GREATEST_MOMENT → start C P m t ≤ 10 ^ 23
+start_within C P m t lim l h b = let k = submits_low C P lim l in omega (arith, start_low C P m t lim l h, k.1)

@@ -1,0 +1,5 @@
+pub mod Takes
+pub mod Room
+pub mod Limits
+pub mod Refusals
+pub mod Answers

@@ -1,0 +1,52 @@
+-- A legal history has room for what has to follow.
+use Rattle.std.proofs.Common.{ℕ, ◌+◌, ◌*◌, length, if◌then◌else◌, ◌^◌, ◌<◌, ◌≤◌, arith, suc, [], ◌∷◌}
+use Rattle.std.proofs.lemmas.Bool.{cond_both}
+use Rattle.fq_model.specs.History.{History, is_closed, waiting, running, submits}
+use Rattle.fq_model.specs.declared.config.Config.{Config}
+use Rattle.fq_model.specs.Limits.{InLimits}
+use Rattle.fq_model.specs.declared.event.Act.{Act}
+use Rattle.fq_model.specs.declared.event.Act.TheVariants.{Submit, Take, Report, Done, Close}
+use Rattle.fq_model.specs.Rules.{IsLegal, Fits}
+use Rattle.fq_laws.specs.Words.{one_more}
+use Rattle.fq_laws.proofs.History.Counts.{submits_le_length, waiting_submit, waiting_take, running_take, running_done, running_submit, running_report, waiting_report, waiting_done, running_close, waiting_close, waiting_none, running_none}
+use Rattle.fq_laws.proofs.History.Requests.{submitted_below, taken_submitted, worker_runs, runs_taken}
+use Rattle.fq_laws.proofs.History.Asked.{waits_submitted}
+use Rattle.fq_laws.proofs.Rules.Takes.{take_waits}
+
+-- what takes room: the entries, those that are owed, and a Close
+abbrev pub needs : History → ℕ
+needs P = length P + 2 * waiting P + running P + (if is_closed P then 0 else 1)
+
+pub small_requests : (C : Config) (P : History) → InLimits C → needs P ≤ C.entries → submits P < 2 ^ 32
+small_requests C P lim h = omega (arith, submits_le_length P, lim.entries)
+
+room_at : (C : Config) (P : History) (who m : ℕ) (a : Act) → InLimits C → IsLegal C P → Fits C P m a → needs P ≤ C.entries → needs (one_more who m a P) ≤ C.entries
+unfolding is_closed
+room_at C P who m (Submit request tenant kind declared label) lim l f ih =
+    let b : request < 2 ^ 32 = omega (arith, small_requests C P lim ih, f.numbered) in
+    let w = waiting_submit C P who m request tenant kind declared label l f.numbered b in
+    let r = running_submit P who m request tenant kind declared label in
+    rw (w, r) (cond_both _ 0 1 (λ x. suc (length P) + 2 * (waiting P + 1) + running P + x ≤ C.entries) (λ _. omega (arith, f.room)) (λ _. omega (arith, f.room)))
+room_at C P who m (Take worker request estimate) lim l f ih =
+    let wt = take_waits C P m worker request estimate f in
+    let b : request < 2 ^ 32 = omega (arith, small_requests C P lim ih, submitted_below C P request l (waits_submitted P request wt)) in
+    let w = waiting_take P who m worker request estimate wt b in
+    let r = running_take C P who m worker request estimate l wt b in
+    omega (arith, w, r, ih)
+room_at C P who m (Report worker request used) lim l f ih =
+    rw (waiting_report P who m worker request used, running_report P who m worker request used)
+    (cond_both _ 0 1 (λ x. suc (length P) + 2 * waiting P + running P + x ≤ C.entries) (λ _. omega (arith, f.1)) (λ _. omega (arith, f.1)))
+room_at C P who m (Done worker request cost) lim l f ih =
+    let rn = worker_runs P worker request f.runs in
+    let b : request < 2 ^ 32 = omega (arith, small_requests C P lim ih, submitted_below C P request l (taken_submitted C P request l (runs_taken P request rn))) in
+    let r = running_done P who m worker request cost rn b in
+    let w = waiting_done P who m worker request cost in
+    omega (arith, r, w, ih)
+room_at C P who m Close lim l f ih =
+    let h : length P + 2 * waiting P + running P + 1 ≤ C.entries = rw f at ih in
+    rw (waiting_close P who m, running_close P who m) (omega arith)
+
+pub has_room : (C : Config) (P : History) → InLimits C → IsLegal C P → needs P ≤ C.entries
+unfolding is_closed
+has_room C [] lim l = rw (waiting_none, running_none) (omega (arith, lim.entries))
+has_room C (e ∷ P) lim l = room_at C P e.who e.moment e.act lim l.0 l.3 (has_room C P lim l.0)

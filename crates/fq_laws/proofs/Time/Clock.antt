@@ -1,0 +1,190 @@
+-- The active weight, virtual time and virtual idle times: how they change at one entry more, and their limits.
+use Rattle.std.proofs.Common.{ℕ, ◌≡◌, refl, ◌∷◌, [], length, ◌-◌, arith, ◌+◌, ◌∙◌, inl, inr, cond, true, false, ◌≤◌, ◌<◌, ◌≢◌, ◌*◌, ◌/◌, ◌==◌, get_or, zero, suc}
+use Rattle.std.proofs.lemmas.Bool.{cases_Bool, cases_eq, ne_eqb, cases_lt}
+use Rattle.std.proofs.Math.Nat.{div-le_self}
+use Rattle.std.proofs.lemmas.Nat.{mul-le}
+use Rattle.std.proofs.lemmas.List.{get_or_past}
+use Rattle.vt_fixed.specs.Rounding.{advance_of}
+use Rattle.vt_fixed.proofs.Bounds.{div_mono}
+use Rattle.vt_fixed.proofs.Bounds as fixed
+use Rattle.fq_model.specs.declared.config.Config.{Config}
+use Rattle.fq_model.specs.declared.event.Entry.{Entry}
+use Rattle.fq_model.specs.History.{History, weight_at, pool_at}
+use Rattle.fq_model.specs.Time.{weight_if_active, active_weight, last_moment, virtual_advance, virtual_time, virtual_idle_time, is_active, open_requests}
+use Rattle.fq_model.specs.Limits.{InLimits}
+use Rattle.fq_model.specs.Rules.{IsLegal}
+use Rattle.fq_model.specs.Sums.{sum_below}
+use Rattle.vt_fixed.specs.declared.limits.TheConstants.{MOST_WORKERS, GREATEST_WEIGHT, GREATEST_ACTIVE_WEIGHT, GREATEST_MOMENT}
+use Rattle.fq_laws.specs.Words.{greatest_rate}
+use Rattle.fq_laws.proofs.Sums.{sum_zero, sum_at, sum_same}
+use Rattle.fq_laws.proofs.Time.Open.{inactive_nil}
+
+-- ---- weights and workers: no act changes them
+
+pub weight_stays : (C : Config) (P : History) (e : Entry) (t : ℕ) → weight_at C (e ∷ P) t ≡ weight_at C P t
+unfolding weight_at
+weight_stays C P e t = refl
+
+pub pool_stays : (C : Config) (P : History) (e : Entry) → pool_at C (e ∷ P) ≡ pool_at C P
+unfolding pool_at
+pool_stays C P e = refl
+
+-- ---- advances
+
+-- where no tenant is active virtual time stands still
+pub advance_idle : (dt n : ℕ) → advance_of dt n 0 ≡ 0
+unfolding advance_of
+advance_idle dt n = refl
+
+pub active_weight_nil : (C : Config) → active_weight C [] ≡ 0
+unfolding active_weight
+active_weight_nil C = sum_zero (weight_if_active C []) (length C.weights) (λ t. rw (inactive_nil t) refl)
+
+-- by what virtual time moves on
+pub virtual_advance_is : (C : Config) (P : History) (m : ℕ) → virtual_advance C P m ≡ advance_of (m - last_moment P) (pool_at C P) (active_weight C P)
+unfolding virtual_advance
+virtual_advance_is C P m = refl
+
+-- no time, no advance
+pub advance_none : (C : Config) (P : History) → virtual_advance C P (last_moment P) ≡ 0
+unfolding virtual_advance
+advance_none C P = fixed.advance_none (last_moment P) (pool_at C P) (active_weight C P)
+
+pub advance_unweighted : (C : Config) (P : History) (m : ℕ) → active_weight C P ≡ 0 → virtual_advance C P m ≡ 0
+unfolding virtual_advance
+advance_unweighted C P m e = rw e (advance_idle _ _)
+
+pub advance_nil : (C : Config) (m : ℕ) → virtual_advance C [] m ≡ 0
+advance_nil C m = advance_unweighted C [] m (active_weight_nil C)
+
+-- ---- virtual time
+
+pub virtual_time_nil : (C : Config) (m : ℕ) → virtual_time C [] m ≡ 0
+unfolding virtual_time
+virtual_time_nil C m = refl
+
+-- an entry does not move the virtual time of its moment
+pub virtual_time_step : (C : Config) (P : History) (e : Entry) → virtual_time C (e ∷ P) e.moment ≡ virtual_time C P e.moment
+unfolding virtual_time
+virtual_time_step C P e = omega (arith, advance_none C (e ∷ P))
+
+-- virtual time at a moment is that of the last entry and one advance
+pub virtual_time_split : (C : Config) (P : History) (m : ℕ) → virtual_time C P m ≡ virtual_time C P (last_moment P) + virtual_advance C P m
+unfolding virtual_time
+virtual_time_split C [] m = omega (arith, advance_nil C m)
+virtual_time_split C (e ∷ P) m = omega (arith, advance_none C (e ∷ P))
+
+-- at the moment of one entry more: one advance since the entry before
+pub virtual_time_next : (C : Config) (P : History) (e : Entry) → virtual_time C (e ∷ P) e.moment ≡ virtual_time C P (last_moment P) + virtual_advance C P e.moment
+virtual_time_next C P e = virtual_time_step C P e ∙ virtual_time_split C P e.moment
+
+-- ---- virtual idle time
+
+pub idle_nil : (C : Config) (m t : ℕ) → virtual_idle_time C [] m t ≡ 0
+unfolding virtual_idle_time
+idle_nil C m t = refl
+
+pub idle_step : (C : Config) (P : History) (e : Entry) (t : ℕ) → virtual_idle_time C (e ∷ P) e.moment t ≡ virtual_idle_time C P e.moment t
+unfolding virtual_idle_time
+idle_step C P e t = elim (cases_Bool (is_active (e ∷ P) t)) [ inl h ↦ rw h (omega arith) | inr h ↦ rw h (omega (arith, advance_none C (e ∷ P))) ]
+
+pub idle_split : (C : Config) (P : History) (m t : ℕ) → virtual_idle_time C P m t ≡ virtual_idle_time C P (last_moment P) t + cond (is_active P t) 0 (virtual_advance C P m)
+unfolding virtual_idle_time
+idle_split C [] m t = rw (inactive_nil t) (omega (arith, advance_nil C m))
+idle_split C (e ∷ P) m t = elim (cases_Bool (is_active (e ∷ P) t)) [ inl h ↦ rw h (omega arith) | inr h ↦ rw h (omega (arith, advance_none C (e ∷ P))) ]
+
+-- while a tenant is active its virtual idle time stays
+pub idle_active : (C : Config) (P : History) (m t : ℕ) → is_active P t ≡ true → virtual_idle_time C P m t ≡ virtual_idle_time C P (last_moment P) t
+idle_active C P m t h = let k : virtual_idle_time C P m t ≡ virtual_idle_time C P (last_moment P) t + 0 = rw h at (idle_split C P m t) in omega arith
+
+-- while it is not, this moves along with virtual time
+pub idle_inactive : (C : Config) (P : History) (m t : ℕ) → is_active P t ≡ false → virtual_idle_time C P m t + virtual_time C P (last_moment P) ≡ virtual_idle_time C P (last_moment P) t + virtual_time C P m
+idle_inactive C P m t h = let k : virtual_idle_time C P m t ≡ virtual_idle_time C P (last_moment P) t + virtual_advance C P m = rw h at (idle_split C P m t) in omega (arith, virtual_time_split C P m)
+
+-- the same at the moment of one entry more, by whether the tenant was active before it
+pub idle_next_active : (C : Config) (P : History) (e : Entry) (t : ℕ) → is_active P t ≡ true → virtual_idle_time C (e ∷ P) e.moment t ≡ virtual_idle_time C P (last_moment P) t
+idle_next_active C P e t h = idle_step C P e t ∙ idle_active C P e.moment t h
+
+pub idle_next_inactive : (C : Config) (P : History) (e : Entry) (t : ℕ) → is_active P t ≡ false → virtual_idle_time C (e ∷ P) e.moment t + virtual_time C P (last_moment P) ≡ virtual_idle_time C P (last_moment P) t + virtual_time C (e ∷ P) e.moment
+idle_next_inactive C P e t h = omega (arith, idle_step C P e t, virtual_time_step C P e, idle_inactive C P e.moment t h)
+
+-- it is at most virtual time
+pub idle_low : (C : Config) (P : History) (m t : ℕ) → virtual_idle_time C P m t ≤ virtual_time C P m
+unfolding virtual_idle_time virtual_time
+idle_low C [] m t = omega arith
+idle_low C (e ∷ P) m t = elim (cases_Bool (is_active (e ∷ P) t)) [ inl h ↦ rw h (omega (arith, idle_low C P e.moment t)) | inr h ↦ rw h (omega (arith, idle_low C P e.moment t)) ]
+
+-- where the open requests of one tenant alone may have changed
+pub active_weight_at : (C : Config) (P : History) (e : Entry) (t : ℕ) → t < length C.weights → ((u : ℕ) → u ≢ t → open_requests (e ∷ P) u ≡ open_requests P u) → active_weight C (e ∷ P) + weight_if_active C P t ≡ active_weight C P + weight_if_active C (e ∷ P) t
+unfolding active_weight is_active
+active_weight_at C P e t b same = sum_at (weight_if_active C P) (weight_if_active C (e ∷ P)) t (length C.weights) b (λ u ne. rw (same u ne, weight_stays C P e u) refl)
+
+-- where those of none have
+pub active_weight_same : (C : Config) (P : History) (e : Entry) → ((u : ℕ) → open_requests (e ∷ P) u ≡ open_requests P u) → active_weight C (e ∷ P) ≡ active_weight C P
+unfolding active_weight is_active
+active_weight_same C P e same = sum_same (weight_if_active C (e ∷ P)) (weight_if_active C P) (length C.weights) (λ u b. rw (same u, weight_stays C P e u) refl)
+
+-- ---- virtual time
+
+pub advance_low : (dt n w : ℕ) → n ≤ MOST_WORKERS → advance_of dt n w ≤ dt * greatest_rate
+unfolding advance_of
+advance_low dt n w h = elim (cases_Bool (w == 0)) [
+  | inl e ↦ rw e (omega arith)
+  | inr e ↦ rw e (
+      let a : dt * n ≤ dt * 64 = mul-le dt n dt 64 (omega arith) h in
+      let b : dt * n * 1048576 / w ≤ dt * n * 1048576 = div-le_self (dt * n * 1048576) w in
+      omega arith
+      )
+]
+
+-- at most 64 units in a microsecond
+pub virtual_advance_low : (C : Config) (P : History) (m : ℕ) → InLimits C → virtual_advance C P m ≤ (m - last_moment P) * greatest_rate
+unfolding virtual_advance pool_at
+virtual_advance_low C P m lim = advance_low (m - last_moment P) C.workers (active_weight C P) lim.workers.1
+
+pub virtual_time_low : (C : Config) (P : History) (m : ℕ) → InLimits C → IsLegal C P → last_moment P ≤ m → virtual_time C P m ≤ m * greatest_rate
+unfolding virtual_time
+virtual_time_low C [] m lim l h = omega arith
+virtual_time_low C (e ∷ P) m lim l h =
+    let a : virtual_time C P e.moment ≤ e.moment * greatest_rate = virtual_time_low C P e.moment lim l.0 l.1 in
+    omega (arith, virtual_advance_low C (e ∷ P) m lim)
+
+advance_rises : (a b n w : ℕ) → a ≤ b → advance_of a n w ≤ advance_of b n w
+unfolding advance_of
+advance_rises a b n w h = elim (cases_eq w 0) [
+  | inl e ↦ rw e (omega arith)
+  | inr ne ↦ rw (ne_eqb w 0 ne) (let k : a * n ≤ b * n = mul-le a n b n h (omega arith) in div_mono (a * n * 1048576) (b * n * 1048576) w (omega arith) (omega arith))
+]
+
+-- virtual time never falls
+pub virtual_time_rises : (C : Config) (P : History) (m k : ℕ) → m ≤ k → virtual_time C P m ≤ virtual_time C P k
+unfolding virtual_time virtual_advance
+virtual_time_rises C [] m k h = omega arith
+virtual_time_rises C (e ∷ P) m k h = let a = advance_rises (m - e.moment) (k - e.moment) (pool_at C (e ∷ P)) (active_weight C (e ∷ P)) (omega arith) in omega (arith, a)
+
+pub virtual_idle_time_low : (C : Config) (P : History) (m t : ℕ) → InLimits C → IsLegal C P → last_moment P ≤ m → virtual_idle_time C P m t ≤ m * greatest_rate
+virtual_idle_time_low C P m t lim l h = omega (arith, idle_low C P m t, virtual_time_low C P m lim l h)
+
+-- ---- weights
+
+pub weight_high : (C : Config) (P : History) (t : ℕ) → InLimits C → weight_at C P t ≤ GREATEST_WEIGHT
+unfolding weight_at
+weight_high C P t lim = elim (cases_lt t (length C.weights)) [ inl b ↦ (lim.weights t 0 b).1 | inr b ↦ (let e : get_or C.weights t 0 ≡ 0 = get_or_past C.weights t 0 b in omega arith) ]
+
+pub weight_low : (C : Config) (P : History) (t : ℕ) → InLimits C → t < length C.weights → 1 ≤ weight_at C P t
+unfolding weight_at
+weight_low C P t lim b = (lim.weights t 0 b).0
+
+weights_low : (f : ℕ → ℕ) (n : ℕ) → ((t : ℕ) → f t ≤ GREATEST_WEIGHT) → sum_below f n ≤ n * GREATEST_WEIGHT
+unfolding sum_below
+weights_low f zero h = omega arith
+weights_low f (suc n) h = omega (arith, h n, weights_low f n h)
+
+pub active_weight_low : (C : Config) (P : History) → InLimits C → active_weight C P ≤ GREATEST_ACTIVE_WEIGHT
+unfolding active_weight
+active_weight_low C P lim = omega (arith, lim.tenants.1, weights_low (weight_if_active C P) (length C.weights) (λ t. elim (cases_Bool (is_active P t)) [ inl h ↦ rw h (weight_high C P t lim) | inr h ↦ rw h (omega arith) ]))
+
+-- ---- the same in whole numbers, wherever a legal history ends
+
+pub virtual_time_within : (C : Config) (P : History) (m : ℕ) → InLimits C → IsLegal C P → last_moment P ≤ m → m ≤ GREATEST_MOMENT → virtual_time C P m ≤ GREATEST_MOMENT * greatest_rate
+virtual_time_within C P m lim l h k = omega (arith, virtual_time_low C P m lim l h)

@@ -1,0 +1,66 @@
+-- What is kept of a history, and what it becomes at one entry more.
+use Rattle.std.specs.Prelude.{ℕ, ◌≡◌, ◌∷◌, Some, Bool, true, false}
+use Rattle.fq_model.specs.declared.config.Config.{Config}
+use Rattle.fq_model.specs.declared.event.Act.{Act}
+use Rattle.fq_model.specs.declared.event.Act.TheVariants.{Submit, Take, Report, Done, Close}
+use Rattle.fq_model.specs.declared.event.Entry.{Entry}
+use Rattle.fq_model.specs.Limits.{InLimits}
+use Rattle.fq_model.specs.History.{History, Request, request_at}
+use Rattle.fq_model.specs.Rules.{IsLegal}
+
+-- what is kept is that of a legal history after which such an entry may come
+pub record Awaits {K : Type 0} (C : Config) (KeptIs : Config → History → K → Type 0) (Comes : History → Entry → Type 0) (kept : K) : Type 0 where
+  pub history : History
+  pub entry : Entry
+  pub limits : InLimits C
+  pub legal : IsLegal C (entry ∷ history)
+  pub comes : Comes history entry
+  pub kept_is : KeptIs C history kept
+
+-- and of each such history, what was kept of it becomes what is kept of the history with the entry
+abbrev pub Follows : {K : Type 0} → Config → (Config → History → K → Type 0) → (History → Entry → Type 0) → K → K → Type 0
+Follows C KeptIs Comes before after = (P : History) (e : Entry) → InLimits C → IsLegal C (e ∷ P) → Comes P e → KeptIs C P before → KeptIs C (e ∷ P) after
+
+-- the entry is of this moment and has this act
+pub record IsAct (moment : ℕ) (act : Act) (P : History) (e : Entry) : Type 0 where
+  pub moment_is : e.moment ≡ moment
+  pub act_is : e.act ≡ act
+
+-- the request was submitted by this tenant and is of this kind
+pub record IsAskedBy (P : History) (request tenant kind : ℕ) : Type 0 where
+  pub asked : Request
+  pub known : request_at P request ≡ Some asked
+  pub tenant_is : asked.tenant ≡ tenant
+  pub kind_is : asked.kind ≡ kind
+
+-- the act opens no request and closes none
+abbrev pub passes : Act → Bool
+passes (Take worker request estimate) = true
+passes (Report worker request used) = true
+passes Close = true
+passes _ = false
+
+-- the entry is of this moment, and opens no request and closes none: it is a Take, a Report or a Close
+pub record Passes (moment : ℕ) (P : History) (e : Entry) : Type 0 where
+  pub moment_is : e.moment ≡ moment
+  pub act_passes : passes e.act ≡ true
+
+-- the entry is of this moment, and submits a request of this tenant
+pub record Submits (moment tenant : ℕ) (P : History) (e : Entry) : Type 0 where
+  pub request : ℕ
+  pub kind : ℕ
+  pub declared : ℕ
+  pub label : ℕ
+  pub moment_is : e.moment ≡ moment
+  pub act_is : e.act ≡ Submit request tenant kind declared label
+
+-- the entry is of this moment, and is the Done of a request of this tenant
+pub record Completes (moment tenant : ℕ) (P : History) (e : Entry) : Type 0 where
+  pub worker : ℕ
+  pub request : ℕ
+  pub cost : ℕ
+  pub asked : Request
+  pub moment_is : e.moment ≡ moment
+  pub act_is : e.act ≡ Done worker request cost
+  pub asked_is : request_at P request ≡ Some asked
+  pub tenant_is : asked.tenant ≡ tenant
