@@ -6,9 +6,9 @@ use Rattle.fq_model.specs.declared.config.Config.{Config}
 use Rattle.fq_model.specs.declared.event.Act.TheVariants.{Submit, Take, Report, Done, Close}
 use Rattle.fq_model.specs.History.{History, Request, request_at, running_on, last_use, Runs}
 use Rattle.fq_model.specs.Charge.{taken_estimate, taken_weight, charge, charge_from, final_cost}
-use Rattle.fq_laws.proofs.Legality.{after}
-use Rattle.fq_laws.proofs.Once.{took}
-use Rattle.fq_laws.proofs.Charges.{cost_none, estimate_some}
+use Rattle.fq_laws.specs.Words.{one_more}
+use Rattle.fq_laws.proofs.History.Workers.{took}
+use Rattle.fq_laws.proofs.Charge.Requests.{cost_none, estimate_some}
 use Rattle.charge_book.specs.declared.row.RunRow.{RunRow}
 use Rattle.charge_book.specs.Rows.{row_charge}
 use Rattle.charge_book.specs.Histories.{run_row, row_of_request, row_of_worker}
@@ -59,17 +59,17 @@ charge_is C P i s q runs = go (taken_estimate P s) (final_cost P s) (estimate_so
 
 -- ---- what is read of other requests
 
-pub reads_submit : (C : Config) (P : History) (who m r t k d l s : ℕ) → r ≢ s → Reads C P (after who m (Submit r t k d l) P) s
+pub reads_submit : (C : Config) (P : History) (who m r t k d l s : ℕ) → r ≢ s → Reads C P (one_more who m (Submit r t k d l) P) s
 reads_submit C P who m r t k d l s ne = record { request = rw (ne_eqb r s ne) refl; weight = λ u. refl; estimate = refl; last = omega arith }
 
-pub reads_take : (C : Config) (P : History) (who m w r c s : ℕ) → r ≢ s → Reads C P (after who m (Take w r c) P) s
+pub reads_take : (C : Config) (P : History) (who m w r c s : ℕ) → r ≢ s → Reads C P (one_more who m (Take w r c) P) s
 reads_take C P who m w r c s ne = record { request = refl; weight = λ u. rw (ne_eqb r s ne) refl; estimate = rw (ne_eqb r s ne) refl; last = omega arith }
 
-pub reads_report : (C : Config) (P : History) (who m w r used s : ℕ) → r ≢ s → Reads C P (after who m (Report w r used) P) s
+pub reads_report : (C : Config) (P : History) (who m w r used s : ℕ) → r ≢ s → Reads C P (one_more who m (Report w r used) P) s
 reads_report C P who m w r used s ne = record { request = refl; weight = λ u. refl; estimate = refl; last = rw (ne_eqb r s ne) (omega arith) }
 
-pub reads_done : (C : Config) (P : History) (who m w r cost s : ℕ) → Reads C P (after who m (Done w r cost) P) s
+pub reads_done : (C : Config) (P : History) (who m w r cost s : ℕ) → Reads C P (one_more who m (Done w r cost) P) s
 reads_done C P who m w r cost s = record { request = refl; weight = λ u. refl; estimate = refl; last = omega arith }
 
-pub reads_close : (C : Config) (P : History) (who m s : ℕ) → Reads C P (after who m Close P) s
+pub reads_close : (C : Config) (P : History) (who m s : ℕ) → Reads C P (one_more who m Close P) s
 reads_close C P who m s = record { request = refl; weight = λ u. refl; estimate = refl; last = omega arith }

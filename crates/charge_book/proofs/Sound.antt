@@ -2,12 +2,14 @@
 use Rattle.std.proofs.Common.{ℕ, ◌+◌, ◌-◌, ◌*◌, ◌^◌, ◌<◌, ◌≤◌, ◌≡◌, ◌≢◌, List, length, get_or, slice_set, slice_index, slice_index_or, sum_by, Option, Some, None, arith, refl, sym, ap, subst, ◌∙◌, if◌then◌else◌, nat_lt, inl, inr, length-set, get_or-set_same, get_or-set_other}
 use Rattle.std.proofs.lemmas.Bool.{cases_eq, cases_lt, lt-ltb, le-ltb, eq-eqb, ne_eqb}
 use Rattle.std.proofs.lemmas.Option.{none-some}
+use Rattle.std.proofs.lemmas.List.{get_or_past}
 use Rattle.std.proofs.lemmas.List.Elements.{All-set}
 use Rattle.std.proofs.lemmas.List.Sums.{sum_by-set}
+use Rattle.vt_fixed.specs.declared.limits.TheConstants.{GREATEST_COST}
 use Rattle.charge_book.specs.declared.row.RunRow.{RunRow}
 use Rattle.charge_book.specs.declared.refusal.BookRefusal.TheVariants.{CostRange, Falling}
 use Rattle.charge_book.specs.Rows.{row_charge}
-use Rattle.charge_book.specs.Ledger.{row_refusal, IsRow, IsRunRow, owed, spare, IsSound}
+use Rattle.charge_book.specs.Book.{BookView, row_on, MayUse, with_use, nets_recharged, row_refusal, IsRow, IsRunRow, owed, spare, IsSound}
 
 -- what is written of a worker and a tenant
 record Write (rows : List (Option RunRow)) (nets : List ℕ) (begins worker tenant : ℕ) (old new : Option RunRow) (net begun : ℕ) : Type 0 where
@@ -18,7 +20,7 @@ record Write (rows : List (Option RunRow)) (nets : List ℕ) (begins worker tena
   owed_others : (t : ℕ) → tenant ≢ t → owed t new ≡ owed t old
   spare_others : (t : ℕ) → tenant ≢ t → spare t new ≡ spare t old
   covers_own : owed tenant new + slice_index nets tenant ≤ net + owed tenant old
-  room_own : net + spare tenant new + begins * 1000000000 ≤ slice_index nets tenant + spare tenant old + begun * 1000000000
+  room_own : net + spare tenant new + begins * GREATEST_COST ≤ slice_index nets tenant + spare tenant old + begun * GREATEST_COST
   rises : begins ≤ begun
   few : begun ≤ 2 ^ 32
 
@@ -42,7 +44,7 @@ sound_write rows nets begins worker tenant old new net begun s w = record {
       | inr other ↦ rw (get_or-set_other nets tenant t net 0 (λ e. other (sym e))) (omega (arith, owes t, s.covers t b, w.owed_others t other))
     ]
 
-    room : (t : ℕ) → t < length nets → get_or (slice_set nets tenant net) t 0 + sum_by (spare t) (slice_set rows worker new) ≤ begun * 1000000000
+    room : (t : ℕ) → t < length nets → get_or (slice_set nets tenant net) t 0 + sum_by (spare t) (slice_set rows worker new) ≤ begun * GREATEST_COST
     room t b = elim (cases_eq tenant t) [
       | inl same ↦ rw (← same, get_or-set_same nets tenant net 0 w.tenant_in) (omega (arith, spares tenant, s.room tenant w.tenant_in, w.room_own))
       | inr other ↦ rw (get_or-set_other nets tenant t net 0 (λ e. other (sym e))) (omega (arith, spares t, s.room t b, w.spare_others t other, w.rises))
@@ -54,72 +56,117 @@ owed_own row t e = rw (eq-eqb row.tenant t e) refl
 owed_other : (row : RunRow) (t : ℕ) → row.tenant ≢ t → owed t (Some row) ≡ 0
 owed_other row t ne = rw (ne_eqb row.tenant t ne) refl
 
-spare_own : (row : RunRow) (t : ℕ) → row.tenant ≡ t → spare t (Some row) ≡ 1000000000 - row_charge row
+spare_own : (row : RunRow) (t : ℕ) → row.tenant ≡ t → spare t (Some row) ≡ GREATEST_COST - row_charge row
 spare_own row t e = rw (eq-eqb row.tenant t e) refl
 
 spare_other : (row : RunRow) (t : ℕ) → row.tenant ≢ t → spare t (Some row) ≡ 0
 spare_other row t ne = rw (ne_eqb row.tenant t ne) refl
 
-charge_low : (tenants : ℕ) (row : RunRow) → IsRunRow tenants row → row_charge row ≤ 1000000000
-charge_low tenants row r = omega (arith, r.estimate, r.last)
-
 -- a net charge covers each running request
-pub covered : (rows : List (Option RunRow)) (nets : List ℕ) (begins worker : ℕ) (row : RunRow) → IsSound rows nets begins → worker < length rows → row.tenant < length nets → slice_index_or rows worker None ≡ Some row → row_charge row ≤ slice_index nets row.tenant
+covered : (rows : List (Option RunRow)) (nets : List ℕ) (begins worker : ℕ) (row : RunRow) → IsSound rows nets begins → worker < length rows → row.tenant < length nets → slice_index_or rows worker None ≡ Some row → row_charge row ≤ slice_index nets row.tenant
 covered rows nets begins worker row s b t is =
     let written = subst (λ o. sum_by (owed row.tenant) (slice_set rows worker None) + owed row.tenant o ≡ sum_by (owed row.tenant) rows + 0) is (sum_by-set (owed row.tenant) rows worker None None b) in
     omega (arith, written, s.covers row.tenant t, owed_own row row.tenant refl)
 
 -- what is not refused is in range and does not fall
-pub accepted : (row : RunRow) (used : ℕ) → row_refusal (Some row) used ≡ None → (row.last ≤ used) × (used ≤ 1000000000)
-accepted row used none = elim (cases_lt 1000000000 used) [
-  | inl above ↦ absurd (none-some _ (sym none ∙ ap (λ b. if b then Some (CostRange used) else (if nat_lt used row.last then Some (Falling row.last used) else None)) (lt-ltb 1000000000 used above)))
+accepted : (row : RunRow) (used : ℕ) → row_refusal (Some row) used ≡ None → (row.last ≤ used) × (used ≤ GREATEST_COST)
+accepted row used none = elim (cases_lt GREATEST_COST used) [
+  | inl above ↦ absurd (none-some _ (sym none ∙ ap (λ b. if b then Some (CostRange used) else (if nat_lt used row.last then Some (Falling row.last used) else None)) (lt-ltb GREATEST_COST used above)))
   | inr low ↦ elim (cases_lt used row.last) [
-    | inl falls ↦ absurd (none-some _ (sym none ∙ (ap (λ b. if b then Some (CostRange used) else (if nat_lt used row.last then Some (Falling row.last used) else None)) (le-ltb 1000000000 used low) ∙ ap (λ b. if b then Some (Falling row.last used) else None) (lt-ltb used row.last falls))))
+    | inl falls ↦ absurd (none-some _ (sym none ∙ (ap (λ b. if b then Some (CostRange used) else (if nat_lt used row.last then Some (Falling row.last used) else None)) (le-ltb GREATEST_COST used low) ∙ ap (λ b. if b then Some (Falling row.last used) else None) (lt-ltb used row.last falls))))
     | inr rises ↦ (rises, low)
   ]
 ]
 
+abbrev pub book_of : List (Option RunRow) → List ℕ → ℕ → BookView
+book_of rows nets begins = record { rows = rows; nets = nets; begins = begins }
+
+-- the worker is free, and a request of this row may begin on it
+pub record MayStart (b : BookView) (worker : ℕ) (row : RunRow) : Type 0 where
+  pub worker_in : worker < length b.rows
+  pub free : row_on b worker ≡ None
+  pub row_in : IsRunRow (length b.nets) row
+  pub fresh : row.last ≡ 0
+  pub few : b.begins < 2 ^ 32
+
 -- a request begins on a free worker
-pub sound_begun : (rows : List (Option RunRow)) (nets : List ℕ) (begins worker : ℕ) (row : RunRow) → IsSound rows nets begins → worker < length rows → slice_index_or rows worker None ≡ None → IsRunRow (length nets) row → row.last ≡ 0 → begins < 2 ^ 32 → IsSound (slice_set rows worker (Some row)) (slice_set nets row.tenant (slice_index nets row.tenant + row.estimate)) (begins + 1)
-sound_begun rows nets begins worker row s b free r fresh few = sound_write rows nets begins worker row.tenant None (Some row) (slice_index nets row.tenant + row.estimate) (begins + 1) s (record {
-  worker_in = b;
-  tenant_in = r.tenant;
-  was = free;
-  new_in = r;
+pub sound_begun : (rows : List (Option RunRow)) (nets : List ℕ) (begins worker : ℕ) (row : RunRow) → IsSound rows nets begins → MayStart (book_of rows nets begins) worker row → IsSound (slice_set rows worker (Some row)) (slice_set nets row.tenant (slice_index nets row.tenant + row.estimate)) (begins + 1)
+sound_begun rows nets begins worker row s may = sound_write rows nets begins worker row.tenant None (Some row) (slice_index nets row.tenant + row.estimate) (begins + 1) s (record {
+  worker_in = may.worker_in;
+  tenant_in = may.row_in.tenant;
+  was = may.free;
+  new_in = may.row_in;
   owed_others = λ t ne. owed_other row t ne;
   spare_others = λ t ne. spare_other row t ne;
-  covers_own = omega (arith, owed_own row row.tenant refl, fresh);
-  room_own = omega (arith, spare_own row row.tenant refl, fresh, r.estimate);
+  covers_own = omega (arith, owed_own row row.tenant refl, may.fresh);
+  room_own = omega (arith, spare_own row row.tenant refl, may.fresh, may.row_in.estimate);
   rises = omega arith;
-  few = omega (arith, few);
+  few = omega (arith, may.few);
 })
 
--- what runs on a worker is charged otherwise, and its worker runs this then
-pub sound_recharged : (rows : List (Option RunRow)) (nets : List ℕ) (begins worker : ℕ) (row next : RunRow) → IsSound rows nets begins → worker < length rows → slice_index_or rows worker None ≡ Some row → IsRunRow (length nets) row → IsRunRow (length nets) next → next.tenant ≡ row.tenant → IsSound (slice_set rows worker (Some next)) (slice_set nets row.tenant (slice_index nets row.tenant - row_charge row + row_charge next)) begins
-sound_recharged rows nets begins worker row next s b is r n same = sound_write rows nets begins worker row.tenant (Some row) (Some next) (slice_index nets row.tenant - row_charge row + row_charge next) begins s (record {
-  worker_in = b;
-  tenant_in = r.tenant;
-  was = is;
-  new_in = n;
-  owed_others = λ t ne. owed_other next t (λ e. ne (sym same ∙ e)) ∙ sym (owed_other row t ne);
-  spare_others = λ t ne. spare_other next t (λ e. ne (sym same ∙ e)) ∙ sym (spare_other row t ne);
-  covers_own = omega (arith, owed_own next row.tenant same, owed_own row row.tenant refl, covered rows nets begins worker row s b r.tenant is);
-  room_own = omega (arith, spare_own next row.tenant same, spare_own row row.tenant refl, covered rows nets begins worker row s b r.tenant is, charge_low (length nets) row r, charge_low (length nets) next n);
+-- ---- a use or a cost
+
+-- what is known of the row that a use or a cost may be of
+record Held (rows : List (Option RunRow)) (nets : List ℕ) (worker : ℕ) (row : RunRow) (used : ℕ) : Type 0 where
+  worker_in : worker < length rows
+  row_in : IsRunRow (length nets) row
+  covers : row_charge row ≤ slice_index nets row.tenant
+  low : row_charge row ≤ GREATEST_COST
+  used_low : used ≤ GREATEST_COST
+
+held : (rows : List (Option RunRow)) (nets : List ℕ) (begins worker : ℕ) (row : RunRow) (used : ℕ) → IsSound rows nets begins → MayUse (book_of rows nets begins) worker row used → Held rows nets worker row used
+held rows nets begins worker row used s may = record {
+  worker_in = inside;
+  row_in = ok;
+  covers = covered rows nets begins worker row s inside ok.tenant may.row_is;
+  low = omega (arith, ok.estimate, ok.last);
+  used_low = (accepted row used (subst (λ o. row_refusal o used ≡ None) may.row_is may.accepted)).1;
+}
+  where
+    inside : worker < length rows
+    inside = elim (cases_lt worker (length rows)) [
+      | inl b ↦ b
+      | inr out ↦ absurd (none-some row (sym (get_or_past rows worker None out) ∙ may.row_is))
+    ]
+
+    ok : IsRunRow (length nets) row
+    ok = subst (IsRow (length nets)) may.row_is (s.in_range worker None inside)
+
+-- what runs on a worker is charged by a use
+pub sound_used : (rows : List (Option RunRow)) (nets : List ℕ) (begins worker : ℕ) (row : RunRow) (used : ℕ) → IsSound rows nets begins → MayUse (book_of rows nets begins) worker row used → IsSound (slice_set rows worker (Some (with_use row used))) (nets_recharged nets row (row_charge (with_use row used))) begins
+sound_used rows nets begins worker row used s may = sound_write rows nets begins worker row.tenant (Some row) (Some next) (slice_index nets row.tenant - row_charge row + row_charge next) begins s (record {
+  worker_in = h.worker_in;
+  tenant_in = h.row_in.tenant;
+  was = may.row_is;
+  new_in = record { tenant = h.row_in.tenant; weight_positive = h.row_in.weight_positive; weight_in_range = h.row_in.weight_in_range; estimate = h.row_in.estimate; last = h.used_low };
+  owed_others = λ t ne. owed_other next t ne ∙ sym (owed_other row t ne);
+  spare_others = λ t ne. spare_other next t ne ∙ sym (spare_other row t ne);
+  covers_own = omega (arith, owed_own next row.tenant refl, owed_own row row.tenant refl, h.covers);
+  room_own = omega (arith, spare_own next row.tenant refl, spare_own row row.tenant refl, h.covers, h.low, h.row_in.estimate, h.used_low);
   rises = omega arith;
   few = s.few;
 })
+  where
+    h : Held rows nets worker row used
+    h = held rows nets begins worker row used s may
+
+    next : RunRow
+    next = with_use row used
 
 -- what runs on a worker is done
-pub sound_finished : (rows : List (Option RunRow)) (nets : List ℕ) (begins worker cost : ℕ) (row : RunRow) → IsSound rows nets begins → worker < length rows → slice_index_or rows worker None ≡ Some row → IsRunRow (length nets) row → cost ≤ 1000000000 → IsSound (slice_set rows worker None) (slice_set nets row.tenant (slice_index nets row.tenant - row_charge row + cost)) begins
-sound_finished rows nets begins worker cost row s b is r low = sound_write rows nets begins worker row.tenant (Some row) None (slice_index nets row.tenant - row_charge row + cost) begins s (record {
-  worker_in = b;
-  tenant_in = r.tenant;
-  was = is;
+pub sound_finished : (rows : List (Option RunRow)) (nets : List ℕ) (begins worker : ℕ) (row : RunRow) (cost : ℕ) → IsSound rows nets begins → MayUse (book_of rows nets begins) worker row cost → IsSound (slice_set rows worker None) (nets_recharged nets row cost) begins
+sound_finished rows nets begins worker row cost s may = sound_write rows nets begins worker row.tenant (Some row) None (slice_index nets row.tenant - row_charge row + cost) begins s (record {
+  worker_in = h.worker_in;
+  tenant_in = h.row_in.tenant;
+  was = may.row_is;
   new_in = tt;
   owed_others = λ t ne. sym (owed_other row t ne);
   spare_others = λ t ne. sym (spare_other row t ne);
-  covers_own = omega (arith, owed_own row row.tenant refl, covered rows nets begins worker row s b r.tenant is);
-  room_own = omega (arith, spare_own row row.tenant refl, covered rows nets begins worker row s b r.tenant is, charge_low (length nets) row r, low);
+  covers_own = omega (arith, owed_own row row.tenant refl, h.covers);
+  room_own = omega (arith, spare_own row row.tenant refl, h.covers, h.low, h.used_low);
   rises = omega arith;
   few = s.few;
 })
+  where
+    h : Held rows nets worker row cost
+    h = held rows nets begins worker row cost s may

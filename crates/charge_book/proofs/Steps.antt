@@ -11,22 +11,22 @@ use Rattle.fq_model.specs.Limits.{InLimits}
 use Rattle.fq_model.specs.History.{History, Request, request_at, is_of_tenant, running_on, last_use, is_taken, Runs, submits, weight_at, pool_at, request_bound}
 use Rattle.fq_model.specs.Sums.{sum_below}
 use Rattle.fq_model.specs.Charge.{charge, is_taken_of, charged, virtual_charge, net_charge, net_charged, taken_weight}
-use Rattle.fq_laws.proofs.Counting.{sum_at}
-use Rattle.fq_model.specs.Rules.{IsLegal, FitsUse}
-use Rattle.fq_laws.proofs.Legality.{after, submitted_below, taken_submitted, take_waits, waits_untaken}
-use Rattle.fq_laws.proofs.Once.{running_runs, runs_running, nothing_running, runs_on_one, took}
-use Rattle.fq_laws.proofs.Bounds.{entries_low}
-use Rattle.fq_laws.proofs.Requests.{use_small, taken_known, of_own, of_other}
-use Rattle.fq_laws.proofs.Charges.{charge_report, charge_done, unused}
-use Rattle.fq_laws.proofs.Workers.{runs_worker_known}
-use Rattle.fq_laws.proofs.Requests.{request_known}
-use Rattle.fq_laws.proofs.VirtualCharges.{taken_of, taken_of_report, taken_of_done, virtual_charge_taken, virtual_charge_report, virtual_charge_done, net_charged_taken, net_charge_nil, net_charge_submit, net_charge_taken, net_charge_reported, net_charge_finished, net_charge_close}
+use Rattle.fq_laws.proofs.Sums.{sum_at}
+use Rattle.fq_model.specs.Rules.{IsLegal}
+use Rattle.fq_laws.specs.Words.{one_more, times}
+use Rattle.fq_laws.proofs.History.Requests.{submitted_below, taken_submitted, request_known}
+use Rattle.fq_laws.proofs.Rules.Takes.{take_waits}
+use Rattle.fq_laws.proofs.History.Asked.{waits_untaken, of_own, of_other}
+use Rattle.fq_laws.proofs.History.Workers.{running_runs, runs_running, nothing_running, runs_on_one, took, runs_worker_known}
+use Rattle.fq_laws.proofs.Rules.Limits.{entries_low}
+use Rattle.fq_laws.proofs.History.Numbers.{use_small}
+use Rattle.fq_laws.proofs.Charge.Requests.{charge_report, charge_done, unused}
+use Rattle.fq_laws.proofs.Charge.Tenants.{taken_of, taken_of_report, taken_of_done, virtual_charge_taken, virtual_charge_report, virtual_charge_done, net_charged_taken, net_charge_nil, net_charge_submit, net_charge_taken, net_charge_reported, net_charge_finished, net_charge_close}
 use Rattle.charge_book.specs.declared.row.RunRow.{RunRow}
-use Rattle.charge_book.specs.Rows.{row_charge, length_change}
-use Rattle.charge_book.specs.Ledger.{Ledger, row_on, row_refusal, use_refusal, row_of_run, begun, recharged, with_use, reported_at, reported, report_change_at, report_change, finished_at, finished, finish_change_at, finish_change}
-use Rattle.charge_book.specs.Histories.{run_row, row_of_worker, with_take, takes, BookIs}
-use Rattle.charge_book.specs.Laws.{Follows}
-use Rattle.charge_book.proofs.Sound.{accepted}
+use Rattle.fq_laws.specs.Changes.{length_change}
+use Rattle.charge_book.specs.Rows.{row_charge}
+use Rattle.charge_book.specs.Book.{BookView, row_on, row_of_run, begun, recharged, with_use, reported_at, reported, report_change_at, report_change, finished_at, finished, finish_change_at, finish_change}
+use Rattle.charge_book.specs.Histories.{run_row, row_of_worker, is_take, takes, BookIs, BookFollows}
 use Rattle.charge_book.proofs.Rows.{of_worker_same, of_worker_known, of_worker_none, charge_is, reads_submit, reads_take, reads_report, reads_done, reads_close}
 
 -- ---- what stays
@@ -44,11 +44,11 @@ book_nil C = record {
 known_below : (C : Config) (P : History) (i s : ℕ) → IsLegal C P → running_on P i ≡ Some s → s < submits P
 known_below C P i s l runs = submitted_below C P s l (taken_submitted C P s l (took P i s (running_runs C P i s l runs).taken))
 
-pub book_submit : (C : Config) (P : History) (b : Ledger) (who m r t k d x : ℕ) → IsLegal C (after who m (Submit r t k d x) P) → BookIs C P b → BookIs C (after who m (Submit r t k d x) P) b
+pub book_submit : (C : Config) (P : History) (b : BookView) (who m r t k d x : ℕ) → IsLegal C (one_more who m (Submit r t k d x) P) → BookIs C P b → BookIs C (one_more who m (Submit r t k d x) P) b
 book_submit C P b who m r t k d x l is = record {
   workers = is.workers;
   tenants = is.tenants;
-  rows = λ i b2. is.rows i b2 ∙ sym (of_worker_same C P (after who m (Submit r t k d x) P) i refl (λ s runs. reads_submit C P who m r t k d x s (new s (known_below C P i s l.0 runs))));
+  rows = λ i b2. is.rows i b2 ∙ sym (of_worker_same C P (one_more who m (Submit r t k d x) P) i refl (λ s runs. reads_submit C P who m r t k d x s (new s (known_below C P i s l.0 runs))));
   nets = λ u b2. is.nets u b2 ∙ sym (net_charge_submit C P who m u r t k d x l.0 l.3.numbered);
   begins = is.begins;
 }
@@ -56,11 +56,11 @@ book_submit C P b who m r t k d x l is = record {
     new : (s : ℕ) → s < submits P → r ≢ s
     new s below same = absurd (omega (arith, l.3.numbered, below, same))
 
-pub book_close : (C : Config) (P : History) (b : Ledger) (who m : ℕ) → BookIs C P b → BookIs C (after who m Close P) b
+pub book_close : (C : Config) (P : History) (b : BookView) (who m : ℕ) → BookIs C P b → BookIs C (one_more who m Close P) b
 book_close C P b who m is = record {
   workers = is.workers;
   tenants = is.tenants;
-  rows = λ i b2. is.rows i b2 ∙ sym (of_worker_same C P (after who m Close P) i refl (λ s runs. reads_close C P who m s));
+  rows = λ i b2. is.rows i b2 ∙ sym (of_worker_same C P (one_more who m Close P) i refl (λ s runs. reads_close C P who m s));
   nets = λ u b2. is.nets u b2 ∙ sym (net_charge_close P who m u);
   begins = is.begins;
 }
@@ -77,7 +77,7 @@ pub record Written (C : Config) (P Q : History) (w t : ℕ) (row : Option RunRow
   pub nets_stay : (u : ℕ) → t ≢ u → net_charge Q u ≡ net_charge P u
   pub begins_is : begins ≡ takes Q
 
-written : (C : Config) (P Q : History) (b : Ledger) (w t : ℕ) (row : Option RunRow) (net begins : ℕ) → BookIs C P b → Written C P Q w t row net begins → BookIs C Q (record { rows = slice_set b.rows w row; nets = slice_set b.nets t net; begins = begins })
+written : (C : Config) (P Q : History) (b : BookView) (w t : ℕ) (row : Option RunRow) (net begins : ℕ) → BookIs C P b → Written C P Q w t row net begins → BookIs C Q (record { rows = slice_set b.rows w row; nets = slice_set b.nets t net; begins = begins })
 written C P Q b w t row net begins is x = record {
   workers = length-set b.rows w row ∙ is.workers;
   tenants = length-set b.nets t net ∙ is.tenants;
@@ -105,19 +105,16 @@ after_other w i o p other = rw (ne_eqb w i other) refl
 untaken_elsewhere : (C : Config) (P : History) (i r s : ℕ) → IsLegal C P → is_taken P r ≡ false → running_on P i ≡ Some s → r ≢ s
 untaken_elsewhere C P i r s l un on same = false≢true (sym un ∙ (ap (is_taken P) same ∙ took P i s (running_runs C P i s l on).taken))
 
-takes_step : (a : Act) (n k : ℕ) → n ≤ k → with_take a n ≤ suc k
-takes_step (Submit request tenant kind declared label) n k h = omega (arith, h)
-takes_step (Take worker request estimate) n k h = omega (arith, h)
-takes_step (Report worker request used) n k h = omega (arith, h)
-takes_step (Done worker request cost) n k h = omega (arith, h)
-takes_step Close n k h = omega (arith, h)
-
-takes_low : (P : History) → takes P ≤ length P
-takes_low [] = omega arith
-takes_low (e ∷ P) = takes_step e.act (takes P) (length P) (takes_low P)
+times_low : (test : Act → Bool) (P : History) → times test P ≤ length P
+times_low test [] = omega arith
+times_low test (e ∷ P) = go (test e.act) (times_low test P)
+  where
+    go : (b : Bool) → times test P ≤ length P → cond b (suc (times test P)) (times test P) ≤ suc (length P)
+    go true h = omega (arith, h)
+    go false h = omega (arith, h)
 
 takes_small : (C : Config) (P : History) → InLimits C → IsLegal C P → takes P < 2 ^ 32
-takes_small C P lim l = omega (arith, takes_low P, (entries_low C P lim l).1)
+takes_small C P lim l = omega (arith, times_low is_take P, (entries_low C P lim l).1)
 
 -- the workers of a configuration
 worker_below : (C : Config) (P : History) (w : ℕ) → w < pool_at C P → w < C.workers
@@ -125,16 +122,16 @@ unfolding pool_at
 worker_below C P w h = h
 
 -- a Take fits what is free
-pub may_begin : (C : Config) (P : History) (b : Ledger) (who m w r c : ℕ) (q : Request) → InLimits C → IsLegal C (after who m (Take w r c) P) → request_at P r ≡ Some q → BookIs C P b → (row_on b w ≡ None) × (b.begins < 2 ^ 32)
+pub may_begin : (C : Config) (P : History) (b : BookView) (who m w r c : ℕ) (q : Request) → InLimits C → IsLegal C (one_more who m (Take w r c) P) → request_at P r ≡ Some q → BookIs C P b → (row_on b w ≡ None) × (b.begins < 2 ^ 32)
 may_begin C P b who m w r c q lim l known is = (is.rows w (worker_below C P w l.3.worker_known) ∙ of_worker_none C P w (nothing_running C P w l.0 l.3.free), rw is.begins (takes_small C P lim l.0))
 
-pub book_take : (C : Config) (P : History) (b : Ledger) (who m w r c : ℕ) (q : Request) → InLimits C → IsLegal C (after who m (Take w r c) P) → request_at P r ≡ Some q → BookIs C P b → Follows C P (after who m (Take w r c) P) q.tenant (begun b w (row_of_run r q.tenant q.kind (weight_at C P q.tenant) c)) (pos (length_of c (weight_at C P q.tenant)))
+pub book_take : (C : Config) (P : History) (b : BookView) (who m w r c : ℕ) (q : Request) → InLimits C → IsLegal C (one_more who m (Take w r c) P) → request_at P r ≡ Some q → BookIs C P b → BookFollows C P (one_more who m (Take w r c) P) q.tenant (begun b w (row_of_run r q.tenant q.kind (weight_at C P q.tenant) c)) (pos (length_of c (weight_at C P q.tenant)))
 book_take C P b who m w r c q lim l known is = record {
-  book_is = written C P (after who m (Take w r c) P) b w q.tenant (Some (row_of_run r q.tenant q.kind (weight_at C P q.tenant) c)) (slice_index b.nets q.tenant + c) (b.begins + 1) is (record {
+  book_is = written C P (one_more who m (Take w r c) P) b w q.tenant (Some (row_of_run r q.tenant q.kind (weight_at C P q.tenant) c)) (slice_index b.nets q.tenant + c) (b.begins + 1) is (record {
     worker_known = worker_below C P w l.3.worker_known;
     tenant_known = tenant_in;
-    row_is = sym (of_worker_known C (after who m (Take w r c) P) w r q (ap (λ t. cond t (Some r) (running_on P w)) (eq-eqb w w refl)) known ∙ ap Some row);
-    others_stay = λ i other. of_worker_same C P (after who m (Take w r c) P) i (after_other w i (Some r) (running_on P i) other) (λ s on. reads_take C P who m w r c s (untaken_elsewhere C P i r s l.0 untaken on));
+    row_is = sym (of_worker_known C (one_more who m (Take w r c) P) w r q (ap (λ t. cond t (Some r) (running_on P w)) (eq-eqb w w refl)) known ∙ ap Some row);
+    others_stay = λ i other. of_worker_same C P (one_more who m (Take w r c) P) i (after_other w i (Some r) (running_on P i) other) (λ s on. reads_take C P who m w r c s (untaken_elsewhere C P i r s l.0 untaken on));
     net_is = rw (is.nets q.tenant tenant_in) (sym (net_charge_taken C P who m q.tenant w r c lim l.0 l.3 ∙ ap (λ t. net_charge P q.tenant + cond t c 0) own));
     nets_stay = λ u other. net_charge_taken C P who m u w r c lim l.0 l.3 ∙ (ap (λ t. net_charge P u + cond t c 0) (of_other P u r q known other) ∙ omega arith);
     begins_is = omega (arith, is.begins);
@@ -154,7 +151,7 @@ book_take C P b who m w r c q lim l known is = record {
     untaken : is_taken P r ≡ false
     untaken = waits_untaken P r (take_waits C P m w r c l.3)
 
-    row : run_row C (after who m (Take w r c) P) r q ≡ row_of_run r q.tenant q.kind (weight_at C P q.tenant) c
+    row : run_row C (one_more who m (Take w r c) P) r q ≡ row_of_run r q.tenant q.kind (weight_at C P q.tenant) c
     row = rw (eq-eqb r r refl, unused C P r l.0 untaken) refl
 
 -- ---- a Report and a Done
@@ -192,7 +189,7 @@ record UseStep (C : Config) (P Q : History) (w r : ℕ) (next : Option RunRow) (
   taken_stays : (t : ℕ) → is_taken_of Q t r ≡ is_taken_of P t r
   takes_stay : takes Q ≡ takes P
 
-book_use : (C : Config) (P Q : History) (b : Ledger) (w r n : ℕ) (next : Option RunRow) (q : Request) → InLimits C → IsLegal C P → request_at P r ≡ Some q → BookIs C P b → UseStep C P Q w r next n → Follows C P Q q.tenant (recharged b w (run_row C P r q) next n) (length_change (taken_weight C P q.tenant r) (row_charge (run_row C P r q)) n)
+book_use : (C : Config) (P Q : History) (b : BookView) (w r n : ℕ) (next : Option RunRow) (q : Request) → InLimits C → IsLegal C P → request_at P r ≡ Some q → BookIs C P b → UseStep C P Q w r next n → BookFollows C P Q q.tenant (recharged b w (run_row C P r q) next n) (length_change (taken_weight C P q.tenant r) (row_charge (run_row C P r q)) n)
 book_use C P Q b w r n next q lim l known is x = record {
   book_is = written C P Q b w q.tenant next (slice_index b.nets q.tenant - row_charge (run_row C P r q) + n) b.begins is (record {
     worker_known = runs_worker_known C P w r l x.runs;
@@ -248,9 +245,9 @@ book_use C P Q b w r n next q lim l known is x = record {
         let lengths : virtual_charge C Q q.tenant + length_of (row_charge (run_row C P r q)) (taken_weight C P q.tenant r) ≡ virtual_charge C P q.tenant + length_of n (taken_weight C P q.tenant r) = omega (arith, x.virtual q.tenant, before q.tenant true own, later q.tenant true own, ap (λ y. length_of y (taken_weight C P q.tenant r)) was) in
         whole _ _ _ _ lengths
 
-pub book_report : (C : Config) (P : History) (b : Ledger) (who m w r used : ℕ) (q : Request) → InLimits C → IsLegal C (after who m (Report w r used) P) → request_at P r ≡ Some q → BookIs C P b → Follows C P (after who m (Report w r used) P) q.tenant (reported b w used) (report_change b w used)
+pub book_report : (C : Config) (P : History) (b : BookView) (who m w r used : ℕ) (q : Request) → InLimits C → IsLegal C (one_more who m (Report w r used) P) → request_at P r ≡ Some q → BookIs C P b → BookFollows C P (one_more who m (Report w r used) P) q.tenant (reported b w used) (report_change b w used)
 book_report C P b who m w r used q lim l known is =
-    subst (λ o. Follows C P Q q.tenant (reported_at b w o used) (report_change_at o used)) (sym held)
+    subst (λ o. BookFollows C P Q q.tenant (reported_at b w o used) (report_change_at o used)) (sym held)
     (book_use C P Q b w r (row_charge (with_use row used)) (Some (with_use row used)) q lim l.0 known is (record {
       runs = l.3.0.runs;
       small = use_small C P w r used lim l.0 l.3.0;
@@ -265,7 +262,7 @@ book_report C P b who m w r used q lim l known is =
     }))
   where
     Q : History
-    Q = after who m (Report w r used) P
+    Q = one_more who m (Report w r used) P
 
     row : RunRow
     row = run_row C P r q
@@ -279,12 +276,12 @@ book_report C P b who m w r used q lim l known is =
     charge_then : max used (charge P r) ≡ row_charge (with_use (run_row C P r q) used)
     charge_then = omega (arith, charge_is C P w r q l.3.0.runs, l.3.0.rising)
 
-    later_row : run_row C (after who m (Report w r used) P) r q ≡ with_use (run_row C P r q) used
+    later_row : run_row C (one_more who m (Report w r used) P) r q ≡ with_use (run_row C P r q) used
     later_row = let e : max used (last_use P r) ≡ used = omega (arith, l.3.0.rising) in rw (eq-eqb r r refl, e) refl
 
-pub book_done : (C : Config) (P : History) (b : Ledger) (who m w r cost : ℕ) (q : Request) → InLimits C → IsLegal C (after who m (Done w r cost) P) → request_at P r ≡ Some q → BookIs C P b → Follows C P (after who m (Done w r cost) P) q.tenant (finished b w cost) (finish_change b w cost)
+pub book_done : (C : Config) (P : History) (b : BookView) (who m w r cost : ℕ) (q : Request) → InLimits C → IsLegal C (one_more who m (Done w r cost) P) → request_at P r ≡ Some q → BookIs C P b → BookFollows C P (one_more who m (Done w r cost) P) q.tenant (finished b w cost) (finish_change b w cost)
 book_done C P b who m w r cost q lim l known is =
-    subst (λ o. Follows C P Q q.tenant (finished_at b w o cost) (finish_change_at o cost)) (sym held)
+    subst (λ o. BookFollows C P Q q.tenant (finished_at b w o cost) (finish_change_at o cost)) (sym held)
     (book_use C P Q b w r cost None q lim l.0 known is (record {
       runs = l.3.runs;
       small = use_small C P w r cost lim l.0 l.3;
@@ -299,17 +296,7 @@ book_done C P b who m w r cost q lim l known is =
     }))
   where
     Q : History
-    Q = after who m (Done w r cost) P
+    Q = one_more who m (Done w r cost) P
 
     held : row_on b w ≡ Some (run_row C P r q)
     held = is.rows w (runs_worker_known C P w r l.0 l.3.runs) ∙ of_worker_known C P w r q (runs_running C P w r l.0 l.3.runs) known
-
--- what the book accepts fits
-pub accepted_fits : (C : Config) (P : History) (b : Ledger) (w r used : ℕ) → IsLegal C P → BookIs C P b → w < C.workers → use_refusal b w used ≡ None → running_on P w ≡ Some r → FitsUse P w r used
-accepted_fits C P b w r used l is w_in none on =
-    let runs = running_runs C P w r l on in
-    let known = taken_known C P r l (took P w r runs.taken) in
-    let held : row_on b w ≡ Some (run_row C P r known.0) = is.rows w w_in ∙ of_worker_known C P w r known.0 on known.1 in
-    let allowed : row_refusal (Some (run_row C P r known.0)) used ≡ None = subst (λ o. row_refusal o used ≡ None) held none in
-    let fits = accepted (run_row C P r known.0) used allowed in
-    record { runs = runs; rising = fits.0; in_range = fits.1 }

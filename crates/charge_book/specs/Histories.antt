@@ -1,22 +1,21 @@
 -- The book of a history.
-use Rattle.std.specs.Prelude.{ℕ, suc, ◌<◌, ◌≡◌, ◌≢◌, [], ◌∷◌, length, slice_index, Option, unwrap_or, option_map, option_and_then, ℤ, pos, ◌+ℤ◌}
+use Rattle.std.specs.Prelude.{ℕ, ◌<◌, ◌≡◌, ◌≢◌, Bool, true, false, length, slice_index, Option, unwrap_or, option_map, option_and_then, ℤ, pos, ◌+ℤ◌}
 use Rattle.fq_model.specs.declared.config.Config.{Config}
 use Rattle.fq_model.specs.declared.event.Act.{Act}
 use Rattle.fq_model.specs.declared.event.Act.TheVariants.{Take}
 use Rattle.fq_model.specs.History.{History, Request, request_at, running_on, last_use}
 use Rattle.fq_model.specs.Charge.{taken_estimate, taken_weight, virtual_charge, net_charge}
+use Rattle.fq_laws.specs.Words.{times}
 use Rattle.charge_book.specs.declared.row.RunRow.{RunRow}
-use Rattle.charge_book.specs.Ledger.{Ledger, row_on}
+use Rattle.charge_book.specs.Book.{BookView, row_on}
 
--- one more for a Take
-abbrev pub with_take : Act → ℕ → ℕ
-with_take (Take worker request estimate) older = suc older
-with_take _ older = older
+abbrev pub is_take : Act → Bool
+is_take (Take worker request estimate) = true
+is_take _ = false
 
 -- the number of Takes
 abbrev pub takes : History → ℕ
-takes [] = 0
-takes (e ∷ P) = with_take e.act (takes P)
+takes P = times is_take P
 
 -- what the history says of a running request
 abbrev pub run_row : Config → History → ℕ → Request → RunRow
@@ -37,7 +36,7 @@ abbrev pub row_of_worker : Config → History → ℕ → Option RunRow
 row_of_worker C P i = option_and_then (row_of_request C P) (running_on P i)
 
 -- the book has what runs on each worker, the net charge of each tenant, and the number of Takes
-pub record BookIs (C : Config) (P : History) (b : Ledger) : Type 0 where
+pub record BookIs (C : Config) (P : History) (b : BookView) : Type 0 where
   pub workers : length b.rows ≡ C.workers
   pub tenants : length b.nets ≡ length C.weights
   pub rows : (i : ℕ) → i < C.workers → row_on b i ≡ row_of_worker C P i
@@ -48,3 +47,8 @@ pub record BookIs (C : Config) (P : History) (b : Ledger) : Type 0 where
 pub record IsChange (C : Config) (P Q : History) (t : ℕ) (change : ℤ) : Type 0 where
   pub own : pos (virtual_charge C P t) +ℤ change ≡ pos (virtual_charge C Q t)
   pub others : (u : ℕ) → u ≢ t → virtual_charge C Q u ≡ virtual_charge C P u
+
+-- the book is that of the longer history, and between the two the virtual charge of the tenant changes by so much
+pub record BookFollows (C : Config) (P Q : History) (tenant : ℕ) (b : BookView) (change : ℤ) : Type 0 where
+  pub book_is : BookIs C Q b
+  pub changes_by : IsChange C P Q tenant change

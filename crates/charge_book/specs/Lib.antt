@@ -1,4 +1,4 @@
 pub mod Rows
-pub mod Ledger
+pub mod Book
+pub mod Refusal
 pub mod Histories
-pub mod Laws

@@ -1,12 +1,14 @@
 //! The book of running requests and net charges.
 ghost use Rattle.std.specs.Prelude.{◌≡◌, ◌+◌, ◌-◌, ◌<◌, ◌≤◌, ◌^◌, pos, length, Some, None, IfOk, IfErr, OnErr, OnOk, replicate, slice_index, slice_set};
 ghost use Rattle.vt_fixed.specs.Rounding.{length_of};
-ghost use Rattle.charge_book.specs.Rows.{row_charge, length_change};
-ghost use Rattle.charge_book.specs.Ledger.{row_on, use_refusal, row_of_run, begun, reported, report_change, finished, finish_change};
+ghost use Rattle.fq_laws.specs.Changes.{length_change};
+ghost use Rattle.charge_book.specs.Rows.{row_charge};
+ghost use Rattle.charge_book.specs.Book.{row_on, use_refusal, IsRunRow, MayUse, SameSizes, nets_recharged, row_of_run, begun, reported, report_change, finished, finish_change};
 
 use crate::refusal::{BookRefusal, NoMemory};
 use crate::row::RunRow;
 use fq_model::config::Checked;
+use fq_model::limits::{GREATEST_COST, GREATEST_WEIGHT};
 use std::alloc::Global;
 use std::marker::Model;
 
@@ -21,9 +23,9 @@ pub struct Book {
 }
 
 impl Model for Book {
-    ghost use Rattle.charge_book.specs.Ledger.{Ledger, IsSound};
+    ghost use Rattle.charge_book.specs.Book.{BookView, IsSound};
 
-    ghost Value = { Ledger };
+    ghost Value = { BookView };
 
     ghost view = { λ b. record { rows = b.rows.items; nets = b.nets.items; begins = b.begins } };
 
@@ -61,13 +63,12 @@ impl Book {
         requires free { row_on self.old worker ≡ None }
         requires tenant { tenant < length self.old.nets }
         requires weight_positive { 1 ≤ weight }
-        requires weight_in_range { weight ≤ 1000 }
-        requires estimate { estimate ≤ 1000000000 }
+        requires weight_in_range { weight ≤ GREATEST_WEIGHT }
+        requires estimate { estimate ≤ GREATEST_COST }
         requires few { self.old.begins < 2 ^ 32 }
         ensures change { result ≡ pos (length_of estimate weight) }
         ensures book { self.new ≡ begun self.old worker (row_of_run request tenant kind weight estimate) }
-        ensures workers { length self.new.rows ≡ length self.old.rows }
-        ensures tenants { length self.new.nets ≡ length self.old.nets }
+        ensures sizes { SameSizes self.old self.new }
     {
         self.rows[worker as usize] = Some(RunRow {
             request,
@@ -82,6 +83,50 @@ impl Book {
         vt_fixed::length(estimate, weight)
     }
 
+    /// The row of what runs on the worker, where a use or a cost of so many microseconds is not refused.
+    pub fn row_for(&self, worker: u32, used: u64) -> Result<RunRow, BookRefusal>
+        requires { worker < length self.now.rows }
+        ensures row { IfOk result (λ row. MayUse self.now worker row used) }
+        ensures refused { IfErr result (λ refusal. use_refusal self.now worker used ≡ Some refusal) }
+    {
+        let row = self.running(worker).ok_or(BookRefusal::NotRunning)?;
+        if used > GREATEST_COST {
+            return Err(BookRefusal::CostRange(used));
+        }
+        if used < row.last {
+            return Err(BookRefusal::Falling {
+                last: row.last,
+                given: used,
+            });
+        }
+        Ok(row)
+    }
+
+    /// Writes down a use, in microseconds, of the request that runs on the worker, whose row `row_for` gave
+    /// for it. Gives the change of its tenant's virtual charge, in steps.
+    pub fn record_use(&mut self, worker: u32, row: RunRow, used: u64) -> i128
+        requires { MayUse self.old worker row used }
+        ensures change { result ≡ report_change self.old worker used }
+        ensures book { self.new ≡ reported self.old worker used }
+        ensures sizes { SameSizes self.old self.new }
+    {
+        let next = RunRow { last: used, ..row };
+        self.rows[worker as usize] = Some(next);
+        recharge(&mut self.nets, row, next.charge())
+    }
+
+    /// Writes down that the request that runs on the worker, whose row `row_for` gave for this cost, is done
+    /// at it. The worker runs nothing then. Gives the change of its tenant's virtual charge, in steps.
+    pub fn record_cost(&mut self, worker: u32, row: RunRow, cost: u64) -> i128
+        requires { MayUse self.old worker row cost }
+        ensures change { result ≡ finish_change self.old worker cost }
+        ensures book { self.new ≡ finished self.old worker cost }
+        ensures sizes { SameSizes self.old self.new }
+    {
+        self.rows[worker as usize] = None;
+        recharge(&mut self.nets, row, cost)
+    }
+
     /// A use of the request that runs on the worker, in microseconds. Gives the change of its tenant's
     /// virtual charge. A refusal changes nothing.
     pub fn report(&mut self, worker: u32, used: u64) -> Result<i128, BookRefusal>
@@ -91,13 +136,10 @@ impl Book {
         ensures change { IfOk result (λ change. change ≡ report_change self.old worker used) }
         ensures book { OnOk result (self.new ≡ reported self.old worker used) }
         ensures unchanged { OnErr result (self.new ≡ self.old) }
-        ensures workers { length self.new.rows ≡ length self.old.rows }
-        ensures tenants { length self.new.nets ≡ length self.old.nets }
+        ensures sizes { SameSizes self.old self.new }
     {
-        let row = self.charged_row(worker, used)?;
-        let next = RunRow { last: used, ..row };
-        self.rows[worker as usize] = Some(next);
-        Ok(recharge(&mut self.nets, row, next.charge()))
+        let row = self.row_for(worker, used)?;
+        Ok(self.record_use(worker, row, used))
     }
 
     /// The request that runs on the worker is done, at this measured cost in microseconds, and the
@@ -109,12 +151,10 @@ impl Book {
         ensures change { IfOk result (λ change. change ≡ finish_change self.old worker cost) }
         ensures book { OnOk result (self.new ≡ finished self.old worker cost) }
         ensures unchanged { OnErr result (self.new ≡ self.old) }
-        ensures workers { length self.new.rows ≡ length self.old.rows }
-        ensures tenants { length self.new.nets ≡ length self.old.nets }
+        ensures sizes { SameSizes self.old self.new }
     {
-        let row = self.charged_row(worker, cost)?;
-        self.rows[worker as usize] = None;
-        Ok(recharge(&mut self.nets, row, cost))
+        let row = self.row_for(worker, cost)?;
+        Ok(self.record_cost(worker, row, cost))
     }
 
     /// What runs on the worker.
@@ -132,40 +172,15 @@ impl Book {
     {
         self.nets[tenant as usize]
     }
-
-    // The row that a use or a cost is of, where it is not refused.
-    fn charged_row(&self, worker: u32, used: u64) -> Result<RunRow, BookRefusal>
-        requires { worker < length self.now.rows }
-        ensures row { IfOk result (λ row. row_on self.now worker ≡ Some row) }
-        ensures accepted { OnOk result (use_refusal self.now worker used ≡ None) }
-        ensures refused { IfErr result (λ refusal. use_refusal self.now worker used ≡ Some refusal) }
-    {
-        let Some(row) = self.running(worker) else {
-            return Err(BookRefusal::NotRunning);
-        };
-        if used > 1000000000 {
-            return Err(BookRefusal::CostRange(used));
-        }
-        if used < row.last {
-            return Err(BookRefusal::Falling {
-                last: row.last,
-                given: used,
-            });
-        }
-        Ok(row)
-    }
 }
 
 // Charges the request of this row so much, and gives the change of the length.
 fn recharge(nets: &mut Vec<u64>, row: RunRow, charge: u64) -> i128
-    requires tenant { row.tenant < length nets.old.items }
-    requires weight_positive { 1 ≤ row.weight }
-    requires weight_in_range { row.weight ≤ 1000 }
-    requires charge { charge ≤ 1000000000 }
-    requires old { row_charge row ≤ 1000000000 }
+    requires row { IsRunRow (length nets.old.items) row }
+    requires charge { charge ≤ GREATEST_COST }
     requires covered { row_charge row ≤ slice_index nets.old.items row.tenant }
     requires room { slice_index nets.old.items row.tenant - row_charge row + charge < 2 ^ 64 }
-    ensures nets { nets.new.items ≡ slice_set nets.old.items row.tenant (slice_index nets.old.items row.tenant - row_charge row + charge) }
+    ensures nets { nets.new.items ≡ nets_recharged nets.old.items row charge }
     ensures change { result ≡ length_change row.weight (row_charge row) charge }
 {
     let old = row.charge();

@@ -2,7 +2,6 @@
 #![tactic(auto)]
 
 pub mod book;
-pub mod laws;
 pub mod refusal;
 pub mod row;
 #[cfg(test)]

@@ -4,6 +4,7 @@ use crate::book::Book;
 use crate::refusal::BookRefusal;
 use crate::row::RunRow;
 use fq_model::config::{Checked, Config, Estimator, Policy, Weights};
+use fq_model::event::Cause;
 use std::alloc::Global;
 use std::marker::Send;
 use std::test::Fail;
@@ -61,5 +62,31 @@ fn charges_follow_uses(rt: HostRuntime) -> Result<(), Fail> {
     assert_eq!(rt; book.running(0), None);
     assert_eq!(rt; book.report(0, 4), Err(BookRefusal::NotRunning));
     send_away(book);
+    Ok(())
+}
+
+#[test]
+fn refusals_are_told(rt: HostRuntime) -> Result<(), Fail> {
+    let falling = BookRefusal::Falling {
+        last: 12,
+        given: 11,
+    };
+    let text = format!(in rt.alloc();
+        "{}; {}; {}",
+        BookRefusal::NotRunning,
+        BookRefusal::CostRange(1000000001),
+        falling
+    )?;
+    assert_eq!(rt;
+        text.as_str(),
+        "nothing runs on the worker; 1000000001 microseconds are above 1000000000; 11 microseconds are less than the 12 reported before"
+    );
+    assert_eq!(rt;
+        Cause::from(falling),
+        Cause::Falling {
+            last: 12,
+            given: 11
+        }
+    );
     Ok(())
 }

@@ -6,7 +6,7 @@ use Rattle.circular_buffer.specs.Buffer.{Buffer, buffer}
 use Rattle.vt_fixed.specs.Rounding.{decay_of}
 use Rattle.fq_model.specs.Charge.{Completed, completed_costs}
 use Rattle.fq_laws.specs.Changes.{greatest_cost_from}
-use Rattle.fq_laws.proofs.Estimates.{costs_own, costs_other_tenant, costs_other_kind, greatest_next}
+use Rattle.fq_laws.proofs.Charge.Estimates.{costs_own, costs_other_tenant, costs_other_kind, greatest_next}
 use Rattle.cost_estimate.specs.Tables.{HasGreatest, HasRecent}
 
 -- ---- places

@@ -1,17 +1,27 @@
 //! What every estimator does.
-ghost use Rattle.std.specs.Prelude.{◌≡◌, ◌<◌, ◌≤◌, ℕ, List, [], ◌∷◌, length, IfOk};
-ghost use Rattle.fq_model.specs.Charge.{Completed, completed_costs, estimate_from};
+ghost use Rattle.std.specs.Prelude.{◌≡◌, ◌<◌, ◌≤◌, ℕ, List, [], length, IfOk};
+ghost use Rattle.fq_model.specs.Charge.{Completed};
 ghost use Rattle.fq_model.specs.declared.config.Estimator.{Estimator};
+ghost use Rattle.cost_estimate.specs.Estimate.{IsEstimate, Learns};
 
 use fq_model::config::Checked;
-use std::alloc::{AllocError, Global};
+use fq_model::limits::GREATEST_COST;
+use std::alloc::{AllocError, AllocFailed, Global};
+use thiserror::Error;
 
 /// There was no memory for what is kept.
-#[derive(Clone, Copy, Debug, PartialEq, Eq)]
+#[derive(Clone, Copy, Debug, PartialEq, Eq, Error)]
+#[error("out of memory")]
 pub struct NoMemory;
 
 impl From<AllocError> for NoMemory {
-    fn from(_fault: AllocError) -> NoMemory {
+    fn from(_: AllocError) -> NoMemory {
+        NoMemory
+    }
+}
+
+impl<T: Drop> From<AllocFailed<T>> for NoMemory {
+    fn from(_: AllocFailed<T>) -> NoMemory {
         NoMemory
     }
 }
@@ -51,17 +61,17 @@ pub trait Estimate: Sized {
     fn now(&self, tenant: u32, kind: u32, declared: u64) -> u64
         requires tenant { tenant < tenants self.now }
         requires kind { kind < kinds self.now }
-        ensures { (cs : List Completed) → stands_for self.now cs → result ≡ estimate_from (rule self.now) (initial self.now) (completed_costs cs tenant kind) declared };
+        ensures { IsEstimate (stands_for self.now) (rule self.now) (initial self.now) tenant kind declared result };
 
     /// A request of this tenant and kind was completed, and cost so many microseconds: at most
     /// 1,000,000,000.
     fn learn(&mut self, tenant: u32, kind: u32, cost: u64)
         requires tenant { tenant < tenants self.old }
         requires kind { kind < kinds self.old }
-        requires cost { cost ≤ 1000000000 }
+        requires cost { cost ≤ GREATEST_COST }
         ensures rule { rule self.new ≡ rule self.old }
         ensures initial { initial self.new ≡ initial self.old }
         ensures tenants { tenants self.new ≡ tenants self.old }
         ensures kinds { kinds self.new ≡ kinds self.old }
-        ensures learned { (cs : List Completed) → stands_for self.old cs → stands_for self.new (record { tenant = tenant; kind = kind; cost = cost } ∷ cs) };
+        ensures learned { Learns (stands_for self.old) (stands_for self.new) tenant kind cost };
 }

@@ -1,5 +1,6 @@
 //! The pairs of a tenant and a kind, in a row.
 ghost use Rattle.std.specs.Prelude.{◌≡◌, ◌<◌, ◌≤◌, ◌+◌, ◌*◌, length};
+ghost use Rattle.fq_model.specs.declared.limits.TheConstants.{MOST_PAIRS};
 
 use fq_model::config::Checked;
 
@@ -8,7 +9,7 @@ use fq_model::config::Checked;
 pub struct Pairs {
     pub tenants: u32,
     pub kinds: u32,
-    ghost few: { tenants * kinds ≤ 65536 },
+    ghost few: { tenants * kinds ≤ MOST_PAIRS },
 }
 
 impl Pairs {
@@ -26,7 +27,7 @@ impl Pairs {
     /// How many pairs there are: at most 65,536.
     pub fn count(self) -> usize
         ensures value { result ≡ self.tenants * self.kinds }
-        ensures few { result ≤ 65536 }
+        ensures few { result ≤ MOST_PAIRS }
     {
         self.tenants as usize * self.kinds as usize
     }

@@ -1,5 +1,6 @@
 //! The greatest of the completed costs, each decayed once for each that came later.
 ghost use Rattle.std.specs.Prelude.{◌≡◌, ◌≤◌, ◌*◌, All, length};
+ghost use Rattle.vt_fixed.specs.declared.limits.TheConstants.{GREATEST_COST};
 ghost use Rattle.fq_model.specs.declared.config.Estimator.TheVariants.{Pessimistic};
 ghost use Rattle.cost_estimate.specs.Tables.{HasGreatest};
 
@@ -17,7 +18,7 @@ pub struct PessimisticCost {
     initial: u64,
     greatest: Vec<u64>,
     ghost sized: { length greatest.items ≡ pairs.tenants * pairs.kinds },
-    ghost bounded: { All (λ x. x ≤ 1000000000) greatest.items },
+    ghost bounded: { All (λ x. x ≤ GREATEST_COST) greatest.items },
 }
 
 impl Estimate for PessimisticCost {

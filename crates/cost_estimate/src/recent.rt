@@ -62,12 +62,7 @@ fn empty_rings(alloc: Global, count: usize) -> Result<Vec<HeapCircularBuffer<u64
 {
     let mut rings = Vec::new(alloc);
     for _ in 0..count {
-        let Ok(ring) = HeapCircularBuffer::with_capacity(alloc, 8) else {
-            return Err(NoMemory);
-        };
-        if rings.push(ring).is_err() {
-            return Err(NoMemory);
-        }
+        rings.push(HeapCircularBuffer::with_capacity(alloc, 8)?)?;
     }
     Ok(rings)
 }

@@ -6,6 +6,7 @@ use crate::estimate::Estimate;
 use crate::pessimistic::PessimisticCost;
 use crate::recent::RecentCost;
 use fq_model::config::{Checked, Config, Estimator, Policy, Weights};
+use fq_model::limits::GREATEST_COST;
 use std::alloc::Global;
 use std::marker::Send;
 use std::test::Fail;
@@ -32,7 +33,7 @@ fn two_by_two(alloc: Global, estimate: Estimator) -> Result<Checked, Fail>
 fn now_after<E: Estimate>(estimator: &mut E, cost: u64) -> u64
     requires tenant { 1 < E.tenants estimator.old }
     requires kind { 1 < E.kinds estimator.old }
-    requires cost { cost ≤ 1000000000 }
+    requires cost { cost ≤ GREATEST_COST }
     ensures tenants { E.tenants estimator.new ≡ E.tenants estimator.old }
     ensures kinds { E.kinds estimator.new ≡ E.kinds estimator.old }
 {

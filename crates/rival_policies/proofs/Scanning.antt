@@ -1,11 +1,19 @@
 -- One step of a scan over a table.
 use Rattle.std.proofs.Common.{ℕ, ◌+◌, ◌≡◌, ◌≢◌, inl, inr, sym, ◌∙◌, subst, arith, Option, Some, None}
 use Rattle.std.proofs.lemmas.Bool.{cases_eq}
-use Rattle.fq_model.specs.Keys.{HeadKeys}
-use Rattle.fq_laws.proofs.Choices.{IsOrder}
+use Rattle.fq_model.specs.Keys.{HeadKeys, Turn}
+use Rattle.fq_laws.proofs.Keys.Choices.{IsOrder, by_finish, by_eligible}
 use Rattle.rival_policies.specs.Tables.{Table, Has}
+use Rattle.rival_policies.specs.declared.pass.Pass.{Pass}
+use Rattle.rival_policies.specs.declared.pass.Pass.TheVariants.{Eligible, Fallback}
+use Rattle.rival_policies.specs.Passes.{BeforeIn}
 use Rattle.rival_policies.specs.Scan.{IsFirstBelow, TakesIn, ComesFirst}
 use Rattle.rival_policies.specs.declared.scan.Found.{Found}
+
+-- each pass has an order
+pub order_in : (pass : Pass) (at : Turn) → IsOrder (BeforeIn pass at)
+order_in Eligible at = by_finish
+order_in Fallback at = by_eligible at
 
 -- a tenant has one pair of keys
 pub same_keys : (table : Table) (t : ℕ) (k l : HeadKeys) → Has table t k → Has table t l → k ≡ l

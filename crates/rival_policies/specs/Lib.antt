@@ -1,3 +1,4 @@
 pub mod Tables
-pub mod Scan
 pub mod Orders
+pub mod Passes
+pub mod Scan

@@ -1,5 +1,5 @@
 -- The keys of the tenants' heads in a table, and what a choice over it reads.
-use Rattle.std.specs.Prelude.{ℕ, ◌≡◌, ◌≢◌, length, List, Option, Some, slice_get, ℤ}
+use Rattle.std.specs.Prelude.{ℕ, ◌≡◌, ◌≢◌, length, replicate, List, Option, Some, None, slice_get, slice_set, ℤ, pos}
 use Rattle.fq_model.specs.declared.config.Config.{Config}
 use Rattle.fq_model.specs.declared.config.Policy.{Policy}
 use Rattle.fq_model.specs.Keys.{HeadKeys, Turn, IsChoice}
@@ -40,8 +40,21 @@ turn_of s i v = record { policy = s.policy; workers = s.workers; worker = i; vir
 abbrev pub IsTableChoice : Setting → Table → ℕ → ℤ → ℕ → Type 0
 IsTableChoice s table i v t = (k : HeadKeys) × IsChoice (turn_of s i v) (Has table) t k
 
--- what a chooser is
-pub record Choosing : Type 0 where
+-- what contracts see of a chooser: what a choice reads beside the keys, the keys by tenant, and the greatest virtual time
+-- of a choice so far
+pub record ChooserView : Type 0 where
   pub setting : Setting
   pub table : Table
   pub latest : ℤ
+
+-- a chooser in which no tenant has keys
+abbrev pub opened : Config → ChooserView
+opened C = record { setting = setting_of C; table = replicate (length C.weights) None; latest = pos 0 }
+
+-- with these keys of a tenant
+abbrev pub with_keys : ChooserView → ℕ → Option HeadKeys → ChooserView
+with_keys x t keys = record { setting = x.setting; table = slice_set x.table t keys; latest = x.latest }
+
+-- after a choice at virtual time v
+abbrev pub asked_at : ChooserView → ℤ → ChooserView
+asked_at x v = record { setting = x.setting; table = x.table; latest = v }

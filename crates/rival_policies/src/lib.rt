@@ -2,6 +2,7 @@
 #![tactic(auto)]
 
 pub mod chooser;
+mod pass;
 pub mod plain;
 mod scan;
 #[cfg(test)]

@@ -2,7 +2,8 @@
 ghost use Rattle.std.specs.Prelude.{length};
 
 use crate::chooser::{Chooser, NoMemory};
-use crate::scan::{first_eligible, first_of_all};
+use crate::pass::Pass;
+use crate::scan::first_in;
 use crate::turn::Turn;
 use fq_model::config::{Checked, Policy};
 use std::alloc::Global;
@@ -20,21 +21,22 @@ pub struct PlainChooser {
 
 impl Model for PlainChooser {
     ghost use Rattle.std.specs.Prelude.{◌≤◌, length};
-    ghost use Rattle.rival_policies.specs.Tables.{Choosing, RequestsDiffer};
+    ghost use Rattle.fq_model.specs.declared.limits.TheConstants.{MOST_TENANTS};
+    ghost use Rattle.rival_policies.specs.Tables.{ChooserView, RequestsDiffer};
 
-    ghost Value = { Choosing };
+    ghost Value = { ChooserView };
 
-    ghost view = { λ c. record { setting = record { policy = c.policy; workers = c.workers; tenants = length c.table.items }; table = c.table.items; latest = c.latest } };
+    ghost view = { λ c. record {
+      setting = record { policy = c.policy; workers = c.workers; tenants = length c.table.items };
+      table = c.table.items;
+      latest = c.latest;
+    } };
 
-    ghost invariant = { λ c. (length c.table.items ≤ 4096) × RequestsDiffer c.table.items };
+    ghost invariant = { λ c. (length c.table.items ≤ MOST_TENANTS) × RequestsDiffer c.table.items };
 }
 
 impl Chooser for PlainChooser {
-    ghost setting = { λ c. c.setting };
-
-    ghost table = { λ c. c.table };
-
-    ghost latest = { λ c. c.latest };
+    ghost seen = { λ c. c };
 
     fn open(alloc: Global, config: &Checked) -> Result<Self, NoMemory> {
         let table = vec![in alloc; None; config.tenants() as usize]?;
@@ -58,9 +60,10 @@ impl Chooser for PlainChooser {
             worker,
             virtual_time: v,
         };
-        match first_eligible(turn, self.table.as_slice()) {
+        let table = self.table.as_slice();
+        match first_in(Pass::Eligible, turn, table) {
             Some(tenant) => Some(tenant),
-            None => first_of_all(turn, self.table.as_slice()),
+            None => first_in(Pass::Fallback, turn, table),
         }
     }
 }

@@ -1,10 +1,12 @@
 //! The first of the tenants in a table.
-ghost use Rattle.std.specs.Prelude.{◌≡◌, ◌<◌, ◌≤◌, ◌↔◌, length, IsTrue, IfSome, IfNone};
-ghost use Rattle.fq_model.specs.Keys.{HeadKeys, IsEligible, FinishBefore, EligibleBefore, Every, IsFirst, NoneIsEligible};
-ghost use Rattle.rival_policies.specs.Tables.{Has, NoneHas, RequestsDiffer};
+ghost use Rattle.std.specs.Prelude.{◌≤◌, ◌↔◌, length, IsTrue, IfSome, IfNone};
+ghost use Rattle.rival_policies.specs.Tables.{RequestsDiffer};
+ghost use Rattle.rival_policies.specs.Passes.{GoesIn, BeforeIn, IsFirstIn, NoneGoesIn};
 ghost use Rattle.rival_policies.specs.Scan.{TakesIn, ComesFirst};
 
-use crate::turn::{Turn, finishes_before};
+use crate::pass::Pass;
+use crate::turn::Turn;
+use fq_model::limits::MOST_TENANTS;
 use tag_rules::parts::Keys;
 
 /// A tenant that has a head.
@@ -14,12 +16,12 @@ struct Found {
     keys: Keys,
 }
 
-/// Of the tenants whose heads are eligible, the one whose head finishes first.
-pub fn first_eligible(turn: Turn, table: &[Option<Keys>]) -> Option<u32>
-    requires few { length table.now ≤ 4096 }
+/// Of the tenants whose heads go in the pass, the one whose head is first by it.
+pub fn first_in(pass: Pass, turn: Turn, table: &[Option<Keys>]) -> Option<u32>
+    requires few { length table.now ≤ MOST_TENANTS }
     requires differ { RequestsDiffer table.now }
-    ensures first { IfSome result (λ t. (k : HeadKeys) × IsFirst (IsEligible turn) FinishBefore (Has table.now) t k) }
-    ensures none { IfNone result (NoneIsEligible turn (Has table.now)) }
+    ensures first { IfSome result (IsFirstIn pass turn table.now) }
+    ensures none { IfNone result (NoneGoesIn pass turn table.now) }
 {
     let mut first: Option<Found> = None;
     for (tenant, slot) in table.iter().enumerate() {
@@ -28,76 +30,29 @@ pub fn first_eligible(turn: Turn, table: &[Option<Keys>]) -> Option<u32>
                 tenant: tenant as u32,
                 keys: *keys,
             };
-            first = with_eligible(turn, first, found);
+            first = with_next(pass, turn, first, found);
         }
     }
-    match first {
-        Some(found) => Some(found.tenant),
-        None => None,
-    }
+    first.map(|found| found.tenant)
 }
 
-/// Of the tenants with heads, the one whose head becomes eligible first.
-pub fn first_of_all(turn: Turn, table: &[Option<Keys>]) -> Option<u32>
-    requires few { length table.now ≤ 4096 }
-    requires differ { RequestsDiffer table.now }
-    ensures first { IfSome result (λ t. (k : HeadKeys) × IsFirst Every (EligibleBefore turn) (Has table.now) t k) }
-    ensures none { IfNone result (NoneHas table.now) }
+// The first of those that go in the pass, the next tenant with them.
+fn with_next(pass: Pass, turn: Turn, first: Option<Found>, next: Found) -> Option<Found>
+    ensures { TakesIn (GoesIn pass turn) (BeforeIn pass turn) first next result }
 {
-    let mut first: Option<Found> = None;
-    for (tenant, slot) in table.iter().enumerate() {
-        if let Some(keys) = slot {
-            let found = Found {
-                tenant: tenant as u32,
-                keys: *keys,
-            };
-            first = with_any(turn, first, found);
-        }
-    }
-    match first {
-        Some(found) => Some(found.tenant),
-        None => None,
-    }
-}
-
-// The first of the eligible ones, the next tenant with them.
-fn with_eligible(turn: Turn, first: Option<Found>, next: Found) -> Option<Found>
-    ensures { TakesIn (IsEligible turn) FinishBefore first next result }
-{
-    if finishes_first(&first, next.keys) && turn.is_eligible(next.keys) {
+    if comes_first(pass, turn, &first, next.keys) && pass.takes(turn, next.keys) {
         Some(next)
     } else {
         first
     }
 }
 
-// The first of all, the next tenant with them.
-fn with_any(turn: Turn, first: Option<Found>, next: Found) -> Option<Found>
-    ensures { TakesIn Every (EligibleBefore turn) first next result }
-{
-    if eligible_first(turn, &first, next.keys) {
-        Some(next)
-    } else {
-        first
-    }
-}
-
-// Whether the head of these keys finishes before the first, if there is one.
-fn finishes_first(first: &Option<Found>, keys: Keys) -> bool
-    ensures { IsTrue result ↔ ComesFirst FinishBefore first.now keys }
+// Whether the head of these keys is before the first by the pass, if there is one.
+fn comes_first(pass: Pass, turn: Turn, first: &Option<Found>, keys: Keys) -> bool
+    ensures { IsTrue result ↔ ComesFirst (BeforeIn pass turn) first.now keys }
 {
     match first {
-        Some(found) => finishes_before(keys, found.keys),
-        None => true,
-    }
-}
-
-// Whether the head of these keys becomes eligible before the first, if there is one.
-fn eligible_first(turn: Turn, first: &Option<Found>, keys: Keys) -> bool
-    ensures { IsTrue result ↔ ComesFirst (EligibleBefore turn) first.now keys }
-{
-    match first {
-        Some(found) => turn.eligible_before(keys, found.keys),
+        Some(found) => pass.is_before(turn, keys, found.keys),
         None => true,
     }
 }

@@ -5,6 +5,7 @@ ghost use Rattle.rival_policies.specs.Tables as spec;
 use crate::chooser::Chooser;
 use crate::plain::PlainChooser;
 use fq_model::config::{Checked, Config, Estimator, Policy, Weights};
+use fq_model::limits::MOST_WORKERS;
 use std::alloc::Global;
 use std::marker::Send;
 use std::test::Fail;
@@ -17,7 +18,7 @@ const UNIT: i128 = 1048576;
 // Two tenants of weight 1.
 fn two_tenants(alloc: Global, policy: Policy, workers: u32) -> Result<Checked, Fail>
     requires low { 1 ≤ workers }
-    requires high { workers ≤ 64 }
+    requires high { workers ≤ MOST_WORKERS }
     ensures policy { IfOk result (λ c. c.policy ≡ policy) }
     ensures workers { IfOk result (λ c. c.workers ≡ workers) }
     ensures tenants { IfOk result (λ c. length c.weights ≡ 2) }
@@ -44,10 +45,11 @@ fn with_heads<X: Chooser>(
     second: Keys,
 ) -> Result<X, Fail>
     requires low { 1 ≤ workers }
-    requires high { workers ≤ 64 }
+    requires high { workers ≤ MOST_WORKERS }
     requires differ { first.request ≢ second.request }
-    ensures setting { IfOk result (λ x. X.setting x ≡ record { policy = policy; workers = workers; tenants = 2 }) }
-    ensures latest { IfOk result (λ x. X.latest x ≡ pos 0) }
+    ensures setting { IfOk result (λ x. (X.seen x).setting
+        ≡ record { policy = policy; workers = workers; tenants = 2 }) }
+    ensures latest { IfOk result (λ x. (X.seen x).latest ≡ pos 0) }
 {
     let config = two_tenants(alloc, policy, workers)?;
     let mut chooser: X = Chooser::open(alloc, &config)?;
@@ -64,7 +66,7 @@ fn plain(
     second: Keys,
 ) -> Result<PlainChooser, Fail>
     requires low { 1 ≤ workers }
-    requires high { workers ≤ 64 }
+    requires high { workers ≤ MOST_WORKERS }
     requires differ { first.request ≢ second.request }
     ensures workers { IfOk result (λ c. c.setting.workers ≡ workers) }
     ensures tenants { IfOk result (λ c. c.setting.tenants ≡ 2) }

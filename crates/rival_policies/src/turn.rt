@@ -23,11 +23,21 @@ impl Model for Turn {
 
     ghost Value = { spec.Turn };
 
-    ghost view = { λ at. record { policy = at.policy; workers = at.workers; worker = at.worker; virtual_time = at.virtual_time } };
+    ghost view = { λ at. record {
+      policy = at.policy;
+      workers = at.workers;
+      worker = at.worker;
+      virtual_time = at.virtual_time;
+    } };
 
     ghost invariant = { λ at. at.worker < at.workers };
 
-    ghost inverse = { λ at. record { policy = at.policy; workers = at.workers; worker = at.worker; virtual_time = at.virtual_time } };
+    ghost inverse = { λ at. record {
+      policy = at.policy;
+      workers = at.workers;
+      worker = at.worker;
+      virtual_time = at.virtual_time;
+    } };
 }
 
 impl Turn {

@@ -1,2 +1,2 @@
-pub mod Accounting
+pub mod AccountSteps
 pub mod Ranges

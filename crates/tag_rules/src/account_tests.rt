@@ -1,5 +1,9 @@
 use crate::accounts::Accounts;
+use std::marker::Send;
 use std::test::Fail;
+
+// Only what may go to another thread can be passed here.
+fn send_away<T: Send + Drop>(_sent: T) {}
 
 #[test]
 fn tags_catch_up_with_virtual_time(rt: HostRuntime) -> Result<(), Fail> {
@@ -15,5 +19,6 @@ fn tags_catch_up_with_virtual_time(rt: HostRuntime) -> Result<(), Fail> {
     accounts.raise(0, 2000000);
     assert_eq!(rt; accounts.tag(0), 2951424);
     assert_eq!(rt; accounts.tag(1), 0);
+    send_away(accounts);
     Ok(())
 }

@@ -1,13 +1,24 @@
 //! Charges and tags.
 ghost use Rattle.std.specs.Prelude.{◌≡◌, ◌<◌, ℤ, pos, ◌+ℤ◌, ◌≤ℤ◌, length, IfOk};
-ghost use Rattle.tag_rules.specs.Accounts.{at_first, credit_of, base_of, raised, credited};
+ghost use Rattle.tag_rules.specs.Accounts.{at_first, charge_of, base_of, raised, charged};
 
+use fq_model::limits::{GREATEST_VIRTUAL_CHARGE, GREATEST_VIRTUAL_TIME};
 use std::alloc::{AllocError, Global};
+use std::error::Error;
+use std::fmt;
 use std::marker::Model;
 
 /// There was no memory for the accounts.
 #[derive(Clone, Copy, Debug, PartialEq, Eq)]
 pub struct NoMemory;
+
+impl fmt::Display for NoMemory {
+    fn fmt<W: fmt::Write>(&self, f: &mut fmt::Formatter<W>) -> fmt::Result {
+        write!(f, "no memory for the accounts")
+    }
+}
+
+impl Error for NoMemory {}
 
 impl From<AllocError> for NoMemory {
     fn from(_fault: AllocError) -> NoMemory {
@@ -21,18 +32,18 @@ impl From<AllocError> for NoMemory {
 /// the base rises where the tenant comes back behind virtual time. Contracts see both by number.
 #[derive(Drop)]
 pub struct Accounts {
-    credits: Vec<i128>,
+    charges: Vec<i128>,
     bases: Vec<i128>,
 }
 
 impl Model for Accounts {
-    ghost use Rattle.tag_rules.specs.Accounts.{Balances, IsSound};
+    ghost use Rattle.tag_rules.specs.Accounts.{AccountsView, IsSound};
 
-    ghost Value = { Balances };
+    ghost Value = { AccountsView };
 
-    ghost view = { λ a. record { credits = a.credits.items; bases = a.bases.items } };
+    ghost view = { λ a. record { charges = a.charges.items; bases = a.bases.items } };
 
-    ghost invariant = { λ a. IsSound (record { credits = a.credits.items; bases = a.bases.items }) };
+    ghost invariant = { λ a. IsSound (record { charges = a.charges.items; bases = a.bases.items }) };
 }
 
 impl Accounts {
@@ -40,49 +51,49 @@ impl Accounts {
     pub fn open(alloc: Global, tenants: u32) -> Result<Accounts, NoMemory>
         ensures { IfOk result (λ a. a ≡ at_first tenants) }
     {
-        let credits = vec![in alloc; 0; tenants as usize]?;
+        let charges = vec![in alloc; 0; tenants as usize]?;
         let bases = vec![in alloc; 0; tenants as usize]?;
-        Ok(Accounts { credits, bases })
+        Ok(Accounts { charges, bases })
     }
 
     /// Raises the tag of the tenant to this virtual time where it is less.
     pub fn raise(&mut self, tenant: u32, v: i128)
-        requires tenant { tenant < length self.old.credits }
+        requires tenant { tenant < length self.old.charges }
         requires low { pos 0 ≤ℤ v }
-        requires high { v ≤ℤ pos 100000000000000000000000 }
+        requires high { v ≤ℤ GREATEST_VIRTUAL_TIME }
         ensures { self.new ≡ raised self.old tenant v }
     {
         let tenant = tenant as usize;
-        self.bases[tenant] = self.bases[tenant].max(v - self.credits[tenant]);
+        self.bases[tenant] = self.bases[tenant].max(v - self.charges[tenant]);
     }
 
     /// Moves the virtual charge of the tenant by so much.
     pub fn charge(&mut self, tenant: u32, delta: i128)
-        requires tenant { tenant < length self.old.credits }
-        requires low { pos 0 ≤ℤ (credit_of self.old tenant +ℤ delta) }
-        requires high { (credit_of self.old tenant +ℤ delta) ≤ℤ pos 10000000000000000000000 }
-        ensures { self.new ≡ credited self.old tenant delta }
+        requires tenant { tenant < length self.old.charges }
+        requires low { pos 0 ≤ℤ (charge_of self.old tenant +ℤ delta) }
+        requires high { (charge_of self.old tenant +ℤ delta) ≤ℤ GREATEST_VIRTUAL_CHARGE }
+        ensures { self.new ≡ charged self.old tenant delta }
     {
-        self.credits[tenant as usize] += delta;
+        self.charges[tenant as usize] += delta;
     }
 
     /// The virtual charge of the tenant, in steps: the lengths of the charges of its taken requests.
     pub fn credit(&self, tenant: u32) -> i128
-        requires tenant { tenant < length self.now.credits }
-        ensures value { result ≡ credit_of self.now tenant }
+        requires tenant { tenant < length self.now.charges }
+        ensures value { result ≡ charge_of self.now tenant }
         ensures low { pos 0 ≤ℤ result }
-        ensures high { result ≤ℤ pos 10000000000000000000000 }
+        ensures high { result ≤ℤ GREATEST_VIRTUAL_CHARGE }
     {
-        self.credits[tenant as usize]
+        self.charges[tenant as usize]
     }
 
     /// The tag of the tenant, in steps: its virtual charge and its base.
     pub fn tag(&self, tenant: u32) -> i128
-        requires tenant { tenant < length self.now.credits }
-        ensures value { result ≡ credit_of self.now tenant +ℤ base_of self.now tenant }
+        requires tenant { tenant < length self.now.charges }
+        ensures value { result ≡ charge_of self.now tenant +ℤ base_of self.now tenant }
         ensures low { pos 0 ≤ℤ result }
-        ensures high { result ≤ℤ pos 110000000000000000000000 }
+        ensures high { result ≤ℤ (GREATEST_VIRTUAL_TIME +ℤ GREATEST_VIRTUAL_CHARGE) }
     {
-        self.credits[tenant as usize] + self.bases[tenant as usize]
+        self.charges[tenant as usize] + self.bases[tenant as usize]
     }
 }

@@ -1,10 +1,11 @@
 //! The keys of heads.
-ghost use Rattle.std.specs.Prelude.{◌≡◌, ◌≤◌, ◌<◌, ℤ, pos, ◌≤ℤ◌};
+ghost use Rattle.std.specs.Prelude.{◌≡◌, ◌≤◌, ◌<◌, pos, ◌-ℤ◌, ◌≤ℤ◌};
 ghost use Rattle.vt_fixed.specs.Rounding.{length_of};
 ghost use Rattle.fq_model.specs.Keys as spec;
 
 use crate::parts::Keys;
 use fq_model::config::Policy;
+use fq_model::limits::{GREATEST_COST, GREATEST_START, GREATEST_WEIGHT};
 use vt_fixed::{length, part};
 
 impl Keys {
@@ -20,10 +21,10 @@ impl Keys {
 /// thought to cost so many microseconds.
 pub fn keys(start: i128, estimate: u64, weight: u32, request: u32) -> Keys
     requires start_low { pos 0 ≤ℤ start }
-    requires start_high { start ≤ℤ pos 200000000000000000000000 }
-    requires estimate_in_range { estimate ≤ 1000000000 }
+    requires start_high { start ≤ℤ GREATEST_START }
+    requires estimate_in_range { estimate ≤ GREATEST_COST }
     requires weight_positive { 1 ≤ weight }
-    requires weight_in_range { weight ≤ 1000 }
+    requires weight_in_range { weight ≤ GREATEST_WEIGHT }
     ensures { result ≡ record { start = start; len = pos (length_of estimate weight); request = request } }
 {
     Keys {
@@ -37,7 +38,7 @@ pub fn keys(start: i128, estimate: u64, weight: u32, request: u32) -> Keys
 /// 2DFQ earlier by the worker's part of its length (after Mace and others, 2016). It may be below 0.
 pub fn eligible_key(policy: Policy, keys: Keys, worker: u32, workers: u32) -> i128
     requires worker { worker < workers }
-    ensures { (v : ℤ) → result ≡ spec.eligible_key (record { policy = policy; workers = workers; worker = worker; virtual_time = v }) keys }
+    ensures { result ≡ keys.start -ℤ spec.stagger policy keys.len worker workers }
 {
     match policy {
         Policy::Wfq | Policy::Wf2q | Policy::Msf2q => keys.start,

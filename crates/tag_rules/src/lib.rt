@@ -1,7 +1,6 @@
 //! What tenants are charged, where they start, and what their heads are compared by.
 #![tactic(auto)]
 
-pub mod account_laws;
 #[cfg(test)]
 mod account_tests;
 pub mod accounts;

@@ -2,8 +2,8 @@
 use std::marker::Model;
 
 /// What the head of a tenant is compared by: the start of its tenant and the length that it is thought to have, both
-/// in steps of virtual time, and its number. A start is 0 to 2 * 10^23, a length 0 to 1,048,576,000,000,000: `keys`
-/// makes such ones.
+/// in steps of virtual time, and its number. A start is 0 to `GREATEST_START`, a length 0 to
+/// `GREATEST_LENGTH`: `keys` makes such ones.
 #[derive(Clone, Copy, Debug, PartialEq, Eq)]
 pub struct Keys {
     pub start: i128,

@@ -1,6 +1,9 @@
 -- Names of tenants and kinds, each a list of bytes, numbered from 0 in the order in which they were added.
-use Rattle.std.specs.Prelude.{ℕ, ◌≡◌, ◌≢◌, ◌≤◌, nat_lt, IsTrue, ◌||◌, if◌then◌else◌, List, length, map, position, All, AllPairs, Option, Some, None, bytes_eq}
-use Rattle.fq_model.specs.Limits.{IsWeight}
+use Rattle.std.specs.Prelude.{ℕ, ◌≡◌, ◌≢◌, ◌≤◌, nat_le, IsTrue, not, List, [], ◌∷◌, length, map, position, All, AllPairs, Option, Some, None, is_some, unwrap_or, Result, Ok, Err, bytes_eq}
+use Rattle.vt_fixed.specs.declared.limits.TheConstants.{GREATEST_WEIGHT}
+use Rattle.fq_model.specs.declared.limits.TheConstants.{MOST_TENANTS, MOST_KINDS}
+use Rattle.fq_model.specs.Rows.{first_true}
+use Rattle.fq_model.specs.Limits.{IsWeight, is_outside}
 use Rattle.fq_model.specs.Numbers.{is_name}
 use Rattle.tenant_table.specs.declared.fault.NameFault.{NameFault}
 use Rattle.tenant_table.specs.declared.fault.NameFault.TheVariants.{Word, Weight, Twice, TooMany, NoMemory}
@@ -25,29 +28,32 @@ pub record AreNames (limit : ℕ) (names : List (List ℕ)) : Type 0 where
 
 -- at most 4,096 names, and each weight from 1 to 1,000
 pub record AreTenants (tenants : List (List ℕ × ℕ)) : Type 0 where
-  pub names : AreNames 4096 (names_of tenants)
+  pub names : AreNames MOST_TENANTS (names_of tenants)
   pub weights : All IsWeight (weights_of tenants)
 
--- where a name stands already, that; or else whether there is no room for one more
-abbrev pub twice_or_too_many : Option ℕ → ℕ → ℕ → Option NameFault
-twice_or_too_many (Some t) limit count = Some (Twice t)
-twice_or_too_many None limit count = if nat_lt count limit then None else Some (TooMany limit)
-
--- why a kind of this name is not added, if it is not
+-- why a kind of this name is not added, if it is not (the number is read only below the row that asks for it)
 abbrev pub kind_refusal : List (List ℕ) → List ℕ → Option NameFault
-kind_refusal kinds name =
-    if is_name name then twice_or_too_many (number_among kinds name) 64 (length kinds)
-    else Some Word
+kind_refusal kinds name = first_true
+    ((not (is_name name), Word)
+    ∷ (is_some (number_among kinds name), Twice (unwrap_or (number_among kinds name) 0))
+    ∷ (nat_le MOST_KINDS (length kinds), TooMany MOST_KINDS)
+    ∷ [])
 
 -- why a tenant of this name and weight is not added, if it is not
 abbrev pub tenant_refusal : List (List ℕ × ℕ) → List ℕ → ℕ → Option NameFault
-tenant_refusal tenants name weight =
-    if is_name name then
-    (if nat_lt weight 1 || nat_lt 1000 weight then Some (Weight weight)
-    else twice_or_too_many (number_among (names_of tenants) name) 4096 (length tenants))
-    else Some Word
+tenant_refusal tenants name weight = first_true
+    ((not (is_name name), Word)
+    ∷ (is_outside 1 GREATEST_WEIGHT weight, Weight weight)
+    ∷ (is_some (number_among (names_of tenants) name), Twice (unwrap_or (number_among (names_of tenants) name) 0))
+    ∷ (nat_le MOST_TENANTS (length tenants), TooMany MOST_TENANTS)
+    ∷ [])
 
 -- the fault is the reason; want of memory comes only where there is no other
 abbrev pub IsReason : NameFault → Option NameFault → Type 0
 IsReason NoMemory refusal = refusal ≡ None
 IsReason fault refusal = refusal ≡ Some fault
+
+-- what adding a name answers: its number, where nothing speaks against it, and else the reason
+abbrev pub IsAnswer : Result ℕ NameFault → ℕ → Option NameFault → Type 0
+IsAnswer (Ok n) number refusal = (n ≡ number) × (refusal ≡ None)
+IsAnswer (Err fault) number refusal = IsReason fault refusal

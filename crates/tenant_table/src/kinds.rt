@@ -1,16 +1,14 @@
 //! The kinds' names.
-ghost use Rattle.std.specs.Prelude.{◌≡◌, ◌<◌, ◌==◌, ◌++◌, [], ◌∷◌, length, Some, None, IfOk, IfErr, OnOk, OnErr, IfSome, IfNone, Contains, slice_get};
-ghost use Rattle.tenant_table.specs.Names.{number_among, AreNames, kind_refusal, IsReason};
+ghost use Rattle.std.specs.Prelude.{◌≡◌, ◌<◌, ◌==◌, ◌++◌, [], ◌∷◌, length, Some, None, IfErr, OnOk, OnErr, IfSome, IfNone, Contains, slice_get};
+ghost use Rattle.tenant_table.specs.Names.{number_among, AreNames, kind_refusal, IsAnswer};
 ghost use Rattle.tenant_table.specs.Rows.{kinds_of};
 
 use crate::fault::NameFault;
 use crate::name::is_name;
+use fq_model::limits::MOST_KINDS;
 use indexmap::IndexSet;
 use std::alloc::Global;
 use std::marker::Model;
-
-/// How many kinds there may be.
-pub const MOST_KINDS: u32 = 64;
 
 /// Kinds, numbered in the order in which they were added. Contracts see the list of their names, as
 /// bytes.
@@ -22,6 +20,7 @@ pub struct Kinds {
 
 impl Model for Kinds {
     ghost use Rattle.std.specs.Prelude.{List, ℕ};
+    ghost use Rattle.fq_model.specs.declared.limits.TheConstants.{MOST_KINDS};
     ghost use Rattle.tenant_table.specs.Names.{AreNames};
     ghost use Rattle.tenant_table.specs.Rows.{kinds_of};
 
@@ -29,7 +28,7 @@ impl Model for Kinds {
 
     ghost view = { λ k. kinds_of k.names.keys };
 
-    ghost invariant = { λ k. AreNames 64 (kinds_of k.names.keys) };
+    ghost invariant = { λ k. AreNames MOST_KINDS (kinds_of k.names.keys) };
 }
 
 impl Kinds {
@@ -46,10 +45,8 @@ impl Kinds {
     /// Adds a kind and gives its number, which is how many there were. A refusal is the first reason,
     /// and leaves the kinds as they were. It is never `Weight`.
     pub fn add(&mut self, name: &str) -> Result<u32, NameFault>
-        ensures number { IfOk result (λ k. k ≡ length self.old) }
-        ensures added { IfOk result (λ k. self.new ≡ self.old ++ name.now ∷ []) }
-        ensures accepted { IfOk result (λ k. kind_refusal self.old name.now ≡ None) }
-        ensures refused { IfErr result (λ fault. IsReason fault (kind_refusal self.old name.now)) }
+        ensures answer { IsAnswer result (length self.old) (kind_refusal self.old name.now) }
+        ensures added { OnOk result (self.new ≡ self.old ++ name.now ∷ []) }
         ensures unchanged { OnErr result (self.new ≡ self.old) }
     {
         if !is_name(name.as_bytes()) {
@@ -71,18 +68,16 @@ impl Kinds {
         ensures number { result ≡ number_among self.now name.now }
         ensures found { IfSome result (λ k. slice_get self.now k ≡ Some name.now) }
         ensures absent { IfNone result (¬ Contains self.now name.now) }
-        ensures limits { AreNames 64 self.now }
+        ensures limits { AreNames MOST_KINDS self.now }
     {
-        let Some(found) = self.names.get_index_of(name) else {
-            return None;
-        };
+        let found = self.names.get_index_of(name)?;
         Some(found as u32)
     }
 
     /// How many kinds there are: at most 64.
     pub fn len(&self) -> u32
         ensures value { result ≡ length self.now }
-        ensures limits { AreNames 64 self.now }
+        ensures limits { AreNames MOST_KINDS self.now }
     {
         self.names.len() as u32
     }
@@ -98,12 +93,9 @@ impl Kinds {
     pub fn name(&self, k: u32) -> &str
         requires { k < length self.now }
         ensures value { slice_get self.now k ≡ Some result.now }
-        ensures limits { AreNames 64 self.now }
+        ensures limits { AreNames MOST_KINDS self.now }
     {
-        match self.names.get_index(k as usize) {
-            Some(name) => name.as_str(),
-            None => unreachable!(),
-        }
+        self.names.get_index(k as usize).unwrap().as_str()
     }
 }
 
@@ -114,11 +106,6 @@ fn put(alloc: Global, names: &mut IndexSet<String>, name: &str) -> Result<(), Na
     ensures err { IfErr result (λ fault. fault ≡ NameFault.NoMemory) }
     ensures unchanged { OnErr result (kinds_of names.new.keys ≡ kinds_of names.old.keys) }
 {
-    let Ok(owned) = name.to_string(alloc) else {
-        return Err(NameFault::NoMemory);
-    };
-    match names.insert(owned) {
-        Ok(_) => Ok(()),
-        Err(_) => Err(NameFault::NoMemory),
-    }
+    names.insert(name.to_string(alloc)?)?;
+    Ok(())
 }

@@ -20,10 +20,5 @@ fn all_name_bytes(text: &[u8]) -> bool
 fn is_name_byte(b: u8) -> bool
     ensures { result ≡ is_name_byte b }
 {
-    b >= b'0' && b <= b'9'
-        || b >= b'A' && b <= b'Z'
-        || b >= b'a' && b <= b'z'
-        || b == b'_'
-        || b == b'-'
-        || b == b'.'
+    b.is_ascii_alphanumeric() || b == b'_' || b == b'-' || b == b'.'
 }

@@ -1,16 +1,14 @@
 //! The tenants' names and weights.
-ghost use Rattle.std.specs.Prelude.{◌≡◌, ◌<◌, ◌==◌, ◌++◌, [], ◌∷◌, length, Some, None, IfOk, IfErr, OnOk, OnErr, IfSome, IfNone, Contains, slice_get, slice_index};
-ghost use Rattle.tenant_table.specs.Names.{names_of, weights_of, number_among, AreTenants, tenant_refusal, IsReason};
+ghost use Rattle.std.specs.Prelude.{◌≡◌, ◌<◌, ◌==◌, ◌++◌, [], ◌∷◌, length, Some, None, IfErr, OnOk, OnErr, IfSome, IfNone, Contains, slice_get, slice_index};
+ghost use Rattle.tenant_table.specs.Names.{names_of, weights_of, number_among, AreTenants, tenant_refusal, IsAnswer};
 ghost use Rattle.tenant_table.specs.Rows.{tenants_of};
 
 use crate::fault::NameFault;
 use crate::name::is_name;
+use fq_model::limits::{GREATEST_WEIGHT, MOST_TENANTS};
 use indexmap::IndexMap;
 use std::alloc::Global;
 use std::marker::Model;
-
-/// How many tenants there may be.
-pub const MOST_TENANTS: u32 = 4096;
 
 /// Tenants, numbered in the order in which they were added. Contracts see the list of their names, as
 /// bytes, with their weights.
@@ -46,16 +44,14 @@ impl Tenants {
     /// Adds a tenant and gives its number, which is how many there were. A refusal is the first reason,
     /// and leaves the tenants as they were.
     pub fn add(&mut self, name: &str, weight: u32) -> Result<u32, NameFault>
-        ensures number { IfOk result (λ t. t ≡ length self.old) }
-        ensures added { IfOk result (λ t. self.new ≡ self.old ++ (name.now, weight) ∷ []) }
-        ensures accepted { IfOk result (λ t. tenant_refusal self.old name.now weight ≡ None) }
-        ensures refused { IfErr result (λ fault. IsReason fault (tenant_refusal self.old name.now weight)) }
+        ensures answer { IsAnswer result (length self.old) (tenant_refusal self.old name.now weight) }
+        ensures added { OnOk result (self.new ≡ self.old ++ (name.now, weight) ∷ []) }
         ensures unchanged { OnErr result (self.new ≡ self.old) }
     {
         if !is_name(name.as_bytes()) {
             return Err(NameFault::Word);
         }
-        if weight < 1 || weight > 1000 {
+        if weight < 1 || weight > GREATEST_WEIGHT {
             return Err(NameFault::Weight(weight));
         }
         if let Some(t) = self.find(name) {
@@ -76,9 +72,7 @@ impl Tenants {
         ensures absent { IfNone result (¬ Contains (names_of self.now) name.now) }
         ensures limits { AreTenants self.now }
     {
-        let Some(found) = self.rows.get_index_of(name) else {
-            return None;
-        };
+        let found = self.rows.get_index_of(name)?;
         Some(found as u32)
     }
 
@@ -103,10 +97,8 @@ impl Tenants {
         ensures value { slice_get (names_of self.now) t ≡ Some result.now }
         ensures limits { AreTenants self.now }
     {
-        match self.rows.get_index(t as usize) {
-            Some((name, _)) => name.as_str(),
-            None => unreachable!(),
-        }
+        let (name, _) = self.rows.get_index(t as usize).unwrap();
+        name.as_str()
     }
 
     /// The weight of tenant `t`: 1 to 1,000.
@@ -115,10 +107,8 @@ impl Tenants {
         ensures value { result ≡ slice_index (weights_of self.now) t }
         ensures limits { AreTenants self.now }
     {
-        match self.rows.get_index(t as usize) {
-            Some((_, weight)) => *weight,
-            None => unreachable!(),
-        }
+        let (_, weight) = self.rows.get_index(t as usize).unwrap();
+        *weight
     }
 }
 
@@ -134,11 +124,6 @@ fn put(
     ensures err { IfErr result (λ fault. fault ≡ NameFault.NoMemory) }
     ensures unchanged { OnErr result (tenants_of rows.new.entries ≡ tenants_of rows.old.entries) }
 {
-    let Ok(owned) = name.to_string(alloc) else {
-        return Err(NameFault::NoMemory);
-    };
-    match rows.insert(owned, weight) {
-        Ok(_) => Ok(()),
-        Err(_) => Err(NameFault::NoMemory),
-    }
+    rows.insert(name.to_string(alloc)?, weight)?;
+    Ok(())
 }

@@ -1,6 +1,10 @@
 use crate::fault::NameFault;
 use crate::kinds::Kinds;
 use crate::tenants::Tenants;
+use std::marker::Send;
+
+// Only what may go to another thread can be passed here.
+fn send_away<T: Send + Drop>(_sent: T) {}
 
 #[test]
 fn tenants_are_numbered_in_order(rt: HostRuntime) {
@@ -15,6 +19,7 @@ fn tenants_are_numbered_in_order(rt: HostRuntime) {
     assert_eq!(rt; tenants.len(), 2);
     assert_eq!(rt; tenants.name(1) == "beta", true);
     assert_eq!(rt; tenants.weight(1), 1000);
+    send_away(tenants);
 }
 
 #[test]
@@ -52,4 +57,5 @@ fn there_are_at_most_64_kinds(rt: HostRuntime) {
     assert_eq!(rt; kinds.name(63) == "_", true);
     assert_eq!(rt; kinds.add("-"), Err(NameFault::TooMany(64)));
     assert_eq!(rt; kinds.add("_"), Err(NameFault::Twice(63)));
+    send_away(kinds);
 }

@@ -1,3 +1,4 @@
-pub mod Activities
-pub mod Clocking
-pub mod Idling
+pub mod Opening
+pub mod ClockSteps
+pub mod IdleSteps
+pub mod TimeSteps

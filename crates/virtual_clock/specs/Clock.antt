@@ -1,20 +1,21 @@
 -- What contracts see of a clock, and what its calls make of it.
 use Rattle.std.specs.Prelude.{ℕ, ◌+◌, ◌-◌, ◌*◌, ◌≤◌, ℤ, pos, ◌+ℤ◌, ◌≤ℤ◌}
 use Rattle.vt_fixed.specs.Rounding.{advance_of}
+use Rattle.vt_fixed.specs.declared.limits.TheConstants.{GREATEST_MOMENT, GREATEST_ACTIVE_WEIGHT, MOST_WORKERS}
 
 -- the number of workers, the moment that it has come to, the sum of the active weights, and virtual time
-pub record ClockFace : Type 0 where
+pub record ClockView : Type 0 where
   pub workers : ℕ
   pub moment : ℕ
   pub weights : ℕ
   pub time : ℤ
 
 -- a clock that was not moved yet
-abbrev pub at_start : ℕ → ClockFace
+abbrev pub at_start : ℕ → ClockView
 at_start workers = record { workers = workers; moment = 0; weights = 0; time = pos 0 }
 
 -- the clock at a moment: virtual time has moved on at the rate of the weights between
-abbrev pub moved_to : ClockFace → ℕ → ClockFace
+abbrev pub moved_to : ClockView → ℕ → ClockView
 moved_to c moment = record {
   workers = c.workers;
   moment = moment;
@@ -23,18 +24,18 @@ moved_to c moment = record {
 }
 
 -- with one more active weight
-abbrev pub entered : ClockFace → ℕ → ClockFace
+abbrev pub entered : ClockView → ℕ → ClockView
 entered c weight = record { workers = c.workers; moment = c.moment; weights = c.weights + weight; time = c.time }
 
 -- with one active weight less
-abbrev pub left : ClockFace → ℕ → ClockFace
+abbrev pub left : ClockView → ℕ → ClockView
 left c weight = record { workers = c.workers; moment = c.moment; weights = c.weights - weight; time = c.time }
 
 -- its numbers are in their limits; virtual time makes at most 64 units in a microsecond
-pub record IsInRange (c : ClockFace) : Type 0 where
+pub record IsInRange (c : ClockView) : Type 0 where
   pub workers_positive : 1 ≤ c.workers
-  pub workers_in_range : c.workers ≤ 64
-  pub moment_in_range : c.moment ≤ 1000000000000000
-  pub weights_in_range : c.weights ≤ 4096000
+  pub workers_in_range : c.workers ≤ MOST_WORKERS
+  pub moment_in_range : c.moment ≤ GREATEST_MOMENT
+  pub weights_in_range : c.weights ≤ GREATEST_ACTIVE_WEIGHT
   pub time_low : pos 0 ≤ℤ c.time
   pub time_high : c.time ≤ℤ pos (c.moment * 67108864)

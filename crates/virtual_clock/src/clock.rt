@@ -2,8 +2,12 @@
 ghost use Rattle.std.specs.Prelude.{◌≡◌, ◌+◌, ◌≤◌, pos, ◌≤ℤ◌};
 ghost use Rattle.virtual_clock.specs.Clock.{at_start, moved_to, entered, left};
 
+use fq_model::limits::{GREATEST_ACTIVE_WEIGHT, GREATEST_MOMENT, GREATEST_WEIGHT, MOST_WORKERS};
 use std::marker::Model;
 use vt_fixed::advance;
+
+/// The greatest virtual time that a clock shows, in steps: the greatest moment, by the most workers, at active weight 1.
+pub const GREATEST_SHOWN: i128 = 67108864000000000000000;
 
 /// Virtual time along a history, in steps. It rises at the rate of generalized processor sharing (Parekh and
 /// Gallager, 1993): the number of workers over the sum of the active tenants' weights, and it stands while no tenant
@@ -18,20 +22,25 @@ pub struct Clock128 {
 }
 
 impl Model for Clock128 {
-    ghost use Rattle.virtual_clock.specs.Clock.{ClockFace, IsInRange};
+    ghost use Rattle.virtual_clock.specs.Clock.{ClockView, IsInRange};
 
-    ghost Value = { ClockFace };
+    ghost Value = { ClockView };
 
     ghost view = { λ c. record { workers = c.workers; moment = c.moment; weights = c.weights; time = c.time } };
 
-    ghost invariant = { λ c. IsInRange (record { workers = c.workers; moment = c.moment; weights = c.weights; time = c.time }) };
+    ghost invariant = { λ c. IsInRange (record {
+      workers = c.workers;
+      moment = c.moment;
+      weights = c.weights;
+      time = c.time;
+    }) };
 }
 
 impl Clock128 {
     /// A clock at moment 0 and virtual time 0, with no active tenant.
     pub fn new(workers: u32) -> Clock128
         requires workers_positive { 1 ≤ workers }
-        requires workers_in_range { workers ≤ 64 }
+        requires workers_in_range { workers ≤ MOST_WORKERS }
         ensures { result ≡ at_start workers }
     {
         Clock128 {
@@ -45,7 +54,7 @@ impl Clock128 {
     /// Goes on to a moment, in microseconds, at the rate of the weights so far.
     pub fn to(&mut self, moment: u64)
         requires later { self.old.moment ≤ moment }
-        requires in_range { moment ≤ 1000000000000000 }
+        requires in_range { moment ≤ GREATEST_MOMENT }
         ensures { self.new ≡ moved_to self.old moment }
     {
         self.time += advance(moment - self.moment, self.workers, self.weights);
@@ -55,8 +64,8 @@ impl Clock128 {
     /// A tenant of this weight becomes active.
     pub fn enter(&mut self, weight: u32)
         requires weight_positive { 1 ≤ weight }
-        requires weight_in_range { weight ≤ 1000 }
-        requires room { self.old.weights + weight ≤ 4096000 }
+        requires weight_in_range { weight ≤ GREATEST_WEIGHT }
+        requires room { self.old.weights + weight ≤ GREATEST_ACTIVE_WEIGHT }
         ensures { self.new ≡ entered self.old weight }
     {
         self.weights += weight as u64;
@@ -65,7 +74,7 @@ impl Clock128 {
     /// A tenant of this weight is active no more.
     pub fn leave(&mut self, weight: u32)
         requires weight_positive { 1 ≤ weight }
-        requires weight_in_range { weight ≤ 1000 }
+        requires weight_in_range { weight ≤ GREATEST_WEIGHT }
         requires entered { weight ≤ self.old.weights }
         ensures { self.new ≡ left self.old weight }
     {
@@ -76,7 +85,7 @@ impl Clock128 {
     pub fn now(&self) -> i128
         ensures value { result ≡ self.now.time }
         ensures low { pos 0 ≤ℤ result }
-        ensures high { result ≤ℤ pos 67108864000000000000000 }
+        ensures high { result ≤ℤ GREATEST_SHOWN }
     {
         self.time
     }

@@ -3,6 +3,6 @@
 
 pub mod clock;
 pub mod idles;
-pub mod laws;
 #[cfg(test)]
 mod tests;
+pub mod times;

@@ -5,7 +5,7 @@ use Rattle.std.proofs.lemmas.List.Sums.{sum_by-set}
 use Rattle.waiting_lists.specs.declared.item.Item.{Item}
 use Rattle.waiting_lists.specs.declared.links.Slot.{Slot}
 use Rattle.waiting_lists.specs.declared.links.Ends.{Ends}
-use Rattle.waiting_lists.specs.Waiting.{Waiting}
+use Rattle.waiting_lists.specs.Lists.{ListsView}
 use Rattle.waiting_lists.specs.Linked.{lists_of, count_of, Keeps, KeepsCount}
 use Rattle.waiting_lists.proofs.Chains.{none_not_some}
 use Rattle.waiting_lists.proofs.Owners.{lists_length}
@@ -24,7 +24,7 @@ module _ {J : Type 0} where
       rw (back_is n after slots p, back_is m now ends q) k
 
   -- the whole of the lists
-  abbrev pub whole : List (Slot J) → List (Option Ends) → Waiting J
+  abbrev pub whole : List (Slot J) → List (Option Ends) → ListsView J
   whole slots ends = record { lists = lists_of slots ends; slots = length slots }
 
   pub whole_back : (n m : ℕ) (after slots : List (Slot J)) (now ends : List (Option Ends)) → length after ≡ n → length now ≡ m → whole (take n (after ++ drop (length after) slots)) (take m (now ++ drop (length now) ends)) ≡ whole after now
@@ -32,8 +32,8 @@ module _ {J : Type 0} where
 
   pub whole_same : (slots after : List (Slot J)) (ends now : List (Option Ends)) → lists_of after now ≡ lists_of slots ends → length after ≡ length slots → whole after now ≡ whole slots ends
   whole_same slots after ends now p q =
-      let first : List (List (Item J)) → Waiting J = λ v. record { lists = v; slots = length after } in
-      let second : ℕ → Waiting J = λ v. record { lists = lists_of slots ends; slots = v } in
+      let first : List (List (Item J)) → ListsView J = λ v. record { lists = v; slots = length after } in
+      let second : ℕ → ListsView J = λ v. record { lists = lists_of slots ends; slots = v } in
       ap first p ∙ ap second q
 
   count_set : (lists : List (List (Item J))) (t : ℕ) (list : List (Item J)) → t < length lists → count_of (set lists t list) + length (get_or lists t []) ≡ count_of lists + length list
@@ -72,5 +72,5 @@ module _ {J : Type 0} where
     }
 
   -- a tenant that callers know has ends
-  pub known_tenant : (slots : List (Slot J)) (ends : List (Option Ends)) (seen : Waiting J) (t : ℕ) → whole slots ends ≡ seen → t < length seen.lists → t < length ends
-  known_tenant slots ends seen t e h = omega (arith, lists_length slots ends, ap (λ (w : Waiting J). length w.lists) e, h)
+  pub known_tenant : (slots : List (Slot J)) (ends : List (Option Ends)) (seen : ListsView J) (t : ℕ) → whole slots ends ≡ seen → t < length seen.lists → t < length ends
+  known_tenant slots ends seen t e h = omega (arith, lists_length slots ends, ap (λ (w : ListsView J). length w.lists) e, h)

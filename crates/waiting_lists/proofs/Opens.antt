@@ -7,7 +7,7 @@ use Rattle.waiting_lists.specs.declared.item.Item.{Item}
 use Rattle.waiting_lists.specs.declared.links.Slot.{Slot}
 use Rattle.waiting_lists.specs.declared.links.Ends.{Ends}
 use Rattle.waiting_lists.specs.Linked.{StandsIn, slot_at, items_from, lists_of, count_of, AreLinked, AreListOf, KeepsCount}
-use Rattle.waiting_lists.specs.Waiting.{Waiting}
+use Rattle.waiting_lists.specs.Lists.{ListsView}
 use Rattle.waiting_lists.proofs.Owners.{updated, updated_same, updated_other}
 use Rattle.waiting_lists.proofs.Counts.{whole}
 
@@ -101,6 +101,6 @@ module _ {J : Type 0} where
 module _ {J : Type 0} where
   pub opened_whole : (places : List (Slot J)) (slots tenants : ℕ) (ends : List (Option Ends)) → ends ≡ replicate tenants None → length places ≡ slots → whole places ends ≡ record { lists = replicate tenants []; slots = slots }
   opened_whole places slots tenants ends none size =
-      let first : List (List (Item J)) → Waiting J = λ v. record { lists = v; slots = length places } in
-      let second : ℕ → Waiting J = λ v. record { lists = replicate tenants []; slots = v } in
+      let first : List (List (Item J)) → ListsView J = λ v. record { lists = v; slots = length places } in
+      let second : ℕ → ListsView J = λ v. record { lists = replicate tenants []; slots = v } in
       ap first (ap (λ (e : List (Option Ends)). lists_of places e) none ∙ lists_of_none places tenants) ∙ ap second size

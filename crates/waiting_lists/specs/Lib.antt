@@ -1,2 +1,2 @@
-pub mod Waiting
+pub mod Lists
 pub mod Linked

@@ -1,5 +1,5 @@
 -- How slots are linked to lists.
-use Rattle.std.specs.Prelude.{ℕ, zero, suc, ◌≡◌, ◌+◌, ◌<◌, ◌≤◌, List, [], ◌∷◌, ◌++◌, Option, Some, None, length, map, sum_by, slice_index_or, IfSome, IsSome, ◌⊎◌, ◌^◌}
+use Rattle.std.specs.Prelude.{ℕ, zero, suc, ◌≡◌, ◌+◌, ◌<◌, ◌≤◌, List, [], ◌∷◌, ◌++◌, Option, Some, None, length, map, sum_by, slice_index_or, IfSome, IsSome, MatchOption, slice_set, drop, ◌⊎◌, ◌^◌}
 use Rattle.waiting_lists.specs.declared.item.Item.{Item}
 use Rattle.waiting_lists.specs.declared.links.Slot.{Slot}
 use Rattle.waiting_lists.specs.declared.links.Ends.{Ends}
@@ -32,6 +32,21 @@ module _ {J : Type 0} where
   -- the list of each tenant
   abbrev pub lists_of : List (Slot J) → List (Option Ends) → List (List (Item J))
   lists_of slots ends = map (λ e. items_from slots (length slots) (first_of e)) ends
+
+  -- the item stands at the end of the tenant's list, and all other lists are as before
+  abbrev pub IsAppended : List (Slot J) → List (Option Ends) → ℕ → Item J → List (Slot J) → List (Option Ends) → Type 0
+  IsAppended slots ends tenant item slots2 ends2 =
+      lists_of slots2 ends2 ≡ slice_set (lists_of slots ends) tenant (slice_index_or (lists_of slots ends) tenant [] ++ item ∷ [])
+
+  -- the first item is off the tenant's list, and all other lists are as before
+  abbrev pub IsTakenOff : List (Slot J) → List (Option Ends) → ℕ → List (Slot J) → List (Option Ends) → Type 0
+  IsTakenOff slots ends tenant slots2 ends2 =
+      lists_of slots2 ends2 ≡ slice_set (lists_of slots ends) tenant (drop 1 (slice_index_or (lists_of slots ends) tenant []))
+
+  -- the last slot of a list with these ends, if there is one, leads to this slot
+  abbrev pub IsLinkedBehind : List (Slot J) → Option Ends → ℕ → List (Slot J) → Type 0
+  IsLinkedBehind slots ends slot slots2 =
+      MatchOption ends (slots2 ≡ slots) (λ e. slots2 ≡ slice_set slots e.last (record (slot_at slots e.last) { next = Some slot }))
 
   -- how many items stand in these lists
   abbrev pub count_of : List (List (Item J)) → ℕ

@@ -1,6 +1,6 @@
 //! Slots, and how they are linked to lists.
 ghost use Rattle.std.specs.Prelude.{◌≡◌, ◌<◌, ◌++◌, [], ◌∷◌, drop, length, None, Some, OnOk, OnErr, IfErr, IfSome, MatchOption, slice_get, slice_set, slice_index_or, if◌then◌else◌, nat_lt};
-ghost use Rattle.waiting_lists.specs.Linked.{slot_at, lists_of, count_of, Keeps};
+ghost use Rattle.waiting_lists.specs.Linked.{lists_of, count_of, Keeps, IsAppended, IsTakenOff, IsLinkedBehind};
 
 use crate::item::Item;
 use std::mem;
@@ -39,7 +39,7 @@ pub fn append<J: Drop>(
     requires kept { Keeps slots.old ends.old free.old }
     ensures keeps { Keeps slots.new ends.new free.new }
     ensures room { OnOk result (count_of (lists_of slots.old ends.old) < length slots.old) }
-    ensures appended { OnOk result (lists_of slots.new ends.new ≡ slice_set (lists_of slots.old ends.old) tenant (slice_index_or (lists_of slots.old ends.old) tenant [] ++ item ∷ [])) }
+    ensures appended { OnOk result (IsAppended slots.old ends.old tenant item slots.new ends.new) }
     ensures full { OnErr result (count_of (lists_of slots.old ends.old) ≡ length slots.old) }
     ensures back { IfErr result (λ i. i ≡ item) }
     ensures unchanged { OnErr result (lists_of slots.new ends.new ≡ lists_of slots.old ends.old) }
@@ -60,7 +60,7 @@ pub fn append<J: Drop>(
 /// Links a slot behind the last of a list, and gives the new ends.
 fn link_last<J: Drop>(slots: &mut [Slot<J>], ends: Option<Ends>, slot: u32) -> Ends
     requires { IfSome ends (λ e. e.last < length slots.old) }
-    ensures slots { MatchOption ends (slots.new ≡ slots.old) (λ e. slots.new ≡ slice_set slots.old e.last (record (slot_at slots.old e.last) { next = Some slot })) }
+    ensures slots { IsLinkedBehind slots.old ends slot slots.new }
     ensures first { MatchOption ends (result.first ≡ slot) (λ e. result.first ≡ e.first) }
     ensures last { result.last ≡ slot }
 {
@@ -87,7 +87,7 @@ pub fn take_first<J: Drop>(
     requires kept { Keeps slots.old ends.old free.old }
     ensures keeps { Keeps slots.new ends.new free.new }
     ensures first { result ≡ slice_get (slice_index_or (lists_of slots.old ends.old) tenant []) 0 }
-    ensures rest { lists_of slots.new ends.new ≡ slice_set (lists_of slots.old ends.old) tenant (drop 1 (slice_index_or (lists_of slots.old ends.old) tenant [])) }
+    ensures rest { IsTakenOff slots.old ends.old tenant slots.new ends.new }
 {
     let Ends { first, last } = ends[tenant as usize]?;
     let place = Slot {

@@ -1,6 +1,6 @@
 //! The lists.
 ghost use Rattle.std.specs.Prelude.{◌≡◌, ◌<◌, ◌≤◌, ◌++◌, [], ◌∷◌, drop, IfOk, None, OnOk, OnErr, IfErr, length, replicate, slice_get, option_copied};
-ghost use Rattle.waiting_lists.specs.Waiting.{Waiting, list_of, waiting, with_list};
+ghost use Rattle.waiting_lists.specs.Lists.{ListsView, list_of, waiting, with_list};
 
 use crate::item::Item;
 use crate::links::{Ends, Slot, append, link_to, take_first};
@@ -8,7 +8,8 @@ use std::alloc::{AllocError, Global};
 use std::marker::Model;
 
 /// There is no memory for the lists.
-#[derive(Clone, Copy, Debug, PartialEq, Eq)]
+#[derive(Clone, Copy, Debug, PartialEq, Eq, thiserror::Error)]
+#[error("no memory for the waiting requests")]
 pub struct NoMemory;
 
 impl From<AllocError> for NoMemory {
@@ -30,11 +31,11 @@ pub struct Lists<J> {
 
 impl<J> Model for Lists<J> {
     ghost use Rattle.std.specs.Prelude.{length};
-    ghost use Rattle.waiting_lists.specs.Waiting.{Waiting, waiting_code};
+    ghost use Rattle.waiting_lists.specs.Lists.{ListsView, lists_code};
 
-    ghost Value = { Waiting J };
+    ghost Value = { ListsView J };
 
-    ghost coded = { waiting_code J.code };
+    ghost coded = { lists_code J.code };
 
     ghost use Rattle.waiting_lists.specs.Linked.{lists_of, KeepsCount};
 
@@ -52,9 +53,7 @@ impl<J: Drop> Lists<J> {
         let mut places = Vec::with_capacity(alloc, slots as usize)?;
         for slot in 0..slots {
             let next = link_to(slot + 1, slots);
-            places
-                .push(Slot { item: None, next })
-                .map_err(|_| NoMemory)?;
+            places.push_reserved(Slot { item: None, next });
         }
         Ok(Lists {
             slots: places,
@@ -123,11 +122,15 @@ fn empty_ends(alloc: Global, tenants: u32) -> Result<Vec<Option<Ends>>, AllocErr
 #[cfg(test)]
 mod tests {
     use super::*;
+    use std::marker::Send;
     use std::test::Fail;
 
     // A job that is not `Copy`.
     #[derive(Debug, PartialEq, Eq, Drop)]
     struct Label(u32);
+
+    // Only what may go to another thread can be passed here.
+    fn send_away<T: Send + Drop>(_sent: T) {}
 
     fn item(request: u32) -> Item<Label> {
         Item {
@@ -155,6 +158,7 @@ mod tests {
         assert_eq!(rt; lists.pop(0), Some(item(1)));
         assert_eq!(rt; lists.pop(0), Some(item(4)));
         assert_eq!(rt; lists.len(), 0);
+        send_away(lists);
         Ok(())
     }
 }

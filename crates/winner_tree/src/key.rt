@@ -3,7 +3,7 @@ ghost use Rattle.std.specs.Prelude.{◌↔◌, IsTrue};
 ghost use Rattle.winner_tree.specs.Order.{IsBefore};
 
 /// A key: by `a`, where that is equal by `b`, where that is too by `c`.
-#[derive(Clone, Copy, Debug, PartialEq, Eq)]
+#[derive(Clone, Copy, Debug, PartialEq, Eq, PartialOrd, Ord)]
 pub struct Key {
     pub a: i128,
     pub b: i128,
@@ -16,12 +16,6 @@ impl Key {
     pub fn is_before(&self, other: &Key) -> bool
         ensures { IsTrue result ↔ IsBefore self.now other.now }
     {
-        if self.a != other.a {
-            self.a < other.a
-        } else if self.b != other.b {
-            self.b < other.b
-        } else {
-            self.c < other.c
-        }
+        self < other
     }
 }

@@ -63,14 +63,11 @@ fn is_ahead(keys: &[Option<Key>], leaf: u32, other: u32) -> bool
     ensures ahead { IsTrue result → IsAhead keys.now leaf other }
     ensures behind { result ≡ false → leaf ≢ other → IsAhead keys.now other leaf }
 {
-    match (&keys[leaf as usize], &keys[other as usize]) {
-        (Some(key), Some(second)) => {
-            if key == second {
-                leaf < other
-            } else {
-                key.is_before(second)
-            }
-        }
-        _ => unreachable!(),
+    let key = keys[leaf as usize].unwrap();
+    let second = keys[other as usize].unwrap();
+    if key == second {
+        leaf < other
+    } else {
+        key.is_before(&second)
     }
 }

@@ -5,15 +5,23 @@ ghost use Rattle.winner_tree.specs.Winners.{AreWinners};
 
 use crate::key::Key;
 use crate::replay::set_leaf;
-use std::alloc::{AllocError, Global};
+use std::alloc::{AllocError, AllocFailed, Global};
 use std::marker::Model;
+use thiserror::Error;
 
 /// There is no memory for a tree.
-#[derive(Clone, Copy, Debug, PartialEq, Eq)]
+#[derive(Clone, Copy, Debug, PartialEq, Eq, Error)]
+#[error("out of memory")]
 pub struct NoMemory;
 
 impl From<AllocError> for NoMemory {
-    fn from(_: AllocError) -> Self {
+    fn from(_: AllocError) -> NoMemory {
+        NoMemory
+    }
+}
+
+impl<T: Drop> From<AllocFailed<T>> for NoMemory {
+    fn from(_: AllocFailed<T>) -> NoMemory {
         NoMemory
     }
 }
@@ -79,7 +87,11 @@ impl Tree {
 #[cfg(test)]
 mod tests {
     use super::*;
+    use std::marker::Send;
     use std::test::Fail;
+
+    // Only what may go to another thread can be passed here.
+    fn send_away<T: Send + Drop>(_sent: T) {}
 
     #[test]
     fn three_leaves(rt: HostRuntime) -> Result<(), Fail> {
@@ -104,6 +116,7 @@ mod tests {
         assert_eq!(rt; tree.first(), Some((0, key)));
         tree.set(0, None);
         assert_eq!(rt; tree.first(), None);
+        send_away(tree);
         Ok(())
     }
 }

@@ -4,4 +4,4 @@ use Rattle.rival_policies.proofs.Comparing.{read}
 use Rattle.rival_policies.proofs.turn.Turn.eligible_key.Goals as goal
 
 pub returns : goal.returns
-returns c = read c.eligible_key.result _ c.eligible_key.type_inv (c.eligible_key.ensures c.self.inside.virtual_time ∙ ap (λ (at : Turn). eligible_key at c.args.keys) c.self.view_is)
+returns c = read c.eligible_key.result _ c.eligible_key.type_inv (c.eligible_key.ensures ∙ ap (λ (at : Turn). eligible_key at c.args.keys) c.self.view_is)

@@ -3,4 +3,6 @@ use Rattle.tenant_table.proofs.Tables.{name_at}
 use Rattle.tenant_table.proofs.tenants.Tenants.name.Goals as goal
 
 pub returns-clause-value : goal.returns-clause-value
-returns-clause-value c = rw (← c.self.view_is) (name_at c.self.inside.rows.entries c.args.t (c.in-Some.name.now, c.in-Some.field-0-1.now) (sym c.in-Some.ensures.entry) ∙ ap Some (sym c.as_str.ensures.value))
+returns-clause-value c =
+    let at = sym (rw c.unwrap.ensures at c.get_index.ensures.entry) in
+    rw (← c.self.view_is) (name_at c.self.inside.rows.entries c.args.t (c.unwrap.result.0.now, c.unwrap.result.1.now) at ∙ ap Some (sym c.as_str.ensures.value))

@@ -1,8 +1,8 @@
 use Rattle.std.proofs.Common.{arith, ap, ◌≤◌, ◌-◌, ◌*◌, ℤ}
 use Rattle.std.proofs.lemmas.Int.{ints}
 use Rattle.vt_fixed.specs.Rounding.{advance_of}
-use Rattle.fq_laws.proofs.Bounds.{advance_low}
-use Rattle.virtual_clock.specs.Clock.{ClockFace}
+use Rattle.fq_laws.proofs.Time.Clock.{advance_low}
+use Rattle.virtual_clock.specs.Clock.{ClockView}
 use Rattle.virtual_clock.proofs.clock.Clock128.to.Goals as goal
 
 pub overflow_add-self : goal.overflow_add-self
@@ -15,7 +15,7 @@ pub invariant_of-self : goal.invariant_of-self
 invariant_of-self c =
     let low : advance_of (c.args.moment - c.self.inside.moment) c.self.inside.workers c.self.inside.weights ≤ (c.args.moment - c.self.inside.moment) * 67108864 = advance_low _ _ _ c.self.invariant.workers_in_range in
     let moved = c.advance.ensures in
-    let moment_is = ap (λ (k : ClockFace). k.moment) c.self.view_is in
+    let moment_is = ap (λ (k : ClockView). k.moment) c.self.view_is in
     record {
       workers_positive = c.self.invariant.workers_positive;
       workers_in_range = c.self.invariant.workers_in_range;
