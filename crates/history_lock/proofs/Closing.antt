@@ -14,7 +14,7 @@ use Rattle.history_lock.specs.declared.table.Stage.TheVariants.{Idle}
 use Rattle.history_lock.specs.Histories.{IsPrefix}
 use Rattle.history_lock.specs.Views.{turns_of, turns_at}
 use Rattle.history_lock.specs.Rule.{total, Fits, Slot, Kept}
-use Rattle.history_lock.specs.Passes.{Held, held, HasEnded, HasNoneAbove, AllEnded}
+use Rattle.history_lock.specs.Passes.{PassView, held, HasEnded, HasNoneAbove, AllEnded}
 use Rattle.history_lock.specs.Last.{WasLast}
 use Rattle.atomic_table.specs.Seated.{TableId}
 use Rattle.history_lock.proofs.Lists.{one_view, one_of, total_zero}
@@ -34,7 +34,7 @@ module _ {M F : Type 0} (past : M → List Entry) (frame : M → F) (like : F) w
       (s, r, r.words ∙ (ap (λ (n : ℕ). n ∷ r.marks.served % 18446744073709551616 ∷ []) p.0 ∙ ap (λ (n : ℕ). d ∷ n ∷ []) p.1), (id, v, at, refl))
 
   -- what is then true of the machine, by the pass that closes
-  abbrev pub Ends : Held F → M → Type 0
+  abbrev pub Ends : PassView F → M → Type 0
   Ends h m = (frame m ≡ like) × IsPrefix h.seen (past m) × (own_entries (past m) h.number ≡ h.mine) × HasEnded (past m) h.ended × HasNoneAbove (past m) h.made
 
   -- where as many turns were served as drawn, the machine is at home
@@ -82,8 +82,8 @@ module _ {M F : Type 0} (past : M → List Entry) (frame : M → F) (like : F) w
       quiet : (j : ℕ) (x : View F) → get_elem? s.views j ≡ some x → turns_of x ≡ 0
       quiet j x there = dite (ℕ_discrete (code x.stage) 0) (λ e. spent_quiet x.stage e) (λ n. live_quiet j x there (fits past frame like s r j x there n))
 
-pub ends_moved : {M F : Type 0} (past : M → List Entry) (frame : M → F) (like like2 : F) (h h2 : Held F) (m m2 : M) → like ≡ like2 → h ≡ h2 → m ≡ m2 → Ends past frame like h m → Ends past frame like2 h2 m2
-ends_moved {M = M} {F = F} past frame like like2 h h2 m m2 a b c = subst (λ (x : F × Held F × M). Ends past frame x.0 x.1 x.2) (λ i. (a i, b i, c i))
+pub ends_moved : {M F : Type 0} (past : M → List Entry) (frame : M → F) (like like2 : F) (h h2 : PassView F) (m m2 : M) → like ≡ like2 → h ≡ h2 → m ≡ m2 → Ends past frame like h m → Ends past frame like2 h2 m2
+ends_moved {M = M} {F = F} past frame like like2 h h2 m m2 a b c = subst (λ (x : F × PassView F × M). Ends past frame x.0 x.1 x.2) (λ i. (a i, b i, c i))
 
-pub last_moved : {M F : Type 0} (past : M → List Entry) (frame : M → F) (like like2 : F) (h h2 : Held F) (d w : ℕ) → like ≡ like2 → h ≡ h2 → WasLast past frame like h d w → WasLast past frame like2 h2 d w
-last_moved {F = F} past frame like like2 h h2 d w a b = subst (λ (x : F × Held F). WasLast past frame x.0 x.1 d w) (λ i. (a i, b i))
+pub last_moved : {M F : Type 0} (past : M → List Entry) (frame : M → F) (like like2 : F) (h h2 : PassView F) (d w : ℕ) → like ≡ like2 → h ≡ h2 → WasLast past frame like h d w → WasLast past frame like2 h2 d w
+last_moved {F = F} past frame like like2 h h2 d w a b = subst (λ (x : F × PassView F). WasLast past frame x.0 x.1 d w) (λ i. (a i, b i))

@@ -6,7 +6,7 @@ use Rattle.fq_model.specs.declared.event.Act.TheVariants.{Close}
 use Rattle.history_lock.specs.Histories.{Grows}
 
 -- what an echo keeps, and how many entries it takes
-pub record Echoing : Type 0 where
+pub record EchoView : Type 0 where
   pub past : List Entry
   pub room : ℕ
 

@@ -6,16 +6,17 @@ use Rattle.atomic_table.specs.Seated.{TableId}
 use Rattle.fq_model.specs.declared.event.Entry.{Entry}
 use Rattle.fq_model.specs.Outcome.{own_entries}
 use Rattle.history_lock.specs.declared.table.View.{View}
+use Rattle.history_lock.specs.Rule.{word_count}
 use Rattle.history_lock.specs.Views.{view_of, is_idle}
 
 -- a lock: which table is its, and the frame of the machine that it was opened with
-pub record Lock (F : Type 0) : Type 0 where
+pub record LockView (F : Type 0) : Type 0 where
   pub table : TableId
   pub frame : F
 
 -- A pass: which lock it is of, by table and frame, its number, the history that it has seen and its own entries there
 -- For number 0: how many more passes were made, and the numbers that were joined, each with what was its own
-pub record Held (F : Type 0) : Type 0 where
+pub record PassView (F : Type 0) : Type 0 where
   pub table : TableId
   pub frame : Option F
   pub number : ℕ
@@ -24,12 +25,16 @@ pub record Held (F : Type 0) : Type 0 where
   pub made : ℕ
   pub ended : List (ℕ × List Entry)
 
+-- the place is one at the table, which has the lock's words
+abbrev pub IsPlaceAt : TableId → TableId → Type 0
+IsPlaceAt place table = (place ≡ table) × (table.words ≡ word_count)
+
 module _ {F : Type 0} where
-  abbrev pub held : TableId → View F → Held F
+  abbrev pub held : TableId → View F → PassView F
   held table v = record { table = table; frame = v.frame; number = v.number; seen = v.seen; mine = v.mine; made = v.made; ended = v.ended }
 
   -- the pass is of this lock
-  abbrev pub IsOf : Lock F → Held F → Type 0
+  abbrev pub IsOf : LockView F → PassView F → Type 0
   IsOf lock pass = (pass.table ≡ lock.table) × (pass.frame ≡ Some lock.frame)
 
   -- between two calls a pass holds no turn, and its own entries are those of its number in what it has seen

@@ -1,4 +1,4 @@
-//! Laws of the lock that callers rest on, and a machine to test it with. The laws do nothing when they run.
+//! Laws of the lock that callers rest on, and a machine to try it with. The laws do nothing when they run.
 ghost use Rattle.std.specs.Prelude.{◌≡◌, [], IfOk};
 ghost use Rattle.history_lock.specs.Laws.{OwnTurnsRound, PrefixTurnsRound, GrowthTurnsRound};
 
@@ -9,6 +9,8 @@ use fq_model::event::{Act, Entry};
 use std::alloc::Global;
 use std::marker::Model;
 
+// It stands here, and not among the tests, since a caller of the lock needs a machine to try it with, and tests above this
+// crate use it.
 /// A machine that answers how many entries it has, and writes each call down while it has room. A call is any number, and
 /// becomes the moment of its entry.
 #[derive(Drop)]
@@ -19,9 +21,9 @@ pub struct Echo {
 
 impl Model for Echo {
     ghost use Rattle.std.specs.Prelude.{◌≤◌, vec_capacity};
-    ghost use Rattle.history_lock.specs.Echoes.{Echoing};
+    ghost use Rattle.history_lock.specs.Echoes.{EchoView};
 
-    ghost Value = { Echoing };
+    ghost Value = { EchoView };
 
     ghost view = { λ e. record { past = e.entries.items; room = e.room } };
 

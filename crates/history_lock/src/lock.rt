@@ -11,7 +11,7 @@ use crate::pass::Pass;
 use crate::plays::{Fork, Merge, Note};
 use crate::steps::{enter, leave};
 use crate::table::{LockTable, Place};
-use atomic_table::{Badge, Table};
+use atomic_table::{Badge, Refused, Table};
 use std::alloc::{AllocError, Global};
 use std::marker::Model;
 use std::mem;
@@ -19,7 +19,8 @@ use std::snapshot::Snapshot;
 use std::sync::Wait;
 
 /// There is no memory for a lock.
-#[derive(Clone, Copy, Debug, PartialEq, Eq)]
+#[derive(Clone, Copy, Debug, PartialEq, Eq, thiserror::Error)]
+#[error("no memory for a lock")]
 pub struct NoMemory;
 
 impl From<AllocError> for NoMemory {
@@ -28,9 +29,17 @@ impl From<AllocError> for NoMemory {
     }
 }
 
+// The slots of the table that there was no memory for are given up.
+impl<S: Drop> From<Refused<S, Global>> for NoMemory {
+    fn from(_: Refused<S, Global>) -> Self {
+        NoMemory
+    }
+}
+
 /// Turns were drawn that were not served, since a pass that waits or is served was not joined. Both counts are
 /// modulo 2^64.
-#[derive(Clone, Copy, Debug, PartialEq, Eq)]
+#[derive(Clone, Copy, Debug, PartialEq, Eq, thiserror::Error)]
+#[error("{drawn} turns were drawn, and {served} served")]
 pub struct Unsettled {
     pub drawn: u64,
     pub served: u64,
@@ -43,10 +52,10 @@ pub struct HistoryLock<M: Machine> {
 
 impl<M: Machine> Model for HistoryLock<M> {
     ghost use Rattle.std.specs.Prelude.{◌≡◌};
-    ghost use Rattle.history_lock.specs.Passes.{Lock};
+    ghost use Rattle.history_lock.specs.Passes.{LockView};
     ghost use Rattle.history_lock.specs.Rule.{word_count};
 
-    ghost Value = { Lock M.Frame };
+    ghost Value = { LockView M.Frame };
 
     ghost view = { λ l. record { table = l.table.shared.table_id; frame = M.frame l.table.shared.key.value } };
 
@@ -158,9 +167,7 @@ impl<M: Machine + Drop> HistoryLock<M> {
     {
         let like = Snapshot::of(&machine);
         let slots = slot_with(alloc, machine)?;
-        let Ok((table, place)) = Table::new(alloc, &[0, 0], slots, &like) else {
-            return Err(NoMemory);
-        };
+        let (table, place) = Table::new(alloc, &[0, 0], slots, &like)?;
         let pass = Pass {
             number: 0,
             made: 0,
@@ -199,7 +206,6 @@ impl<M: Machine + Drop> HistoryLock<M> {
         if drawn != served {
             return Err(Unsettled { drawn, served });
         }
-        let Some(machine) = slot else { unreachable!() };
-        Ok(machine)
+        Ok(slot.unwrap())
     }
 }

@@ -30,5 +30,6 @@ pub trait Machine {
         ensures answers { answers (frame self.old) (past self.old) who call result (past self.new) }
         ensures frame { frame self.new ≡ frame self.old };
 
-    ghost grows: { (like : Self.Frame) (P : List Entry) (who : ℕ) (call : Self.Call) (reply : Self.Reply) (P2 : List Entry) → answers like P who call reply P2 → Grows who P P2 };
+    ghost grows: { (like : Self.Frame) (P : List Entry) (who : ℕ) (call : Self.Call) (reply : Self.Reply)
+        (P2 : List Entry) → answers like P who call reply P2 → Grows who P P2 };
 }

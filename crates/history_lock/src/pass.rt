@@ -15,9 +15,9 @@ pub struct Pass<F> {
 }
 
 impl<F> Model for Pass<F> {
-    ghost use Rattle.history_lock.specs.Passes.{Held};
+    ghost use Rattle.history_lock.specs.Passes.{PassView};
 
-    ghost Value = { Held F };
+    ghost Value = { PassView F };
 
     ghost use Rattle.history_lock.specs.Passes.{held, IsAtRest};
     ghost use Rattle.history_lock.specs.Views.{view_of};

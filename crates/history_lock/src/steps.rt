@@ -1,11 +1,12 @@
 //! The steps of one turn: to draw it, to wait until it is served, and to end it.
-ghost use Rattle.std.specs.Prelude.{◌≡◌, ℕ, ◌%◌, ◌^◌, List, [], ◌∷◌, Some, None};
-ghost use Rattle.fq_model.specs.declared.event.Entry.{Entry};
+ghost use Rattle.std.specs.Prelude.{◌≡◌, [], Some};
 ghost use Rattle.fq_model.specs.Outcome.{own_entries};
-ghost use Rattle.history_lock.specs.declared.table.Stage.TheVariants.{Idle, Waits, Served};
-ghost use Rattle.history_lock.specs.Histories.{IsPrefix, Grows};
+ghost use Rattle.history_lock.specs.declared.table.Stage.TheVariants.{Idle};
+ghost use Rattle.history_lock.specs.Histories.{IsPrefix};
+ghost use Rattle.history_lock.specs.Passes.{IsPlaceAt};
+ghost use Rattle.history_lock.specs.Plays.{HasDrawn, IsServed, MayLeave};
 ghost use Rattle.history_lock.specs.Rule.{word_count};
-ghost use Rattle.history_lock.specs.Views.{at_stage, learned};
+ghost use Rattle.history_lock.specs.Views.{learned};
 
 use crate::machine::Machine;
 use crate::plays::{Draw, Give, Look};
@@ -44,10 +45,10 @@ fn stand_aside<M: Machine, R: Wait>(table: &LockTable<M>, rt: &R)
 
 // Draws a turn.
 fn draw<M: Machine>(table: &LockTable<M>, place: &mut Place<M>) -> u64
-    requires own { (place.old.table_id ≡ table.now.shared.table_id) × (table.now.shared.table_id.words ≡ word_count) }
+    requires own { IsPlaceAt place.old.table_id table.now.shared.table_id }
     requires idle { place.old.me.0.stage ≡ Idle }
     ensures same { (place.new.table_id ≡ place.old.table_id) × (place.new.id ≡ place.old.id) }
-    ensures waits { (turn : ℕ) × (result ≡ turn % 2 ^ 64) × (place.new.me ≡ (at_stage place.old.me.0 (Waits turn), place.old.me.1)) }
+    ensures waits { HasDrawn place.old.me result place.new.me }
 {
     table.shared.fetch_add::<Draw>(place, NEXT, 1)
 }
@@ -77,10 +78,10 @@ fn pause<M: Machine>(table: &LockTable<M>, turn: u64, served: u64)
 
 /// Waits for a turn of its own, and takes the machine out of its slot.
 pub(crate) fn enter<M: Machine, R: Wait>(table: &LockTable<M>, rt: &R, place: &mut Place<M>) -> M
-    requires own { (place.old.table_id ≡ table.now.shared.table_id) × (table.now.shared.table_id.words ≡ word_count) }
+    requires own { IsPlaceAt place.old.table_id table.now.shared.table_id }
     requires idle { (place.old.me.0.stage ≡ Idle) × (place.old.me.1 ≡ []) }
     ensures same { (place.new.table_id ≡ place.old.table_id) × (place.new.id ≡ place.old.id) }
-    ensures served { (turn : ℕ) × (place.new.me ≡ (at_stage place.old.me.0 (Served turn (M.past result)), (0, None) ∷ [])) }
+    ensures served { IsServed place.old.me (M.past result) place.new.me }
     ensures frame { place.old.me.0.frame ≡ Some (M.frame result) }
     ensures seen { IsPrefix place.old.me.0.seen (M.past result) }
     ensures mine { own_entries (M.past result) place.old.me.0.number ≡ place.old.me.0.mine }
@@ -99,8 +100,8 @@ pub(crate) fn enter<M: Machine, R: Wait>(table: &LockTable<M>, rt: &R, place: &m
 
 /// Puts the machine back after its step, and ends the turn.
 pub(crate) fn leave<M: Machine>(table: &LockTable<M>, place: &mut Place<M>, machine: M)
-    requires own { (place.old.table_id ≡ table.now.shared.table_id) × (table.now.shared.table_id.words ≡ word_count) }
-    requires served { (turn : ℕ) × (P : List Entry) × (place.old.me.0.stage ≡ Served turn P) × (place.old.me.1 ≡ (0, None) ∷ []) × Grows place.old.me.0.number P (M.past machine) }
+    requires own { IsPlaceAt place.old.table_id table.now.shared.table_id }
+    requires served { MayLeave place.old.me (M.past machine) }
     requires frame { place.old.me.0.frame ≡ Some (M.frame machine) }
     ensures same { (place.new.table_id ≡ place.old.table_id) × (place.new.id ≡ place.old.id) }
     ensures learned { place.new.me ≡ (learned place.old.me.0 (M.past machine), []) }

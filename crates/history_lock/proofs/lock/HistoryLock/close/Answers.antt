@@ -22,13 +22,13 @@ returns-then-drawn-served-clause-exact g c =
     let last = last_words g.M.Machine.past g.M.Machine.frame _ c.pass.inside.badge.table_id _ _ _ _ _ _ c.close_with-closed.ensures.values.2 c.word-drawn.ensures c.word-served.ensures in
     (c.word-drawn.result, c.word-served.result, last_moved g.M.Machine.past g.M.Machine.frame _ _ _ _ _ _ (ap (λ l. l.frame) c.self.view_is) is last, tt, (refl, refl, c.if-drawn-served.true))
 
-pub unreachable-requires : goal.unreachable-requires
-unreachable-requires g c =
+pub unwrap-requires : goal.unwrap-requires
+unwrap-requires g c =
     let same : view_of c.pass.inside.badge.views ≡ c.into_seat.result.me.0 = search rules in
     let idle = ap (λ v. v.stage) (sym same) ∙ idle_is _ c.pass.invariant.idle in
     let zeroth = ap (λ v. v.number) (sym same) ∙ (ap (λ h. h.number) c.pass.view_is ∙ c.requires.first) in
     let got = settles g.M.Machine.past g.M.Machine.frame _ c.pass.inside.badge.table_id _ _ _ _ _ _ _ idle zeroth c.close_with-closed.ensures.values.2 c.word-drawn.ensures c.word-served.ensures c.take-slot.ensures.value c.if-drawn-served.false in
-    c.in_default.not-Some got.0 got.1
+    rw got.1 refl
 
 pub returns : goal.returns
 returns g c =
@@ -36,12 +36,12 @@ returns g c =
     let idle = ap (λ v. v.stage) (sym same) ∙ idle_is _ c.pass.invariant.idle in
     let is = ap (held c.pass.inside.badge.table_id) (sym same) ∙ c.pass.view_is in
     let got = settles g.M.Machine.past g.M.Machine.frame _ c.pass.inside.badge.table_id _ _ _ _ _ _ _ idle (ap (λ h. h.number) is ∙ c.requires.first) c.close_with-closed.ensures.values.2 c.word-drawn.ensures c.word-served.ensures c.take-slot.ensures.value c.if-drawn-served.false in
-    let machine = same_some _ _ _ got.1 c.in-Some.is in
+    let machine = same_some _ _ _ got.1 c.unwrap.ensures in
     let like = ap (λ l. l.frame) c.self.view_is in
     let ends = ends_moved g.M.Machine.past g.M.Machine.frame _ _ _ _ _ _ like is machine got.2 in record {
       frame = ends.0;
       seen = ends.1;
-      mine = ap (own_entries (g.M.Machine.past c.in-Some.machine)) (sym c.requires.first) ∙ ends.2;
+      mine = ap (own_entries (g.M.Machine.past c.unwrap.result)) (sym c.requires.first) ∙ ends.2;
       ended = ends.3;
       above = ends.4;
       exact = (
