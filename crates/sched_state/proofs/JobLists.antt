@@ -5,7 +5,7 @@ use Rattle.std.specs.FinMap as map
 use Rattle.std.proofs.lemmas.Bool.{cases_eq, eq-eqb, ne_eqb}
 use Rattle.std.proofs.lemmas.List.{append_assoc}
 use Rattle.waiting_lists.specs.declared.item.Item.{Item}
-use Rattle.sched_state.specs.Queues.{JobMap, all_items, jobs_of, jobs_in}
+use Rattle.sched_state.specs.Lists.{JobMap, all_items, jobs_of, jobs_in}
 use Rattle.sched_state.proofs.JobMaps.{found_with, either_order, same_out, still_none}
 
 module _ {J : Type 0} where

@@ -3,7 +3,7 @@ use Rattle.std.proofs.Common.{ℕ, ◌==◌, ◌≡◌, ◌≢◌, Bool, true, f
 use Rattle.std.specs.Cmp.{unsigned_tied, nat_cmp_total}
 use Rattle.std.specs.FinMap as map
 use Rattle.std.proofs.lemmas.Bool.{cases_eq, eq-eqb, ne_eqb, eqb-false}
-use Rattle.sched_state.specs.Queues.{JobMap}
+use Rattle.sched_state.specs.Lists.{JobMap}
 
 -- ---- maps
 

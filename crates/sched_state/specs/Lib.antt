@@ -1,9 +1,8 @@
+pub mod Tally
+pub mod Journal
+pub mod Lists
+pub mod Costs
+pub mod Keys
+pub mod Tracker
+pub mod Scheduler
 pub mod Replies
-pub mod State
-pub mod Tallies
-pub mod Counts
-pub mod Queues
-pub mod Charges
-pub mod Times
-pub mod Heads
-pub mod Held

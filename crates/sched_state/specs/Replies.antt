@@ -1,11 +1,14 @@
 -- The reply that each result of a call is.
 use Rattle.std.specs.Prelude.{ℕ, ◌≡◌, Result, Ok, Err, Some}
 use Rattle.std.specs.FinMap as map
+use Rattle.fq_model.specs.declared.event.Call.{Call}
 use Rattle.fq_model.specs.declared.event.Reply.{Reply}
 use Rattle.fq_model.specs.declared.event.Reply.TheVariants as answer
 use Rattle.fq_model.specs.declared.event.Cause.{Cause}
 use Rattle.fq_model.specs.declared.event.Cause.TheVariants as cause
-use Rattle.sched_state.specs.State.{State}
+use Rattle.fq_model.specs.History.{history_of}
+use Rattle.fq_model.specs.Rules.{Answers}
+use Rattle.sched_state.specs.Scheduler.{SchedulerView}
 use Rattle.sched_state.specs.declared.replies.Refused.{Refused}
 use Rattle.sched_state.specs.declared.replies.AlreadyClosed.{AlreadyClosed}
 use Rattle.sched_state.specs.declared.replies.Taken.{Taken}
@@ -23,31 +26,21 @@ take_reply label (taken.Run request estimate job) = answer.Run request estimate 
 take_reply label taken.Drained = answer.Drained
 take_reply label taken.Idle = answer.Idle
 
-abbrev pub report_reply : Result (Unit {0}) Cause → Reply
-report_reply (Ok reported) = answer.Accepted
-report_reply (Err why) = answer.Refused why
-
-abbrev pub done_reply : Result (Unit {0}) Cause → Reply
-done_reply (Ok done) = answer.Accepted
-done_reply (Err why) = answer.Refused why
+-- of a Report and of a Done
+abbrev pub use_reply : Result (Unit {0}) Cause → Reply
+use_reply (Ok accepted) = answer.Accepted
+use_reply (Err why) = answer.Refused why
 
 abbrev pub close_reply : Result (Unit {0}) AlreadyClosed → Reply
 close_reply (Ok closed) = answer.Accepted
 close_reply (Err closed) = answer.Refused cause.Closed
 
+-- the call is answered so, and leaves this
+pub record AnswersCall {J : Type 0} (old : SchedulerView J) (call : Call) (reply : Reply) (new : SchedulerView J) : Type 0 where
+  pub answers : Answers old.config (history_of old.past) call reply (history_of new.past)
+  pub config_is : new.config ≡ old.config
+
 -- a job that is handed out is the one of its request, and is kept no longer; else nothing changes
-abbrev pub HandsOut : {J : Type 0} → State J → Taken J → State J → Type 0
+abbrev pub HandsOut : {J : Type 0} → SchedulerView J → Taken J → SchedulerView J → Type 0
 HandsOut old (taken.Run request estimate job) new = (map.get old.jobs request ≡ Some job) × (new.jobs ≡ map.remove old.jobs request)
 HandsOut old _ new = new ≡ old
-
--- why a worker may be refused work
-abbrev pub IsTakeCause : Cause → Type 0
-IsTakeCause (cause.Worker worker) = Unit {0}
-IsTakeCause (cause.Busy request) = Unit {0}
-IsTakeCause _ = ⊥
-
--- and what it is given then
-abbrev pub IsWithheld : {J : Type 0} → Cause → Taken J → Type 0
-IsWithheld (cause.Worker worker) result = result ≡ taken.UnknownWorker worker
-IsWithheld (cause.Busy request) result = result ≡ taken.Busy request
-IsWithheld _ result = ⊥

@@ -1,13 +1,11 @@
 //! One history of one scheduler, with the jobs of the requests that wait.
 #![tactic(auto)]
 
-mod charges;
-mod heads;
-mod refusals;
+mod journal;
 mod replies;
 mod scheduler;
 mod tally;
-mod times;
+mod tracker;
 
 pub use replies::{AlreadyClosed, NoMemory, Refused, Taken};
 pub use scheduler::Scheduler;

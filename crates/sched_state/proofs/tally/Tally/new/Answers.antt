@@ -1,4 +1,4 @@
-use Rattle.sched_state.proofs.Tallying.{tally_nil}
+use Rattle.sched_state.proofs.TallyLemmas.{tally_nil}
 use Rattle.sched_state.proofs.tally.Tally.new.Goals as goal
 
 pub returns : goal.returns

@@ -1,0 +1,137 @@
+-- What the calls of a scheduler find, and what they are answered.
+use Rattle.std.proofs.Common.{ℕ, ◌<◌, ◌≤◌, ◌≡◌, ◌≢◌, Bool, true, cond, arith, refl, sym, ap, subst, ◌∙◌, ◌∷◌, Option, Some, None}
+use Rattle.std.specs.Prelude.{nat_le}
+use Rattle.std.proofs.lemmas.Bool.{ne_eqb}
+use Rattle.std.proofs.lemmas.Bool.Decides.{nat_tests}
+use Rattle.vt_fixed.specs.declared.limits.TheConstants.{GREATEST_MOMENT}
+use Rattle.fq_model.specs.declared.config.Config.{Config}
+use Rattle.fq_model.specs.declared.event.Entry.{Entry}
+use Rattle.fq_model.specs.declared.event.Act.{Act}
+use Rattle.fq_model.specs.declared.event.Act.TheVariants.{Take, Report, Done, Close}
+use Rattle.fq_model.specs.declared.event.Call.{Call}
+use Rattle.fq_model.specs.declared.event.Call.TheVariants as call
+use Rattle.fq_model.specs.declared.event.Reply.{Reply}
+use Rattle.fq_model.specs.declared.event.Reply.TheVariants as answer
+use Rattle.fq_model.specs.declared.event.Cause.{Cause}
+use Rattle.fq_model.specs.declared.event.Cause.TheVariants as cause
+use Rattle.fq_model.specs.History.{History, Request, waiting, is_closed}
+use Rattle.fq_model.specs.Time.{last_moment, effective_moment}
+use Rattle.fq_model.specs.Rules.{IsLegal, FitsUse, IsChosen, IsAccepted, RunsChosen, AnswersFree, RefusedOrElse, Answers, needed_room, request_on, use_refusals, take_refusal, report_refusal, done_refusal}
+use Rattle.fq_laws.specs.Words.{one_more}
+use Rattle.fq_laws.proofs.Rules.Refusals.{all_false, report_fits, done_fits, request_on_is}
+use Rattle.charge_book.specs.declared.row.RunRow.{RunRow}
+use Rattle.charge_book.proofs.Refusals.{row_of}
+use Rattle.charge_book.proofs.Steps.{book_close}
+use Rattle.rival_policies.specs.Tables.{ChooserView}
+use Rattle.tag_rules.proofs.AccountSteps.{accounts_close}
+use Rattle.virtual_clock.specs.Histories.{PassOn}
+use Rattle.sched_state.specs.declared.tracker.Tracker.{Tracker}
+use Rattle.sched_state.specs.Journal.{JournalView, history, with_entry}
+use Rattle.sched_state.specs.Lists.{JobMap}
+use Rattle.sched_state.specs.Replies.{AnswersCall}
+use Rattle.sched_state.specs.Scheduler.{SchedulerView}
+use Rattle.sched_state.specs.Tracker.{Tracks, MayName}
+use Rattle.sched_state.proofs.CostLemmas.{costs_stay}
+use Rattle.sched_state.proofs.JournalLemmas.{history_with}
+use Rattle.sched_state.proofs.KeyLemmas.{keys_of_others, latest_at}
+use Rattle.sched_state.proofs.ListLemmas.{lists_close}
+use Rattle.sched_state.proofs.RefusalLemmas.{report_unless_full}
+
+-- ---- what a call leaves
+
+abbrev with_jobs : {J : Type 0} → JournalView → JobMap J → SchedulerView J
+with_jobs j jobs = record { config = j.config; past = j.past; jobs = jobs }
+
+-- a call that changes nothing
+pub unmoved : {J : Type 0} (j : JournalView) (jobs : JobMap J) (now : SchedulerView J) (a : Call) (reply : Reply) → with_jobs j jobs ≡ now → Answers j.config (history j) a reply (history j) → AnswersCall now a reply now
+unmoved j jobs now a reply is x = subst (λ s. AnswersCall s a reply s) is (record { answers = x; config_is = refl })
+
+-- a call that adds this entry
+pub moved : {J : Type 0} (j k : JournalView) (e : Entry) (jobs more : JobMap J) (now : SchedulerView J) (a : Call) (reply : Reply) → with_jobs j jobs ≡ now → k ≡ with_entry j e → Answers j.config (history j) a reply (e ∷ history j) → AnswersCall now a reply (with_jobs k more)
+moved j k e jobs more now a reply is new x = subst (λ s. AnswersCall s a reply (with_jobs k more)) is (rw new (record {
+  answers = rw (history_with j.past e) x;
+  config_is = refl;
+}))
+
+-- all that is kept is of the journal with the entry
+pub entered : {J X : Type 0} (label : J → ℕ) (seen : X → ChooserView) (j k : JournalView) (e : Entry) (t : Tracker J X) → k ≡ with_entry j e → Tracks label seen j.config (e ∷ history j) t → Tracks label seen k.config (history k) t
+entered label seen j k e t new x = rw new (rw (history_with j.past e) x)
+
+-- refused for this cause
+pub refused : (o : Option Cause) (c : Cause) (P : History) (Accepted : Type 0) → o ≡ Some c → RefusedOrElse o P (answer.Refused c) P Accepted
+refused o c P Accepted e = rw e (refl, refl)
+
+-- or else
+pub not_refused : (o : Option Cause) (P : History) (reply : Reply) (Q : History) (Accepted : Type 0) → o ≡ None → Accepted → RefusedOrElse o P reply Q Accepted
+not_refused o P reply Q Accepted e x = rw e x
+
+accepted : (P : History) (who moment m : ℕ) (act : Act) (reply : Reply) → m ≡ effective_moment P moment → IsAccepted P who moment act reply reply (one_more who m act P)
+accepted P who moment m act reply is = (refl, ap (λ (z : ℕ). one_more who z act P) is)
+
+-- ---- a Take
+
+-- nothing waits
+pub rested : (C : Config) (P : History) (who moment worker : ℕ) (closed : Bool) → take_refusal C P worker ≡ None → waiting P ≡ 0 → closed ≡ is_closed P → Answers C P (call.Take who moment worker) (cond closed answer.Drained answer.Idle) P
+rested C P who moment worker closed none nothing is = not_refused _ P _ _ _ none (rw (nothing, is) (refl, refl))
+
+some_waits : (C : Config) (P : History) (who moment i : ℕ) (reply : Reply) (Q : History) → waiting P ≢ 0 → RunsChosen C P who moment i reply Q → AnswersFree C P who moment i reply Q
+some_waits C P who moment i reply Q some x = rw (ne_eqb (waiting P) 0 some) x
+
+pub took : (C : Config) (P : History) (who moment m worker request estimate label : ℕ) (asked : Request) → take_refusal C P worker ≡ None → waiting P ≢ 0 → m ≡ effective_moment P moment → asked.label ≡ label → IsChosen C P m worker request estimate asked → Answers C P (call.Take who moment worker) (answer.Run request estimate label) (one_more who m (Take worker request estimate) P)
+took C P who moment m worker request estimate label asked none some is labelled chosen = not_refused _ P _ _ _ none (some_waits C P who moment worker _ _ some (record {
+  request = request;
+  estimate = estimate;
+  asked = asked;
+  chosen = subst (λ z. IsChosen C P z worker request estimate asked) is chosen;
+  accepted = (ap (λ (l : ℕ). answer.Run request estimate l) (sym labelled), ap (λ (z : ℕ). one_more who z (Take worker request estimate) P) is);
+}))
+
+-- ---- a use or a cost that is named
+
+worker_known : (C : Config) (P : History) (worker used : ℕ) → done_refusal C P worker used ≡ None → worker < C.workers
+worker_known C P worker used none = let x = (all_false (use_refusals C P worker used) none).0 in grind (arith, nat_tests)
+
+module _ {J X : Type 0} (label : J → ℕ) (seen : X → ChooserView) (C : Config) (P : History) (k : Tracker J X) (worker used : ℕ) (row : RunRow) (tracks : Tracks label seen C P k) (may : MayName C P k worker used row) where
+  -- it is of the request of the row
+  pub row_request : request_on P worker ≡ row.request
+  row_request = request_on_is P worker row.request (row_of C P k.book worker (Some row) tracks.mirrors.legal tracks.mirrors.book_is (worker_known C P worker used may.accepted) may.row_is.row_is).running_is
+
+  use_fits : FitsUse P worker row.request used
+  use_fits = subst (λ r. FitsUse P worker r used) row_request (done_fits C P worker used tracks.mirrors.legal may.accepted)
+
+  -- where it is a cost
+  pub legal_done : (who m : ℕ) → last_moment P ≤ m → m ≤ GREATEST_MOMENT → IsLegal C (one_more who m (Done worker row.request used) P)
+  legal_done who m later in_range = (tracks.mirrors.legal, later, in_range, use_fits)
+
+  pub answered_done : (who moment m : ℕ) → m ≡ effective_moment P moment → Answers C P (call.Done who moment worker used) answer.Accepted (one_more who m (Done worker row.request used) P)
+  answered_done who moment m is = not_refused _ P _ _ _ may.accepted (rw row_request (accepted P who moment m _ answer.Accepted is))
+
+  -- where it is a use, and there is or is not room for it
+  module _ (backlog : ℕ) (room : Bool) (all : backlog ≡ waiting P) (tells : backlog ≡ waiting P → room ≡ nat_le (needed_room P 2) C.entries) where
+    pub report_refused_by : report_refusal C P worker used ≡ cond room None (Some (cause.Full C.entries))
+    report_refused_by = report_unless_full C P worker used room may.accepted (tells all)
+
+    pub legal_report : room ≡ true → (who m : ℕ) → last_moment P ≤ m → m ≤ GREATEST_MOMENT → IsLegal C (one_more who m (Report worker row.request used) P)
+    legal_report is who m later in_range = (tracks.mirrors.legal, later, in_range, (use_fits, (report_fits C P worker used tracks.mirrors.legal (report_refused_by ∙ rw is refl)).1))
+
+    pub answered_report : room ≡ true → (who moment m : ℕ) → m ≡ effective_moment P moment → Answers C P (call.Report who moment worker used) answer.Accepted (one_more who m (Report worker row.request used) P)
+    answered_report is who moment m at = not_refused _ P _ _ _ (report_refused_by ∙ rw is refl) (rw row_request (accepted P who moment m _ answer.Accepted at))
+
+-- ---- a Close
+
+pub close_tracks : {J X : Type 0} (label : J → ℕ) (seen : X → ChooserView) (C : Config) (P : History) (k n : Tracker J X) (who m : ℕ) → Tracks label seen C P k → IsLegal C (one_more who m Close P) → PassOn m k.times n.times → n.lists ≡ k.lists → n.book ≡ k.book → n.accounts ≡ k.accounts → n.costs ≡ k.costs → n.chooser ≡ k.chooser → Tracks label seen C (one_more who m Close P) n
+close_tracks label seen C P k n who m old l passes listed books accounts costs chooses =
+    let o = old.mirrors in
+    let e : Entry = record { who = who; moment = m; act = Close } in
+    record {
+      mirrors = record {
+        limits = o.limits;
+        legal = l;
+        lists_are = rw listed (lists_close label C P who m k.lists l o.lists_are);
+        book_is = rw books (book_close C P k.book who m o.book_is);
+        accounts_are = rw accounts (accounts_close C P k.accounts who m o.accounts_are);
+        costs_are = rw costs (costs_stay C P (e ∷ P) k.costs o.costs_are refl);
+        times_are = passes C P e (record { moment_is = refl; act_passes = refl }) o.times_are;
+      };
+      chooser_is = rw chooses (keys_of_others C P e (seen k.chooser) (seen k.chooser) (λ t. Unit {0}) o.limits l (λ u among. refl) old.chooser_is refl refl (latest_at C P m (seen k.chooser) l.1 old.chooser_is));
+    }

@@ -1,0 +1,22 @@
+-- The keys of the tenants' heads, in a chooser.
+use Rattle.std.specs.Prelude.{ℕ, ◌<◌, ◌≡◌, ◌≢◌, length, slice_get, Some, pos, ◌≤ℤ◌}
+use Rattle.fq_model.specs.declared.config.Config.{Config}
+use Rattle.fq_model.specs.History.{History}
+use Rattle.fq_model.specs.Time.{last_moment, virtual_time}
+use Rattle.fq_model.specs.Keys.{keys_at}
+use Rattle.rival_policies.specs.Tables.{ChooserView, setting_of}
+
+-- the chooser is the configuration's, has the keys of these tenants' heads, and was asked for no later virtual time
+pub record HasKeysOf (C : Config) (P : History) (Tenants : ℕ → Type 0) (x : ChooserView) : Type 0 where
+  pub setting_is : x.setting ≡ setting_of C
+  pub sized : length x.table ≡ length C.weights
+  pub keys_are : (t : ℕ) → t < length C.weights → Tenants t → slice_get x.table t ≡ Some (keys_at C P (last_moment P) t)
+  pub latest_low : x.latest ≤ℤ pos (virtual_time C P (last_moment P))
+
+-- it has those of all tenants
+abbrev pub ChooserIs : Config → History → ChooserView → Type 0
+ChooserIs C P x = HasKeysOf C P (λ t. Unit {0}) x
+
+-- it has those of all tenants but one
+abbrev pub ChooserIsBut : ℕ → Config → History → ChooserView → Type 0
+ChooserIsBut tenant C P x = HasKeysOf C P (λ t. t ≢ tenant) x

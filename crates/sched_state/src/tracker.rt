@@ -1,0 +1,188 @@
+//! What a scheduler keeps beside its journal.
+ghost use Rattle.std.specs.Prelude.{◌≡◌, ◌<◌, [], Some, IfOk, IfErr, length, pos, ◌≤ℤ◌};
+ghost use Rattle.std.specs.FinMap as map;
+ghost use Rattle.fq_model.specs.declared.event.Act.TheVariants as act;
+ghost use Rattle.fq_model.specs.History.{History};
+ghost use Rattle.fq_model.specs.Time.{last_moment};
+ghost use Rattle.fq_model.specs.Keys.{keys_at, start};
+ghost use Rattle.fq_model.specs.Rules.{done_refusal};
+ghost use Rattle.charge_book.specs.Book.{row_on, MayUse};
+ghost use Rattle.sched_state.specs.Journal.{history, MayGain};
+ghost use Rattle.sched_state.specs.Lists.{jobs_in};
+ghost use Rattle.sched_state.specs.Tracker.{Mirrors, Tracks, TracksBut, TracksSomeBut, TracksAfter, submit_act, MayBegin, Begins, MayName, raised_first};
+
+use crate::journal::Journal;
+use crate::replies::NoMemory;
+use charge_book::book::Book;
+use charge_book::row::RunRow;
+use cost_estimate::any::AnyCost;
+use cost_estimate::estimate::Estimate;
+use fq_model::config::{Checked, Policy};
+use fq_model::event::Cause;
+use fq_model::job::Job;
+use fq_model::limits::GREATEST_VIRTUAL_TIME;
+use rival_policies::chooser::Chooser;
+use std::alloc::Global;
+use tag_rules::accounts::Accounts;
+use tag_rules::keys::keys;
+use tag_rules::parts::Keys;
+use virtual_clock::times::Times;
+use waiting_lists::item::Item;
+use waiting_lists::lists::Lists;
+
+/// The waiting requests and their jobs, what runs and what is charged for it, the estimator, virtual time, and a chooser
+/// with the keys of every tenant's head: at each call what the definitions say of the history, so that nothing looks back
+/// in the journal. Each call that changes it is told the journal as it is before the entry that comes with the call.
+#[derive(Drop)]
+pub struct Tracker<J, X> {
+    pub lists: Lists<J>,
+    pub book: Book,
+    pub accounts: Accounts,
+    pub costs: AnyCost,
+    pub times: Times,
+    pub chooser: X,
+}
+
+impl<J: Job + Drop, X: Chooser> Tracker<J, X> {
+    /// What is kept of a history without entries. All its memory is taken here.
+    pub fn open(alloc: Global, config: &Checked) -> Result<Tracker<J, X>, NoMemory>
+        ensures tracked { IfOk result (Tracks J.label_of X.seen config.now []) }
+        ensures jobs { IfOk result (λ k. jobs_in k.lists.lists ≡ map.empty) }
+    {
+        Ok(Tracker {
+            lists: Lists::open(alloc, config.tenants(), config.requests())?,
+            book: Book::open(alloc, config)?,
+            accounts: Accounts::open(alloc, config.tenants())?,
+            costs: AnyCost::open(alloc, config)?,
+            times: Times::open(alloc, config)?,
+            chooser: X::open(alloc, config)?,
+        })
+    }
+
+    /// The row of what runs on the worker, where it may be named this use or cost, in microseconds; or why not.
+    pub fn row_for(&self, journal: &Journal, worker: u32, used: u64) -> Result<RunRow, Cause>
+        requires { Tracks J.label_of X.seen journal.now.config (history journal.now) self.now }
+        ensures row { IfOk result (MayName journal.now.config (history journal.now) self.now worker used) }
+        ensures refused { IfErr result (λ c. done_refusal journal.now.config (history journal.now) worker used
+            ≡ Some c) }
+    {
+        if worker >= journal.config().workers() {
+            return Err(Cause::Worker(worker));
+        }
+        Ok(self.book.row_for(worker, used)?)
+    }
+
+    /// A request of this tenant comes at this moment, in microseconds.
+    pub fn submit(&mut self, journal: &Journal, moment: u64, tenant: u32, item: Item<J>)
+        requires tracked { Tracks J.label_of X.seen journal.now.config (history journal.now) self.old }
+        requires legal { MayGain journal.now moment (submit_act J.label_of tenant item) }
+        ensures tracked { TracksAfter J.label_of X.seen journal.now moment (submit_act J.label_of tenant item)
+            self.new }
+        ensures jobs { jobs_in self.new.lists.lists
+            ≡ map.insert (jobs_in self.old.lists.lists) item.request item.job }
+    {
+        self.times.submit(journal.config(), moment, tenant);
+        raise_first(&mut self.accounts, &self.lists, tenant, self.times.now());
+        self.lists.push(tenant, item).unwrap();
+        self.renew(journal.config(), tenant);
+    }
+
+    /// A worker that runs nothing takes the request that is its turn at this moment, in microseconds. Gives what waited,
+    /// and the estimate that is charged.
+    pub fn take(&mut self, journal: &Journal, moment: u64, worker: u32) -> (Item<J>, u64)
+        requires tracked { Tracks J.label_of X.seen journal.now.config (history journal.now) self.old }
+        requires may { MayBegin journal.now moment worker }
+        ensures { Begins J.label_of X.seen journal.now moment worker self.old result.0 result.1 self.new }
+    {
+        self.times.pass(moment);
+        let tenant = self.chooser.choose(worker, self.times.now()).unwrap();
+        let item = self.lists.pop(tenant).unwrap();
+        let estimate = self.costs.now(tenant, item.kind, item.declared);
+        let weight = journal.config().weight(tenant);
+        let change = self
+            .book
+            .begin(worker, item.request, tenant, item.kind, weight, estimate);
+        self.accounts.charge(tenant, change);
+        self.renew(journal.config(), tenant);
+        (item, estimate)
+    }
+
+    /// The worker's request, which has this row, has come to this use at this moment, both in microseconds.
+    pub fn report(&mut self, journal: &Journal, moment: u64, worker: u32, row: RunRow, used: u64)
+        requires tracked { Tracks J.label_of X.seen journal.now.config (history journal.now) self.old }
+        requires legal { MayGain journal.now moment (act.Report worker row.request used) }
+        requires row { MayUse self.old.book worker row used }
+        ensures tracked { TracksAfter J.label_of X.seen journal.now moment (act.Report worker row.request used)
+            self.new }
+        ensures lists { self.new.lists ≡ self.old.lists }
+    {
+        let change = self.book.record_use(worker, row, used);
+        self.accounts.charge(row.tenant, change);
+        self.times.pass(moment);
+        self.renew(journal.config(), row.tenant);
+    }
+
+    /// The worker's request, which has this row, has ended at this moment and cost so much, both in microseconds.
+    pub fn done(&mut self, journal: &Journal, moment: u64, worker: u32, row: RunRow, cost: u64)
+        requires tracked { Tracks J.label_of X.seen journal.now.config (history journal.now) self.old }
+        requires legal { MayGain journal.now moment (act.Done worker row.request cost) }
+        requires row { MayUse self.old.book worker row cost }
+        ensures tracked { TracksAfter J.label_of X.seen journal.now moment (act.Done worker row.request cost)
+            self.new }
+        ensures lists { self.new.lists ≡ self.old.lists }
+    {
+        let correction = self.book.record_cost(worker, row, cost);
+        self.accounts.charge(row.tenant, correction);
+        self.costs.learn(row.tenant, row.kind, cost);
+        self.times.done(journal.config(), moment, row.tenant);
+        self.renew(journal.config(), row.tenant);
+    }
+
+    // Gives the chooser the keys of the tenant's head, which alone may be another.
+    fn renew(&mut self, config: &Checked, tenant: u32)
+        requires { TracksSomeBut J.label_of X.seen tenant config.now self.old }
+        ensures tracked { (P : History) → TracksBut J.label_of X.seen tenant config.now P self.old
+            → Tracks J.label_of X.seen config.now P self.new }
+        ensures lists { self.new.lists ≡ self.old.lists }
+    {
+        let keys = self.keys_of(config, tenant);
+        self.chooser.set(tenant, keys);
+    }
+
+    // The keys of the tenant's head, if it has one.
+    fn keys_of(&self, config: &Checked, tenant: u32) -> Option<Keys>
+        requires { TracksSomeBut J.label_of X.seen tenant config.now self.now }
+        ensures { (P : History) → Mirrors J.label_of config.now P self.now
+            → result ≡ keys_at config.now P (last_moment P) tenant }
+    {
+        let item = self.lists.head(tenant)?;
+        let estimate = self.costs.now(tenant, item.kind, item.declared);
+        let start = self.start(config, tenant);
+        Some(keys(start, estimate, config.weight(tenant), item.request))
+    }
+
+    // Where the tenant starts, in steps.
+    fn start(&self, config: &Checked, tenant: u32) -> i128
+        requires { TracksSomeBut J.label_of X.seen tenant config.now self.now }
+        ensures { (P : History) → Mirrors J.label_of config.now P self.now
+            → result ≡ pos (start config.now P (last_moment P) tenant) }
+    {
+        match config.policy() {
+            Policy::Msf2q => self.accounts.credit(tenant) + self.times.idle(tenant),
+            Policy::Wfq | Policy::Wf2q | Policy::TwoDfq => self.accounts.tag(tenant),
+        }
+    }
+}
+
+// Raises the tag of the tenant to this virtual time, in steps, where none of its requests waits.
+fn raise_first<J: Job + Drop>(accounts: &mut Accounts, lists: &Lists<J>, tenant: u32, v: i128)
+    requires known { tenant < length accounts.old.charges }
+    requires listed { tenant < length lists.now.lists }
+    requires low { pos 0 ≤ℤ v }
+    requires high { v ≤ℤ GREATEST_VIRTUAL_TIME }
+    ensures { accounts.new ≡ raised_first lists.now accounts.old tenant v }
+{
+    if lists.head(tenant).is_none() {
+        accounts.raise(tenant, v);
+    }
+}
