@@ -1,4 +1,7 @@
 pub mod Lines
+pub mod NoFault
+pub mod Numbers
+pub mod Names
 pub mod ScriptLimits
 pub mod Singles
 pub mod Serving

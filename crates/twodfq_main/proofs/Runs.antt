@@ -1,96 +1,44 @@
 -- What a whole run says of its status alone.
-use Rattle.std.proofs.Common.{ℕ, ◌≤◌, ◌≡◌, ◌↔◌, ◌⊎◌, inl, inr, arith, refl, sym, ◌∙◌, ap, List, length, Option, None, Some, Result, Ok, Err, IsSome}
+use Rattle.std.proofs.Common.{ℕ, ◌≤◌, ◌≡◌, inl, inr, arith, refl, sym, ◌∙◌, ap, List, length, Option, None, Some, Result, Ok, Err, IsSome}
 use Rattle.std.proofs.lemmas.Bool.{false≢true}
-use Rattle.fq_io.specs.Faults.{Rose}
-use Rattle.fq_io.specs.Sources.{TookTooMany}
+use Rattle.fq_io.specs.Sources.{GaveAll, TookTooMany}
 use Rattle.fq_model.specs.Script.{Script}
-use Rattle.twodfq_main.specs.Program.{Device, Ends, IsRun, IsCommandLine, IsServed, IsNotAccepted, accepted_script, greatest_input, status_of}
-use Rattle.twodfq_main.specs.Causes.{MayRefuse, MustRefuse, MustServe}
+use Rattle.twodfq_main.specs.Program.{Move, Ends, IsRun, IsServed, IsNotAccepted, IsTooLong, accepted_script, greatest_input, status_of}
+use Rattle.twodfq_main.specs.Causes.{MayRefuse, MustRefuse, MustServe, StatusMeans}
 use Rattle.twodfq_main.specs.declared.stop.Stop.{Stop}
 use Rattle.twodfq_main.specs.declared.stop.Stop.TheVariants.{Words, TooLong, NotAccepted, Reading, Writing, NoMemory}
 
-pub words_cause : {words : List (List ℕ)} {s s2 k k2 e e2 : Device} {n : ℕ} → IsRun words s s2 k k2 e e2 n → (n ≡ 2) ↔ ¬ IsCommandLine words
-words_cause {words} {s} {s2} {k} {k2} r = rw (r.status_is) (go r.end r.ends)
-  where
-    go : (end : Result (Unit {0}) Stop) → Ends words s s2 k k2 end → (status_of end ≡ 2) ↔ ¬ IsCommandLine words
-    go (Ok done) x = (λ h. absurd (omega (arith, h)), λ h. absurd (h x.line))
-    go (Err Words) x = (λ h. x.0, λ h. refl)
-    go (Err TooLong) x = (λ h. absurd (omega (arith, h)), λ h. absurd (h x.0))
-    go (Err NotAccepted) x = (λ h. absurd (omega (arith, h)), λ h. absurd (h x.0))
-    go (Err Reading) x = (λ h. absurd (omega (arith, h)), λ h. absurd (h x.0))
-    go (Err Writing) x = (λ h. absurd (omega (arith, h)), λ h. absurd (h x.line))
-    go (Err NoMemory) x = (λ h. absurd (omega (arith, h)), λ h. absurd (h x.0))
-
-pub reading_cause : {words : List (List ℕ)} {s s2 k k2 e e2 : Device} {n : ℕ} → IsRun words s s2 k k2 e e2 n → n ≡ 4 → Rose s.faults s2.faults
-reading_cause {words} {s} {s2} {k} {k2} r is = go r.end r.ends (sym r.status_is ∙ is)
-  where
-    go : (end : Result (Unit {0}) Stop) → Ends words s s2 k k2 end → status_of end ≡ 4 → Rose s.faults s2.faults
-    go (Ok done) x h = absurd (omega (arith, h))
-    go (Err Words) x h = absurd (omega (arith, h))
-    go (Err TooLong) x h = absurd (omega (arith, h))
-    go (Err NotAccepted) x h = absurd (omega (arith, h))
-    go (Err Reading) x h = x.1
-    go (Err Writing) x h = absurd (omega (arith, h))
-    go (Err NoMemory) x h = absurd (omega (arith, h))
-
-pub writing_cause : {words : List (List ℕ)} {s s2 k k2 e e2 : Device} {n : ℕ} → IsRun words s s2 k k2 e e2 n → n ≡ 5 → Rose k.faults k2.faults
-writing_cause {words} {s} {s2} {k} {k2} r is = go r.end r.ends (sym r.status_is ∙ is)
-  where
-    go : (end : Result (Unit {0}) Stop) → Ends words s s2 k k2 end → status_of end ≡ 5 → Rose k.faults k2.faults
-    go (Ok done) x h = absurd (omega (arith, h))
-    go (Err Words) x h = absurd (omega (arith, h))
-    go (Err TooLong) x h = absurd (omega (arith, h))
-    go (Err NotAccepted) x h = absurd (omega (arith, h))
-    go (Err Reading) x h = absurd (omega (arith, h))
-    go (Err Writing) x h = x.rose
-    go (Err NoMemory) x h = absurd (omega (arith, h))
-
 -- an input that was read and not accepted is refused
-refused_input : (left left2 : Option (List ℕ)) → IsNotAccepted left left2 → MayRefuse left
-refused_input None left2 x = tt
-refused_input (Some xs) None x = absurd x.read
-refused_input (Some xs) (Some ys) x = inl (rw (← x.read.0) x.refused)
-
-too_long_input : (left left2 : Option (List ℕ)) → TookTooMany left left2 greatest_input → MayRefuse left
-too_long_input None left2 x = tt
-too_long_input (Some xs) None x = absurd x
-too_long_input (Some xs) (Some ys) x = inr x.0
-
-pub refused_cause : {words : List (List ℕ)} {s s2 k k2 e e2 : Device} {n : ℕ} → IsRun words s s2 k k2 e e2 n → n ≡ 3 → MayRefuse s.bytes
-refused_cause {words} {s} {s2} {k} {k2} r is = go r.end r.ends (sym r.status_is ∙ is)
+refused_input : (source : Move) → IsNotAccepted source → MayRefuse source.before.bytes
+refused_input source x = go source.before.bytes source.after.bytes x.read
   where
-    go : (end : Result (Unit {0}) Stop) → Ends words s s2 k k2 end → status_of end ≡ 3 → MayRefuse s.bytes
-    go (Ok done) x h = absurd (omega (arith, h))
-    go (Err Words) x h = absurd (omega (arith, h))
-    go (Err TooLong) x h = too_long_input s.bytes s2.bytes x.1
-    go (Err NotAccepted) x h = refused_input s.bytes s2.bytes x.1
-    go (Err Reading) x h = absurd (omega (arith, h))
-    go (Err Writing) x h = absurd (omega (arith, h))
-    go (Err NoMemory) x h = absurd (omega (arith, h))
+    go : (left left2 : Option (List ℕ)) → GaveAll left left2 x.bytes → MayRefuse left
+    go None left2 read = tt
+    go (Some xs) None read = absurd read
+    go (Some xs) (Some ys) read = inl (rw (← read.0) x.refused)
+
+too_long_input : (source : Move) → IsTooLong source → MayRefuse source.before.bytes
+too_long_input source x = go source.before.bytes source.after.bytes x
+  where
+    go : (left left2 : Option (List ℕ)) → TookTooMany left left2 greatest_input → MayRefuse left
+    go None left2 y = tt
+    go (Some xs) None y = absurd y
+    go (Some xs) (Some ys) y = inr y.0
 
 -- a told input that was served is not refused
-served_not_refused : (left left2 : Option (List ℕ)) (text : List ℕ) → IsServed left left2 text → MustRefuse left → ⊥
-served_not_refused None left2 text x m = absurd m
-served_not_refused (Some xs) None text x m = absurd x.read
-served_not_refused (Some xs) (Some ys) text x m = elim m [
-  | inl none ↦ some_not_none x.script (sym x.accepted ∙ ap accepted_script x.read.0 ∙ none)
-  | inr long ↦ (let fits : length xs ≤ greatest_input = rw (← x.read.0) x.within in omega (arith, long, fits))
-]
+served_not_refused : (source : Move) (text : List ℕ) → IsServed source text → MustRefuse source.before.bytes → ⊥
+served_not_refused source text x m = go source.before.bytes source.after.bytes x.read m
   where
     some_not_none : (t : Script) → Some t ≡ None → ⊥
     some_not_none t h = cc
 
-pub must_refuse : {words : List (List ℕ)} {s s2 k k2 e e2 : Device} {n : ℕ} → IsRun words s s2 k k2 e e2 n → IsCommandLine words → MustRefuse s.bytes → ¬ Rose s.faults s2.faults → (n ≡ 3) ⊎ (n ≡ 6)
-must_refuse {words} {s} {s2} {k} {k2} r line m calm = rw (r.status_is) (go r.end r.ends)
-  where
-    go : (end : Result (Unit {0}) Stop) → Ends words s s2 k k2 end → (status_of end ≡ 3) ⊎ (status_of end ≡ 6)
-    go (Ok done) x = absurd (served_not_refused s.bytes s2.bytes x.text x.served m)
-    go (Err Words) x = absurd (x.0 line)
-    go (Err TooLong) x = inl refl
-    go (Err NotAccepted) x = inl refl
-    go (Err Reading) x = absurd (calm x.1)
-    go (Err Writing) x = absurd (served_not_refused s.bytes s2.bytes x.text x.served m)
-    go (Err NoMemory) x = inr refl
+    go : (left left2 : Option (List ℕ)) → GaveAll left left2 x.bytes → MustRefuse left → ⊥
+    go None left2 read m = absurd m
+    go (Some xs) None read m = absurd read
+    go (Some xs) (Some ys) read m = elim m [
+      | inl none ↦ some_not_none x.script (sym x.accepted ∙ ap accepted_script read.0 ∙ none)
+      | inr long ↦ (let fits : length xs ≤ greatest_input = rw (← read.0) x.within in omega (arith, long, fits))
+    ]
 
 -- a told input that must be served is not refused
 taken_not_refused : (left : Option (List ℕ)) → MayRefuse left → MustServe left → ⊥
@@ -101,14 +49,64 @@ taken_not_refused (Some xs) x m = elim x [ inl none ↦ none_not_some (accepted_
     none_not_some None is some = absurd (false≢true some)
     none_not_some (Some t) is some = cc
 
-pub must_serve : {words : List (List ℕ)} {s s2 k k2 e e2 : Device} {n : ℕ} → IsRun words s s2 k k2 e e2 n → IsCommandLine words → MustServe s.bytes → ¬ Rose s.faults s2.faults → ¬ Rose k.faults k2.faults → (n ≡ 0) ⊎ (n ≡ 6)
-must_serve {words} {s} {s2} {k} {k2} r line m calm quiet = rw (r.status_is) (go r.end r.ends)
-  where
-    go : (end : Result (Unit {0}) Stop) → Ends words s s2 k k2 end → (status_of end ≡ 0) ⊎ (status_of end ≡ 6)
-    go (Ok done) x = inl refl
-    go (Err Words) x = absurd (x.0 line)
-    go (Err TooLong) x = absurd (taken_not_refused s.bytes (too_long_input s.bytes s2.bytes x.1) m)
-    go (Err NotAccepted) x = absurd (taken_not_refused s.bytes (refused_input s.bytes s2.bytes x.1) m)
-    go (Err Reading) x = absurd (calm x.1)
-    go (Err Writing) x = absurd (quiet x.rose)
-    go (Err NoMemory) x = inr refl
+-- what each end says of its own status
+means : (words : List (List ℕ)) (source sink : Move) (end : Result (Unit {0}) Stop) → Ends words source sink end → StatusMeans words source sink (status_of end)
+means words source sink (Ok done) x = record {
+  line = (λ h. absurd (omega (arith, h)), λ h. absurd (h x.line));
+  refused = λ h. absurd (omega (arith, h));
+  reading = λ h. absurd (omega (arith, h));
+  writing = λ h. absurd (omega (arith, h));
+  refuses = λ _ m _. absurd (served_not_refused source x.text x.served m);
+  complete = λ _ _ _ _. inl refl;
+}
+means words source sink (Err Words) x = record {
+  line = (λ _. x.0, λ _. refl);
+  refused = λ h. absurd (omega (arith, h));
+  reading = λ h. absurd (omega (arith, h));
+  writing = λ h. absurd (omega (arith, h));
+  refuses = λ line _ _. absurd (x.0 line);
+  complete = λ line _ _ _. absurd (x.0 line);
+}
+means words source sink (Err TooLong) x = record {
+  line = (λ h. absurd (omega (arith, h)), λ h. absurd (h x.0));
+  refused = λ _. too_long_input source x.1;
+  reading = λ h. absurd (omega (arith, h));
+  writing = λ h. absurd (omega (arith, h));
+  refuses = λ _ _ _. inl refl;
+  complete = λ _ m _ _. absurd (taken_not_refused source.before.bytes (too_long_input source x.1) m);
+}
+means words source sink (Err NotAccepted) x = record {
+  line = (λ h. absurd (omega (arith, h)), λ h. absurd (h x.0));
+  refused = λ _. refused_input source x.1;
+  reading = λ h. absurd (omega (arith, h));
+  writing = λ h. absurd (omega (arith, h));
+  refuses = λ _ _ _. inl refl;
+  complete = λ _ m _ _. absurd (taken_not_refused source.before.bytes (refused_input source x.1) m);
+}
+means words source sink (Err Reading) x = record {
+  line = (λ h. absurd (omega (arith, h)), λ h. absurd (h x.0));
+  refused = λ h. absurd (omega (arith, h));
+  reading = λ _. x.1;
+  writing = λ h. absurd (omega (arith, h));
+  refuses = λ _ _ calm. absurd (calm x.1);
+  complete = λ _ _ calm _. absurd (calm x.1);
+}
+means words source sink (Err Writing) x = record {
+  line = (λ h. absurd (omega (arith, h)), λ h. absurd (h x.line));
+  refused = λ h. absurd (omega (arith, h));
+  reading = λ h. absurd (omega (arith, h));
+  writing = λ _. x.wrote.0;
+  refuses = λ _ m _. absurd (served_not_refused source x.text x.served m);
+  complete = λ _ _ _ calm. absurd (calm x.wrote.0);
+}
+means words source sink (Err NoMemory) x = record {
+  line = (λ h. absurd (omega (arith, h)), λ h. absurd (h x.0));
+  refused = λ h. absurd (omega (arith, h));
+  reading = λ h. absurd (omega (arith, h));
+  writing = λ h. absurd (omega (arith, h));
+  refuses = λ _ _ _. inr refl;
+  complete = λ _ _ _ _. inr refl;
+}
+
+pub run_means : {words : List (List ℕ)} {source sink errs : Move} {status : ℕ} → IsRun words source sink errs status → StatusMeans words source sink status
+run_means {words} {source} {sink} r = rw (r.status_is) (means words source sink r.end r.ends)

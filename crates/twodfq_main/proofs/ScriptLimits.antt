@@ -5,8 +5,10 @@ use Rattle.std.specs.Prelude.{codes}
 use Rattle.std.proofs.lemmas.Bool.{eqb-true, eqb-false}
 use Rattle.std.proofs.lemmas.List.Elements.{All-append}
 use Rattle.fq_model.specs.Limits.{IsWithin, IsWeight, InLimits}
-use Rattle.fq_model.specs.declared.fault.Kind.{Kind}
-use Rattle.fq_model.specs.declared.fault.Kind.TheVariants.{TooMany}
+use Rattle.vt_fixed.specs.declared.limits.TheConstants.{GREATEST_COST, GREATEST_WEIGHT, MOST_WORKERS}
+use Rattle.fq_model.specs.declared.limits.TheConstants.{MOST_TENANTS, MOST_KINDS, MOST_PAIRS, LEAST_ENTRIES, MOST_ENTRIES, MOST_REQUESTS}
+use Rattle.fq_model.specs.declared.fault.ScriptKind.{ScriptKind}
+use Rattle.fq_model.specs.declared.fault.ScriptKind.TheVariants.{TooMany}
 use Rattle.fq_model.specs.Script.{Settings, Script, Words, config_of, ◌>>=◌, number_at, ranged_at, policy_at, estimator_at, with_count, settings_of, name_at, new_among, not_too_many, with_tenant, with_kind, with_call, call_of, begins_with, is_empty, with_line, with_lines, at_line, opened, config_line, below_header, is_header, script_of_lines, script_of, lines_of, words_of}
 
 -- what a first step gave, where both steps gave something
@@ -17,7 +19,7 @@ bind_ok (Err e) f y h = absurd (cc)
 Ok-injective : {A F : Type 0} {x y : A} → ◌≡◌ {A = Result A F} (Ok x) (Ok y) → x ≡ y
 Ok-injective h = cc
 
-or_else : (a b : Bool) (k : Kind) (n m : ℕ) → (if a || b then Err k else Ok n) ≡ Ok m → (a ≡ false) × (b ≡ false) × (n ≡ m)
+or_else : (a b : Bool) (k : ScriptKind) (n m : ℕ) → (if a || b then Err k else Ok n) ≡ Ok m → (a ≡ false) × (b ≡ false) × (n ≡ m)
 or_else true b k n m h = absurd (cc)
 or_else false true k n m h = absurd (cc)
 or_else false false k n m h = (refl, refl, Ok-injective h)
@@ -30,27 +32,27 @@ ranged_at-within words k low high n h =
     (omega (arith, ltb-false b.0 low t.0, t.2), omega (arith, ltb-false high b.0 t.1, t.2))
 
 pub record SettingsAreWithin (s : Settings) : Type 0 where
-  pub workers : IsWithin 1 64 s.workers
-  pub initial : IsWithin 1 1000000000 s.initial
-  pub entries : IsWithin 4 4194304 s.entries
-  pub requests : IsWithin 1 262144 s.requests
+  pub workers : IsWithin 1 MOST_WORKERS s.workers
+  pub initial : IsWithin 1 GREATEST_COST s.initial
+  pub entries : IsWithin LEAST_ENTRIES MOST_ENTRIES s.entries
+  pub requests : IsWithin 1 MOST_REQUESTS s.requests
 
 pub settings_of-within : (line : Words) (s : Settings) → settings_of line ≡ Ok s → SettingsAreWithin s
 unfolding settings_of
 settings_of-within line s h =
     let words = bind_ok (with_count 7 line) _ s h in
-    let workers = bind_ok (ranged_at words.0 1 1 64) _ s words.2 in
+    let workers = bind_ok (ranged_at words.0 1 1 MOST_WORKERS) _ s words.2 in
     let policy = bind_ok (policy_at words.0 2) _ s workers.2 in
     let estimate = bind_ok (estimator_at words.0 3) _ s policy.2 in
-    let initial = bind_ok (ranged_at words.0 4 1 1000000000) _ s estimate.2 in
-    let entries = bind_ok (ranged_at words.0 5 4 4194304) _ s initial.2 in
-    let requests = bind_ok (ranged_at words.0 6 1 262144) _ s entries.2 in
+    let initial = bind_ok (ranged_at words.0 4 1 GREATEST_COST) _ s estimate.2 in
+    let entries = bind_ok (ranged_at words.0 5 LEAST_ENTRIES MOST_ENTRIES) _ s initial.2 in
+    let requests = bind_ok (ranged_at words.0 6 1 MOST_REQUESTS) _ s entries.2 in
     let same : Ok (record { workers = workers.0; policy = policy.0; estimate = estimate.0; initial = initial.0; entries = entries.0; requests = requests.0 }) ≡ Ok s = requests.2 in
     subst SettingsAreWithin (Ok-injective same) (record {
-      workers = ranged_at-within words.0 1 1 64 workers.0 workers.1;
-      initial = ranged_at-within words.0 4 1 1000000000 initial.0 initial.1;
-      entries = ranged_at-within words.0 5 4 4194304 entries.0 entries.1;
-      requests = ranged_at-within words.0 6 1 262144 requests.0 requests.1;
+      workers = ranged_at-within words.0 1 1 MOST_WORKERS workers.0 workers.1;
+      initial = ranged_at-within words.0 4 1 GREATEST_COST initial.0 initial.1;
+      entries = ranged_at-within words.0 5 LEAST_ENTRIES MOST_ENTRIES entries.0 entries.1;
+      requests = ranged_at-within words.0 6 1 MOST_REQUESTS requests.0 requests.1;
     })
 
 -- what holds of a script that is being read
@@ -58,9 +60,9 @@ pub record IsKept (s : Script) : Type 0 where
   pub settings : SettingsAreWithin s.settings
   pub same : length s.weights ≡ length s.tenants
   pub weights : All IsWeight s.weights
-  pub tenants : length s.tenants ≤ 4096
-  pub kinds : length s.kinds ≤ 64
-  pub pairs : length s.tenants * length s.kinds ≤ 65536
+  pub tenants : length s.tenants ≤ MOST_TENANTS
+  pub kinds : length s.kinds ≤ MOST_KINDS
+  pub pairs : length s.tenants * length s.kinds ≤ MOST_PAIRS
   pub order : 0 < length s.kinds → 0 < length s.tenants
 
 few : (t k p : Bool) (s u : Script) → (if t || (k || p) then Err TooMany else Ok s) ≡ Ok u → (t ≡ false) × (k ≡ false) × (p ≡ false) × (s ≡ u)
@@ -70,18 +72,18 @@ few false false true s u h = absurd (cc)
 few false false false s u h = (refl, refl, refl, Ok-injective h)
 
 pub record IsFew (s u : Script) : Type 0 where
-  pub tenants : length s.tenants ≤ 4096
-  pub kinds : length s.kinds ≤ 64
-  pub pairs : length s.tenants * length s.kinds ≤ 65536
+  pub tenants : length s.tenants ≤ MOST_TENANTS
+  pub kinds : length s.kinds ≤ MOST_KINDS
+  pub pairs : length s.tenants * length s.kinds ≤ MOST_PAIRS
   pub same : s ≡ u
 
 pub not_too_many-few : (s u : Script) → not_too_many s ≡ Ok u → IsFew s u
 not_too_many-few s u h =
-    let t = few (nat_lt 4096 (length s.tenants)) (nat_lt 64 (length s.kinds)) (nat_lt 65536 (length s.tenants * length s.kinds)) s u h in
+    let t = few (nat_lt MOST_TENANTS (length s.tenants)) (nat_lt MOST_KINDS (length s.kinds)) (nat_lt MOST_PAIRS (length s.tenants * length s.kinds)) s u h in
     record {
-      tenants = ltb-false 4096 (length s.tenants) t.0;
-      kinds = ltb-false 64 (length s.kinds) t.1;
-      pairs = ltb-false 65536 (length s.tenants * length s.kinds) t.2;
+      tenants = ltb-false MOST_TENANTS (length s.tenants) t.0;
+      kinds = ltb-false MOST_KINDS (length s.kinds) t.1;
+      pairs = ltb-false MOST_PAIRS (length s.tenants * length s.kinds) t.2;
       same = t.3;
     }
 
@@ -94,14 +96,14 @@ unfolding with_tenant
 with_tenant-kept s u line none kept h =
     let words = bind_ok (with_count 3 line) _ u h in
     let name = bind_ok (name_at words.0 1) _ u words.2 in
-    let weight = bind_ok (ranged_at words.0 2 1 1000) _ u name.2 in
+    let weight = bind_ok (ranged_at words.0 2 1 GREATEST_WEIGHT) _ u name.2 in
     let new = bind_ok (new_among s.tenants name.0) _ u weight.2 in
     let more : Script = record s { tenants = s.tenants ++ new.0 ∷ []; weights = s.weights ++ weight.0 ∷ [] } in
     let is_few = not_too_many-few more u new.2 in
     subst IsKept is_few.same (record {
       settings = kept.settings;
       same = omega (arith, kept.same, length-append s.tenants (new.0 ∷ []), length-append s.weights (weight.0 ∷ []));
-      weights = All-append IsWeight s.weights (weight.0 ∷ []) kept.weights (all_one weight.0 (ranged_at-within words.0 2 1 1000 weight.0 weight.1));
+      weights = All-append IsWeight s.weights (weight.0 ∷ []) kept.weights (all_one weight.0 (ranged_at-within words.0 2 1 GREATEST_WEIGHT weight.0 weight.1));
       tenants = is_few.tenants;
       kinds = is_few.kinds;
       pairs = is_few.pairs;
@@ -178,7 +180,7 @@ with_line-kept s u line kept h =
       ]
     ]
 
-at_line-ok : {A : Type 0} (place : ℕ) (r : Result A Kind) (x : A) → at_line place r ≡ Ok x → r ≡ Ok x
+at_line-ok : {A : Type 0} (place : ℕ) (r : Result A ScriptKind) (x : A) → at_line place r ≡ Ok x → r ≡ Ok x
 at_line-ok place (Ok y) x h = cc
 at_line-ok place (Err k) x h = absurd (cc)
 

@@ -7,7 +7,7 @@ use Rattle.fq_model.specs.declared.event.Reply.{Reply}
 use Rattle.fq_model.specs.History.{History}
 use Rattle.fq_model.specs.Outcome.{Outcome}
 use Rattle.fq_model.specs.Rules.{Answers}
-use Rattle.fq_laws.proofs.Outcomes.{outcome_snoc}
+use Rattle.fq_laws.proofs.Outcome.{outcome_snoc}
 
 pub outcome_next : (C D : Config) (Q H : History) (calls : List Call) (i : ℕ) (d : Call) (rs new : List Reply) (r : Reply) → i < length calls → D ≡ C → Outcome C (take i calls) rs Q → Answers D Q (get_or calls i d) r H → new ≡ rs ++ r ∷ [] → Outcome C (take (i + 1) calls) new H
 outcome_next C D Q H calls i d rs new r b same is answers more =

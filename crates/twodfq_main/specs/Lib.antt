@@ -1,3 +1,4 @@
 pub mod Reading
 pub mod Program
 pub mod Causes
+pub mod Stops

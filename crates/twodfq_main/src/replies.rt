@@ -63,7 +63,8 @@ fn refusal_line(alloc: Global, cause: Cause) -> Result<String, AllocError>
 
 fn run_line(alloc: Global, request: u32, estimate: u64, label: u64) -> Result<String, AllocError>
     ensures { IfOk result (λ line. string_bytes line
-        ≡ codes "run " ++ decimal request ++ codes " " ++ decimal estimate ++ codes " " ++ decimal label ++ codes "\n") }
+        ≡ codes "run " ++ decimal request ++ codes " " ++ decimal estimate ++ codes " " ++ decimal label
+        ++ codes "\n") }
 {
     let line = format!(in alloc; "run {request} {estimate} {label}\n")?;
     Ok(line)

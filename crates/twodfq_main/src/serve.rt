@@ -1,20 +1,40 @@
 //! A script's calls, made on a scheduler.
-ghost use Rattle.std.specs.Prelude.{◌≡◌, ◌↔◌, IsTrue, IfOk, true, false, length};
+ghost use Rattle.std.specs.Prelude.{◌≡◌, IfOk};
 ghost use Rattle.fq_model.specs.History.{history_of};
 ghost use Rattle.fq_model.specs.Outcome.{Outcome};
-ghost use Rattle.fq_model.specs.Rules.{Answers};
-ghost use Rattle.sched_state.specs.Replies.{submit_reply, take_reply, report_reply, done_reply};
+ghost use Rattle.sched_state.specs.Replies.{AnswersCall, submit_reply, take_reply, use_reply, close_reply};
 
-use crate::script::reading::Script;
 use fq_model::config::Checked;
 use fq_model::event::{Call, Cause, Reply};
 use rival_policies::plain::PlainChooser;
 use sched_state::{AlreadyClosed, Refused, Scheduler, Taken};
-use std::alloc::Global;
+use std::alloc::{AllocError, Global};
+use std::error::Error;
+use std::fmt;
 
 /// Memory ran out.
 #[derive(Clone, Copy, Debug, PartialEq, Eq)]
 pub struct NoMemory;
+
+impl fmt::Display for NoMemory {
+    fn fmt<W: fmt::Write>(&self, f: &mut fmt::Formatter<W>) -> fmt::Result {
+        write!(f, "out of memory")
+    }
+}
+
+impl Error for NoMemory {}
+
+impl From<AllocError> for NoMemory {
+    fn from(_fault: AllocError) -> NoMemory {
+        NoMemory
+    }
+}
+
+impl From<sched_state::NoMemory> for NoMemory {
+    fn from(_fault: sched_state::NoMemory) -> NoMemory {
+        NoMemory
+    }
+}
 
 /// The replies to the calls of a script, and the scheduler after them.
 #[derive(Drop)]
@@ -27,24 +47,17 @@ pub struct Served {
 pub fn serve(alloc: Global, config: Checked, calls: &[Call]) -> Result<Served, NoMemory>
     ensures { IfOk result (λ s. Outcome config calls.now s.replies.items (history_of s.scheduler.past)) }
 {
-    let Ok(mut replies) = Vec::with_capacity(alloc, calls.len()) else {
-        return Err(NoMemory);
-    };
-    let Ok(mut scheduler) = Scheduler::open(alloc, config) else {
-        return Err(NoMemory);
-    };
+    let mut replies = Vec::with_capacity(alloc, calls.len())?;
+    let mut scheduler = Scheduler::open(alloc, config)?;
     for call in calls {
-        if replies.push(answer(&mut scheduler, *call)).is_err() {
-            return Err(NoMemory);
-        }
+        replies.push_reserved(answer(&mut scheduler, *call));
     }
     Ok(Served { replies, scheduler })
 }
 
 /// What the scheduler answers to a call, whose label is the job of what is submitted.
 pub fn answer(scheduler: &mut Scheduler<u64, PlainChooser>, call: Call) -> Reply
-    ensures answers { Answers scheduler.old.config (history_of scheduler.old.past) call result (history_of scheduler.new.past) }
-    ensures config { scheduler.new.config ≡ scheduler.old.config }
+    ensures { AnswersCall scheduler.old call result scheduler.new }
 {
     match call {
         Call::Submit {
@@ -65,17 +78,14 @@ pub fn answer(scheduler: &mut Scheduler<u64, PlainChooser>, call: Call) -> Reply
             moment,
             worker,
             used,
-        } => used_or_refused(scheduler.report(who, moment, worker, used)),
+        } => told(scheduler.report(who, moment, worker, used)),
         Call::Done {
             who,
             moment,
             worker,
             cost,
-        } => used_or_refused(scheduler.done(who, moment, worker, cost)),
-        Call::Close { who, moment } => match scheduler.close(who, moment) {
-            Ok(()) => Reply::Accepted,
-            Err(AlreadyClosed) => Reply::Refused(Cause::Closed),
-        },
+        } => told(scheduler.done(who, moment, worker, cost)),
+        Call::Close { who, moment } => closed(scheduler.close(who, moment)),
     }
 }
 
@@ -110,13 +120,22 @@ fn taken(outcome: Taken<u64>) -> Reply
     }
 }
 
-// The reply to a report or a done.
-fn used_or_refused(outcome: Result<(), Cause>) -> Reply
-    ensures report { result ≡ report_reply outcome }
-    ensures done { result ≡ done_reply outcome }
+// The reply to a report or to a done.
+fn told(outcome: Result<(), Cause>) -> Reply
+    ensures { result ≡ use_reply outcome }
 {
     match outcome {
         Ok(()) => Reply::Accepted,
         Err(cause) => Reply::Refused(cause),
+    }
+}
+
+// The reply to a close.
+fn closed(outcome: Result<(), AlreadyClosed>) -> Reply
+    ensures { result ≡ close_reply outcome }
+{
+    match outcome {
+        Ok(()) => Reply::Accepted,
+        Err(AlreadyClosed) => Reply::Refused(Cause::Closed),
     }
 }

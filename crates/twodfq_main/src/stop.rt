@@ -2,6 +2,13 @@
 ghost use Rattle.std.specs.Prelude.{◌≡◌, Err};
 ghost use Rattle.twodfq_main.specs.Program.{status_of, message_of};
 
+use crate::script::fault::ScriptFault;
+use crate::serve::NoMemory;
+use fq_io::{ReadAllFault, WriteFault};
+use std::alloc::AllocError;
+use std::error::Error;
+use std::fmt;
+
 /// Why the program stops short of its output.
 #[derive(Clone, Copy, Debug, PartialEq, Eq)]
 pub enum Stop {
@@ -20,7 +27,7 @@ pub enum Stop {
 }
 
 impl Stop {
-    /// The exit status.
+    /// The exit status: 2 to 6.
     pub fn status(self) -> u8
         ensures { result ≡ status_of (Err self) }
     {
@@ -45,5 +52,71 @@ impl Stop {
             Stop::Writing => "twodfq: writing failed\n",
             Stop::NoMemory => "twodfq: out of memory\n",
         }
+    }
+}
+
+/// The message without its line end.
+impl fmt::Display for Stop {
+    fn fmt<W: fmt::Write>(&self, f: &mut fmt::Formatter<W>) -> fmt::Result {
+        write!(f, "{}", self.message().trim_end())
+    }
+}
+
+impl Error for Stop {}
+
+impl From<ReadAllFault> for Stop {
+    ghost use Rattle.twodfq_main.specs.Stops.{reading_stop};
+
+    ghost from_gives = { λ fault stop. stop ≡ reading_stop fault };
+
+    fn from(fault: ReadAllFault) -> Stop {
+        match fault {
+            ReadAllFault::ReadFault => Stop::Reading,
+            ReadAllFault::TooLong(_) => Stop::TooLong,
+            ReadAllFault::NoMemory => Stop::NoMemory,
+        }
+    }
+}
+
+impl From<WriteFault> for Stop {
+    ghost use Rattle.twodfq_main.specs.declared.stop.Stop.TheVariants.{Writing};
+
+    ghost from_gives = { λ _ stop. stop ≡ Writing };
+
+    fn from(_fault: WriteFault) -> Stop {
+        Stop::Writing
+    }
+}
+
+impl From<ScriptFault> for Stop {
+    ghost use Rattle.twodfq_main.specs.Stops.{script_stop};
+
+    ghost from_gives = { λ fault stop. stop ≡ script_stop fault };
+
+    fn from(fault: ScriptFault) -> Stop {
+        match fault {
+            ScriptFault::At { .. } => Stop::NotAccepted,
+            ScriptFault::NoMemory => Stop::NoMemory,
+        }
+    }
+}
+
+impl From<NoMemory> for Stop {
+    ghost use Rattle.twodfq_main.specs.declared.stop.Stop.TheVariants as stops;
+
+    ghost from_gives = { λ _ stop. stop ≡ stops.NoMemory };
+
+    fn from(_fault: NoMemory) -> Stop {
+        Stop::NoMemory
+    }
+}
+
+impl From<AllocError> for Stop {
+    ghost use Rattle.twodfq_main.specs.declared.stop.Stop.TheVariants as stops;
+
+    ghost from_gives = { λ _ stop. stop ≡ stops.NoMemory };
+
+    fn from(_fault: AllocError) -> Stop {
+        Stop::NoMemory
     }
 }

@@ -1,6 +1,10 @@
 //! Worked examples of the program, from the bytes that come in to the bytes that go out.
 use crate::program::{plain, twodfq};
+use crate::script::fault::{LineError, ScriptFault};
+use crate::serve::NoMemory;
+use crate::stop::Stop;
 use fq_io::{FixedClock, MemSink, MemSource, read_all};
+use fq_model::fault::ScriptKind;
 use std::alloc::Global;
 use std::process::Abort;
 use std::test::Fail;
@@ -157,27 +161,30 @@ const BY_IDLE_TIME: &str =
     "request 0\nrun 0 1000 1\nrequest 1\nrequest 2\nok\nrun 1 10 2\nok\nrequest 3\nrun 3 200 4\n";
 
 #[test]
-fn serves_wfq(rt: HostRuntime) -> Result<(), Fail> {
-    let input = format!(in rt.alloc(); "script 1\nconfig 1 wfq {AFTER_A_REST}")?;
-    answers(&rt, rt.alloc(), input.as_str(), BY_TAG)
+fn serves_under_each_policy(rt: HostRuntime) -> Result<(), Fail> {
+    for (policy, replies) in [
+        ("wfq", BY_TAG),
+        ("wf2q", BY_TAG),
+        ("2dfq", BY_TAG),
+        ("msf2q", BY_IDLE_TIME),
+    ] {
+        let input = format!(in rt.alloc(); "script 1\nconfig 1 {policy} {AFTER_A_REST}")?;
+        answers(&rt, rt.alloc(), input.as_str(), replies)?;
+    }
+    Ok(())
 }
 
+// A submit that names an earlier moment than the entry before it takes effect at that entry's: at 4 it would be served first.
 #[test]
-fn serves_wf2q(rt: HostRuntime) -> Result<(), Fail> {
-    let input = format!(in rt.alloc(); "script 1\nconfig 1 wf2q {AFTER_A_REST}")?;
-    answers(&rt, rt.alloc(), input.as_str(), BY_TAG)
-}
-
-#[test]
-fn serves_2dfq(rt: HostRuntime) -> Result<(), Fail> {
-    let input = format!(in rt.alloc(); "script 1\nconfig 1 2dfq {AFTER_A_REST}")?;
-    answers(&rt, rt.alloc(), input.as_str(), BY_TAG)
-}
-
-#[test]
-fn serves_msf2q(rt: HostRuntime) -> Result<(), Fail> {
-    let input = format!(in rt.alloc(); "script 1\nconfig 1 msf2q {AFTER_A_REST}")?;
-    answers(&rt, rt.alloc(), input.as_str(), BY_IDLE_TIME)
+fn keeps_moments_in_order(rt: HostRuntime) -> Result<(), Fail> {
+    let input = "script 1\nconfig 1 wf2q declared 1000 100 10\ntenant a 1\ntenant b 1\nkind get\n\
+        submit 0 0 0 0 20 0\ntake 10 5 0\ndone 10 7 0 1\nsubmit 1 4 1 0 2 3\nsubmit 0 7 0 0 1 4\ntake 10 12 0\n";
+    answers(
+        &rt,
+        rt.alloc(),
+        input,
+        "request 0\nrun 0 20 0\nok\nrequest 1\nrequest 2\nrun 2 1 4\n",
+    )
 }
 
 // The mean of the costs so far, 4 and 7, is 5.
@@ -211,17 +218,19 @@ fn refuses_reports_without_room(rt: HostRuntime) -> Result<(), Fail> {
 #[test]
 fn refuses_calls(rt: HostRuntime) -> Result<(), Fail> {
     let input = format!(in rt.alloc();
-        "{HEAD}submit 0 0 2 0 5 1\nsubmit 0 0 0 1 5 1\nsubmit 0 0 0 0 0 1\ntake 10 0 1\n\
-        submit 0 0 0 0 5 1\ntake 10 0 0\ntake 10 0 0\nreport 10 7 0 7\nreport 10 8 0 6\n\
+        "{HEAD}submit 0 0 2 0 5 1\nsubmit 0 0 0 1 5 1\nsubmit 0 0 0 0 0 1\nsubmit 0 0 0 0 1000000001 1\n\
+        take 10 0 1\nreport 10 0 1 7\nreport 10 0 0 7\nsubmit 0 0 0 0 5 1\ntake 10 0 0\ntake 10 0 0\n\
+        report 10 7 0 1000000001\nreport 10 7 0 7\nreport 10 8 0 6\n\
         done 10 8 0 6\ndone 10 9 0 1000000001\ndone 10 9 0 7\ndone 10 9 0 7\n"
     )?;
     answers(
         &rt,
         rt.alloc(),
         input.as_str(),
-        "refused tenant 2\nrefused kind 1\nrefused cost 0\nrefused worker 1\nrequest 0\n\
-        run 0 5 1\nrefused busy 0\nok\nrefused falling 7 6\nrefused falling 7 6\n\
-        refused cost 1000000001\nok\nrefused not-running\n",
+        "refused tenant 2\nrefused kind 1\nrefused cost 0\nrefused cost 1000000001\n\
+        refused worker 1\nrefused worker 1\nrefused not-running\nrequest 0\nrun 0 5 1\nrefused busy 0\n\
+        refused cost 1000000001\nok\nrefused falling 7 6\n\
+        refused falling 7 6\nrefused cost 1000000001\nok\nrefused not-running\n",
     )
 }
 
@@ -332,5 +341,21 @@ fn serves_with_a_clock(rt: HostRuntime) -> Result<(), Fail> {
     assert_eq!(rt; status, 0);
     assert_eq!(rt; written.bytes(), SERVED_REPLIES.as_bytes());
     assert_eq!(rt; told.bytes(), b"".as_slice());
+    Ok(())
+}
+
+#[test]
+fn errors_have_texts(rt: HostRuntime) -> Result<(), Fail> {
+    let kind = ScriptKind::Number(4);
+    let fault = ScriptFault::At { line: 7, kind };
+    let texts = format!(in rt.alloc();
+        "{}; {fault}; {}; {NoMemory}",
+        Stop::Reading,
+        LineError::Fault(kind)
+    )?;
+    assert_eq!(rt;
+        texts.as_str(),
+        "twodfq: reading failed; line 7: word 4 is not a number; word 4 is not a number; out of memory"
+    );
     Ok(())
 }

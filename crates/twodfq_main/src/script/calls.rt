@@ -1,16 +1,16 @@
 //! The lines of calls.
-ghost use Rattle.std.specs.Prelude.{◌≡◌, ◌<◌, map, length};
+ghost use Rattle.std.specs.Prelude.{◌≡◌, ◌<◌, length};
 ghost use Rattle.fq_model.specs.Script.{submit_of, take_of, report_of, done_of, close_of, call_of};
-ghost use Rattle.twodfq_main.specs.Reading.{Gives};
+ghost use Rattle.twodfq_main.specs.Reading.{Gives, words_in};
 
 use crate::script::fault::LineError;
 use crate::script::words::{begins_with, expect_count, index_at, number_at};
 use fq_model::event::Call;
-use fq_model::fault::Kind;
+use fq_model::fault::ScriptKind;
 
 #[tactic(auto, unfolding(fq_model::specs::Script::submit_of))]
 fn submit(words: &[&[u8]]) -> Result<Call, LineError>
-    ensures { Gives (λ c. c) result (submit_of (map (λ w. w.now) words.now)) }
+    ensures { Gives (λ c. c) result (submit_of (words_in words.now)) }
 {
     expect_count(words, 7)?;
     let who = index_at(words, 1)?;
@@ -31,7 +31,7 @@ fn submit(words: &[&[u8]]) -> Result<Call, LineError>
 
 #[tactic(auto, unfolding(fq_model::specs::Script::take_of))]
 fn take(words: &[&[u8]]) -> Result<Call, LineError>
-    ensures { Gives (λ c. c) result (take_of (map (λ w. w.now) words.now)) }
+    ensures { Gives (λ c. c) result (take_of (words_in words.now)) }
 {
     expect_count(words, 4)?;
     let who = index_at(words, 1)?;
@@ -46,7 +46,7 @@ fn take(words: &[&[u8]]) -> Result<Call, LineError>
 
 #[tactic(auto, unfolding(fq_model::specs::Script::report_of))]
 fn report(words: &[&[u8]]) -> Result<Call, LineError>
-    ensures { Gives (λ c. c) result (report_of (map (λ w. w.now) words.now)) }
+    ensures { Gives (λ c. c) result (report_of (words_in words.now)) }
 {
     expect_count(words, 5)?;
     let who = index_at(words, 1)?;
@@ -63,7 +63,7 @@ fn report(words: &[&[u8]]) -> Result<Call, LineError>
 
 #[tactic(auto, unfolding(fq_model::specs::Script::done_of))]
 fn done(words: &[&[u8]]) -> Result<Call, LineError>
-    ensures { Gives (λ c. c) result (done_of (map (λ w. w.now) words.now)) }
+    ensures { Gives (λ c. c) result (done_of (words_in words.now)) }
 {
     expect_count(words, 5)?;
     let who = index_at(words, 1)?;
@@ -80,7 +80,7 @@ fn done(words: &[&[u8]]) -> Result<Call, LineError>
 
 #[tactic(auto, unfolding(fq_model::specs::Script::close_of))]
 fn close(words: &[&[u8]]) -> Result<Call, LineError>
-    ensures { Gives (λ c. c) result (close_of (map (λ w. w.now) words.now)) }
+    ensures { Gives (λ c. c) result (close_of (words_in words.now)) }
 {
     expect_count(words, 3)?;
     let who = index_at(words, 1)?;
@@ -91,7 +91,7 @@ fn close(words: &[&[u8]]) -> Result<Call, LineError>
 /// The call of a line. Takes no memory.
 #[tactic(auto, unfolding(fq_model::specs::Script::call_of))]
 pub fn call(words: &[&[u8]]) -> Result<Call, LineError>
-    ensures { Gives (λ c. c) result (call_of (map (λ w. w.now) words.now)) }
+    ensures { Gives (λ c. c) result (call_of (words_in words.now)) }
 {
     if begins_with(words, b"submit") {
         submit(words)
@@ -104,6 +104,6 @@ pub fn call(words: &[&[u8]]) -> Result<Call, LineError>
     } else if begins_with(words, b"close") {
         close(words)
     } else {
-        Err(LineError::Fault(Kind::Word))
+        Err(LineError::Fault(ScriptKind::Word))
     }
 }

@@ -3,24 +3,29 @@ ghost use Rattle.std.specs.Prelude.{◌≡◌};
 ghost use Rattle.twodfq_main.specs.declared.script.fault.LineError.TheVariants.{Memory};
 ghost use Rattle.twodfq_main.specs.Reading.{fault_at};
 
-use fq_model::fault::Kind;
+use fq_model::fault::ScriptKind;
 use std::alloc::{AllocError, AllocFailed};
+use thiserror::Error;
 
 /// Why a script was not read.
-#[derive(Clone, Copy, Debug, PartialEq, Eq)]
+#[derive(Clone, Copy, Debug, PartialEq, Eq, Error)]
 pub enum ScriptFault {
     /// The first fault: its line, counted from 1, and what is wrong there.
-    At { line: u64, kind: Kind },
+    #[error("line {line}: {kind}")]
+    At { line: u64, kind: ScriptKind },
     /// Memory ran out.
+    #[error("out of memory")]
     NoMemory,
 }
 
 /// Why a line was not read.
-#[derive(Clone, Copy, Debug, PartialEq, Eq)]
+#[derive(Clone, Copy, Debug, PartialEq, Eq, Error)]
 pub enum LineError {
     /// The line's first fault.
-    Fault(Kind),
+    #[error("{0}")]
+    Fault(ScriptKind),
     /// Memory ran out.
+    #[error("out of memory")]
     Memory,
 }
 

@@ -1,11 +1,12 @@
 //! The config line.
-ghost use Rattle.std.specs.Prelude.{◌≡◌, map};
+ghost use Rattle.std.specs.Prelude.{◌≡◌};
 ghost use Rattle.fq_model.specs.Script.{settings_of};
-ghost use Rattle.twodfq_main.specs.Reading.{Gives};
+ghost use Rattle.twodfq_main.specs.Reading.{Gives, words_in};
 
 use crate::script::fault::LineError;
 use crate::script::words::{estimator_at, expect_count, policy_at, ranged_at, small_at};
 use fq_model::config::{Estimator, Policy};
+use fq_model::limits::{GREATEST_COST, LEAST_ENTRIES, MOST_ENTRIES, MOST_REQUESTS, MOST_WORKERS};
 use std::marker::Model;
 
 /// What the config line says.
@@ -28,21 +29,28 @@ impl Model for Settings {
 
     ghost Value = { Settings };
 
-    ghost view = { λ s. record { workers = s.workers; policy = s.policy; estimate = s.estimate; initial = s.initial; entries = s.entries; requests = s.requests } };
+    ghost view = { λ s. record {
+      workers = s.workers;
+      policy = s.policy;
+      estimate = s.estimate;
+      initial = s.initial;
+      entries = s.entries;
+      requests = s.requests;
+    } };
 }
 
 /// Reads the words of a config line. Takes no memory.
 #[tactic(auto, unfolding(fq_model::specs::Script::settings_of))]
 pub fn read_settings(words: &[&[u8]]) -> Result<Settings, LineError>
-    ensures { Gives (λ s. s) result (settings_of (map (λ w. w.now) words.now)) }
+    ensures { Gives (λ s. s) result (settings_of (words_in words.now)) }
 {
     expect_count(words, 7)?;
-    let workers = small_at(words, 1, 1, 64)?;
+    let workers = small_at(words, 1, 1, MOST_WORKERS)?;
     let policy = policy_at(words, 2)?;
     let estimate = estimator_at(words, 3)?;
-    let initial = ranged_at(words, 4, 1, 1000000000)?;
-    let entries = small_at(words, 5, 4, 4194304)?;
-    let requests = small_at(words, 6, 1, 262144)?;
+    let initial = ranged_at(words, 4, 1, GREATEST_COST)?;
+    let entries = small_at(words, 5, LEAST_ENTRIES, MOST_ENTRIES)?;
+    let requests = small_at(words, 6, 1, MOST_REQUESTS)?;
     Ok(Settings {
         workers,
         policy,

@@ -1,7 +1,7 @@
 //! Lines of a text, and words of a line.
-ghost use Rattle.std.specs.Prelude.{◌≡◌, ◌==◌, [], MatchOption, IfOk, map, position};
+ghost use Rattle.std.specs.Prelude.{◌≡◌, ◌==◌, [], MatchOption, IfOk, position};
 ghost use Rattle.fq_model.specs.Script.{words_of};
-ghost use Rattle.twodfq_main.specs.Reading.{IsFirstLine};
+ghost use Rattle.twodfq_main.specs.Reading.{IsFirstLine, words_in};
 
 use std::alloc::{AllocError, Global};
 
@@ -26,7 +26,7 @@ fn line_end(text: &[u8]) -> Option<usize>
 
 /// The words of a line.
 pub fn words(alloc: Global, line: &[u8]) -> Result<Vec<&[u8]>, AllocError>
-    ensures { IfOk result (λ v. map (λ w. w.now) v.items ≡ words_of line.now) }
+    ensures { IfOk result (λ v. words_in v.items ≡ words_of line.now) }
 {
     line.split(|b| *b == b' ').collect(alloc)
 }

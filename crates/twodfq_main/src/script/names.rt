@@ -41,10 +41,5 @@ impl Name {
 pub fn is_among(names: &[Name], name: &[u8]) -> bool
     ensures { result ≡ list_any (λ other. bytes_eq other name.now) names.now }
 {
-    for other in names {
-        if other.as_bytes() == name {
-            return true;
-        }
-    }
-    false
+    names.iter().any(|other| other.as_bytes() == name)
 }

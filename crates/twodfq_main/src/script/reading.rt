@@ -1,8 +1,8 @@
 //! The reader of scripts.
-ghost use Rattle.std.specs.Prelude.{◌≡◌, ◌+◌, ◌<◌, ◌≤◌, ◌^◌, length, map, Ok, IfOk, IfErr};
+ghost use Rattle.std.specs.Prelude.{◌≡◌, ◌+◌, ◌<◌, ◌≤◌, ◌^◌, length, None, Ok, IfOk, IfErr};
 ghost use Rattle.fq_model.specs.Script.{not_too_many, with_tenant, with_kind, with_call, with_line, with_lines, opened, config_line, below_header, config_of, script_of, words_of, lines_of};
-ghost use Rattle.fq_model.specs.Limits.{InLimits};
-ghost use Rattle.twodfq_main.specs.Reading.{Gives, IsFirstFault};
+ghost use Rattle.fq_model.specs.Limits.{config_fault};
+ghost use Rattle.twodfq_main.specs.Reading.{Gives, IsFirstFault, words_in};
 
 use crate::script::calls::call;
 use crate::script::fault::{LineError, ScriptFault};
@@ -12,7 +12,8 @@ use crate::script::names::{Name, is_among};
 use crate::script::words::{begins_with, expect_count, name_at, small_at};
 use fq_model::config::{Checked, Config, Weights};
 use fq_model::event::Call;
-use fq_model::fault::Kind;
+use fq_model::fault::ScriptKind;
+use fq_model::limits::{GREATEST_WEIGHT, MOST_KINDS, MOST_PAIRS, MOST_TENANTS};
 use std::alloc::Global;
 use std::marker::Model;
 
@@ -34,7 +35,13 @@ impl Model for Script {
 
     ghost use Rattle.twodfq_main.specs.Reading.{settings_in};
 
-    ghost view = { λ s. record { settings = settings_in s.config; tenants = s.tenants.items; weights = s.config.weights; kinds = s.kinds.items; calls = s.calls.items } };
+    ghost view = { λ s. record {
+      settings = settings_in s.config;
+      tenants = s.tenants.items;
+      weights = s.config.weights;
+      kinds = s.kinds.items;
+      calls = s.calls.items;
+    } };
 
     ghost invariant = { λ s. s.config.kinds ≡ length s.kinds.items };
 }
@@ -100,7 +107,13 @@ impl Model for Draft {
 
     ghost Value = { Script };
 
-    ghost view = { λ s. record { settings = s.settings; tenants = s.tenants.items; weights = s.weights.items; kinds = s.kinds.items; calls = s.calls.items } };
+    ghost view = { λ s. record {
+      settings = s.settings;
+      tenants = s.tenants.items;
+      weights = s.weights.items;
+      kinds = s.kinds.items;
+      calls = s.calls.items;
+    } };
 }
 
 impl Draft {
@@ -119,7 +132,7 @@ impl Draft {
 
     // The script, now that its lines are read.
     fn finish(self) -> Script
-        requires { InLimits (config_of self) }
+        requires { config_fault (config_of self) ≡ None }
         ensures { result ≡ self }
     {
         let Draft {
@@ -139,14 +152,11 @@ impl Draft {
             estimate: settings.estimate,
             initial: settings.initial,
         };
-        match config.check() {
-            Ok(config) => Script {
-                config,
-                tenants,
-                kinds,
-                calls,
-            },
-            Err(_) => unreachable!(),
+        Script {
+            config: config.check().unwrap(),
+            tenants,
+            kinds,
+            calls,
         }
     }
 
@@ -156,21 +166,24 @@ impl Draft {
     {
         let tenants = self.tenants.len();
         let kinds = self.kinds.len();
-        if tenants > 4096 || kinds > 64 || tenants * kinds > 65536 {
-            return Err(LineError::Fault(Kind::TooMany));
+        if tenants > MOST_TENANTS as usize
+            || kinds > MOST_KINDS as usize
+            || tenants * kinds > MOST_PAIRS as usize
+        {
+            return Err(LineError::Fault(ScriptKind::TooMany));
         }
         Ok(())
     }
 
     #[tactic(auto, unfolding(fq_model::specs::Script::with_tenant))]
     fn add_tenant(&mut self, alloc: Global, words: &[&[u8]]) -> Result<(), LineError>
-        ensures { Gives (λ _. self.new) result (with_tenant self.old (map (λ w. w.now) words.now)) }
+        ensures { Gives (λ _. self.new) result (with_tenant self.old (words_in words.now)) }
     {
         expect_count(words, 3)?;
         let name = name_at(words, 1)?;
-        let weight = small_at(words, 2, 1, 1000)?;
+        let weight = small_at(words, 2, 1, GREATEST_WEIGHT)?;
         if is_among(self.tenants.as_slice(), name) {
-            return Err(LineError::Fault(Kind::Twice));
+            return Err(LineError::Fault(ScriptKind::Twice));
         }
         self.tenants.push(Name::from_slice(alloc, name)?)?;
         self.weights.push(weight)?;
@@ -179,12 +192,12 @@ impl Draft {
 
     #[tactic(auto, unfolding(fq_model::specs::Script::with_kind))]
     fn add_kind(&mut self, alloc: Global, words: &[&[u8]]) -> Result<(), LineError>
-        ensures { Gives (λ _. self.new) result (with_kind self.old (map (λ w. w.now) words.now)) }
+        ensures { Gives (λ _. self.new) result (with_kind self.old (words_in words.now)) }
     {
         expect_count(words, 2)?;
         let name = name_at(words, 1)?;
         if is_among(self.kinds.as_slice(), name) {
-            return Err(LineError::Fault(Kind::Twice));
+            return Err(LineError::Fault(ScriptKind::Twice));
         }
         self.kinds.push(Name::from_slice(alloc, name)?)?;
         self.expect_few()
@@ -192,7 +205,7 @@ impl Draft {
 
     #[tactic(auto, unfolding(fq_model::specs::Script::with_call))]
     fn add_call(&mut self, words: &[&[u8]]) -> Result<(), LineError>
-        ensures { Gives (λ _. self.new) result (with_call self.old (map (λ w. w.now) words.now)) }
+        ensures { Gives (λ _. self.new) result (with_call self.old (words_in words.now)) }
     {
         self.calls.push(call(words)?)?;
         Ok(())
@@ -200,14 +213,14 @@ impl Draft {
 
     #[tactic(auto, unfolding(fq_model::specs::Script::with_line))]
     fn add_words(&mut self, alloc: Global, words: &[&[u8]]) -> Result<(), LineError>
-        ensures { Gives (λ _. self.new) result (with_line self.old (map (λ w. w.now) words.now)) }
+        ensures { Gives (λ _. self.new) result (with_line self.old (words_in words.now)) }
     {
         if begins_with(words, b"tenant") && self.kinds.is_empty() {
             self.add_tenant(alloc, words)
         } else if begins_with(words, b"kind") && !self.tenants.is_empty() && self.calls.is_empty() {
             self.add_kind(alloc, words)
         } else if self.kinds.is_empty() {
-            Err(LineError::Fault(Kind::Word))
+            Err(LineError::Fault(ScriptKind::Word))
         } else {
             self.add_call(words)
         }
@@ -224,10 +237,10 @@ impl Draft {
 
 #[tactic(auto, unfolding(fq_model::specs::Script::config_line))]
 fn config_words(alloc: Global, words: &[&[u8]]) -> Result<Draft, LineError>
-    ensures { Gives (λ s. s) result (config_line (map (λ w. w.now) words.now)) }
+    ensures { Gives (λ s. s) result (config_line (words_in words.now)) }
 {
     if !begins_with(words, b"config") {
-        return Err(LineError::Fault(Kind::Word));
+        return Err(LineError::Fault(ScriptKind::Word));
     }
     Ok(Draft::opened(alloc, read_settings(words)?))
 }
@@ -256,7 +269,7 @@ fn with_lines(alloc: Global, mut script: Draft, text: &[u8]) -> Result<Draft, Sc
     if script.kinds.is_empty() {
         return Err(ScriptFault::At {
             line: place,
-            kind: Kind::Missing,
+            kind: ScriptKind::Missing,
         });
     }
     Ok(script)
@@ -269,7 +282,7 @@ fn below_header(alloc: Global, text: &[u8]) -> Result<Draft, ScriptFault>
     let Some((line, below)) = next_line(text) else {
         return Err(ScriptFault::At {
             line: 2,
-            kind: Kind::Missing,
+            kind: ScriptKind::Missing,
         });
     };
     match config_line(alloc, line) {
@@ -290,7 +303,7 @@ fn read_draft(alloc: Global, bytes: &[u8]) -> Result<Draft, ScriptFault>
     }
     Err(ScriptFault::At {
         line: 1,
-        kind: Kind::Header,
+        kind: ScriptKind::Header,
     })
 }
 

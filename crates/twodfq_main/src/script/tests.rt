@@ -3,7 +3,7 @@ use crate::script::fault::ScriptFault;
 use crate::script::reading::read_script;
 use fq_model::config::{Estimator, Policy};
 use fq_model::event::Call;
-use fq_model::fault::Kind;
+use fq_model::fault::ScriptKind;
 use std::alloc::{AllocError, Global};
 use std::process::Abort;
 use std::test::Fail;
@@ -20,7 +20,7 @@ fn expect_none(rt: &impl Abort, alloc: Global, text: &str) {
     assert_eq!(rt; fault(alloc, text), None);
 }
 
-fn expect(rt: &impl Abort, alloc: Global, text: &str, line: u64, kind: Kind) {
+fn expect(rt: &impl Abort, alloc: Global, text: &str, line: u64, kind: ScriptKind) {
     assert_eq!(rt;
         fault(alloc, text),
         Some(ScriptFault::At { line, kind }),
@@ -35,7 +35,7 @@ fn expect_below(
     start: &str,
     line: &str,
     place: u64,
-    kind: Kind,
+    kind: ScriptKind,
 ) -> Result<(), AllocError> {
     let text = format!(in alloc; "{start}{line}\n")?;
     expect(rt, alloc, text.as_str(), place, kind);
@@ -122,99 +122,135 @@ fn reads_every_word(rt: HostRuntime) {
 #[test]
 fn names_faults_of_the_first_lines(rt: HostRuntime) {
     let alloc = rt.alloc();
-    expect(&rt, alloc, "", 1, Kind::Header);
-    expect(&rt, alloc, "\n", 1, Kind::Header);
-    expect(&rt, alloc, "script 2\n", 1, Kind::Header);
-    expect(&rt, alloc, "script 1 \n", 1, Kind::Header);
-    expect(&rt, alloc, "script 1\r\n", 1, Kind::Header);
-    expect(&rt, alloc, "script 1", 2, Kind::Missing);
-    expect(&rt, alloc, "script 1\n", 2, Kind::Missing);
-    expect(&rt, alloc, "script 1\n\n", 2, Kind::Word);
-    expect(&rt, alloc, "script 1\ntenant a 1\n", 2, Kind::Word);
-    expect(&rt, alloc, CONFIG, 3, Kind::Missing);
+    expect(&rt, alloc, "", 1, ScriptKind::Header);
+    expect(&rt, alloc, "\n", 1, ScriptKind::Header);
+    expect(&rt, alloc, "script 2\n", 1, ScriptKind::Header);
+    expect(&rt, alloc, "script 1 \n", 1, ScriptKind::Header);
+    expect(&rt, alloc, "script 1\r\n", 1, ScriptKind::Header);
+    expect(&rt, alloc, "script 1", 2, ScriptKind::Missing);
+    expect(&rt, alloc, "script 1\n", 2, ScriptKind::Missing);
+    expect(&rt, alloc, "script 1\n\n", 2, ScriptKind::Word);
+    expect(&rt, alloc, "script 1\ntenant a 1\n", 2, ScriptKind::Word);
+    expect(&rt, alloc, CONFIG, 3, ScriptKind::Missing);
     expect(
         &rt,
         alloc,
         "script 1\nconfig 1 2dfq declared 1000 100 10\ntenant a 1",
         4,
-        Kind::Missing,
+        ScriptKind::Missing,
     );
 }
 
 #[test]
 fn names_faults_of_the_config_line(rt: HostRuntime) -> Result<(), Fail> {
     let alloc = rt.alloc();
-    let config = |line: &str, kind: Kind| expect_below(&rt, alloc, "script 1\n", line, 2, kind);
-    config("config 1 2dfq declared 1000 100", Kind::Fields(6))?;
-    config("config 1 2dfq declared 1000 100 10 ", Kind::Fields(8))?;
-    config("config  1 2dfq declared 1000 100 10", Kind::Fields(8))?;
-    config("config 01 fifo declared 1000 100 10", Kind::Number(2))?;
-    config("config 0 fifo declared 1000 100 10", Kind::Range(2))?;
-    config("config 65 2dfq declared 1000 100 10", Kind::Range(2))?;
-    config("config 1 fifo declared 0 100 10", Kind::Word)?;
-    config("config 1 2dfq mean 0 100 10", Kind::Word)?;
-    config("config 1 2dfq declared 0 3 10", Kind::Range(5))?;
-    config("config 1 2dfq declared 1000000001 3 10", Kind::Range(5))?;
-    config("config 1 2dfq declared 1000 3 0", Kind::Range(6))?;
-    config("config 1 2dfq declared 1000 4194305 0", Kind::Range(6))?;
-    config("config 1 2dfq declared 1000 100 0", Kind::Range(7))?;
-    config("config 1 2dfq declared 1000 100 262145", Kind::Range(7))?;
-    config("config 1 2dfq declared 1000 100 10\r", Kind::Number(7))?;
+    let config = |line: &str, kind: ScriptKind| expect_below(
+        &rt,
+        alloc,
+        "script 1\n",
+        line,
+        2,
+        kind,
+    );
+    config("config 1 2dfq declared 1000 100", ScriptKind::Fields(6))?;
+    config("config 1 2dfq declared 1000 100 10 ", ScriptKind::Fields(8))?;
+    config("config  1 2dfq declared 1000 100 10", ScriptKind::Fields(8))?;
+    config("config 01 fifo declared 1000 100 10", ScriptKind::Number(2))?;
+    config("config 0 fifo declared 1000 100 10", ScriptKind::Range(2))?;
+    config("config 65 2dfq declared 1000 100 10", ScriptKind::Range(2))?;
+    config("config 1 fifo declared 0 100 10", ScriptKind::Word)?;
+    config("config 1 2dfq mean 0 100 10", ScriptKind::Word)?;
+    config("config 1 2dfq declared 0 3 10", ScriptKind::Range(5))?;
+    config(
+        "config 1 2dfq declared 1000000001 3 10",
+        ScriptKind::Range(5),
+    )?;
+    config("config 1 2dfq declared 1000 3 0", ScriptKind::Range(6))?;
+    config(
+        "config 1 2dfq declared 1000 4194305 0",
+        ScriptKind::Range(6),
+    )?;
+    config("config 1 2dfq declared 1000 100 0", ScriptKind::Range(7))?;
+    config(
+        "config 1 2dfq declared 1000 100 262145",
+        ScriptKind::Range(7),
+    )?;
+    config(
+        "config 1 2dfq declared 1000 100 10\r",
+        ScriptKind::Number(7),
+    )?;
     Ok(())
 }
 
 #[test]
 fn names_faults_of_tenants_and_kinds(rt: HostRuntime) -> Result<(), Fail> {
     let alloc = rt.alloc();
-    let tenant = |line: &str, kind: Kind| expect_below(&rt, alloc, CONFIG, line, 3, kind);
-    tenant("kind get", Kind::Word)?;
-    tenant("config 1 2dfq declared 1000 100 10", Kind::Word)?;
-    tenant("tenant a", Kind::Fields(2))?;
-    tenant("tenant  1", Kind::Word)?;
-    tenant("tenant a! 0", Kind::Word)?;
-    tenant("tenant a x", Kind::Number(3))?;
-    tenant("tenant a 0", Kind::Range(3))?;
-    tenant("tenant a 1001", Kind::Range(3))?;
+    let tenant = |line: &str, kind: ScriptKind| expect_below(&rt, alloc, CONFIG, line, 3, kind);
+    tenant("kind get", ScriptKind::Word)?;
+    tenant("config 1 2dfq declared 1000 100 10", ScriptKind::Word)?;
+    tenant("tenant a", ScriptKind::Fields(2))?;
+    tenant("tenant  1", ScriptKind::Word)?;
+    tenant("tenant a! 0", ScriptKind::Word)?;
+    tenant("tenant a x", ScriptKind::Number(3))?;
+    tenant("tenant a 0", ScriptKind::Range(3))?;
+    tenant("tenant a 1001", ScriptKind::Range(3))?;
     let letters = "aaaaaaaaaaaaaaaaaaaaaaaaaaaaaaaaaaaaaaaaaaaaaaaaaaaaaaaaaaaaaaaa";
     assert_eq!(rt; letters.len(), 64);
     let long = format!(in alloc; "tenant {letters}a 1")?;
-    tenant(long.as_str(), Kind::Word)?;
+    tenant(long.as_str(), ScriptKind::Word)?;
     let fits = format!(in alloc; "{CONFIG}tenant {letters} 1\nkind {letters}\n")?;
     expect_none(&rt, alloc, fits.as_str());
     let more = format!(in alloc; "{CONFIG}tenant a 1\n")?;
-    expect_below(&rt, alloc, more.as_str(), "take 0 0 0", 4, Kind::Word)?;
-    expect_below(&rt, alloc, more.as_str(), "tenant a 0", 4, Kind::Range(3))?;
-    expect_below(&rt, alloc, more.as_str(), "tenant a 2", 4, Kind::Twice)?;
-    expect_below(&rt, alloc, more.as_str(), "kind", 4, Kind::Fields(1))?;
-    expect_below(&rt, alloc, more.as_str(), "kind ", 4, Kind::Word)?;
-    expect_below(&rt, alloc, HEAD, "kind get", 5, Kind::Twice)?;
-    expect_below(&rt, alloc, HEAD, "tenant b 1", 5, Kind::Word)?;
-    expect_below(&rt, alloc, HEAD, "close 0 0\nkind put", 6, Kind::Word)?;
+    expect_below(&rt, alloc, more.as_str(), "take 0 0 0", 4, ScriptKind::Word)?;
+    expect_below(
+        &rt,
+        alloc,
+        more.as_str(),
+        "tenant a 0",
+        4,
+        ScriptKind::Range(3),
+    )?;
+    expect_below(
+        &rt,
+        alloc,
+        more.as_str(),
+        "tenant a 2",
+        4,
+        ScriptKind::Twice,
+    )?;
+    expect_below(&rt, alloc, more.as_str(), "kind", 4, ScriptKind::Fields(1))?;
+    expect_below(&rt, alloc, more.as_str(), "kind ", 4, ScriptKind::Word)?;
+    expect_below(&rt, alloc, HEAD, "kind get", 5, ScriptKind::Twice)?;
+    expect_below(&rt, alloc, HEAD, "tenant b 1", 5, ScriptKind::Word)?;
+    expect_below(&rt, alloc, HEAD, "close 0 0\nkind put", 6, ScriptKind::Word)?;
     Ok(())
 }
 
 #[test]
 fn names_faults_of_calls(rt: HostRuntime) -> Result<(), Fail> {
     let alloc = rt.alloc();
-    let line = |line: &str, kind: Kind| expect_below(&rt, alloc, HEAD, line, 5, kind);
-    line("", Kind::Word)?;
-    line("stop 0 0", Kind::Word)?;
-    line("submit 0 0 0 0 5", Kind::Fields(6))?;
-    line("submit 4294967296 x 0 0 5 7", Kind::Range(2))?;
-    line("submit 0 18446744073709551616 0 0 5 7", Kind::Number(3))?;
-    line("submit 0 0 4294967296 x 5 7", Kind::Range(4))?;
-    line("submit 0 0 0 4294967296 5 7", Kind::Range(5))?;
-    line("submit 0 0 0 0 5.0 7", Kind::Number(6))?;
-    line("submit 0 0 0 0 5 007", Kind::Number(7))?;
-    line("take 0 0", Kind::Fields(3))?;
-    line("take 0 0 -1", Kind::Number(4))?;
-    line("report 0 0 0", Kind::Fields(4))?;
-    line("report 0 0 0 ", Kind::Number(5))?;
-    line("done 0 0 4294967296 x", Kind::Range(4))?;
-    line("done 0 0 0 +1", Kind::Number(5))?;
-    line("close 0", Kind::Fields(2))?;
-    line("close x 0", Kind::Number(2))?;
-    line("close 0 00", Kind::Number(3))?;
+    let line = |line: &str, kind: ScriptKind| expect_below(&rt, alloc, HEAD, line, 5, kind);
+    line("", ScriptKind::Word)?;
+    line("stop 0 0", ScriptKind::Word)?;
+    line("submit 0 0 0 0 5", ScriptKind::Fields(6))?;
+    line("submit 4294967296 x 0 0 5 7", ScriptKind::Range(2))?;
+    line(
+        "submit 0 18446744073709551616 0 0 5 7",
+        ScriptKind::Number(3),
+    )?;
+    line("submit 0 0 4294967296 x 5 7", ScriptKind::Range(4))?;
+    line("submit 0 0 0 4294967296 5 7", ScriptKind::Range(5))?;
+    line("submit 0 0 0 0 5.0 7", ScriptKind::Number(6))?;
+    line("submit 0 0 0 0 5 007", ScriptKind::Number(7))?;
+    line("take 0 0", ScriptKind::Fields(3))?;
+    line("take 0 0 -1", ScriptKind::Number(4))?;
+    line("report 0 0 0", ScriptKind::Fields(4))?;
+    line("report 0 0 0 ", ScriptKind::Number(5))?;
+    line("done 0 0 4294967296 x", ScriptKind::Range(4))?;
+    line("done 0 0 0 +1", ScriptKind::Number(5))?;
+    line("close 0", ScriptKind::Fields(2))?;
+    line("close x 0", ScriptKind::Number(2))?;
+    line("close 0 00", ScriptKind::Number(3))?;
     Ok(())
 }
 
@@ -240,21 +276,21 @@ fn counts_tenants_and_kinds(rt: HostRuntime) -> Result<(), Fail> {
         alloc,
         head_of(alloc, 4097, 1)?.as_str(),
         4099,
-        Kind::TooMany,
+        ScriptKind::TooMany,
     );
     expect(
         &rt,
         alloc,
         head_of(alloc, 4096, 17)?.as_str(),
         4115,
-        Kind::TooMany,
+        ScriptKind::TooMany,
     );
     expect(
         &rt,
         alloc,
         head_of(alloc, 1, 65)?.as_str(),
         68,
-        Kind::TooMany,
+        ScriptKind::TooMany,
     );
     Ok(())
 }

@@ -1,16 +1,17 @@
 //! What single words say. The first word is word 0; faults count from 1.
-ghost use Rattle.std.specs.Prelude.{◌≡◌, ◌<◌, ◌≤◌, map, length, IfOk};
+ghost use Rattle.std.specs.Prelude.{◌≡◌, ◌<◌, ◌≤◌, length, IfOk};
 ghost use Rattle.fq_model.specs.Script.{begins_with, with_count, number_at, ranged_at, index_at, name_at, policy_at, estimator_at};
-ghost use Rattle.twodfq_main.specs.Reading.{Gives};
+ghost use Rattle.twodfq_main.specs.Reading.{Gives, words_in};
 
 use crate::script::fault::LineError;
-use crate::script::numbers::{estimator, is_name, number, policy};
+use crate::script::numbers::{estimator, number, policy};
 use fq_model::config::{Estimator, Policy};
-use fq_model::fault::Kind;
+use fq_model::fault::ScriptKind;
+use tenant_table::name::is_name;
 
 /// Whether a line's first word is this.
 pub fn begins_with(words: &[&[u8]], first: &[u8]) -> bool
-    ensures { result ≡ begins_with (map (λ w. w.now) words.now) first.now }
+    ensures { result ≡ begins_with (words_in words.now) first.now }
 {
     if words.is_empty() {
         return first.is_empty();
@@ -20,10 +21,10 @@ pub fn begins_with(words: &[&[u8]], first: &[u8]) -> bool
 
 /// That there are this many words.
 pub fn expect_count(words: &[&[u8]], count: usize) -> Result<(), LineError>
-    ensures { Gives (λ _. map (λ w. w.now) words.now) result (with_count count (map (λ w. w.now) words.now)) }
+    ensures { Gives (λ _. words_in words.now) result (with_count count (words_in words.now)) }
 {
     if words.len() != count {
-        return Err(LineError::Fault(Kind::Fields(words.len() as u64)));
+        return Err(LineError::Fault(ScriptKind::Fields(words.len() as u64)));
     }
     Ok(())
 }
@@ -33,12 +34,9 @@ pub fn expect_count(words: &[&[u8]], count: usize) -> Result<(), LineError>
 pub fn number_at(words: &[&[u8]], k: u32) -> Result<u64, LineError>
     requires there { k < length words.now }
     requires small { k < 7 }
-    ensures { Gives (λ n. n) result (number_at (map (λ w. w.now) words.now) k) }
+    ensures { Gives (λ n. n) result (number_at (words_in words.now) k) }
 {
-    match number(words[k as usize]) {
-        Some(n) => Ok(n),
-        None => Err(LineError::Fault(Kind::Number(k + 1))),
-    }
+    number(words[k as usize]).ok_or(LineError::Fault(ScriptKind::Number(k + 1)))
 }
 
 /// A number from `low` to `high`.
@@ -46,12 +44,12 @@ pub fn number_at(words: &[&[u8]], k: u32) -> Result<u64, LineError>
 pub fn ranged_at(words: &[&[u8]], k: u32, low: u64, high: u64) -> Result<u64, LineError>
     requires there { k < length words.now }
     requires small { k < 7 }
-    ensures given { Gives (λ n. n) result (ranged_at (map (λ w. w.now) words.now) k low high) }
+    ensures given { Gives (λ n. n) result (ranged_at (words_in words.now) k low high) }
     ensures upper { IfOk result (λ n. n ≤ high) }
 {
     let n = number_at(words, k)?;
     if n < low || n > high {
-        return Err(LineError::Fault(Kind::Range(k + 1)));
+        return Err(LineError::Fault(ScriptKind::Range(k + 1)));
     }
     Ok(n)
 }
@@ -61,16 +59,16 @@ pub fn ranged_at(words: &[&[u8]], k: u32, low: u64, high: u64) -> Result<u64, Li
 pub fn index_at(words: &[&[u8]], k: u32) -> Result<u32, LineError>
     requires there { k < length words.now }
     requires small { k < 7 }
-    ensures { Gives (λ n. n) result (index_at (map (λ w. w.now) words.now) k) }
+    ensures { Gives (λ n. n) result (index_at (words_in words.now) k) }
 {
-    small_at(words, k, 0, 4294967295)
+    small_at(words, k, 0, u32::MAX)
 }
 
 /// A number from `low` to `high`, which is of 32 bits.
 pub fn small_at(words: &[&[u8]], k: u32, low: u32, high: u32) -> Result<u32, LineError>
     requires there { k < length words.now }
     requires small { k < 7 }
-    ensures { Gives (λ n. n) result (ranged_at (map (λ w. w.now) words.now) k low high) }
+    ensures { Gives (λ n. n) result (ranged_at (words_in words.now) k low high) }
 {
     let n = ranged_at(words, k, low as u64, high as u64)?;
     Ok(n as u32)
@@ -80,11 +78,11 @@ pub fn small_at(words: &[&[u8]], k: u32, low: u32, high: u32) -> Result<u32, Lin
 #[tactic(auto, unfolding(fq_model::specs::Script::name_at))]
 pub fn name_at<'a>(words: &[&'a [u8]], k: u32) -> Result<&'a [u8], LineError>
     requires { k < length words.now }
-    ensures { Gives (λ n. n.now) result (name_at (map (λ w. w.now) words.now) k) }
+    ensures { Gives (λ n. n.now) result (name_at (words_in words.now) k) }
 {
     let name = words[k as usize];
     if !is_name(name) {
-        return Err(LineError::Fault(Kind::Word));
+        return Err(LineError::Fault(ScriptKind::Word));
     }
     Ok(name)
 }
@@ -93,22 +91,16 @@ pub fn name_at<'a>(words: &[&'a [u8]], k: u32) -> Result<&'a [u8], LineError>
 #[tactic(auto, unfolding(fq_model::specs::Script::policy_at))]
 pub fn policy_at(words: &[&[u8]], k: u32) -> Result<Policy, LineError>
     requires { k < length words.now }
-    ensures { Gives (λ p. p) result (policy_at (map (λ w. w.now) words.now) k) }
+    ensures { Gives (λ p. p) result (policy_at (words_in words.now) k) }
 {
-    match policy(words[k as usize]) {
-        Some(policy) => Ok(policy),
-        None => Err(LineError::Fault(Kind::Word)),
-    }
+    policy(words[k as usize]).ok_or(LineError::Fault(ScriptKind::Word))
 }
 
 /// An estimator.
 #[tactic(auto, unfolding(fq_model::specs::Script::estimator_at))]
 pub fn estimator_at(words: &[&[u8]], k: u32) -> Result<Estimator, LineError>
     requires { k < length words.now }
-    ensures { Gives (λ e. e) result (estimator_at (map (λ w. w.now) words.now) k) }
+    ensures { Gives (λ e. e) result (estimator_at (words_in words.now) k) }
 {
-    match estimator(words[k as usize]) {
-        Some(estimator) => Ok(estimator),
-        None => Err(LineError::Fault(Kind::Word)),
-    }
+    estimator(words[k as usize]).ok_or(LineError::Fault(ScriptKind::Word))
 }
