@@ -49,7 +49,7 @@ impl Book {
     }
 
     /// A worker that runs nothing takes a request. Gives the length charged: that of the estimate, in
-    /// microseconds, at the weight. A book has room for 2^32 calls.
+    /// microseconds, at the weight. A book has room for 2^32 begins.
     pub fn begin(
         &mut self,
         worker: u32,

@@ -21,18 +21,6 @@ pub record Awaits {K : Type 0} (C : Config) (KeptIs : Config → History → K �
 abbrev pub Follows : {K : Type 0} → Config → (Config → History → K → Type 0) → (History → Entry → Type 0) → K → K → Type 0
 Follows C KeptIs Comes before after = (P : History) (e : Entry) → InLimits C → IsLegal C (e ∷ P) → Comes P e → KeptIs C P before → KeptIs C (e ∷ P) after
 
--- the entry is of this moment and has this act
-pub record IsAct (moment : ℕ) (act : Act) (P : History) (e : Entry) : Type 0 where
-  pub moment_is : e.moment ≡ moment
-  pub act_is : e.act ≡ act
-
--- the request was submitted by this tenant and is of this kind
-pub record IsAskedBy (P : History) (request tenant kind : ℕ) : Type 0 where
-  pub asked : Request
-  pub known : request_at P request ≡ Some asked
-  pub tenant_is : asked.tenant ≡ tenant
-  pub kind_is : asked.kind ≡ kind
-
 -- the act opens no request and closes none
 abbrev pub passes : Act → Bool
 passes (Take worker request estimate) = true

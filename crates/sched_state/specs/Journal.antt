@@ -36,7 +36,7 @@ IsRoomFor j backlog more room = backlog ≡ waiting (history j) → room ≡ nat
 abbrev pub RefusesSubmit : JournalView → ℕ → ℕ → ℕ → ℕ → Option Cause → Type 0
 RefusesSubmit j backlog tenant kind declared cause = backlog ≡ waiting (history j) → cause ≡ submit_refusal j.config (history j) tenant kind declared
 
--- it keeps a legal history, has room for all entries that may come, and its tally is that of the history
+-- its configuration is in its limits, it keeps a legal history and has room for all entries that may come, and its tally is that of the history
 pub record KeepsJournal (C : Config) (past : List Entry) (capacity : ℕ) (tally : Tally) : Type 0 where
   pub limits : InLimits C
   pub legal : IsLegal C (history_of past)

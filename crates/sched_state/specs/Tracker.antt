@@ -24,7 +24,7 @@ use Rattle.sched_state.specs.Lists.{ListsAre, jobs_in}
 use Rattle.sched_state.specs.Costs.{CostsAre}
 use Rattle.sched_state.specs.Keys.{ChooserIs, ChooserIsBut}
 
--- the history is legal, and all that is kept is its own, but for the keys of heads
+-- the configuration is in its limits, the history is legal, and all that is kept is its own, but for the keys of heads
 pub record Mirrors {J X : Type 0} (label : J → ℕ) (C : Config) (P : History) (k : Tracker J X) : Type 0 where
   pub limits : InLimits C
   pub legal : IsLegal C P
@@ -39,7 +39,7 @@ pub record Tracks {J X : Type 0} (label : J → ℕ) (seen : X → ChooserView) 
   pub mirrors : Mirrors label C P k
   pub chooser_is : ChooserIs C P (seen k.chooser)
 
--- and so are the keys of all heads but that of this tenant
+-- and so are the keys of all heads but that of this tenant, who is one of the configuration
 pub record TracksBut {J X : Type 0} (label : J → ℕ) (seen : X → ChooserView) (tenant : ℕ) (C : Config) (P : History) (k : Tracker J X) : Type 0 where
   pub mirrors : Mirrors label C P k
   pub tenant_known : tenant < length C.weights
@@ -50,7 +50,7 @@ pub record TracksSomeBut {J X : Type 0} (label : J → ℕ) (seen : X → Choose
   pub past : History
   pub tracks : TracksBut label seen tenant C past k
 
--- all is of the journal with one entry more, which has this act, whoever makes the call
+-- all is of the journal with one entry more, of the moment m and with this act, whoever makes the call
 abbrev pub TracksAfter : {J X : Type 0} → (J → ℕ) → (X → ChooserView) → JournalView → ℕ → Act → Tracker J X → Type 0
 TracksAfter label seen j m act k = (who : ℕ) → Tracks label seen j.config (one_more who m act (history j)) k
 

@@ -21,8 +21,8 @@ use waiting_lists::item::Item;
 /// One history, from its opening on, and the jobs of the requests that wait in it. Contracts see the entries in
 /// order of time, and the jobs by the numbers of their requests. Whoever makes a call names itself by `who`, which
 /// is written down and not looked at, and its clock by `moment`, in microseconds. A call that is answered by
-/// a refusal, by `Idle` or by `Drained` changes nothing; each other call adds one entry. No call looks back in the
-/// history: what it needs is kept beside the journal, and `X` chooses among the heads of the tenants.
+/// a refusal, by `Idle` or by `Drained` changes nothing; each other call adds one entry. No call looks back at
+/// the entries: what it needs of them is kept, and `X` chooses among the heads of the tenants.
 #[derive(Drop)]
 pub struct Scheduler<J: Job, X: Chooser> {
     journal: Journal,

@@ -32,7 +32,7 @@ use waiting_lists::lists::Lists;
 
 /// The waiting requests and their jobs, what runs and what is charged for it, the estimator, virtual time, and a chooser
 /// with the keys of every tenant's head: at each call what the definitions say of the history, so that nothing looks back
-/// in the journal. Each call that changes it is told the journal as it is before the entry that comes with the call.
+/// at its entries. Each call but a Close, which changes `times` alone, is told the journal as it is before the call's entry.
 #[derive(Drop)]
 pub struct Tracker<J, X> {
     pub lists: Lists<J>,

@@ -2,6 +2,7 @@
 use Rattle.std.specs.Prelude.{ℕ, ◌+◌, ◌-◌, ◌*◌, ◌≤◌, ℤ, pos, ◌+ℤ◌, ◌≤ℤ◌}
 use Rattle.vt_fixed.specs.Rounding.{advance_of}
 use Rattle.vt_fixed.specs.declared.limits.TheConstants.{GREATEST_MOMENT, GREATEST_ACTIVE_WEIGHT, MOST_WORKERS}
+use Rattle.fq_laws.specs.Words.{greatest_rate}
 
 -- the number of workers, the moment that it has come to, the sum of the active weights, and virtual time
 pub record ClockView : Type 0 where
@@ -31,11 +32,11 @@ entered c weight = record { workers = c.workers; moment = c.moment; weights = c.
 abbrev pub left : ClockView → ℕ → ClockView
 left c weight = record { workers = c.workers; moment = c.moment; weights = c.weights - weight; time = c.time }
 
--- its numbers are in their limits; virtual time makes at most 64 units in a microsecond
+-- its numbers are in their limits, and virtual time is at most what the greatest rate gives
 pub record IsInRange (c : ClockView) : Type 0 where
   pub workers_positive : 1 ≤ c.workers
   pub workers_in_range : c.workers ≤ MOST_WORKERS
   pub moment_in_range : c.moment ≤ GREATEST_MOMENT
   pub weights_in_range : c.weights ≤ GREATEST_ACTIVE_WEIGHT
   pub time_low : pos 0 ≤ℤ c.time
-  pub time_high : c.time ≤ℤ pos (c.moment * 67108864)
+  pub time_high : c.time ≤ℤ pos (c.moment * greatest_rate)

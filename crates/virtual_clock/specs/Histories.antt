@@ -41,6 +41,6 @@ IsTimeOf times v = (C : Config) (P : History) → TimesAre C P times → v ≡ p
 abbrev pub IsIdleTimeOf : Times → ℕ → ℤ → Type 0
 IsIdleTimeOf times tenant v = (C : Config) (P : History) → TimesAre C P times → v ≡ pos (virtual_idle_time C P (last_moment P) tenant)
 
--- whatever history they were of, they are that of the history with a Take, a Report or a Close of this moment more
+-- whatever history they were of, they are those of it with a Take, a Report or a Close of this moment more
 abbrev pub PassOn : ℕ → Times → Times → Type 0
 PassOn moment before after = (C : Config) (P : History) (e : Entry) → Passes moment P e → TimesAre C P before → TimesAre C (e ∷ P) after

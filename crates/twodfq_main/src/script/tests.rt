@@ -269,20 +269,12 @@ fn head_of(alloc: Global, tenants: u32, kinds: u32) -> Result<String, AllocError
 #[test]
 fn counts_tenants_and_kinds(rt: HostRuntime) -> Result<(), Fail> {
     let alloc = rt.alloc();
-    expect_none(&rt, alloc, head_of(alloc, 4096, 16)?.as_str());
     expect_none(&rt, alloc, head_of(alloc, 1024, 64)?.as_str());
     expect(
         &rt,
         alloc,
-        head_of(alloc, 4097, 1)?.as_str(),
-        4099,
-        ScriptKind::TooMany,
-    );
-    expect(
-        &rt,
-        alloc,
-        head_of(alloc, 4096, 17)?.as_str(),
-        4115,
+        head_of(alloc, 1025, 64)?.as_str(),
+        1091,
         ScriptKind::TooMany,
     );
     expect(

@@ -3,7 +3,6 @@ use Rattle.sched_state.specs.Journal.{history}
 use Rattle.sched_state.proofs.CallLemmas.{entered, close_tracks}
 use Rattle.sched_state.proofs.scheduler.Scheduler.close.Goals as goal
 
--- src/scheduler.rt:176:5
 pub invariant_of-self : goal.invariant_of-self
 invariant_of-self g c =
     let m = c.effective-moment.ensures in

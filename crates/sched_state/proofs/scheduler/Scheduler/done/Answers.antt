@@ -2,18 +2,14 @@ use Rattle.sched_state.specs.Journal.{history}
 use Rattle.sched_state.proofs.CallLemmas.{entered, moved, legal_done, answered_done}
 use Rattle.sched_state.proofs.scheduler.Scheduler.done.Goals as goal
 
--- src/scheduler.rt:165:9
 pub done-requires-clause-legal : goal.done-requires-clause-legal
 done-requires-clause-legal g c = λ who. legal_done g.J.Job.label_of g.X.Chooser.seen c.self.inside.journal.config (history c.self.inside.journal) c.self.inside.tracker c.args.worker c.args.cost c.in_ok-row.row c.self.invariant c.in_ok-row.ensures.row who c.effective-moment.result c.effective-moment.ensures.later c.effective-moment.ensures.in_range
 
--- src/scheduler.rt:171:9
 pub enter-requires : goal.enter-requires
 enter-requires g c = (c.done.ensures.tracked c.args.who).mirrors.legal
 
--- src/scheduler.rt:158:5
 pub invariant_of-self : goal.invariant_of-self
 invariant_of-self g c = entered g.J.Job.label_of g.X.Chooser.seen c.self.inside.journal c.enter.new.self _ c.done.new.self c.enter.ensures (c.done.ensures.tracked c.args.who)
 
--- src/scheduler.rt:158:5
 pub returns-clause-answers : goal.returns-clause-answers
 returns-clause-answers g c = moved c.self.inside.journal c.enter.new.self _ _ _ c.args.self.now _ _ c.self.view_is c.enter.ensures (answered_done g.J.Job.label_of g.X.Chooser.seen c.self.inside.journal.config (history c.self.inside.journal) c.self.inside.tracker c.args.worker c.args.cost c.in_ok-row.row c.self.invariant c.in_ok-row.ensures.row c.args.who c.args.moment c.effective-moment.result c.effective-moment.ensures.value)

@@ -8,30 +8,24 @@ use Rattle.sched_state.proofs.CallLemmas.{unmoved, moved, entered, refused, repo
 use Rattle.sched_state.proofs.RefusalLemmas.{report_refused}
 use Rattle.sched_state.proofs.scheduler.Scheduler.report.Goals as goal
 
--- src/scheduler.rt:141:19
 pub returns-in_err-row-clause-answers : goal.returns-in_err-row-clause-answers
 returns-in_err-row-clause-answers g c =
     let told = err_from_is_err_and c.from_residual.result c.from_residual.ensures.1 in
     unmoved c.self.inside.journal _ c.args.self.now _ _ c.self.view_is (rw told.1 (refused _ told.0 _ _ (report_refused c.self.inside.journal.config (history c.self.inside.journal) c.args.worker c.args.used told.0 (c.in_err-row.ensures.refused ∙ ap (λ (x : Cause). Some x) (sym told.2)))))
 
--- src/scheduler.rt:143:13
 pub returns-then-not-has_room-clause-answers : goal.returns-then-not-has_room-clause-answers
 returns-then-not-has_room-clause-answers g c =
     let full : c.entries.result ≡ c.self.inside.journal.config.entries = c.entries.ensures.value ∙ ap (λ (x : Config). x.entries) c.config.ensures.config in
     unmoved c.self.inside.journal _ c.args.self.now _ _ c.self.view_is (refused _ (cause.Full c.entries.result) _ _ (report_refused_by g.J.Job.label_of g.X.Chooser.seen c.self.inside.journal.config (history c.self.inside.journal) c.self.inside.tracker c.args.worker c.args.used c.in_ok-row.row c.self.invariant c.in_ok-row.ensures.row c.len.result c.has_room.result (c.len.ensures.all ∙ c.self.invariant.mirrors.lists_are.counted) c.has_room.ensures ∙ rw (c.if-not-has_room.true, full) refl))
 
--- src/scheduler.rt:146:9
 pub report-requires-clause-legal : goal.report-requires-clause-legal
 report-requires-clause-legal g c = λ who. legal_report g.J.Job.label_of g.X.Chooser.seen c.self.inside.journal.config (history c.self.inside.journal) c.self.inside.tracker c.args.worker c.args.used c.in_ok-row.row c.self.invariant c.in_ok-row.ensures.row c.len.result c.has_room.result (c.len.ensures.all ∙ c.self.invariant.mirrors.lists_are.counted) c.has_room.ensures c.if-not-has_room.false who c.effective-moment.result c.effective-moment.ensures.later c.effective-moment.ensures.in_range
 
--- src/scheduler.rt:153:9
 pub enter-requires : goal.enter-requires
 enter-requires g c = (c.report.ensures.tracked c.args.who).mirrors.legal
 
--- src/scheduler.rt:136:5
 pub invariant_of-self : goal.invariant_of-self
 invariant_of-self g c = entered g.J.Job.label_of g.X.Chooser.seen c.self.inside.journal c.enter.new.self _ c.report.new.self c.enter.ensures (c.report.ensures.tracked c.args.who)
 
--- src/scheduler.rt:136:5
 pub returns-clause-answers : goal.returns-clause-answers
 returns-clause-answers g c = moved c.self.inside.journal c.enter.new.self _ _ _ c.args.self.now _ _ c.self.view_is c.enter.ensures (answered_report g.J.Job.label_of g.X.Chooser.seen c.self.inside.journal.config (history c.self.inside.journal) c.self.inside.tracker c.args.worker c.args.used c.in_ok-row.row c.self.invariant c.in_ok-row.ensures.row c.len.result c.has_room.result (c.len.ensures.all ∙ c.self.invariant.mirrors.lists_are.counted) c.has_room.ensures c.if-not-has_room.false c.args.who c.args.moment c.effective-moment.result c.effective-moment.ensures.value)

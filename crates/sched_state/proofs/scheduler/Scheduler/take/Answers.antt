@@ -16,11 +16,9 @@ refusal g c =
     let m = c.self.invariant.mirrors in
     take_refused c.self.inside.journal.config (history c.self.inside.journal) c.self.inside.tracker.book c.args.worker c.running.result m.legal m.book_is (omega (arith, c.if-worker-workers.false, c.workers.ensures.value, ap (λ (x : Config). x.workers) c.config.ensures.config)) (sym c.running.ensures)
 
--- src/scheduler.rt:107:13
 pub returns-in-Some-clause-answers : goal.returns-in-Some-clause-answers
 returns-in-Some-clause-answers g c = unmoved c.self.inside.journal _ c.args.self.now _ _ c.self.view_is (refused _ (cause.Busy c.in-Some.row.request) _ _ (refusal g (goal.at.returns-in-Some-clause-answers g c).After-running ∙ ap busy c.in-Some.is))
 
--- src/scheduler.rt:110:13
 pub returns-then-len-eq0-clause-answers : goal.returns-then-len-eq0-clause-answers
 returns-then-len-eq0-clause-answers g c =
     let none = refusal g (goal.at.returns-then-len-eq0-clause-answers g c).After-running ∙ ap busy c.in_default.is in
@@ -30,7 +28,6 @@ returns-then-len-eq0-clause-answers g c =
       | else-is_closed w ↦ rw w.result-is (rested c.self.inside.journal.config (history c.self.inside.journal) c.args.who c.args.moment c.args.worker false none nothing w.if-is_closed.ensures)
     ])
 
--- src/scheduler.rt:117:32
 pub take-item-requires-clause-may : goal.take-item-requires-clause-may
 take-item-requires-clause-may g c = record {
   later = c.effective-moment.ensures.later;
@@ -39,15 +36,12 @@ take-item-requires-clause-may g c = record {
   some_waits = λ z. c.if-len-eq0.false (c.len.ensures.all ∙ c.self.invariant.mirrors.lists_are.counted ∙ z);
 }
 
--- src/scheduler.rt:124:9
 pub enter-requires : goal.enter-requires
 enter-requires g c = (c.take-item.ensures.tracks c.args.who).mirrors.legal
 
--- src/scheduler.rt:99:5
 pub invariant_of-self : goal.invariant_of-self
 invariant_of-self g c = entered g.J.Job.label_of g.X.Chooser.seen c.self.inside.journal c.enter.new.self _ c.take-item.new.self c.enter.ensures (c.take-item.ensures.tracks c.args.who)
 
--- src/scheduler.rt:99:5
 pub returns-clause-answers : goal.returns-clause-answers
 returns-clause-answers g c =
     let none = refusal g (goal.at.returns-clause-answers g c).After-running ∙ ap busy c.in_default.is in
