@@ -2,7 +2,7 @@
 use Rattle.std.specs.Prelude.{ℕ, suc, ◌^◌, ◌≤◌, ◌≡◌, ◌==◌, max, Bool, true, false, not, ◌&&◌, ◌||◌, if◌then◌else◌, List, [], ◌∷◌, ◌++◌, Option, Some, None, reverse, drop, slice_index}
 use Rattle.fq_model.specs.declared.config.Config.{Config}
 use Rattle.fq_model.specs.declared.event.Act.{Act}
-use Rattle.fq_model.specs.declared.event.Act.TheVariants.{Submit, Take, Report, Done, Close}
+use Rattle.fq_model.specs.declared.event.Act.TheVariants.{Submit, Take, Report, Done, Close, Weight, Workers}
 use Rattle.fq_model.specs.declared.event.Entry.{Entry}
 use Rattle.fq_model.specs.Sums.{count_below, least_below}
 
@@ -36,6 +36,21 @@ is_done_of r _ = false
 abbrev pub is_close : Act → Bool
 is_close Close = true
 is_close _ = false
+
+abbrev pub is_submit : Act → Bool
+is_submit (Submit request tenant kind declared label) = true
+is_submit _ = false
+
+-- the act changes a weight or the number of workers
+abbrev pub is_change : Act → Bool
+is_change (Weight tenant weight) = true
+is_change (Workers count) = true
+is_change _ = false
+
+-- how many acts pass the test
+abbrev pub count_acts : (Act → Bool) → History → ℕ
+count_acts test [] = 0
+count_acts test (e ∷ P) = if test e.act then suc (count_acts test P) else count_acts test P
 
 -- the act of some entry passes the test
 abbrev pub has_act : (Act → Bool) → History → Bool
@@ -135,13 +150,25 @@ abbrev pub last_use : History → ℕ → ℕ
 last_use [] r = 0
 last_use (e ∷ P) r = max (use_in r e.act) (last_use P r)
 
--- the weight of tenant t at P
-unfoldable pub weight_at : Config → History → ℕ → ℕ
-weight_at C P t = slice_index C.weights t
+-- the weight of tenant t after one act more
+abbrev pub weight_after : ℕ → Act → ℕ → ℕ
+weight_after t (Weight tenant weight) older = if tenant == t then weight else older
+weight_after t _ older = older
 
--- the number of workers at P
+-- the weight of tenant t at P: that of the last Weight of t, or else the configuration's
+unfoldable pub weight_at : Config → History → ℕ → ℕ
+weight_at C [] t = slice_index C.weights t
+weight_at C (e ∷ P) t = weight_after t e.act (weight_at C P t)
+
+-- the number of workers after one act more
+abbrev pub pool_after : Act → ℕ → ℕ
+pool_after (Workers count) older = count
+pool_after _ older = older
+
+-- the number of workers at P: that of the last Workers, or else the configuration's
 unfoldable pub pool_at : Config → History → ℕ
-pool_at C P = C.workers
+pool_at C [] = C.workers
+pool_at C (e ∷ P) = pool_after e.act (pool_at C P)
 
 -- what runs on worker i after one act more
 abbrev pub running_after : ℕ → Act → Option ℕ → Option ℕ

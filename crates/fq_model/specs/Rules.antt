@@ -2,7 +2,7 @@
 use Rattle.std.specs.Prelude.{ℕ, ◌+◌, ◌*◌, ◌<◌, ◌≤◌, ◌≡◌, ◌==◌, nat_lt, nat_le, Bool, false, ◌||◌, if◌then◌else◌, List, [], ◌∷◌, ◌++◌, Option, Some, None, is_some, is_none, unwrap_or, length, MatchBool}
 use Rattle.fq_model.specs.declared.config.Config.{Config}
 use Rattle.fq_model.specs.declared.event.Act.{Act}
-use Rattle.fq_model.specs.declared.event.Act.TheVariants.{Submit, Take, Report, Done, Close}
+use Rattle.fq_model.specs.declared.event.Act.TheVariants.{Submit, Take, Report, Done, Close, Weight, Workers}
 use Rattle.fq_model.specs.declared.event.Call.{Call}
 use Rattle.fq_model.specs.declared.event.Call.TheVariants as call
 use Rattle.fq_model.specs.declared.event.Reply.{Reply}
@@ -11,7 +11,8 @@ use Rattle.fq_model.specs.declared.event.Cause.{Cause}
 use Rattle.fq_model.specs.declared.event.Cause.TheVariants as cause
 use Rattle.fq_model.specs.History.{History, Request, request_at, waiting, running, running_on, submits, is_closed, Runs, last_use, pool_at}
 pub use Rattle.fq_model.specs.Rows.{first_true}
-use Rattle.vt_fixed.specs.declared.limits.TheConstants.{GREATEST_COST, GREATEST_MOMENT}
+use Rattle.fq_model.specs.Limits.{IsWithin, IsWeight, is_outside}
+use Rattle.vt_fixed.specs.declared.limits.TheConstants.{GREATEST_COST, GREATEST_MOMENT, GREATEST_WEIGHT}
 use Rattle.fq_model.specs.Time.{last_moment, effective_moment}
 use Rattle.fq_model.specs.Charge.{request_estimate}
 use Rattle.fq_model.specs.Keys.{HeadKeys, IsChoiceAt}
@@ -61,6 +62,17 @@ pub record FitsUse (P : History) (worker request used : ℕ) : Type 0 where
   pub rising : last_use P request ≤ used
   pub in_range : used ≤ GREATEST_COST
 
+-- a Weight that fits
+pub record FitsWeight (C : Config) (P : History) (tenant weight : ℕ) : Type 0 where
+  pub tenant_known : tenant < length C.weights
+  pub weight_in_range : IsWeight weight
+  pub room : HasRoom C P 2
+
+-- a Workers that fits: the configuration's number is the most
+pub record FitsWorkers (C : Config) (P : History) (count : ℕ) : Type 0 where
+  pub count_in_range : IsWithin 1 C.workers count
+  pub room : HasRoom C P 2
+
 -- the act fits the history at m
 abbrev pub Fits : Config → History → ℕ → Act → Type 0
 Fits C P m (Submit request tenant kind declared label) = FitsSubmit C P request tenant kind declared
@@ -68,6 +80,8 @@ Fits C P m (Take worker request estimate) = FitsTake C P m worker request estima
 Fits C P m (Report worker request used) = FitsUse P worker request used × HasRoom C P 2
 Fits C P m (Done worker request cost) = FitsUse P worker request cost
 Fits C P m Close = is_closed P ≡ false
+Fits C P m (Weight tenant weight) = FitsWeight C P tenant weight
+Fits C P m (Workers count) = FitsWorkers C P count
 
 -- moments do not fall, and each act fits the history before it
 abbrev pub IsLegal : Config → History → Type 0
@@ -89,7 +103,7 @@ submit_refusal C P tenant kind declared = first_true
     ∷ (nat_lt C.entries (needed_room P 4), cause.Full C.entries)
     ∷ [])
 
--- why a take is refused, if it is
+-- why a take is refused, if it is (a worker that the pool has no place for may be free, and is told so by its reply)
 abbrev pub take_refusal : Config → History → ℕ → Option Cause
 take_refusal C P i = first_true
     ((nat_le C.workers i, cause.Worker i)
@@ -117,6 +131,21 @@ done_refusal C P i cost = first_true (use_refusals C P i cost)
 abbrev pub close_refusal : History → Option Cause
 close_refusal P = first_true ((is_closed P, cause.Closed) ∷ [])
 
+-- why a weight is refused, if it is
+abbrev pub weight_refusal : Config → History → ℕ → ℕ → Option Cause
+weight_refusal C P tenant weight = first_true
+    ((nat_le (length C.weights) tenant, cause.Tenant tenant)
+    ∷ (is_outside 1 GREATEST_WEIGHT weight, cause.Weight weight)
+    ∷ (nat_lt C.entries (needed_room P 2), cause.Full C.entries)
+    ∷ [])
+
+-- why a number of workers is refused, if it is
+abbrev pub workers_refusal : Config → History → ℕ → Option Cause
+workers_refusal C P count = first_true
+    ((is_outside 1 C.workers count, cause.Workers count)
+    ∷ (nat_lt C.entries (needed_room P 2), cause.Full C.entries)
+    ∷ [])
+
 -- the reply is this one, and the history stays
 abbrev pub IsAnswered : History → Reply → Reply → History → Type 0
 IsAnswered P wanted reply P2 = (reply ≡ wanted) × (P2 ≡ P)
@@ -138,9 +167,13 @@ pub record RunsChosen (C : Config) (P : History) (who moment i : ℕ) (reply : R
   pub chosen : IsChosen C P (effective_moment P moment) i request estimate asked
   pub accepted : IsAccepted P who moment (Take i request estimate) (answer.Run request estimate asked.label) reply P2
 
--- what a worker that runs nothing is answered: Drained or Idle where nothing waits, else the chosen request
+-- what a worker of the pool that runs nothing is answered: Drained or Idle where nothing waits, else the chosen request
+abbrev pub AnswersPooled : Config → History → ℕ → ℕ → ℕ → Reply → History → Type 0
+AnswersPooled C P who moment i reply P2 = MatchBool (waiting P == 0) (IsAnswered P (if is_closed P then answer.Drained else answer.Idle) reply P2) (RunsChosen C P who moment i reply P2)
+
+-- what a worker that runs nothing is answered: Retired, with the number of workers, where its own is not below that
 abbrev pub AnswersFree : Config → History → ℕ → ℕ → ℕ → Reply → History → Type 0
-AnswersFree C P who moment i reply P2 = MatchBool (waiting P == 0) (IsAnswered P (if is_closed P then answer.Drained else answer.Idle) reply P2) (RunsChosen C P who moment i reply P2)
+AnswersFree C P who moment i reply P2 = MatchBool (nat_le (pool_at C P) i) (IsAnswered P (answer.Retired (pool_at C P)) reply P2) (AnswersPooled C P who moment i reply P2)
 
 -- at the history P the call is answered by the reply, and the history is then P2
 abbrev pub Answers : Config → History → Call → Reply → History → Type 0
@@ -159,3 +192,9 @@ Answers C P (call.Done who moment worker cost) reply P2 =
 Answers C P (call.Close who moment) reply P2 =
     RefusedOrElse (close_refusal P) P reply P2
     (IsAccepted P who moment Close answer.Accepted reply P2)
+Answers C P (call.Weight who moment tenant weight) reply P2 =
+    RefusedOrElse (weight_refusal C P tenant weight) P reply P2
+    (IsAccepted P who moment (Weight tenant weight) answer.Accepted reply P2)
+Answers C P (call.Workers who moment count) reply P2 =
+    RefusedOrElse (workers_refusal C P count) P reply P2
+    (IsAccepted P who moment (Workers count) answer.Accepted reply P2)

@@ -1,5 +1,5 @@
--- Sums, counts and the least, over the numbers below a bound.
-use Rattle.std.specs.Prelude.{ℕ, zero, suc, ◌+◌, Bool, if◌then◌else◌, Option, Some, None}
+-- Sums, counts, the least, the greatest and lists, over the numbers below a bound.
+use Rattle.std.specs.Prelude.{ℕ, zero, suc, ◌+◌, Bool, if◌then◌else◌, List, [], ◌∷◌, ◌++◌, Option, Some, None}
 
 -- the sum of f over the numbers below n
 unfoldable pub sum_below : (ℕ → ℕ) → ℕ → ℕ
@@ -20,3 +20,13 @@ first_of (Some a) b = Some a
 unfoldable pub least_below : (ℕ → Bool) → ℕ → Option ℕ
 least_below test zero = None
 least_below test (suc n) = first_of (least_below test n) (if test n then Some n else None)
+
+-- the greatest number below n that passes the test
+unfoldable pub greatest_below : (ℕ → Bool) → ℕ → Option ℕ
+greatest_below test zero = None
+greatest_below test (suc n) = if test n then Some n else greatest_below test n
+
+-- f of each number below n, in order
+unfoldable pub list_below : {A : Type 0} → (ℕ → A) → ℕ → List A
+list_below f zero = []
+list_below f (suc n) = list_below f n ++ f n ∷ []

@@ -16,6 +16,8 @@ refusal_line (causes.Full n) = codes "refused full " ++ decimal n ++ codes "\n"
 refusal_line (causes.Worker i) = codes "refused worker " ++ decimal i ++ codes "\n"
 refusal_line (causes.Busy r) = codes "refused busy " ++ decimal r ++ codes "\n"
 refusal_line causes.NotRunning = codes "refused not-running\n"
+refusal_line (causes.Weight w) = codes "refused weight " ++ decimal w ++ codes "\n"
+refusal_line (causes.Workers n) = codes "refused workers " ++ decimal n ++ codes "\n"
 refusal_line (causes.Falling last given) = codes "refused falling " ++ decimal last ++ codes " " ++ decimal given ++ codes "\n"
 
 abbrev pub reply_line : Reply → List ℕ
@@ -24,6 +26,7 @@ reply_line (replies.Run request estimate label) = codes "run " ++ decimal reques
 reply_line replies.Accepted = codes "ok\n"
 reply_line replies.Idle = codes "idle\n"
 reply_line replies.Drained = codes "drained\n"
+reply_line (replies.Retired n) = codes "retired " ++ decimal n ++ codes "\n"
 reply_line (replies.Refused cause) = refusal_line cause
 
 -- a line for each reply, in order

@@ -39,7 +39,7 @@ effective_moment P m = min (max m (last_moment P)) GREATEST_MOMENT
 unfoldable pub virtual_advance : Config → History → ℕ → ℕ
 virtual_advance C P m = advance_of (m - last_moment P) (pool_at C P) (active_weight C P)
 
--- virtual time at m, which is not before the last entry: the sum of its pieces between entries
+-- virtual time at m, which is not before the last entry: the sum of its pieces between entries, and from the last to m
 unfoldable pub virtual_time : Config → History → ℕ → ℕ
 virtual_time C [] m = 0
 virtual_time C (e ∷ P) m = virtual_time C P e.moment + virtual_advance C (e ∷ P) m

@@ -28,7 +28,7 @@ pub enum Policy {
 pub enum Estimator {
     /// What its submitter named.
     Declared,
-    /// The mean of its tenant's and kind's last eight costs.
+    /// The mean of its tenant's and kind's last eight costs, rounded down and at least 1; the initial value before any.
     Recent,
     /// The greatest of 1 and its tenant's and kind's costs, each decayed once for each that came later; the initial value
     /// counts as the oldest cost.
@@ -162,6 +162,14 @@ impl Checked {
         ensures upper { result ≤ GREATEST_WEIGHT }
     {
         self.config.weights.as_slice()[t as usize]
+    }
+
+    /// The weights in order.
+    pub fn weights(&self) -> &[u32]
+        ensures value { result.now ≡ self.now.weights }
+        ensures limits { InLimits self.now }
+    {
+        self.config.weights.as_slice()
     }
 
     /// 1 to 64.

@@ -1,6 +1,6 @@
 //! Entries of a history, calls and replies.
 
-use crate::limits::GREATEST_COST;
+use crate::limits::{GREATEST_COST, GREATEST_WEIGHT};
 use thiserror::Error;
 
 /// What an entry says was done. Moments and costs are microseconds.
@@ -34,6 +34,15 @@ pub enum Act {
     },
     /// From here on nothing more is submitted.
     Close,
+    /// From here on the tenant has this weight.
+    Weight {
+        tenant: u32,
+        weight: u32,
+    },
+    /// From here on there are so many workers: those with lower numbers.
+    Workers {
+        count: u32,
+    },
 }
 
 /// One accepted call: who made it, at what moment in microseconds, and what it did.
@@ -44,7 +53,7 @@ pub struct Entry {
     pub act: Act,
 }
 
-/// Why a call is refused. Each carries the number concerned.
+/// Why a call is refused, with the numbers concerned.
 #[derive(Clone, Copy, Debug, PartialEq, Eq, Error)]
 pub enum Cause {
     /// The history is closed.
@@ -57,7 +66,7 @@ pub enum Cause {
     #[error("no kind has the number {0}")]
     Kind(u32),
     /// A cost or a use that is out of its range.
-    #[error("a cost or use of {0} microseconds, which is out of its range up to {GREATEST_COST}")]
+    #[error("a cost or use of {0} microseconds, and it may be up to {GREATEST_COST}, a declared one 1 at least")]
     Cost(u64),
     /// As many requests wait as there are slots, which is this number.
     #[error("{0} requests wait, and no more may")]
@@ -77,6 +86,12 @@ pub enum Cause {
     /// The use or cost `given` is less than `last`, the greatest use reported so far.
     #[error("a use or cost of {given} microseconds, after a use of {last} was reported")]
     Falling { last: u64, given: u64 },
+    /// A weight that is out of its range.
+    #[error("a weight of {0}, and it may be 1 to {GREATEST_WEIGHT}")]
+    Weight(u32),
+    /// A number of workers that is 0, or more than the scheduler was opened with.
+    #[error("{0} workers, and there may be 1 to as many as at the opening")]
+    Workers(u32),
 }
 
 /// What a scheduler is asked. `who` is the caller's number, which is written down and not looked at;
@@ -117,6 +132,19 @@ pub enum Call {
         who: u32,
         moment: u64,
     },
+    /// The tenant is to have this weight from now on.
+    Weight {
+        who: u32,
+        moment: u64,
+        tenant: u32,
+        weight: u32,
+    },
+    /// There are to be so many workers from now on.
+    Workers {
+        who: u32,
+        moment: u64,
+        count: u32,
+    },
 }
 
 /// What a scheduler answers.
@@ -130,12 +158,14 @@ pub enum Reply {
         estimate: u64,
         label: u64,
     },
-    /// The report, completion or close is written down.
+    /// The report, completion, close or change of a weight or of the number of workers is written down.
     Accepted,
     /// Nothing waits now; more may come.
     Idle,
     /// Nothing waits, and nothing more will come.
     Drained,
+    /// There are so many workers now, and this one is not among them; it may ask again.
+    Retired(u32),
     /// Nothing was done, for this cause.
     Refused(Cause),
 }

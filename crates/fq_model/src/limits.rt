@@ -23,6 +23,39 @@ pub const MOST_ENTRIES: u32 = 4194304;
 /// The most requests that may be let wait at once; the fewest is 1.
 pub const MOST_REQUESTS: u32 = 262144;
 
+/// The most requests of a trace; there may be none.
+pub const MOST_ROWS: u32 = 262144;
+
+/// The greatest moment of a trace, in microseconds.
+pub const GREATEST_TRACE_MOMENT: u64 = 100000000000000;
+
+/// The greatest number of a trace's submitter; the least is 0.
+pub const GREATEST_SUBMITTER: u32 = 63;
+
+/// The most slices that a request is worked on in.
+pub const MOST_SLICES: u32 = 10000;
+
+/// The greatest length of a lag report's slots, in microseconds; the least is 1.
+pub const GREATEST_SLOT: u64 = 1000000000000000;
+
+/// The most completed requests that a fluid reference reads: more than any history has.
+pub const MOST_FLUID_ROWS: u32 = 2000000;
+
+/// The most that a tenant may still want, in microseconds of work: the greatest cost of that many requests.
+pub const GREATEST_BACKLOG: u64 = 2000000000000000;
+
+/// The most cells of a lag report: its slots times its tenants.
+pub const MOST_CELLS: u64 = 4000000;
+
+/// The most lines of status that are read while a pool runs.
+pub const MOST_STATUSES: u32 = 1000;
+
+/// The greatest rate at which a trace is shaped, in units a millisecond for weight 1; the least is 1.
+pub const GREATEST_RATE: u64 = 1000000;
+
+/// The greatest burst to which a trace is shaped, in units; the least is 1.
+pub const GREATEST_BURST: u64 = 1000000000;
+
 /// More than virtual time reaches, in steps: the greatest moment, by the most workers, at active weight 1.
 pub const GREATEST_VIRTUAL_TIME: i128 = 100000000000000000000000;
 

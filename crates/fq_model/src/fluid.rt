@@ -1,0 +1,27 @@
+//! What the fluid reference reads of a history.
+
+/// A request that is done. The moment and the cost are microseconds.
+#[derive(Clone, Copy, Debug, PartialEq, Eq)]
+pub struct FluidRow {
+    pub tenant: u32,
+    /// When it was submitted.
+    pub submit: u64,
+    /// Its measured cost.
+    pub cost: u64,
+}
+
+/// What a change sets.
+#[derive(Clone, Copy, Debug, PartialEq, Eq)]
+pub enum What {
+    /// From here on the tenant has this weight.
+    Weight { tenant: u32, weight: u32 },
+    /// From here on there are so many workers.
+    Workers { count: u32 },
+}
+
+/// A change of a weight or of the number of workers, and its moment in microseconds.
+#[derive(Clone, Copy, Debug, PartialEq, Eq)]
+pub struct Change {
+    pub moment: u64,
+    pub what: What,
+}

@@ -1,0 +1,18 @@
+//! How far a slot serves what tenants still want.
+
+/// What a tenant still wants, in microseconds of work, and its weight.
+#[derive(Clone, Copy, Debug, PartialEq, Eq)]
+pub struct Backlog {
+    pub units: u64,
+    /// 1 to 1,000.
+    pub weight: u32,
+}
+
+/// How far all backlogs of a slot are served.
+#[derive(Clone, Copy, Debug, PartialEq, Eq)]
+pub enum Level {
+    /// Each is served whole.
+    All,
+    /// Each is served up to its weight times this over 1,024, rounded down.
+    At(u64),
+}

@@ -1,0 +1,16 @@
+//! What is shown of a history while it grows.
+
+/// Numbers of one history.
+#[derive(Clone, Copy, Debug, PartialEq, Eq)]
+pub struct Status {
+    /// How many entries it has.
+    pub entries: u64,
+    /// The moment of its last entry, or 0.
+    pub moment: u64,
+    /// Virtual time at that moment, in steps.
+    pub vtime: i128,
+    /// How many requests wait.
+    pub waiting: u32,
+    /// How many requests run.
+    pub running: u32,
+}
