@@ -3,6 +3,7 @@ pub mod Requests
 pub mod Counts
 pub mod Numbers
 pub mod Workers
+pub mod Weights
 pub mod Once
 pub mod Heads
 pub mod Queues

@@ -47,6 +47,15 @@ sum_same f g (suc n) h =
     let rest : sum_below f n ≡ sum_below g n = sum_same f g n (λ r b. h r (omega arith)) in
     omega arith
 
+-- each number is part of the sum
+pub part_of_sum : (f : ℕ → ℕ) (r n : ℕ) → r < n → f r ≤ sum_below f n
+unfolding sum_below
+part_of_sum f r zero b = absurd (omega arith)
+part_of_sum f r (suc n) b = elim (cases_eq n r) [
+  | inl e ↦ let one : f n ≡ f r = ap f e in omega arith
+  | inr ne ↦ let rest : f r ≤ sum_below f n = part_of_sum f r n (omega arith) in omega arith
+]
+
 -- a sum where one number changes
 pub sum_at : (f g : ℕ → ℕ) (r n : ℕ) → r < n → ((s : ℕ) → s ≢ r → f s ≡ g s) → sum_below g n + f r ≡ sum_below f n + g r
 unfolding sum_below

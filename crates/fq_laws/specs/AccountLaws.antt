@@ -34,7 +34,7 @@ ChargeLimit = (C : Config) (P : History) (r : ℕ) → InLimits C → IsLegal C 
 
 -- one entry on, the open requests and the charges of each tenant are changed as the act says
 abbrev pub TenantSteps : Type 0
-TenantSteps = (C : Config) (P : History) (e : Entry) (t : ℕ) → InLimits C → IsLegal C (e ∷ P) → Changes C P (e ∷ P) t (change_of P t e.act)
+TenantSteps = (C : Config) (P : History) (e : Entry) (t : ℕ) → InLimits C → IsLegal C (e ∷ P) → Changes C P (e ∷ P) t (change_of C P t e.act)
 
 -- what a tenant is charged is bounded by the number of requests
 pub record TenantLimit (C : Config) (P : History) (t : ℕ) : Type 0 where

@@ -3,10 +3,10 @@ use Rattle.std.specs.Prelude.{ℕ, ◌+◌, ◌≡◌, ◌==◌, max, Bool, if�
 use Rattle.vt_fixed.specs.Rounding.{length_of}
 use Rattle.fq_model.specs.declared.config.Config.{Config}
 use Rattle.fq_model.specs.declared.event.Act.{Act}
-use Rattle.fq_model.specs.declared.event.Act.TheVariants.{Submit, Take, Report, Done, Close}
+use Rattle.fq_model.specs.declared.event.Act.TheVariants.{Submit, Take, Report, Done}
 use Rattle.fq_model.specs.History.{History, request_at, is_of_tenant, weight_at}
 use Rattle.fq_model.specs.Time.{open_requests}
-use Rattle.fq_model.specs.Charge.{charge, virtual_charge, net_charge, greatest, decayed_by_age}
+use Rattle.fq_model.specs.Charge.{charge, taken_weight, virtual_charge, net_charge, greatest, decayed_by_age}
 
 -- the charge of r after the act
 abbrev pub charge_after : History → ℕ → Act → ℕ
@@ -20,29 +20,44 @@ abbrev pub length_change : ℕ → ℕ → ℕ → ℤ
 length_change weight old new = pos (length_of new weight) -ℤ pos (length_of old weight)
 
 -- what an entry changes for a tenant: how many requests it opens and closes, and what it makes of the charge of a
--- request of the tenant, which was `charged` and then is `recharged` (both 0 where it charges none)
+-- request of the tenant, which was `charged` and then is `recharged` (both 0 where it charges none), at the weight that
+-- the tenant had just before the Take of that request
 pub record Change : Type 0 where
   pub opened : ℕ
   pub closed : ℕ
   pub charged : ℕ
   pub recharged : ℕ
+  pub weight : ℕ
+
+-- nothing is opened, closed or charged
+abbrev pub no_change : Change
+no_change = record { opened = 0; closed = 0; charged = 0; recharged = 0; weight = 0 }
 
 -- the change of a request's charge, where the request is one of the tenant
-abbrev pub recharge : Bool → ℕ → ℕ → ℕ → Change
-recharge own closed charged recharged = record { opened = 0; closed = closed; charged = if own then charged else 0; recharged = if own then recharged else 0 }
+abbrev pub recharge : Bool → ℕ → ℕ → ℕ → ℕ → Change
+recharge own closed charged recharged weight = record {
+  opened = 0;
+  closed = closed;
+  charged = if own then charged else 0;
+  recharged = if own then recharged else 0;
+  weight = weight;
+}
 
 -- what the act changes at P for tenant t
-abbrev pub change_of : History → ℕ → Act → Change
-change_of P t (Submit request tenant kind declared label) = record { opened = if tenant == t then 1 else 0; closed = 0; charged = 0; recharged = 0 }
-change_of P t (Take worker request estimate) = recharge (is_of_tenant t (request_at P request)) 0 0 estimate
-change_of P t (Report worker request used) = recharge (is_of_tenant t (request_at P request)) 0 (charge P request) (max used (charge P request))
-change_of P t (Done worker request cost) = recharge (is_of_tenant t (request_at P request)) (if is_of_tenant t (request_at P request) then 1 else 0) (charge P request) cost
-change_of P t Close = record { opened = 0; closed = 0; charged = 0; recharged = 0 }
+abbrev pub change_of : Config → History → ℕ → Act → Change
+change_of C P t (Submit request tenant kind declared label) = record no_change { opened = if tenant == t then 1 else 0 }
+change_of C P t (Take worker request estimate) = recharge (is_of_tenant t (request_at P request)) 0 0 estimate (weight_at C P t)
+change_of C P t (Report worker request used) =
+    recharge (is_of_tenant t (request_at P request)) 0 (charge P request) (max used (charge P request)) (taken_weight C P t request)
+change_of C P t (Done worker request cost) =
+    recharge (is_of_tenant t (request_at P request)) (if is_of_tenant t (request_at P request) then 1 else 0) (charge P request) cost
+    (taken_weight C P t request)
+change_of C P t _ = no_change
 
 -- the history Q has this change for tenant t over P
 pub record Changes (C : Config) (P Q : History) (t : ℕ) (d : Change) : Type 0 where
   pub open_is : open_requests Q t + d.closed ≡ open_requests P t + d.opened
-  pub charge_is : virtual_charge C Q t + length_of d.charged (weight_at C P t) ≡ virtual_charge C P t + length_of d.recharged (weight_at C P t)
+  pub charge_is : virtual_charge C Q t + length_of d.charged d.weight ≡ virtual_charge C P t + length_of d.recharged d.weight
   pub net_is : net_charge Q t + d.charged ≡ net_charge P t + d.recharged
 
 -- the greatest of the costs, the newest first, each decayed once for each that is newer, the initial value the oldest

@@ -1,6 +1,6 @@
 -- Worked histories, the newest entry first, small enough to find by hand what the definitions give on them. The numbers of
 -- an act stand in the order of its fields: Submit request tenant kind declared label, Take worker request estimate,
--- Report worker request used, Done worker request cost.
+-- Report worker request used, Done worker request cost, Weight tenant weight.
 use Rattle.std.specs.Prelude.{ℕ, ◌*◌, [], ◌∷◌, pos}
 use Rattle.vt_fixed.specs.Rounding.{steps_per_unit}
 use Rattle.fq_model.specs.declared.config.Config.{Config}
@@ -8,7 +8,7 @@ use Rattle.fq_model.specs.declared.config.Policy.{Policy}
 use Rattle.fq_model.specs.declared.config.Policy.TheVariants.{Wf2q, TwoDfq}
 use Rattle.fq_model.specs.declared.config.Estimator.TheVariants.{Declared, Recent, Pessimistic}
 use Rattle.fq_model.specs.declared.event.Act.{Act}
-use Rattle.fq_model.specs.declared.event.Act.TheVariants.{Submit, Take, Report, Done, Close}
+use Rattle.fq_model.specs.declared.event.Act.TheVariants.{Submit, Take, Report, Done, Close, Weight, Workers}
 use Rattle.fq_model.specs.declared.event.Entry.{Entry}
 use Rattle.fq_model.specs.History.{History}
 use Rattle.fq_model.specs.Keys.{HeadKeys, HasKeys, NoneIsEligible, turn_at}
@@ -113,6 +113,40 @@ refund_history =
     ∷ entry 10 0 (Take 0 0 990)
     ∷ entry 0 0 (Submit 1 0 0 1 2)
     ∷ entry 0 0 (Submit 0 0 0 1 1)
+    ∷ []
+
+-- ---- weights
+
+-- one worker, and two tenants of weight 1
+unfoldable pub weights_config : Config
+weights_config = record { workers = 1; weights = 1 ∷ 1 ∷ []; kinds = 1; entries = 100; requests = 10; policy = TwoDfq; estimate = Declared; initial = 1000 }
+
+-- tenant 0 gets the weight 2 before its first request is taken, and the weight 4 while that runs
+unfoldable pub weights_history : History
+weights_history =
+    entry 10 20 (Done 0 0 8)
+    ∷ entry 0 0 (Weight 0 4)
+    ∷ entry 10 0 (Take 0 0 8)
+    ∷ entry 0 0 (Weight 0 2)
+    ∷ entry 1 0 (Submit 2 1 0 5 3)
+    ∷ entry 0 0 (Submit 1 0 0 8 2)
+    ∷ entry 0 0 (Submit 0 0 0 8 1)
+    ∷ []
+
+-- ---- workers
+
+-- two workers at the opening, and two tenants of weight 1
+unfoldable pub workers_config : Config
+workers_config = record { workers = 2; weights = 1 ∷ 1 ∷ []; kinds = 1; entries = 100; requests = 10; policy = TwoDfq; estimate = Declared; initial = 1000 }
+
+-- one worker from moment 0 on, while worker 1 runs a request, which ends
+unfoldable pub workers_history : History
+workers_history =
+    entry 11 4 (Done 1 0 4)
+    ∷ entry 0 0 (Workers 1)
+    ∷ entry 11 0 (Take 1 0 4)
+    ∷ entry 0 0 (Submit 1 0 0 4 2)
+    ∷ entry 0 0 (Submit 0 0 0 4 1)
     ∷ []
 
 -- ---- pause

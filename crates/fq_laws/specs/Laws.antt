@@ -6,20 +6,20 @@ use Rattle.fq_model.specs.declared.event.Call.{Call}
 use Rattle.fq_model.specs.declared.event.Reply.{Reply}
 use Rattle.fq_model.specs.declared.event.Reply.TheVariants as answer
 use Rattle.fq_model.specs.declared.event.Cause.{Cause}
-use Rattle.fq_model.specs.Limits.{InLimits}
-use Rattle.fq_model.specs.History.{History, is_submit_of, is_take_of, is_done_of, is_submitted, is_closed, waiting, running, running_on, Runs, WaitsFor, IsHead, head, queue}
+use Rattle.fq_model.specs.Limits.{InLimits, IsWithin, IsWeight}
+use Rattle.fq_model.specs.History.{History, count_acts, is_submit_of, is_take_of, is_done_of, is_submitted, is_closed, waiting, running, running_on, Runs, weight_at, pool_at, WaitsFor, IsHead, head, queue}
 use Rattle.fq_model.specs.Keys.{HeadKeys, keys_at, IsChoiceAt}
 use Rattle.fq_model.specs.Rules.{IsLegal, RunsNothing, Answers}
 use Rattle.fq_model.specs.Outcome.{Outcome}
-use Rattle.fq_laws.specs.Words.{times, first, Member, Ascends, concerns, Leaves, caller, named_moment, Extends}
+use Rattle.fq_laws.specs.Words.{first, Member, Ascends, concerns, Leaves, caller, named_moment, Extends}
 
 -- ---- requests
 
 -- a request is submitted, taken and done once at most
 pub record Once (P : History) (r : ℕ) : Type 0 where
-  pub submitted : times (is_submit_of r) P ≤ 1
-  pub taken : times (is_take_of r) P ≤ 1
-  pub done : times (is_done_of r) P ≤ 1
+  pub submitted : count_acts (is_submit_of r) P ≤ 1
+  pub taken : count_acts (is_take_of r) P ≤ 1
+  pub done : count_acts (is_done_of r) P ≤ 1
 
 abbrev pub EachOnce : Type 0
 EachOnce = (C : Config) (P : History) (r : ℕ) → IsLegal C P → Once P r
@@ -33,6 +33,20 @@ NumbersFit = (C : Config) (P : History) (r : ℕ) → InLimits C → IsLegal C P
 -- `running_on` names r where the worker runs r, and no other request, and names none where it runs nothing
 abbrev pub RunningLaw : Type 0
 RunningLaw = (C : Config) (P : History) (i : ℕ) → IsLegal C P → ((r : ℕ) → (running_on P i ≡ Some r) ↔ Runs P i r) × ((running_on P i ≡ None) ↔ RunsNothing P i)
+
+-- the workers of a legal history are 1 at least, and at most as many as at the opening
+abbrev pub PoolRange : Type 0
+PoolRange = (C : Config) (P : History) → InLimits C → IsLegal C P → IsWithin 1 C.workers (pool_at C P)
+
+-- a worker that runs a request may be above them, and is one of those at the opening
+abbrev pub RunnersKnown : Type 0
+RunnersKnown = (C : Config) (P : History) (i r : ℕ) → IsLegal C P → Runs P i r → i < C.workers
+
+-- ---- weights
+
+-- each tenant of a legal history has a weight in its limits
+abbrev pub WeightRange : Type 0
+WeightRange = (C : Config) (P : History) (t : ℕ) → InLimits C → IsLegal C P → t < length C.weights → IsWeight (weight_at C P t)
 
 -- ---- heads
 

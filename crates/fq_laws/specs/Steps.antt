@@ -2,33 +2,35 @@
 use Rattle.std.specs.Prelude.{ℕ, ◌≡◌, ◌∷◌, Some, Bool, true, false}
 use Rattle.fq_model.specs.declared.config.Config.{Config}
 use Rattle.fq_model.specs.declared.event.Act.{Act}
-use Rattle.fq_model.specs.declared.event.Act.TheVariants.{Submit, Take, Report, Done, Close}
+use Rattle.fq_model.specs.declared.event.Act.TheVariants.{Submit, Take, Report, Done, Close, Weight, Workers}
 use Rattle.fq_model.specs.declared.event.Entry.{Entry}
 use Rattle.fq_model.specs.Limits.{InLimits}
 use Rattle.fq_model.specs.History.{History, Request, request_at}
 use Rattle.fq_model.specs.Rules.{IsLegal}
 
 -- what is kept is that of a legal history after which such an entry may come
-pub record Awaits {K : Type 0} (C : Config) (KeptIs : Config → History → K → Type 0) (Comes : History → Entry → Type 0) (kept : K) : Type 0 where
+pub record Awaits {K : Type 0} (KeptIs : Config → History → K → Type 0) (Comes : History → Entry → Type 0) (kept : K) : Type 0 where
+  pub config : Config
   pub history : History
   pub entry : Entry
-  pub limits : InLimits C
-  pub legal : IsLegal C (entry ∷ history)
+  pub limits : InLimits config
+  pub legal : IsLegal config (entry ∷ history)
   pub comes : Comes history entry
-  pub kept_is : KeptIs C history kept
+  pub kept_is : KeptIs config history kept
 
 -- and of each such history, what was kept of it becomes what is kept of the history with the entry
-abbrev pub Follows : {K : Type 0} → Config → (Config → History → K → Type 0) → (History → Entry → Type 0) → K → K → Type 0
-Follows C KeptIs Comes before after = (P : History) (e : Entry) → InLimits C → IsLegal C (e ∷ P) → Comes P e → KeptIs C P before → KeptIs C (e ∷ P) after
+abbrev pub Follows : {K : Type 0} → (Config → History → K → Type 0) → (History → Entry → Type 0) → K → K → Type 0
+Follows KeptIs Comes before after =
+    (C : Config) (P : History) (e : Entry) → InLimits C → IsLegal C (e ∷ P) → Comes P e → KeptIs C P before → KeptIs C (e ∷ P) after
 
--- the act opens no request and closes none
+-- the act opens no request and closes none, and changes no weight and no number of workers
 abbrev pub passes : Act → Bool
 passes (Take worker request estimate) = true
 passes (Report worker request used) = true
 passes Close = true
 passes _ = false
 
--- the entry is of this moment, and opens no request and closes none: it is a Take, a Report or a Close
+-- the entry is of this moment, and is a Take, a Report or a Close
 pub record Passes (moment : ℕ) (P : History) (e : Entry) : Type 0 where
   pub moment_is : e.moment ≡ moment
   pub act_passes : passes e.act ≡ true
@@ -52,3 +54,13 @@ pub record Completes (moment tenant : ℕ) (P : History) (e : Entry) : Type 0 wh
   pub act_is : e.act ≡ Done worker request cost
   pub asked_is : request_at P request ≡ Some asked
   pub tenant_is : asked.tenant ≡ tenant
+
+-- the entry is of this moment, and gives the tenant this weight
+pub record Reweighs (moment tenant weight : ℕ) (P : History) (e : Entry) : Type 0 where
+  pub moment_is : e.moment ≡ moment
+  pub act_is : e.act ≡ Weight tenant weight
+
+-- the entry is of this moment, and makes the number of workers this one
+pub record Staffs (moment count : ℕ) (P : History) (e : Entry) : Type 0 where
+  pub moment_is : e.moment ≡ moment
+  pub act_is : e.act ≡ Workers count

@@ -1,13 +1,13 @@
 -- Words for the laws.
-use Rattle.std.specs.Prelude.{ℕ, suc, ◌*◌, ◌<◌, ◌≡◌, ◌==◌, ◌⊎◌, Bool, false, if◌then◌else◌, List, [], ◌∷◌, Option, Some, None}
+use Rattle.std.specs.Prelude.{ℕ, suc, ◌*◌, ◌<◌, ◌≡◌, ◌==◌, ◌⊎◌, Bool, true, false, if◌then◌else◌, List, [], ◌∷◌, Option, Some, None}
 use Rattle.vt_fixed.specs.Rounding.{steps_per_unit}
 use Rattle.vt_fixed.specs.declared.limits.TheConstants.{GREATEST_COST, MOST_WORKERS}
 use Rattle.fq_model.specs.declared.event.Act.{Act}
-use Rattle.fq_model.specs.declared.event.Act.TheVariants.{Submit, Take, Report, Done}
+use Rattle.fq_model.specs.declared.event.Act.TheVariants.{Submit, Take, Report, Done, Weight}
 use Rattle.fq_model.specs.declared.config.Config.{Config}
 use Rattle.fq_model.specs.declared.event.Call.{Call}
 use Rattle.fq_model.specs.declared.event.Call.TheVariants as call
-use Rattle.fq_model.specs.History.{History, request_at, is_of_tenant, head}
+use Rattle.fq_model.specs.History.{History, request_at, is_of_tenant, head, weight_at}
 use Rattle.fq_model.specs.Time.{open_requests, effective_moment}
 use Rattle.fq_model.specs.Charge.{virtual_charge, net_charge, completed, completed_costs}
 use Rattle.fq_model.specs.Keys.{tag_base}
@@ -24,11 +24,6 @@ greatest_length = GREATEST_COST * steps_per_unit
 abbrev pub greatest_rate : ℕ
 greatest_rate = MOST_WORKERS * steps_per_unit
 
--- the number of entries whose act passes the test
-abbrev pub times : (Act → Bool) → History → ℕ
-times test [] = 0
-times test (e ∷ P) = if test e.act then suc (times test P) else times test P
-
 -- the first of a list, if there is one
 abbrev pub first : List ℕ → Option ℕ
 first [] = None
@@ -44,17 +39,27 @@ abbrev pub Ascends : List ℕ → Type 0
 Ascends [] = Unit {0}
 Ascends (x ∷ xs) = ((s : ℕ) → Member s xs → x < s) × Ascends xs
 
--- the act submits a request of tenant t, or is done to one
+-- the act touches no request: it is a Close, a Weight or a Workers
+abbrev pub is_quiet : Act → Bool
+is_quiet (Submit request tenant kind declared label) = false
+is_quiet (Take worker request estimate) = false
+is_quiet (Report worker request used) = false
+is_quiet (Done worker request cost) = false
+is_quiet _ = true
+
+-- the act submits a request of tenant t, is done to one, or sets the weight of t
 abbrev pub concerns : History → ℕ → Act → Bool
 concerns P t (Submit request tenant kind declared label) = tenant == t
 concerns P t (Take worker request estimate) = is_of_tenant t (request_at P request)
 concerns P t (Report worker request used) = is_of_tenant t (request_at P request)
 concerns P t (Done worker request cost) = is_of_tenant t (request_at P request)
+concerns P t (Weight tenant weight) = tenant == t
 concerns P t _ = false
 
 -- tenant t stands in Q as it stands in P
 pub record Leaves (C : Config) (P Q : History) (t : ℕ) : Type 0 where
   pub head_same : head Q t ≡ head P t
+  pub weight_same : weight_at C Q t ≡ weight_at C P t
   pub charge_same : virtual_charge C Q t ≡ virtual_charge C P t
   pub net_same : net_charge Q t ≡ net_charge P t
   pub base_same : tag_base C Q t ≡ tag_base C P t
@@ -68,6 +73,8 @@ caller (call.Take who moment worker) = who
 caller (call.Report who moment worker used) = who
 caller (call.Done who moment worker cost) = who
 caller (call.Close who moment) = who
+caller (call.Weight who moment tenant weight) = who
+caller (call.Workers who moment count) = who
 
 -- the moment that the call names
 abbrev pub named_moment : Call → ℕ
@@ -76,6 +83,8 @@ named_moment (call.Take who moment worker) = moment
 named_moment (call.Report who moment worker used) = moment
 named_moment (call.Done who moment worker cost) = moment
 named_moment (call.Close who moment) = moment
+named_moment (call.Weight who moment tenant weight) = moment
+named_moment (call.Workers who moment count) = moment
 
 -- Q is P, or P and one entry more, of this caller and at the moment at which its call takes effect
 abbrev pub Extends : ℕ → ℕ → History → History → Type 0

@@ -1,16 +1,19 @@
 //! The definitions computed on worked histories, one function an example: its contract says what they give there, and its
 //! body is empty. Each number can be found by hand, as the comments do. A unit of virtual time is 2^20 steps; tenants,
 //! requests and workers count from 0.
-ghost use Rattle.std.specs.Prelude.{ℕ, ◌/◌, ◌≡◌, pos, Some};
+ghost use Rattle.std.specs.Prelude.{ℕ, ◌/◌, ◌≡◌, ◌∷◌, pos, Some, None};
 ghost use Rattle.fq_model.specs.declared.config.Policy.{Policy};
 ghost use Rattle.fq_model.specs.declared.config.Policy.TheVariants.{Wfq, Wf2q, Msf2q, TwoDfq};
 ghost use Rattle.fq_model.specs.Limits.{InLimits};
 ghost use Rattle.fq_model.specs.Time.{virtual_time};
 ghost use Rattle.fq_model.specs.Charge.{charge, estimate_at};
 ghost use Rattle.fq_model.specs.Keys.{tag, start, HeadKeys, finish, turn_at, eligible_key, HasKeys, IsChoiceAt};
-ghost use Rattle.fq_model.specs.declared.event.Cause.TheVariants.{Tenant, Kind};
-ghost use Rattle.fq_model.specs.Rules.{IsLegal, submit_refusal};
-ghost use Rattle.fq_laws.specs.Examples.{units, keys, NoneIsEligibleAt, stagger_config, long_ended, sixth_ended, fallback_config, fallback_history, fallback_taken, refund_config, refund_history, pause_config, pause_history, single_config, single_reported, single_ended, recent_config, recent_history, small_config, small_history, small_ended, small_reported, small_crowded};
+ghost use Rattle.fq_model.specs.declared.event.Cause.TheVariants.{Tenant, Kind, Workers};
+ghost use Rattle.fq_model.specs.declared.event.Call.TheVariants.{Take};
+ghost use Rattle.fq_model.specs.declared.event.Reply.TheVariants.{Retired};
+ghost use Rattle.fq_model.specs.declared.event.Act.TheVariants as Act;
+ghost use Rattle.fq_model.specs.Rules.{IsLegal, Answers, submit_refusal, workers_refusal};
+ghost use Rattle.fq_laws.specs.Examples.{entry, units, keys, NoneIsEligibleAt, weights_config, weights_history, workers_config, workers_history, stagger_config, long_ended, sixth_ended, fallback_config, fallback_history, fallback_taken, refund_config, refund_history, pause_config, pause_history, single_config, single_reported, single_ended, recent_config, recent_history, small_config, small_history, small_ended, small_reported, small_crowded};
 
 /// The stagger example, where worker 1 is free. Two workers over two weights make one unit a microsecond. Tenant 0 was
 /// charged 8, and tenant 1 six times 1. Worker 1 of 2 takes half a head's length off its start: tenant 0 is eligible at
@@ -88,6 +91,34 @@ pub fn pause()
     ensures choice_wf2q { IsChoiceAt (pause_config Wf2q) pause_history 2010 0 1 (keys 1000 300 2) }
     ensures choice_msf2q { IsChoiceAt (pause_config Msf2q) pause_history 2010 0 0 (keys 1010 200 3) }
     ensures choice_2dfq { IsChoiceAt (pause_config TwoDfq) pause_history 2010 0 1 (keys 1000 300 2) }
+{}
+
+/// The weights example. One worker over the weights 4 and 1 makes a unit in 5 microseconds, and 4 in 20. The request of
+/// tenant 0 cost 8, and is charged by the weight 2 that its tenant had at the Take: 4 units, where the weight 4 would make
+/// 2. Its next head is measured by the weight now: 8 at the weight 4 is 2 units, so that it finishes at 6, after tenant
+/// 1's at 5.
+pub fn weights()
+    ensures in_limits { InLimits weights_config }
+    ensures legal { IsLegal weights_config weights_history }
+    ensures time { virtual_time weights_config weights_history 20 ≡ units 4 }
+    ensures tag { tag weights_config weights_history 0 ≡ units 4 }
+    ensures keys { HasKeys weights_config weights_history 20 0 (keys 4 2 1) }
+    ensures other_keys { HasKeys weights_config weights_history 20 1 (keys 0 5 2) }
+    ensures choice { IsChoiceAt weights_config weights_history 20 0 1 (keys 0 5 2) }
+{}
+
+/// The workers example. From moment 0 on there is one worker, over one weight: 4 microseconds are 4 units. Worker 1 ends
+/// what it runs, is told that it is retired though a request waits, and may not take; worker 0 may. There may be 2 workers
+/// again, and not 3.
+pub fn workers()
+    ensures in_limits { InLimits workers_config }
+    ensures legal { IsLegal workers_config workers_history }
+    ensures time { virtual_time workers_config workers_history 4 ≡ units 4 }
+    ensures retired { Answers workers_config workers_history (Take 11 4 1) (Retired 1) workers_history }
+    ensures taken { IsLegal workers_config (entry 10 4 (Act.Take 0 1 4) ∷ workers_history) }
+    ensures not_taken { ¬ IsLegal workers_config (entry 11 4 (Act.Take 1 1 4) ∷ workers_history) }
+    ensures too_many { workers_refusal workers_config workers_history 3 ≡ Some (Workers 3) }
+    ensures again { workers_refusal workers_config workers_history 2 ≡ None }
 {}
 
 /// One request, submitted, taken, reported and done, and the history then closed. It was taken at an estimate of 5, and

@@ -1,5 +1,5 @@
 //! The laws, one function a law: its contract is the law, and its body is empty.
-ghost use Rattle.fq_laws.specs.Laws.{EachOnce, NumbersFit, RunningLaw, HeadLaw, QueueLaw, ChoiceExists, OneChoice, EntriesLeaveOthers, KeysDoNotAge, OthersKeepKeys, AnswerExists, OneAnswer, AnswersKeepLegality, AnswersAddOne, RefusalsChangeNothing, RoomRemains, OutcomeExists, OneOutcome, OutcomesAreLegal};
+ghost use Rattle.fq_laws.specs.Laws.{EachOnce, NumbersFit, RunningLaw, PoolRange, RunnersKnown, WeightRange, HeadLaw, QueueLaw, ChoiceExists, OneChoice, EntriesLeaveOthers, KeysDoNotAge, OthersKeepKeys, AnswerExists, OneAnswer, AnswersKeepLegality, AnswersAddOne, RefusalsChangeNothing, RoomRemains, OutcomeExists, OneOutcome, OutcomesAreLegal};
 
 /// In a legal history a request is submitted, taken and done once at most.
 pub fn each_once()
@@ -14,6 +14,21 @@ pub fn numbers_fit()
 /// The request of a worker's last Take, unless its Done follows, is the one request that it runs.
 pub fn running_law()
     ensures { RunningLaw }
+{}
+
+/// In a legal history there are 1 to as many workers as at the opening.
+pub fn pool_range()
+    ensures { PoolRange }
+{}
+
+/// What runs runs on one of the workers that there were at the opening, be it retired or not.
+pub fn runners_known()
+    ensures { RunnersKnown }
+{}
+
+/// In a legal history each tenant has a weight in its limits.
+pub fn weight_range()
+    ensures { WeightRange }
 {}
 
 /// The head of a tenant is its least waiting request, if one waits.

@@ -1,22 +1,22 @@
 -- Limits of charges in legal histories.
-use Rattle.std.proofs.Common.{ℕ, ◌≤◌, arith, inl, inr, [], ◌∷◌, ◌<◌, length, ◌≡◌, true, false, cond, ◌⊎◌, ◌*◌}
+use Rattle.std.proofs.Common.{refl, ℕ, ◌≤◌, arith, inl, inr, [], ◌∷◌, ◌<◌, length, ◌≡◌, true, false, cond, ◌⊎◌, ◌*◌}
 use Rattle.std.proofs.lemmas.Bool.{cases_eq, cases_Bool}
 use Rattle.vt_fixed.specs.Rounding.{length_of}
 use Rattle.vt_fixed.proofs.Bounds.{length_high}
 use Rattle.fq_model.specs.declared.config.Config.{Config}
 use Rattle.fq_model.specs.declared.event.Act.{Act}
-use Rattle.fq_model.specs.declared.event.Act.TheVariants.{Submit, Take, Report, Done, Close}
+use Rattle.fq_model.specs.declared.event.Act.TheVariants.{Submit, Take, Report, Done}
 use Rattle.fq_model.specs.Limits.{InLimits}
 use Rattle.fq_model.specs.History.{History, weight_at, request_at, is_of_tenant, is_taken, submits, request_bound}
-use Rattle.fq_model.specs.Charge.{charge, charged, virtual_charge, net_charged, net_charge}
+use Rattle.fq_model.specs.Charge.{charge, taken_weight, charged, virtual_charge, net_charged, net_charge}
 use Rattle.fq_model.specs.Rules.{IsLegal, Fits}
 use Rattle.fq_model.specs.Sums.{count_below}
 use Rattle.vt_fixed.specs.declared.limits.TheConstants.{GREATEST_COST}
 use Rattle.fq_model.specs.declared.limits.TheConstants.{MOST_ENTRIES}
 use Rattle.fq_laws.specs.Words.{one_more, greatest_length}
-use Rattle.fq_laws.proofs.Charge.Requests.{charge_submit, charge_close, charge_take, charge_take_other, charge_report, charge_report_other, charge_done, charge_done_other}
+use Rattle.fq_laws.proofs.Charge.Requests.{charge_submit, charge_quiet, charge_take, charge_take_other, charge_report, charge_report_other, charge_done, charge_done_other}
 use Rattle.fq_laws.proofs.Charge.Estimates.{estimate_range}
-use Rattle.fq_laws.proofs.Time.Clock.{weight_low}
+use Rattle.fq_laws.proofs.History.Weights.{weight_low, taken_weight_low}
 use Rattle.fq_laws.proofs.History.Requests.{tenant_below}
 use Rattle.fq_laws.proofs.Charge.Tenants.{charged_untaken, charged_taken, net_charged_untaken, net_charged_taken}
 use Rattle.fq_laws.proofs.Sums.{sum_at_most}
@@ -38,7 +38,7 @@ charge_low_at C P who m r (Done worker request cost) lim l f h = elim (cases_eq 
   | inl e ↦ rw (← e) (omega (arith, charge_done P who m worker request cost f, f.in_range))
   | inr ne ↦ omega (arith, charge_done_other P who m r worker request cost ne, h)
 ]
-charge_low_at C P who m r Close lim l f h = rw (charge_close P who m r) h
+charge_low_at C P who m r a lim l f h = rw (charge_quiet P who m r a refl) h
 
 -- no request is charged more than the greatest cost
 pub charge_low : (C : Config) (P : History) (r : ℕ) → InLimits C → IsLegal C P → charge P r ≤ GREATEST_COST
@@ -46,20 +46,20 @@ charge_low C [] r lim l = omega arith
 charge_low C (e ∷ P) r lim l = charge_low_at C P e.who e.moment r e.act lim l.0 l.3 (charge_low C P r lim l.0)
 
 -- no length of an estimate or a charge is above the length of the greatest cost at the least weight
-pub length_low : (C : Config) (P : History) (t cost : ℕ) → InLimits C → t < length C.weights → cost ≤ GREATEST_COST → length_of cost (weight_at C P t) ≤ greatest_length
-length_low C P t cost lim b c = length_high cost (weight_at C P t) c (weight_low C P t lim b)
+pub length_low : (C : Config) (P : History) (t cost : ℕ) → InLimits C → IsLegal C P → t < length C.weights → cost ≤ GREATEST_COST → length_of cost (weight_at C P t) ≤ greatest_length
+length_low C P t cost lim l b c = length_high cost (weight_at C P t) c (weight_low C P t lim l b)
 
 -- ---- virtual charges and net charges
 
 charged_at_most : (C : Config) (P : History) (t r : ℕ) → InLimits C → IsLegal C P → charged C P t r ≤ cond (is_taken P r) greatest_length 0
 charged_at_most C P t r lim l = elim (cases_Bool (is_taken P r)) [
-  | inl e ↦ (let k : charged C P t r ≤ greatest_length = rw (charged_taken C P t r e) (within (cases_Bool (is_of_tenant t (request_at P r)))) in rw e k)
+  | inl e ↦ (let k : charged C P t r ≤ greatest_length = rw (charged_taken C P t r e) (within e (cases_Bool (is_of_tenant t (request_at P r)))) in rw e k)
   | inr e ↦ rw e (omega (arith, charged_untaken C P t r e))
 ]
   where
-    within : ((is_of_tenant t (request_at P r) ≡ true) ⊎ (is_of_tenant t (request_at P r) ≡ false)) → cond (is_of_tenant t (request_at P r)) (length_of (charge P r) (weight_at C P t)) 0 ≤ greatest_length
-    within (inl m) = rw m (length_low C P t (charge P r) lim (tenant_below C P t r l m) (charge_low C P r lim l))
-    within (inr m) = rw m (omega arith)
+    within : is_taken P r ≡ true → ((is_of_tenant t (request_at P r) ≡ true) ⊎ (is_of_tenant t (request_at P r) ≡ false)) → cond (is_of_tenant t (request_at P r)) (length_of (charge P r) (taken_weight C P t r)) 0 ≤ greatest_length
+    within e (inl m) = rw m (length_high (charge P r) (taken_weight C P t r) (charge_low C P r lim l) (taken_weight_low C P t r lim l (tenant_below C P t r l m) e))
+    within e (inr m) = rw m (omega arith)
 
 -- a virtual charge is at most the greatest length for each request
 pub virtual_charge_low : (C : Config) (P : History) (t : ℕ) → InLimits C → IsLegal C P → virtual_charge C P t ≤ submits P * greatest_length

@@ -2,13 +2,13 @@
 use Rattle.std.proofs.Common.{ℕ, ◌≡◌, max, arith, ◌==◌, true, ◌||◌, refl, inl, inr, Some, ◌≢◌, [], ◌∷◌, false, None, ◌≤◌, cond, subst}
 use Rattle.std.proofs.lemmas.Bool.{cases_Bool, false≢true, or_parts, ne_eqb, both_ways, eq-eqb, cases_eq, true_from_ne_false}
 use Rattle.fq_model.specs.declared.event.Act.{Act}
-use Rattle.fq_model.specs.declared.event.Act.TheVariants.{Take, Done, Report, Submit, Close}
+use Rattle.fq_model.specs.declared.event.Act.TheVariants.{Take, Done, Report, Submit}
 use Rattle.fq_model.specs.History.{History, is_taken, is_take_of, is_done, is_done_of, last_use, use_in, weight_at}
 use Rattle.fq_model.specs.Charge.{taken_estimate, estimate_in, final_cost, cost_in, charge, taken_weight}
 use Rattle.fq_model.specs.declared.config.Config.{Config}
 use Rattle.fq_model.specs.Rules.{Fits, IsLegal, FitsUse}
 use Rattle.fq_model.specs.declared.event.Entry.{Entry}
-use Rattle.fq_laws.specs.Words.{one_more}
+use Rattle.fq_laws.specs.Words.{one_more, is_quiet}
 use Rattle.fq_laws.specs.Changes.{charge_after}
 use Rattle.fq_laws.proofs.History.Requests.{use_taken, untaken_undone, use_undone, done_taken}
 use Rattle.fq_laws.proofs.Rules.Takes.{take_waits}
@@ -59,8 +59,12 @@ charge_covers_use P r h d = let x = estimate_some P r h in rw (x.1, cost_none P 
 pub charge_submit : (P : History) (who m r q u kind declared label : ℕ) → charge (one_more who m (Submit q u kind declared label) P) r ≡ charge P r
 charge_submit P who m r q u kind declared label = rw (zero_max (last_use P r)) refl
 
-pub charge_close : (P : History) (who m r : ℕ) → charge (one_more who m Close P) r ≡ charge P r
-charge_close P who m r = rw (zero_max (last_use P r)) refl
+pub charge_quiet : (P : History) (who m r : ℕ) (a : Act) → is_quiet a ≡ true → charge (one_more who m a P) r ≡ charge P r
+charge_quiet P who m r (Submit request tenant kind declared label) q = absurd (false≢true q)
+charge_quiet P who m r (Take worker request estimate) q = absurd (false≢true q)
+charge_quiet P who m r (Report worker request used) q = absurd (false≢true q)
+charge_quiet P who m r (Done worker request cost) q = absurd (false≢true q)
+charge_quiet P who m r _ q = rw (zero_max (last_use P r)) refl
 
 -- a Take of another request
 pub charge_take_other : (P : History) (who m r w q c : ℕ) → q ≢ r → charge (one_more who m (Take w q c) P) r ≡ charge P r
@@ -90,15 +94,9 @@ charge_done P who m w q cost f = let x = estimate_some P q (use_taken P w q cost
 
 -- ---- the weight at the Take
 
-weight_found_at : (C : Config) (P : History) (t r : ℕ) (a : Act) (e : Entry) → (is_taken P r ≡ true → taken_weight C P t r ≡ weight_at C (e ∷ P) t) → (is_take_of r a || is_taken P r) ≡ true → cond (is_take_of r a) (weight_at C P t) (taken_weight C P t r) ≡ weight_at C (e ∷ P) t
-unfolding weight_at
-weight_found_at C P t r a e ih h = elim (cases_Bool (is_take_of r a)) [ inl x ↦ rw x refl | inr x ↦ rw x (ih (rw x at h)) ]
-
--- weights do not change, so it is the weight now
-pub taken_weight_is : (C : Config) (P : History) (t r : ℕ) → is_taken P r ≡ true → taken_weight C P t r ≡ weight_at C P t
-unfolding is_taken weight_at
-taken_weight_is C [] t r h = absurd (false≢true h)
-taken_weight_is C (e ∷ P) t r h = weight_found_at C P t r e.act e (taken_weight_is C P t r) h
+-- it is the weight that the tenant has there
+pub taken_weight_take : (C : Config) (P : History) (who m t w q c : ℕ) → taken_weight C (one_more who m (Take w q c) P) t q ≡ weight_at C P t
+taken_weight_take C P who m t w q c = rw (eq-eqb q q refl) refl
 
 pub taken_weight_take_other : (C : Config) (P : History) (who m t r w q c : ℕ) → q ≢ r → taken_weight C (one_more who m (Take w q c) P) t r ≡ taken_weight C P t r
 taken_weight_take_other C P who m t r w q c ne = rw (ne_eqb q r ne) refl
@@ -113,7 +111,7 @@ charge_next_at C P who m r (Submit request tenant kind declared label) l f = cha
 charge_next_at C P who m r (Take worker request estimate) l f = if_own request r _ _ _ (λ e. subst (λ s. charge (one_more who m (Take worker request estimate) P) s ≡ estimate) e (charge_take C P who m worker request estimate l f)) (λ ne. charge_take_other P who m r worker request estimate ne)
 charge_next_at C P who m r (Report worker request used) l f = if_own request r _ _ _ (λ e. subst (λ s. charge (one_more who m (Report worker request used) P) s ≡ max used (charge P s)) e (charge_report P who m worker request used f.0)) (λ ne. charge_report_other P who m r worker request used ne)
 charge_next_at C P who m r (Done worker request cost) l f = if_own request r _ _ _ (λ e. subst (λ s. charge (one_more who m (Done worker request cost) P) s ≡ cost) e (charge_done P who m worker request cost f)) (λ ne. charge_done_other P who m r worker request cost ne)
-charge_next_at C P who m r Close l f = charge_close P who m r
+charge_next_at C P who m r a l f = charge_quiet P who m r a refl
 
 -- a charge, one entry on
 pub charge_next : (C : Config) (P : History) (e : Entry) (r : ℕ) → IsLegal C (e ∷ P) → charge (e ∷ P) r ≡ charge_after P r e.act

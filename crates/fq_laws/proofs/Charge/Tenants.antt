@@ -1,16 +1,17 @@
 -- How the virtual charge and the net charge of a tenant change at one entry more.
 use Rattle.std.proofs.Common.{◌≡◌, Bool, true, false, refl, ℕ, arith, sym, ◌∙◌, inl, inr, ◌≢◌, cond, max, [], ◌+◌, ◌^◌, ◌<◌}
-use Rattle.std.proofs.lemmas.Bool.{and_right, cases_eq, ne_eqb, eq-eqb, or_left}
+use Rattle.std.proofs.lemmas.Bool.{false≢true, and_right, cases_eq, ne_eqb, eq-eqb, or_left}
 use Rattle.vt_fixed.specs.Rounding.{length_of}
 use Rattle.fq_model.specs.History.{History, request_at, is_of_tenant, is_taken, submits, weight_at, request_bound}
 use Rattle.fq_model.specs.Charge.{is_taken_of, charged, net_charged, charge, taken_weight, virtual_charge, net_charge}
 use Rattle.fq_model.specs.declared.config.Config.{Config}
-use Rattle.fq_model.specs.declared.event.Act.TheVariants.{Submit, Take, Report, Done, Close}
+use Rattle.fq_model.specs.declared.event.Act.TheVariants.{Submit, Take, Report, Done}
 use Rattle.fq_model.specs.Rules.{IsLegal, Fits, FitsUse}
 use Rattle.fq_model.specs.Limits.{InLimits}
-use Rattle.fq_laws.specs.Words.{one_more}
+use Rattle.fq_laws.specs.Words.{one_more, is_quiet}
+use Rattle.fq_model.specs.declared.event.Act.{Act}
 use Rattle.fq_laws.proofs.History.Requests.{fresh_untaken, use_taken, untaken_nil}
-use Rattle.fq_laws.proofs.Charge.Requests.{charge_take, charge_take_other, taken_weight_take_other, taken_weight_is, charge_report, charge_report_other, charge_done, charge_done_other, charge_submit, charge_close}
+use Rattle.fq_laws.proofs.Charge.Requests.{charge_take, charge_take_other, taken_weight_take_other, taken_weight_take, charge_report, charge_report_other, charge_done, charge_done_other, charge_submit, charge_quiet}
 use Rattle.fq_laws.proofs.Sums.{sum_zero, sum_at, sum_same}
 use Rattle.fq_laws.proofs.Rules.Takes.{take_waits}
 use Rattle.fq_laws.proofs.History.Asked.{and_with_true, waits_untaken}
@@ -50,9 +51,11 @@ pub taken_of_done : (P : History) (who m t r w q cost : ℕ) → is_taken_of (on
 unfolding is_taken_of is_taken
 taken_of_done P who m t r w q cost = refl
 
-pub taken_of_close : (P : History) (who m t r : ℕ) → is_taken_of (one_more who m Close P) t r ≡ is_taken_of P t r
+pub taken_of_quiet : (P : History) (who m t r : ℕ) (a : Act) → is_quiet a ≡ true → is_taken_of (one_more who m a P) t r ≡ is_taken_of P t r
 unfolding is_taken_of is_taken
-taken_of_close P who m t r = refl
+taken_of_quiet P who m t r (Submit request tenant kind declared label) q = absurd (false≢true q)
+taken_of_quiet P who m t r (Take worker request estimate) q = absurd (false≢true q)
+taken_of_quiet P who m t r _ q = refl
 
 -- ---- what a request adds
 
@@ -70,8 +73,8 @@ pub net_charged_untaken : (P : History) (t r : ℕ) → is_taken P r ≡ false �
 net_charged_untaken P t r h = rw (untaken_of P t r h) refl
 
 -- what a taken request adds
-pub charged_taken : (C : Config) (P : History) (t r : ℕ) → is_taken P r ≡ true → charged C P t r ≡ cond (is_of_tenant t (request_at P r)) (length_of (charge P r) (weight_at C P t)) 0
-charged_taken C P t r h = length_same _ _ (charge P r) (charge P r) _ _ (taken_of P t r h) refl (taken_weight_is C P t r h)
+pub charged_taken : (C : Config) (P : History) (t r : ℕ) → is_taken P r ≡ true → charged C P t r ≡ cond (is_of_tenant t (request_at P r)) (length_of (charge P r) (taken_weight C P t r)) 0
+charged_taken C P t r h = length_same _ _ (charge P r) (charge P r) (taken_weight C P t r) _ (taken_of P t r h) refl refl
 
 pub net_charged_taken : (P : History) (t r : ℕ) → is_taken P r ≡ true → net_charged P t r ≡ cond (is_of_tenant t (request_at P r)) (charge P r) 0
 net_charged_taken P t r h = cost_same _ _ (charge P r) (charge P r) (taken_of P t r h) refl
@@ -102,8 +105,12 @@ unmoved_report C P who m t r w q used ne = record { taken_same = taken_of_report
 unmoved_done : (C : Config) (P : History) (who m t r w q cost : ℕ) → q ≢ r → Unmoved C P (one_more who m (Done w q cost) P) t r
 unmoved_done C P who m t r w q cost ne = record { taken_same = taken_of_done P who m t r w q cost; charge_same = charge_done_other P who m r w q cost ne; weight_same = refl }
 
-unmoved_close : (C : Config) (P : History) (who m t r : ℕ) → Unmoved C P (one_more who m Close P) t r
-unmoved_close C P who m t r = record { taken_same = taken_of_close P who m t r; charge_same = charge_close P who m r; weight_same = refl }
+taken_weight_quiet : (C : Config) (P : History) (who m t r : ℕ) (a : Act) → is_quiet a ≡ true → taken_weight C (one_more who m a P) t r ≡ taken_weight C P t r
+taken_weight_quiet C P who m t r (Take worker request estimate) q = absurd (false≢true q)
+taken_weight_quiet C P who m t r _ q = refl
+
+unmoved_quiet : (C : Config) (P : History) (who m t r : ℕ) (a : Act) → is_quiet a ≡ true → Unmoved C P (one_more who m a P) t r
+unmoved_quiet C P who m t r a q = record { taken_same = taken_of_quiet P who m t r a q; charge_same = charge_quiet P who m r a q; weight_same = taken_weight_quiet C P who m t r a q }
 
 -- ---- the virtual charge at one entry more
 
@@ -140,13 +147,13 @@ virtual_charge_submit C P who m t q u kind declared label l n = virtual_charge_s
 pub net_charge_submit : (C : Config) (P : History) (who m t q u kind declared label : ℕ) → IsLegal C P → q ≡ submits P → net_charge (one_more who m (Submit q u kind declared label) P) t ≡ net_charge P t
 net_charge_submit C P who m t q u kind declared label l n = net_charge_still C P _ t (λ r. unmoved_submit C P who m t r q u kind declared label l n)
 
--- nor does a Close
-pub virtual_charge_close : (C : Config) (P : History) (who m t : ℕ) → virtual_charge C (one_more who m Close P) t ≡ virtual_charge C P t
-virtual_charge_close C P who m t = virtual_charge_still C P _ t (unmoved_close C P who m t)
+-- nor does an act that touches no request
+pub virtual_charge_quiet : (C : Config) (P : History) (who m t : ℕ) (a : Act) → is_quiet a ≡ true → virtual_charge C (one_more who m a P) t ≡ virtual_charge C P t
+virtual_charge_quiet C P who m t a q = virtual_charge_still C P _ t (λ r. unmoved_quiet C P who m t r a q)
 
-pub net_charge_close : (P : History) (who m t : ℕ) → net_charge (one_more who m Close P) t ≡ net_charge P t
+pub net_charge_quiet : (P : History) (who m t : ℕ) (a : Act) → is_quiet a ≡ true → net_charge (one_more who m a P) t ≡ net_charge P t
 unfolding net_charge
-net_charge_close P who m t = sum_same (net_charged (one_more who m Close P) t) (net_charged P t) request_bound (λ r b. cost_same _ _ (charge (one_more who m Close P) r) (charge P r) (taken_of_close P who m t r) (charge_close P who m r))
+net_charge_quiet P who m t a q = sum_same (net_charged (one_more who m a P) t) (net_charged P t) request_bound (λ r b. cost_same _ _ (charge (one_more who m a P) r) (charge P r) (taken_of_quiet P who m t r a q) (charge_quiet P who m r a q))
 
 -- a Report and a Done change what one request adds
 pub virtual_charge_report : (C : Config) (P : History) (who m t w q used : ℕ) → q < 2 ^ 32 → virtual_charge C (one_more who m (Report w q used) P) t + charged C P t q ≡ virtual_charge C P t + charged C (one_more who m (Report w q used) P) t q
@@ -161,7 +168,7 @@ virtual_charge_done C P who m t w q cost b = virtual_charge_at C P _ t q b (λ r
 pub virtual_charge_taken : (C : Config) (P : History) (who m t w q c : ℕ) → InLimits C → IsLegal C P → Fits C P m (Take w q c) → virtual_charge C (one_more who m (Take w q c) P) t ≡ virtual_charge C P t + cond (is_of_tenant t (request_at P q)) (length_of c (weight_at C P t)) 0
 virtual_charge_taken C P who m t w q c lim l f =
     let one = virtual_charge_at C P (one_more who m (Take w q c) P) t q (take_request_small C P m w q c lim l f) (λ r. unmoved_take C P who m t r w q c) in
-    let new : charged C (one_more who m (Take w q c) P) t q ≡ cond (is_of_tenant t (request_at P q)) (length_of c (weight_at C P t)) 0 = length_same _ _ (charge (one_more who m (Take w q c) P) q) c _ _ (taken_of_take P who m t w q c) (charge_take C P who m w q c l f) (rw (eq-eqb q q refl) refl) in
+    let new : charged C (one_more who m (Take w q c) P) t q ≡ cond (is_of_tenant t (request_at P q)) (length_of c (weight_at C P t)) 0 = length_same _ _ (charge (one_more who m (Take w q c) P) q) c _ _ (taken_of_take P who m t w q c) (charge_take C P who m w q c l f) (taken_weight_take C P who m t w q c) in
     omega (arith, one, new, charged_untaken C P t q (waits_untaken P q (take_waits C P m w q c f)))
 
 pub net_charge_taken : (C : Config) (P : History) (who m t w q c : ℕ) → InLimits C → IsLegal C P → Fits C P m (Take w q c) → net_charge (one_more who m (Take w q c) P) t ≡ net_charge P t + cond (is_of_tenant t (request_at P q)) c 0
@@ -179,9 +186,9 @@ record Recharges (C : Config) (P Q : History) (t q x : ℕ) : Type 0 where
   weight_same : taken_weight C Q t q ≡ taken_weight C P t q
   others : (r : ℕ) → q ≢ r → Unmoved C P Q t r
 
-virtual_charge_recharged : (C : Config) (P Q : History) (t q x : ℕ) → Recharges C P Q t q x → virtual_charge C Q t + cond (is_of_tenant t (request_at P q)) (length_of (charge P q) (weight_at C P t)) 0 ≡ virtual_charge C P t + cond (is_of_tenant t (request_at P q)) (length_of x (weight_at C P t)) 0
+virtual_charge_recharged : (C : Config) (P Q : History) (t q x : ℕ) → Recharges C P Q t q x → virtual_charge C Q t + cond (is_of_tenant t (request_at P q)) (length_of (charge P q) (taken_weight C P t q)) 0 ≡ virtual_charge C P t + cond (is_of_tenant t (request_at P q)) (length_of x (taken_weight C P t q)) 0
 virtual_charge_recharged C P Q t q x h =
-    let new : charged C Q t q ≡ cond (is_of_tenant t (request_at P q)) (length_of x (weight_at C P t)) 0 = length_same _ _ (charge Q q) x _ _ (h.taken_same ∙ taken_of P t q h.was_taken) h.charge_is (h.weight_same ∙ taken_weight_is C P t q h.was_taken) in
+    let new : charged C Q t q ≡ cond (is_of_tenant t (request_at P q)) (length_of x (taken_weight C P t q)) 0 = length_same _ _ (charge Q q) x _ _ (h.taken_same ∙ taken_of P t q h.was_taken) h.charge_is h.weight_same in
     rw (← charged_taken C P t q h.was_taken, ← new) (virtual_charge_at C P Q t q h.small h.others)
 
 net_charge_recharged : (C : Config) (P Q : History) (t q x : ℕ) → Recharges C P Q t q x → net_charge Q t + cond (is_of_tenant t (request_at P q)) (charge P q) 0 ≡ net_charge P t + cond (is_of_tenant t (request_at P q)) x 0
@@ -196,14 +203,14 @@ done_recharges : (C : Config) (P : History) (who m t w q cost : ℕ) → InLimit
 done_recharges C P who m t w q cost lim l f = record { small = use_small C P w q cost lim l f; was_taken = use_taken P w q cost f; taken_same = taken_of_done P who m t q w q cost; charge_is = charge_done P who m w q cost f; weight_same = refl; others = λ r. unmoved_done C P who m t r w q cost }
 
 -- a Report raises the length of the charge of its request to that of the use, where this is greater
-pub virtual_charge_reported : (C : Config) (P : History) (who m t w q used : ℕ) → InLimits C → IsLegal C P → FitsUse P w q used → virtual_charge C (one_more who m (Report w q used) P) t + cond (is_of_tenant t (request_at P q)) (length_of (charge P q) (weight_at C P t)) 0 ≡ virtual_charge C P t + cond (is_of_tenant t (request_at P q)) (length_of (max used (charge P q)) (weight_at C P t)) 0
+pub virtual_charge_reported : (C : Config) (P : History) (who m t w q used : ℕ) → InLimits C → IsLegal C P → FitsUse P w q used → virtual_charge C (one_more who m (Report w q used) P) t + cond (is_of_tenant t (request_at P q)) (length_of (charge P q) (taken_weight C P t q)) 0 ≡ virtual_charge C P t + cond (is_of_tenant t (request_at P q)) (length_of (max used (charge P q)) (taken_weight C P t q)) 0
 virtual_charge_reported C P who m t w q used lim l f = virtual_charge_recharged C P _ t q (max used (charge P q)) (report_recharges C P who m t w q used lim l f)
 
 pub net_charge_reported : (C : Config) (P : History) (who m t w q used : ℕ) → InLimits C → IsLegal C P → FitsUse P w q used → net_charge (one_more who m (Report w q used) P) t + cond (is_of_tenant t (request_at P q)) (charge P q) 0 ≡ net_charge P t + cond (is_of_tenant t (request_at P q)) (max used (charge P q)) 0
 net_charge_reported C P who m t w q used lim l f = net_charge_recharged C P _ t q (max used (charge P q)) (report_recharges C P who m t w q used lim l f)
 
 -- a Done makes the length of the charge of its request that of the cost
-pub virtual_charge_finished : (C : Config) (P : History) (who m t w q cost : ℕ) → InLimits C → IsLegal C P → FitsUse P w q cost → virtual_charge C (one_more who m (Done w q cost) P) t + cond (is_of_tenant t (request_at P q)) (length_of (charge P q) (weight_at C P t)) 0 ≡ virtual_charge C P t + cond (is_of_tenant t (request_at P q)) (length_of cost (weight_at C P t)) 0
+pub virtual_charge_finished : (C : Config) (P : History) (who m t w q cost : ℕ) → InLimits C → IsLegal C P → FitsUse P w q cost → virtual_charge C (one_more who m (Done w q cost) P) t + cond (is_of_tenant t (request_at P q)) (length_of (charge P q) (taken_weight C P t q)) 0 ≡ virtual_charge C P t + cond (is_of_tenant t (request_at P q)) (length_of cost (taken_weight C P t q)) 0
 virtual_charge_finished C P who m t w q cost lim l f = virtual_charge_recharged C P _ t q cost (done_recharges C P who m t w q cost lim l f)
 
 pub net_charge_finished : (C : Config) (P : History) (who m t w q cost : ℕ) → InLimits C → IsLegal C P → FitsUse P w q cost → net_charge (one_more who m (Done w q cost) P) t + cond (is_of_tenant t (request_at P q)) (charge P q) 0 ≡ net_charge P t + cond (is_of_tenant t (request_at P q)) cost 0

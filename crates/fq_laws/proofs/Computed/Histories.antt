@@ -5,7 +5,7 @@ use Rattle.std.proofs.Common.{ℕ, nat_lt, Bool, true, ◌&&◌, [], ◌∷◌, 
 use Rattle.std.proofs.lemmas.Bool.{and_parts, ltb-true, ne_eqb, or_from, cases_Bool, cases_eq, and_left}
 use Rattle.vt_fixed.specs.Rounding.{advance_of, length_of, part_of, decay_of}
 use Rattle.fq_model.specs.declared.event.Act.{Act}
-use Rattle.fq_model.specs.declared.event.Act.TheVariants.{Submit, Take, Report, Done, Close}
+use Rattle.fq_model.specs.declared.event.Act.TheVariants.{Submit, Take, Report, Done, Close, Weight, Workers}
 use Rattle.fq_model.specs.History.{History, Request, request_in, request_at, is_submit_of, is_submitted, is_take_of, is_taken, is_of_tenant, is_waiting, waiting, request_bound, is_running, running, waits_for, head, weight_at, pool_at, is_done, is_closed}
 use Rattle.fq_model.specs.declared.event.Entry.{Entry}
 use Rattle.fq_model.specs.Sums.{sum_below, count_below, least_below, first_of}
@@ -17,13 +17,15 @@ use Rattle.fq_laws.proofs.Sums.{least_by, sum_same}
 
 -- ---- histories of few requests and tenants
 
--- the act's request is below n, and a Submit's tenant below k
+-- the act's request is below n, and its tenant below k
 abbrev pub act_within : ℕ → ℕ → Act → Bool
 act_within n k (Submit request tenant kind declared label) = nat_lt request n && nat_lt tenant k
 act_within n k (Take worker request estimate) = nat_lt request n
 act_within n k (Report worker request used) = nat_lt request n
 act_within n k (Done worker request cost) = nat_lt request n
 act_within n k Close = true
+act_within n k (Weight tenant weight) = nat_lt tenant k
+act_within n k (Workers count) = true
 
 abbrev pub acts_within : ℕ → ℕ → History → Bool
 acts_within n k [] = true

@@ -8,7 +8,7 @@ use Rattle.fq_model.specs.Rules.{HasRoom, IsChosen, FitsUse, Fits, IsLegal, Fits
 use Rattle.fq_model.specs.Keys.{HeadKeys}
 use Rattle.fq_model.specs.Charge.{request_estimate}
 use Rattle.fq_model.specs.declared.event.Act.{Act}
-use Rattle.fq_model.specs.declared.event.Act.TheVariants.{Submit, Take, Report, Done, Close}
+use Rattle.fq_model.specs.declared.event.Act.TheVariants.{Submit, Take, Report, Done, Close, Weight, Workers}
 use Rattle.fq_model.specs.Time.{last_moment}
 use Rattle.fq_model.specs.Limits.{IsWithin, IsWeight, InLimits}
 use Rattle.vt_fixed.specs.declared.limits.TheConstants.{GREATEST_WEIGHT, GREATEST_COST, MOST_WORKERS, GREATEST_MOMENT}
@@ -73,6 +73,8 @@ fits_test n k C P m (Take worker request estimate) = nat_lt worker (pool_at C P)
 fits_test n k C P m (Report worker request used) = use_test P worker request used && room_test n C P 2
 fits_test n k C P m (Done worker request cost) = use_test P worker request cost
 fits_test n k C P m Close = not (is_closed P)
+fits_test n k C P m (Weight tenant weight) = nat_lt tenant (length C.weights) && (nat_le 1 weight && (nat_le weight GREATEST_WEIGHT && room_test n C P 2))
+fits_test n k C P m (Workers count) = nat_le 1 count && (nat_le count C.workers && room_test n C P 2)
 
 fits_true : (n k : ℕ) (C : Config) (P : History) (m : ℕ) (a : Act) → IsShort n k P → IsLegal C P → fits_test n k C P m a ≡ true → Fits C P m a
 fits_true n k C P m (Submit request tenant kind declared label) s l h =
@@ -106,6 +108,15 @@ fits_true n k C P m (Take worker request estimate) s l h =
 fits_true n k C P m (Report worker request used) s l h = let p = and_parts _ _ h in (use_true P worker request used p.0, room_true n k C P 2 s p.1)
 fits_true n k C P m (Done worker request cost) s l h = use_true P worker request cost h
 fits_true n k C P m Close s l h = not-true _ h
+fits_true n k C P m (Weight tenant weight) s l h =
+    let p1 = and_parts _ _ h in
+    let p2 = and_parts _ _ p1.1 in
+    let p3 = and_parts _ _ p2.1 in
+    record { tenant_known = ltb-true _ _ p1.0; weight_in_range = (leb-true _ _ p2.0, leb-true _ _ p3.0); room = room_true n k C P 2 s p3.1 }
+fits_true n k C P m (Workers count) s l h =
+    let p1 = and_parts _ _ h in
+    let p2 = and_parts _ _ p1.1 in
+    record { count_in_range = (leb-true _ _ p1.0, leb-true _ _ p2.0); room = room_true n k C P 2 s p2.1 }
 
 abbrev pub legal_test : ℕ → ℕ → Config → History → Bool
 legal_test n k C [] = true

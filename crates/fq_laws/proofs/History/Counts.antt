@@ -1,12 +1,12 @@
 -- How many requests wait and run, at one entry more.
 use Rattle.std.proofs.Common.{ℕ, ◌+◌, ◌^◌, ◌==◌, ◌<◌, ◌≡◌, false, arith, refl, sym, true, suc, ◌≤◌, [], ◌∷◌, length}
-use Rattle.std.proofs.lemmas.Bool.{eq-eqb, ne_eqb, not_from_false, false_from_ne_true, or_left, both_ways, and_from, and_left, and_right}
+use Rattle.std.proofs.lemmas.Bool.{false≢true, eq-eqb, ne_eqb, not_from_false, false_from_ne_true, or_left, both_ways, and_from, and_left, and_right}
 use Rattle.fq_model.specs.declared.config.Config.{Config}
-use Rattle.fq_model.specs.declared.event.Act.TheVariants.{Submit, Take, Done, Report, Close}
+use Rattle.fq_model.specs.declared.event.Act.TheVariants.{Submit, Take, Done, Report}
 use Rattle.fq_model.specs.History.{History, is_submitted, is_taken, is_waiting, waiting, submits, request_bound, is_done, is_running, running, with_submit}
 use Rattle.fq_model.specs.Rules.{IsLegal}
 use Rattle.fq_model.specs.declared.event.Act.{Act}
-use Rattle.fq_laws.specs.Words.{one_more}
+use Rattle.fq_laws.specs.Words.{one_more, is_quiet}
 use Rattle.fq_laws.proofs.Sums.{count_zero, count_more}
 use Rattle.fq_laws.proofs.History.Requests.{submitted_below, taken_submitted, done_taken}
 use Rattle.fq_laws.proofs.History.Asked.{waits_untaken}
@@ -66,13 +66,17 @@ pub waiting_done : (P : History) (who m i request cost : ℕ) → waiting (one_m
 unfolding waiting is_waiting is_submitted is_taken
 waiting_done P who m i request cost = refl
 
-pub running_close : (P : History) (who m : ℕ) → running (one_more who m Close P) ≡ running P
+pub running_quiet : (P : History) (who m : ℕ) (a : Act) → is_quiet a ≡ true → running (one_more who m a P) ≡ running P
 unfolding running is_running is_done is_taken
-running_close P who m = refl
+running_quiet P who m (Take worker request estimate) q = absurd (false≢true q)
+running_quiet P who m (Done worker request cost) q = absurd (false≢true q)
+running_quiet P who m _ q = refl
 
-pub waiting_close : (P : History) (who m : ℕ) → waiting (one_more who m Close P) ≡ waiting P
+pub waiting_quiet : (P : History) (who m : ℕ) (a : Act) → is_quiet a ≡ true → waiting (one_more who m a P) ≡ waiting P
 unfolding waiting is_waiting is_submitted is_taken
-waiting_close P who m = refl
+waiting_quiet P who m (Submit request tenant kind declared label) q = absurd (false≢true q)
+waiting_quiet P who m (Take worker request estimate) q = absurd (false≢true q)
+waiting_quiet P who m _ q = refl
 
 pub waiting_none : waiting [] ≡ 0
 unfolding waiting is_waiting is_submitted is_taken

@@ -4,10 +4,9 @@ use Rattle.std.proofs.lemmas.Bool.{eqb-true, false_from_ne_true, false≢true, o
 use Rattle.fq_model.specs.declared.config.Config.{Config}
 use Rattle.fq_model.specs.declared.event.Act.{Act}
 use Rattle.fq_model.specs.declared.event.Act.TheVariants.{Submit, Take, Done}
-use Rattle.fq_model.specs.History.{History, is_submitted, is_submit_of, submits, is_take_of, is_taken, is_done_of, is_done, has_act}
+use Rattle.fq_model.specs.History.{count_acts, History, is_submitted, is_submit_of, submits, is_take_of, is_taken, is_done_of, is_done, has_act}
 use Rattle.fq_model.specs.Rules.{IsLegal, Fits}
 use Rattle.fq_model.specs.declared.event.Entry.{Entry}
-use Rattle.fq_laws.specs.Words.{times}
 use Rattle.fq_laws.proofs.History.Requests.{submitted_below}
 use Rattle.fq_laws.proofs.Rules.Takes.{take_waits}
 use Rattle.fq_laws.proofs.History.Asked.{waits_untaken}
@@ -37,30 +36,30 @@ done_new C P e r l h = does_new C P e.moment r e.act l.3 h
 
 -- ---- so each is done once at most
 
-times_none : (test : Act → Bool) (P : History) → has_act test P ≡ false → times test P ≡ 0
-times_none test [] h = refl
-times_none test (e ∷ P) h =
+count_none : (test : Act → Bool) (P : History) → has_act test P ≡ false → count_acts test P ≡ 0
+count_none test [] h = refl
+count_none test (e ∷ P) h =
     let p = or_parts (test e.act) (has_act test P) h in
-    rw (p.0, times_none test P p.1) refl
+    rw (p.0, count_none test P p.1) refl
 
 -- what is new where it comes is there once
-times_new : (test : Act → Bool) (e : Entry) (P : History) → (test e.act ≡ true → has_act test P ≡ false) → times test P ≤ 1 → times test (e ∷ P) ≤ 1
-times_new test e P new h = elim (cases_Bool (test e.act)) [
-  | inl is ↦ rw (is, times_none test P (new is)) (omega arith)
+count_new : (test : Act → Bool) (e : Entry) (P : History) → (test e.act ≡ true → has_act test P ≡ false) → count_acts test P ≤ 1 → count_acts test (e ∷ P) ≤ 1
+count_new test e P new h = elim (cases_Bool (test e.act)) [
+  | inl is ↦ rw (is, count_none test P (new is)) (omega arith)
   | inr is ↦ rw is h
 ]
 
-pub submitted_once : (C : Config) (P : History) (r : ℕ) → IsLegal C P → times (is_submit_of r) P ≤ 1
+pub submitted_once : (C : Config) (P : History) (r : ℕ) → IsLegal C P → count_acts (is_submit_of r) P ≤ 1
 unfolding is_submitted
 submitted_once C [] r l = omega arith
-submitted_once C (e ∷ P) r l = times_new (is_submit_of r) e P (submitted_new C P e r l) (submitted_once C P r l.0)
+submitted_once C (e ∷ P) r l = count_new (is_submit_of r) e P (submitted_new C P e r l) (submitted_once C P r l.0)
 
-pub taken_once : (C : Config) (P : History) (r : ℕ) → IsLegal C P → times (is_take_of r) P ≤ 1
+pub taken_once : (C : Config) (P : History) (r : ℕ) → IsLegal C P → count_acts (is_take_of r) P ≤ 1
 unfolding is_taken
 taken_once C [] r l = omega arith
-taken_once C (e ∷ P) r l = times_new (is_take_of r) e P (taken_new C P e r l) (taken_once C P r l.0)
+taken_once C (e ∷ P) r l = count_new (is_take_of r) e P (taken_new C P e r l) (taken_once C P r l.0)
 
-pub done_once : (C : Config) (P : History) (r : ℕ) → IsLegal C P → times (is_done_of r) P ≤ 1
+pub done_once : (C : Config) (P : History) (r : ℕ) → IsLegal C P → count_acts (is_done_of r) P ≤ 1
 unfolding is_done
 done_once C [] r l = omega arith
-done_once C (e ∷ P) r l = times_new (is_done_of r) e P (done_new C P e r l) (done_once C P r l.0)
+done_once C (e ∷ P) r l = count_new (is_done_of r) e P (done_new C P e r l) (done_once C P r l.0)

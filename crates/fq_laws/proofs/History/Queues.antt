@@ -4,7 +4,7 @@ use Rattle.std.proofs.lemmas.Bool.{and_left, cases_eq, both_ways, false≢true, 
 use Rattle.fq_model.specs.History.{History, waits_for, WaitsFor, submits, request_at, is_of_tenant, queue, is_taken, queue_after, head, request_bound}
 use Rattle.fq_model.specs.declared.config.Config.{Config}
 use Rattle.fq_model.specs.Rules.{IsLegal, FitsTake, Fits}
-use Rattle.fq_model.specs.declared.event.Act.TheVariants.{Submit, Take, Report, Done, Close}
+use Rattle.fq_model.specs.declared.event.Act.TheVariants.{Submit, Take}
 use Rattle.fq_model.specs.declared.event.Act.{Act}
 use Rattle.fq_model.specs.Limits.{InLimits}
 use Rattle.fq_model.specs.Sums.{first_of}
@@ -109,9 +109,7 @@ queued_at : (C : Config) (P : History) (who m t : ℕ) (a : Act) → IsLegal C P
 unfolding waits_for is_taken
 queued_at C P who m t (Submit request tenant kind declared label) l f h = queued_submit C P who m t request tenant kind declared label (tenant == t) refl l f.numbered h
 queued_at C P who m t (Take worker request estimate) l f h = queued_take C P who m t worker request estimate (is_of_tenant t (request_at P request)) refl f h
-queued_at C P who m t (Report worker request used) l f h = queued_same P (one_more who m (Report worker request used) P) t (queue P t) (λ r. refl) h
-queued_at C P who m t (Done worker request cost) l f h = queued_same P (one_more who m (Done worker request cost) P) t (queue P t) (λ r. refl) h
-queued_at C P who m t Close l f h = queued_same P (one_more who m Close P) t (queue P t) (λ r. refl) h
+queued_at C P who m t a l f h = queued_same P (one_more who m a P) t (queue P t) (λ r. refl) h
 
 -- `queue` is the waiting requests in order
 pub queue_is : (C : Config) (P : History) (t : ℕ) → IsLegal C P → Queued P t (queue P t)

@@ -1,14 +1,15 @@
 -- What runs on a worker.
-use Rattle.std.proofs.Common.{ℕ, ◌≡◌, true, ◌==◌, false, ◌&&◌, ◌||◌, inl, inr, [], ◌∷◌, Option, Some, None, Bool, cond, refl, sym, ◌∙◌, subst, ap, ◌<◌}
+use Rattle.std.proofs.Common.{ℕ, ◌≡◌, true, ◌==◌, false, ◌&&◌, ◌||◌, inl, inr, [], ◌∷◌, Option, Some, None, Bool, cond, refl, sym, ◌∙◌, subst, ap, ◌<◌, arith}
 use Rattle.std.proofs.lemmas.Bool.{eqb-true, or_cases, and_parts, both_ways, false≢true, eq-eqb, false_from_ne_true, or_left, or_right, and_from, ne_eqb, or_parts, or_from}
-use Rattle.fq_model.specs.History.{History, is_take_by, has_act, is_taken, Runs, is_done, running_after, running_on, pool_at}
+use Rattle.fq_model.specs.History.{History, is_take_by, has_act, is_taken, Runs, is_done, running_after, running_on}
 use Rattle.fq_model.specs.declared.config.Config.{Config}
 use Rattle.fq_model.specs.declared.event.Act.{Act}
-use Rattle.fq_model.specs.declared.event.Act.TheVariants.{Submit, Take, Report, Done, Close}
+use Rattle.fq_model.specs.declared.event.Act.TheVariants.{Take, Done}
 use Rattle.fq_model.specs.Rules.{Fits, IsLegal, RunsNothing, FitsTake}
 use Rattle.fq_laws.specs.Words.{one_more}
 use Rattle.fq_laws.proofs.History.Requests.{worker_took, done_taken}
 use Rattle.fq_laws.proofs.Rules.Takes.{take_waits}
+use Rattle.fq_laws.proofs.History.Weights.{pool_high}
 use Rattle.fq_laws.proofs.History.Asked.{waits_untaken}
 
 -- what worker i has taken is taken
@@ -17,7 +18,6 @@ unfolding is_taken
 took P i r h = worker_took i r P h
 
 once_at : (C : Config) (P : History) (m i j r : ℕ) (a : Act) → Fits C P m a → (has_act (is_take_by i r) P ≡ true → has_act (is_take_by j r) P ≡ true → i ≡ j) → (is_take_by i r a || has_act (is_take_by i r) P) ≡ true → (is_take_by j r a || has_act (is_take_by j r) P) ≡ true → i ≡ j
-once_at C P m i j r (Submit request tenant kind declared label) f ih x y = ih x y
 once_at C P m i j r (Take worker request estimate) f ih x y = elim (or_cases ((worker == i) && (request == r)) (has_act (is_take_by i r) P) x) [
   | inl p ↦ elim (or_cases ((worker == j) && (request == r)) (has_act (is_take_by j r) P) y) [
     | inl q ↦ (let u : worker ≡ i = eqb-true worker i (and_parts (worker == i) (request == r) p).0 in let v : worker ≡ j = eqb-true worker j (and_parts (worker == j) (request == r) q).0 in cc)
@@ -32,9 +32,7 @@ once_at C P m i j r (Take worker request estimate) f ih x y = elim (or_cases ((w
         let un : is_taken P request ≡ false = waits_untaken P request (take_waits C P m worker request estimate f) in
         let un2 : is_taken P r ≡ false = rw e at un in
         both_ways (is_taken P r) un2 (took P k r q)
-once_at C P m i j r (Report worker request used) f ih x y = ih x y
-once_at C P m i j r (Done worker request cost) f ih x y = ih x y
-once_at C P m i j r Close f ih x y = ih x y
+once_at C P m i j r _ f ih x y = ih x y
 
 -- two workers do not take one request
 pub take_once : (C : Config) (P : History) (i j r : ℕ) → IsLegal C P → has_act (is_take_by i r) P ≡ true → has_act (is_take_by j r) P ≡ true → i ≡ j
@@ -119,18 +117,18 @@ nothing_running C P i l h = go (running_on P i) refl
 pub runs_on_one : (C : Config) (P : History) (i j r : ℕ) → IsLegal C P → Runs P i r → Runs P j r → i ≡ j
 runs_on_one C P i j r l v w = take_once C P i j r l v.taken w.taken
 
-worker_at : (C : Config) (P : History) (m i r : ℕ) (a : Act) → Fits C P m a → is_take_by i r a ≡ true → i < C.workers
-unfolding pool_at
-worker_at C P m i r (Take worker request estimate) f h = subst (λ w. w < C.workers) (eqb-true worker i (and_parts (worker == i) (request == r) h).0) f.worker_known
-worker_at C P m i r _ f h = absurd (false≢true h)
+worker_at : (C : Config) (P : History) (m i r : ℕ) (a : Act) → IsLegal C P → Fits C P m a → is_take_by i r a ≡ true → i < C.workers
+worker_at C P m i r (Take worker request estimate) l f h =
+    subst (λ w. w < C.workers) (eqb-true worker i (and_parts (worker == i) (request == r) h).0) (omega (arith, f.worker_known, pool_high C P l))
+worker_at C P m i r _ l f h = absurd (false≢true h)
 
 taker_known : (C : Config) (P : History) (i r : ℕ) → IsLegal C P → has_act (is_take_by i r) P ≡ true → i < C.workers
 taker_known C [] i r l h = absurd (false≢true h)
 taker_known C (e ∷ P) i r l h = elim (or_cases (is_take_by i r e.act) (has_act (is_take_by i r) P) h) [
-  | inl x ↦ worker_at C P e.moment i r e.act l.3 x
+  | inl x ↦ worker_at C P e.moment i r e.act l.0 l.3 x
   | inr x ↦ taker_known C P i r l.0 x
 ]
 
--- a worker that runs a request is one of the workers
+-- a worker that runs a request is one of those that there may be
 pub runs_worker_known : (C : Config) (P : History) (i r : ℕ) → IsLegal C P → Runs P i r → i < C.workers
 runs_worker_known C P i r l h = taker_known C P i r l h.taken

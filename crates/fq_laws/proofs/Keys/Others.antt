@@ -5,14 +5,14 @@ use Rattle.fq_model.specs.History.{is_taken, Request, is_of_tenant, History, req
 use Rattle.fq_model.specs.Charge.{with_completion, Completed, with_cost, completed_costs, completed, estimate_at, estimate_from, request_estimate}
 use Rattle.fq_model.specs.declared.config.Config.{Config}
 use Rattle.fq_model.specs.declared.event.Act.{Act}
-use Rattle.fq_model.specs.declared.event.Act.TheVariants.{Submit, Take, Report, Done, Close}
+use Rattle.fq_model.specs.declared.event.Act.TheVariants.{Submit, Take, Report, Done}
 use Rattle.fq_model.specs.Limits.{InLimits}
 use Rattle.fq_model.specs.Time.{open_requests, is_open, is_active, last_moment}
 use Rattle.fq_model.specs.Rules.{IsLegal}
 use Rattle.fq_model.specs.declared.event.Entry.{Entry}
 use Rattle.fq_model.specs.Keys.{tag_base, start, keys_at, keys_of_head, keys_of_request, tag}
 use Rattle.fq_laws.specs.Words.{concerns, Leaves, one_more}
-use Rattle.fq_laws.specs.Changes.{Change, Changes, change_of}
+use Rattle.fq_laws.specs.Changes.{no_change, Changes, change_of}
 use Rattle.fq_laws.proofs.History.Heads.{head_same}
 use Rattle.fq_laws.proofs.History.Queues.{head_submit, head_take_other}
 use Rattle.fq_laws.proofs.Keys.Tags.{base_submit_other}
@@ -21,7 +21,8 @@ use Rattle.fq_laws.proofs.Sums.{count_some}
 use Rattle.fq_laws.proofs.History.Requests.{done_taken, asked_stays}
 use Rattle.fq_laws.proofs.Rules.Takes.{heads, Heads}
 use Rattle.fq_laws.proofs.Time.Open.{active_of_open}
-use Rattle.fq_laws.proofs.Time.Clock.{idle_active, idle_step, weight_stays}
+use Rattle.fq_laws.proofs.Time.Clock.{idle_active, idle_step}
+use Rattle.fq_laws.proofs.History.Weights.{weight_left}
 use Rattle.fq_laws.proofs.History.Asked.{is_of_asked}
 
 -- ---- tenants that an entry does not concern
@@ -30,16 +31,12 @@ costs_done : (cs : List Completed) (o : Option Request) (cost t k : ℕ) → is_
 costs_done cs None cost t k h = refl
 costs_done cs (Some q) cost t k h = rw h refl
 
--- nothing is opened, closed or charged
-abbrev nothing : Change
-nothing = record { opened = 0; closed = 0; charged = 0; recharged = 0 }
-
-nothing_changes : (P : History) (t : ℕ) (a : Act) → concerns P t a ≡ false → change_of P t a ≡ nothing
-nothing_changes P t (Submit request tenant kind declared label) off = rw off refl
-nothing_changes P t (Take worker request estimate) off = rw off refl
-nothing_changes P t (Report worker request used) off = rw off refl
-nothing_changes P t (Done worker request cost) off = rw off refl
-nothing_changes P t Close off = refl
+nothing_changes : (C : Config) (P : History) (t : ℕ) (a : Act) → concerns P t a ≡ false → change_of C P t a ≡ record no_change { weight = (change_of C P t a).weight }
+nothing_changes C P t (Submit request tenant kind declared label) off = rw off refl
+nothing_changes C P t (Take worker request estimate) off = rw off refl
+nothing_changes C P t (Report worker request used) off = rw off refl
+nothing_changes C P t (Done worker request cost) off = rw off refl
+nothing_changes C P t _ off = refl
 
 head_left : (C : Config) (P : History) (who m t : ℕ) (a : Act) → InLimits C → IsLegal C (one_more who m a P) → concerns P t a ≡ false → head (one_more who m a P) t ≡ head P t
 unfolding waits_for is_taken
@@ -59,9 +56,10 @@ costs_left P t k _ off = refl
 -- an entry leaves the tenants that it does not concern as they stood
 pub leaves : (C : Config) (P : History) (e : Entry) (t : ℕ) → InLimits C → IsLegal C (e ∷ P) → concerns P t e.act ≡ false → Leaves C P (e ∷ P) t
 leaves C P e t lim l off =
-    let d : Changes C P (e ∷ P) t nothing = subst (Changes C P (e ∷ P) t) (nothing_changes P t e.act off) (changes C P e t lim l) in
+    let d : Changes C P (e ∷ P) t (record no_change { weight = (change_of C P t e.act).weight }) = subst (Changes C P (e ∷ P) t) (nothing_changes C P t e.act off) (changes C P e t lim l) in
     record {
       head_same = head_left C P e.who e.moment t e.act lim l off;
+      weight_same = weight_left C P e t off;
       charge_same = omega (arith, d.charge_is);
       net_same = omega (arith, d.net_is);
       base_same = base_left C P e.who e.moment t e.act off;
@@ -123,7 +121,7 @@ keys_left C P e t l s = rw s.head_same (go (head P t) refl)
         let x : Heads P t r = heads P t r is in
         let y = is_of_asked t (request_at P r) (and_parts _ _ x.waits_now).0 in
         let mine : q.tenant ≡ t = (let k : Some q ≡ Some y.0 = sym was ∙ y.1 in let j : q ≡ y.0 = cc in rw j y.2) in
-        rw (asked_stays C P e r q l was) (rw (start_left C P e t r l.0 is s, estimate_left C P e t q mine s, weight_stays C P e t) refl)
+        rw (asked_stays C P e r q l was) (rw (start_left C P e t r l.0 is s, estimate_left C P e t q mine s, s.weight_same) refl)
 
     go : (o : Option ℕ) → head P t ≡ o → keys_of_head C (e ∷ P) e.moment t o ≡ keys_of_head C P (last_moment P) t o
     go None is = refl

@@ -1,21 +1,21 @@
 -- Tags, their bases and where a tenant starts: how they change at one entry more, and their limits.
-use Rattle.std.proofs.Common.{◌^◌, ℕ, ◌≡◌, refl, [], ◌-◌, max, cond, ◌&&◌, ◌∷◌, None, ◌==◌, inl, inr, Some, ◌≢◌, ◌≤◌, arith, ◌+◌, subst, sym, ◌*◌}
+use Rattle.std.proofs.Common.{true, ◌^◌, ℕ, ◌≡◌, refl, [], ◌-◌, max, cond, ◌&&◌, ◌∷◌, None, ◌==◌, inl, inr, Some, ◌≢◌, ◌≤◌, arith, ◌+◌, subst, sym, ◌*◌}
 use Rattle.std.specs.Prelude.{is_none}
-use Rattle.std.proofs.lemmas.Bool.{eq-eqb, cases_Bool, ne_eqb}
+use Rattle.std.proofs.lemmas.Bool.{false≢true, eq-eqb, cases_Bool, ne_eqb}
 use Rattle.fq_model.specs.declared.config.Config.{Config}
 use Rattle.fq_model.specs.Keys.{tag_base, is_submit_for, tag, start, start_for}
 use Rattle.fq_model.specs.declared.event.Entry.{Entry}
 use Rattle.fq_model.specs.History.{History, head, submits}
 use Rattle.fq_model.specs.Time.{virtual_time, virtual_idle_time, last_moment}
 use Rattle.fq_model.specs.Charge.{virtual_charge}
-use Rattle.fq_model.specs.declared.event.Act.TheVariants.{Submit, Take, Report, Done, Close}
+use Rattle.fq_model.specs.declared.event.Act.TheVariants.{Submit, Take, Report, Done}
 use Rattle.fq_model.specs.declared.event.Act.{Act}
 use Rattle.fq_model.specs.Rules.{IsLegal, Fits, FitsSubmit}
 use Rattle.fq_model.specs.declared.config.Policy.{Policy}
 use Rattle.fq_model.specs.declared.config.Policy.TheVariants.{Wfq, Wf2q, Msf2q, TwoDfq}
 use Rattle.fq_model.specs.Limits.{InLimits}
 use Rattle.vt_fixed.specs.declared.limits.TheConstants.{GREATEST_MOMENT}
-use Rattle.fq_laws.specs.Words.{one_more, greatest_rate, greatest_length}
+use Rattle.fq_laws.specs.Words.{one_more, is_quiet, greatest_rate, greatest_length}
 use Rattle.fq_laws.proofs.Charge.Tenants.{virtual_charge_submit}
 use Rattle.fq_laws.proofs.Time.Clock.{virtual_time_low, virtual_idle_time_low}
 use Rattle.fq_laws.proofs.Charge.Limits.{virtual_charge_low}
@@ -58,9 +58,10 @@ pub base_done : (C : Config) (P : History) (who m t w q cost : ℕ) → tag_base
 unfolding tag_base
 base_done C P who m t w q cost = refl
 
-pub base_close : (C : Config) (P : History) (who m t : ℕ) → tag_base C (one_more who m Close P) t ≡ tag_base C P t
+pub base_quiet : (C : Config) (P : History) (who m t : ℕ) (a : Act) → is_quiet a ≡ true → tag_base C (one_more who m a P) t ≡ tag_base C P t
 unfolding tag_base
-base_close C P who m t = refl
+base_quiet C P who m t (Submit request tenant kind declared label) q = absurd (false≢true q)
+base_quiet C P who m t _ q = refl
 
 -- the base never falls
 pub base_rises : (C : Config) (P : History) (e : Entry) (t : ℕ) → tag_base C P t ≤ tag_base C (e ∷ P) t

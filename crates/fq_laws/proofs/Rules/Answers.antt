@@ -1,16 +1,16 @@
 -- Each call has exactly one answer, and what it leaves is legal.
-use Rattle.std.proofs.Common.{Option, None, ℕ, refl, ◌≤◌, ◌≡◌, ap, sym, ◌∙◌, Some, ◌==◌, Bool, true, false, cond, arith, subst, inr, inl}
-use Rattle.std.specs.Prelude.{MatchBool}
+use Rattle.std.proofs.Common.{Option, None, ℕ, refl, ◌≤◌, ◌≡◌, ◌<◌, ap, sym, ◌∙◌, Some, ◌==◌, Bool, true, false, cond, arith, subst, inr, inl}
+use Rattle.std.specs.Prelude.{MatchBool, nat_le}
 use Rattle.std.proofs.lemmas.Bool.{eqb-false}
 use Rattle.fq_model.specs.declared.config.Config.{Config}
-use Rattle.fq_model.specs.History.{History, Request, waiting, request_at, is_closed, submits}
+use Rattle.fq_model.specs.History.{History, Request, waiting, request_at, is_closed, submits, pool_at}
 use Rattle.fq_model.specs.Charge.{request_estimate}
 use Rattle.fq_model.specs.Keys.{HeadKeys, IsChoiceAt}
-use Rattle.fq_model.specs.Rules.{RefusedOrElse, IsChosen, IsLegal, IsAccepted, IsAnswered, RunsChosen, AnswersFree, request_on, submit_refusal, take_refusal, report_refusal, done_refusal, close_refusal, Answers, Fits}
+use Rattle.fq_model.specs.Rules.{RefusedOrElse, IsChosen, IsLegal, IsAccepted, IsAnswered, RunsChosen, AnswersPooled, AnswersFree, RunsNothing, request_on, submit_refusal, take_refusal, report_refusal, done_refusal, close_refusal, weight_refusal, workers_refusal, Answers, Fits}
 use Rattle.fq_model.specs.declared.event.Act.{Act}
 use Rattle.fq_model.specs.declared.event.Reply.{Reply}
 use Rattle.fq_model.specs.Time.{effective_moment}
-use Rattle.fq_model.specs.declared.event.Act.TheVariants.{Take, Submit, Report, Done, Close}
+use Rattle.fq_model.specs.declared.event.Act.TheVariants.{Take, Submit, Report, Done, Close, Weight, Workers}
 use Rattle.fq_model.specs.declared.event.Call.{Call}
 use Rattle.fq_model.specs.Limits.{InLimits}
 use Rattle.fq_model.specs.declared.event.Cause.{Cause}
@@ -19,7 +19,7 @@ use Rattle.fq_model.specs.declared.event.Reply.TheVariants as answer
 use Rattle.fq_laws.specs.Words.{one_more, Extends, caller, named_moment}
 use Rattle.fq_laws.proofs.Rules.Takes.{choice_head}
 use Rattle.fq_laws.proofs.Keys.Choices.{keys_of, KeysOf, chosen, chosen_keys}
-use Rattle.fq_laws.proofs.Rules.Refusals.{SomeReply, refused_exists, refused_one, MayTake, refused_keeps, submit_fits, take_may, report_fits, done_fits, close_fits}
+use Rattle.fq_laws.proofs.Rules.Refusals.{SomeReply, refused_exists, refused_one, refused_keeps, le_false, submit_fits, take_free, report_fits, done_fits, close_fits, weight_fits, workers_fits}
 use Rattle.fq_laws.proofs.Rules.Limits.{effective_rises, effective_small}
 
 -- ---- the request that a worker takes
@@ -62,12 +62,16 @@ refusal_of C P (call.Take who moment worker) = take_refusal C P worker
 refusal_of C P (call.Report who moment worker used) = report_refusal C P worker used
 refusal_of C P (call.Done who moment worker cost) = done_refusal C P worker cost
 refusal_of C P (call.Close who moment) = close_refusal P
+refusal_of C P (call.Weight who moment tenant weight) = weight_refusal C P tenant weight
+refusal_of C P (call.Workers who moment count) = workers_refusal C P count
 
 -- the act of a call that is accepted, and its reply; those of a Take are not read
 abbrev act_of : History → Call → Act
 act_of P (call.Submit who moment tenant kind declared label) = Submit (submits P) tenant kind declared label
 act_of P (call.Report who moment worker used) = Report worker (request_on P worker) used
 act_of P (call.Done who moment worker cost) = Done worker (request_on P worker) cost
+act_of P (call.Weight who moment tenant weight) = Weight tenant weight
+act_of P (call.Workers who moment count) = Workers count
 act_of P _ = Close
 
 abbrev reply_of : History → Call → Reply
@@ -89,9 +93,9 @@ answers_so C P c r Q x = x
 
 -- ---- there is an answer
 
-free_at : (C : Config) (P : History) (who moment i : ℕ) (b : Bool) → IsLegal C P → (waiting P == 0) ≡ b → SomeReply (λ reply Q. MatchBool b (IsAnswered P (cond (is_closed P) answer.Drained answer.Idle) reply Q) (RunsChosen C P who moment i reply Q))
-free_at C P who moment i true l e = (cond (is_closed P) answer.Drained answer.Idle, P, (refl, refl))
-free_at C P who moment i false l e =
+pooled_at : (C : Config) (P : History) (who moment i : ℕ) (b : Bool) → IsLegal C P → (waiting P == 0) ≡ b → SomeReply (λ reply Q. MatchBool b (IsAnswered P (cond (is_closed P) answer.Drained answer.Idle) reply Q) (RunsChosen C P who moment i reply Q))
+pooled_at C P who moment i true l e = (cond (is_closed P) answer.Drained answer.Idle, P, (refl, refl))
+pooled_at C P who moment i false l e =
     let w : 1 ≤ waiting P = omega (arith, eqb-false (waiting P) 0 e) in
     let x = chosen_exists C P (effective_moment P moment) i l w in (
       answer.Run x.0 x.1 x.2.label,
@@ -99,8 +103,12 @@ free_at C P who moment i false l e =
       record { request = x.0; estimate = x.1; asked = x.2; chosen = x.3; accepted = (refl, refl) },
     )
 
+free_at : (C : Config) (P : History) (who moment i : ℕ) (p : Bool) → IsLegal C P → SomeReply (λ reply Q. MatchBool p (IsAnswered P (answer.Retired (pool_at C P)) reply Q) (AnswersPooled C P who moment i reply Q))
+free_at C P who moment i true l = (answer.Retired (pool_at C P), P, (refl, refl))
+free_at C P who moment i false l = pooled_at C P who moment i (waiting P == 0) l refl
+
 unrefused_exists : (C : Config) (P : History) (c : Call) → IsLegal C P → SomeReply (λ r Q. Unrefused C P c r Q)
-unrefused_exists C P (call.Take who moment worker) l = free_at C P who moment worker (waiting P == 0) l refl
+unrefused_exists C P (call.Take who moment worker) l = free_at C P who moment worker (nat_le (pool_at C P) worker) l
 unrefused_exists C P c l = (reply_of P c, one_more (caller c) (effective_moment P (named_moment c)) (act_of P c) P, (refl, refl))
 
 -- each call has an answer
@@ -119,12 +127,16 @@ runs_chosen_one C P who moment i r s Q R x y =
     let left : one_more who m (Take i x.request x.estimate) P ≡ one_more who m (Take i y.request y.estimate) P = ap (λ z. one_more who m (Take i z x.estimate) P) e ∙ ap (λ z. one_more who m (Take i y.request z) P) g in
     (x.accepted.0 ∙ (same ∙ sym y.accepted.0), x.accepted.1 ∙ (left ∙ sym y.accepted.1))
 
-free_one_at : (C : Config) (P : History) (who moment i : ℕ) (b : Bool) (wanted r s : Reply) (Q R : History) → MatchBool b (IsAnswered P wanted r Q) (RunsChosen C P who moment i r Q) → MatchBool b (IsAnswered P wanted s R) (RunsChosen C P who moment i s R) → (r ≡ s) × (Q ≡ R)
+pooled_one_at : (C : Config) (P : History) (who moment i : ℕ) (b : Bool) (wanted r s : Reply) (Q R : History) → MatchBool b (IsAnswered P wanted r Q) (RunsChosen C P who moment i r Q) → MatchBool b (IsAnswered P wanted s R) (RunsChosen C P who moment i s R) → (r ≡ s) × (Q ≡ R)
+pooled_one_at C P who moment i true wanted r s Q R x y = (x.0 ∙ sym y.0, x.1 ∙ sym y.1)
+pooled_one_at C P who moment i false wanted r s Q R x y = runs_chosen_one C P who moment i r s Q R x y
+
+free_one_at : (C : Config) (P : History) (who moment i : ℕ) (p : Bool) (wanted r s : Reply) (Q R : History) → MatchBool p (IsAnswered P wanted r Q) (AnswersPooled C P who moment i r Q) → MatchBool p (IsAnswered P wanted s R) (AnswersPooled C P who moment i s R) → (r ≡ s) × (Q ≡ R)
 free_one_at C P who moment i true wanted r s Q R x y = (x.0 ∙ sym y.0, x.1 ∙ sym y.1)
-free_one_at C P who moment i false wanted r s Q R x y = runs_chosen_one C P who moment i r s Q R x y
+free_one_at C P who moment i false wanted r s Q R x y = pooled_one_at C P who moment i (waiting P == 0) (cond (is_closed P) answer.Drained answer.Idle) r s Q R x y
 
 unrefused_one : (C : Config) (P : History) (c : Call) (r s : Reply) (Q R : History) → Unrefused C P c r Q → Unrefused C P c s R → (r ≡ s) × (Q ≡ R)
-unrefused_one C P (call.Take who moment worker) r s Q R x y = free_one_at C P who moment worker (waiting P == 0) (cond (is_closed P) answer.Drained answer.Idle) r s Q R x y
+unrefused_one C P (call.Take who moment worker) r s Q R x y = free_one_at C P who moment worker (nat_le (pool_at C P) worker) (answer.Retired (pool_at C P)) r s Q R x y
 unrefused_one C P c r s Q R x y = (x.0 ∙ sym y.0, x.1 ∙ sym y.1)
 
 -- each call has one answer at most
@@ -140,28 +152,38 @@ accepted_legal C P who moment a l f = (l, effective_rises C P moment l, effectiv
 accepted_keeps : (C : Config) (P : History) (who moment : ℕ) (a : Act) (wanted r : Reply) (Q : History) → IsLegal C P → Fits C P (effective_moment P moment) a → IsAccepted P who moment a wanted r Q → IsLegal C Q
 accepted_keeps C P who moment a wanted r Q l f x = subst (IsLegal C) (sym x.1) (accepted_legal C P who moment a l f)
 
-free_legal_at : (C : Config) (P : History) (who moment i : ℕ) (b : Bool) (wanted r : Reply) (Q : History) → IsLegal C P → MayTake C P i → MatchBool b (IsAnswered P wanted r Q) (RunsChosen C P who moment i r Q) → IsLegal C Q
-free_legal_at C P who moment i true wanted r Q l may x = subst (IsLegal C) (sym x.1) l
-free_legal_at C P who moment i false wanted r Q l may x =
-    accepted_keeps C P who moment (Take i x.request x.estimate) (answer.Run x.request x.estimate x.asked.label) r Q l (record { worker_known = may.worker_known; free = may.free; asked = x.asked; chosen = x.chosen }) x.accepted
+pooled_legal_at : (C : Config) (P : History) (who moment i : ℕ) (b : Bool) (wanted r : Reply) (Q : History) → IsLegal C P → i < pool_at C P → RunsNothing P i → MatchBool b (IsAnswered P wanted r Q) (RunsChosen C P who moment i r Q) → IsLegal C Q
+pooled_legal_at C P who moment i true wanted r Q l known free x = subst (IsLegal C) (sym x.1) l
+pooled_legal_at C P who moment i false wanted r Q l known free x =
+    accepted_keeps C P who moment (Take i x.request x.estimate) (answer.Run x.request x.estimate x.asked.label) r Q l (record { worker_known = known; free = free; asked = x.asked; chosen = x.chosen }) x.accepted
+
+free_legal_at : (C : Config) (P : History) (who moment i : ℕ) (p : Bool) (r : Reply) (Q : History) → nat_le (pool_at C P) i ≡ p → IsLegal C P → RunsNothing P i → MatchBool p (IsAnswered P (answer.Retired (pool_at C P)) r Q) (AnswersPooled C P who moment i r Q) → IsLegal C Q
+free_legal_at C P who moment i true r Q e l free x = subst (IsLegal C) (sym x.1) l
+free_legal_at C P who moment i false r Q e l free x = pooled_legal_at C P who moment i (waiting P == 0) (cond (is_closed P) answer.Drained answer.Idle) r Q l (le_false (pool_at C P) i e) free x
 
 unrefused_legal : (C : Config) (P : History) (c : Call) (r : Reply) (Q : History) → InLimits C → IsLegal C P → refusal_of C P c ≡ None → Unrefused C P c r Q → IsLegal C Q
 unrefused_legal C P (call.Submit who moment tenant kind declared label) r Q lim l e x = accepted_keeps C P who moment _ _ r Q l (submit_fits C P tenant kind declared lim l e) x
-unrefused_legal C P (call.Take who moment worker) r Q lim l e x = free_legal_at C P who moment worker (waiting P == 0) (cond (is_closed P) answer.Drained answer.Idle) r Q l (take_may C P worker l e) x
+unrefused_legal C P (call.Take who moment worker) r Q lim l e x = free_legal_at C P who moment worker (nat_le (pool_at C P) worker) r Q refl l (take_free C P worker l e) x
 unrefused_legal C P (call.Report who moment worker used) r Q lim l e x = accepted_keeps C P who moment _ _ r Q l (report_fits C P worker used l e) x
 unrefused_legal C P (call.Done who moment worker cost) r Q lim l e x = accepted_keeps C P who moment _ _ r Q l (done_fits C P worker cost l e) x
 unrefused_legal C P (call.Close who moment) r Q lim l e x = accepted_keeps C P who moment _ _ r Q l (close_fits P e) x
+unrefused_legal C P (call.Weight who moment tenant weight) r Q lim l e x = accepted_keeps C P who moment _ _ r Q l (weight_fits C P tenant weight e) x
+unrefused_legal C P (call.Workers who moment count) r Q lim l e x = accepted_keeps C P who moment _ _ r Q l (workers_fits C P count e) x
 
 -- what an answer leaves of a legal history is legal
 pub answer_legal : (C : Config) (P : History) (c : Call) (r : Reply) (Q : History) → InLimits C → IsLegal C P → Answers C P c r Q → IsLegal C Q
 answer_legal C P c r Q lim l x = refused_keeps (refusal_of C P c) P r Q (Unrefused C P c r Q) (IsLegal C) l (unrefused_legal C P c r Q lim l) (refused_or C P c r Q x)
 
-free_extends_at : (C : Config) (P : History) (who moment i : ℕ) (b : Bool) (wanted r : Reply) (Q : History) → MatchBool b (IsAnswered P wanted r Q) (RunsChosen C P who moment i r Q) → Extends who moment P Q
-free_extends_at C P who moment i true wanted r Q x = inl x.1
-free_extends_at C P who moment i false wanted r Q x = inr (Take i x.request x.estimate, x.accepted.1)
+pooled_extends_at : (C : Config) (P : History) (who moment i : ℕ) (b : Bool) (wanted r : Reply) (Q : History) → MatchBool b (IsAnswered P wanted r Q) (RunsChosen C P who moment i r Q) → Extends who moment P Q
+pooled_extends_at C P who moment i true wanted r Q x = inl x.1
+pooled_extends_at C P who moment i false wanted r Q x = inr (Take i x.request x.estimate, x.accepted.1)
+
+free_extends_at : (C : Config) (P : History) (who moment i : ℕ) (p : Bool) (r : Reply) (Q : History) → MatchBool p (IsAnswered P (answer.Retired (pool_at C P)) r Q) (AnswersPooled C P who moment i r Q) → Extends who moment P Q
+free_extends_at C P who moment i true r Q x = inl x.1
+free_extends_at C P who moment i false r Q x = pooled_extends_at C P who moment i (waiting P == 0) (cond (is_closed P) answer.Drained answer.Idle) r Q x
 
 unrefused_extends : (C : Config) (P : History) (c : Call) (r : Reply) (Q : History) → Unrefused C P c r Q → Extends (caller c) (named_moment c) P Q
-unrefused_extends C P (call.Take who moment worker) r Q x = free_extends_at C P who moment worker (waiting P == 0) (cond (is_closed P) answer.Drained answer.Idle) r Q x
+unrefused_extends C P (call.Take who moment worker) r Q x = free_extends_at C P who moment worker (nat_le (pool_at C P) worker) r Q x
 unrefused_extends C P c r Q x = inr (act_of P c, x.1)
 
 -- an answer leaves the history as it was, or adds one entry
@@ -170,12 +192,16 @@ answer_extends C P c r Q x = refused_keeps (refusal_of C P c) P r Q (Unrefused C
 
 -- ---- what is refused changes nothing
 
-free_refused_at : (C : Config) (P : History) (who moment i : ℕ) (b : Bool) (wanted : Reply) (x : Cause) (Q : History) → MatchBool b (IsAnswered P wanted (answer.Refused x) Q) (RunsChosen C P who moment i (answer.Refused x) Q) → Q ≡ P
-free_refused_at C P who moment i true wanted x Q h = h.1
-free_refused_at C P who moment i false wanted x Q h = let no : answer.Refused x ≡ answer.Run h.request h.estimate h.asked.label = h.accepted.0 in absurd (cc)
+pooled_refused_at : (C : Config) (P : History) (who moment i : ℕ) (b : Bool) (wanted : Reply) (x : Cause) (Q : History) → MatchBool b (IsAnswered P wanted (answer.Refused x) Q) (RunsChosen C P who moment i (answer.Refused x) Q) → Q ≡ P
+pooled_refused_at C P who moment i true wanted x Q h = h.1
+pooled_refused_at C P who moment i false wanted x Q h = let no : answer.Refused x ≡ answer.Run h.request h.estimate h.asked.label = h.accepted.0 in absurd (cc)
+
+free_refused_at : (C : Config) (P : History) (who moment i : ℕ) (p : Bool) (x : Cause) (Q : History) → MatchBool p (IsAnswered P (answer.Retired (pool_at C P)) (answer.Refused x) Q) (AnswersPooled C P who moment i (answer.Refused x) Q) → Q ≡ P
+free_refused_at C P who moment i true x Q h = h.1
+free_refused_at C P who moment i false x Q h = pooled_refused_at C P who moment i (waiting P == 0) (cond (is_closed P) answer.Drained answer.Idle) x Q h
 
 unrefused_unlike : (C : Config) (P : History) (c : Call) (x : Cause) (Q : History) → Unrefused C P c (answer.Refused x) Q → Q ≡ P
-unrefused_unlike C P (call.Take who moment worker) x Q h = free_refused_at C P who moment worker (waiting P == 0) (cond (is_closed P) answer.Drained answer.Idle) x Q h
+unrefused_unlike C P (call.Take who moment worker) x Q h = free_refused_at C P who moment worker (nat_le (pool_at C P) worker) x Q h
 unrefused_unlike C P (call.Submit who moment tenant kind declared label) x Q h = let no : answer.Refused x ≡ answer.Request (submits P) = h.0 in absurd (cc)
 unrefused_unlike C P _ x Q h = let no : answer.Refused x ≡ answer.Accepted = h.0 in absurd (cc)
 

@@ -3,13 +3,13 @@ use Rattle.std.proofs.Common.{◌≡◌, Bool, false, List, [], ◌∷◌, true,
 use Rattle.std.specs.Prelude.{nat_le, is_some, is_none}
 use Rattle.std.proofs.lemmas.Bool.Decides.{nat_tests}
 use Rattle.std.proofs.lemmas.Bool.{or_parts, false≢true}
-use Rattle.vt_fixed.specs.declared.limits.TheConstants.{GREATEST_COST}
+use Rattle.vt_fixed.specs.declared.limits.TheConstants.{GREATEST_COST, GREATEST_WEIGHT}
 use Rattle.fq_model.specs.declared.event.Cause.{Cause}
-use Rattle.fq_model.specs.Rules.{first_true, RefusedOrElse, needed_room, IsLegal, FitsSubmit, submit_refusal, RunsNothing, request_on, take_refusal, FitsUse, use_refusals, HasRoom, report_refusal, done_refusal, close_refusal}
+use Rattle.fq_model.specs.Rules.{first_true, RefusedOrElse, needed_room, IsLegal, FitsSubmit, submit_refusal, RunsNothing, request_on, take_refusal, FitsUse, use_refusals, HasRoom, report_refusal, done_refusal, close_refusal, FitsWeight, FitsWorkers, weight_refusal, workers_refusal}
 use Rattle.fq_model.specs.declared.event.Reply.{Reply}
-use Rattle.fq_model.specs.History.{History, is_closed, waiting, submits, pool_at, running_on, Runs, last_use}
+use Rattle.fq_model.specs.History.{History, is_closed, waiting, submits, running_on, Runs, last_use}
 use Rattle.fq_model.specs.declared.config.Config.{Config}
-use Rattle.fq_model.specs.Limits.{InLimits}
+use Rattle.fq_model.specs.Limits.{InLimits, IsWithin, is_outside}
 use Rattle.fq_model.specs.declared.event.Cause.TheVariants as cause
 use Rattle.fq_model.specs.declared.event.Reply.TheVariants as answer
 use Rattle.fq_laws.proofs.Rules.Limits.{waiting_slots}
@@ -54,7 +54,7 @@ refused_keeps (Some c) P reply Q X Keeps old new x = subst Keeps (sym x.1) old
 
 -- ---- what the tests say
 
-le_false : (a b : ℕ) → nat_le a b ≡ false → b < a
+pub le_false : (a b : ℕ) → nat_le a b ≡ false → b < a
 le_false a b h = grind (arith, nat_tests)
 
 lt_false : (a b : ℕ) → nat_lt a b ≡ false → b ≤ a
@@ -91,11 +91,6 @@ submit_fits C P tenant kind declared lim l h =
       room = lt_false C.entries (needed_room P 4) x.1.1.1.1.1.0;
     }
 
--- a worker that may take
-pub record MayTake (C : Config) (P : History) (i : ℕ) : Type 0 where
-  pub worker_known : i < pool_at C P
-  pub free : RunsNothing P i
-
 not_some : (o : Option ℕ) → is_some o ≡ false → o ≡ None
 not_some None h = refl
 not_some (Some r) h = absurd (false≢true (sym h))
@@ -107,11 +102,10 @@ not_none (Some r) h = (r, refl)
 abbrev take_rows : Config → History → ℕ → List (Bool × Cause)
 take_rows C P i = (nat_le C.workers i, cause.Worker i) ∷ (is_some (running_on P i), cause.Busy (request_on P i)) ∷ []
 
-pub take_may : (C : Config) (P : History) (i : ℕ) → IsLegal C P → take_refusal C P i ≡ None → MayTake C P i
-unfolding pool_at
-take_may C P i l h =
+pub take_free : (C : Config) (P : History) (i : ℕ) → IsLegal C P → take_refusal C P i ≡ None → RunsNothing P i
+take_free C P i l h =
     let x : AllFalse (take_rows C P i) = all_false (take_rows C P i) h in
-    record { worker_known = le_false C.workers i x.0; free = running_nothing C P i l (not_some (running_on P i) x.1.0) }
+    running_nothing C P i l (not_some (running_on P i) x.1.0)
 
 pub request_on_is : (P : History) (i r : ℕ) → running_on P i ≡ Some r → request_on P i ≡ r
 request_on_is P i r h = rw h refl
@@ -135,3 +129,31 @@ done_fits C P i cost l h = use_fits C P i cost l (all_false (use_refusals C P i 
 
 pub close_fits : (P : History) → close_refusal P ≡ None → is_closed P ≡ false
 close_fits P h = (row_false (is_closed P) cause.Closed [] h).0
+
+-- a number that is not outside its range
+within_range : (low high n : ℕ) → is_outside low high n ≡ false → IsWithin low high n
+within_range low high n h = let x = or_parts (nat_lt n low) (nat_lt high n) h in (lt_false n low x.0, lt_false high n x.1)
+
+abbrev weight_rows : Config → History → ℕ → ℕ → List (Bool × Cause)
+weight_rows C P tenant weight =
+    (nat_le (length C.weights) tenant, cause.Tenant tenant)
+    ∷ (is_outside 1 GREATEST_WEIGHT weight, cause.Weight weight)
+    ∷ (nat_lt C.entries (needed_room P 2), cause.Full C.entries)
+    ∷ []
+
+pub weight_fits : (C : Config) (P : History) (tenant weight : ℕ) → weight_refusal C P tenant weight ≡ None → FitsWeight C P tenant weight
+weight_fits C P tenant weight h =
+    let x : AllFalse (weight_rows C P tenant weight) = all_false (weight_rows C P tenant weight) h in
+    record {
+      tenant_known = le_false (length C.weights) tenant x.0;
+      weight_in_range = within_range 1 GREATEST_WEIGHT weight x.1.0;
+      room = lt_false C.entries (needed_room P 2) x.1.1.0;
+    }
+
+abbrev workers_rows : Config → History → ℕ → List (Bool × Cause)
+workers_rows C P count = (is_outside 1 C.workers count, cause.Workers count) ∷ (nat_lt C.entries (needed_room P 2), cause.Full C.entries) ∷ []
+
+pub workers_fits : (C : Config) (P : History) (count : ℕ) → workers_refusal C P count ≡ None → FitsWorkers C P count
+workers_fits C P count h =
+    let x : AllFalse (workers_rows C P count) = all_false (workers_rows C P count) h in
+    record { count_in_range = within_range 1 C.workers count x.0; room = lt_false C.entries (needed_room P 2) x.1.0 }

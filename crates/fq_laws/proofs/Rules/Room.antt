@@ -1,14 +1,14 @@
 -- A legal history has room for what has to follow.
-use Rattle.std.proofs.Common.{ℕ, ◌+◌, ◌*◌, length, if◌then◌else◌, ◌^◌, ◌<◌, ◌≤◌, arith, suc, [], ◌∷◌}
+use Rattle.std.proofs.Common.{ℕ, ◌≡◌, true, false, refl, ◌+◌, ◌*◌, length, if◌then◌else◌, ◌^◌, ◌<◌, ◌≤◌, arith, suc, [], ◌∷◌}
 use Rattle.std.proofs.lemmas.Bool.{cond_both}
-use Rattle.fq_model.specs.History.{History, is_closed, waiting, running, submits}
+use Rattle.fq_model.specs.History.{History, is_close, is_closed, waiting, running, submits}
 use Rattle.fq_model.specs.declared.config.Config.{Config}
 use Rattle.fq_model.specs.Limits.{InLimits}
 use Rattle.fq_model.specs.declared.event.Act.{Act}
-use Rattle.fq_model.specs.declared.event.Act.TheVariants.{Submit, Take, Report, Done, Close}
-use Rattle.fq_model.specs.Rules.{IsLegal, Fits}
-use Rattle.fq_laws.specs.Words.{one_more}
-use Rattle.fq_laws.proofs.History.Counts.{submits_le_length, waiting_submit, waiting_take, running_take, running_done, running_submit, running_report, waiting_report, waiting_done, running_close, waiting_close, waiting_none, running_none}
+use Rattle.fq_model.specs.declared.event.Act.TheVariants.{Submit, Take, Report, Done, Close, Weight, Workers}
+use Rattle.fq_model.specs.Rules.{IsLegal, Fits, HasRoom}
+use Rattle.fq_laws.specs.Words.{one_more, is_quiet}
+use Rattle.fq_laws.proofs.History.Counts.{submits_le_length, waiting_submit, waiting_take, running_take, running_done, running_submit, running_report, waiting_report, waiting_done, running_quiet, waiting_quiet, waiting_none, running_none}
 use Rattle.fq_laws.proofs.History.Requests.{submitted_below, taken_submitted, worker_runs, runs_taken}
 use Rattle.fq_laws.proofs.History.Asked.{waits_submitted}
 use Rattle.fq_laws.proofs.Rules.Takes.{take_waits}
@@ -19,6 +19,13 @@ needs P = length P + 2 * waiting P + running P + (if is_closed P then 0 else 1)
 
 pub small_requests : (C : Config) (P : History) → InLimits C → needs P ≤ C.entries → submits P < 2 ^ 32
 small_requests C P lim h = omega (arith, submits_le_length P, lim.entries)
+
+-- an act that touches no request and is no Close fits where there is room for two entries
+room_for_two : (C : Config) (P : History) (who m : ℕ) (a : Act) → is_quiet a ≡ true → is_close a ≡ false → HasRoom C P 2 → needs (one_more who m a P) ≤ C.entries
+unfolding is_closed
+room_for_two C P who m a q open_still room =
+    rw (waiting_quiet P who m a q, running_quiet P who m a q, open_still)
+    (cond_both _ 0 1 (λ x. suc (length P) + 2 * waiting P + running P + x ≤ C.entries) (λ _. omega (arith, room)) (λ _. omega (arith, room)))
 
 room_at : (C : Config) (P : History) (who m : ℕ) (a : Act) → InLimits C → IsLegal C P → Fits C P m a → needs P ≤ C.entries → needs (one_more who m a P) ≤ C.entries
 unfolding is_closed
@@ -44,7 +51,9 @@ room_at C P who m (Done worker request cost) lim l f ih =
     omega (arith, r, w, ih)
 room_at C P who m Close lim l f ih =
     let h : length P + 2 * waiting P + running P + 1 ≤ C.entries = rw f at ih in
-    rw (waiting_close P who m, running_close P who m) (omega arith)
+    rw (waiting_quiet P who m Close refl, running_quiet P who m Close refl) (omega arith)
+room_at C P who m (Weight tenant weight) lim l f ih = room_for_two C P who m (Weight tenant weight) refl refl f.room
+room_at C P who m (Workers count) lim l f ih = room_for_two C P who m (Workers count) refl refl f.room
 
 pub has_room : (C : Config) (P : History) → InLimits C → IsLegal C P → needs P ≤ C.entries
 unfolding is_closed

@@ -1,9 +1,8 @@
 -- The active weight, virtual time and virtual idle times: how they change at one entry more, and their limits.
-use Rattle.std.proofs.Common.{ℕ, ◌≡◌, refl, ◌∷◌, [], length, ◌-◌, arith, ◌+◌, ◌∙◌, inl, inr, cond, true, false, ◌≤◌, ◌<◌, ◌≢◌, ◌*◌, ◌/◌, ◌==◌, get_or, zero, suc}
-use Rattle.std.proofs.lemmas.Bool.{cases_Bool, cases_eq, ne_eqb, cases_lt}
+use Rattle.std.proofs.Common.{ℕ, ◌≡◌, refl, ◌∷◌, [], length, ◌-◌, arith, ◌+◌, ◌∙◌, inl, inr, cond, true, false, ◌≤◌, ◌<◌, ◌≢◌, ◌*◌, ◌/◌, ◌==◌, zero, suc}
+use Rattle.std.proofs.lemmas.Bool.{cases_Bool, cases_eq, ne_eqb}
 use Rattle.std.proofs.Math.Nat.{div-le_self}
 use Rattle.std.proofs.lemmas.Nat.{mul-le}
-use Rattle.std.proofs.lemmas.List.{get_or_past}
 use Rattle.vt_fixed.specs.Rounding.{advance_of}
 use Rattle.vt_fixed.proofs.Bounds.{div_mono}
 use Rattle.vt_fixed.proofs.Bounds as fixed
@@ -16,18 +15,9 @@ use Rattle.fq_model.specs.Rules.{IsLegal}
 use Rattle.fq_model.specs.Sums.{sum_below}
 use Rattle.vt_fixed.specs.declared.limits.TheConstants.{MOST_WORKERS, GREATEST_WEIGHT, GREATEST_ACTIVE_WEIGHT, GREATEST_MOMENT}
 use Rattle.fq_laws.specs.Words.{greatest_rate}
-use Rattle.fq_laws.proofs.Sums.{sum_zero, sum_at, sum_same}
-use Rattle.fq_laws.proofs.Time.Open.{inactive_nil}
-
--- ---- weights and workers: no act changes them
-
-pub weight_stays : (C : Config) (P : History) (e : Entry) (t : ℕ) → weight_at C (e ∷ P) t ≡ weight_at C P t
-unfolding weight_at
-weight_stays C P e t = refl
-
-pub pool_stays : (C : Config) (P : History) (e : Entry) → pool_at C (e ∷ P) ≡ pool_at C P
-unfolding pool_at
-pool_stays C P e = refl
+use Rattle.fq_laws.proofs.Sums.{sum_zero, sum_at, sum_same, part_of_sum}
+use Rattle.fq_laws.proofs.Time.Open.{inactive_nil, active_of_open}
+use Rattle.fq_laws.proofs.History.Weights.{weight_high, pool_range}
 
 -- ---- advances
 
@@ -114,15 +104,27 @@ unfolding virtual_idle_time virtual_time
 idle_low C [] m t = omega arith
 idle_low C (e ∷ P) m t = elim (cases_Bool (is_active (e ∷ P) t)) [ inl h ↦ rw h (omega (arith, idle_low C P e.moment t)) | inr h ↦ rw h (omega (arith, idle_low C P e.moment t)) ]
 
--- where the open requests of one tenant alone may have changed
-pub active_weight_at : (C : Config) (P : History) (e : Entry) (t : ℕ) → t < length C.weights → ((u : ℕ) → u ≢ t → open_requests (e ∷ P) u ≡ open_requests P u) → active_weight C (e ∷ P) + weight_if_active C P t ≡ active_weight C P + weight_if_active C (e ∷ P) t
+-- the open requests and the weight of tenant u are in Q what they are in P
+pub record SameWeight (C : Config) (P Q : History) (u : ℕ) : Type 0 where
+  pub open_same : open_requests Q u ≡ open_requests P u
+  pub weight_same : weight_at C Q u ≡ weight_at C P u
+
+-- where those of one tenant alone may have changed
+pub active_weight_at : (C : Config) (P : History) (e : Entry) (t : ℕ) → t < length C.weights → ((u : ℕ) → u ≢ t → SameWeight C P (e ∷ P) u) → active_weight C (e ∷ P) + weight_if_active C P t ≡ active_weight C P + weight_if_active C (e ∷ P) t
 unfolding active_weight is_active
-active_weight_at C P e t b same = sum_at (weight_if_active C P) (weight_if_active C (e ∷ P)) t (length C.weights) b (λ u ne. rw (same u ne, weight_stays C P e u) refl)
+active_weight_at C P e t b same = sum_at (weight_if_active C P) (weight_if_active C (e ∷ P)) t (length C.weights) b (λ u ne. rw ((same u ne).open_same, (same u ne).weight_same) refl)
+
+-- the weight of an active tenant is part of the active weight
+pub active_covers : (C : Config) (P : History) (t : ℕ) → t < length C.weights → 1 ≤ open_requests P t → weight_at C P t ≤ active_weight C P
+unfolding active_weight
+active_covers C P t b some =
+    let k : cond (is_active P t) (weight_at C P t) 0 ≤ sum_below (weight_if_active C P) (length C.weights) = part_of_sum (weight_if_active C P) t (length C.weights) b in
+    rw (active_of_open P t some) at k
 
 -- where those of none have
-pub active_weight_same : (C : Config) (P : History) (e : Entry) → ((u : ℕ) → open_requests (e ∷ P) u ≡ open_requests P u) → active_weight C (e ∷ P) ≡ active_weight C P
+pub active_weight_same : (C : Config) (P : History) (e : Entry) → ((u : ℕ) → SameWeight C P (e ∷ P) u) → active_weight C (e ∷ P) ≡ active_weight C P
 unfolding active_weight is_active
-active_weight_same C P e same = sum_same (weight_if_active C (e ∷ P)) (weight_if_active C P) (length C.weights) (λ u b. rw (same u, weight_stays C P e u) refl)
+active_weight_same C P e same = sum_same (weight_if_active C (e ∷ P)) (weight_if_active C P) (length C.weights) (λ u b. rw ((same u).open_same, (same u).weight_same) refl)
 
 -- ---- virtual time
 
@@ -138,16 +140,16 @@ advance_low dt n w h = elim (cases_Bool (w == 0)) [
 ]
 
 -- at most 64 units in a microsecond
-pub virtual_advance_low : (C : Config) (P : History) (m : ℕ) → InLimits C → virtual_advance C P m ≤ (m - last_moment P) * greatest_rate
-unfolding virtual_advance pool_at
-virtual_advance_low C P m lim = advance_low (m - last_moment P) C.workers (active_weight C P) lim.workers.1
+pub virtual_advance_low : (C : Config) (P : History) (m : ℕ) → InLimits C → IsLegal C P → virtual_advance C P m ≤ (m - last_moment P) * greatest_rate
+unfolding virtual_advance
+virtual_advance_low C P m lim l = advance_low (m - last_moment P) (pool_at C P) (active_weight C P) (pool_range C P lim l).1
 
 pub virtual_time_low : (C : Config) (P : History) (m : ℕ) → InLimits C → IsLegal C P → last_moment P ≤ m → virtual_time C P m ≤ m * greatest_rate
 unfolding virtual_time
 virtual_time_low C [] m lim l h = omega arith
 virtual_time_low C (e ∷ P) m lim l h =
     let a : virtual_time C P e.moment ≤ e.moment * greatest_rate = virtual_time_low C P e.moment lim l.0 l.1 in
-    omega (arith, virtual_advance_low C (e ∷ P) m lim)
+    omega (arith, virtual_advance_low C (e ∷ P) m lim l)
 
 advance_rises : (a b n w : ℕ) → a ≤ b → advance_of a n w ≤ advance_of b n w
 unfolding advance_of
@@ -167,22 +169,14 @@ virtual_idle_time_low C P m t lim l h = omega (arith, idle_low C P m t, virtual_
 
 -- ---- weights
 
-pub weight_high : (C : Config) (P : History) (t : ℕ) → InLimits C → weight_at C P t ≤ GREATEST_WEIGHT
-unfolding weight_at
-weight_high C P t lim = elim (cases_lt t (length C.weights)) [ inl b ↦ (lim.weights t 0 b).1 | inr b ↦ (let e : get_or C.weights t 0 ≡ 0 = get_or_past C.weights t 0 b in omega arith) ]
-
-pub weight_low : (C : Config) (P : History) (t : ℕ) → InLimits C → t < length C.weights → 1 ≤ weight_at C P t
-unfolding weight_at
-weight_low C P t lim b = (lim.weights t 0 b).0
-
 weights_low : (f : ℕ → ℕ) (n : ℕ) → ((t : ℕ) → f t ≤ GREATEST_WEIGHT) → sum_below f n ≤ n * GREATEST_WEIGHT
 unfolding sum_below
 weights_low f zero h = omega arith
 weights_low f (suc n) h = omega (arith, h n, weights_low f n h)
 
-pub active_weight_low : (C : Config) (P : History) → InLimits C → active_weight C P ≤ GREATEST_ACTIVE_WEIGHT
+pub active_weight_low : (C : Config) (P : History) → InLimits C → IsLegal C P → active_weight C P ≤ GREATEST_ACTIVE_WEIGHT
 unfolding active_weight
-active_weight_low C P lim = omega (arith, lim.tenants.1, weights_low (weight_if_active C P) (length C.weights) (λ t. elim (cases_Bool (is_active P t)) [ inl h ↦ rw h (weight_high C P t lim) | inr h ↦ rw h (omega arith) ]))
+active_weight_low C P lim l = omega (arith, lim.tenants.1, weights_low (weight_if_active C P) (length C.weights) (λ t. elim (cases_Bool (is_active P t)) [ inl h ↦ rw h (weight_high C P t lim l) | inr h ↦ rw h (omega arith) ]))
 
 -- ---- the same in whole numbers, wherever a legal history ends
 

@@ -1,15 +1,16 @@
 -- How many requests of a tenant are submitted and not done, and whether it is active.
 use Rattle.std.proofs.Common.{ℕ, ◌≡◌, false, refl, [], arith, ◌+◌, ◌^◌, ◌==◌, ◌<◌, cond, sym, inl, inr, ◌≤◌, true, ◌∷◌}
-use Rattle.std.proofs.lemmas.Bool.{cases_eq, eq-eqb, ne_eqb, not_from_false, cases_Bool, and_from, and_right, lt-ltb, and_parts}
+use Rattle.std.proofs.lemmas.Bool.{false≢true, cases_eq, eq-eqb, ne_eqb, not_from_false, cases_Bool, and_from, and_right, lt-ltb, and_parts}
 use Rattle.fq_model.specs.Time.{is_open, open_requests, is_active}
 use Rattle.fq_model.specs.declared.config.Config.{Config}
 use Rattle.fq_model.specs.History.{History, submits, is_done, request_bound, request_at, is_of_tenant, is_submitted}
 use Rattle.fq_model.specs.Rules.{IsLegal, FitsUse}
-use Rattle.fq_model.specs.declared.event.Act.TheVariants.{Submit, Done, Take, Report, Close}
+use Rattle.fq_model.specs.declared.event.Act.TheVariants.{Submit, Done, Take, Report}
 use Rattle.fq_model.specs.Sums.{count_below}
 use Rattle.fq_model.specs.Limits.{InLimits}
 use Rattle.fq_model.specs.declared.event.Entry.{Entry}
-use Rattle.fq_laws.specs.Words.{one_more}
+use Rattle.fq_laws.specs.Words.{one_more, is_quiet}
+use Rattle.fq_model.specs.declared.event.Act.{Act}
 use Rattle.fq_laws.proofs.Sums.{count_zero, count_same, count_more, count_at_most}
 use Rattle.fq_laws.proofs.History.Requests.{fresh, fresh_undone, use_undone}
 use Rattle.fq_laws.proofs.History.Numbers.{next_small, use_small}
@@ -65,9 +66,11 @@ pub open_report : (P : History) (who m t w q used : ℕ) → open_requests (one_
 unfolding open_requests is_open is_done
 open_report P who m t w q used = refl
 
-pub open_close : (P : History) (who m t : ℕ) → open_requests (one_more who m Close P) t ≡ open_requests P t
+pub open_quiet : (P : History) (who m t : ℕ) (a : Act) → is_quiet a ≡ true → open_requests (one_more who m a P) t ≡ open_requests P t
 unfolding open_requests is_open is_done
-open_close P who m t = refl
+open_quiet P who m t (Submit request tenant kind declared label) q = absurd (false≢true q)
+open_quiet P who m t (Done worker request cost) q = absurd (false≢true q)
+open_quiet P who m t _ q = refl
 
 -- ---- the active weight
 

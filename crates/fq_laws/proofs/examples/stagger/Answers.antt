@@ -30,11 +30,11 @@ unfolding computing stagger_config long_ended
 returns-clause-short_keys c = keys_are 10 2 stagger_config long_ended 5 1 short
 
 pub returns-clause-long_eligible_at : goal.returns-clause-long_eligible_at
-unfolding computing stagger_config
+unfolding computing stagger_config long_ended
 returns-clause-long_eligible_at c = refl
 
 pub returns-clause-short_eligible_at : goal.returns-clause-short_eligible_at
-unfolding computing stagger_config
+unfolding computing stagger_config long_ended
 returns-clause-short_eligible_at c = refl
 
 pub returns-clause-choice : goal.returns-clause-choice

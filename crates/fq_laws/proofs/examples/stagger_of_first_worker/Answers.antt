@@ -26,11 +26,11 @@ unfolding computing stagger_config sixth_ended
 returns-clause-short_keys c = keys_are 10 2 stagger_config sixth_ended 5 1 short
 
 pub returns-clause-long_eligible_at : goal.returns-clause-long_eligible_at
-unfolding computing stagger_config
+unfolding computing stagger_config sixth_ended
 returns-clause-long_eligible_at c = refl
 
 pub returns-clause-short_eligible_at : goal.returns-clause-short_eligible_at
-unfolding computing stagger_config
+unfolding computing stagger_config sixth_ended
 returns-clause-short_eligible_at c = refl
 
 pub returns-clause-none_eligible : goal.returns-clause-none_eligible
