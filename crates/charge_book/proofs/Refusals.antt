@@ -5,6 +5,7 @@ use Rattle.fq_model.specs.declared.config.Config.{Config}
 use Rattle.fq_model.specs.declared.event.Cause.{Cause}
 use Rattle.fq_model.specs.declared.event.Cause.TheVariants as cause
 use Rattle.fq_model.specs.History.{History, Request, request_at, running_on, last_use}
+use Rattle.fq_model.specs.Charge.{taken_weight}
 use Rattle.fq_model.specs.Rules.{IsLegal, take_refusal, done_refusal}
 use Rattle.fq_laws.proofs.History.Workers.{running_runs, took}
 use Rattle.fq_laws.proofs.History.Requests.{taken_known, request_known, IsKnown}
@@ -17,13 +18,14 @@ use Rattle.charge_book.specs.Refusal.{cause_of}
 use Rattle.charge_book.specs.Histories.{row_of_worker, BookIs}
 use Rattle.charge_book.proofs.Rows.{of_worker_known, of_worker_none}
 
--- the row is of what the worker runs
+-- the row is of what the worker runs, and has the weight of its tenant just before its Take
 pub record RowSays (C : Config) (P : History) (worker : ℕ) (row : RunRow) : Type 0 where
   pub running_is : running_on P worker ≡ Some row.request
   pub asked : Request
   pub known : request_at P row.request ≡ Some asked
   pub tenant_is : asked.tenant ≡ row.tenant
   pub kind_is : asked.kind ≡ row.kind
+  pub weight_is : row.weight ≡ taken_weight C P row.tenant row.request
   pub last_is : row.last ≡ last_use P row.request
   pub in_range : IsKnown C asked
 
@@ -46,6 +48,7 @@ row_of C P b worker held l is known e = subst (IsRowOf C P worker) (sym (is.rows
           known = q.1;
           tenant_is = refl;
           kind_is = refl;
+          weight_is = refl;
           last_is = refl;
           in_range = request_known C P r q.0 l q.1;
         })

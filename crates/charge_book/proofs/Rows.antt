@@ -1,12 +1,13 @@
 -- The rows of a book at one entry more of a history.
-use Rattle.std.proofs.Common.{ℕ, ◌≡◌, ◌≢◌, max, Option, Some, None, unwrap_or, option_map, option_and_then, arith, refl, sym, ap, ◌∙◌}
-use Rattle.std.proofs.lemmas.Bool.{ne_eqb}
+use Rattle.std.proofs.Common.{ℕ, ◌≡◌, ◌≢◌, max, true, Option, Some, None, unwrap_or, option_map, option_and_then, arith, refl, sym, ap, ◌∙◌}
+use Rattle.std.proofs.lemmas.Bool.{ne_eqb, false≢true}
 use Rattle.std.proofs.lemmas.Option.{none-some}
 use Rattle.fq_model.specs.declared.config.Config.{Config}
-use Rattle.fq_model.specs.declared.event.Act.TheVariants.{Submit, Take, Report, Done, Close}
+use Rattle.fq_model.specs.declared.event.Act.{Act}
+use Rattle.fq_model.specs.declared.event.Act.TheVariants.{Submit, Take, Report, Done}
 use Rattle.fq_model.specs.History.{History, Request, request_at, running_on, last_use, Runs}
 use Rattle.fq_model.specs.Charge.{taken_estimate, taken_weight, charge, charge_from, final_cost}
-use Rattle.fq_laws.specs.Words.{one_more}
+use Rattle.fq_laws.specs.Words.{one_more, is_quiet}
 use Rattle.fq_laws.proofs.History.Workers.{took}
 use Rattle.fq_laws.proofs.Charge.Requests.{cost_none, estimate_some}
 use Rattle.charge_book.specs.declared.row.RunRow.{RunRow}
@@ -71,5 +72,16 @@ reads_report C P who m w r used s ne = record { request = refl; weight = λ u. r
 pub reads_done : (C : Config) (P : History) (who m w r cost s : ℕ) → Reads C P (one_more who m (Done w r cost) P) s
 reads_done C P who m w r cost s = record { request = refl; weight = λ u. refl; estimate = refl; last = omega arith }
 
-pub reads_close : (C : Config) (P : History) (who m s : ℕ) → Reads C P (one_more who m Close P) s
-reads_close C P who m s = record { request = refl; weight = λ u. refl; estimate = refl; last = omega arith }
+-- an act that touches no request, as a Weight of its tenant does not, leaves what is read of every request
+pub reads_quiet : (C : Config) (P : History) (who m s : ℕ) (a : Act) → is_quiet a ≡ true → Reads C P (one_more who m a P) s
+reads_quiet C P who m s (Submit request tenant kind declared label) q = absurd (false≢true q)
+reads_quiet C P who m s (Take worker request estimate) q = absurd (false≢true q)
+reads_quiet C P who m s (Report worker request used) q = absurd (false≢true q)
+reads_quiet C P who m s (Done worker request cost) q = absurd (false≢true q)
+reads_quiet C P who m s _ q = record { request = refl; weight = λ u. refl; estimate = refl; last = omega arith }
+
+-- and it leaves what each worker runs
+pub running_on_quiet : (P : History) (who m i : ℕ) (a : Act) → is_quiet a ≡ true → running_on (one_more who m a P) i ≡ running_on P i
+running_on_quiet P who m i (Take worker request estimate) q = absurd (false≢true q)
+running_on_quiet P who m i (Done worker request cost) q = absurd (false≢true q)
+running_on_quiet P who m i _ q = refl

@@ -6,28 +6,29 @@ use Rattle.std.proofs.lemmas.List.{get_or-replicate, length-replicate}
 use Rattle.vt_fixed.specs.Rounding.{length_of}
 use Rattle.fq_model.specs.declared.config.Config.{Config}
 use Rattle.fq_model.specs.declared.event.Act.{Act}
-use Rattle.fq_model.specs.declared.event.Act.TheVariants.{Submit, Take, Report, Done, Close}
+use Rattle.fq_model.specs.declared.event.Act.TheVariants.{Submit, Take, Report, Done}
 use Rattle.fq_model.specs.Limits.{InLimits}
-use Rattle.fq_model.specs.History.{History, Request, request_at, is_of_tenant, running_on, last_use, is_taken, Runs, submits, weight_at, pool_at, request_bound}
+use Rattle.fq_model.specs.History.{History, Request, request_at, is_of_tenant, running_on, last_use, is_taken, Runs, submits, count_acts, weight_at, request_bound}
 use Rattle.fq_model.specs.Sums.{sum_below}
 use Rattle.fq_model.specs.Charge.{charge, is_taken_of, charged, virtual_charge, net_charge, net_charged, taken_weight}
 use Rattle.fq_laws.proofs.Sums.{sum_at}
-use Rattle.fq_model.specs.Rules.{IsLegal}
-use Rattle.fq_laws.specs.Words.{one_more, times}
+use Rattle.fq_model.specs.Rules.{IsLegal, FitsTake}
+use Rattle.fq_laws.specs.Words.{one_more, is_quiet}
 use Rattle.fq_laws.proofs.History.Requests.{submitted_below, taken_submitted, request_known}
 use Rattle.fq_laws.proofs.Rules.Takes.{take_waits}
 use Rattle.fq_laws.proofs.History.Asked.{waits_untaken, of_own, of_other}
 use Rattle.fq_laws.proofs.History.Workers.{running_runs, runs_running, nothing_running, runs_on_one, took, runs_worker_known}
+use Rattle.fq_laws.proofs.History.Weights.{pool_high}
 use Rattle.fq_laws.proofs.Rules.Limits.{entries_low}
 use Rattle.fq_laws.proofs.History.Numbers.{use_small}
 use Rattle.fq_laws.proofs.Charge.Requests.{charge_report, charge_done, unused}
-use Rattle.fq_laws.proofs.Charge.Tenants.{taken_of, taken_of_report, taken_of_done, virtual_charge_taken, virtual_charge_report, virtual_charge_done, net_charged_taken, net_charge_nil, net_charge_submit, net_charge_taken, net_charge_reported, net_charge_finished, net_charge_close}
+use Rattle.fq_laws.proofs.Charge.Tenants.{taken_of, taken_of_report, taken_of_done, virtual_charge_taken, virtual_charge_report, virtual_charge_done, net_charged_taken, net_charge_nil, net_charge_submit, net_charge_taken, net_charge_reported, net_charge_finished, net_charge_quiet}
 use Rattle.charge_book.specs.declared.row.RunRow.{RunRow}
 use Rattle.fq_laws.specs.Changes.{length_change}
 use Rattle.charge_book.specs.Rows.{row_charge}
 use Rattle.charge_book.specs.Book.{BookView, row_on, row_of_run, begun, recharged, with_use, reported_at, reported, report_change_at, report_change, finished_at, finished, finish_change_at, finish_change}
 use Rattle.charge_book.specs.Histories.{run_row, row_of_worker, is_take, takes, BookIs, BookFollows}
-use Rattle.charge_book.proofs.Rows.{of_worker_same, of_worker_known, of_worker_none, charge_is, reads_submit, reads_take, reads_report, reads_done, reads_close}
+use Rattle.charge_book.proofs.Rows.{of_worker_same, of_worker_known, of_worker_none, charge_is, reads_submit, reads_take, reads_report, reads_done, reads_quiet, running_on_quiet}
 
 -- ---- what stays
 
@@ -44,6 +45,11 @@ book_nil C = record {
 known_below : (C : Config) (P : History) (i s : ℕ) → IsLegal C P → running_on P i ≡ Some s → s < submits P
 known_below C P i s l runs = submitted_below C P s l (taken_submitted C P s l (took P i s (running_runs C P i s l runs).taken))
 
+-- an act that touches no request is no Take
+takes_quiet : (P : History) (who m : ℕ) (a : Act) → is_quiet a ≡ true → takes (one_more who m a P) ≡ takes P
+takes_quiet P who m (Take worker request estimate) q = absurd (false≢true q)
+takes_quiet P who m _ q = refl
+
 pub book_submit : (C : Config) (P : History) (b : BookView) (who m r t k d x : ℕ) → IsLegal C (one_more who m (Submit r t k d x) P) → BookIs C P b → BookIs C (one_more who m (Submit r t k d x) P) b
 book_submit C P b who m r t k d x l is = record {
   workers = is.workers;
@@ -56,13 +62,14 @@ book_submit C P b who m r t k d x l is = record {
     new : (s : ℕ) → s < submits P → r ≢ s
     new s below same = absurd (omega (arith, l.3.numbered, below, same))
 
-pub book_close : (C : Config) (P : History) (b : BookView) (who m : ℕ) → BookIs C P b → BookIs C (one_more who m Close P) b
-book_close C P b who m is = record {
+-- a Close, a Weight and a Workers touch no request and leave the book: each worker keeps its row, and this its weight
+pub book_quiet : (C : Config) (P : History) (b : BookView) (who m : ℕ) (a : Act) → is_quiet a ≡ true → BookIs C P b → BookIs C (one_more who m a P) b
+book_quiet C P b who m a q is = record {
   workers = is.workers;
   tenants = is.tenants;
-  rows = λ i b2. is.rows i b2 ∙ sym (of_worker_same C P (one_more who m Close P) i refl (λ s runs. reads_close C P who m s));
-  nets = λ u b2. is.nets u b2 ∙ sym (net_charge_close P who m u);
-  begins = is.begins;
+  rows = λ i b2. is.rows i b2 ∙ sym (of_worker_same C P (one_more who m a P) i (running_on_quiet P who m i a q) (λ s runs. reads_quiet C P who m s a q));
+  nets = λ u b2. is.nets u b2 ∙ sym (net_charge_quiet P who m u a q);
+  begins = is.begins ∙ sym (takes_quiet P who m a q);
 }
 
 -- ---- one worker's row and one tenant's net charge are written
@@ -105,30 +112,29 @@ after_other w i o p other = rw (ne_eqb w i other) refl
 untaken_elsewhere : (C : Config) (P : History) (i r s : ℕ) → IsLegal C P → is_taken P r ≡ false → running_on P i ≡ Some s → r ≢ s
 untaken_elsewhere C P i r s l un on same = false≢true (sym un ∙ (ap (is_taken P) same ∙ took P i s (running_runs C P i s l on).taken))
 
-times_low : (test : Act → Bool) (P : History) → times test P ≤ length P
-times_low test [] = omega arith
-times_low test (e ∷ P) = go (test e.act) (times_low test P)
+count_low : (test : Act → Bool) (P : History) → count_acts test P ≤ length P
+count_low test [] = omega arith
+count_low test (e ∷ P) = go (test e.act) (count_low test P)
   where
-    go : (b : Bool) → times test P ≤ length P → cond b (suc (times test P)) (times test P) ≤ suc (length P)
+    go : (b : Bool) → count_acts test P ≤ length P → cond b (suc (count_acts test P)) (count_acts test P) ≤ suc (length P)
     go true h = omega (arith, h)
     go false h = omega (arith, h)
 
 takes_small : (C : Config) (P : History) → InLimits C → IsLegal C P → takes P < 2 ^ 32
-takes_small C P lim l = omega (arith, times_low is_take P, (entries_low C P lim l).1)
+takes_small C P lim l = omega (arith, count_low is_take P, (entries_low C P lim l).1)
 
--- the workers of a configuration
-worker_below : (C : Config) (P : History) (w : ℕ) → w < pool_at C P → w < C.workers
-unfolding pool_at
-worker_below C P w h = h
+-- who takes a request is one of the workers of the configuration, which are the most that there may be
+taker_below : (C : Config) (P : History) (m w r c : ℕ) → IsLegal C P → FitsTake C P m w r c → w < C.workers
+taker_below C P m w r c l f = omega (arith, f.worker_known, pool_high C P l)
 
 -- a Take fits what is free
 pub may_begin : (C : Config) (P : History) (b : BookView) (who m w r c : ℕ) (q : Request) → InLimits C → IsLegal C (one_more who m (Take w r c) P) → request_at P r ≡ Some q → BookIs C P b → (row_on b w ≡ None) × (b.begins < 2 ^ 32)
-may_begin C P b who m w r c q lim l known is = (is.rows w (worker_below C P w l.3.worker_known) ∙ of_worker_none C P w (nothing_running C P w l.0 l.3.free), rw is.begins (takes_small C P lim l.0))
+may_begin C P b who m w r c q lim l known is = (is.rows w (taker_below C P m w r c l.0 l.3) ∙ of_worker_none C P w (nothing_running C P w l.0 l.3.free), rw is.begins (takes_small C P lim l.0))
 
 pub book_take : (C : Config) (P : History) (b : BookView) (who m w r c : ℕ) (q : Request) → InLimits C → IsLegal C (one_more who m (Take w r c) P) → request_at P r ≡ Some q → BookIs C P b → BookFollows C P (one_more who m (Take w r c) P) q.tenant (begun b w (row_of_run r q.tenant q.kind (weight_at C P q.tenant) c)) (pos (length_of c (weight_at C P q.tenant)))
 book_take C P b who m w r c q lim l known is = record {
   book_is = written C P (one_more who m (Take w r c) P) b w q.tenant (Some (row_of_run r q.tenant q.kind (weight_at C P q.tenant) c)) (slice_index b.nets q.tenant + c) (b.begins + 1) is (record {
-    worker_known = worker_below C P w l.3.worker_known;
+    worker_known = taker_below C P m w r c l.0 l.3;
     tenant_known = tenant_in;
     row_is = sym (of_worker_known C (one_more who m (Take w r c) P) w r q (ap (λ t. cond t (Some r) (running_on P w)) (eq-eqb w w refl)) known ∙ ap Some row);
     others_stay = λ i other. of_worker_same C P (one_more who m (Take w r c) P) i (after_other w i (Some r) (running_on P i) other) (λ s on. reads_take C P who m w r c s (untaken_elsewhere C P i r s l.0 untaken on));

@@ -3,9 +3,8 @@ use Rattle.std.specs.Prelude.{ℕ, ◌<◌, ◌≡◌, ◌≢◌, Bool, true, fa
 use Rattle.fq_model.specs.declared.config.Config.{Config}
 use Rattle.fq_model.specs.declared.event.Act.{Act}
 use Rattle.fq_model.specs.declared.event.Act.TheVariants.{Take}
-use Rattle.fq_model.specs.History.{History, Request, request_at, running_on, last_use}
+use Rattle.fq_model.specs.History.{History, Request, request_at, running_on, last_use, count_acts}
 use Rattle.fq_model.specs.Charge.{taken_estimate, taken_weight, virtual_charge, net_charge}
-use Rattle.fq_laws.specs.Words.{times}
 use Rattle.charge_book.specs.declared.row.RunRow.{RunRow}
 use Rattle.charge_book.specs.Book.{BookView, row_on}
 
@@ -15,9 +14,9 @@ is_take _ = false
 
 -- the number of Takes
 abbrev pub takes : History → ℕ
-takes P = times is_take P
+takes P = count_acts is_take P
 
--- what the history says of a running request
+-- what the history says of a running request: its weight is that of its tenant just before its Take, whatever it is now
 abbrev pub run_row : Config → History → ℕ → Request → RunRow
 run_row C P r q = record {
   request = r;
@@ -31,11 +30,11 @@ run_row C P r q = record {
 abbrev pub row_of_request : Config → History → ℕ → Option RunRow
 row_of_request C P r = option_map (run_row C P r) (request_at P r)
 
--- what the history says of what runs on worker i
+-- what the history says of what runs on worker i, which may be a worker that the pool has no place for any more
 abbrev pub row_of_worker : Config → History → ℕ → Option RunRow
 row_of_worker C P i = option_and_then (row_of_request C P) (running_on P i)
 
--- the book has what runs on each worker, the net charge of each tenant, and the number of Takes
+-- the book has what runs on each worker of the configuration, the net charge of each tenant, and the number of Takes
 pub record BookIs (C : Config) (P : History) (b : BookView) : Type 0 where
   pub workers : length b.rows ≡ C.workers
   pub tenants : length b.nets ≡ length C.weights

@@ -12,9 +12,9 @@ use fq_model::limits::{GREATEST_COST, GREATEST_WEIGHT};
 use std::alloc::Global;
 use std::marker::Model;
 
-/// The running request of each worker, and the net charge of each tenant: the sum of the charges of its
-/// requests, which are the greater of estimate and last use while they run, and the measured cost
-/// afterwards. Contracts see both by number, and how many requests were begun.
+/// The running request of each worker that there may be, and the net charge of each tenant: the sum of the
+/// charges of its requests, which are the greater of estimate and last use while they run, and the measured
+/// cost afterwards. Contracts see both by number, and how many requests were begun.
 #[derive(Drop)]
 pub struct Book {
     rows: Vec<Option<RunRow>>,
@@ -49,7 +49,7 @@ impl Book {
     }
 
     /// A worker that runs nothing takes a request. Gives the length charged: that of the estimate, in
-    /// microseconds, at the weight. A book has room for 2^32 begins.
+    /// microseconds, at the weight, which the request keeps. A book has room for 2^32 begins.
     pub fn begin(
         &mut self,
         worker: u32,
@@ -103,7 +103,7 @@ impl Book {
     }
 
     /// Writes down a use, in microseconds, of the request that runs on the worker, whose row `row_for` gave
-    /// for it. Gives the change of its tenant's virtual charge, in steps.
+    /// for it. Gives the change of its tenant's virtual charge, in steps, at the weight of the row.
     pub fn record_use(&mut self, worker: u32, row: RunRow, used: u64) -> i128
         requires { MayUse self.old worker row used }
         ensures change { result ≡ report_change self.old worker used }
@@ -116,7 +116,8 @@ impl Book {
     }
 
     /// Writes down that the request that runs on the worker, whose row `row_for` gave for this cost, is done
-    /// at it. The worker runs nothing then. Gives the change of its tenant's virtual charge, in steps.
+    /// at it. The worker runs nothing then. Gives the change of its tenant's virtual charge, in steps, at the
+    /// weight of the row.
     pub fn record_cost(&mut self, worker: u32, row: RunRow, cost: u64) -> i128
         requires { MayUse self.old worker row cost }
         ensures change { result ≡ finish_change self.old worker cost }

@@ -8,7 +8,7 @@ pub struct RunRow {
     pub request: u32,
     pub tenant: u32,
     pub kind: u32,
-    /// Its tenant's weight when it was taken.
+    /// Its tenant's weight just before it was taken. It is charged at this, whatever the weight is later.
     pub weight: u32,
     /// Its estimate when it was taken, in microseconds.
     pub estimate: u64,

@@ -9,13 +9,13 @@ use std::alloc::Global;
 use std::marker::Send;
 use std::test::Fail;
 
-// One worker and two tenants of weight 1.
+// Two workers, and two tenants of weight 1.
 fn two_tenants(alloc: Global) -> Result<Checked, Fail>
-    ensures workers { IfOk result (λ c. c.workers ≡ 1) }
+    ensures workers { IfOk result (λ c. c.workers ≡ 2) }
     ensures tenants { IfOk result (λ c. length c.weights ≡ 2) }
 {
     let config = Config {
-        workers: 1,
+        workers: 2,
         weights: Weights::from_vec(vec![in alloc; 1, 1]?),
         kinds: 1,
         entries: 4,
@@ -62,6 +62,20 @@ fn charges_follow_uses(rt: HostRuntime) -> Result<(), Fail> {
     assert_eq!(rt; book.running(0), None);
     assert_eq!(rt; book.report(0, 4), Err(BookRefusal::NotRunning));
     send_away(book);
+    Ok(())
+}
+
+#[test]
+fn what_runs_keeps_its_weight(rt: HostRuntime) -> Result<(), Fail> {
+    let config = two_tenants(rt.alloc())?;
+    let mut book = Book::open(rt.alloc(), &config)?;
+    assert_eq!(rt; book.begin(0, 7, 1, 0, 1, 8), 8388608);
+    // The weight of its tenant is 4 now.
+    assert_eq!(rt; book.begin(1, 8, 1, 0, 4, 8), 2097152);
+    assert_eq!(rt; book.finish(0, 4), Ok(-4194304));
+    assert_eq!(rt; book.report(1, 12), Ok(1048576));
+    assert_eq!(rt; book.finish(1, 16), Ok(1048576));
+    assert_eq!(rt; book.net(1), 20);
     Ok(())
 }
 

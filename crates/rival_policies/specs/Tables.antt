@@ -4,14 +4,34 @@ use Rattle.fq_model.specs.declared.config.Config.{Config}
 use Rattle.fq_model.specs.declared.config.Policy.{Policy}
 use Rattle.fq_model.specs.Keys.{HeadKeys, Turn, IsChoice}
 
--- the numbers of a configuration that a choice reads
+-- what a chooser is set to: the policy, the most workers that there can be, the workers that there are, and the tenants
 pub record Setting : Type 0 where
   pub policy : Policy
+  pub most_workers : ℕ
   pub workers : ℕ
   pub tenants : ℕ
 
+-- that of a configuration while there are so many workers
+abbrev pub setting_at : Config → ℕ → Setting
+setting_at C workers = record {
+  policy = C.policy;
+  most_workers = C.workers;
+  workers = workers;
+  tenants = length C.weights;
+}
+
+-- that at the opening: the workers are the most that there can be
 abbrev pub setting_of : Config → Setting
-setting_of C = record { policy = C.policy; workers = C.workers; tenants = length C.weights }
+setting_of C = setting_at C C.workers
+
+-- with so many workers
+abbrev pub with_workers : Setting → ℕ → Setting
+with_workers s workers = record {
+  policy = s.policy;
+  most_workers = s.most_workers;
+  workers = workers;
+  tenants = s.tenants;
+}
 
 -- by tenant, the keys of its head, if it has one
 abbrev pub Table : Type 0
@@ -40,8 +60,8 @@ turn_of s i v = record { policy = s.policy; workers = s.workers; worker = i; vir
 abbrev pub IsTableChoice : Setting → Table → ℕ → ℤ → ℕ → Type 0
 IsTableChoice s table i v t = (k : HeadKeys) × IsChoice (turn_of s i v) (Has table) t k
 
--- what contracts see of a chooser: what a choice reads beside the keys, the keys by tenant, and the greatest virtual time
--- of a choice so far
+-- what contracts see of a chooser: what it is set to, the keys by tenant, and the greatest virtual time of a choice so
+-- far
 pub record ChooserView : Type 0 where
   pub setting : Setting
   pub table : Table
@@ -54,6 +74,10 @@ opened C = record { setting = setting_of C; table = replicate (length C.weights)
 -- with these keys of a tenant
 abbrev pub with_keys : ChooserView → ℕ → Option HeadKeys → ChooserView
 with_keys x t keys = record { setting = x.setting; table = slice_set x.table t keys; latest = x.latest }
+
+-- while there are so many workers
+abbrev pub resized : ChooserView → ℕ → ChooserView
+resized x workers = record { setting = with_workers x.setting workers; table = x.table; latest = x.latest }
 
 -- after a choice at virtual time v
 abbrev pub asked_at : ChooserView → ℤ → ChooserView

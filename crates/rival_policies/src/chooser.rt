@@ -1,6 +1,6 @@
 //! What chooses a tenant for a worker.
-ghost use Rattle.std.specs.Prelude.{◌≡◌, ◌<◌, ◌≤ℤ◌, IfOk, IfSome, IfNone};
-ghost use Rattle.rival_policies.specs.Tables.{ChooserView, opened, with_keys, asked_at, NoneHas, IsNewTo, IsTableChoice};
+ghost use Rattle.std.specs.Prelude.{◌≡◌, ◌<◌, ◌≤◌, ◌≤ℤ◌, IfOk, IfSome, IfNone};
+ghost use Rattle.rival_policies.specs.Tables.{ChooserView, opened, with_keys, resized, asked_at, NoneHas, IsNewTo, IsTableChoice};
 
 use fq_model::config::Checked;
 use std::alloc::{AllocError, Global};
@@ -28,8 +28,8 @@ impl From<AllocError> for NoMemory {
 
 /// Chooses tenants by the keys of their heads. No call after `open` takes memory.
 pub trait Chooser: Sized {
-    /// What a contract sees of it: what a choice reads beside the keys, the keys by tenant, and the greatest virtual
-    /// time of a choice so far, or 0.
+    /// What a contract sees of it: what it is set to, the keys by tenant, and the greatest virtual time of a choice so
+    /// far, or 0.
     ghost seen: { Self → ChooserView };
 
     /// A chooser for this configuration in which no tenant has keys. All its memory is taken here.
@@ -41,6 +41,13 @@ pub trait Chooser: Sized {
         requires tenant { tenant < (seen self.old).setting.tenants }
         requires new_request { IfSome keys (IsNewTo (seen self.old).table tenant) }
         ensures { seen self.new ≡ with_keys (seen self.old) tenant keys };
+
+    /// From here on there are so many workers, and the stagger goes by that number. The keys stay, and so does the
+    /// greatest virtual time of a choice so far.
+    fn resize(&mut self, workers: u32)
+        requires some { 1 ≤ workers }
+        requires few { workers ≤ (seen self.old).setting.most_workers }
+        ensures { seen self.new ≡ resized (seen self.old) workers };
 
     /// The tenant whose head a worker takes at virtual time `v`, in steps, which is no earlier than at the choices
     /// before: of the heads that are eligible for the worker the first by finish, or, where none is eligible, the

@@ -14,6 +14,8 @@ use tag_rules::parts::Keys;
 #[derive(Drop)]
 pub struct PlainChooser {
     policy: Policy,
+    // The most that there can be: the number of the configuration.
+    most_workers: u32,
     workers: u32,
     table: Vec<Option<Keys>>,
     latest: i128,
@@ -27,7 +29,12 @@ impl Model for PlainChooser {
     ghost Value = { ChooserView };
 
     ghost view = { λ c. record {
-      setting = record { policy = c.policy; workers = c.workers; tenants = length c.table.items };
+      setting = record {
+        policy = c.policy;
+        most_workers = c.most_workers;
+        workers = c.workers;
+        tenants = length c.table.items;
+      };
       table = c.table.items;
       latest = c.latest;
     } };
@@ -42,6 +49,7 @@ impl Chooser for PlainChooser {
         let table = vec![in alloc; None; config.tenants() as usize]?;
         Ok(PlainChooser {
             policy: config.policy(),
+            most_workers: config.workers(),
             workers: config.workers(),
             table,
             latest: 0,
@@ -50,6 +58,10 @@ impl Chooser for PlainChooser {
 
     fn set(&mut self, tenant: u32, keys: Option<Keys>) {
         self.table[tenant as usize] = keys;
+    }
+
+    fn resize(&mut self, workers: u32) {
+        self.workers = workers;
     }
 
     fn choose(&mut self, worker: u32, v: i128) -> Option<u32> {

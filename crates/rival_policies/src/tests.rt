@@ -48,7 +48,7 @@ fn with_heads<X: Chooser>(
     requires high { workers ≤ MOST_WORKERS }
     requires differ { first.request ≢ second.request }
     ensures setting { IfOk result (λ x. (X.seen x).setting
-        ≡ record { policy = policy; workers = workers; tenants = 2 }) }
+        ≡ record { policy = policy; most_workers = workers; workers = workers; tenants = 2 }) }
     ensures latest { IfOk result (λ x. (X.seen x).latest ≡ pos 0) }
 {
     let config = two_tenants(alloc, policy, workers)?;
@@ -68,6 +68,7 @@ fn plain(
     requires low { 1 ≤ workers }
     requires high { workers ≤ MOST_WORKERS }
     requires differ { first.request ≢ second.request }
+    ensures most_workers { IfOk result (λ c. c.setting.most_workers ≡ workers) }
     ensures workers { IfOk result (λ c. c.setting.workers ≡ workers) }
     ensures tenants { IfOk result (λ c. c.setting.tenants ≡ 2) }
     ensures latest { IfOk result (λ c. c.latest ≡ pos 0) }
@@ -78,51 +79,20 @@ fn plain(
 // Only what may go to another thread can be passed here.
 fn send_away<T: Send + Drop>(_sent: T) {}
 
-// Of four workers the second begins a quarter of a length early: the first tenant's head is eligible from 6 units on,
-// the second's from 5.25 units.
+// The stagger goes by the number of workers that was told last. Of four the second begins a quarter of a length early: the
+// first tenant's head is eligible from 6 units on, the second's from 5.25 units. Of two it begins half a length early: from 4
+// units on, and from 5.
 #[test]
-fn staggered(rt: HostRuntime) -> Result<(), Fail> {
+fn resized(rt: HostRuntime) -> Result<(), Fail> {
     let long = keys(8388608, 8, 1, 0);
     let short = keys(5767168, 1, 1, 1);
-    let mut four = plain(rt.alloc(), Policy::TwoDfq, 4, long, short)?;
-    assert_eq!(rt; four.choose(1, 4718592), Some(1));
-    // Of two it begins half a length early: from 4 units on, and from 5.
-    let mut two = plain(rt.alloc(), Policy::TwoDfq, 2, long, short)?;
-    assert_eq!(rt; two.choose(1, 4718592), Some(0));
-    assert_eq!(rt; two.choose(0, 4718592), Some(1));
-    send_away(two);
-    Ok(())
-}
-
-// The first tenant's head finishes first, at 11 units, and starts at 10.
-#[test]
-fn eligibility(rt: HostRuntime) -> Result<(), Fail> {
-    let late = keys(10 * UNIT, 1, 1, 0);
-    let long = keys(2 * UNIT, 20, 1, 1);
-    let mut wfq = plain(rt.alloc(), Policy::Wfq, 1, late, long)?;
-    assert_eq!(rt; wfq.choose(0, 5 * UNIT), Some(0));
-    let mut wf2q = plain(rt.alloc(), Policy::Wf2q, 1, late, long)?;
-    assert_eq!(rt; wf2q.choose(0, 5 * UNIT), Some(1));
-    assert_eq!(rt; wf2q.choose(0, 10 * UNIT), Some(0));
-    // The last of two workers begins nothing early but under 2DFQ.
-    let mut msf2q = plain(rt.alloc(), Policy::Msf2q, 2, long, late)?;
-    assert_eq!(rt; msf2q.choose(1, 5 * UNIT), Some(0));
-    Ok(())
-}
-
-// Where none is eligible the first to become so is chosen, of these the first to finish, of these the lesser request.
-#[test]
-fn none_eligible(rt: HostRuntime) -> Result<(), Fail> {
-    let late = keys(10 * UNIT, 1, 1, 0);
-    let long = keys(8 * UNIT, 20, 1, 1);
-    let mut by_start = plain(rt.alloc(), Policy::Wf2q, 1, late, long)?;
-    assert_eq!(rt; by_start.choose(0, 5 * UNIT), Some(1));
-    let short = keys(8 * UNIT, 2, 1, 2);
-    let mut by_finish = plain(rt.alloc(), Policy::Wf2q, 1, long, short)?;
-    assert_eq!(rt; by_finish.choose(0, 5 * UNIT), Some(1));
-    let newer = keys(8 * UNIT, 2, 1, 3);
-    let mut by_request = plain(rt.alloc(), Policy::Wf2q, 1, newer, short)?;
-    assert_eq!(rt; by_request.choose(0, 5 * UNIT), Some(1));
+    let mut chooser = plain(rt.alloc(), Policy::TwoDfq, 4, long, short)?;
+    assert_eq!(rt; chooser.choose(1, 4718592), Some(1));
+    chooser.resize(2);
+    assert_eq!(rt; chooser.choose(1, 4718592), Some(0));
+    chooser.resize(4);
+    assert_eq!(rt; chooser.choose(1, 4718592), Some(1));
+    send_away(chooser);
     Ok(())
 }
 

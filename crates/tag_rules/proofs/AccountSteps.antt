@@ -1,24 +1,24 @@
 -- The accounts of a history at one entry more.
-use Rattle.std.proofs.Common.{ℕ, ◌-◌, ◌<◌, ◌≡◌, ◌≢◌, max, false, arith, refl, ap, sym, subst, ◌∙◌, inl, inr, ◌⊎◌, ◌∷◌, [], List, length, slice_set, None, Some, ℤ, pos, ◌+ℤ◌, ◌-ℤ◌, length-set, get_or-set_same, get_or-set_other}
+use Rattle.std.proofs.Common.{ℕ, ◌-◌, ◌<◌, ◌≡◌, ◌≢◌, max, true, false, arith, refl, ap, sym, subst, ◌∙◌, inl, inr, ◌⊎◌, ◌∷◌, [], List, length, slice_set, None, Some, ℤ, pos, ◌+ℤ◌, ◌-ℤ◌, length-set, get_or-set_same, get_or-set_other}
 use Rattle.std.specs.Int.{int_max}
 use Rattle.std.proofs.lemmas.Bool.{cases_eq}
 use Rattle.std.proofs.lemmas.Int.{ints, clamps}
 use Rattle.std.proofs.lemmas.List.{get_or-replicate, length-replicate}
 use Rattle.fq_model.specs.declared.config.Config.{Config}
 use Rattle.fq_model.specs.declared.event.Act.{Act}
-use Rattle.fq_model.specs.declared.event.Act.TheVariants.{Submit, Take, Report, Done, Close}
+use Rattle.fq_model.specs.declared.event.Act.TheVariants.{Submit, Take, Report, Done}
 use Rattle.fq_model.specs.declared.event.Entry.{Entry}
 use Rattle.fq_model.specs.Limits.{InLimits}
-use Rattle.fq_model.specs.History.{History, head}
+use Rattle.fq_model.specs.History.{is_submit, History, head}
 use Rattle.fq_model.specs.Time.{virtual_time}
 use Rattle.fq_model.specs.Charge.{virtual_charge}
 use Rattle.fq_model.specs.Keys.{tag_base, tag}
 use Rattle.fq_model.specs.Rules.{IsLegal}
-use Rattle.fq_laws.specs.Words.{one_more}
-use Rattle.fq_laws.proofs.Charge.Tenants.{virtual_charge_nil, virtual_charge_submit, virtual_charge_close}
-use Rattle.fq_laws.proofs.Keys.Tags.{base_nil, base_submit, base_submit_waiting, base_submit_other, base_take, base_report, base_done, base_close, tag_is}
+use Rattle.fq_laws.specs.Words.{one_more, is_quiet}
+use Rattle.fq_laws.proofs.Charge.Tenants.{virtual_charge_nil, virtual_charge_submit, virtual_charge_quiet}
+use Rattle.fq_laws.proofs.Keys.Tags.{base_nil, base_submit, base_submit_waiting, base_submit_other, base_take, base_report, base_done, base_quiet, tag_is}
 use Rattle.fq_laws.proofs.Charge.Limits.{virtual_charge_within}
-use Rattle.tag_rules.specs.Accounts.{AccountsView, at_first, charge_of, base_of, raised, charged, IsCharge, AccountsAre, is_submit}
+use Rattle.tag_rules.specs.Accounts.{AccountsView, at_first, charge_of, base_of, raised, charged, IsCharge, AccountsAre}
 
 -- new accounts are those of the empty history
 pub accounts_nil : (C : Config) → AccountsAre C [] (at_first (length C.weights))
@@ -74,7 +74,7 @@ base_left_at C P who m t (Submit request tenant kind declared label) h = absurd 
 base_left_at C P who m t (Take worker request estimate) h = base_take C P who m t worker request estimate
 base_left_at C P who m t (Report worker request used) h = base_report C P who m t worker request used
 base_left_at C P who m t (Done worker request cost) h = base_done C P who m t worker request cost
-base_left_at C P who m t Close h = base_close C P who m t
+base_left_at C P who m t a h = base_quiet C P who m t a refl
 
 -- an entry that is no Submit, and that changes the virtual charge of one tenant alone, charges that tenant the change
 pub accounts_charge : (C : Config) (P : History) (a : AccountsView) (e : Entry) (t : ℕ) (delta : ℤ) → is_submit e.act ≡ false → t < length C.weights → pos (virtual_charge C P t) +ℤ delta ≡ pos (virtual_charge C (e ∷ P) t) → ((u : ℕ) → u ≢ t → virtual_charge C (e ∷ P) u ≡ virtual_charge C P u) → AccountsAre C P a → AccountsAre C (e ∷ P) (charged a t delta)
@@ -92,13 +92,13 @@ may_charge C P a e t delta lim l known own is =
     let is_now = is.charges_are t known in
     (omega (arith, ints, own, is_now), omega (arith, ints, own, is_now, low))
 
--- a Close leaves the accounts
-pub accounts_close : (C : Config) (P : History) (a : AccountsView) (who m : ℕ) → AccountsAre C P a → AccountsAre C (one_more who m Close P) a
-accounts_close C P a who m is = record {
+-- an act that touches no request leaves the accounts
+pub accounts_quiet : (C : Config) (P : History) (a : AccountsView) (who m : ℕ) (act : Act) → is_quiet act ≡ true → AccountsAre C P a → AccountsAre C (one_more who m act P) a
+accounts_quiet C P a who m act quiet is = record {
   charges_sized = is.charges_sized;
   bases_sized = is.bases_sized;
-  charges_are = λ u b. is.charges_are u b ∙ ap pos (sym (virtual_charge_close C P who m u));
-  bases_are = λ u b. is.bases_are u b ∙ ap pos (sym (base_close C P who m u));
+  charges_are = λ u b. is.charges_are u b ∙ ap pos (sym (virtual_charge_quiet C P who m u act quiet));
+  bases_are = λ u b. is.bases_are u b ∙ ap pos (sym (base_quiet C P who m u act quiet));
 }
 
 -- the tag of a tenant is its charge and its base

@@ -1,10 +1,8 @@
 -- What contracts see of accounts, what the calls make of them, and the accounts of a history.
-use Rattle.std.specs.Prelude.{ℕ, ◌<◌, ◌≡◌, Bool, true, false, List, length, replicate, slice_index_or, slice_set, All, ℤ, pos, ◌+ℤ◌, ◌-ℤ◌, ◌≤ℤ◌}
+use Rattle.std.specs.Prelude.{ℕ, ◌<◌, ◌≡◌, List, length, replicate, slice_index_or, slice_set, All, ℤ, pos, ◌+ℤ◌, ◌-ℤ◌, ◌≤ℤ◌}
 use Rattle.std.specs.Int.{int_max}
 use Rattle.fq_model.specs.declared.limits.TheConstants.{GREATEST_VIRTUAL_CHARGE, GREATEST_VIRTUAL_TIME}
 use Rattle.fq_model.specs.declared.config.Config.{Config}
-use Rattle.fq_model.specs.declared.event.Act.{Act}
-use Rattle.fq_model.specs.declared.event.Act.TheVariants.{Submit}
 use Rattle.fq_model.specs.History.{History}
 use Rattle.fq_model.specs.Charge.{virtual_charge}
 use Rattle.fq_model.specs.Keys.{tag_base}
@@ -53,8 +51,3 @@ pub record AccountsAre (C : Config) (P : History) (a : AccountsView) : Type 0 wh
   pub bases_sized : length a.bases ≡ length C.weights
   pub charges_are : (t : ℕ) → t < length C.weights → charge_of a t ≡ pos (virtual_charge C P t)
   pub bases_are : (t : ℕ) → t < length C.weights → base_of a t ≡ pos (tag_base C P t)
-
--- the act submits a request
-abbrev pub is_submit : Act → Bool
-is_submit (Submit request tenant kind declared label) = true
-is_submit _ = false

@@ -6,7 +6,7 @@ use Rattle.fq_model.specs.declared.config.Config.{Config}
 use Rattle.fq_model.specs.declared.event.Entry.{Entry}
 use Rattle.fq_model.specs.History.{History, pool_at}
 use Rattle.fq_model.specs.Time.{active_weight, last_moment, virtual_time}
-use Rattle.fq_laws.proofs.Time.Clock.{pool_stays, active_weight_nil, virtual_time_nil, virtual_time_next, virtual_advance_is}
+use Rattle.fq_laws.proofs.Time.Clock.{active_weight_nil, virtual_time_nil, virtual_time_next, virtual_advance_is}
 use Rattle.virtual_clock.specs.Clock.{ClockView, at_start, moved_to}
 use Rattle.virtual_clock.specs.Histories.{ClockIs}
 
@@ -26,10 +26,11 @@ clock_time C P e c is =
     let next : virtual_time C (e ∷ P) e.moment ≡ virtual_time C P (last_moment P) + advance_of (e.moment - last_moment P) (pool_at C P) (active_weight C P) = virtual_time_next C P e ∙ ap (λ x. virtual_time C P (last_moment P) + x) (virtual_advance_is C P e.moment) in
     rw (is.time, is.moment, is.workers, is.weights) (omega (arith, ints, next))
 
--- so it is the clock of the history with the entry, once its weights are those active after the entry
-pub clock_next : (C : Config) (P : History) (e : Entry) (c : ClockView) (weights : ℕ) → weights ≡ active_weight C (e ∷ P) → ClockIs C P c → ClockIs C (e ∷ P) (record { workers = c.workers; moment = e.moment; weights = weights; time = (moved_to c e.moment).time })
-clock_next C P e c weights after is = record {
-  workers = is.workers ∙ sym (pool_stays C P e);
+-- so it is the clock of the history with the entry, once its workers are those and its weights are those active after the
+-- entry
+pub clock_next : (C : Config) (P : History) (e : Entry) (c : ClockView) (workers weights : ℕ) → workers ≡ pool_at C (e ∷ P) → weights ≡ active_weight C (e ∷ P) → ClockIs C P c → ClockIs C (e ∷ P) (record { workers = workers; moment = e.moment; weights = weights; time = (moved_to c e.moment).time })
+clock_next C P e c workers weights staffed after is = record {
+  workers = staffed;
   moment = refl;
   weights = after;
   time = clock_time C P e c is;

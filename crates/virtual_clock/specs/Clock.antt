@@ -32,6 +32,10 @@ entered c weight = record { workers = c.workers; moment = c.moment; weights = c.
 abbrev pub left : ClockView → ℕ → ClockView
 left c weight = record { workers = c.workers; moment = c.moment; weights = c.weights - weight; time = c.time }
 
+-- with so many workers from now on
+abbrev pub staffed : ClockView → ℕ → ClockView
+staffed c workers = record { workers = workers; moment = c.moment; weights = c.weights; time = c.time }
+
 -- its numbers are in their limits, and virtual time is at most what the greatest rate gives
 pub record IsInRange (c : ClockView) : Type 0 where
   pub workers_positive : 1 ≤ c.workers

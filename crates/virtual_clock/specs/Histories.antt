@@ -1,8 +1,8 @@
 -- The clock and the idle times of a history.
-use Rattle.std.specs.Prelude.{ℕ, ℤ, ◌<◌, ◌≡◌, List, ◌∷◌, length, pos, ◌≤ℤ◌}
+use Rattle.std.specs.Prelude.{ℕ, ℤ, ◌<◌, ◌≡◌, List, ◌∷◌, length, slice_index, pos, ◌≤ℤ◌}
 use Rattle.fq_model.specs.declared.config.Config.{Config}
 use Rattle.fq_model.specs.declared.event.Entry.{Entry}
-use Rattle.fq_model.specs.History.{History, pool_at}
+use Rattle.fq_model.specs.History.{History, pool_at, weight_at}
 use Rattle.fq_model.specs.Time.{open_requests, active_weight, last_moment, virtual_time, virtual_idle_time}
 use Rattle.fq_laws.specs.Steps.{Passes}
 use Rattle.virtual_clock.specs.declared.idles.Idle.{Idle}
@@ -28,9 +28,15 @@ pub record IdlesAre (C : Config) (P : History) (idles : List Idle) : Type 0 wher
   pub tenants : length idles ≡ length C.weights
   pub each : (t : ℕ) → t < length C.weights → IdleIs C P t (idle_of idles t)
 
--- the clock and the idle times are both those of the history
+-- the weights are those that the tenants have at the end of the history
+pub record WeightsAre (C : Config) (P : History) (weights : List ℕ) : Type 0 where
+  pub tenants : length weights ≡ length C.weights
+  pub each : (t : ℕ) → t < length C.weights → slice_index weights t ≡ weight_at C P t
+
+-- the clock, the weights and the idle times are those of the history
 pub record TimesAre (C : Config) (P : History) (times : Times) : Type 0 where
   pub clock_is : ClockIs C P times.clock
+  pub weights_are : WeightsAre C P times.weights
   pub idles_are : IdlesAre C P times.idles
 
 -- whatever history the times are of, this is the virtual time at its last entry
@@ -40,6 +46,14 @@ IsTimeOf times v = (C : Config) (P : History) → TimesAre C P times → v ≡ p
 -- and this is the virtual time up to its last entry that passed while the tenant was not active
 abbrev pub IsIdleTimeOf : Times → ℕ → ℤ → Type 0
 IsIdleTimeOf times tenant v = (C : Config) (P : History) → TimesAre C P times → v ≡ pos (virtual_idle_time C P (last_moment P) tenant)
+
+-- whatever history the times are of, this is its number of workers
+abbrev pub IsPoolOf : Times → ℕ → Type 0
+IsPoolOf times n = (C : Config) (P : History) → TimesAre C P times → n ≡ pool_at C P
+
+-- and this is the weight of the tenant there
+abbrev pub IsWeightOf : Times → ℕ → ℕ → Type 0
+IsWeightOf times tenant w = (C : Config) (P : History) → TimesAre C P times → tenant < length C.weights → w ≡ weight_at C P tenant
 
 -- whatever history they were of, they are those of it with a Take, a Report or a Close of this moment more
 abbrev pub PassOn : ℕ → Times → Times → Type 0

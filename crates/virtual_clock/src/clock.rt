@@ -1,6 +1,6 @@
 //! The clock of virtual time.
 ghost use Rattle.std.specs.Prelude.{◌≡◌, ◌+◌, ◌≤◌, pos, ◌≤ℤ◌};
-ghost use Rattle.virtual_clock.specs.Clock.{at_start, moved_to, entered, left};
+ghost use Rattle.virtual_clock.specs.Clock.{at_start, moved_to, entered, left, staffed};
 
 use fq_model::limits::{GREATEST_ACTIVE_WEIGHT, GREATEST_MOMENT, GREATEST_WEIGHT, MOST_WORKERS};
 use std::marker::Model;
@@ -79,6 +79,24 @@ impl Clock128 {
         ensures { self.new ≡ left self.old weight }
     {
         self.weights -= weight as u64;
+    }
+
+    /// There are so many workers from this moment on.
+    pub fn staff(&mut self, workers: u32)
+        requires workers_positive { 1 ≤ workers }
+        requires workers_in_range { workers ≤ MOST_WORKERS }
+        ensures { self.new ≡ staffed self.old workers }
+    {
+        self.workers = workers;
+    }
+
+    /// The number of workers.
+    pub fn workers(&self) -> u32
+        ensures value { result ≡ self.now.workers }
+        ensures low { 1 ≤ result }
+        ensures high { result ≤ MOST_WORKERS }
+    {
+        self.workers
     }
 
     /// Virtual time at the moment that the clock has come to, in steps.

@@ -1,5 +1,5 @@
 //! The virtual time that passed while a tenant was not active.
-ghost use Rattle.std.specs.Prelude.{◌≡◌, ◌<◌, ◌≤◌, pos, ◌≤ℤ◌, length, replicate, slice_set, IfOk};
+ghost use Rattle.std.specs.Prelude.{◌≡◌, ◌<◌, ◌≤◌, not, pos, ◌≤ℤ◌, length, replicate, slice_set, IfOk};
 ghost use Rattle.virtual_clock.specs.Idles.{asleep_at_first, idle_of, is_asleep, is_at_last, woken, put_to_sleep, opened, closed, total_at};
 
 use fq_model::limits::GREATEST_VIRTUAL_TIME;
@@ -58,6 +58,14 @@ impl Idles {
         };
         let tenants = vec![in alloc; asleep; tenants as usize]?;
         Ok(Idles { tenants })
+    }
+
+    /// Whether a tenant has an open request.
+    pub fn is_active(&self, tenant: u32) -> bool
+        requires { tenant < length self.now }
+        ensures { result ≡ not (is_asleep (idle_of self.now tenant)) }
+    {
+        self.tenants[tenant as usize].undone != 0
     }
 
     /// A tenant that is asleep becomes active by one request, at this virtual time in steps.

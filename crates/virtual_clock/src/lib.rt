@@ -6,3 +6,4 @@ pub mod idles;
 #[cfg(test)]
 mod tests;
 pub mod times;
+pub mod weights;

@@ -1,19 +1,23 @@
-//! The virtual time of a history, and for how long each tenant was not active.
+//! The virtual time of a history, the weights at its end, and for how long each tenant was not active.
 ghost use Rattle.std.specs.Prelude.{◌≡◌, ◌<◌, ◌≤◌, [], pos, ◌≤ℤ◌, length, IfOk};
-ghost use Rattle.fq_laws.specs.Steps.{Awaits, Follows, Submits, Completes};
+ghost use Rattle.fq_model.specs.Limits.{IsWeight};
+ghost use Rattle.fq_laws.specs.Steps.{Awaits, Follows, Submits, Completes, Reweighs, Staffs};
 ghost use Rattle.virtual_clock.specs.Idles.{idle_of};
-ghost use Rattle.virtual_clock.specs.Histories.{TimesAre, PassOn, IsTimeOf, IsIdleTimeOf};
+ghost use Rattle.virtual_clock.specs.Histories.{TimesAre, PassOn, IsTimeOf, IsIdleTimeOf, IsWeightOf, IsPoolOf};
 
 use crate::clock::{Clock128, GREATEST_SHOWN};
 use crate::idles::{Idles, NoMemory};
+use crate::weights::WeightsNow;
 use fq_model::config::Checked;
-use fq_model::limits::GREATEST_MOMENT;
+use fq_model::limits::{GREATEST_MOMENT, GREATEST_WEIGHT, MOST_WORKERS};
 use std::alloc::Global;
 
-/// Virtual time at the last entry of a history, and the idle times at that time.
+/// Virtual time at the last entry of a history, with the number of workers and the weights there, by which it goes on, and
+/// the idle times at that time.
 #[derive(Drop)]
 pub struct Times {
     clock: Clock128,
+    weights: WeightsNow,
     idles: Idles,
 }
 
@@ -24,6 +28,7 @@ impl Times {
     {
         Ok(Times {
             clock: Clock128::new(config.workers()),
+            weights: WeightsNow::open(alloc, config)?,
             idles: Idles::open(alloc, config.tenants())?,
         })
     }
@@ -38,25 +43,47 @@ impl Times {
     }
 
     /// A Submit to this tenant comes at this moment, in microseconds.
-    pub fn submit(&mut self, config: &Checked, moment: u64, tenant: u32)
-        requires { Awaits config.now TimesAre (Submits moment tenant) self.old }
-        ensures { Follows config.now TimesAre (Submits moment tenant) self.old self.new }
+    pub fn submit(&mut self, moment: u64, tenant: u32)
+        requires { Awaits TimesAre (Submits moment tenant) self.old }
+        ensures { Follows TimesAre (Submits moment tenant) self.old self.new }
     {
         self.clock.to(moment); // at the weights before it
         if self.idles.open_one(tenant, self.clock.now()) {
-            self.clock.enter(config.weight(tenant));
+            self.clock.enter(self.weights.of(tenant));
         }
     }
 
     /// A Done of a request of this tenant comes at this moment, in microseconds.
-    pub fn done(&mut self, config: &Checked, moment: u64, tenant: u32)
-        requires { Awaits config.now TimesAre (Completes moment tenant) self.old }
-        ensures { Follows config.now TimesAre (Completes moment tenant) self.old self.new }
+    pub fn done(&mut self, moment: u64, tenant: u32)
+        requires { Awaits TimesAre (Completes moment tenant) self.old }
+        ensures { Follows TimesAre (Completes moment tenant) self.old self.new }
     {
         self.clock.to(moment); // at the weights with this tenant's
         if self.idles.close_one(tenant, self.clock.now()) {
-            self.clock.leave(config.weight(tenant));
+            self.clock.leave(self.weights.of(tenant));
         }
+    }
+
+    /// A Weight of this tenant comes at this moment, in microseconds.
+    pub fn reweigh(&mut self, moment: u64, tenant: u32, weight: u32)
+        requires { Awaits TimesAre (Reweighs moment tenant weight) self.old }
+        ensures { Follows TimesAre (Reweighs moment tenant weight) self.old self.new }
+    {
+        self.clock.to(moment); // at the weight before it
+        if self.idles.is_active(tenant) {
+            self.clock.leave(self.weights.of(tenant));
+            self.clock.enter(weight);
+        }
+        self.weights.set(tenant, weight);
+    }
+
+    /// A Workers comes at this moment, in microseconds.
+    pub fn staff(&mut self, moment: u64, count: u32)
+        requires { Awaits TimesAre (Staffs moment count) self.old }
+        ensures { Follows TimesAre (Staffs moment count) self.old self.new }
+    {
+        self.clock.to(moment); // at the number before it
+        self.clock.staff(count);
     }
 
     /// Virtual time at the last entry, in steps.
@@ -66,6 +93,25 @@ impl Times {
         ensures high { result ≤ℤ GREATEST_SHOWN }
     {
         self.clock.now()
+    }
+
+    /// The number of workers at the last entry: 1 to 64.
+    pub fn workers(&self) -> u32
+        ensures value { IsPoolOf self.now result }
+        ensures low { 1 ≤ result }
+        ensures high { result ≤ MOST_WORKERS }
+    {
+        self.clock.workers()
+    }
+
+    /// The weight of a tenant at the last entry: 1 to 1,000.
+    pub fn weight(&self, tenant: u32) -> u32
+        requires { tenant < length self.now.weights }
+        ensures value { IsWeightOf self.now tenant result }
+        ensures low { 1 ≤ result }
+        ensures high { result ≤ GREATEST_WEIGHT }
+    {
+        self.weights.of(tenant)
     }
 
     /// The virtual time up to the last entry that passed while the tenant was not active, in steps.
