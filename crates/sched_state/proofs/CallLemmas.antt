@@ -1,5 +1,5 @@
 -- What the calls of a scheduler find, and what they are answered.
-use Rattle.std.proofs.Common.{ℕ, ◌<◌, ◌≤◌, ◌≡◌, ◌≢◌, Bool, true, cond, arith, refl, sym, ap, subst, ◌∙◌, ◌∷◌, Option, Some, None}
+use Rattle.std.proofs.Common.{ℕ, ◌<◌, ◌≤◌, ◌≡◌, ◌≢◌, Bool, true, false, cond, arith, refl, sym, ap, subst, ◌∙◌, ◌∷◌, Option, Some, None}
 use Rattle.std.specs.Prelude.{nat_le}
 use Rattle.std.proofs.lemmas.Bool.{ne_eqb}
 use Rattle.std.proofs.lemmas.Bool.Decides.{nat_tests}
@@ -7,34 +7,28 @@ use Rattle.vt_fixed.specs.declared.limits.TheConstants.{GREATEST_MOMENT}
 use Rattle.fq_model.specs.declared.config.Config.{Config}
 use Rattle.fq_model.specs.declared.event.Entry.{Entry}
 use Rattle.fq_model.specs.declared.event.Act.{Act}
-use Rattle.fq_model.specs.declared.event.Act.TheVariants.{Take, Report, Done, Close}
+use Rattle.fq_model.specs.declared.event.Act.TheVariants.{Take, Report, Done, Weight, Workers}
 use Rattle.fq_model.specs.declared.event.Call.{Call}
 use Rattle.fq_model.specs.declared.event.Call.TheVariants as call
 use Rattle.fq_model.specs.declared.event.Reply.{Reply}
 use Rattle.fq_model.specs.declared.event.Reply.TheVariants as answer
 use Rattle.fq_model.specs.declared.event.Cause.{Cause}
 use Rattle.fq_model.specs.declared.event.Cause.TheVariants as cause
-use Rattle.fq_model.specs.History.{History, Request, waiting, is_closed}
+use Rattle.fq_model.specs.History.{History, Request, waiting, is_closed, pool_at}
 use Rattle.fq_model.specs.Time.{last_moment, effective_moment}
-use Rattle.fq_model.specs.Rules.{IsLegal, FitsUse, IsChosen, IsAccepted, RunsChosen, AnswersFree, RefusedOrElse, Answers, needed_room, request_on, use_refusals, take_refusal, report_refusal, done_refusal}
+use Rattle.fq_model.specs.Rules.{IsLegal, FitsUse, IsChosen, IsAccepted, RunsChosen, AnswersFree, RefusedOrElse, Answers, needed_room, request_on, use_refusals, take_refusal, report_refusal, done_refusal, weight_refusal, workers_refusal}
 use Rattle.fq_laws.specs.Words.{one_more}
-use Rattle.fq_laws.proofs.Rules.Refusals.{all_false, report_fits, done_fits, request_on_is}
+use Rattle.fq_laws.proofs.Rules.Refusals.{all_false, report_fits, done_fits, weight_fits, workers_fits, request_on_is}
 use Rattle.charge_book.specs.declared.row.RunRow.{RunRow}
 use Rattle.charge_book.proofs.Refusals.{row_of}
-use Rattle.charge_book.proofs.Steps.{book_close}
 use Rattle.rival_policies.specs.Tables.{ChooserView}
-use Rattle.tag_rules.proofs.AccountSteps.{accounts_close}
-use Rattle.virtual_clock.specs.Histories.{PassOn}
 use Rattle.sched_state.specs.declared.tracker.Tracker.{Tracker}
 use Rattle.sched_state.specs.Journal.{JournalView, history, with_entry}
 use Rattle.sched_state.specs.Lists.{JobMap}
 use Rattle.sched_state.specs.Replies.{AnswersCall}
 use Rattle.sched_state.specs.Scheduler.{SchedulerView}
 use Rattle.sched_state.specs.Tracker.{Tracks, MayName}
-use Rattle.sched_state.proofs.CostLemmas.{costs_stay}
 use Rattle.sched_state.proofs.JournalLemmas.{history_with}
-use Rattle.sched_state.proofs.KeyLemmas.{keys_of_others, latest_at}
-use Rattle.sched_state.proofs.ListLemmas.{lists_close}
 use Rattle.sched_state.proofs.RefusalLemmas.{report_unless_full}
 
 -- ---- what a call leaves
@@ -70,15 +64,25 @@ accepted P who moment m act reply is = (refl, ap (λ (z : ℕ). one_more who z a
 
 -- ---- a Take
 
+le_true : (a b : ℕ) → a ≤ b → nat_le a b ≡ true
+le_true a b h = grind (arith, nat_tests)
+
+le_false : (a b : ℕ) → b < a → nat_le a b ≡ false
+le_false a b h = grind (arith, nat_tests)
+
+-- the worker is not among those that there are now
+pub retired : (C : Config) (P : History) (who moment worker workers : ℕ) → take_refusal C P worker ≡ None → workers ≡ pool_at C P → workers ≤ worker → Answers C P (call.Take who moment worker) (answer.Retired workers) P
+retired C P who moment worker workers none is above = not_refused _ P _ _ _ none (rw (is, le_true (pool_at C P) worker (omega (arith, is, above))) (refl, refl))
+
 -- nothing waits
-pub rested : (C : Config) (P : History) (who moment worker : ℕ) (closed : Bool) → take_refusal C P worker ≡ None → waiting P ≡ 0 → closed ≡ is_closed P → Answers C P (call.Take who moment worker) (cond closed answer.Drained answer.Idle) P
-rested C P who moment worker closed none nothing is = not_refused _ P _ _ _ none (rw (nothing, is) (refl, refl))
+pub rested : (C : Config) (P : History) (who moment worker : ℕ) (closed : Bool) → take_refusal C P worker ≡ None → worker < pool_at C P → waiting P ≡ 0 → closed ≡ is_closed P → Answers C P (call.Take who moment worker) (cond closed answer.Drained answer.Idle) P
+rested C P who moment worker closed none pooled nothing is = not_refused _ P _ _ _ none (rw (le_false (pool_at C P) worker pooled, nothing, is) (refl, refl))
 
-some_waits : (C : Config) (P : History) (who moment i : ℕ) (reply : Reply) (Q : History) → waiting P ≢ 0 → RunsChosen C P who moment i reply Q → AnswersFree C P who moment i reply Q
-some_waits C P who moment i reply Q some x = rw (ne_eqb (waiting P) 0 some) x
+some_waits : (C : Config) (P : History) (who moment i : ℕ) (reply : Reply) (Q : History) → i < pool_at C P → waiting P ≢ 0 → RunsChosen C P who moment i reply Q → AnswersFree C P who moment i reply Q
+some_waits C P who moment i reply Q pooled some x = rw (le_false (pool_at C P) i pooled, ne_eqb (waiting P) 0 some) x
 
-pub took : (C : Config) (P : History) (who moment m worker request estimate label : ℕ) (asked : Request) → take_refusal C P worker ≡ None → waiting P ≢ 0 → m ≡ effective_moment P moment → asked.label ≡ label → IsChosen C P m worker request estimate asked → Answers C P (call.Take who moment worker) (answer.Run request estimate label) (one_more who m (Take worker request estimate) P)
-took C P who moment m worker request estimate label asked none some is labelled chosen = not_refused _ P _ _ _ none (some_waits C P who moment worker _ _ some (record {
+pub took : (C : Config) (P : History) (who moment m worker request estimate label : ℕ) (asked : Request) → take_refusal C P worker ≡ None → worker < pool_at C P → waiting P ≢ 0 → m ≡ effective_moment P moment → asked.label ≡ label → IsChosen C P m worker request estimate asked → Answers C P (call.Take who moment worker) (answer.Run request estimate label) (one_more who m (Take worker request estimate) P)
+took C P who moment m worker request estimate label asked none pooled some is labelled chosen = not_refused _ P _ _ _ none (some_waits C P who moment worker _ _ pooled some (record {
   request = request;
   estimate = estimate;
   asked = asked;
@@ -117,21 +121,17 @@ module _ {J X : Type 0} (label : J → ℕ) (seen : X → ChooserView) (C : Conf
     pub answered_report : room ≡ true → (who moment m : ℕ) → m ≡ effective_moment P moment → Answers C P (call.Report who moment worker used) answer.Accepted (one_more who m (Report worker row.request used) P)
     answered_report is who moment m at = not_refused _ P _ _ _ (report_refused_by ∙ rw is refl) (rw row_request (accepted P who moment m _ answer.Accepted at))
 
--- ---- a Close
+-- ---- a Weight and a Workers
 
-pub close_tracks : {J X : Type 0} (label : J → ℕ) (seen : X → ChooserView) (C : Config) (P : History) (k n : Tracker J X) (who m : ℕ) → Tracks label seen C P k → IsLegal C (one_more who m Close P) → PassOn m k.times n.times → n.lists ≡ k.lists → n.book ≡ k.book → n.accounts ≡ k.accounts → n.costs ≡ k.costs → n.chooser ≡ k.chooser → Tracks label seen C (one_more who m Close P) n
-close_tracks label seen C P k n who m old l passes listed books accounts costs chooses =
-    let o = old.mirrors in
-    let e : Entry = record { who = who; moment = m; act = Close } in
-    record {
-      mirrors = record {
-        limits = o.limits;
-        legal = l;
-        lists_are = rw listed (lists_close label C P who m k.lists l o.lists_are);
-        book_is = rw books (book_close C P k.book who m o.book_is);
-        accounts_are = rw accounts (accounts_close C P k.accounts who m o.accounts_are);
-        costs_are = rw costs (costs_stay C P (e ∷ P) k.costs o.costs_are refl);
-        times_are = passes C P e (record { moment_is = refl; act_passes = refl }) o.times_are;
-      };
-      chooser_is = rw chooses (keys_of_others C P e (seen k.chooser) (seen k.chooser) (λ t. Unit {0}) o.limits l (λ u among. refl) old.chooser_is refl refl (latest_at C P m (seen k.chooser) l.1 old.chooser_is));
-    }
+-- where nothing refuses it
+pub legal_weight : (C : Config) (P : History) (who m tenant weight : ℕ) → weight_refusal C P tenant weight ≡ None → IsLegal C P → last_moment P ≤ m → m ≤ GREATEST_MOMENT → IsLegal C (one_more who m (Weight tenant weight) P)
+legal_weight C P who m tenant weight none l later in_range = (l, later, in_range, weight_fits C P tenant weight none)
+
+pub answered_weight : (C : Config) (P : History) (who moment m tenant weight : ℕ) → weight_refusal C P tenant weight ≡ None → m ≡ effective_moment P moment → Answers C P (call.Weight who moment tenant weight) answer.Accepted (one_more who m (Weight tenant weight) P)
+answered_weight C P who moment m tenant weight none is = not_refused _ P _ _ _ none (accepted P who moment m _ answer.Accepted is)
+
+pub legal_workers : (C : Config) (P : History) (who m count : ℕ) → workers_refusal C P count ≡ None → IsLegal C P → last_moment P ≤ m → m ≤ GREATEST_MOMENT → IsLegal C (one_more who m (Workers count) P)
+legal_workers C P who m count none l later in_range = (l, later, in_range, workers_fits C P count none)
+
+pub answered_workers : (C : Config) (P : History) (who moment m count : ℕ) → workers_refusal C P count ≡ None → m ≡ effective_moment P moment → Answers C P (call.Workers who moment count) answer.Accepted (one_more who m (Workers count) P)
+answered_workers C P who moment m count none is = not_refused _ P _ _ _ none (accepted P who moment m _ answer.Accepted is)

@@ -1,5 +1,5 @@
 -- The book and the accounts of a history at one entry that charges a tenant.
-use Rattle.std.proofs.Common.{ℕ, ◌<◌, ◌≤◌, ◌≡◌, ◌≢◌, ◌^◌, false, List, [], ◌∷◌, length, replicate, slice_index, Option, Some, None, ℤ, pos, ◌+ℤ◌, arith, refl, sym, ap, subst, ◌∙◌}
+use Rattle.std.proofs.Common.{ℕ, ◌<◌, ◌≤◌, ◌≡◌, ◌≢◌, ◌^◌, false, List, [], ◌∷◌, length, replicate, Option, Some, None, ℤ, pos, ◌+ℤ◌, arith, refl, sym, ap, subst, ◌∙◌}
 use Rattle.std.specs.Prelude.{is_none, if◌then◌else◌}
 use mir.Val.{to_z, of_z}
 use Rattle.std.specs.Int.{w128}
@@ -9,7 +9,7 @@ use Rattle.fq_model.specs.declared.config.Config.{Config}
 use Rattle.fq_model.specs.declared.event.Entry.{Entry}
 use Rattle.fq_model.specs.declared.event.Act.TheVariants.{Submit, Take, Report, Done}
 use Rattle.fq_model.specs.Limits.{InLimits}
-use Rattle.fq_model.specs.History.{History, Request, request_at, is_of_tenant, weight_at, pool_at, head}
+use Rattle.fq_model.specs.History.{is_submit, History, Request, request_at, is_of_tenant, weight_at, head}
 use Rattle.fq_model.specs.Time.{virtual_time}
 use Rattle.fq_model.specs.Charge.{completed}
 use Rattle.fq_model.specs.Rules.{IsLegal, FitsUse}
@@ -17,6 +17,7 @@ use Rattle.fq_laws.specs.Words.{one_more}
 use Rattle.fq_laws.specs.Steps.{Completes}
 use Rattle.fq_laws.proofs.Charge.Limits.{virtual_charge_within}
 use Rattle.fq_laws.proofs.History.Workers.{runs_worker_known}
+use Rattle.fq_laws.proofs.History.Weights.{pool_high}
 use Rattle.fq_laws.proofs.History.Asked.{of_other}
 use Rattle.fq_laws.proofs.History.Requests.{request_known}
 use Rattle.fq_laws.proofs.Charge.Estimates.{completed_done, estimate_range}
@@ -24,7 +25,7 @@ use Rattle.charge_book.specs.declared.row.RunRow.{RunRow}
 use Rattle.charge_book.specs.Book.{BookView, row_on, row_of_run, begun, reported, report_change, finished, finish_change}
 use Rattle.charge_book.specs.Histories.{BookIs, BookFollows}
 use Rattle.charge_book.proofs.Steps.{book_nil, may_begin, book_take, book_report, book_done}
-use Rattle.tag_rules.specs.Accounts.{AccountsView, charge_of, raised, charged, IsCharge, AccountsAre, is_submit}
+use Rattle.tag_rules.specs.Accounts.{AccountsView, charge_of, raised, charged, IsCharge, AccountsAre}
 use Rattle.tag_rules.proofs.AccountSteps.{accounts_raise, accounts_leave, accounts_charge, may_charge}
 use Rattle.charge_book.proofs.Refusals.{RowSays, row_of}
 
@@ -76,18 +77,10 @@ pub record BeginStep (C : Config) (P : History) (b : BookView) (a : AccountsView
   pub step : Step C P (record { who = who; moment = m; act = Take w r estimate }) a tenant (begun b w (row_of_run r tenant kind weight estimate)) (pos (length_of estimate weight))
   pub others : (u : ℕ) → u ≢ tenant → is_of_tenant u (request_at P r) ≡ false
 
-worker_below : (C : Config) (P : History) (w : ℕ) → w < pool_at C P → w < C.workers
-unfolding pool_at
-worker_below C P w h = h
-
-pub weight_now : (C : Config) (P : History) (t weight : ℕ) → weight ≡ slice_index C.weights t → weight ≡ weight_at C P t
-unfolding weight_at
-weight_now C P t weight e = e
-
-pub begin_step : (C : Config) (P : History) (b : BookView) (a : AccountsView) (who m w r estimate weight : ℕ) (q : Request) → InLimits C → IsLegal C (one_more who m (Take w r estimate) P) → request_at P r ≡ Some q → weight ≡ slice_index C.weights q.tenant → BookIs C P b → AccountsAre C P a → BeginStep C P b a who m w r q.tenant q.kind estimate weight
+pub begin_step : (C : Config) (P : History) (b : BookView) (a : AccountsView) (who m w r estimate weight : ℕ) (q : Request) → InLimits C → IsLegal C (one_more who m (Take w r estimate) P) → request_at P r ≡ Some q → weight ≡ weight_at C P q.tenant → BookIs C P b → AccountsAre C P a → BeginStep C P b a who m w r q.tenant q.kind estimate weight
 begin_step C P b a who m w r estimate weight q lim l known heavy is are =
     let may = may_begin C P b who m w r estimate q lim l known is in
-    let worker : w < C.workers = worker_below C P w l.3.worker_known in
+    let worker : w < C.workers = omega (arith, l.3.worker_known, pool_high C P l.0) in
     let range = estimate_range C P r l.3.asked lim l.0 l.3.chosen.asked in
     record {
       worker = omega (arith, is.workers, worker);
@@ -99,7 +92,7 @@ begin_step C P b a who m w r estimate weight q lim l known heavy is are =
         legal = l;
         accounts_are = are;
         tenant_known = (request_known C P r q l.0 known).tenant_known;
-        follows = subst (λ y. BookFollows C P (one_more who m (Take w r estimate) P) q.tenant (begun b w (row_of_run r q.tenant q.kind y estimate)) (pos (length_of estimate y))) (sym (weight_now C P q.tenant weight heavy)) (book_take C P b who m w r estimate q lim l known is);
+        follows = subst (λ y. BookFollows C P (one_more who m (Take w r estimate) P) q.tenant (begun b w (row_of_run r q.tenant q.kind y estimate)) (pos (length_of estimate y))) (sym heavy) (book_take C P b who m w r estimate q lim l known is);
       };
       others = λ u ne. of_other P u r q known (λ e. ne (sym e));
     }

@@ -1,8 +1,12 @@
 -- The estimator of a history at one entry more.
-use Rattle.std.proofs.Common.{ℕ, ◌≡◌, refl, sym, subst, ◌∙◌, ◌∷◌}
+use Rattle.std.proofs.Common.{List, true, ℕ, ◌≡◌, refl, sym, subst, ◌∙◌, ◌∷◌}
 use Rattle.fq_model.specs.declared.config.Config.{Config}
 use Rattle.fq_model.specs.History.{History}
-use Rattle.fq_model.specs.Charge.{Completed, completed, completed_costs, estimate_from, estimate_at}
+use Rattle.fq_model.specs.declared.event.Act.{Act}
+use Rattle.fq_model.specs.declared.event.Act.TheVariants.{Done}
+use Rattle.fq_laws.specs.Words.{is_quiet}
+use Rattle.std.proofs.lemmas.Bool.{false≢true}
+use Rattle.fq_model.specs.Charge.{Completed, completed, completed_costs, with_completion, estimate_from, estimate_at}
 use Rattle.cost_estimate.specs.declared.any.AnyCost.{AnyCost}
 use Rattle.cost_estimate.specs.AnyCost.{rule_of, initial_of, tenants_of, kinds_of, StandsFor}
 use Rattle.sched_state.specs.Costs.{CostsAre}
@@ -25,3 +29,8 @@ costs_learned C P Q one old new is more rule initial tenants kinds learned = rec
   kinds = kinds ∙ is.kinds;
   learned = subst (StandsFor new) (sym more) learned;
 }
+
+-- an act that touches no request completes none
+pub completed_quiet : (P : History) (a : Act) (older : List Completed) → is_quiet a ≡ true → with_completion P a older ≡ older
+completed_quiet P (Done worker request cost) older q = absurd (false≢true q)
+completed_quiet P _ older q = refl

@@ -18,7 +18,7 @@ use Rattle.fq_laws.proofs.Time.Clock.{virtual_time_rises}
 use Rattle.fq_laws.proofs.Keys.Choices.{keys_differ, keys_tenant_known, head_has_keys, no_head_no_keys}
 use Rattle.fq_laws.proofs.Keys.Others.{keys_still, keys_unconcerned}
 use Rattle.fq_laws.proofs.History.Heads.{heads_none_waiting, waits_none, waits_none_head}
-use Rattle.rival_policies.specs.Tables.{Setting, Table, Has, NoneHas, IsNewTo, turn_of, IsTableChoice, ChooserView, opened, with_keys}
+use Rattle.rival_policies.specs.Tables.{Setting, Table, Has, NoneHas, IsNewTo, turn_of, IsTableChoice, ChooserView, setting_at, opened, with_keys}
 use Rattle.sched_state.specs.Keys.{HasKeysOf, ChooserIs, ChooserIsBut}
 
 -- ---- places of a table
@@ -40,6 +40,7 @@ no_keys : (C : Config) (t : ℕ) → keys_at C [] 0 t ≡ None
 no_keys C t = no_head_no_keys C [] 0 t (waits_none_head [] t (λ r w. false≢true (sym (waits_none t r) ∙ w)))
 
 pub chooser_nil : (C : Config) (x : ChooserView) → x ≡ opened C → ChooserIs C [] x
+unfolding pool_at
 chooser_nil C x e = rw e (record {
   setting_is = refl;
   sized = length-replicate {A = Option HeadKeys} (length C.weights) None;
@@ -47,11 +48,15 @@ chooser_nil C x e = rw e (record {
   latest_low = omega (arith, ints);
 })
 
+-- an entry that is no Workers leaves the setting
+pub setting_stays : (C : Config) (P : History) (e : Entry) (x : ChooserView) → pool_at C (e ∷ P) ≡ pool_at C P → ChooserIs C P x → x.setting ≡ setting_at C (pool_at C (e ∷ P))
+setting_stays C P e x same is = is.setting_is ∙ ap (setting_at C) (sym same)
+
 -- an entry leaves the keys of each tenant that it does not concern
-pub keys_of_others : (C : Config) (P : History) (e : Entry) (x y : ChooserView) (Tenants : ℕ → Type 0) → InLimits C → IsLegal C (e ∷ P) → ((u : ℕ) → Tenants u → concerns P u e.act ≡ false) → ChooserIs C P x → y.setting ≡ x.setting → y.table ≡ x.table → y.latest ≤ℤ pos (virtual_time C P e.moment) → HasKeysOf C (e ∷ P) Tenants y
+pub keys_of_others : (C : Config) (P : History) (e : Entry) (x y : ChooserView) (Tenants : ℕ → Type 0) → InLimits C → IsLegal C (e ∷ P) → ((u : ℕ) → Tenants u → concerns P u e.act ≡ false) → ChooserIs C P x → y.setting ≡ setting_at C (pool_at C (e ∷ P)) → y.table ≡ x.table → y.latest ≤ℤ pos (virtual_time C P e.moment) → HasKeysOf C (e ∷ P) Tenants y
 unfolding virtual_time
 keys_of_others C P e x y Tenants lim l others is s t late = record {
-  setting_is = s ∙ is.setting_is;
+  setting_is = s;
   sized = ap length t ∙ is.sized;
   keys_are = λ u b among. ap (λ z. slice_get z u) t ∙ (is.keys_are u b tt ∙ ap Some (sym (keys_unconcerned C P e e.moment (last_moment P) u lim l (others u among))));
   latest_low = omega (arith, ints, late);
@@ -109,11 +114,9 @@ module _ (C : Config) (P : History) (m : ℕ) (x : ChooserView) (l : IsLegal C P
 
   -- a worker that is known is one of the setting
   pub worker_in : (i : ℕ) → i < pool_at C P → i < x.setting.workers
-  unfolding pool_at
   worker_in i known = subst (λ (s : Setting). i < s.workers) (sym is.setting_is) known
 
   same_turn : (i : ℕ) (v : ℤ) → v ≡ pos (virtual_time C P m) → turn_of x.setting i v ≡ turn_at C P m i
-  unfolding pool_at
   same_turn i v e = rw (is.setting_is, e) refl
 
   -- what is chosen over the table is the choice

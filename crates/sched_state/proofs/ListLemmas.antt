@@ -2,20 +2,21 @@
 use Rattle.std.proofs.Common.{ℕ, zero, suc, ◌+◌, ◌<◌, ◌≡◌, Bool, true, false, cond, ◌&&◌, arith, refl, ap, sym, ◌∙◌, List, [], ◌∷◌, ◌++◌, length, drop, subst, Option, Some, None, inl, inr, get_or, set, slice_get, replicate, length-set, get_or-set_same, get_or-set_other}
 use Rattle.std.specs.Prelude.{option_map, is_none, Result, Ok, Err, OnOk, OnErr, is_ok}
 use Rattle.std.specs.FinMap as map
-use Rattle.std.proofs.lemmas.Bool.{cases_eq, cases_Bool, eq-eqb, ne_eqb, and_from, not_from_false}
+use Rattle.std.proofs.lemmas.Bool.{false≢true, cases_eq, cases_Bool, eq-eqb, ne_eqb, and_from, not_from_false}
 use Rattle.std.proofs.lemmas.List.{get_or-replicate, length-replicate, length_push}
 use Rattle.std.proofs.lemmas.List.Sums.{sum_by-set}
 use Rattle.std.proofs.lemmas.List.Folds.{sum_by-replicate}
 use Rattle.fq_model.specs.declared.config.Config.{Config}
 use Rattle.fq_model.specs.declared.event.Entry.{Entry}
-use Rattle.fq_model.specs.declared.event.Act.TheVariants.{Submit, Take, Report, Done, Close}
+use Rattle.fq_model.specs.declared.event.Act.TheVariants.{Submit, Take, Report, Done}
+use Rattle.fq_model.specs.declared.event.Act.{Act}
 use Rattle.fq_model.specs.Limits.{InLimits}
-use Rattle.fq_model.specs.History.{History, Request, request_at, is_of_tenant, is_waiting, is_taken, is_submitted, waits_for, WaitsFor, queue, waiting, head, submits}
+use Rattle.fq_model.specs.History.{History, Request, request_at, is_of_tenant, is_waiting, is_taken, is_submitted, waits_for, WaitsFor, queue, queue_after, waiting, head, submits}
 use Rattle.fq_model.specs.Rules.{IsLegal, FitsSubmit}
-use Rattle.fq_laws.specs.Words.{first, Member, one_more}
+use Rattle.fq_laws.specs.Words.{first, Member, one_more, is_quiet}
 use Rattle.fq_laws.proofs.Rules.Takes.{of_waits, take_head, TakesHead}
 use Rattle.fq_laws.proofs.History.Asked.{waits_submitted, waits_untaken, is_of_asked, submitted_known, of_own, of_other}
-use Rattle.fq_laws.proofs.History.Counts.{waiting_report, waiting_done, waiting_close, waiting_none}
+use Rattle.fq_laws.proofs.History.Counts.{waiting_report, waiting_done, waiting_quiet, waiting_none}
 use Rattle.fq_laws.proofs.History.Numbers.{waiting_submitted, waiting_taken}
 use Rattle.fq_laws.proofs.History.Requests.{asked_stays, fresh_unsubmitted, request_known}
 use Rattle.fq_laws.proofs.History.Queues.{queue_law, head_is_first}
@@ -166,8 +167,14 @@ module _ {J : Type 0} (label : J → ℕ) where
   pub lists_done : (C : Config) (P : History) (who m worker r cost : ℕ) (w : lists.ListsView J) → IsLegal C (one_more who m (Done worker r cost) P) → ListsAre label C P w → ListsAre label C (one_more who m (Done worker r cost) P) w
   lists_done C P who m worker r cost w l h = queues_same C P _ w l (λ t. refl) (waiting_done P who m worker r cost) h
 
-  pub lists_close : (C : Config) (P : History) (who m : ℕ) (w : lists.ListsView J) → IsLegal C (one_more who m Close P) → ListsAre label C P w → ListsAre label C (one_more who m Close P) w
-  lists_close C P who m w l h = queues_same C P _ w l (λ t. refl) (waiting_close P who m) h
+  queue_quiet : (P : History) (t : ℕ) (a : Act) (older : List ℕ) → is_quiet a ≡ true → queue_after P t a older ≡ older
+  queue_quiet P t (Submit request tenant kind declared label) older q = absurd (false≢true q)
+  queue_quiet P t (Take worker request estimate) older q = absurd (false≢true q)
+  queue_quiet P t _ older q = refl
+
+  -- an act that touches no request
+  pub lists_quiet : (C : Config) (P : History) (who m : ℕ) (a : Act) (w : lists.ListsView J) → is_quiet a ≡ true → IsLegal C (one_more who m a P) → ListsAre label C P w → ListsAre label C (one_more who m a P) w
+  lists_quiet C P who m a w q l h = queues_same C P _ w l (λ t. queue_quiet P t a (queue P t) q) (waiting_quiet P who m a q) h
 
   -- ---- the jobs that wait
 

@@ -1,5 +1,5 @@
 -- What is kept beside a journal at one entry more.
-use Rattle.std.proofs.Common.{ℕ, ◌+◌, ◌<◌, ◌≤◌, ◌≡◌, ◌≢◌, ◌^◌, arith, refl, sym, ap, subst, ◌∙◌, inl, inr, ◌⊎◌, [], ◌∷◌, ◌++◌, length, slice_index, drop, Option, Some, None, ℤ, pos, ◌≤ℤ◌}
+use Rattle.std.proofs.Common.{true, ℕ, ◌+◌, ◌<◌, ◌≤◌, ◌≡◌, ◌≢◌, ◌^◌, arith, refl, sym, ap, subst, ◌∙◌, inl, inr, ◌⊎◌, [], ◌∷◌, ◌++◌, length, drop, Option, Some, None, ℤ, pos, ◌≤ℤ◌}
 use Rattle.std.specs.Prelude.{slice_get, is_none, if◌then◌else◌, IfSome, IfNone, IsSome}
 use Rattle.std.proofs.lemmas.Bool.{ne_eqb}
 use Rattle.std.proofs.lemmas.Int.{ints}
@@ -10,39 +10,42 @@ use Rattle.fq_model.specs.declared.config.Config.{Config}
 use Rattle.fq_model.specs.declared.config.Policy.{Policy}
 use Rattle.fq_model.specs.declared.config.Policy.TheVariants.{Wfq, Wf2q, Msf2q, TwoDfq}
 use Rattle.fq_model.specs.declared.event.Entry.{Entry}
-use Rattle.fq_model.specs.declared.event.Act.TheVariants.{Take, Report, Done, Close}
+use Rattle.fq_model.specs.declared.event.Act.TheVariants.{Take, Report, Done, Close, Weight, Workers}
+use Rattle.fq_model.specs.declared.event.Act.{Act}
 use Rattle.vt_fixed.specs.declared.limits.TheConstants.{GREATEST_COST, GREATEST_MOMENT}
-use Rattle.fq_model.specs.History.{History, Request, request_at, head, waiting, weight_at}
+use Rattle.fq_model.specs.History.{History, Request, request_at, head, waiting, weight_at, pool_at}
 use Rattle.fq_model.specs.Time.{last_moment, virtual_time, virtual_idle_time}
-use Rattle.fq_model.specs.Charge.{virtual_charge, estimate_at}
+use Rattle.fq_model.specs.Charge.{virtual_charge, completed, estimate_at}
 use Rattle.fq_model.specs.Keys.{HeadKeys, keys_at, start, start_for, tag, IsChoiceAt}
 use Rattle.fq_model.specs.Rules.{IsLegal, IsChosen, take_refusal}
-use Rattle.fq_laws.specs.Words.{one_more}
+use Rattle.fq_laws.specs.Words.{one_more, is_quiet}
 use Rattle.fq_laws.specs.Steps.{Submits, Completes}
 use Rattle.fq_laws.proofs.Charge.Estimates.{estimate_range}
 use Rattle.fq_laws.proofs.History.Requests.{request_known}
 use Rattle.fq_laws.proofs.Keys.Choices.{head_keys_are, no_head_no_keys, keys_tenant_known}
 use Rattle.fq_laws.proofs.Keys.Tags.{start_within}
 use Rattle.fq_laws.proofs.Rules.Limits.{last_moment_small}
-use Rattle.fq_laws.proofs.Rules.Refusals.{take_may}
+use Rattle.fq_laws.proofs.Rules.Refusals.{take_free}
 use Rattle.fq_laws.proofs.Rules.Takes.{keys_head, choice_head}
 use Rattle.fq_laws.proofs.Time.Clock.{virtual_time_step}
+use Rattle.fq_laws.proofs.History.Weights.{weight_step, pool_step}
 use Rattle.charge_book.specs.declared.row.RunRow.{RunRow}
 use Rattle.charge_book.specs.Book.{row_of_run, begun, reported, report_change, finished, finish_change}
-use Rattle.charge_book.proofs.Steps.{book_submit}
-use Rattle.rival_policies.specs.Tables.{ChooserView, NoneHas, IsTableChoice, asked_at}
+use Rattle.charge_book.proofs.Steps.{book_submit, book_quiet}
+use Rattle.tag_rules.proofs.AccountSteps.{accounts_quiet}
+use Rattle.rival_policies.specs.Tables.{ChooserView, Setting, setting_at, with_workers, resized, NoneHas, IsTableChoice, asked_at}
 use Rattle.tag_rules.specs.Accounts.{raised, charged}
 use Rattle.virtual_clock.specs.declared.times.Times.{Times}
-use Rattle.virtual_clock.specs.Histories.{TimesAre, PassOn, IsTimeOf}
+use Rattle.virtual_clock.specs.Histories.{TimesAre, PassOn, IsTimeOf, IsWeightOf}
 use Rattle.waiting_lists.specs.declared.item.Item.{Item}
 use Rattle.waiting_lists.specs.Lists as lists
 use Rattle.sched_state.specs.declared.tracker.Tracker.{Tracker}
 use Rattle.sched_state.specs.Costs.{CostsAre}
 use Rattle.sched_state.specs.Tracker.{Mirrors, Tracks, TracksBut, TracksSomeBut, submit_act}
-use Rattle.sched_state.proofs.ListLemmas.{item_head, no_item_head, first_is, lists_report, lists_done, pushed, taken}
-use Rattle.sched_state.proofs.CostLemmas.{costs_stay}
+use Rattle.sched_state.proofs.ListLemmas.{item_head, no_item_head, first_is, lists_report, lists_done, lists_quiet, pushed, taken}
+use Rattle.sched_state.proofs.CostLemmas.{costs_stay, completed_quiet}
 use Rattle.sched_state.proofs.ChargeLemmas.{accounts_submit, step_accounts, BeginStep, ReportStep, FinishStep}
-use Rattle.sched_state.proofs.KeyLemmas.{keys_of_others, latest_at, choice_is, nothing_waits}
+use Rattle.sched_state.proofs.KeyLemmas.{keys_of_others, setting_stays, latest_at, choice_is, nothing_waits}
 
 -- ---- where a tenant starts
 
@@ -90,8 +93,7 @@ module _ {J X : Type 0} (label : J → ℕ) (C : Config) (P : History) (t : ℕ)
     estimate_low estimate e = rw e (estimate_range C P i.request (record { tenant = t; kind = i.kind; declared = i.declared; label = label i.job }) m.limits m.legal was_asked).1
 
     -- and these are its keys
-    pub head_keys : (z : ℤ) (estimate weight : ℕ) (found : HeadKeys) → z ≡ pos (start C P (last_moment P) t) → estimate ≡ estimate_at C P t i.kind i.declared → weight ≡ slice_index C.weights t → found ≡ record { start = to_z w128 (of_z w128 z); len = pos (length_of estimate weight); request = i.request } → ◌≡◌ {A = Option HeadKeys} (Some found) (keys_at C P (last_moment P) t)
-    unfolding weight_at
+    pub head_keys : (z : ℤ) (estimate weight : ℕ) (found : HeadKeys) → z ≡ pos (start C P (last_moment P) t) → estimate ≡ estimate_at C P t i.kind i.declared → weight ≡ weight_at C P t → found ≡ record { start = to_z w128 (of_z w128 z); len = pos (length_of estimate weight); request = i.request } → ◌≡◌ {A = Option HeadKeys} (Some found) (keys_at C P (last_moment P) t)
     head_keys z estimate weight found starts costs weighs is = ap (λ (x : HeadKeys). Some x) (is ∙ rw (handed_on z (start C P (last_moment P) t) starts start_low, costs, weighs) refl) ∙ sym (head_keys_are C P (last_moment P) t i.request (record { tenant = t; kind = i.kind; declared = i.declared; label = label i.job }) is_head was_asked)
 
 -- ---- after an entry that concerns one tenant
@@ -117,7 +119,7 @@ module _ {J X : Type 0} (label : J → ℕ) (seen : X → ChooserView) (C : Conf
           times_are = times;
         };
         tenant_known = l.3.tenant_known;
-        chooser_is = rw chooses (keys_of_others C P e (seen k.chooser) (seen k.chooser) (λ u. u ≢ t) o.limits l (λ u ne. ne_eqb t u (λ x. ne (sym x))) old.chooser_is refl refl (latest_at C P m (seen k.chooser) l.1 old.chooser_is));
+        chooser_is = rw chooses (keys_of_others C P e (seen k.chooser) (seen k.chooser) (λ u. u ≢ t) o.limits l (λ u ne. ne_eqb t u (λ x. ne (sym x))) old.chooser_is (setting_stays C P e (seen k.chooser) (pool_step C P e) old.chooser_is) refl (latest_at C P m (seen k.chooser) l.1 old.chooser_is));
       }
 
   -- a Report of a use of what the row is of
@@ -136,7 +138,7 @@ module _ {J X : Type 0} (label : J → ℕ) (seen : X → ChooserView) (C : Conf
           times_are = passes C P e (record { moment_is = refl; act_passes = refl }) o.times_are;
         };
         tenant_known = x.step.tenant_known;
-        chooser_is = rw chooses (keys_of_others C P e (seen k.chooser) (seen k.chooser) (λ u. u ≢ row.tenant) o.limits x.step.legal x.others old.chooser_is refl refl (latest_at C P m (seen k.chooser) x.step.legal.1 old.chooser_is));
+        chooser_is = rw chooses (keys_of_others C P e (seen k.chooser) (seen k.chooser) (λ u. u ≢ row.tenant) o.limits x.step.legal x.others old.chooser_is (setting_stays C P e (seen k.chooser) (pool_step C P e) old.chooser_is) refl (latest_at C P m (seen k.chooser) x.step.legal.1 old.chooser_is));
       }
 
   -- a Done of what the row is of
@@ -155,7 +157,7 @@ module _ {J X : Type 0} (label : J → ℕ) (seen : X → ChooserView) (C : Conf
           times_are = follow e x.completes x.step.legal;
         };
         tenant_known = x.step.tenant_known;
-        chooser_is = rw chooses (keys_of_others C P e (seen k.chooser) (seen k.chooser) (λ u. u ≢ row.tenant) o.limits x.step.legal x.others old.chooser_is refl refl (latest_at C P m (seen k.chooser) x.step.legal.1 old.chooser_is));
+        chooser_is = rw chooses (keys_of_others C P e (seen k.chooser) (seen k.chooser) (λ u. u ≢ row.tenant) o.limits x.step.legal x.others old.chooser_is (setting_stays C P e (seen k.chooser) (pool_step C P e) old.chooser_is) refl (latest_at C P m (seen k.chooser) x.step.legal.1 old.chooser_is));
       }
 
   -- a Take of the item i of tenant t
@@ -174,18 +176,71 @@ module _ {J X : Type 0} (label : J → ℕ) (seen : X → ChooserView) (C : Conf
           times_are = passes C P e (record { moment_is = refl; act_passes = refl }) o.times_are;
         };
         tenant_known = x.step.tenant_known;
-        chooser_is = keys_of_others C P e (seen k.chooser) (seen n.chooser) (λ u. u ≢ t) o.limits x.step.legal x.others old.chooser_is (ap (λ (y : ChooserView). y.setting) chooses) (ap (λ (y : ChooserView). y.table) chooses) (rw chooses (omega (arith, ints, at)));
+        chooser_is = keys_of_others C P e (seen k.chooser) (seen n.chooser) (λ u. u ≢ t) o.limits x.step.legal x.others old.chooser_is (ap (λ (y : ChooserView). y.setting) chooses ∙ setting_stays C P e (seen k.chooser) (pool_step C P e) old.chooser_is) (ap (λ (y : ChooserView). y.table) chooses) (rw chooses (omega (arith, ints, at)));
       }
+
+-- ---- after an entry that touches no request
+
+module _ {J X : Type 0} (label : J → ℕ) (C : Config) (P : History) (k n : Tracker J X) (old : Mirrors label C P k) where
+  pub mirrors_quiet : (who m : ℕ) (a : Act) → is_quiet a ≡ true → IsLegal C (one_more who m a P) → TimesAre C (one_more who m a P) n.times → n.lists ≡ k.lists → n.book ≡ k.book → n.accounts ≡ k.accounts → n.costs ≡ k.costs → Mirrors label C (one_more who m a P) n
+  mirrors_quiet who m a q l times listed books accounts costs = record {
+    limits = old.limits;
+    legal = l;
+    lists_are = rw listed (lists_quiet label C P who m a k.lists q l old.lists_are);
+    book_is = rw books (book_quiet C P k.book who m a q old.book_is);
+    accounts_are = rw accounts (accounts_quiet C P k.accounts who m a q old.accounts_are);
+    costs_are = rw costs (costs_stay C P (one_more who m a P) k.costs old.costs_are (completed_quiet P a (completed P) q));
+    times_are = times;
+  }
+
+-- a Weight may change the keys of its tenant
+pub reweigh_but : {J X : Type 0} (label : J → ℕ) (seen : X → ChooserView) (C : Config) (P : History) (k n : Tracker J X) (who m t w : ℕ) → Tracks label seen C P k → IsLegal C (one_more who m (Weight t w) P) → TimesAre C (one_more who m (Weight t w) P) n.times → n.lists ≡ k.lists → n.book ≡ k.book → n.accounts ≡ k.accounts → n.costs ≡ k.costs → n.chooser ≡ k.chooser → TracksBut label seen t C (one_more who m (Weight t w) P) n
+reweigh_but label seen C P k n who m t w old l times listed books accounts costs chooses =
+    let e : Entry = record { who = who; moment = m; act = Weight t w } in
+    record {
+      mirrors = mirrors_quiet label C P k n old.mirrors who m (Weight t w) refl l times listed books accounts costs;
+      tenant_known = l.3.tenant_known;
+      chooser_is = rw chooses (keys_of_others C P e (seen k.chooser) (seen k.chooser) (λ u. u ≢ t) old.mirrors.limits l (λ u ne. ne_eqb t u (λ x. ne (sym x))) old.chooser_is (setting_stays C P e (seen k.chooser) (pool_step C P e) old.chooser_is) refl (latest_at C P m (seen k.chooser) l.1 old.chooser_is));
+    }
+
+-- a Close changes no keys
+pub close_tracks : {J X : Type 0} (label : J → ℕ) (seen : X → ChooserView) (C : Config) (P : History) (k n : Tracker J X) (who m : ℕ) → Tracks label seen C P k → IsLegal C (one_more who m Close P) → PassOn m k.times n.times → n.lists ≡ k.lists → n.book ≡ k.book → n.accounts ≡ k.accounts → n.costs ≡ k.costs → n.chooser ≡ k.chooser → Tracks label seen C (one_more who m Close P) n
+close_tracks label seen C P k n who m old l passes listed books accounts costs chooses =
+    let e : Entry = record { who = who; moment = m; act = Close } in
+    record {
+      mirrors = mirrors_quiet label C P k n old.mirrors who m Close refl l (passes C P e (record { moment_is = refl; act_passes = refl }) old.mirrors.times_are) listed books accounts costs;
+      chooser_is = rw chooses (keys_of_others C P e (seen k.chooser) (seen k.chooser) (λ t. Unit {0}) old.mirrors.limits l (λ u among. refl) old.chooser_is (setting_stays C P e (seen k.chooser) (pool_step C P e) old.chooser_is) refl (latest_at C P m (seen k.chooser) l.1 old.chooser_is));
+    }
+
+-- nor does a Workers, which changes the setting
+pub workers_tracks : {J X : Type 0} (label : J → ℕ) (seen : X → ChooserView) (C : Config) (P : History) (k n : Tracker J X) (who m count : ℕ) → Tracks label seen C P k → IsLegal C (one_more who m (Workers count) P) → TimesAre C (one_more who m (Workers count) P) n.times → n.lists ≡ k.lists → n.book ≡ k.book → n.accounts ≡ k.accounts → n.costs ≡ k.costs → seen n.chooser ≡ resized (seen k.chooser) count → Tracks label seen C (one_more who m (Workers count) P) n
+workers_tracks label seen C P k n who m count old l times listed books accounts costs chooses =
+    let e : Entry = record { who = who; moment = m; act = Workers count } in
+    record {
+      mirrors = mirrors_quiet label C P k n old.mirrors who m (Workers count) refl l times listed books accounts costs;
+      chooser_is = rw chooses (keys_of_others C P e (seen k.chooser) (resized (seen k.chooser) count) (λ t. Unit {0}) old.mirrors.limits l (λ u among. refl) old.chooser_is (ap (λ (s : Setting). with_workers s count) old.chooser_is.setting_is ∙ ap (setting_at C) (sym (pool_step C P e))) refl (latest_at C P m (seen k.chooser) l.1 old.chooser_is));
+    }
 
 -- ---- what a worker takes
 
-module _ {J X : Type 0} (label : J → ℕ) (seen : X → ChooserView) (C : Config) (P : History) (m w : ℕ) (k : Tracker J X) (old : Tracks label seen C P k) (later : last_moment P ≤ m) (in_range : m ≤ GREATEST_MOMENT) (free : take_refusal C P w ≡ None) (some : waiting P ≢ 0) where
+module _ {J X : Type 0} (label : J → ℕ) (seen : X → ChooserView) (C : Config) (P : History) (m w : ℕ) (k : Tracker J X) (old : Tracks label seen C P k) (later : last_moment P ≤ m) (in_range : m ≤ GREATEST_MOMENT) (free : take_refusal C P w ≡ None) (pooled : w < pool_at C P) (some : waiting P ≢ 0) where
   -- virtual time at the moment, after the clock has come to it, as it is handed on
   pub time_at : (times : Times) (v : ℤ) → PassOn m k.times times → IsTimeOf times v → pos 0 ≤ℤ v → v ≤ℤ pos 67108864000000000000000 → to_z w128 (of_z w128 v) ≡ pos (virtual_time C P m)
   time_at times v passes shows low high =
       let e : Entry = record { who = 0; moment = m; act = Close } in
       let at : v ≡ pos (virtual_time C P m) = shows C (e ∷ P) (passes C P e (record { moment_is = refl; act_passes = refl }) old.mirrors.times_are) ∙ ap pos (virtual_time_step C P e) in
       omega (arith, ints, at, low, high)
+
+  -- and the weight of a tenant there
+  pub weighed_there : (times : Times) (t : ℕ) → PassOn m k.times times → t < length C.weights → t < length times.weights
+  weighed_there times t passes known =
+      let e : Entry = record { who = 0; moment = m; act = Close } in
+      omega (arith, known, (passes C P e (record { moment_is = refl; act_passes = refl }) old.mirrors.times_are).weights_are.tenants)
+
+  pub weight_there : (times : Times) (t weight : ℕ) → PassOn m k.times times → IsWeightOf times t weight → t < length C.weights → weight ≡ weight_at C P t
+  weight_there times t weight passes shows known =
+      let e : Entry = record { who = 0; moment = m; act = Close } in
+      shows C (e ∷ P) (passes C P e (record { moment_is = refl; act_passes = refl }) old.mirrors.times_are) known ∙ weight_step C P e t
 
   -- the tenant is chosen
   pub record Turns (t : ℕ) : Type 0 where
@@ -214,7 +269,7 @@ module _ {J X : Type 0} (label : J → ℕ) (seen : X → ChooserView) (C : Conf
       record { tenant = t; keys = x.keys; choice = x.choice; request_is = cc; asked = was_asked label C P t k old.mirrors x.known i top; estimate_is = costs }
 
   pub legal_take : (who t estimate : ℕ) (i : Item J) → IsChosen C P m w i.request estimate (record { tenant = t; kind = i.kind; declared = i.declared; label = label i.job }) → IsLegal C (one_more who m (Take w i.request estimate) P)
-  legal_take who t estimate i chosen = let may = take_may C P w old.mirrors.legal free in (old.mirrors.legal, later, in_range, record { worker_known = may.worker_known; free = may.free; asked = _; chosen = chosen })
+  legal_take who t estimate i chosen = (old.mirrors.legal, later, in_range, record { worker_known = pooled; free = take_free C P w old.mirrors.legal free; asked = _; chosen = chosen })
 
   -- something is chosen
   pub some_chosen : (o : Option ℕ) → IfNone o (NoneHas (seen k.chooser).table) → IsSome o
@@ -222,9 +277,6 @@ module _ {J X : Type 0} (label : J → ℕ) (seen : X → ChooserView) (C : Conf
   some_chosen None none = absurd (some (nothing_waits C P m (seen k.chooser) old.mirrors.legal old.chooser_is none))
 
 -- ---- what is asked for and given, by a configuration that was read
-
-pub read_weights : {C D : Config} → D ≡ C → (t : ℕ) → slice_index D.weights t ≡ slice_index C.weights t
-read_weights read t = ap (λ (B : Config). slice_index B.weights t) read
 
 module _ {J X : Type 0} (label : J → ℕ) (seen : X → ChooserView) {C D : Config} {P : History} {t : ℕ} {k : Tracker J X} (read : D ≡ C) (but : TracksBut label seen t C P k) where
   pub some_but : TracksSomeBut label seen t D k

@@ -6,7 +6,7 @@ use Rattle.fq_model.specs.declared.event.Cause.{Cause}
 use Rattle.fq_model.specs.declared.event.Entry.{Entry}
 use Rattle.fq_model.specs.Limits.{InLimits}
 use Rattle.fq_model.specs.History.{History, history_of, waiting}
-use Rattle.fq_model.specs.Rules.{IsLegal, needed_room, submit_refusal}
+use Rattle.fq_model.specs.Rules.{IsLegal, needed_room, submit_refusal, weight_refusal, workers_refusal}
 use Rattle.fq_laws.specs.Words.{one_more}
 use Rattle.sched_state.specs.declared.tally.Tally.{Tally}
 use Rattle.sched_state.specs.Tally.{TallyIs}
@@ -35,6 +35,14 @@ IsRoomFor j backlog more room = backlog ≡ waiting (history j) → room ≡ nat
 -- where so many requests wait, why a submit is refused, if it is
 abbrev pub RefusesSubmit : JournalView → ℕ → ℕ → ℕ → ℕ → Option Cause → Type 0
 RefusesSubmit j backlog tenant kind declared cause = backlog ≡ waiting (history j) → cause ≡ submit_refusal j.config (history j) tenant kind declared
+
+-- where so many requests wait, why a weight is refused, if it is
+abbrev pub RefusesWeight : JournalView → ℕ → ℕ → ℕ → Option Cause → Type 0
+RefusesWeight j backlog tenant weight cause = backlog ≡ waiting (history j) → cause ≡ weight_refusal j.config (history j) tenant weight
+
+-- where so many requests wait, why a number of workers is refused, if it is
+abbrev pub RefusesWorkers : JournalView → ℕ → ℕ → Option Cause → Type 0
+RefusesWorkers j backlog count cause = backlog ≡ waiting (history j) → cause ≡ workers_refusal j.config (history j) count
 
 -- its configuration is in its limits, it keeps a legal history and has room for all entries that may come, and its tally is that of the history
 pub record KeepsJournal (C : Config) (past : List Entry) (capacity : ℕ) (tally : Tally) : Type 0 where

@@ -22,14 +22,15 @@ submit_reply (Err refused) = answer.Refused refused.cause
 abbrev pub take_reply : {J : Type 0} → (J → ℕ) → Taken J → Reply
 take_reply label (taken.UnknownWorker worker) = answer.Refused (cause.Worker worker)
 take_reply label (taken.Busy request) = answer.Refused (cause.Busy request)
+take_reply label (taken.Retired workers) = answer.Retired workers
 take_reply label (taken.Run request estimate job) = answer.Run request estimate (label job)
 take_reply label taken.Drained = answer.Drained
 take_reply label taken.Idle = answer.Idle
 
--- of a Report and of a Done
-abbrev pub use_reply : Result (Unit {0}) Cause → Reply
-use_reply (Ok accepted) = answer.Accepted
-use_reply (Err why) = answer.Refused why
+-- of a Report, a Done, a Weight and a Workers
+abbrev pub change_reply : Result (Unit {0}) Cause → Reply
+change_reply (Ok accepted) = answer.Accepted
+change_reply (Err why) = answer.Refused why
 
 abbrev pub close_reply : Result (Unit {0}) AlreadyClosed → Reply
 close_reply (Ok closed) = answer.Accepted

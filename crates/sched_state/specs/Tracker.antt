@@ -6,7 +6,7 @@ use Rattle.fq_model.specs.declared.config.Config.{Config}
 use Rattle.fq_model.specs.declared.event.Act.{Act}
 use Rattle.fq_model.specs.declared.event.Act.TheVariants.{Submit, Take}
 use Rattle.fq_model.specs.Limits.{InLimits}
-use Rattle.fq_model.specs.History.{History, Request, waiting}
+use Rattle.fq_model.specs.History.{History, Request, waiting, pool_at}
 use Rattle.fq_model.specs.Time.{last_moment}
 use Rattle.fq_model.specs.Rules.{IsLegal, IsChosen, take_refusal, done_refusal}
 use Rattle.fq_laws.specs.Words.{one_more}
@@ -67,6 +67,7 @@ pub record MayBegin (j : JournalView) (m worker : ℕ) : Type 0 where
   pub later : last_moment (history j) ≤ m
   pub in_range : m ≤ GREATEST_MOMENT
   pub free : take_refusal j.config (history j) worker ≡ None
+  pub pooled : worker < pool_at j.config (history j)
   pub some_waits : waiting (history j) ≢ 0
 
 -- the worker takes this item, which is its turn at m, at this estimate: it waits no longer, and all else follows its Take

@@ -93,6 +93,8 @@ pub enum Taken<J> {
     UnknownWorker(u32),
     /// The worker runs this request already.
     Busy(u32),
+    /// There are so many workers now, and this one is not among them; it may ask again.
+    Retired(u32),
     /// The worker runs this request from now on; it is charged this estimate, in microseconds.
     Run { request: u32, estimate: u64, job: J },
     /// Nothing waits, and nothing more will come.

@@ -5,7 +5,7 @@ ghost use Rattle.fq_model.specs.declared.event.Call.TheVariants as call;
 ghost use Rattle.fq_model.specs.History.{history_of};
 ghost use Rattle.fq_model.specs.Rules.{IsLegal};
 ghost use Rattle.sched_state.specs.Lists.{HoldsWaiting};
-ghost use Rattle.sched_state.specs.Replies.{submit_reply, take_reply, use_reply, close_reply, AnswersCall, HandsOut};
+ghost use Rattle.sched_state.specs.Replies.{submit_reply, take_reply, change_reply, close_reply, AnswersCall, HandsOut};
 
 use crate::journal::Journal;
 use crate::replies::{AlreadyClosed, NoMemory, Refused, Taken};
@@ -21,7 +21,7 @@ use waiting_lists::item::Item;
 /// One history, from its opening on, and the jobs of the requests that wait in it. Contracts see the entries in
 /// order of time, and the jobs by the numbers of their requests. Whoever makes a call names itself by `who`, which
 /// is written down and not looked at, and its clock by `moment`, in microseconds. A call that is answered by
-/// a refusal, by `Idle` or by `Drained` changes nothing; each other call adds one entry. No call looks back at
+/// a refusal, by `Idle`, `Drained` or `Retired` changes nothing; each other call adds one entry. No call looks back at
 /// the entries: what it needs of them is kept, and `X` chooses among the heads of the tenants.
 #[derive(Drop)]
 pub struct Scheduler<J: Job, X: Chooser> {
@@ -100,7 +100,8 @@ impl<J: Job + Drop, X: Chooser> Scheduler<J, X> {
         Ok(request)
     }
 
-    /// A worker asks for work, and gets the job of the request that is its turn, if one waits.
+    /// A worker asks for work, and gets the job of the request that is its turn, if one waits and the worker is below the
+    /// number of workers now.
     pub fn take(&mut self, who: u32, moment: u64, worker: u32) -> Taken<J>
         ensures answers { AnswersCall self.old (call.Take who moment worker) (take_reply J.label_of result) self.new }
         ensures jobs { HandsOut self.old result self.new }
@@ -110,6 +111,10 @@ impl<J: Job + Drop, X: Chooser> Scheduler<J, X> {
         }
         if let Some(row) = self.tracker.book.running(worker) {
             return Taken::Busy(row.request);
+        }
+        let workers = self.tracker.times.workers();
+        if worker >= workers {
+            return Taken::Retired(workers);
         }
         if self.tracker.lists.len() == 0 {
             return if self.journal.is_closed() {
@@ -139,7 +144,7 @@ impl<J: Job + Drop, X: Chooser> Scheduler<J, X> {
     /// the worker runs nothing, where the use is above the greatest cost or below what was reported before, and where
     /// the entries that are left are needed for what is submitted.
     pub fn report(&mut self, who: u32, moment: u64, worker: u32, used: u64) -> Result<(), Cause>
-        ensures answers { AnswersCall self.old (call.Report who moment worker used) (use_reply result) self.new }
+        ensures answers { AnswersCall self.old (call.Report who moment worker used) (change_reply result) self.new }
         ensures jobs { self.new.jobs ≡ self.old.jobs }
         ensures unchanged { OnErr result (self.new ≡ self.old) }
     {
@@ -161,7 +166,7 @@ impl<J: Job + Drop, X: Chooser> Scheduler<J, X> {
 
     /// The worker's request has ended, and this is its measured cost, in microseconds.
     pub fn done(&mut self, who: u32, moment: u64, worker: u32, cost: u64) -> Result<(), Cause>
-        ensures answers { AnswersCall self.old (call.Done who moment worker cost) (use_reply result) self.new }
+        ensures answers { AnswersCall self.old (call.Done who moment worker cost) (change_reply result) self.new }
         ensures jobs { self.new.jobs ≡ self.old.jobs }
         ensures unchanged { OnErr result (self.new ≡ self.old) }
     {
@@ -189,6 +194,47 @@ impl<J: Job + Drop, X: Chooser> Scheduler<J, X> {
         let moment = self.journal.effective(moment);
         self.tracker.times.pass(moment);
         let act = Act::Close;
+        self.journal.enter(Entry { who, moment, act });
+        Ok(())
+    }
+
+    /// The tenant has this weight from here on, 1 to 1,000. What it runs stays charged at the weight that it had at the
+    /// Take; its heads are measured by the new one. May be called after a close, too. Refused, by the first of these that is
+    /// so: where no tenant has this number, where the weight is out of its range, and where the entries that are left are
+    /// needed for what is submitted.
+    pub fn weight(&mut self, who: u32, moment: u64, tenant: u32, weight: u32) -> Result<(), Cause>
+        ensures answers { AnswersCall self.old (call.Weight who moment tenant weight) (change_reply result) self.new }
+        ensures jobs { self.new.jobs ≡ self.old.jobs }
+        ensures unchanged { OnErr result (self.new ≡ self.old) }
+    {
+        let backlog = self.tracker.lists.len();
+        if let Some(cause) = self.journal.weight_refusal(backlog, tenant, weight) {
+            return Err(cause);
+        }
+        let moment = self.journal.effective(moment);
+        self.tracker.reweigh(&self.journal, moment, tenant, weight);
+        let act = Act::Weight { tenant, weight };
+        self.journal.enter(Entry { who, moment, act });
+        Ok(())
+    }
+
+    /// There are so many workers from here on: those with lower numbers. There may be 1 to as many as the scheduler was
+    /// opened with. A worker above them ends what it runs, and is then told that it is retired. May be called after a
+    /// close, too. Refused, by the first of these that is so: where the number is out of its range, and where the entries
+    /// that are left are needed for what is submitted.
+    pub fn workers(&mut self, who: u32, moment: u64, count: u32) -> Result<(), Cause>
+        ensures answers { AnswersCall self.old (call.Workers who moment count) (change_reply result) self.new }
+        ensures jobs { self.new.jobs ≡ self.old.jobs }
+        ensures unchanged { OnErr result (self.new ≡ self.old) }
+    {
+        let backlog = self.tracker.lists.len();
+        if let Some(cause) = self.journal.workers_refusal(backlog, count) {
+            return Err(cause);
+        }
+        let moment = self.journal.effective(moment);
+        self.tracker.times.staff(moment, count);
+        self.tracker.chooser.resize(count);
+        let act = Act::Workers { count };
         self.journal.enter(Entry { who, moment, act });
         Ok(())
     }

@@ -35,9 +35,9 @@ impl Tally {
         match act {
             Act::Submit { .. } => self.submits += 1,
             Act::Take { .. } => self.running += 1,
-            Act::Report { .. } => {}
             Act::Done { .. } => self.running -= 1,
             Act::Close => self.closed = true,
+            Act::Report { .. } | Act::Weight { .. } | Act::Workers { .. } => {}
         }
     }
 }

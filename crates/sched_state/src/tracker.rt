@@ -32,7 +32,8 @@ use waiting_lists::lists::Lists;
 
 /// The waiting requests and their jobs, what runs and what is charged for it, the estimator, virtual time, and a chooser
 /// with the keys of every tenant's head: at each call what the definitions say of the history, so that nothing looks back
-/// at its entries. Each call but a Close, which changes `times` alone, is told the journal as it is before the call's entry.
+/// at its entries. Each call is told the journal as it is before the call's entry. A Close changes `times` alone, and a
+/// Workers `times` and `chooser`, by calls of these parts.
 #[derive(Drop)]
 pub struct Tracker<J, X> {
     pub lists: Lists<J>,
@@ -81,7 +82,7 @@ impl<J: Job + Drop, X: Chooser> Tracker<J, X> {
         ensures jobs { jobs_in self.new.lists.lists
             ≡ map.insert (jobs_in self.old.lists.lists) item.request item.job }
     {
-        self.times.submit(journal.config(), moment, tenant);
+        self.times.submit(moment, tenant);
         raise_first(&mut self.accounts, &self.lists, tenant, self.times.now());
         self.lists.push(tenant, item).unwrap();
         self.renew(journal.config(), tenant);
@@ -98,7 +99,7 @@ impl<J: Job + Drop, X: Chooser> Tracker<J, X> {
         let tenant = self.chooser.choose(worker, self.times.now()).unwrap();
         let item = self.lists.pop(tenant).unwrap();
         let estimate = self.costs.now(tenant, item.kind, item.declared);
-        let weight = journal.config().weight(tenant);
+        let weight = self.times.weight(tenant);
         let change = self
             .book
             .begin(worker, item.request, tenant, item.kind, weight, estimate);
@@ -134,8 +135,19 @@ impl<J: Job + Drop, X: Chooser> Tracker<J, X> {
         let correction = self.book.record_cost(worker, row, cost);
         self.accounts.charge(row.tenant, correction);
         self.costs.learn(row.tenant, row.kind, cost);
-        self.times.done(journal.config(), moment, row.tenant);
+        self.times.done(moment, row.tenant);
         self.renew(journal.config(), row.tenant);
+    }
+
+    /// The tenant has this weight from this moment on, in microseconds.
+    pub fn reweigh(&mut self, journal: &Journal, moment: u64, tenant: u32, weight: u32)
+        requires tracked { Tracks J.label_of X.seen journal.now.config (history journal.now) self.old }
+        requires legal { MayGain journal.now moment (act.Weight tenant weight) }
+        ensures tracked { TracksAfter J.label_of X.seen journal.now moment (act.Weight tenant weight) self.new }
+        ensures lists { self.new.lists ≡ self.old.lists }
+    {
+        self.times.reweigh(moment, tenant, weight);
+        self.renew(journal.config(), tenant);
     }
 
     // Gives the chooser the keys of the tenant's head, which alone may be another.
@@ -158,7 +170,8 @@ impl<J: Job + Drop, X: Chooser> Tracker<J, X> {
         let item = self.lists.head(tenant)?;
         let estimate = self.costs.now(tenant, item.kind, item.declared);
         let start = self.start(config, tenant);
-        Some(keys(start, estimate, config.weight(tenant), item.request))
+        let weight = self.times.weight(tenant);
+        Some(keys(start, estimate, weight, item.request))
     }
 
     // Where the tenant starts, in steps.

@@ -1,6 +1,7 @@
 use Rattle.std.proofs.Common.{refl, sym}
 use Rattle.sched_state.specs.Journal.{history}
-use Rattle.sched_state.proofs.CallLemmas.{entered, close_tracks}
+use Rattle.sched_state.proofs.CallLemmas.{entered}
+use Rattle.sched_state.proofs.TrackerLemmas.{close_tracks}
 use Rattle.sched_state.proofs.scheduler.Scheduler.close.Goals as goal
 
 pub invariant_of-self : goal.invariant_of-self

@@ -1,10 +1,7 @@
-use Rattle.std.proofs.Common.{ℕ, arith, refl, sym, subst}
-use Rattle.fq_model.specs.declared.config.Config.{Config}
+use Rattle.std.proofs.Common.{ℕ, arith, refl}
 use Rattle.fq_model.specs.declared.event.Act.TheVariants.{Done}
 use Rattle.fq_model.specs.Charge.{completed}
 use Rattle.fq_laws.specs.Words.{one_more}
-use Rattle.fq_laws.specs.Steps.{Awaits, Follows, Completes}
-use Rattle.virtual_clock.specs.Histories.{TimesAre}
 use Rattle.sched_state.specs.Journal.{history}
 use Rattle.sched_state.specs.Tracker.{TracksBut}
 use Rattle.sched_state.proofs.ChargeLemmas.{finish_step, step_sized, step_charge}
@@ -32,19 +29,18 @@ pub done-requires : goal.done-requires
 done-requires g c =
     let m = c.requires.tracked.mirrors in
     let x = finish_step c.args.journal.now.config (history c.args.journal.now) c.args.self.now.book c.args.self.now.accounts 0 c.args.moment c.args.worker c.args.cost c.args.row m.limits (c.requires.legal 0) m.book_is m.accounts_are c.requires.row.row_is in
-    subst (λ (C : Config). Awaits C TimesAre (Completes c.args.moment c.args.row.tenant) c.args.self.now.times) (sym c.config.ensures.config) (record { history = history c.args.journal.now; entry = _; limits = m.limits; legal = c.requires.legal 0; comes = x.completes; kept_is = m.times_are })
+    record { config = c.args.journal.now.config; history = history c.args.journal.now; entry = _; limits = m.limits; legal = c.requires.legal 0; comes = x.completes; kept_is = m.times_are }
 
 -- what is kept is that of the longer history, but for the keys of the tenant
 but : (g : given.Over) (c : After-done g) (who : ℕ) → TracksBut g.J.Job.label_of g.X.Chooser.seen c.args.row.tenant c.args.journal.now.config (one_more who c.args.moment (Done c.args.worker c.args.row.request c.args.cost) (history c.args.journal.now)) (record { lists = c.args.self.now.lists; book = c.record_cost-correction.new.self; accounts = c.charge.new.self; costs = c.learn.new.self; times = c.done.new.self; chooser = c.args.self.now.chooser })
 but g c who =
     let m = c.requires.tracked.mirrors in
     let x = finish_step c.args.journal.now.config (history c.args.journal.now) c.args.self.now.book c.args.self.now.accounts who c.args.moment c.args.worker c.args.cost c.args.row m.limits (c.requires.legal who) m.book_is m.accounts_are c.requires.row.row_is in
-    let follows = subst (λ (C : Config). Follows C TimesAre (Completes c.args.moment c.args.row.tenant) c.args.self.now.times c.done.new.self) c.config.ensures.config c.done.ensures in
     let l = c.learn.ensures in
-    done_but g.J.Job.label_of g.X.Chooser.seen c.args.journal.now.config (history c.args.journal.now) c.args.self.now _ c.requires.tracked who c.args.moment c.args.worker c.args.cost c.args.row c.record_cost-correction.result x (λ e comes legal. follows (history c.args.journal.now) e m.limits legal comes m.times_are) c.record_cost-correction.ensures.change c.record_cost-correction.ensures.book c.charge.ensures (costs_learned c.args.journal.now.config (history c.args.journal.now) _ (record { tenant = c.args.row.tenant; kind = c.args.row.kind; cost = c.args.cost }) c.args.self.now.costs c.learn.new.self m.costs_are x.completed_is l.rule l.initial l.tenants l.kinds (l.learned (completed (history c.args.journal.now)) m.costs_are.learned)) refl refl
+    done_but g.J.Job.label_of g.X.Chooser.seen c.args.journal.now.config (history c.args.journal.now) c.args.self.now _ c.requires.tracked who c.args.moment c.args.worker c.args.cost c.args.row c.record_cost-correction.result x (λ e comes legal. c.done.ensures c.args.journal.now.config (history c.args.journal.now) e m.limits legal comes m.times_are) c.record_cost-correction.ensures.change c.record_cost-correction.ensures.book c.charge.ensures (costs_learned c.args.journal.now.config (history c.args.journal.now) _ (record { tenant = c.args.row.tenant; kind = c.args.row.kind; cost = c.args.cost }) c.args.self.now.costs c.learn.new.self m.costs_are x.completed_is l.rule l.initial l.tenants l.kinds (l.learned (completed (history c.args.journal.now)) m.costs_are.learned)) refl refl
 
 pub renew-requires : goal.renew-requires
-renew-requires g c = some_but g.J.Job.label_of g.X.Chooser.seen c.config-2.ensures.config (but g (goal.at.renew-requires g c).After-done 0)
+renew-requires g c = some_but g.J.Job.label_of g.X.Chooser.seen c.config.ensures.config (but g (goal.at.renew-requires g c).After-done 0)
 
 pub returns-clause-tracked : goal.returns-clause-tracked
-returns-clause-tracked g c = λ who. renewed g.J.Job.label_of g.X.Chooser.seen c.config-2.ensures.config (but g (goal.at.returns-clause-tracked g c).After-done who) c.renew.ensures.tracked
+returns-clause-tracked g c = λ who. renewed g.J.Job.label_of g.X.Chooser.seen c.config.ensures.config (but g (goal.at.returns-clause-tracked g c).After-done who) c.renew.ensures.tracked

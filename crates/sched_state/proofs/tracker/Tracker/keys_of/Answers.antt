@@ -32,5 +32,8 @@ keys-requires-clause-estimate_in_range g c =
     let m = c.requires.tracks.mirrors in
     estimate_low g.J.Job.label_of c.args.config.now c.requires.past c.args.tenant c.args.self.now m c.requires.tracks.tenant_known c.in_ok-item.item.now (sym c.head.ensures ∙ ap option_copied c.in_ok-item.was) c.now-estimate.result (estimated g (goal.at.keys-requires-clause-estimate_in_range g c).After-now-estimate c.requires.past m)
 
+pub weight-weight-requires : goal.weight-weight-requires
+weight-weight-requires g c = omega (arith, c.requires.tracks.mirrors.times_are.weights_are.tenants, c.requires.tracks.tenant_known)
+
 pub returns : goal.returns
-returns g c = λ P m. head_keys g.J.Job.label_of c.args.config.now P c.args.tenant c.args.self.now m c.requires.tracks.tenant_known c.in_ok-item.item.now (sym c.head.ensures ∙ ap option_copied c.in_ok-item.was) c.start-start.result c.now-estimate.result c.weight.result c.keys.result (c.start-start.ensures P m) (estimated g (goal.at.returns g c).After-now-estimate P m) c.weight.ensures.value c.keys.ensures
+returns g c = λ P m. head_keys g.J.Job.label_of c.args.config.now P c.args.tenant c.args.self.now m c.requires.tracks.tenant_known c.in_ok-item.item.now (sym c.head.ensures ∙ ap option_copied c.in_ok-item.was) c.start-start.result c.now-estimate.result c.weight-weight.result c.keys.result (c.start-start.ensures P m) (estimated g (goal.at.returns g c).After-now-estimate P m) (c.weight-weight.ensures.value c.args.config.now P m.times_are (c.requires.tracks.tenant_known)) c.keys.ensures
