@@ -1,10 +1,11 @@
 -- Names of tenants and kinds, each a list of bytes, numbered from 0 in the order in which they were added.
-use Rattle.std.specs.Prelude.{ℕ, ◌≡◌, ◌≢◌, ◌≤◌, nat_le, IsTrue, not, List, [], ◌∷◌, length, map, position, All, AllPairs, Option, Some, None, is_some, unwrap_or, Result, Ok, Err, bytes_eq}
+use Rattle.std.specs.Prelude.{ℕ, ◌≡◌, nat_le, not, List, [], ◌∷◌, length, map, All, Option, Some, None, is_some, unwrap_or, Result, Ok, Err}
 use Rattle.vt_fixed.specs.declared.limits.TheConstants.{GREATEST_WEIGHT}
 use Rattle.fq_model.specs.declared.limits.TheConstants.{MOST_TENANTS, MOST_KINDS}
 use Rattle.fq_model.specs.Rows.{first_true}
 use Rattle.fq_model.specs.Limits.{IsWeight, is_outside}
 use Rattle.fq_model.specs.Numbers.{is_name}
+pub use Rattle.fq_model.specs.Names.{number_among, AreNames}
 use Rattle.tenant_table.specs.declared.fault.NameFault.{NameFault}
 use Rattle.tenant_table.specs.declared.fault.NameFault.TheVariants.{Word, Weight, Twice, TooMany, NoMemory}
 
@@ -15,16 +16,6 @@ names_of tenants = map (λ t. t.0) tenants
 -- their weights, by number
 abbrev pub weights_of : List (List ℕ × ℕ) → List ℕ
 weights_of tenants = map (λ t. t.1) tenants
-
--- the number that has a name, if one has it
-abbrev pub number_among : List (List ℕ) → List ℕ → Option ℕ
-number_among names name = position (bytes_eq name) names
-
--- no more than so many, each of them a name, and no two the same
-pub record AreNames (limit : ℕ) (names : List (List ℕ)) : Type 0 where
-  pub few : length names ≤ limit
-  pub spelled : All (λ name. IsTrue (is_name name)) names
-  pub distinct : AllPairs ◌≢◌ names
 
 -- at most 4,096 names, and each weight from 1 to 1,000
 pub record AreTenants (tenants : List (List ℕ × ℕ)) : Type 0 where

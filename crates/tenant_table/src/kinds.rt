@@ -1,5 +1,6 @@
 //! The kinds' names.
-ghost use Rattle.std.specs.Prelude.{◌≡◌, ◌<◌, ◌==◌, ◌++◌, [], ◌∷◌, length, Some, None, IfErr, OnOk, OnErr, IfSome, IfNone, Contains, slice_get};
+ghost use Rattle.std.specs.Prelude.{◌≡◌, ◌<◌, ◌==◌, ◌++◌, [], ◌∷◌, IsTrue, length, Some, None, IfOk, OnOk, OnErr, IfSome, IfNone, Contains, slice_get};
+ghost use Rattle.fq_model.specs.Numbers.{is_name};
 ghost use Rattle.tenant_table.specs.Names.{number_among, AreNames, kind_refusal, IsAnswer};
 ghost use Rattle.tenant_table.specs.Rows.{kinds_of};
 
@@ -7,7 +8,7 @@ use crate::fault::NameFault;
 use crate::name::is_name;
 use fq_model::limits::MOST_KINDS;
 use indexmap::IndexSet;
-use std::alloc::Global;
+use std::alloc::{AllocError, Global};
 use std::marker::Model;
 
 /// Kinds, numbered in the order in which they were added. Contracts see the list of their names, as
@@ -59,6 +60,20 @@ impl Kinds {
         if number >= MOST_KINDS {
             return Err(NameFault::TooMany(MOST_KINDS));
         }
+        Ok(self.add_new(name)?)
+    }
+
+    /// Adds a kind that is known to be one more, and gives its number, which is how many there were.
+    /// Where memory runs out, the kinds stay as they were.
+    pub fn add_new(&mut self, name: &str) -> Result<u32, AllocError>
+        requires spelled { IsTrue (is_name name.now) }
+        requires absent { number_among self.old name.now ≡ None }
+        requires room { length self.old < MOST_KINDS }
+        ensures number { IfOk result (λ k. k ≡ length self.old) }
+        ensures added { OnOk result (self.new ≡ self.old ++ name.now ∷ []) }
+        ensures unchanged { OnErr result (self.new ≡ self.old) }
+    {
+        let number = self.len();
         put(self.alloc, &mut self.names, name)?;
         Ok(number)
     }
@@ -100,10 +115,9 @@ impl Kinds {
 }
 
 // Adds a name that is new.
-fn put(alloc: Global, names: &mut IndexSet<String>, name: &str) -> Result<(), NameFault>
+fn put(alloc: Global, names: &mut IndexSet<String>, name: &str) -> Result<(), AllocError>
     requires { number_among (kinds_of names.old.keys) name.now ≡ None }
     ensures ok { OnOk result (kinds_of names.new.keys ≡ kinds_of names.old.keys ++ name.now ∷ []) }
-    ensures err { IfErr result (λ fault. fault ≡ NameFault.NoMemory) }
     ensures unchanged { OnErr result (kinds_of names.new.keys ≡ kinds_of names.old.keys) }
 {
     names.insert(name.to_string(alloc)?)?;

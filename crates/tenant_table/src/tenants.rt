@@ -1,5 +1,7 @@
 //! The tenants' names and weights.
-ghost use Rattle.std.specs.Prelude.{◌≡◌, ◌<◌, ◌==◌, ◌++◌, [], ◌∷◌, length, Some, None, IfErr, OnOk, OnErr, IfSome, IfNone, Contains, slice_get, slice_index};
+ghost use Rattle.std.specs.Prelude.{◌≡◌, ◌<◌, ◌==◌, ◌++◌, [], ◌∷◌, IsTrue, length, Some, None, IfOk, OnOk, OnErr, IfSome, IfNone, Contains, slice_get, slice_index};
+ghost use Rattle.fq_model.specs.Limits.{IsWeight};
+ghost use Rattle.fq_model.specs.Numbers.{is_name};
 ghost use Rattle.tenant_table.specs.Names.{names_of, weights_of, number_among, AreTenants, tenant_refusal, IsAnswer};
 ghost use Rattle.tenant_table.specs.Rows.{tenants_of};
 
@@ -7,7 +9,7 @@ use crate::fault::NameFault;
 use crate::name::is_name;
 use fq_model::limits::{GREATEST_WEIGHT, MOST_TENANTS};
 use indexmap::IndexMap;
-use std::alloc::Global;
+use std::alloc::{AllocError, Global};
 use std::marker::Model;
 
 /// Tenants, numbered in the order in which they were added. Contracts see the list of their names, as
@@ -61,6 +63,21 @@ impl Tenants {
         if number >= MOST_TENANTS {
             return Err(NameFault::TooMany(MOST_TENANTS));
         }
+        Ok(self.add_new(name, weight)?)
+    }
+
+    /// Adds a tenant that is known to be one more, and gives its number, which is how many there were.
+    /// Where memory runs out, the tenants stay as they were.
+    pub fn add_new(&mut self, name: &str, weight: u32) -> Result<u32, AllocError>
+        requires spelled { IsTrue (is_name name.now) }
+        requires weighs { IsWeight weight }
+        requires absent { number_among (names_of self.old) name.now ≡ None }
+        requires room { length self.old < MOST_TENANTS }
+        ensures number { IfOk result (λ t. t ≡ length self.old) }
+        ensures added { OnOk result (self.new ≡ self.old ++ (name.now, weight) ∷ []) }
+        ensures unchanged { OnErr result (self.new ≡ self.old) }
+    {
+        let number = self.len();
         put(self.alloc, &mut self.rows, name, weight)?;
         Ok(number)
     }
@@ -118,10 +135,9 @@ fn put(
     rows: &mut IndexMap<String, u32>,
     name: &str,
     weight: u32,
-) -> Result<(), NameFault>
+) -> Result<(), AllocError>
     requires { number_among (names_of (tenants_of rows.old.entries)) name.now ≡ None }
     ensures ok { OnOk result (tenants_of rows.new.entries ≡ tenants_of rows.old.entries ++ (name.now, weight) ∷ []) }
-    ensures err { IfErr result (λ fault. fault ≡ NameFault.NoMemory) }
     ensures unchanged { OnErr result (tenants_of rows.new.entries ≡ tenants_of rows.old.entries) }
 {
     rows.insert(name.to_string(alloc)?, weight)?;

@@ -1,0 +1,8 @@
+mod Places
+mod Reached
+pub mod Lawful
+mod Printed
+mod Plain
+mod Numerals
+mod Texts
+mod ReadBack

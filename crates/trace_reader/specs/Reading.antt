@@ -1,0 +1,40 @@
+-- What the reader returns, against what a trace's text says.
+use Rattle.std.specs.Prelude.{ℕ, ◌*◌, ◌≡◌, nat_lt, Bool, ◌||◌, List, Result, Ok, Err}
+use Rattle.fq_model.specs.declared.fault.TraceKind.{TraceKind}
+use Rattle.fq_model.specs.declared.trace.TraceRow.{TraceRow}
+use Rattle.fq_model.specs.declared.limits.TheConstants.{MOST_TENANTS, MOST_KINDS, MOST_PAIRS, MOST_ROWS}
+use Rattle.fq_model.specs.Trace.{Trace}
+use Rattle.tenant_table.specs.Names.{names_of, weights_of}
+use Rattle.trace_reader.specs.declared.fault.RecordError.{RecordError}
+use Rattle.trace_reader.specs.declared.fault.RecordError.TheVariants as errors
+use Rattle.trace_reader.specs.declared.fault.TraceFault.{TraceFault}
+use Rattle.trace_reader.specs.declared.fault.TraceFault.TheVariants as faults
+
+-- the trace of these tenants, with their weights, kinds and requests
+abbrev pub trace_in : List (List ℕ × ℕ) → List (List ℕ) → List TraceRow → Trace
+trace_in tenants kinds rows = record { tenants = names_of tenants; weights = weights_of tenants; kinds = kinds; rows = rows }
+
+-- more tenants, kinds, requests or pairs of a tenant and a kind than there may be
+abbrev pub are_too_many : ℕ → ℕ → ℕ → Bool
+are_too_many tenants kinds rows =
+    nat_lt MOST_TENANTS tenants || (nat_lt MOST_KINDS kinds || (nat_lt MOST_ROWS rows || nat_lt MOST_PAIRS (tenants * kinds)))
+
+-- reading has this fault, unless memory ran out
+abbrev pub Fails : {Y : Type 0} → RecordError → Result Y TraceKind → Type 0
+Fails (errors.Fault kind) read = read ≡ Err kind
+Fails errors.Memory read = Unit {0}
+
+-- what was returned is, seen by `view`, what reading gives
+abbrev pub Gives : {X Y : Type 0} → (X → Y) → Result X RecordError → Result Y TraceKind → Type 0
+Gives view (Ok x) read = read ≡ Ok (view x)
+Gives view (Err e) read = Fails e read
+
+-- the same for a whole text, whose faults have a place
+abbrev pub IsFirstFault : {Y : Type 0} → TraceFault → Result Y (ℕ × TraceKind) → Type 0
+IsFirstFault (faults.At line kind) read = read ≡ Err (line, kind)
+IsFirstFault faults.NoMemory read = Unit {0}
+
+-- a record's fault, with its place
+abbrev pub fault_at : ℕ → RecordError → TraceFault
+fault_at line (errors.Fault kind) = faults.At line kind
+fault_at line errors.Memory = faults.NoMemory

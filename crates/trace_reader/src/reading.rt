@@ -1,0 +1,158 @@
+//! The reader of traces.
+ghost use Rattle.std.specs.Prelude.{◌≡◌, ◌+◌, IsTrue, length, Ok, IfOk, IfErr};
+ghost use Rattle.std.specs.List.{list_all};
+ghost use Rattle.std.specs.Str.{is_utf8};
+ghost use Rattle.csv.specs.Records.{fields_of};
+ghost use Rattle.fq_model.specs.TraceGrammar.{with_tenant, with_request, with_record, at_end, trace_of};
+ghost use Rattle.fq_model.specs.TraceText.{IsLawfulTrace};
+ghost use Rattle.trace_reader.specs.Reading.{Gives, IsFirstFault, are_too_many};
+
+use crate::fault::{RecordError, TraceFault};
+use crate::fields::{
+    begins_with, expect_count, moment_at, name_at, new_name_at, ranged_at, small_at, tenant_at,
+    texts,
+};
+use crate::trace::Trace;
+use csv::{ByteRecord, ReaderBuilder, StringRecord};
+use fq_model::fault::TraceKind;
+use fq_model::limits::{
+    GREATEST_COST, GREATEST_SUBMITTER, GREATEST_WEIGHT, MOST_KINDS, MOST_PAIRS, MOST_ROWS,
+    MOST_TENANTS,
+};
+use fq_model::trace::TraceRow;
+use std::alloc::Global;
+use tenant_table::kinds::Kinds;
+
+fn are_too_many(tenants: u32, kinds: u32, rows: usize) -> bool
+    ensures { result ≡ are_too_many tenants kinds rows }
+{
+    tenants > MOST_TENANTS
+        || kinds > MOST_KINDS
+        || rows > MOST_ROWS as usize
+        || tenants as u64 * kinds as u64 > MOST_PAIRS
+}
+
+#[tactic(auto, unfolding(fq_model::specs::TraceGrammar::with_tenant))]
+fn add_tenant(trace: &mut Trace, fields: &StringRecord) -> Result<(), RecordError>
+    ensures { Gives (λ _. trace.new) result (with_tenant trace.old (fields_of fields.now)) }
+{
+    expect_count(fields, 3)?;
+    let name = new_name_at(&trace.tenants, fields, 1)?;
+    let weight = small_at(fields, 2, 1, GREATEST_WEIGHT)?;
+    if are_too_many(trace.tenants.len() + 1, trace.kinds.len(), trace.rows.len()) {
+        return Err(RecordError::Fault(TraceKind::TooMany));
+    }
+    trace.tenants.add_new(name, weight)?;
+    Ok(())
+}
+
+#[tactic(auto, unfolding(fq_model::specs::TraceGrammar::with_request))]
+fn add_request(trace: &mut Trace, fields: &StringRecord) -> Result<(), RecordError>
+    ensures { Gives (λ _. trace.new) result (with_request trace.old (fields_of fields.now)) }
+{
+    expect_count(fields, 7)?;
+    let moment = moment_at(trace.rows.as_slice(), fields, 1)?;
+    let submitter = small_at(fields, 2, 0, GREATEST_SUBMITTER)?;
+    let tenant = tenant_at(&trace.tenants, fields, 3)?;
+    let name = name_at(fields, 4)?;
+    let declared = ranged_at(fields, 5, 1, GREATEST_COST)?;
+    let cost = ranged_at(fields, 6, 1, GREATEST_COST)?;
+    let found = trace.kinds.find(name);
+    let kinds = if found.is_some() {
+        trace.kinds.len()
+    } else {
+        trace.kinds.len() + 1
+    };
+    if are_too_many(trace.tenants.len(), kinds, trace.rows.len() + 1) {
+        return Err(RecordError::Fault(TraceKind::TooMany));
+    }
+    let kind = match found {
+        Some(kind) => kind,
+        None => trace.kinds.add_new(name)?,
+    };
+    trace.rows.push(TraceRow {
+        moment,
+        submitter,
+        tenant,
+        kind,
+        declared,
+        cost,
+    })?;
+    Ok(())
+}
+
+#[tactic(auto, unfolding(fq_model::specs::TraceGrammar::with_record))]
+fn add_texts(trace: &mut Trace, fields: &StringRecord) -> Result<(), RecordError>
+    requires { IsTrue (list_all is_utf8 (fields_of fields.now)) }
+    ensures { Gives (λ _. trace.new) result (with_record trace.old (fields_of fields.now)) }
+{
+    if begins_with(fields, "tenant") {
+        add_tenant(trace, fields)
+    } else if begins_with(fields, "request") {
+        add_request(trace, fields)
+    } else {
+        Err(RecordError::Fault(TraceKind::Word))
+    }
+}
+
+// Adds a record.
+#[tactic(auto, unfolding(fq_model::specs::TraceGrammar::with_record))]
+fn add_record(trace: &mut Trace, bytes: ByteRecord) -> Result<(), RecordError>
+    ensures { Gives (λ _. trace.new) result (with_record trace.old (fields_of bytes)) }
+{
+    match texts(bytes) {
+        Some(fields) => add_texts(trace, &fields),
+        None => Err(RecordError::Fault(TraceKind::NotUtf8)),
+    }
+}
+
+// All records are read: gives the trace a kind where no request names one. `place` is one more than the
+// number of records.
+fn finish(alloc: Global, trace: Trace, place: u64) -> Result<Trace, TraceFault>
+    ensures ok { IfOk result (λ t. at_end place trace ≡ Ok t) }
+    ensures fault { IfErr result (λ f. IsFirstFault f (at_end place trace)) }
+{
+    if trace.tenants.is_empty() {
+        return Err(TraceFault::At {
+            line: place,
+            kind: TraceKind::NoTenants,
+        });
+    }
+    if !trace.rows.is_empty() {
+        return Ok(trace);
+    }
+    let Trace {
+        tenants,
+        kinds: _,
+        rows,
+    } = trace;
+    let mut kinds = Kinds::new(alloc);
+    match kinds.add("-") {
+        Ok(_) => Ok(Trace::new(tenants, kinds, rows)),
+        Err(_) => Err(TraceFault::NoMemory),
+    }
+}
+
+/// Reads a trace, or names its first fault. An answer that memory ran out says nothing of the text.
+pub fn read(alloc: Global, bytes: &[u8]) -> Result<Trace, TraceFault>
+    ensures ok { IfOk result (λ t. trace_of bytes.now ≡ Ok t) }
+    ensures lawful { IfOk result IsLawfulTrace }
+    ensures fault { IfErr result (λ f. IsFirstFault f (trace_of bytes.now)) }
+{
+    let reader = ReaderBuilder::new()
+        .has_headers(false)
+        .flexible(true)
+        .from_reader(alloc, bytes);
+    let mut trace = Trace::empty(alloc);
+    let mut place: u64 = 1;
+    for record in reader.into_byte_records() {
+        let Ok(record) = record else {
+            return Err(TraceFault::NoMemory);
+        };
+        if let Err(e) = add_record(&mut trace, record) {
+            return Err(e.at(place));
+        }
+        place += 1;
+    }
+    finish(alloc, trace, place)
+}

@@ -1,0 +1,70 @@
+//! Traces.
+ghost use Rattle.std.specs.Prelude.{◌≡◌, [], IfOk};
+ghost use Rattle.fq_model.specs.TraceGrammar.{no_records};
+ghost use Rattle.tenant_table.specs.Names.{names_of, weights_of};
+ghost use Rattle.trace_reader.specs.Reading.{trace_in};
+
+use fq_model::trace::TraceRow;
+use std::alloc::Global;
+use std::marker::Model;
+use tenant_table::kinds::Kinds;
+use tenant_table::tenants::Tenants;
+
+/// A trace: the tenants and kinds that there are, and the requests that come, in order of time.
+#[derive(Drop)]
+pub struct Trace {
+    pub(crate) tenants: Tenants,
+    pub(crate) kinds: Kinds,
+    pub(crate) rows: Vec<TraceRow>,
+}
+
+impl Model for Trace {
+    ghost use Rattle.fq_model.specs.Trace.{Trace};
+    ghost use Rattle.trace_reader.specs.Reading.{trace_in};
+
+    ghost Value = { Trace };
+
+    ghost view = { λ t. trace_in t.tenants t.kinds t.rows.items };
+}
+
+impl Trace {
+    /// The trace of these tenants, kinds and requests.
+    pub fn new(tenants: Tenants, kinds: Kinds, rows: Vec<TraceRow>) -> Trace
+        ensures { result ≡ trace_in tenants kinds rows.items }
+    {
+        Trace {
+            tenants,
+            kinds,
+            rows,
+        }
+    }
+
+    // No tenants and no requests yet. Takes no memory.
+    pub(crate) fn empty(alloc: Global) -> Trace
+        ensures { result ≡ no_records }
+    {
+        Trace::new(Tenants::new(alloc), Kinds::new(alloc), Vec::new(alloc))
+    }
+
+    /// The tenants.
+    pub fn tenants(&self) -> &Tenants
+        ensures names { names_of result.now ≡ self.now.tenants }
+        ensures weights { weights_of result.now ≡ self.now.weights }
+    {
+        &self.tenants
+    }
+
+    /// The kinds.
+    pub fn kinds(&self) -> &Kinds
+        ensures { result.now ≡ self.now.kinds }
+    {
+        &self.kinds
+    }
+
+    /// The requests in order.
+    pub fn rows(&self) -> &[TraceRow]
+        ensures { result.now ≡ self.now.rows }
+    {
+        self.rows.as_slice()
+    }
+}
