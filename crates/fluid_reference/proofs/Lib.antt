@@ -1,0 +1,6 @@
+pub mod Lists
+pub mod Changes
+pub mod Within
+pub mod Places
+pub mod Steps
+pub mod Known

@@ -1,0 +1,52 @@
+-- Lists over the numbers below a bound.
+use Rattle.std.proofs.Common.{ℕ, zero, suc, ◌+◌, ◌<◌, ◌≤◌, ◌≡◌, List, [], ◌∷◌, ◌++◌, length, arith, refl, ap, ap₂, sym, ◌∙◌, subst, inl, inr, get_or, length-append, add-one, sum_by, All, drop}
+use Rattle.std.proofs.lemmas.Bool.{cases_eq}
+use Rattle.std.proofs.lemmas.List.{get_or_default, get_or-drop, length-drop}
+use Rattle.std.proofs.lemmas.List.Sums.{sum_by-cons}
+use Rattle.std.proofs.Math.ListN.{get_or-append}
+use Rattle.std.proofs.Math.Seq.{get_or-append_seam}
+use Rattle.std.specs.List.Sorted.{IsNonDecreasingBy}
+use Rattle.fq_model.specs.Sums.{list_below}
+
+pub list_same : {A : Type 0} (f g : ℕ → A) (n : ℕ) → ((k : ℕ) → k < n → f k ≡ g k) → list_below f n ≡ list_below g n
+unfolding list_below
+list_same f g zero h = refl
+list_same f g (suc n) h = ap₂ (λ xs x. xs ++ x ∷ []) (list_same f g n (λ k l. h k (omega (arith, l)))) (h n (omega arith))
+
+pub list_none : {A : Type 0} (f : ℕ → A) → list_below f 0 ≡ []
+unfolding list_below
+list_none f = refl
+
+pub list_more : {A : Type 0} (f : ℕ → A) (n : ℕ) → list_below f (n + 1) ≡ list_below f n ++ f n ∷ []
+unfolding list_below
+list_more f n = rw add-one refl
+
+pub list_length : {A : Type 0} (f : ℕ → A) (n : ℕ) → length (list_below f n) ≡ n
+unfolding list_below
+list_length f zero = refl
+list_length f (suc n) = omega (arith, length-append (list_below f n) (f n ∷ []), list_length f n)
+
+pub list_at : {A : Type 0} (f : ℕ → A) (n k : ℕ) (d : A) → k < n → get_or (list_below f n) k d ≡ f k
+unfolding list_below
+list_at f zero k d l = absurd (omega (arith, l))
+list_at f (suc n) k d l = elim (cases_eq k n) [
+  | inl e ↦ ap (λ i. get_or (list_below f n ++ f n ∷ []) i d) (e ∙ sym (list_length f n)) ∙ get_or-append_seam (list_below f n) (f n) [] d ∙ ap f (sym e)
+  | inr ne ↦ get_or-append (list_below f n) (f n ∷ []) d k (omega (arith, l, ne, list_length f n)) ∙ list_at f n k d (omega (arith, l, ne))
+]
+
+-- sums of what is the same, and of nothing
+pub sum_same : {X : Type 0} (f g : X → ℕ) (xs : List X) → All (λ x. f x ≡ g x) xs → sum_by f xs ≡ sum_by g xs
+sum_same f g [] h = refl
+sum_same f g (x ∷ xs) h = sum_by-cons f x xs ∙ ap₂ ◌+◌ (h 0 x (omega arith)) (sum_same f g xs (λ k d l. h (suc k) d (omega (arith, l)))) ∙ sym (sum_by-cons g x xs)
+
+pub sum_none : {X : Type 0} (f : X → ℕ) (xs : List X) → All (λ x. f x ≡ 0) xs → sum_by f xs ≡ 0
+sum_none f [] h = refl
+sum_none f (x ∷ xs) h = sum_by-cons f x xs ∙ omega (arith, h 0 x (omega arith), sum_none f xs (λ k d l. h (suc k) d (omega (arith, l))))
+
+-- in order, what comes from a place on is beyond what the first of them is beyond
+pub beyond : {X : Type 0} (n : X → ℕ) (xs : List X) (j m : ℕ) (e : X) → IsNonDecreasingBy n xs → (j < length xs → m < n (get_or xs j e)) → All (λ x. m < n x) (drop j xs)
+beyond n xs j m e order next k d l =
+    let some : j < length xs = omega (arith, l, length-drop j xs) in
+    let first : m < n (get_or xs j d) = subst (λ x. m < n x) (get_or_default xs j e d some) (next some) in
+    let rise : n (get_or xs j d) ≤ n (get_or xs (j + k) d) = order j (j + k) d (omega arith) (omega (arith, l, length-drop j xs)) in
+    subst (λ x. m < n x) (sym (get_or-drop j xs k d)) (omega (arith, first, rise))

@@ -1,0 +1,42 @@
+//! Why there is no fluid service.
+ghost use Rattle.std.specs.Prelude.{◌≡◌};
+ghost use Rattle.fluid_reference.specs.declared.fault.FluidFault.TheVariants as faults;
+
+use fq_model::limits::MOST_CELLS;
+use std::alloc::{AllocError, AllocFailed};
+use water_level::levels::NoMemory;
+
+/// Why there is no table.
+#[derive(Clone, Copy, Debug, PartialEq, Eq, thiserror::Error)]
+pub enum FluidFault {
+    /// So many slots for so many tenants; there may be 4,000,000 cells.
+    #[error("{slots} slots for {tenants} tenants, and there may be {MOST_CELLS} cells")]
+    TooLong { slots: u64, tenants: u32 },
+    /// There was no memory.
+    #[error("no memory for the fluid service")]
+    NoMemory,
+}
+
+impl From<AllocError> for FluidFault {
+    ghost from_gives = { λ _ fault. fault ≡ faults.NoMemory };
+
+    fn from(_fault: AllocError) -> FluidFault {
+        FluidFault::NoMemory
+    }
+}
+
+impl<T: Drop> From<AllocFailed<T>> for FluidFault {
+    ghost from_gives = { λ _ fault. fault ≡ faults.NoMemory };
+
+    fn from(_fault: AllocFailed<T>) -> FluidFault {
+        FluidFault::NoMemory
+    }
+}
+
+impl From<NoMemory> for FluidFault {
+    ghost from_gives = { λ _ fault. fault ≡ faults.NoMemory };
+
+    fn from(_fault: NoMemory) -> FluidFault {
+        FluidFault::NoMemory
+    }
+}

@@ -1,0 +1,12 @@
+//! The fluid reference: an ideal service in slots of one length, each of which the tenants share by weight.
+#![tactic(auto)]
+
+pub mod fault;
+pub mod joining;
+pub mod laws;
+pub mod setting;
+pub mod sharing;
+pub mod slots;
+pub mod table;
+#[cfg(test)]
+mod tests;

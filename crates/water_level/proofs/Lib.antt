@@ -1,0 +1,5 @@
+pub mod Sums
+pub mod TheOne
+pub mod Segments
+pub mod Order
+pub mod Wanting

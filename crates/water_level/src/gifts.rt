@@ -1,0 +1,62 @@
+//! What backlogs are given at a level, and sums over backlogs.
+ghost use Rattle.std.specs.Prelude.{◌≡◌, ◌≤◌, length, All};
+ghost use Rattle.fq_model.specs.Level.{gift, gift_at, gifts_at, total_units};
+ghost use Rattle.water_level.specs.Backlogs.{IsBacklog, total_weight};
+
+use fq_model::level::{Backlog, Level};
+use fq_model::limits::MOST_TENANTS;
+
+/// What a backlog is given at a level, in microseconds of work.
+pub fn give(level: Level, row: Backlog) -> u64
+    ensures { result ≡ gift level row }
+{
+    match level {
+        Level::All => row.units,
+        Level::At(x) => gift_at(x, row),
+    }
+}
+
+fn gift_at(x: u64, row: Backlog) -> u64
+    ensures { result ≡ gift_at x row }
+{
+    (row.units as u128).min(x as u128 * row.weight as u128 / 1024) as u64
+}
+
+/// The sum of the gifts at a level.
+pub(crate) fn sum_of_gifts(x: u64, rows: &[Backlog]) -> u64
+    requires few { length rows.now ≤ MOST_TENANTS }
+    requires in_range { All IsBacklog rows.now }
+    ensures { result ≡ gifts_at x rows.now }
+{
+    let mut sum: u64 = 0;
+    for b in rows {
+        sum += gift_at(x, *b);
+    }
+    sum
+}
+
+/// The sum of the units.
+pub(crate) fn sum_of_units(rows: &[Backlog]) -> u64
+    requires few { length rows.now ≤ MOST_TENANTS }
+    requires in_range { All IsBacklog rows.now }
+    ensures { result ≡ total_units rows.now }
+{
+    let mut sum: u64 = 0;
+    for b in rows {
+        sum += b.units;
+    }
+    sum
+}
+
+/// The sum of the weights.
+pub(crate) fn sum_of_weights(rows: &[Backlog]) -> u64
+    requires few { length rows.now ≤ MOST_TENANTS }
+    requires in_range { All IsBacklog rows.now }
+    ensures { result ≡ total_weight rows.now }
+{
+    let mut sum: u64 = 0;
+    for b in rows {
+        sum += b.weight as u64;
+    }
+    sum
+}

@@ -1,0 +1,8 @@
+//! The level to which a slot serves what tenants still want.
+#![tactic(auto)]
+
+pub mod gifts;
+pub mod laws;
+pub mod levels;
+#[cfg(test)]
+mod tests;
