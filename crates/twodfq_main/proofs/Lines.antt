@@ -3,7 +3,7 @@ use Rattle.std.proofs.Common.{ℕ, suc, ◌+◌, ◌-◌, ◌<◌, ◌≤◌, �
 use borrow.Author.Tests.{ltb-true, ltb-false}
 use Rattle.std.specs.List.{position_or_len, position, onto_first}
 use Rattle.std.proofs.lemmas.List.{take_rest, drop_all}
-use Rattle.fq_model.specs.Script.{lines_of}
+use Rattle.fq_model.specs.Lines.{lines_of}
 use Rattle.twodfq_main.specs.Reading.{IsFirstLine}
 
 abbrev pub end_of : List ℕ → ℕ

@@ -8,7 +8,8 @@ use Rattle.fq_model.specs.declared.event.Reply.{Reply}
 use Rattle.fq_model.specs.declared.fault.ScriptKind.{ScriptKind}
 use Rattle.fq_model.specs.History.{History}
 use Rattle.fq_model.specs.Outcome.{Outcome}
-use Rattle.fq_model.specs.Script.{Script, config_of, script_of}
+use Rattle.fq_model.specs.Document.{config_of}
+use Rattle.fq_model.specs.Script.{Script, script_of}
 use Rattle.fq_model.specs.Texts.{replies_text}
 use Rattle.twodfq_main.specs.declared.stop.Stop.{Stop}
 use Rattle.twodfq_main.specs.declared.stop.Stop.TheVariants.{Words, TooLong, NotAccepted, Reading, Writing, NoMemory}
@@ -33,7 +34,7 @@ accepted_script bytes = served (script_of bytes)
 pub record IsOutput (s : Script) (text : List ℕ) : Type 0 where
   pub replies : List Reply
   pub history : History
-  pub outcome : Outcome (config_of s) s.calls replies history
+  pub outcome : Outcome (config_of s) s.body replies history
   pub text_is : text ≡ replies_text replies
 
 -- a source or a sink before and after a call: the bytes that it tells, and its count of faults

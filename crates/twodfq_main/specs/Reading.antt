@@ -1,9 +1,10 @@
--- What the reader returns, against what a script says.
+-- What the reader returns, against what a text says.
 use Rattle.std.specs.Prelude.{ℕ, ◌<◌, ◌≡◌, List, ◌∷◌, length, map, Result, Ok, Err}
 use Rattle.std.specs.Borrow.{Bor}
 use Rattle.fq_model.specs.declared.fault.ScriptKind.{ScriptKind}
 use Rattle.fq_model.specs.declared.config.Config.{Config}
-use Rattle.fq_model.specs.Script.{Settings, Words, lines_of}
+use Rattle.fq_model.specs.Document.{Settings}
+use Rattle.fq_model.specs.Lines.{Words, lines_of}
 use Rattle.twodfq_main.specs.declared.script.fault.LineError.{LineError}
 use Rattle.twodfq_main.specs.declared.script.fault.LineError.TheVariants as errors
 use Rattle.twodfq_main.specs.declared.script.fault.ScriptFault.{ScriptFault}
@@ -37,6 +38,6 @@ pub record IsFirstLine (text line below : List ℕ) : Type 0 where
   pub lines : lines_of text ≡ line ∷ lines_of below
   pub shorter : length below < length text
 
--- what the config line of a script with this configuration says
+-- what the config line of a document with this configuration says
 abbrev pub settings_in : Config → Settings
 settings_in c = record { workers = c.workers; policy = c.policy; estimate = c.estimate; initial = c.initial; entries = c.entries; requests = c.requests }

@@ -5,6 +5,8 @@ pub mod program;
 mod replies;
 mod script;
 pub mod serve;
+#[cfg(test)]
+mod served_tests;
 pub mod stop;
 #[cfg(test)]
 mod tests;

@@ -5,7 +5,7 @@ ghost use Rattle.twodfq_main.specs.Program.{Ends, IsRun, Tells, Outputs, IsOutpu
 ghost use Rattle.twodfq_main.specs.Causes.{StatusMeans};
 
 use crate::replies::replies_text;
-use crate::script::reading::read_script;
+use crate::script::calls::read_script;
 use crate::serve::serve;
 use crate::stop::Stop;
 use crate::words::is_command_line;

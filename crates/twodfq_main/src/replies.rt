@@ -40,6 +40,7 @@ fn line_of(alloc: Global, reply: &Reply) -> Result<String, AllocError>
         Reply::Accepted => String::from_str(alloc, "ok\n"),
         Reply::Idle => String::from_str(alloc, "idle\n"),
         Reply::Drained => String::from_str(alloc, "drained\n"),
+        Reply::Retired(workers) => format!(in alloc; "retired {workers}\n"),
         Reply::Refused(cause) => refusal_line(alloc, cause),
     }
 }
@@ -57,6 +58,8 @@ fn refusal_line(alloc: Global, cause: Cause) -> Result<String, AllocError>
         Cause::Worker(worker) => format!(in alloc; "refused worker {worker}\n"),
         Cause::Busy(request) => format!(in alloc; "refused busy {request}\n"),
         Cause::NotRunning => String::from_str(alloc, "refused not-running\n"),
+        Cause::Weight(weight) => format!(in alloc; "refused weight {weight}\n"),
+        Cause::Workers(count) => format!(in alloc; "refused workers {count}\n"),
         Cause::Falling { last, given } => falling_line(alloc, last, given),
     }
 }
@@ -95,6 +98,7 @@ mod tests {
             Reply::Accepted,
             Reply::Idle,
             Reply::Drained,
+            Reply::Retired(2),
             Reply::Refused(Cause::Closed),
             Reply::Refused(Cause::Tenant(2)),
             Reply::Refused(Cause::Kind(1)),
@@ -105,12 +109,15 @@ mod tests {
             Reply::Refused(Cause::Busy(3)),
             Reply::Refused(Cause::NotRunning),
             Reply::Refused(Cause::Falling { last: 8, given: 7 }),
+            Reply::Refused(Cause::Weight(1001)),
+            Reply::Refused(Cause::Workers(0)),
         ];
         let text = replies_text(rt.alloc(), &replies)?;
-        let lines = "request 0\nrun 4294967295 5 18446744073709551615\nok\nidle\ndrained\n\
+        let lines =
+            "request 0\nrun 4294967295 5 18446744073709551615\nok\nidle\ndrained\nretired 2\n\
             refused closed\nrefused tenant 2\nrefused kind 1\nrefused cost 1000000001\n\
             refused slots 10\nrefused full 100\nrefused worker 64\nrefused busy 3\n\
-            refused not-running\nrefused falling 8 7\n";
+            refused not-running\nrefused falling 8 7\nrefused weight 1001\nrefused workers 0\n";
         assert_eq!(rt; text.as_slice(), lines.as_bytes());
         Ok(())
     }

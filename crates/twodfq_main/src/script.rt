@@ -1,5 +1,6 @@
 //! Reads scripts, up to their first fault.
 
+pub mod body;
 pub mod calls;
 pub mod fault;
 pub mod head;

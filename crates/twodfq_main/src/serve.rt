@@ -2,7 +2,7 @@
 ghost use Rattle.std.specs.Prelude.{◌≡◌, IfOk};
 ghost use Rattle.fq_model.specs.History.{history_of};
 ghost use Rattle.fq_model.specs.Outcome.{Outcome};
-ghost use Rattle.sched_state.specs.Replies.{AnswersCall, submit_reply, take_reply, use_reply, close_reply};
+ghost use Rattle.sched_state.specs.Replies.{AnswersCall, submit_reply, take_reply, change_reply, close_reply};
 
 use fq_model::config::Checked;
 use fq_model::event::{Call, Cause, Reply};
@@ -86,6 +86,13 @@ pub fn answer(scheduler: &mut Scheduler<u64, PlainChooser>, call: Call) -> Reply
             cost,
         } => told(scheduler.done(who, moment, worker, cost)),
         Call::Close { who, moment } => closed(scheduler.close(who, moment)),
+        Call::Weight {
+            who,
+            moment,
+            tenant,
+            weight,
+        } => told(scheduler.weight(who, moment, tenant, weight)),
+        Call::Workers { who, moment, count } => told(scheduler.workers(who, moment, count)),
     }
 }
 
@@ -106,6 +113,7 @@ fn taken(outcome: Taken<u64>) -> Reply
     match outcome {
         Taken::UnknownWorker(worker) => Reply::Refused(Cause::Worker(worker)),
         Taken::Busy(request) => Reply::Refused(Cause::Busy(request)),
+        Taken::Retired(workers) => Reply::Retired(workers),
         Taken::Run {
             request,
             estimate,
@@ -120,9 +128,9 @@ fn taken(outcome: Taken<u64>) -> Reply
     }
 }
 
-// The reply to a report or to a done.
+// The reply to a report, a done, or a change of a weight or of the number of workers.
 fn told(outcome: Result<(), Cause>) -> Reply
-    ensures { result ≡ use_reply outcome }
+    ensures { result ≡ change_reply outcome }
 {
     match outcome {
         Ok(()) => Reply::Accepted,

@@ -1,12 +1,19 @@
-//! The lines of calls.
-ghost use Rattle.std.specs.Prelude.{◌≡◌, ◌<◌, length};
-ghost use Rattle.fq_model.specs.Script.{submit_of, take_of, report_of, done_of, close_of, call_of};
-ghost use Rattle.twodfq_main.specs.Reading.{Gives, words_in};
+//! Scripts, whose lines below the head are calls.
+ghost use Rattle.std.specs.Prelude.{◌≡◌, ◌<◌, length, codes, Ok, IfOk, IfErr};
+ghost use Rattle.fq_model.specs.Script.{submit_of, take_of, report_of, done_of, close_of, weight_of, workers_of, fixed_call_of, changing_call_of, call_of_words, script_of};
+ghost use Rattle.twodfq_main.specs.Reading.{Gives, IsFirstFault, words_in};
 
-use crate::script::fault::LineError;
+use crate::script::body::Line;
+use crate::script::fault::{LineError, ScriptFault};
+use crate::script::reading::{Document, read_document};
 use crate::script::words::{begins_with, expect_count, index_at, number_at};
 use fq_model::event::Call;
 use fq_model::fault::ScriptKind;
+use fq_model::version::Version;
+use std::alloc::Global;
+
+/// A script: a document whose body is the calls in order.
+pub type Script = Document<Call>;
 
 #[tactic(auto, unfolding(fq_model::specs::Script::submit_of))]
 fn submit(words: &[&[u8]]) -> Result<Call, LineError>
@@ -88,10 +95,38 @@ fn close(words: &[&[u8]]) -> Result<Call, LineError>
     Ok(Call::Close { who, moment })
 }
 
-/// The call of a line. Takes no memory.
-#[tactic(auto, unfolding(fq_model::specs::Script::call_of))]
-pub fn call(words: &[&[u8]]) -> Result<Call, LineError>
-    ensures { Gives (λ c. c) result (call_of (words_in words.now)) }
+#[tactic(auto, unfolding(fq_model::specs::Script::weight_of))]
+fn weight(words: &[&[u8]]) -> Result<Call, LineError>
+    ensures { Gives (λ c. c) result (weight_of (words_in words.now)) }
+{
+    expect_count(words, 5)?;
+    let who = index_at(words, 1)?;
+    let moment = number_at(words, 2)?;
+    let tenant = index_at(words, 3)?;
+    let weight = index_at(words, 4)?;
+    Ok(Call::Weight {
+        who,
+        moment,
+        tenant,
+        weight,
+    })
+}
+
+#[tactic(auto, unfolding(fq_model::specs::Script::workers_of))]
+fn workers(words: &[&[u8]]) -> Result<Call, LineError>
+    ensures { Gives (λ c. c) result (workers_of (words_in words.now)) }
+{
+    expect_count(words, 4)?;
+    let who = index_at(words, 1)?;
+    let moment = number_at(words, 2)?;
+    let count = index_at(words, 3)?;
+    Ok(Call::Workers { who, moment, count })
+}
+
+// The call of a line, where neither weights nor the number of workers change.
+#[tactic(auto, unfolding(fq_model::specs::Script::fixed_call_of))]
+fn fixed_call(words: &[&[u8]]) -> Result<Call, LineError>
+    ensures { Gives (λ c. c) result (fixed_call_of (words_in words.now)) }
 {
     if begins_with(words, b"submit") {
         submit(words)
@@ -106,4 +141,49 @@ pub fn call(words: &[&[u8]]) -> Result<Call, LineError>
     } else {
         Err(LineError::Fault(ScriptKind::Word))
     }
+}
+
+// The call of a line, where they may change.
+#[tactic(auto, unfolding(fq_model::specs::Script::changing_call_of))]
+fn changing_call(words: &[&[u8]]) -> Result<Call, LineError>
+    ensures { Gives (λ c. c) result (changing_call_of (words_in words.now)) }
+{
+    if begins_with(words, b"weight") {
+        weight(words)
+    } else if begins_with(words, b"workers") {
+        workers(words)
+    } else {
+        fixed_call(words)
+    }
+}
+
+impl Line for Call {
+    ghost title = { codes "script" };
+
+    ghost reader = { call_of_words };
+
+    fn version(line: &[u8]) -> Option<Version> {
+        if line == b"script 1".as_slice() {
+            Some(Version::First)
+        } else if line == b"script 2".as_slice() {
+            Some(Version::Second)
+        } else {
+            None
+        }
+    }
+
+    fn read(version: Version, words: &[&[u8]]) -> Result<Call, LineError> {
+        match version {
+            Version::First => fixed_call(words),
+            Version::Second => changing_call(words),
+        }
+    }
+}
+
+/// Reads a script, or names its first fault. An answer that memory ran out says nothing of the text.
+pub fn read_script(alloc: Global, bytes: &[u8]) -> Result<Script, ScriptFault>
+    ensures ok { IfOk result (λ s. script_of bytes.now ≡ Ok s) }
+    ensures fault { IfErr result (λ f. IsFirstFault f (script_of bytes.now)) }
+{
+    read_document(alloc, bytes)
 }

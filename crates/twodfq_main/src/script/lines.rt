@@ -1,6 +1,6 @@
 //! Lines of a text, and words of a line.
 ghost use Rattle.std.specs.Prelude.{◌≡◌, ◌==◌, [], MatchOption, IfOk, position};
-ghost use Rattle.fq_model.specs.Script.{words_of};
+ghost use Rattle.fq_model.specs.Lines.{words_of};
 ghost use Rattle.twodfq_main.specs.Reading.{IsFirstLine, words_in};
 
 use std::alloc::{AllocError, Global};

@@ -1,52 +1,53 @@
-//! The reader of scripts.
+//! The reader of documents.
 ghost use Rattle.std.specs.Prelude.{◌≡◌, ◌+◌, ◌<◌, ◌≤◌, ◌^◌, length, None, Ok, IfOk, IfErr};
-ghost use Rattle.fq_model.specs.Script.{not_too_many, with_tenant, with_kind, with_call, with_line, with_lines, opened, config_line, below_header, config_of, script_of, words_of, lines_of};
+ghost use Rattle.fq_model.specs.Lines.{words_of, lines_of};
+ghost use Rattle.fq_model.specs.Document.{not_too_many, with_tenant, with_kind, with_body, with_line, with_lines, opened, config_line, below_header, config_of, document_of};
 ghost use Rattle.fq_model.specs.Limits.{config_fault};
 ghost use Rattle.twodfq_main.specs.Reading.{Gives, IsFirstFault, words_in};
 
-use crate::script::calls::call;
+use crate::script::body::Line;
 use crate::script::fault::{LineError, ScriptFault};
 use crate::script::head::{Settings, read_settings};
 use crate::script::lines::{next_line, words};
 use crate::script::names::{Name, is_among};
 use crate::script::words::{begins_with, expect_count, name_at, small_at};
 use fq_model::config::{Checked, Config, Weights};
-use fq_model::event::Call;
 use fq_model::fault::ScriptKind;
 use fq_model::limits::{GREATEST_WEIGHT, MOST_KINDS, MOST_PAIRS, MOST_TENANTS};
+use fq_model::version::Version;
 use std::alloc::Global;
 use std::marker::Model;
 
-/// A script: the configuration of the scheduler on which its calls are made, the names of tenants and
-/// kinds by number, and the calls in order.
+/// A document: the configuration of the scheduler that it is about, the names of tenants and kinds by
+/// number, and what the lines below them say, in order.
 #[derive(Drop)]
-pub struct Script {
+pub struct Document<A: Drop> {
     config: Checked,
     tenants: Vec<Name>,
     kinds: Vec<Name>,
-    calls: Vec<Call>,
+    body: Vec<A>,
 }
 
-impl Model for Script {
+impl<A: Drop> Model for Document<A> {
     ghost use Rattle.std.specs.Prelude.{◌≡◌, length};
-    ghost use Rattle.fq_model.specs.Script.{Script};
+    ghost use Rattle.fq_model.specs.Document.{Document};
 
-    ghost Value = { Script };
+    ghost Value = { Document A };
 
     ghost use Rattle.twodfq_main.specs.Reading.{settings_in};
 
-    ghost view = { λ s. record {
-      settings = settings_in s.config;
-      tenants = s.tenants.items;
-      weights = s.config.weights;
-      kinds = s.kinds.items;
-      calls = s.calls.items;
+    ghost view = { λ d. record {
+      settings = settings_in d.config;
+      tenants = d.tenants.items;
+      weights = d.config.weights;
+      kinds = d.kinds.items;
+      body = d.body.items;
     } };
 
-    ghost invariant = { λ s. s.config.kinds ≡ length s.kinds.items };
+    ghost invariant = { λ d. d.config.kinds ≡ length d.kinds.items };
 }
 
-impl Script {
+impl<A: Drop> Document<A> {
     /// What the scheduler is opened with.
     pub fn config(&self) -> &Checked
         ensures { result.now ≡ config_of self.now }
@@ -68,57 +69,58 @@ impl Script {
         self.kinds.as_slice()
     }
 
-    /// The calls in order.
-    pub fn calls(&self) -> &[Call]
-        ensures { result.now ≡ self.now.calls }
+    /// What the lines below the head say, in order.
+    pub fn body(&self) -> &[A]
+        ensures { result.now ≡ self.now.body }
     {
-        self.calls.as_slice()
+        self.body.as_slice()
     }
 
-    /// The configuration, the tenants' names, the kinds' names and the calls. Takes no memory.
-    pub fn into_parts(self) -> (Checked, Vec<Name>, Vec<Name>, Vec<Call>)
+    /// The configuration, the tenants' names, the kinds' names and what the lines below them say. Takes no
+    /// memory.
+    pub fn into_parts(self) -> (Checked, Vec<Name>, Vec<Name>, Vec<A>)
         ensures config { result.0 ≡ config_of self }
         ensures tenants { result.1.items ≡ self.tenants }
         ensures kinds { result.2.items ≡ self.kinds }
-        ensures calls { result.3.items ≡ self.calls }
+        ensures body { result.3.items ≡ self.body }
     {
-        let Script {
+        let Document {
             config,
             tenants,
             kinds,
-            calls,
+            body,
         } = self;
-        (config, tenants, kinds, calls)
+        (config, tenants, kinds, body)
     }
 }
 
 // What the lines so far say.
 #[derive(Drop)]
-struct Draft {
+struct Draft<A: Drop> {
     settings: Settings,
     tenants: Vec<Name>,
     weights: Vec<u32>,
     kinds: Vec<Name>,
-    calls: Vec<Call>,
+    body: Vec<A>,
 }
 
-impl Model for Draft {
-    ghost use Rattle.fq_model.specs.Script.{Script};
+impl<A: Drop> Model for Draft<A> {
+    ghost use Rattle.fq_model.specs.Document.{Document};
 
-    ghost Value = { Script };
+    ghost Value = { Document A };
 
-    ghost view = { λ s. record {
-      settings = s.settings;
-      tenants = s.tenants.items;
-      weights = s.weights.items;
-      kinds = s.kinds.items;
-      calls = s.calls.items;
+    ghost view = { λ d. record {
+      settings = d.settings;
+      tenants = d.tenants.items;
+      weights = d.weights.items;
+      kinds = d.kinds.items;
+      body = d.body.items;
     } };
 }
 
-impl Draft {
-    // The script of a config line alone.
-    fn opened(alloc: Global, settings: Settings) -> Draft
+impl<A: Line> Draft<A> {
+    // The document of a config line alone.
+    fn opened(alloc: Global, settings: Settings) -> Draft<A>
         ensures { result ≡ opened settings }
     {
         Draft {
@@ -126,12 +128,12 @@ impl Draft {
             tenants: Vec::new(alloc),
             weights: Vec::new(alloc),
             kinds: Vec::new(alloc),
-            calls: Vec::new(alloc),
+            body: Vec::new(alloc),
         }
     }
 
-    // The script, now that its lines are read.
-    fn finish(self) -> Script
+    // The document, now that its lines are read.
+    fn finish(self) -> Document<A>
         requires { config_fault (config_of self) ≡ None }
         ensures { result ≡ self }
     {
@@ -140,7 +142,7 @@ impl Draft {
             tenants,
             weights,
             kinds,
-            calls,
+            body,
         } = self;
         let config = Config {
             workers: settings.workers,
@@ -152,11 +154,11 @@ impl Draft {
             estimate: settings.estimate,
             initial: settings.initial,
         };
-        Script {
+        Document {
             config: config.check().unwrap(),
             tenants,
             kinds,
-            calls,
+            body,
         }
     }
 
@@ -175,7 +177,7 @@ impl Draft {
         Ok(())
     }
 
-    #[tactic(auto, unfolding(fq_model::specs::Script::with_tenant))]
+    #[tactic(auto, unfolding(fq_model::specs::Document::with_tenant))]
     fn add_tenant(&mut self, alloc: Global, words: &[&[u8]]) -> Result<(), LineError>
         ensures { Gives (λ _. self.new) result (with_tenant self.old (words_in words.now)) }
     {
@@ -190,7 +192,7 @@ impl Draft {
         self.expect_few()
     }
 
-    #[tactic(auto, unfolding(fq_model::specs::Script::with_kind))]
+    #[tactic(auto, unfolding(fq_model::specs::Document::with_kind))]
     fn add_kind(&mut self, alloc: Global, words: &[&[u8]]) -> Result<(), LineError>
         ensures { Gives (λ _. self.new) result (with_kind self.old (words_in words.now)) }
     {
@@ -203,41 +205,46 @@ impl Draft {
         self.expect_few()
     }
 
-    #[tactic(auto, unfolding(fq_model::specs::Script::with_call))]
-    fn add_call(&mut self, words: &[&[u8]]) -> Result<(), LineError>
-        ensures { Gives (λ _. self.new) result (with_call self.old (words_in words.now)) }
+    #[tactic(auto, unfolding(fq_model::specs::Document::with_body))]
+    fn add_body(&mut self, version: Version, words: &[&[u8]]) -> Result<(), LineError>
+        ensures { Gives (λ _. self.new) result (with_body (A.reader version) self.old (words_in words.now)) }
     {
-        self.calls.push(call(words)?)?;
+        self.body.push(A::read(version, words)?)?;
         Ok(())
     }
 
-    #[tactic(auto, unfolding(fq_model::specs::Script::with_line))]
-    fn add_words(&mut self, alloc: Global, words: &[&[u8]]) -> Result<(), LineError>
-        ensures { Gives (λ _. self.new) result (with_line self.old (words_in words.now)) }
+    #[tactic(auto, unfolding(fq_model::specs::Document::with_line))]
+    fn add_words(
+        &mut self,
+        alloc: Global,
+        version: Version,
+        words: &[&[u8]],
+    ) -> Result<(), LineError>
+        ensures { Gives (λ _. self.new) result (with_line (A.reader version) self.old (words_in words.now)) }
     {
         if begins_with(words, b"tenant") && self.kinds.is_empty() {
             self.add_tenant(alloc, words)
-        } else if begins_with(words, b"kind") && !self.tenants.is_empty() && self.calls.is_empty() {
+        } else if begins_with(words, b"kind") && !self.tenants.is_empty() && self.body.is_empty() {
             self.add_kind(alloc, words)
         } else if self.kinds.is_empty() {
             Err(LineError::Fault(ScriptKind::Word))
         } else {
-            self.add_call(words)
+            self.add_body(version, words)
         }
     }
 
     // Adds a line below the config line.
-    fn add_line(&mut self, alloc: Global, line: &[u8]) -> Result<(), LineError>
-        ensures { Gives (λ _. self.new) result (with_line self.old (words_of line.now)) }
+    fn add_line(&mut self, alloc: Global, version: Version, line: &[u8]) -> Result<(), LineError>
+        ensures { Gives (λ _. self.new) result (with_line (A.reader version) self.old (words_of line.now)) }
     {
         let words = words(alloc, line)?;
-        self.add_words(alloc, words.as_slice())
+        self.add_words(alloc, version, words.as_slice())
     }
 }
 
-#[tactic(auto, unfolding(fq_model::specs::Script::config_line))]
-fn config_words(alloc: Global, words: &[&[u8]]) -> Result<Draft, LineError>
-    ensures { Gives (λ s. s) result (config_line (words_in words.now)) }
+#[tactic(auto, unfolding(fq_model::specs::Document::config_line))]
+fn config_words<A: Line>(alloc: Global, words: &[&[u8]]) -> Result<Draft<A>, LineError>
+    ensures { Gives (λ d. d) result (config_line (words_in words.now)) }
 {
     if !begins_with(words, b"config") {
         return Err(LineError::Fault(ScriptKind::Word));
@@ -245,39 +252,48 @@ fn config_words(alloc: Global, words: &[&[u8]]) -> Result<Draft, LineError>
     Ok(Draft::opened(alloc, read_settings(words)?))
 }
 
-fn config_line(alloc: Global, line: &[u8]) -> Result<Draft, LineError>
-    ensures { Gives (λ s. s) result (config_line (words_of line.now)) }
+fn config_line<A: Line>(alloc: Global, line: &[u8]) -> Result<Draft<A>, LineError>
+    ensures { Gives (λ d. d) result (config_line (words_of line.now)) }
 {
     let words = words(alloc, line)?;
     config_words(alloc, words.as_slice())
 }
 
 // Adds the lines below the config line, which are a text of their own.
-fn with_lines(alloc: Global, mut script: Draft, text: &[u8]) -> Result<Draft, ScriptFault>
-    ensures ok { IfOk result (λ s. with_lines 3 script (lines_of text.now) ≡ Ok s) }
-    ensures fault { IfErr result (λ f. IsFirstFault f (with_lines 3 script (lines_of text.now))) }
+fn with_lines<A: Line>(
+    alloc: Global,
+    version: Version,
+    mut draft: Draft<A>,
+    text: &[u8],
+) -> Result<Draft<A>, ScriptFault>
+    ensures ok { IfOk result (λ d. with_lines (A.reader version) 3 draft (lines_of text.now) ≡ Ok d) }
+    ensures fault { IfErr result (λ f. IsFirstFault f (with_lines (A.reader version) 3 draft (lines_of text.now))) }
 {
     let mut rest = text;
     let mut place: u64 = 3;
     while let Some((line, below)) = next_line(rest) {
-        if let Err(e) = script.add_line(alloc, line) {
+        if let Err(e) = draft.add_line(alloc, version, line) {
             return Err(e.at(place));
         }
         rest = below;
         place += 1;
     }
-    if script.kinds.is_empty() {
+    if draft.kinds.is_empty() {
         return Err(ScriptFault::At {
             line: place,
             kind: ScriptKind::Missing,
         });
     }
-    Ok(script)
+    Ok(draft)
 }
 
-fn below_header(alloc: Global, text: &[u8]) -> Result<Draft, ScriptFault>
-    ensures ok { IfOk result (λ s. below_header (lines_of text.now) ≡ Ok s) }
-    ensures fault { IfErr result (λ f. IsFirstFault f (below_header (lines_of text.now))) }
+fn below_header<A: Line>(
+    alloc: Global,
+    version: Version,
+    text: &[u8],
+) -> Result<Draft<A>, ScriptFault>
+    ensures ok { IfOk result (λ d. below_header (A.reader version) (lines_of text.now) ≡ Ok d) }
+    ensures fault { IfErr result (λ f. IsFirstFault f (below_header (A.reader version) (lines_of text.now))) }
 {
     let Some((line, below)) = next_line(text) else {
         return Err(ScriptFault::At {
@@ -286,19 +302,19 @@ fn below_header(alloc: Global, text: &[u8]) -> Result<Draft, ScriptFault>
         });
     };
     match config_line(alloc, line) {
-        Ok(script) => with_lines(alloc, script, below),
+        Ok(draft) => with_lines(alloc, version, draft, below),
         Err(e) => Err(e.at(2)),
     }
 }
 
-#[tactic(auto, unfolding(fq_model::specs::Script::script_of))]
-fn read_draft(alloc: Global, bytes: &[u8]) -> Result<Draft, ScriptFault>
-    ensures ok { IfOk result (λ s. script_of bytes.now ≡ Ok s) }
-    ensures fault { IfErr result (λ f. IsFirstFault f (script_of bytes.now)) }
+#[tactic(auto, unfolding(fq_model::specs::Document::document_of))]
+fn read_draft<A: Line>(alloc: Global, bytes: &[u8]) -> Result<Draft<A>, ScriptFault>
+    ensures ok { IfOk result (λ d. document_of A.title A.reader bytes.now ≡ Ok d) }
+    ensures fault { IfErr result (λ f. IsFirstFault f (document_of A.title A.reader bytes.now)) }
 {
     if let Some((line, below)) = next_line(bytes) {
-        if line == b"script 1".as_slice() {
-            return below_header(alloc, below);
+        if let Some(version) = A::version(line) {
+            return below_header(alloc, version, below);
         }
     }
     Err(ScriptFault::At {
@@ -307,10 +323,10 @@ fn read_draft(alloc: Global, bytes: &[u8]) -> Result<Draft, ScriptFault>
     })
 }
 
-/// Reads a script, or names its first fault. An answer that memory ran out says nothing of the text.
-pub fn read_script(alloc: Global, bytes: &[u8]) -> Result<Script, ScriptFault>
-    ensures ok { IfOk result (λ s. script_of bytes.now ≡ Ok s) }
-    ensures fault { IfErr result (λ f. IsFirstFault f (script_of bytes.now)) }
+/// Reads a document, or names its first fault. An answer that memory ran out says nothing of the text.
+pub fn read_document<A: Line>(alloc: Global, bytes: &[u8]) -> Result<Document<A>, ScriptFault>
+    ensures ok { IfOk result (λ d. document_of A.title A.reader bytes.now ≡ Ok d) }
+    ensures fault { IfErr result (λ f. IsFirstFault f (document_of A.title A.reader bytes.now)) }
 {
     let draft = read_draft(alloc, bytes)?;
     Ok(draft.finish())

@@ -1,6 +1,7 @@
 //! What single words say. The first word is word 0; faults count from 1.
 ghost use Rattle.std.specs.Prelude.{◌≡◌, ◌<◌, ◌≤◌, length, IfOk};
-ghost use Rattle.fq_model.specs.Script.{begins_with, with_count, number_at, ranged_at, index_at, name_at, policy_at, estimator_at};
+ghost use Rattle.fq_model.specs.Reading.{begins_with};
+ghost use Rattle.fq_model.specs.Lines.{with_count, number_at, ranged_at, index_at, name_at, policy_at, estimator_at};
 ghost use Rattle.twodfq_main.specs.Reading.{Gives, words_in};
 
 use crate::script::fault::LineError;
@@ -30,20 +31,20 @@ pub fn expect_count(words: &[&[u8]], count: usize) -> Result<(), LineError>
 }
 
 /// A number.
-#[tactic(auto, unfolding(fq_model::specs::Script::number_at))]
+#[tactic(auto, unfolding(fq_model::specs::Lines::number_at))]
 pub fn number_at(words: &[&[u8]], k: u32) -> Result<u64, LineError>
     requires there { k < length words.now }
-    requires small { k < 7 }
+    requires small { k < 8 }
     ensures { Gives (λ n. n) result (number_at (words_in words.now) k) }
 {
     number(words[k as usize]).ok_or(LineError::Fault(ScriptKind::Number(k + 1)))
 }
 
 /// A number from `low` to `high`.
-#[tactic(auto, unfolding(fq_model::specs::Script::ranged_at))]
+#[tactic(auto, unfolding(fq_model::specs::Lines::ranged_at))]
 pub fn ranged_at(words: &[&[u8]], k: u32, low: u64, high: u64) -> Result<u64, LineError>
     requires there { k < length words.now }
-    requires small { k < 7 }
+    requires small { k < 8 }
     ensures given { Gives (λ n. n) result (ranged_at (words_in words.now) k low high) }
     ensures upper { IfOk result (λ n. n ≤ high) }
 {
@@ -55,10 +56,10 @@ pub fn ranged_at(words: &[&[u8]], k: u32, low: u64, high: u64) -> Result<u64, Li
 }
 
 /// A number of 32 bits: of a caller, a tenant, a kind or a worker.
-#[tactic(auto, unfolding(fq_model::specs::Script::index_at))]
+#[tactic(auto, unfolding(fq_model::specs::Lines::index_at))]
 pub fn index_at(words: &[&[u8]], k: u32) -> Result<u32, LineError>
     requires there { k < length words.now }
-    requires small { k < 7 }
+    requires small { k < 8 }
     ensures { Gives (λ n. n) result (index_at (words_in words.now) k) }
 {
     small_at(words, k, 0, u32::MAX)
@@ -67,7 +68,7 @@ pub fn index_at(words: &[&[u8]], k: u32) -> Result<u32, LineError>
 /// A number from `low` to `high`, which is of 32 bits.
 pub fn small_at(words: &[&[u8]], k: u32, low: u32, high: u32) -> Result<u32, LineError>
     requires there { k < length words.now }
-    requires small { k < 7 }
+    requires small { k < 8 }
     ensures { Gives (λ n. n) result (ranged_at (words_in words.now) k low high) }
 {
     let n = ranged_at(words, k, low as u64, high as u64)?;
@@ -75,7 +76,7 @@ pub fn small_at(words: &[&[u8]], k: u32, low: u32, high: u32) -> Result<u32, Lin
 }
 
 /// A name.
-#[tactic(auto, unfolding(fq_model::specs::Script::name_at))]
+#[tactic(auto, unfolding(fq_model::specs::Lines::name_at))]
 pub fn name_at<'a>(words: &[&'a [u8]], k: u32) -> Result<&'a [u8], LineError>
     requires { k < length words.now }
     ensures { Gives (λ n. n.now) result (name_at (words_in words.now) k) }
@@ -88,7 +89,7 @@ pub fn name_at<'a>(words: &[&'a [u8]], k: u32) -> Result<&'a [u8], LineError>
 }
 
 /// A policy.
-#[tactic(auto, unfolding(fq_model::specs::Script::policy_at))]
+#[tactic(auto, unfolding(fq_model::specs::Lines::policy_at))]
 pub fn policy_at(words: &[&[u8]], k: u32) -> Result<Policy, LineError>
     requires { k < length words.now }
     ensures { Gives (λ p. p) result (policy_at (words_in words.now) k) }
@@ -97,7 +98,7 @@ pub fn policy_at(words: &[&[u8]], k: u32) -> Result<Policy, LineError>
 }
 
 /// An estimator.
-#[tactic(auto, unfolding(fq_model::specs::Script::estimator_at))]
+#[tactic(auto, unfolding(fq_model::specs::Lines::estimator_at))]
 pub fn estimator_at(words: &[&[u8]], k: u32) -> Result<Estimator, LineError>
     requires { k < length words.now }
     ensures { Gives (λ e. e) result (estimator_at (words_in words.now) k) }

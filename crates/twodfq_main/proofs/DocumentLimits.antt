@@ -1,5 +1,5 @@
--- A script's configuration is within its limits.
-use Rattle.std.proofs.Common.{ℕ, zero, suc, ◌+◌, ◌*◌, ◌<◌, ◌≤◌, ◌≡◌, ◌==◌, Bool, true, false, not, ◌||◌, ◌&&◌, nat_lt, if◌then◌else◌, ◌⊎◌, inl, inr, List, [], ◌∷◌, ◌++◌, length, All, Result, Ok, Err, refl, subst, arith, length-append}
+-- A document's configuration is within its limits.
+use Rattle.std.proofs.Common.{ℕ, zero, suc, ◌+◌, ◌*◌, ◌<◌, ◌≤◌, ◌≡◌, ◌==◌, Bool, true, false, not, ◌||◌, ◌&&◌, nat_lt, if◌then◌else◌, ◌⊎◌, inl, inr, List, [], ◌∷◌, ◌++◌, length, All, Option, Some, None, Result, Ok, Err, refl, subst, arith, length-append}
 use borrow.Author.Tests.{ltb-false}
 use Rattle.std.specs.Prelude.{codes}
 use Rattle.std.proofs.lemmas.Bool.{eqb-true, eqb-false}
@@ -9,7 +9,10 @@ use Rattle.vt_fixed.specs.declared.limits.TheConstants.{GREATEST_COST, GREATEST_
 use Rattle.fq_model.specs.declared.limits.TheConstants.{MOST_TENANTS, MOST_KINDS, MOST_PAIRS, LEAST_ENTRIES, MOST_ENTRIES, MOST_REQUESTS}
 use Rattle.fq_model.specs.declared.fault.ScriptKind.{ScriptKind}
 use Rattle.fq_model.specs.declared.fault.ScriptKind.TheVariants.{TooMany}
-use Rattle.fq_model.specs.Script.{Settings, Script, Words, config_of, ◌>>=◌, number_at, ranged_at, policy_at, estimator_at, with_count, settings_of, name_at, new_among, not_too_many, with_tenant, with_kind, with_call, call_of, begins_with, is_empty, with_line, with_lines, at_line, opened, config_line, below_header, is_header, script_of_lines, script_of, lines_of, words_of}
+use Rattle.fq_model.specs.Document.{Settings, Document, LineReader, config_of, settings_of, new_among, not_too_many, with_tenant, with_kind, with_body, with_line, with_lines, opened, config_line, below_header, version_of, below_version, document_of_lines, document_of}
+use Rattle.fq_model.specs.declared.version.Version.{Version}
+use Rattle.fq_model.specs.Reading.{◌>>=◌, begins_with, at_line, is_empty}
+use Rattle.fq_model.specs.Lines.{Words, number_at, ranged_at, policy_at, estimator_at, with_count, name_at, lines_of, words_of}
 
 -- what a first step gave, where both steps gave something
 pub bind_ok : {A B F : Type 0} (r : Result A F) (f : A → Result B F) (y : B) → (r >>= f) ≡ Ok y → (x : A) × (r ≡ Ok x) × (f x ≡ Ok y)
@@ -55,8 +58,8 @@ settings_of-within line s h =
       requests = ranged_at-within words.0 6 1 MOST_REQUESTS requests.0 requests.1;
     })
 
--- what holds of a script that is being read
-pub record IsKept (s : Script) : Type 0 where
+-- what holds of a document that is being read
+pub record IsKept {A : Type 0} (s : Document A) : Type 0 where
   pub settings : SettingsAreWithin s.settings
   pub same : length s.weights ≡ length s.tenants
   pub weights : All IsWeight s.weights
@@ -65,19 +68,19 @@ pub record IsKept (s : Script) : Type 0 where
   pub pairs : length s.tenants * length s.kinds ≤ MOST_PAIRS
   pub order : 0 < length s.kinds → 0 < length s.tenants
 
-few : (t k p : Bool) (s u : Script) → (if t || (k || p) then Err TooMany else Ok s) ≡ Ok u → (t ≡ false) × (k ≡ false) × (p ≡ false) × (s ≡ u)
+few : {A : Type 0} (t k p : Bool) (s u : Document A) → (if t || (k || p) then Err TooMany else Ok s) ≡ Ok u → (t ≡ false) × (k ≡ false) × (p ≡ false) × (s ≡ u)
 few true k p s u h = absurd (cc)
 few false true p s u h = absurd (cc)
 few false false true s u h = absurd (cc)
 few false false false s u h = (refl, refl, refl, Ok-injective h)
 
-pub record IsFew (s u : Script) : Type 0 where
+pub record IsFew {A : Type 0} (s u : Document A) : Type 0 where
   pub tenants : length s.tenants ≤ MOST_TENANTS
   pub kinds : length s.kinds ≤ MOST_KINDS
   pub pairs : length s.tenants * length s.kinds ≤ MOST_PAIRS
   pub same : s ≡ u
 
-pub not_too_many-few : (s u : Script) → not_too_many s ≡ Ok u → IsFew s u
+pub not_too_many-few : {A : Type 0} (s u : Document A) → not_too_many s ≡ Ok u → IsFew s u
 not_too_many-few s u h =
     let t = few (nat_lt MOST_TENANTS (length s.tenants)) (nat_lt MOST_KINDS (length s.kinds)) (nat_lt MOST_PAIRS (length s.tenants * length s.kinds)) s u h in
     record {
@@ -91,14 +94,14 @@ all_one : (w : ℕ) → IsWeight w → All IsWeight (w ∷ [])
 all_one w h zero d lt = h
 all_one w h (suc k) d lt = absurd (omega arith)
 
-pub with_tenant-kept : (s u : Script) (line : Words) → length s.kinds ≡ 0 → IsKept s → with_tenant s line ≡ Ok u → IsKept u
+pub with_tenant-kept : {A : Type 0} (s u : Document A) (line : Words) → length s.kinds ≡ 0 → IsKept s → with_tenant s line ≡ Ok u → IsKept u
 unfolding with_tenant
 with_tenant-kept s u line none kept h =
     let words = bind_ok (with_count 3 line) _ u h in
     let name = bind_ok (name_at words.0 1) _ u words.2 in
     let weight = bind_ok (ranged_at words.0 2 1 GREATEST_WEIGHT) _ u name.2 in
     let new = bind_ok (new_among s.tenants name.0) _ u weight.2 in
-    let more : Script = record s { tenants = s.tenants ++ new.0 ∷ []; weights = s.weights ++ weight.0 ∷ [] } in
+    let more : Document _ = record s { tenants = s.tenants ++ new.0 ∷ []; weights = s.weights ++ weight.0 ∷ [] } in
     let is_few = not_too_many-few more u new.2 in
     subst IsKept is_few.same (record {
       settings = kept.settings;
@@ -110,13 +113,13 @@ with_tenant-kept s u line none kept h =
       order = λ some. omega (arith, length-append s.tenants (new.0 ∷ []));
     })
 
-pub with_kind-kept : (s u : Script) (line : Words) → 0 < length s.tenants → IsKept s → with_kind s line ≡ Ok u → IsKept u
+pub with_kind-kept : {A : Type 0} (s u : Document A) (line : Words) → 0 < length s.tenants → IsKept s → with_kind s line ≡ Ok u → IsKept u
 unfolding with_kind
 with_kind-kept s u line some kept h =
     let words = bind_ok (with_count 2 line) _ u h in
     let name = bind_ok (name_at words.0 1) _ u words.2 in
     let new = bind_ok (new_among s.kinds name.0) _ u name.2 in
-    let more : Script = record s { kinds = s.kinds ++ new.0 ∷ [] } in
+    let more : Document _ = record s { kinds = s.kinds ++ new.0 ∷ [] } in
     let is_few = not_too_many-few more u new.2 in
     subst IsKept is_few.same (record {
       settings = kept.settings;
@@ -128,12 +131,12 @@ with_kind-kept s u line some kept h =
       order = λ _. some;
     })
 
-pub with_call-kept : (s u : Script) (line : Words) → IsKept s → with_call s line ≡ Ok u → IsKept u
-unfolding with_call
-with_call-kept s u line kept h =
-    let call = bind_ok (call_of line) _ u h in
-    let more : Script = record s { calls = s.calls ++ call.0 ∷ [] } in
-    let same : more ≡ u = Ok-injective call.2 in
+pub with_body-kept : {A : Type 0} (reader : LineReader A) (s u : Document A) (line : Words) → IsKept s → with_body reader s line ≡ Ok u → IsKept u
+unfolding with_body
+with_body-kept reader s u line kept h =
+    let said = bind_ok (reader line) _ u h in
+    let more : Document _ = record s { body = s.body ++ said.0 ∷ [] } in
+    let same : more ≡ u = Ok-injective said.2 in
     subst IsKept same (record {
       settings = kept.settings;
       same = kept.same;
@@ -166,16 +169,16 @@ some_if n h = omega (arith, eqb-false n 0 h)
 none_if : (n : ℕ) → (n == 0) ≡ true → n ≡ 0
 none_if n h = eqb-true n 0 h
 
-pub with_line-kept : (s u : Script) (line : Words) → IsKept s → with_line s line ≡ Ok u → IsKept u
+pub with_line-kept : {A : Type 0} (reader : LineReader A) (s u : Document A) (line : Words) → IsKept s → with_line reader s line ≡ Ok u → IsKept u
 unfolding with_line
-with_line-kept s u line kept h =
+with_line-kept reader s u line kept h =
     elim (which (begins_with line (codes "tenant") && is_empty s.kinds) _ _ (Ok u) h) [
       | inl a ↦ with_tenant-kept s u line (none_if (length s.kinds) (right_of (begins_with line (codes "tenant")) _ a.0)) kept a.1
-      | inr a ↦ elim (which (begins_with line (codes "kind") && (not (is_empty s.tenants) && is_empty s.calls)) _ _ (Ok u) a.1) [
-        | inl b ↦ with_kind-kept s u line (some_if (length s.tenants) (not_true _ (left_of (not (is_empty s.tenants)) (is_empty s.calls) (right_of (begins_with line (codes "kind")) _ b.0)))) kept b.1
+      | inr a ↦ elim (which (begins_with line (codes "kind") && (not (is_empty s.tenants) && is_empty s.body)) _ _ (Ok u) a.1) [
+        | inl b ↦ with_kind-kept s u line (some_if (length s.tenants) (not_true _ (left_of (not (is_empty s.tenants)) (is_empty s.body) (right_of (begins_with line (codes "kind")) _ b.0)))) kept b.1
         | inr b ↦ elim (which (is_empty s.kinds) _ _ (Ok u) b.1) [
           | inl c ↦ absurd (cc)
-          | inr c ↦ with_call-kept s u line kept c.1
+          | inr c ↦ with_body-kept reader s u line kept c.1
         ]
       ]
     ]
@@ -184,22 +187,22 @@ at_line-ok : {A : Type 0} (place : ℕ) (r : Result A ScriptKind) (x : A) → at
 at_line-ok place (Ok y) x h = cc
 at_line-ok place (Err k) x h = absurd (cc)
 
--- a script that was read has a kind, and so a tenant
-pub record IsWhole (s : Script) : Type 0 where
+-- a document that was read has a kind, and so a tenant
+pub record IsWhole {A : Type 0} (s : Document A) : Type 0 where
   pub kept : IsKept s
   pub some : 0 < length s.kinds
 
-pub with_lines-whole : (lines : List (List ℕ)) (place : ℕ) (s u : Script) → IsKept s → with_lines place s lines ≡ Ok u → IsWhole u
-with_lines-whole [] place s u kept h =
+pub with_lines-whole : {A : Type 0} (reader : LineReader A) (lines : List (List ℕ)) (place : ℕ) (s u : Document A) → IsKept s → with_lines reader place s lines ≡ Ok u → IsWhole u
+with_lines-whole reader [] place s u kept h =
     elim (which (is_empty s.kinds) _ _ (Ok u) h) [
       | inl a ↦ absurd (cc)
       | inr a ↦ subst IsWhole (Ok-injective a.1) (record { kept = kept; some = some_if (length s.kinds) a.0 })
     ]
-with_lines-whole (line ∷ lines) place s u kept h =
-    let more = bind_ok (at_line place (with_line s (words_of line))) _ u h in
-    with_lines-whole lines (place + 1) more.0 u (with_line-kept s more.0 (words_of line) kept (at_line-ok place _ more.0 more.1)) more.2
+with_lines-whole reader (line ∷ lines) place s u kept h =
+    let more = bind_ok (at_line place (with_line reader s (words_of line))) _ u h in
+    with_lines-whole reader lines (place + 1) more.0 u (with_line-kept reader s more.0 (words_of line) kept (at_line-ok place _ more.0 more.1)) more.2
 
-opened-kept : (settings : Settings) → SettingsAreWithin settings → IsKept (opened settings)
+opened-kept : {A : Type 0} (settings : Settings) → SettingsAreWithin settings → IsKept {A = A} (opened settings)
 opened-kept settings within = record {
   settings = within;
   same = refl;
@@ -210,7 +213,7 @@ opened-kept settings within = record {
   order = λ some. absurd (omega arith);
 }
 
-config_line-kept : (line : Words) (s : Script) → config_line line ≡ Ok s → IsKept s
+config_line-kept : {A : Type 0} (line : Words) (s : Document A) → config_line line ≡ Ok s → IsKept s
 unfolding config_line
 config_line-kept line s h =
     elim (which (begins_with line (codes "config")) _ _ (Ok s) h) [
@@ -221,25 +224,25 @@ config_line-kept line s h =
       | inr a ↦ absurd (cc)
     ]
 
-below_header-whole : (lines : List (List ℕ)) (s : Script) → below_header lines ≡ Ok s → IsWhole s
-below_header-whole [] s h = absurd (cc)
-below_header-whole (line ∷ lines) s h =
+below_header-whole : {A : Type 0} (reader : LineReader A) (lines : List (List ℕ)) (s : Document A) → below_header reader lines ≡ Ok s → IsWhole s
+below_header-whole reader [] s h = absurd (cc)
+below_header-whole reader (line ∷ lines) s h =
     let start = bind_ok (at_line 2 (config_line (words_of line))) _ s h in
-    with_lines-whole lines 3 start.0 s (config_line-kept (words_of line) start.0 (at_line-ok 2 _ start.0 start.1)) start.2
+    with_lines-whole reader lines 3 start.0 s (config_line-kept (words_of line) start.0 (at_line-ok 2 _ start.0 start.1)) start.2
 
-script_of_lines-whole : (lines : List (List ℕ)) (s : Script) → script_of_lines lines ≡ Ok s → IsWhole s
-script_of_lines-whole [] s h = absurd (cc)
-script_of_lines-whole (line ∷ lines) s h =
-    elim (which (is_header line) _ _ (Ok s) h) [
-      | inl a ↦ below_header-whole lines s a.1
-      | inr a ↦ absurd (cc)
-    ]
+below_version-whole : {A : Type 0} (reader : Version → LineReader A) (version : Option Version) (lines : List (List ℕ)) (s : Document A) → below_version reader version lines ≡ Ok s → IsWhole s
+below_version-whole reader None lines s h = absurd (cc)
+below_version-whole reader (Some version) lines s h = below_header-whole (reader version) lines s h
 
--- the configuration of every script is one that a scheduler can be opened with
-pub config_of-in_limits : (bytes : List ℕ) (s : Script) → script_of bytes ≡ Ok s → InLimits (config_of s)
-unfolding script_of
-config_of-in_limits bytes s h =
-    let whole = script_of_lines-whole (lines_of bytes) s h in
+document_of_lines-whole : {A : Type 0} (title : List ℕ) (reader : Version → LineReader A) (lines : List (List ℕ)) (s : Document A) → document_of_lines title reader lines ≡ Ok s → IsWhole s
+document_of_lines-whole title reader [] s h = absurd (cc)
+document_of_lines-whole title reader (line ∷ lines) s h = below_version-whole reader (version_of title line) lines s h
+
+-- the configuration of every document is one that a scheduler can be opened with
+pub config_of-in_limits : {A : Type 0} (title : List ℕ) (reader : Version → LineReader A) (bytes : List ℕ) (s : Document A) → document_of title reader bytes ≡ Ok s → InLimits (config_of s)
+unfolding document_of
+config_of-in_limits title reader bytes s h =
+    let whole = document_of_lines-whole title reader (lines_of bytes) s h in
     let kept = whole.kept in
     let some : 0 < length s.tenants = kept.order whole.some in
     record {
