@@ -1,6 +1,6 @@
-//! The words for policies and estimators.
-ghost use Rattle.std.specs.Prelude.{◌≡◌, ok_or, Some};
-ghost use Rattle.fq_model.specs.Numbers.{policy_of, estimator_of, policy_word, estimator_word};
+//! Numbers, and the words for policies and estimators.
+ghost use Rattle.std.specs.Prelude.{◌≡◌, ◌≢◌, ◌<◌, length, slice_index, ok_or, Some};
+ghost use Rattle.fq_model.specs.Numbers.{with_digits, number_of, policy_of, estimator_of, policy_word, estimator_word};
 
 use crate::config::{Estimator, Policy};
 use std::fmt;
@@ -65,5 +65,27 @@ impl fmt::Display for Estimator {
             Estimator::Recent => "recent",
             Estimator::Pessimistic => "pessimistic",
         })
+    }
+}
+
+/// The number that a text spells, if it spells one: `0`, or digits of which the first is not `0`, with 64 bits at most.
+pub fn number(text: &[u8]) -> Option<u64>
+    ensures { result ≡ number_of text.now }
+{
+    if text.is_empty() || text[0] == b'+' || text.len() > 1 && text[0] == b'0' {
+        return None;
+    }
+    digits(text)
+}
+
+// The number that digits spell, with 64 bits at most.
+fn digits(text: &[u8]) -> Option<u64>
+    requires some { 0 < length text.now }
+    requires no_sign { slice_index text.now 0 ≢ 43 }
+    ensures { result ≡ with_digits 0 text.now }
+{
+    match str::from_utf8(text) {
+        Ok(text) => text.parse().ok(),
+        Err(_) => None,
     }
 }

@@ -12,11 +12,11 @@ ghost use Rattle.tenant_table.specs.Names.{names_of};
 ghost use Rattle.trace_reader.specs.Reading.{Gives};
 
 use crate::fault::RecordError;
-use crate::number::number;
 use csv::{ByteRecord, StringRecord};
 use fq_model::fault::TraceKind;
 use fq_model::limits::GREATEST_TRACE_MOMENT;
 use fq_model::trace::TraceRow;
+use fq_model::words::number;
 use tenant_table::name::is_name;
 use tenant_table::tenants::Tenants;
 

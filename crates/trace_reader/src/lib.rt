@@ -4,7 +4,6 @@
 pub mod fault;
 mod fields;
 pub mod laws;
-mod number;
 pub mod printing;
 pub mod reading;
 #[cfg(test)]

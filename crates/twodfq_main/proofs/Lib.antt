@@ -1,6 +1,5 @@
 pub mod Lines
 pub mod NoFault
-pub mod Numbers
 pub mod Names
 pub mod DocumentLimits
 pub mod Singles

@@ -5,9 +5,10 @@ ghost use Rattle.fq_model.specs.Lines.{with_count, number_at, ranged_at, index_a
 ghost use Rattle.twodfq_main.specs.Reading.{Gives, words_in};
 
 use crate::script::fault::LineError;
-use crate::script::numbers::{estimator, number, policy};
+use crate::script::numbers::{estimator, policy};
 use fq_model::config::{Estimator, Policy};
 use fq_model::fault::ScriptKind;
+use fq_model::words::number;
 use tenant_table::name::is_name;
 
 /// Whether a line's first word is this.

@@ -1,6 +1,6 @@
 use Rattle.std.proofs.Common.{◌∙◌}
-use Rattle.twodfq_main.proofs.Numbers.{parsed, no_text}
-use Rattle.twodfq_main.proofs.script.numbers.digits.Goals as goal
+use Rattle.fq_model.proofs.Digits.{parsed, no_text}
+use Rattle.fq_model.proofs.words.digits.Goals as goal
 
 pub returns-in-Ok : goal.returns-in-Ok
 returns-in-Ok c =
