@@ -108,6 +108,17 @@ impl Tenants {
         self.rows.is_empty()
     }
 
+    /// The weights of the tenants by number, each 1 to 1,000.
+    pub fn weights(&self, alloc: Global) -> Result<Vec<u32>, AllocError>
+        ensures { IfOk result (λ weights. weights.items ≡ weights_of self.now) }
+    {
+        let mut weights = Vec::new(alloc);
+        for t in 0..self.len() {
+            weights.push(self.weight(t))?;
+        }
+        Ok(weights)
+    }
+
     /// The name of tenant `t`.
     pub fn name(&self, t: u32) -> &str
         requires { t < length self.now }

@@ -1,112 +1,142 @@
--- What a whole run says of its status alone.
-use Rattle.std.proofs.Common.{ℕ, ◌≤◌, ◌≡◌, inl, inr, arith, refl, sym, ◌∙◌, ap, List, length, Option, None, Some, Result, Ok, Err, IsSome}
+-- What each end of the program says of its status.
+use Rattle.std.proofs.Common.{ℕ, ◌<◌, ◌≤◌, ◌≡◌, ◌↔◌, ◌∙◌, sym, ap, refl, arith, Bool, true, false, List, length, Option, Some, None, Result, Ok, Err, ◌⊎◌, inl, inr, is_some}
+use Rattle.std.specs.Prelude.{IfSome, IsSomeAnd}
 use Rattle.std.proofs.lemmas.Bool.{false≢true}
+use Rattle.std.specs.String.{string_bytes}
 use Rattle.fq_io.specs.Sources.{GaveAll, TookTooMany}
-use Rattle.fq_model.specs.Script.{Script}
-use Rattle.twodfq_main.specs.Program.{Move, Ends, IsRun, IsServed, IsNotAccepted, IsTooLong, accepted_script, greatest_input, status_of}
-use Rattle.twodfq_main.specs.Causes.{MayRefuse, MustRefuse, MustServe, StatusMeans}
+use Rattle.fq_model.specs.declared.command.Command.{Command}
+use Rattle.fq_model.specs.declared.command.Command.TheVariants as commands
+use Rattle.fq_model.specs.Lines as lines
+use Rattle.twodfq_main.specs.Commands.{asked, is_input, Outputs, TellsFault}
+use Rattle.twodfq_main.specs.Program.{Move, Fails, Ends, EndsCommand, IsRun, IsAnswered, IsFaulty, IsTooLong, greatest_input, status_of}
+use Rattle.twodfq_main.specs.Causes.{IsRefused, IsTaken, MayRefuse, MustRefuse, MustAnswer, StatusMeans}
 use Rattle.twodfq_main.specs.declared.stop.Stop.{Stop}
-use Rattle.twodfq_main.specs.declared.stop.Stop.TheVariants.{Words, TooLong, NotAccepted, Reading, Writing, NoMemory}
+use Rattle.twodfq_main.specs.declared.stop.Stop.TheVariants.{Words, TooLong, Fault, Reading, Writing, NoMemory}
 
--- an input that was read and not accepted is refused
-refused_input : (source : Move) → IsNotAccepted source → MayRefuse source.before.bytes
-refused_input source x = go source.before.bytes source.after.bytes x.read
+-- what has an output is what the command reads
+outputs_input : (command : Command) (input text : List ℕ) → Outputs command input text → is_input command input ≡ true
+outputs_input (commands.Script print) input text x = rw (x.read) refl
+outputs_input _ input text x = absurd (x)
+
+-- what has a fault is not
+faulty_input : (command : Command) (input message : List ℕ) → TellsFault command input message → is_input command input ≡ false
+faulty_input (commands.Script print) input message x = rw (x.first) refl
+faulty_input _ input message x = absurd (x)
+
+-- an input with a fault is refused
+refused_input : (command : Command) (source : Move) (message : List ℕ) → IsFaulty command source message → IfSome source.before.bytes (IsRefused command)
+refused_input command source message x = go source.before.bytes source.after.bytes x.read
   where
-    go : (left left2 : Option (List ℕ)) → GaveAll left left2 x.bytes → MayRefuse left
+    go : (left left2 : Option (List ℕ)) → GaveAll left left2 x.input → IfSome left (IsRefused command)
     go None left2 read = tt
     go (Some xs) None read = absurd read
-    go (Some xs) (Some ys) read = inl (rw (← read.0) x.refused)
+    go (Some xs) (Some ys) read = inl (ap (is_input command) (sym read.0) ∙ faulty_input command x.input message x.fault)
 
-too_long_input : (source : Move) → IsTooLong source → MayRefuse source.before.bytes
-too_long_input source x = go source.before.bytes source.after.bytes x
+too_long_input : (command : Command) (source : Move) → IsTooLong source → IfSome source.before.bytes (IsRefused command)
+too_long_input command source x = go source.before.bytes source.after.bytes x
   where
-    go : (left left2 : Option (List ℕ)) → TookTooMany left left2 greatest_input → MayRefuse left
+    go : (left left2 : Option (List ℕ)) → TookTooMany left left2 greatest_input → IfSome left (IsRefused command)
     go None left2 y = tt
     go (Some xs) None y = absurd y
     go (Some xs) (Some ys) y = inr y.0
 
--- a told input that was served is not refused
-served_not_refused : (source : Move) (text : List ℕ) → IsServed source text → MustRefuse source.before.bytes → ⊥
-served_not_refused source text x m = go source.before.bytes source.after.bytes x.read m
+-- a told input that was answered is not refused
+answered_not_refused : (command : Command) (source : Move) (text : List ℕ) → IsAnswered command source text → IsSomeAnd source.before.bytes (IsRefused command) → ⊥
+answered_not_refused command source text x m = go source.before.bytes source.after.bytes x.read m
   where
-    some_not_none : (t : Script) → Some t ≡ None → ⊥
-    some_not_none t h = cc
-
-    go : (left left2 : Option (List ℕ)) → GaveAll left left2 x.bytes → MustRefuse left → ⊥
+    go : (left left2 : Option (List ℕ)) → GaveAll left left2 x.input → IsSomeAnd left (IsRefused command) → ⊥
     go None left2 read m = absurd m
     go (Some xs) None read m = absurd read
     go (Some xs) (Some ys) read m = elim m [
-      | inl none ↦ some_not_none x.script (sym x.accepted ∙ ap accepted_script read.0 ∙ none)
+      | inl none ↦ false≢true (sym none ∙ (ap (is_input command) (sym read.0) ∙ outputs_input command x.input text x.output))
       | inr long ↦ (let fits : length xs ≤ greatest_input = rw (← read.0) x.within in omega (arith, long, fits))
     ]
 
--- a told input that must be served is not refused
-taken_not_refused : (left : Option (List ℕ)) → MayRefuse left → MustServe left → ⊥
-taken_not_refused None x m = absurd m
-taken_not_refused (Some xs) x m = elim x [ inl none ↦ none_not_some (accepted_script xs) none m.0 | inr long ↦ omega (arith, long, m.1) ]
-  where
-    none_not_some : (o : Option Script) → o ≡ None → IsSome o → ⊥
-    none_not_some None is some = absurd (false≢true some)
-    none_not_some (Some t) is some = cc
+-- an input that must be answered is not refused
+taken_not_refused : (command : Command) (left : Option (List ℕ)) → IfSome left (IsRefused command) → IsSomeAnd left (IsTaken command) → ⊥
+taken_not_refused command None x m = absurd m
+taken_not_refused command (Some xs) x m = elim x [ inl none ↦ false≢true (sym none ∙ m.0) | inr long ↦ omega (arith, long, m.1) ]
 
--- what each end says of its own status
-means : (words : List (List ℕ)) (source sink : Move) (end : Result (Unit {0}) Stop) → Ends words source sink end → StatusMeans words source sink (status_of end)
-means words source sink (Ok done) x = record {
-  line = (λ h. absurd (omega (arith, h)), λ h. absurd (h x.line));
+-- what the status of each end says, where the words ask for a command
+record Means (command : Command) (source sink : Move) (status : ℕ) : Type 0 where
+  line : status ≡ 2 → ⊥
+  refused : status ≡ 3 → IfSome source.before.bytes (IsRefused command)
+  reading : status ≡ 4 → Fails source
+  writing : status ≡ 5 → Fails sink
+  refuses : IsSomeAnd source.before.bytes (IsRefused command) → ¬ Fails source → (status ≡ 3) ⊎ (status ≡ 6)
+  complete : IsSomeAnd source.before.bytes (IsTaken command) → ¬ Fails source → ¬ Fails sink → (status ≡ 0) ⊎ (status ≡ 6)
+
+means : (command : Command) (source sink : Move) (end : Result (Unit {0}) Stop) → EndsCommand command source sink end → Means command source sink (status_of end)
+means command source sink (Ok done) x = record {
+  line = λ h. omega (arith, h);
   refused = λ h. absurd (omega (arith, h));
   reading = λ h. absurd (omega (arith, h));
   writing = λ h. absurd (omega (arith, h));
-  refuses = λ _ m _. absurd (served_not_refused source x.text x.served m);
-  complete = λ _ _ _ _. inl refl;
+  refuses = λ m _. absurd (answered_not_refused command source x.text x.answered m);
+  complete = λ _ _ _. inl refl;
 }
-means words source sink (Err Words) x = record {
-  line = (λ _. x.0, λ _. refl);
+means command source sink (Err Words) x = absurd x
+means command source sink (Err TooLong) x = record {
+  line = λ h. omega (arith, h);
+  refused = λ _. too_long_input command source x.0;
+  reading = λ h. absurd (omega (arith, h));
+  writing = λ h. absurd (omega (arith, h));
+  refuses = λ _ _. inl refl;
+  complete = λ m _ _. absurd (taken_not_refused command source.before.bytes (too_long_input command source x.0) m);
+}
+means command source sink (Err (Fault message)) x = record {
+  line = λ h. omega (arith, h);
+  refused = λ _. refused_input command source (string_bytes message) x.0;
+  reading = λ h. absurd (omega (arith, h));
+  writing = λ h. absurd (omega (arith, h));
+  refuses = λ _ _. inl refl;
+  complete = λ m _ _. absurd (taken_not_refused command source.before.bytes (refused_input command source (string_bytes message) x.0) m);
+}
+means command source sink (Err Reading) x = record {
+  line = λ h. omega (arith, h);
   refused = λ h. absurd (omega (arith, h));
-  reading = λ h. absurd (omega (arith, h));
+  reading = λ _. x.0;
   writing = λ h. absurd (omega (arith, h));
-  refuses = λ line _ _. absurd (x.0 line);
-  complete = λ line _ _ _. absurd (x.0 line);
+  refuses = λ _ calm. absurd (calm x.0);
+  complete = λ _ calm _. absurd (calm x.0);
 }
-means words source sink (Err TooLong) x = record {
-  line = (λ h. absurd (omega (arith, h)), λ h. absurd (h x.0));
-  refused = λ _. too_long_input source x.1;
-  reading = λ h. absurd (omega (arith, h));
-  writing = λ h. absurd (omega (arith, h));
-  refuses = λ _ _ _. inl refl;
-  complete = λ _ m _ _. absurd (taken_not_refused source.before.bytes (too_long_input source x.1) m);
-}
-means words source sink (Err NotAccepted) x = record {
-  line = (λ h. absurd (omega (arith, h)), λ h. absurd (h x.0));
-  refused = λ _. refused_input source x.1;
-  reading = λ h. absurd (omega (arith, h));
-  writing = λ h. absurd (omega (arith, h));
-  refuses = λ _ _ _. inl refl;
-  complete = λ _ m _ _. absurd (taken_not_refused source.before.bytes (refused_input source x.1) m);
-}
-means words source sink (Err Reading) x = record {
-  line = (λ h. absurd (omega (arith, h)), λ h. absurd (h x.0));
-  refused = λ h. absurd (omega (arith, h));
-  reading = λ _. x.1;
-  writing = λ h. absurd (omega (arith, h));
-  refuses = λ _ _ calm. absurd (calm x.1);
-  complete = λ _ _ calm _. absurd (calm x.1);
-}
-means words source sink (Err Writing) x = record {
-  line = (λ h. absurd (omega (arith, h)), λ h. absurd (h x.line));
+means command source sink (Err Writing) x = record {
+  line = λ h. omega (arith, h);
   refused = λ h. absurd (omega (arith, h));
   reading = λ h. absurd (omega (arith, h));
   writing = λ _. x.wrote.0;
-  refuses = λ _ m _. absurd (served_not_refused source x.text x.served m);
-  complete = λ _ _ _ calm. absurd (calm x.wrote.0);
+  refuses = λ m _. absurd (answered_not_refused command source x.text x.answered m);
+  complete = λ _ _ calm. absurd (calm x.wrote.0);
 }
-means words source sink (Err NoMemory) x = record {
-  line = (λ h. absurd (omega (arith, h)), λ h. absurd (h x.0));
+means command source sink (Err NoMemory) x = record {
+  line = λ h. omega (arith, h);
   refused = λ h. absurd (omega (arith, h));
   reading = λ h. absurd (omega (arith, h));
   writing = λ h. absurd (omega (arith, h));
-  refuses = λ _ _ _. inr refl;
-  complete = λ _ _ _ _. inr refl;
+  refuses = λ _ _. inr refl;
+  complete = λ _ _ _. inr refl;
 }
 
-pub run_means : {words : List (List ℕ)} {source sink errs : Move} {status : ℕ} → IsRun words source sink errs status → StatusMeans words source sink status
-run_means {words} {source} {sink} r = rw (r.status_is) (means words source sink r.end r.ends)
+-- the same by what the words ask for
+ends_mean : (words : lines.Words) (ask : Option Command) (source sink : Move) (end : Result (Unit {0}) Stop) → asked words ≡ ask → Ends ask source sink end → StatusMeans words source sink (status_of end)
+ends_mean words None source sink end is x = rw x.0 (record {
+  line = (λ _ some. false≢true (ap is_some (sym is) ∙ some), λ _. refl);
+  refused = λ h. absurd (omega (arith, h));
+  reading = λ h. absurd (omega (arith, h));
+  writing = λ h. absurd (omega (arith, h));
+  refuses = rw is (λ m _. absurd m);
+  complete = rw is (λ m _ _. absurd m);
+})
+ends_mean words (Some command) source sink end is x =
+    let m = means command source sink end x in
+    record {
+      line = (λ two. absurd (m.line two), λ none. absurd (none (ap is_some is)));
+      refused = rw is m.refused;
+      reading = m.reading;
+      writing = m.writing;
+      refuses = rw is m.refuses;
+      complete = rw is m.complete;
+    }
+
+pub run_means : {words : lines.Words} {source sink errs : Move} {status : ℕ} → IsRun words source sink errs status → StatusMeans words source sink status
+run_means {words} {source} {sink} r = rw (r.status_is) (ends_mean words (asked words) source sink r.end refl r.ends)

@@ -1,4 +1,4 @@
-pub mod Reading
+pub mod Commands
 pub mod Program
 pub mod Causes
 pub mod Stops

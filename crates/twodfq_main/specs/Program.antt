@@ -1,41 +1,19 @@
 -- What the program does with its words, its input, its output and its messages.
-use Rattle.std.specs.Prelude.{ℕ, ◌+◌, ◌≤◌, ◌≡◌, List, [], ◌∷◌, length, Option, Some, None, Result, Ok, Err, codes, ◌⊎◌}
+use Rattle.std.specs.Prelude.{ℕ, ◌+◌, ◌≤◌, ◌≡◌, List, length, Option, Some, None, Result, Ok, Err, codes, ◌⊎◌}
+use Rattle.std.specs.String.{string_bytes}
 use Rattle.std.specs.Io.KnownBytes.{Appends}
 use Rattle.fq_io.specs.Faults.{Rose}
 use Rattle.fq_io.specs.Sources.{GaveAll, TookAtMost, TookTooMany}
 use Rattle.fq_io.specs.Sinks.{AppendsPart}
-use Rattle.fq_model.specs.declared.event.Reply.{Reply}
-use Rattle.fq_model.specs.declared.fault.ScriptKind.{ScriptKind}
-use Rattle.fq_model.specs.History.{History}
-use Rattle.fq_model.specs.Outcome.{Outcome}
-use Rattle.fq_model.specs.Document.{config_of}
-use Rattle.fq_model.specs.Script.{Script, script_of}
-use Rattle.fq_model.specs.Texts.{replies_text}
+use Rattle.fq_model.specs.declared.command.Command.{Command}
+use Rattle.fq_model.specs.Lines as lines
+use Rattle.twodfq_main.specs.Commands.{asked, Outputs, TellsFault}
 use Rattle.twodfq_main.specs.declared.stop.Stop.{Stop}
-use Rattle.twodfq_main.specs.declared.stop.Stop.TheVariants.{Words, TooLong, NotAccepted, Reading, Writing, NoMemory}
+use Rattle.twodfq_main.specs.declared.stop.Stop.TheVariants.{Words, TooLong, Fault, Reading, Writing, NoMemory}
 
 -- the greatest length of an input, in bytes
 abbrev pub greatest_input : ℕ
 greatest_input = 67108864
-
--- the words, without the program's name, are the one word `script`
-abbrev pub IsCommandLine : List (List ℕ) → Type 0
-IsCommandLine words = words ≡ codes "script" ∷ []
-
-abbrev pub served : Result Script (ℕ × ScriptKind) → Option Script
-served (Ok s) = Some s
-served (Err fault) = None
-
--- the script that the input is, if the input is accepted
-abbrev pub accepted_script : List ℕ → Option Script
-accepted_script bytes = served (script_of bytes)
-
--- the text that is written for a script: the replies to its calls, made in order on a scheduler that was just opened
-pub record IsOutput (s : Script) (text : List ℕ) : Type 0 where
-  pub replies : List Reply
-  pub history : History
-  pub outcome : Outcome (config_of s) s.body replies history
-  pub text_is : text ≡ replies_text replies
 
 -- a source or a sink before and after a call: the bytes that it tells, and its count of faults
 pub record Device : Type 0 where
@@ -81,57 +59,58 @@ WritesPart sink text = Fails sink × AppendsPart sink.before.bytes sink.after.by
 abbrev pub ReadsAtMost : Move → ℕ → Type 0
 ReadsAtMost source n = TookAtMost source.before.bytes source.after.bytes n
 
--- the input was read whole, is accepted, and its output is this text
-pub record IsServed (source : Move) (text : List ℕ) : Type 0 where
-  pub bytes : List ℕ
-  pub read : ReadsAll source bytes
-  pub within : length bytes ≤ greatest_input
-  pub script : Script
-  pub accepted : accepted_script bytes ≡ Some script
-  pub output : IsOutput script text
+-- the input was read whole, and this is the command's output for it
+pub record IsAnswered (command : Command) (source : Move) (text : List ℕ) : Type 0 where
+  pub input : List ℕ
+  pub read : ReadsAll source input
+  pub within : length input ≤ greatest_input
+  pub output : Outputs command input text
 
--- the input was read whole, and is not accepted
-pub record IsNotAccepted (source : Move) : Type 0 where
-  pub bytes : List ℕ
-  pub read : ReadsAll source bytes
-  pub within : length bytes ≤ greatest_input
-  pub refused : accepted_script bytes ≡ None
+-- the input was read whole, and this message names its first fault
+pub record IsFaulty (command : Command) (source : Move) (message : List ℕ) : Type 0 where
+  pub input : List ℕ
+  pub read : ReadsAll source input
+  pub within : length input ≤ greatest_input
+  pub fault : TellsFault command input message
 
 -- more bytes came than an input may have
 abbrev pub IsTooLong : Move → Type 0
 IsTooLong source = TookTooMany source.before.bytes source.after.bytes greatest_input
 
 -- all of the output was written
-pub record Succeeds (words : List (List ℕ)) (source sink : Move) : Type 0 where
-  pub line : IsCommandLine words
+pub record Succeeds (command : Command) (source sink : Move) : Type 0 where
   pub text : List ℕ
-  pub served : IsServed source text
+  pub answered : IsAnswered command source text
   pub wrote : Writes sink text
 
 -- writing failed: the sink's faults rose, and a front part of the output was written
-pub record FailsWriting (words : List (List ℕ)) (source sink : Move) : Type 0 where
-  pub line : IsCommandLine words
+pub record FailsWriting (command : Command) (source sink : Move) : Type 0 where
   pub text : List ℕ
-  pub served : IsServed source text
+  pub answered : IsAnswered command source text
   pub wrote : WritesPart sink text
 
--- when each end comes, and what it leaves of the source and the sink. Want of memory may come at any step before
--- writing.
-abbrev pub Ends : List (List ℕ) → Move → Move → Result (Unit {0}) Stop → Type 0
-Ends words source sink (Ok done) = Succeeds words source sink
-Ends words source sink (Err Words) = ¬ IsCommandLine words × Stays source × Stays sink
-Ends words source sink (Err Reading) = IsCommandLine words × Fails source × ReadsAtMost source (greatest_input + 1) × Stays sink
-Ends words source sink (Err TooLong) = IsCommandLine words × IsTooLong source × Stays sink
-Ends words source sink (Err NotAccepted) = IsCommandLine words × IsNotAccepted source × Stays sink
-Ends words source sink (Err Writing) = FailsWriting words source sink
-Ends words source sink (Err NoMemory) = IsCommandLine words × ReadsAtMost source (greatest_input + 1) × Stays sink
+-- when each end of a command comes, and what it leaves of the source and the sink. Want of memory may come at any step
+-- before writing.
+abbrev pub EndsCommand : Command → Move → Move → Result (Unit {0}) Stop → Type 0
+EndsCommand command source sink (Ok done) = Succeeds command source sink
+EndsCommand command source sink (Err Words) = ⊥
+EndsCommand command source sink (Err Reading) = Fails source × ReadsAtMost source (greatest_input + 1) × Stays sink
+EndsCommand command source sink (Err TooLong) = IsTooLong source × Stays sink
+EndsCommand command source sink (Err (Fault message)) = IsFaulty command source (string_bytes message) × Stays sink
+EndsCommand command source sink (Err Writing) = FailsWriting command source sink
+EndsCommand command source sink (Err NoMemory) = ReadsAtMost source (greatest_input + 1) × Stays sink
+
+-- the same by what the words ask for: where that is nothing, neither source nor sink is called
+abbrev pub Ends : Option Command → Move → Move → Result (Unit {0}) Stop → Type 0
+Ends (Some command) source sink end = EndsCommand command source sink end
+Ends None source sink end = (end ≡ Err Words) × Stays source × Stays sink
 
 -- the status of an end
 abbrev pub status_of : Result (Unit {0}) Stop → ℕ
 status_of (Ok done) = 0
 status_of (Err Words) = 2
 status_of (Err TooLong) = 3
-status_of (Err NotAccepted) = 3
+status_of (Err (Fault message)) = 3
 status_of (Err Reading) = 4
 status_of (Err Writing) = 5
 status_of (Err NoMemory) = 6
@@ -140,7 +119,7 @@ status_of (Err NoMemory) = 6
 abbrev pub message_of : Stop → List ℕ
 message_of Words = codes "twodfq: the words are not a command line\n"
 message_of TooLong = codes "twodfq: input longer than 67108864 bytes\n"
-message_of NotAccepted = codes "twodfq: input not accepted\n"
+message_of (Fault message) = string_bytes message
 message_of Reading = codes "twodfq: reading failed\n"
 message_of Writing = codes "twodfq: writing failed\n"
 message_of NoMemory = codes "twodfq: out of memory\n"
@@ -154,23 +133,17 @@ TellsEnd errs (Ok done) = Stays errs
 TellsEnd errs (Err stop) = Tells errs (message_of stop)
 
 -- the whole of a call: it ends in some way, with that status and that message
-pub record IsRun (words : List (List ℕ)) (source sink errs : Move) (status : ℕ) : Type 0 where
+pub record IsRun (words : lines.Words) (source sink errs : Move) (status : ℕ) : Type 0 where
   pub end : Result (Unit {0}) Stop
-  pub ends : Ends words source sink end
+  pub ends : Ends (asked words) source sink end
   pub status_is : status ≡ status_of end
   pub told : TellsEnd errs end
   pub source_later : Later source
   pub sink_later : Later sink
   pub errs_later : Later errs
 
--- the input is accepted, and this is its output
-pub record Outputs (bytes text : List ℕ) : Type 0 where
-  pub script : Script
-  pub accepted : accepted_script bytes ≡ Some script
-  pub output : IsOutput script text
-
--- why an input has no output
-abbrev pub IsOutputStop : List ℕ → Stop → Type 0
-IsOutputStop bytes NotAccepted = accepted_script bytes ≡ None
-IsOutputStop bytes NoMemory = Unit {0}
-IsOutputStop bytes _ = ⊥
+-- why a command has no output for an input
+abbrev pub IsOutputStop : Command → List ℕ → Stop → Type 0
+IsOutputStop command input (Fault message) = TellsFault command input (string_bytes message)
+IsOutputStop command input NoMemory = Unit {0}
+IsOutputStop command input _ = ⊥

@@ -1,16 +1,22 @@
 -- The stop of the program that each fault of a part is.
+use Rattle.std.specs.Prelude.{◌≡◌}
+use Rattle.std.specs.String.{string_bytes}
 use Rattle.fq_io.specs.declared.reading.ReadAllFault.{ReadAllFault}
 use Rattle.fq_io.specs.declared.reading.ReadAllFault.TheVariants as reading
-use Rattle.twodfq_main.specs.declared.script.fault.ScriptFault.{ScriptFault}
-use Rattle.twodfq_main.specs.declared.script.fault.ScriptFault.TheVariants as script
+use Rattle.fq_model.specs.FaultTexts.{script_fault_text, placed_text}
+use Rattle.journal_text.specs.declared.fault.ScriptFault.{ScriptFault}
+use Rattle.journal_text.specs.declared.fault.ScriptFault.TheVariants as script
+use Rattle.twodfq_main.specs.Commands.{message_line}
 use Rattle.twodfq_main.specs.declared.stop.Stop.{Stop}
-use Rattle.twodfq_main.specs.declared.stop.Stop.TheVariants.{TooLong, NotAccepted, Reading, NoMemory}
+use Rattle.twodfq_main.specs.declared.stop.Stop.TheVariants.{TooLong, Fault, Reading, NoMemory}
 
 abbrev pub reading_stop : ReadAllFault → Stop
 reading_stop reading.ReadFault = Reading
 reading_stop (reading.TooLong limit) = TooLong
 reading_stop reading.NoMemory = NoMemory
 
-abbrev pub script_stop : ScriptFault → Stop
-script_stop (script.At line kind) = NotAccepted
-script_stop script.NoMemory = NoMemory
+-- where an input is no script: a message that names its first fault, unless memory ran out
+abbrev pub IsFaultStop : ScriptFault → Stop → Type 0
+IsFaultStop (script.At line kind) (Fault message) = string_bytes message ≡ message_line (placed_text line (script_fault_text kind))
+IsFaultStop fault NoMemory = Unit {0}
+IsFaultStop _ _ = ⊥

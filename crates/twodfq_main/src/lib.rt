@@ -1,8 +1,7 @@
-//! The program over any source and sinks. The reader of scripts and the printer of replies are its own.
+//! The program over any source and sinks.
 #![tactic(auto)]
 
 pub mod program;
-mod replies;
 mod script;
 pub mod serve;
 #[cfg(test)]
@@ -10,4 +9,3 @@ mod served_tests;
 pub mod stop;
 #[cfg(test)]
 mod tests;
-mod words;

@@ -1,15 +1,16 @@
 //! The program, over any source, sinks and clock.
-ghost use Rattle.std.specs.Prelude.{◌≡◌, ◌≤◌, map, MatchResult, Err};
+ghost use Rattle.std.specs.Prelude.{◌≡◌, ◌≤◌, map, option_map, Err};
 ghost use Rattle.std.specs.String.{string_bytes};
-ghost use Rattle.twodfq_main.specs.Program.{Ends, IsRun, Tells, Outputs, IsOutputStop, moved, status_of, message_of};
+ghost use Rattle.fq_model.specs.declared.command.Command.TheVariants.{Script};
+ghost use Rattle.twodfq_main.specs.Commands.{asked};
+ghost use Rattle.twodfq_main.specs.Program.{Ends, EndsCommand, IsRun, Tells, moved, status_of, message_of};
 ghost use Rattle.twodfq_main.specs.Causes.{StatusMeans};
 
-use crate::replies::replies_text;
-use crate::script::calls::read_script;
-use crate::serve::serve;
+use crate::script::served_text;
 use crate::stop::Stop;
-use crate::words::is_command_line;
+use command_line::command::command;
 use fq_io::{Clock, Sink, Source, read_all, write_all};
+use fq_model::command::{Command, ScriptPrint};
 use std::alloc::Global;
 use std::sync::Wait;
 use std::thread::Threads;
@@ -79,34 +80,53 @@ pub fn tell<E: Sink>(errs: &mut E, stop: Stop) -> u8
     stop.status()
 }
 
-// Reads, serves and writes, or says why not.
+// What of a script is printed, if the words ask for that.
+fn asked(words: &[String]) -> Option<ScriptPrint>
+    ensures { option_map Script result ≡ asked (map string_bytes words.now) }
+{
+    match command(words)? {
+        Command::Script { print } => Some(print),
+        Command::Run { .. }
+        | Command::Live { .. }
+        | Command::Gen { .. }
+        | Command::Check { .. }
+        | Command::Compare { .. }
+        | Command::Shape { .. } => None,
+    }
+}
+
+// Does what the words ask for, or says why not.
 fn run<R: Source, W: Sink>(
     alloc: Global,
     words: &[String],
     source: &mut R,
     sink: &mut W,
 ) -> Result<(), Stop>
-    ensures ends { Ends (map string_bytes words.now) (moved R.left R.faults source.old source.new)
+    ensures ends { Ends (asked (map string_bytes words.now)) (moved R.left R.faults source.old source.new)
         (moved W.written W.faults sink.old sink.new) result }
     ensures source_later { R.faults source.old ≤ R.faults source.new }
     ensures sink_later { W.faults sink.old ≤ W.faults sink.new }
 {
-    if !is_command_line(words) {
-        return Err(Stop::Words);
+    match asked(words) {
+        Some(print) => run_script(alloc, print, source, sink),
+        None => Err(Stop::Words),
     }
-    let bytes = read_all(alloc, source, GREATEST_INPUT)?;
-    let text = output(alloc, bytes.as_slice())?;
-    write_all(sink, text.as_slice())?;
-    Ok(())
 }
 
-// The text that is written for an input.
-fn output(alloc: Global, bytes: &[u8]) -> Result<Vec<u8>, Stop>
-    ensures { MatchResult result (λ text. Outputs bytes.now text.items) (IsOutputStop bytes.now) }
+// Reads a script, makes its calls and writes what they leave, or says why not.
+fn run_script<R: Source, W: Sink>(
+    alloc: Global,
+    print: ScriptPrint,
+    source: &mut R,
+    sink: &mut W,
+) -> Result<(), Stop>
+    ensures ends { EndsCommand (Script print) (moved R.left R.faults source.old source.new)
+        (moved W.written W.faults sink.old sink.new) result }
+    ensures source_later { R.faults source.old ≤ R.faults source.new }
+    ensures sink_later { W.faults sink.old ≤ W.faults sink.new }
 {
-    let script = read_script(alloc, bytes)?;
-    let (config, _, _, calls) = script.into_parts();
-    let served = serve(alloc, config, calls.as_slice())?;
-    let text = replies_text(alloc, served.replies.as_slice())?;
-    Ok(text)
+    let input = read_all(alloc, source, GREATEST_INPUT)?;
+    let text = served_text(alloc, print, input.as_slice())?;
+    write_all(sink, text.as_slice())?;
+    Ok(())
 }

@@ -7,34 +7,8 @@ ghost use Rattle.sched_state.specs.Replies.{AnswersCall, submit_reply, take_repl
 use fq_model::config::Checked;
 use fq_model::event::{Call, Cause, Reply};
 use rival_policies::plain::PlainChooser;
-use sched_state::{AlreadyClosed, Refused, Scheduler, Taken};
-use std::alloc::{AllocError, Global};
-use std::error::Error;
-use std::fmt;
-
-/// Memory ran out.
-#[derive(Clone, Copy, Debug, PartialEq, Eq)]
-pub struct NoMemory;
-
-impl fmt::Display for NoMemory {
-    fn fmt<W: fmt::Write>(&self, f: &mut fmt::Formatter<W>) -> fmt::Result {
-        write!(f, "out of memory")
-    }
-}
-
-impl Error for NoMemory {}
-
-impl From<AllocError> for NoMemory {
-    fn from(_fault: AllocError) -> NoMemory {
-        NoMemory
-    }
-}
-
-impl From<sched_state::NoMemory> for NoMemory {
-    fn from(_fault: sched_state::NoMemory) -> NoMemory {
-        NoMemory
-    }
-}
+use sched_state::{AlreadyClosed, NoMemory, Refused, Scheduler, Taken};
+use std::alloc::Global;
 
 /// The replies to the calls of a script, and the scheduler after them.
 #[derive(Drop)]
@@ -45,7 +19,8 @@ pub struct Served {
 
 /// Makes the calls in order on a scheduler that is opened for them.
 pub fn serve(alloc: Global, config: Checked, calls: &[Call]) -> Result<Served, NoMemory>
-    ensures { IfOk result (λ s. Outcome config calls.now s.replies.items (history_of s.scheduler.past)) }
+    ensures outcome { IfOk result (λ s. Outcome config calls.now s.replies.items (history_of s.scheduler.past)) }
+    ensures same { IfOk result (λ s. s.scheduler.config ≡ config) }
 {
     let mut replies = Vec::with_capacity(alloc, calls.len())?;
     let mut scheduler = Scheduler::open(alloc, config)?;

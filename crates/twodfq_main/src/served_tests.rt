@@ -9,15 +9,26 @@ const HEAD: &str =
 
 // The input is served, with these replies.
 fn answers(rt: &impl Abort, alloc: Global, input: &str, replies: &str) -> Result<(), Fail> {
+    prints(rt, alloc, &["script"], input, replies)
+}
+
+// The input is served, and this is written.
+fn prints(
+    rt: &impl Abort,
+    alloc: Global,
+    words: &[&str],
+    input: &str,
+    written: &str,
+) -> Result<(), Fail> {
     let wanted = Wanted {
         status: 0,
-        written: replies,
+        written,
         told: "",
     };
     check(
         rt,
         alloc,
-        &["script"],
+        words,
         &mut source_of(alloc, input)?,
         &mut sink(alloc)?,
         &wanted,
@@ -152,6 +163,20 @@ fn estimates_the_mean(rt: HostRuntime) -> Result<(), Fail> {
     )
 }
 
+// A moment that goes back is written as that of the entry before.
+#[test]
+fn prints_the_journal(rt: HostRuntime) -> Result<(), Fail> {
+    let input = format!(in rt.alloc(); "{HEAD}submit 0 50 0 0 5 1\nsubmit 1 40 0 0 6 2\n")?;
+    prints(
+        &rt,
+        rt.alloc(),
+        &["script", "--print", "journal"],
+        input.as_str(),
+        "journal 1\nconfig 1 2dfq declared 1000 100 10\ntenant a 1\ntenant b 1\nkind get\n\
+        submit 0 50 0 0 0 5 1\nsubmit 1 50 1 0 0 6 2\n",
+    )
+}
+
 // Four entries have room for one request and the close, and none for a report.
 #[test]
 fn refuses_reports_without_room(rt: HostRuntime) -> Result<(), Fail> {
@@ -194,11 +219,15 @@ fn changes_weights(rt: HostRuntime) -> Result<(), Fail> {
         "{head}submit 0 0 0 0 8 1\nsubmit 0 0 0 0 8 2\nsubmit 1 0 1 0 5 3\nweight 0 0 0 2\ntake 10 0 0\n\
         weight 0 0 0 4\ndone 10 20 0 8\ntake 10 20 0\n"
     )?;
-    answers(
+    prints(
         &rt,
         rt.alloc(),
+        &["script", "--print", "both"],
         input.as_str(),
-        "request 0\nrequest 1\nrequest 2\nok\nrun 0 8 1\nok\nok\nrun 2 5 3\n",
+        "request 0\nrequest 1\nrequest 2\nok\nrun 0 8 1\nok\nok\nrun 2 5 3\n\
+        journal 2\nconfig 1 2dfq declared 1000 100 10\ntenant a 1\ntenant b 1\nkind get\n\
+        submit 0 0 0 0 0 8 1\nsubmit 0 0 1 0 0 8 2\nsubmit 1 0 2 1 0 5 3\nweight 0 0 0 2\n\
+        take 10 0 0 0 8\nweight 0 0 0 4\ndone 10 20 0 0 8\ntake 10 20 0 2 5\n",
     )?;
     let refused = format!(in rt.alloc();
         "{head}weight 0 0 2 1\nweight 0 0 0 0\nweight 0 0 0 1001\n"

@@ -2,22 +2,20 @@
 ghost use Rattle.std.specs.Prelude.{◌≡◌, Err};
 ghost use Rattle.twodfq_main.specs.Program.{status_of, message_of};
 
-use crate::script::fault::ScriptFault;
-use crate::serve::NoMemory;
 use fq_io::{ReadAllFault, WriteFault};
 use std::alloc::AllocError;
 use std::error::Error;
 use std::fmt;
 
 /// Why the program stops short of its output.
-#[derive(Clone, Copy, Debug, PartialEq, Eq)]
+#[derive(Debug, Drop)]
 pub enum Stop {
     /// The words are not a command line.
     Words,
     /// More bytes came than an input may have.
     TooLong,
-    /// The input is not a script.
-    NotAccepted,
+    /// The input is not what the command reads: its first fault, as a message.
+    Fault(String),
     /// A read failed.
     Reading,
     /// A write failed.
@@ -28,12 +26,12 @@ pub enum Stop {
 
 impl Stop {
     /// The exit status: 2 to 6.
-    pub fn status(self) -> u8
-        ensures { result ≡ status_of (Err self) }
+    pub fn status(&self) -> u8
+        ensures { result ≡ status_of (Err self.now) }
     {
         match self {
             Stop::Words => 2,
-            Stop::TooLong | Stop::NotAccepted => 3,
+            Stop::TooLong | Stop::Fault(_) => 3,
             Stop::Reading => 4,
             Stop::Writing => 5,
             Stop::NoMemory => 6,
@@ -41,13 +39,13 @@ impl Stop {
     }
 
     /// One line for the messages.
-    pub fn message(self) -> &'static str
-        ensures { result.now ≡ message_of self }
+    pub fn message(&self) -> &str
+        ensures { result.now ≡ message_of self.now }
     {
         match self {
             Stop::Words => "twodfq: the words are not a command line\n",
             Stop::TooLong => "twodfq: input longer than 67108864 bytes\n",
-            Stop::NotAccepted => "twodfq: input not accepted\n",
+            Stop::Fault(message) => message.as_str(),
             Stop::Reading => "twodfq: reading failed\n",
             Stop::Writing => "twodfq: writing failed\n",
             Stop::NoMemory => "twodfq: out of memory\n",
@@ -88,25 +86,22 @@ impl From<WriteFault> for Stop {
     }
 }
 
-impl From<ScriptFault> for Stop {
-    ghost use Rattle.twodfq_main.specs.Stops.{script_stop};
-
-    ghost from_gives = { λ fault stop. stop ≡ script_stop fault };
-
-    fn from(fault: ScriptFault) -> Stop {
-        match fault {
-            ScriptFault::At { .. } => Stop::NotAccepted,
-            ScriptFault::NoMemory => Stop::NoMemory,
-        }
-    }
-}
-
-impl From<NoMemory> for Stop {
+impl From<journal_text::fault::NoMemory> for Stop {
     ghost use Rattle.twodfq_main.specs.declared.stop.Stop.TheVariants as stops;
 
     ghost from_gives = { λ _ stop. stop ≡ stops.NoMemory };
 
-    fn from(_fault: NoMemory) -> Stop {
+    fn from(_fault: journal_text::fault::NoMemory) -> Stop {
+        Stop::NoMemory
+    }
+}
+
+impl From<sched_state::NoMemory> for Stop {
+    ghost use Rattle.twodfq_main.specs.declared.stop.Stop.TheVariants as stops;
+
+    ghost from_gives = { λ _ stop. stop ≡ stops.NoMemory };
+
+    fn from(_fault: sched_state::NoMemory) -> Stop {
         Stop::NoMemory
     }
 }

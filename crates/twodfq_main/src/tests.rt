@@ -1,10 +1,6 @@
 //! Worked examples of the program, from the bytes that come in to the bytes that go out.
 use crate::program::{plain, twodfq};
-use crate::script::fault::{LineError, ScriptFault};
-use crate::serve::NoMemory;
-use crate::stop::Stop;
 use fq_io::{FixedClock, MemSink, MemSource, read_all};
-use fq_model::fault::ScriptKind;
 use std::alloc::Global;
 use std::process::Abort;
 use std::test::Fail;
@@ -53,25 +49,31 @@ pub fn check(
     Ok(())
 }
 
+// The first fault is named with its line, and nothing is written.
 #[test]
-fn refuses_inputs(rt: HostRuntime) -> Result<(), Fail> {
-    let wanted = Wanted {
-        status: 3,
-        written: "",
-        told: "twodfq: input not accepted\n",
-    };
-    for input in [
-        "",
-        "script 1\nconfig 1 sfq declared 1000 100 10\ntenant a 1\nkind get\n",
-        "script 1\nconfig 1 2dfq_nostagger recent 1000 100 10\ntenant a 1\nkind get\n",
-        "script 1\nconfig 1 2dfq declared 1000 100 10\ntenant a 1\ntenant b 1\nkind get\nweight 0 0 2 1\n\
-        weight 0 0 0 0\nweight 0 0 0 1001\n",
+fn names_the_first_fault(rt: HostRuntime) -> Result<(), Fail> {
+    for (input, told) in [
+        ("", "twodfq: line 1: not a script\n"),
+        (
+            "script 1\nconfig 1 sfq declared 01 100 10\ntenant a 1\nkind get\n",
+            "twodfq: line 2: unknown word or name\n",
+        ),
+        (
+            "script 1\nconfig 1 2dfq declared 1000 100 10\ntenant a 1\ntenant b 1\nkind get\nweight 0 0 2 1\n\
+            weight 0 0 0 0\nweight 0 0 0 1001\n",
+            "twodfq: line 6: unknown word or name\n",
+        ),
     ] {
         let mut source = source_of(rt.alloc(), input)?;
+        let wanted = Wanted {
+            status: 3,
+            written: "",
+            told,
+        };
         check(
             &rt,
             rt.alloc(),
-            &["script"],
+            &["script", "--print=both"],
             &mut source,
             &mut sink(rt.alloc())?,
             &wanted,
@@ -162,21 +164,5 @@ fn serves_with_a_clock(rt: HostRuntime) -> Result<(), Fail> {
     assert_eq!(rt; status, 0);
     assert_eq!(rt; written.bytes(), SERVED_REPLIES.as_bytes());
     assert_eq!(rt; told.bytes(), b"".as_slice());
-    Ok(())
-}
-
-#[test]
-fn errors_have_texts(rt: HostRuntime) -> Result<(), Fail> {
-    let kind = ScriptKind::Number(4);
-    let fault = ScriptFault::At { line: 7, kind };
-    let texts = format!(in rt.alloc();
-        "{}; {fault}; {}; {NoMemory}",
-        Stop::Reading,
-        LineError::Fault(kind)
-    )?;
-    assert_eq!(rt;
-        texts.as_str(),
-        "twodfq: reading failed; line 7: word 4 is not a number; word 4 is not a number; out of memory"
-    );
     Ok(())
 }

@@ -1,0 +1,6 @@
+mod Heads
+mod Kept
+mod FirstLine
+mod NoFault
+mod Names
+mod DocumentLimits

@@ -1,0 +1,6 @@
+use Rattle.std.proofs.Common.{◌≡◌, ◌++◌, drop}
+use Rattle.fq_model.specs.JournalText.{entries_text}
+use Rattle.journal_text.proofs.printing.add_entries.Given as goal
+
+abbrev pub invariant-loop-entry : goal.invariant-loop-entry
+invariant-loop-entry l = l.text.items ++ entries_text (drop l.entry-index l.past) ≡ l.fn.text.items ++ entries_text l.past

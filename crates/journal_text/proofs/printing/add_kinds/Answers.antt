@@ -1,0 +1,19 @@
+use Rattle.std.proofs.Common.{◌≡◌, ◌++◌, ◌+◌, [], drop, rules, arith}
+use Rattle.std.specs.Prelude.{codes}
+use Rattle.fq_model.specs.JournalText.{kinds_text}
+use Rattle.journal_text.specs.Printing.{row_text}
+use Rattle.journal_text.proofs.Heads.{longer, next_kind}
+use Rattle.journal_text.proofs.printing.add_kinds.Goals as goal
+
+pub loop-k-preserved : goal.loop-k-preserved
+loop-k-preserved c =
+    let kinds = c.args.kinds.now in
+    let name = c.name.result.now in
+    let word : c.extend_from_slice.new.self.items ≡ c.loop-k.text.items ++ codes "kind " = search rules in
+    let row : c.add_row.new.text.items ≡ c.extend_from_slice.new.self.items ++ row_text name [] = search rules in
+    record {
+      so_far = longer c.loop-k.text.items (codes "kind ") c.extend_from_slice.new.self.items (row_text name []) c.add_row.new.text.items
+          (kinds_text (drop c.loop-k.k kinds)) (kinds_text (drop (c.loop-k.k + 1) kinds)) _ word row
+          (next_kind kinds c.loop-k.k name c.name.ensures.value) c.loop-k.invariant.so_far;
+      below = omega arith;
+    }

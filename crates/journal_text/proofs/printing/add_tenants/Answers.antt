@@ -1,0 +1,30 @@
+use Rattle.std.proofs.Common.{◌≡◌, ◌≤◌, ◌++◌, ◌+◌, [], ◌∷◌, length, drop, rules, arith}
+use Rattle.std.specs.Prelude.{codes}
+use Rattle.fq_model.specs.JournalText.{tenants_text}
+use Rattle.tenant_table.specs.Names.{names_of}
+use Rattle.journal_text.specs.Printing.{row_text}
+use Rattle.tenant_table.proofs.Tables.{length_names}
+use Rattle.journal_text.proofs.Heads.{longer, next_tenant, whole}
+use Rattle.journal_text.proofs.printing.add_tenants.Goals as goal
+
+pub loop-t-preserved : goal.loop-t-preserved
+loop-t-preserved c =
+    let names = names_of c.args.tenants.now in
+    let weights = c.args.config.now.weights in
+    let t = c.loop-t.t in
+    let name = c.name.result.now in
+    let word : c.extend_from_slice.new.self.items ≡ c.loop-t.text.items ++ codes "tenant " = search rules in
+    let row : c.add_row.new.text.items ≡ c.extend_from_slice.new.self.items ++ row_text name (c.weight.result ∷ []) = search rules in
+    record {
+      so_far = longer c.loop-t.text.items (codes "tenant ") c.extend_from_slice.new.self.items (row_text name (c.weight.result ∷ [])) c.add_row.new.text.items
+          (tenants_text (drop t names) (drop t weights)) (tenants_text (drop (t + 1) names) (drop (t + 1) weights)) _ word
+          row (next_tenant names weights t name c.weight.result (omega arith) c.name.ensures.value c.weight.ensures.value) c.loop-t.invariant.so_far;
+      named = omega arith;
+      weighed = omega arith;
+    }
+
+pub returns : goal.returns
+returns c =
+    let tenants = c.args.tenants.now in
+    let counted : length (names_of tenants) ≡ length tenants = length_names tenants in
+    whole c.loop-t.text.items (names_of tenants) c.args.config.now.weights c.loop-t.t _ (omega arith) (omega arith) (omega arith) c.loop-t.invariant.so_far

@@ -1,0 +1,65 @@
+-- What the reader returns, against what a text says.
+use Rattle.std.specs.Prelude.{ℕ, ◌*◌, ◌<◌, ◌≡◌, nat_lt, Bool, ◌||◌, List, ◌∷◌, length, map, Result, Ok, Err}
+use Rattle.std.specs.Borrow.{Bor}
+use Rattle.fq_model.specs.declared.fault.ScriptKind.{ScriptKind}
+use Rattle.fq_model.specs.declared.config.Config.{Config}
+use Rattle.fq_model.specs.declared.limits.TheConstants.{MOST_TENANTS, MOST_KINDS, MOST_PAIRS}
+use Rattle.fq_model.specs.Document.{Settings, Document}
+use Rattle.fq_model.specs.Lines.{Words, lines_of}
+use Rattle.tenant_table.specs.Names.{names_of, weights_of}
+use Rattle.journal_text.specs.declared.fault.LineError.{LineError}
+use Rattle.journal_text.specs.declared.fault.LineError.TheVariants as errors
+use Rattle.journal_text.specs.declared.fault.ScriptFault.{ScriptFault}
+use Rattle.journal_text.specs.declared.fault.ScriptFault.TheVariants as faults
+
+-- the words that are seen through references
+abbrev pub words_in : List (Bor (List ℕ)) → Words
+words_in words = map (λ w. w.now) words
+
+-- reading has this fault, unless memory ran out
+abbrev pub Fails : {Y : Type 0} → LineError → Result Y ScriptKind → Type 0
+Fails (errors.Fault kind) read = read ≡ Err kind
+Fails errors.Memory read = Unit {0}
+
+-- what was returned is, seen by `view`, what reading gives
+abbrev pub Gives : {X Y : Type 0} → (X → Y) → Result X LineError → Result Y ScriptKind → Type 0
+Gives view (Ok x) read = read ≡ Ok (view x)
+Gives view (Err e) read = Fails e read
+
+-- the same for a whole text, whose faults have a line
+abbrev pub IsFirstFault : {Y : Type 0} → ScriptFault → Result Y (ℕ × ScriptKind) → Type 0
+IsFirstFault (faults.At line kind) read = read ≡ Err (line, kind)
+IsFirstFault faults.NoMemory read = Unit {0}
+
+abbrev pub fault_at : ℕ → LineError → ScriptFault
+fault_at line (errors.Fault kind) = faults.At line kind
+fault_at line errors.Memory = faults.NoMemory
+
+-- the text is this line, and then the text below it
+pub record IsFirstLine (text line below : List ℕ) : Type 0 where
+  pub lines : lines_of text ≡ line ∷ lines_of below
+  pub shorter : length below < length text
+
+-- what the config line of a document with this configuration says
+abbrev pub settings_in : Config → Settings
+settings_in c = record { workers = c.workers; policy = c.policy; estimate = c.estimate; initial = c.initial; entries = c.entries; requests = c.requests }
+
+-- a scheduler with this configuration has these tenants and kinds
+pub record IsAbout (config : Config) (tenants : List (List ℕ × ℕ)) (kinds : List (List ℕ)) : Type 0 where
+  pub weighed : config.weights ≡ weights_of tenants
+  pub counted : config.kinds ≡ length kinds
+
+-- the document with this configuration, these tenants and kinds, and this body
+abbrev pub document_in : {A : Type 0} → Config → List (List ℕ × ℕ) → List (List ℕ) → List A → Document A
+document_in config tenants kinds body = record {
+  settings = settings_in config;
+  tenants = names_of tenants;
+  weights = weights_of tenants;
+  kinds = kinds;
+  body = body;
+}
+
+-- more tenants, kinds or pairs of both than there may be
+abbrev pub are_too_many : ℕ → ℕ → Bool
+are_too_many tenants kinds =
+    nat_lt MOST_TENANTS tenants || (nat_lt MOST_KINDS kinds || nat_lt MOST_PAIRS (tenants * kinds))

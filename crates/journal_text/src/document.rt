@@ -1,0 +1,91 @@
+//! Documents: what a script or a journal says.
+ghost use Rattle.std.specs.Prelude.{◌≡◌, length};
+ghost use Rattle.fq_model.specs.Document.{config_of};
+ghost use Rattle.tenant_table.specs.Names.{names_of, weights_of};
+ghost use Rattle.journal_text.specs.Reading.{IsAbout, document_in};
+
+use fq_model::config::Checked;
+use std::marker::Model;
+use tenant_table::kinds::Kinds;
+use tenant_table::tenants::Tenants;
+
+/// A document: the configuration of the scheduler that it is about, its tenants and kinds, and what the
+/// lines below them say, in order.
+#[derive(Drop)]
+pub struct Document<A: Drop> {
+    config: Checked,
+    tenants: Tenants,
+    kinds: Kinds,
+    body: Vec<A>,
+}
+
+impl<A: Drop> Model for Document<A> {
+    ghost use Rattle.fq_model.specs.Document.{Document};
+    ghost use Rattle.journal_text.specs.Reading.{IsAbout, document_in};
+
+    ghost Value = { Document A };
+
+    ghost view = { λ d. document_in d.config d.tenants d.kinds d.body.items };
+
+    ghost invariant = { λ d. IsAbout d.config d.tenants d.kinds };
+}
+
+impl<A: Drop> Document<A> {
+    /// The document of these parts. Takes no memory.
+    pub fn new(config: Checked, tenants: Tenants, kinds: Kinds, body: Vec<A>) -> Document<A>
+        requires { IsAbout config tenants kinds }
+        ensures { result ≡ document_in config tenants kinds body.items }
+    {
+        Document {
+            config,
+            tenants,
+            kinds,
+            body,
+        }
+    }
+
+    /// What the scheduler is opened with.
+    pub fn config(&self) -> &Checked
+        ensures { result.now ≡ config_of self.now }
+    {
+        &self.config
+    }
+
+    /// The tenants.
+    pub fn tenants(&self) -> &Tenants
+        ensures names { names_of result.now ≡ self.now.tenants }
+        ensures weights { weights_of result.now ≡ self.now.weights }
+    {
+        &self.tenants
+    }
+
+    /// The kinds.
+    pub fn kinds(&self) -> &Kinds
+        ensures { result.now ≡ self.now.kinds }
+    {
+        &self.kinds
+    }
+
+    /// What the lines below the head say, in order.
+    pub fn body(&self) -> &[A]
+        ensures { result.now ≡ self.now.body }
+    {
+        self.body.as_slice()
+    }
+
+    /// Its parts: the configuration, the tenants, the kinds, and what the lines below say. Takes no memory.
+    pub fn into_parts(self) -> (Checked, Tenants, Kinds, Vec<A>)
+        ensures config { result.0 ≡ config_of self }
+        ensures tenants { names_of result.1 ≡ self.tenants }
+        ensures kinds { result.2 ≡ self.kinds }
+        ensures body { result.3.items ≡ self.body }
+    {
+        let Document {
+            config,
+            tenants,
+            kinds,
+            body,
+        } = self;
+        (config, tenants, kinds, body)
+    }
+}

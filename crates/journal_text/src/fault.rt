@@ -1,0 +1,79 @@
+//! Why a script was not read.
+ghost use Rattle.std.specs.Prelude.{◌≡◌};
+ghost use Rattle.journal_text.specs.declared.fault.LineError.TheVariants.{Memory};
+ghost use Rattle.journal_text.specs.Reading.{fault_at};
+
+use fq_model::fault::ScriptKind;
+use std::alloc::{AllocError, AllocFailed};
+use thiserror::Error;
+
+/// Why a script was not read.
+#[derive(Clone, Copy, Debug, PartialEq, Eq, Error)]
+pub enum ScriptFault {
+    /// The first fault: its line, counted from 1, and what is wrong there.
+    #[error("line {line}: {kind}")]
+    At { line: u64, kind: ScriptKind },
+    /// Memory ran out.
+    #[error("out of memory")]
+    NoMemory,
+}
+
+/// Why a line was not read.
+#[derive(Clone, Copy, Debug, PartialEq, Eq, Error)]
+pub enum LineError {
+    /// The line's first fault.
+    #[error("{0}")]
+    Fault(ScriptKind),
+    /// Memory ran out.
+    #[error("out of memory")]
+    Memory,
+}
+
+/// Memory ran out.
+#[derive(Clone, Copy, Debug, PartialEq, Eq, Error)]
+#[error("out of memory")]
+pub struct NoMemory;
+
+impl From<AllocError> for NoMemory {
+    fn from(_e: AllocError) -> NoMemory {
+        NoMemory
+    }
+}
+
+impl LineError {
+    /// The same, with the line's number.
+    pub fn at(self, line: u64) -> ScriptFault
+        ensures { result ≡ fault_at line self }
+    {
+        match self {
+            LineError::Fault(kind) => ScriptFault::At { line, kind },
+            LineError::Memory => ScriptFault::NoMemory,
+        }
+    }
+}
+
+impl From<AllocError> for LineError {
+    ghost from_gives = { λ _ e. e ≡ Memory };
+
+    fn from(_e: AllocError) -> LineError {
+        LineError::Memory
+    }
+}
+
+impl From<AllocError> for ScriptFault {
+    ghost use Rattle.journal_text.specs.declared.fault.ScriptFault.TheVariants.{NoMemory};
+
+    ghost from_gives = { λ _ e. e ≡ NoMemory };
+
+    fn from(_e: AllocError) -> ScriptFault {
+        ScriptFault::NoMemory
+    }
+}
+
+impl<T: Drop> From<AllocFailed<T>> for LineError {
+    ghost from_gives = { λ _ e. e ≡ Memory };
+
+    fn from(_e: AllocFailed<T>) -> LineError {
+        LineError::Memory
+    }
+}

@@ -1,0 +1,32 @@
+//! Lines of a text, and words of a line.
+ghost use Rattle.std.specs.Prelude.{◌≡◌, ◌==◌, [], MatchOption, IfOk, position};
+ghost use Rattle.fq_model.specs.Lines.{words_of};
+ghost use Rattle.journal_text.specs.Reading.{IsFirstLine, words_in};
+
+use std::alloc::{AllocError, Global};
+
+/// The first line of a text, and the text below it.
+pub fn next_line(text: &[u8]) -> Option<(&[u8], &[u8])>
+    ensures { MatchOption result (text.now ≡ []) (λ r. IsFirstLine text.now r.0.now r.1.now) }
+{
+    if text.is_empty() {
+        return None;
+    }
+    match line_end(text) {
+        Some(end) => Some((&text[..end], &text[end + 1..])),
+        None => Some((text, &text[text.len()..])),
+    }
+}
+
+fn line_end(text: &[u8]) -> Option<usize>
+    ensures { result ≡ position (λ b. b == 10) text.now }
+{
+    text.iter().position(|b| *b == b'\n')
+}
+
+/// The words of a line.
+pub fn words(alloc: Global, line: &[u8]) -> Result<Vec<&[u8]>, AllocError>
+    ensures { IfOk result (λ v. words_in v.items ≡ words_of line.now) }
+{
+    line.split(|b| *b == b' ').collect(alloc)
+}

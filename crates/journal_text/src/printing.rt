@@ -1,0 +1,199 @@
+//! The printer of journals.
+ghost use Rattle.std.specs.Prelude.{◌≡◌, ◌++◌, codes, string_bytes, IfOk, OnOk, OnErr};
+ghost use Rattle.std.specs.Fmt.{decimal};
+ghost use Rattle.std.specs.List.{list_any};
+ghost use Rattle.fq_model.specs.History.{is_change};
+ghost use Rattle.fq_model.specs.Numbers.{policy_word, estimator_word};
+ghost use Rattle.fq_model.specs.JournalText.{entry_line, entries_text, version_for, header_line, tenants_text, kinds_text, head_text, journal_text};
+ghost use Rattle.tenant_table.specs.Names.{names_of};
+
+use crate::fault::NoMemory;
+use crate::rows::add_row;
+use fq_model::config::Checked;
+use fq_model::event::{Act, Entry};
+use fq_model::version::Version;
+use std::alloc::{AllocError, Global};
+use tenant_table::kinds::Kinds;
+use tenant_table::tenants::Tenants;
+
+/// The journal of a scheduler's entries, in order of time, as a text: its configuration, the names of its
+/// tenants and kinds by number, and a line for each entry.
+#[tactic(auto, unfolding(fq_model::specs::JournalText::journal_text))]
+pub fn print(
+    alloc: Global,
+    past: &[Entry],
+    config: &Checked,
+    tenants: &Tenants,
+    kinds: &Kinds,
+) -> Result<Vec<u8>, NoMemory>
+    ensures { IfOk result (λ text. text.items
+        ≡ journal_text config.now (names_of tenants.now) kinds.now past.now) }
+{
+    let mut text = Vec::from_slice(alloc, header(version_for(past)).as_bytes())?;
+    add_head(alloc, config, tenants, kinds, &mut text)?;
+    add_entries(past, &mut text)?;
+    Ok(text)
+}
+
+fn header(version: Version) -> &'static str
+    ensures { result.now ≡ header_line version }
+{
+    match version {
+        Version::First => "journal 1\n",
+        Version::Second => "journal 2\n",
+    }
+}
+
+fn version_for(past: &[Entry]) -> Version
+    ensures { result ≡ version_for past.now }
+{
+    if has_change(past) {
+        Version::Second
+    } else {
+        Version::First
+    }
+}
+
+fn has_change(past: &[Entry]) -> bool
+    ensures { result ≡ list_any (λ e. is_change e.act) past.now }
+{
+    past.iter().any(|entry| is_change(entry.act))
+}
+
+// Whether it changes a weight or the number of workers.
+fn is_change(act: Act) -> bool
+    ensures { result ≡ is_change act }
+{
+    matches!(act, Act::Weight { .. } | Act::Workers { .. })
+}
+
+// Appends the lines between the first and the entries.
+fn add_head(
+    alloc: Global,
+    config: &Checked,
+    tenants: &Tenants,
+    kinds: &Kinds,
+    text: &mut Vec<u8>,
+) -> Result<(), AllocError>
+    ensures { OnOk result (text.new.items
+        ≡ text.old.items ++ head_text config.now (names_of tenants.now) kinds.now) }
+{
+    let settings = settings_start(alloc, config)?;
+    let numbers = [
+        config.initial(),
+        config.entries() as u64,
+        config.requests() as u64,
+    ];
+    add_row(settings.as_str(), &numbers, text)?;
+    add_tenants(config, tenants, text)?;
+    add_kinds(kinds, text)
+}
+
+// The config line, up to its policy and estimator.
+fn settings_start(alloc: Global, config: &Checked) -> Result<String, AllocError>
+    ensures { IfOk result (λ line. string_bytes line ≡ codes "config " ++ decimal config.now.workers ++ codes " "
+        ++ policy_word config.now.policy ++ codes " " ++ estimator_word config.now.estimate) }
+{
+    let workers = config.workers();
+    let policy = config.policy();
+    let estimate = config.estimate();
+    let line = format!(in alloc; "config {workers} {policy} {estimate}")?;
+    Ok(line)
+}
+
+// Appends a line for each tenant that has a weight.
+fn add_tenants(config: &Checked, tenants: &Tenants, text: &mut Vec<u8>) -> Result<(), AllocError>
+    ensures { OnOk result (text.new.items
+        ≡ text.old.items ++ tenants_text (names_of tenants.now) config.now.weights) }
+{
+    for t in 0..tenants.len().min(config.tenants()) {
+        text.extend_from_slice(b"tenant ")?;
+        add_row(tenants.name(t), &[config.weight(t) as u64], text)?;
+    }
+    Ok(())
+}
+
+// Appends a line for each kind.
+fn add_kinds(kinds: &Kinds, text: &mut Vec<u8>) -> Result<(), AllocError>
+    ensures { OnOk result (text.new.items ≡ text.old.items ++ kinds_text kinds.now) }
+{
+    for k in 0..kinds.len() {
+        text.extend_from_slice(b"kind ")?;
+        add_row(kinds.name(k), &[], text)?;
+    }
+    Ok(())
+}
+
+// Appends a line for each entry.
+fn add_entries(past: &[Entry], text: &mut Vec<u8>) -> Result<(), AllocError>
+    ensures { OnOk result (text.new.items ≡ text.old.items ++ entries_text past.now) }
+{
+    for entry in past {
+        add_entry(entry, text)?;
+    }
+    Ok(())
+}
+
+/// Appends an entry's line. Where memory runs out, `out` stays as it was.
+pub fn entry_line(entry: &Entry, out: &mut Vec<u8>) -> Result<(), NoMemory>
+    ensures added { OnOk result (out.new.items ≡ out.old.items ++ entry_line entry.now) }
+    ensures unchanged { OnErr result (out.new.items ≡ out.old.items) }
+{
+    Ok(add_entry(entry, out)?)
+}
+
+fn add_entry(entry: &Entry, out: &mut Vec<u8>) -> Result<(), AllocError>
+    ensures added { OnOk result (out.new.items ≡ out.old.items ++ entry_line entry.now) }
+    ensures unchanged { OnErr result (out.new.items ≡ out.old.items) }
+{
+    let who = entry.who as u64;
+    let moment = entry.moment;
+    match entry.act {
+        Act::Submit {
+            request,
+            tenant,
+            kind,
+            declared,
+            label,
+        } => {
+            let (request, tenant, kind) = (request as u64, tenant as u64, kind as u64);
+            add_row(
+                "submit",
+                &[who, moment, request, tenant, kind, declared, label],
+                out,
+            )
+        }
+        Act::Take {
+            worker,
+            request,
+            estimate,
+        } => add_row(
+            "take",
+            &[who, moment, worker as u64, request as u64, estimate],
+            out,
+        ),
+        Act::Report {
+            worker,
+            request,
+            used,
+        } => add_row(
+            "report",
+            &[who, moment, worker as u64, request as u64, used],
+            out,
+        ),
+        Act::Done {
+            worker,
+            request,
+            cost,
+        } => add_row(
+            "done",
+            &[who, moment, worker as u64, request as u64, cost],
+            out,
+        ),
+        Act::Close => add_row("close", &[who, moment], out),
+        Act::Weight { tenant, weight } => {
+            add_row("weight", &[who, moment, tenant as u64, weight as u64], out)
+        }
+        Act::Workers { count } => add_row("workers", &[who, moment, count as u64], out),
+    }
+}

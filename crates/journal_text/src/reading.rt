@@ -1,0 +1,264 @@
+//! The reader of documents.
+ghost use Rattle.std.specs.Prelude.{◌≡◌, None, Ok, IfOk, IfErr};
+ghost use Rattle.fq_model.specs.Lines.{words_of, lines_of};
+ghost use Rattle.fq_model.specs.Document.{new_among, with_tenant, with_kind, with_body, with_line, with_lines, opened, config_line, below_header, config_of, document_of};
+ghost use Rattle.fq_model.specs.Limits.{config_fault};
+ghost use Rattle.fq_model.specs.Names.{number_among};
+ghost use Rattle.tenant_table.specs.Names.{names_of};
+ghost use Rattle.journal_text.specs.Reading.{Gives, IsFirstFault, words_in, are_too_many};
+
+use crate::body::Line;
+use crate::document::Document;
+use crate::fault::{LineError, ScriptFault};
+use crate::head::{Settings, read_settings};
+use crate::lines::{next_line, words};
+use crate::words::{begins_with, expect_count, name_at, small_at};
+use fq_model::config::{Config, Weights};
+use fq_model::fault::ScriptKind;
+use fq_model::limits::{GREATEST_WEIGHT, MOST_KINDS, MOST_PAIRS, MOST_TENANTS};
+use fq_model::version::Version;
+use std::alloc::{AllocError, Global};
+use std::marker::Model;
+use tenant_table::kinds::Kinds;
+use tenant_table::tenants::Tenants;
+
+// What the lines so far say.
+#[derive(Drop)]
+struct Draft<A: Drop> {
+    settings: Settings,
+    tenants: Tenants,
+    kinds: Kinds,
+    body: Vec<A>,
+}
+
+impl<A: Drop> Model for Draft<A> {
+    ghost use Rattle.fq_model.specs.Document.{Document};
+    ghost use Rattle.tenant_table.specs.Names.{names_of, weights_of};
+
+    ghost Value = { Document A };
+
+    ghost view = { λ d. record {
+      settings = d.settings;
+      tenants = names_of d.tenants;
+      weights = weights_of d.tenants;
+      kinds = d.kinds;
+      body = d.body.items;
+    } };
+}
+
+impl<A: Line> Draft<A> {
+    // The document of a config line alone. Takes no memory.
+    fn opened(alloc: Global, settings: Settings) -> Draft<A>
+        ensures { result ≡ opened settings }
+    {
+        Draft {
+            settings,
+            tenants: Tenants::new(alloc),
+            kinds: Kinds::new(alloc),
+            body: Vec::new(alloc),
+        }
+    }
+
+    // The document, now that its lines are read.
+    fn finish(self, alloc: Global) -> Result<Document<A>, AllocError>
+        requires { config_fault (config_of self) ≡ None }
+        ensures { IfOk result (λ d. d ≡ self) }
+    {
+        let Draft {
+            settings,
+            tenants,
+            kinds,
+            body,
+        } = self;
+        let config = Config {
+            workers: settings.workers,
+            weights: Weights::from_vec(tenants.weights(alloc)?),
+            kinds: kinds.len(),
+            entries: settings.entries,
+            requests: settings.requests,
+            policy: settings.policy,
+            estimate: settings.estimate,
+            initial: settings.initial,
+        };
+        Ok(Document::new(config.check().unwrap(), tenants, kinds, body))
+    }
+
+    #[tactic(auto, unfolding(fq_model::specs::Document::with_tenant))]
+    fn add_tenant(&mut self, words: &[&[u8]]) -> Result<(), LineError>
+        ensures { Gives (λ _. self.new) result (with_tenant self.old (words_in words.now)) }
+    {
+        expect_count(words, 3)?;
+        let name = name_at(words, 1)?;
+        let weight = small_at(words, 2, 1, GREATEST_WEIGHT)?;
+        expect_new_tenant(&self.tenants, name)?;
+        if are_too_many(self.tenants.len() + 1, self.kinds.len()) {
+            return Err(LineError::Fault(ScriptKind::TooMany));
+        }
+        self.tenants.add_new(name, weight)?;
+        Ok(())
+    }
+
+    #[tactic(auto, unfolding(fq_model::specs::Document::with_kind))]
+    fn add_kind(&mut self, words: &[&[u8]]) -> Result<(), LineError>
+        ensures { Gives (λ _. self.new) result (with_kind self.old (words_in words.now)) }
+    {
+        expect_count(words, 2)?;
+        let name = name_at(words, 1)?;
+        expect_new_kind(&self.kinds, name)?;
+        if are_too_many(self.tenants.len(), self.kinds.len() + 1) {
+            return Err(LineError::Fault(ScriptKind::TooMany));
+        }
+        self.kinds.add_new(name)?;
+        Ok(())
+    }
+
+    #[tactic(auto, unfolding(fq_model::specs::Document::with_body))]
+    fn add_body(&mut self, version: Version, words: &[&[u8]]) -> Result<(), LineError>
+        ensures { Gives (λ _. self.new) result (with_body (A.reader version) self.old (words_in words.now)) }
+    {
+        self.body.push(A::read(version, words)?)?;
+        Ok(())
+    }
+
+    #[tactic(auto, unfolding(fq_model::specs::Document::with_line))]
+    fn add_words(&mut self, version: Version, words: &[&[u8]]) -> Result<(), LineError>
+        ensures { Gives (λ _. self.new) result (with_line (A.reader version) self.old (words_in words.now)) }
+    {
+        if begins_with(words, b"tenant") && self.kinds.is_empty() {
+            self.add_tenant(words)
+        } else if begins_with(words, b"kind") && !self.tenants.is_empty() && self.body.is_empty() {
+            self.add_kind(words)
+        } else if self.kinds.is_empty() {
+            Err(LineError::Fault(ScriptKind::Word))
+        } else {
+            self.add_body(version, words)
+        }
+    }
+
+    // Adds a line below the config line.
+    fn add_line(&mut self, alloc: Global, version: Version, line: &[u8]) -> Result<(), LineError>
+        ensures { Gives (λ _. self.new) result (with_line (A.reader version) self.old (words_of line.now)) }
+    {
+        let words = words(alloc, line)?;
+        self.add_words(version, words.as_slice())
+    }
+}
+
+// That no tenant has the name.
+fn expect_new_tenant(tenants: &Tenants, name: &str) -> Result<(), LineError>
+    ensures given { Gives (λ _. name.now) result (new_among (names_of tenants.now) name.now) }
+    ensures absent { IfOk result (λ _. number_among (names_of tenants.now) name.now ≡ None) }
+{
+    match tenants.find(name) {
+        Some(_) => Err(LineError::Fault(ScriptKind::Twice)),
+        None => Ok(()),
+    }
+}
+
+// That no kind has the name.
+fn expect_new_kind(kinds: &Kinds, name: &str) -> Result<(), LineError>
+    ensures given { Gives (λ _. name.now) result (new_among kinds.now name.now) }
+    ensures absent { IfOk result (λ _. number_among kinds.now name.now ≡ None) }
+{
+    match kinds.find(name) {
+        Some(_) => Err(LineError::Fault(ScriptKind::Twice)),
+        None => Ok(()),
+    }
+}
+
+// Whether this many tenants and kinds are more than there may be.
+fn are_too_many(tenants: u32, kinds: u32) -> bool
+    ensures { result ≡ are_too_many tenants kinds }
+{
+    tenants > MOST_TENANTS || kinds > MOST_KINDS || tenants as u64 * kinds as u64 > MOST_PAIRS
+}
+
+#[tactic(auto, unfolding(fq_model::specs::Document::config_line))]
+fn config_words<A: Line>(alloc: Global, words: &[&[u8]]) -> Result<Draft<A>, LineError>
+    ensures { Gives (λ d. d) result (config_line (words_in words.now)) }
+{
+    if !begins_with(words, b"config") {
+        return Err(LineError::Fault(ScriptKind::Word));
+    }
+    Ok(Draft::opened(alloc, read_settings(words)?))
+}
+
+fn config_line<A: Line>(alloc: Global, line: &[u8]) -> Result<Draft<A>, LineError>
+    ensures { Gives (λ d. d) result (config_line (words_of line.now)) }
+{
+    let words = words(alloc, line)?;
+    config_words(alloc, words.as_slice())
+}
+
+// Adds the lines below the config line, which are a text of their own.
+fn with_lines<A: Line>(
+    alloc: Global,
+    version: Version,
+    mut draft: Draft<A>,
+    text: &[u8],
+) -> Result<Draft<A>, ScriptFault>
+    ensures ok { IfOk result (λ d. with_lines (A.reader version) 3 draft (lines_of text.now) ≡ Ok d) }
+    ensures fault { IfErr result (λ f. IsFirstFault f (with_lines (A.reader version) 3 draft (lines_of text.now))) }
+{
+    let mut rest = text;
+    let mut place: u64 = 3;
+    while let Some((line, below)) = next_line(rest) {
+        if let Err(e) = draft.add_line(alloc, version, line) {
+            return Err(e.at(place));
+        }
+        rest = below;
+        place += 1;
+    }
+    if draft.kinds.is_empty() {
+        return Err(ScriptFault::At {
+            line: place,
+            kind: ScriptKind::Missing,
+        });
+    }
+    Ok(draft)
+}
+
+fn below_header<A: Line>(
+    alloc: Global,
+    version: Version,
+    text: &[u8],
+) -> Result<Draft<A>, ScriptFault>
+    ensures ok { IfOk result (λ d. below_header (A.reader version) (lines_of text.now) ≡ Ok d) }
+    ensures fault { IfErr result (λ f. IsFirstFault f (below_header (A.reader version) (lines_of text.now))) }
+{
+    let Some((line, below)) = next_line(text) else {
+        return Err(ScriptFault::At {
+            line: 2,
+            kind: ScriptKind::Missing,
+        });
+    };
+    match config_line(alloc, line) {
+        Ok(draft) => with_lines(alloc, version, draft, below),
+        Err(e) => Err(e.at(2)),
+    }
+}
+
+#[tactic(auto, unfolding(fq_model::specs::Document::document_of))]
+fn read_draft<A: Line>(alloc: Global, bytes: &[u8]) -> Result<Draft<A>, ScriptFault>
+    ensures ok { IfOk result (λ d. document_of A.title A.reader bytes.now ≡ Ok d) }
+    ensures fault { IfErr result (λ f. IsFirstFault f (document_of A.title A.reader bytes.now)) }
+{
+    if let Some((line, below)) = next_line(bytes) {
+        if let Some(version) = A::version(line) {
+            return below_header(alloc, version, below);
+        }
+    }
+    Err(ScriptFault::At {
+        line: 1,
+        kind: ScriptKind::Header,
+    })
+}
+
+/// Reads a document, or names its first fault. An answer that memory ran out says nothing of the text.
+pub fn read_document<A: Line>(alloc: Global, bytes: &[u8]) -> Result<Document<A>, ScriptFault>
+    ensures ok { IfOk result (λ d. document_of A.title A.reader bytes.now ≡ Ok d) }
+    ensures fault { IfErr result (λ f. IsFirstFault f (document_of A.title A.reader bytes.now)) }
+{
+    let draft = read_draft(alloc, bytes)?;
+    Ok(draft.finish(alloc)?)
+}

@@ -1,0 +1,36 @@
+//! Lines of a word and numbers.
+ghost use Rattle.std.specs.Prelude.{◌≡◌, ◌++◌, OnOk, OnErr};
+ghost use Rattle.fq_model.specs.JournalText.{numbers_text};
+ghost use Rattle.journal_text.specs.Printing.{row_text, IsKept};
+
+use itoa::Buffer;
+use std::alloc::AllocError;
+
+/// Appends a line: a word, and numbers, each after a space. Where memory runs out, the text stays as it
+/// was.
+pub fn add_row(word: &str, numbers: &[u64], text: &mut Vec<u8>) -> Result<(), AllocError>
+    ensures added { OnOk result (text.new.items ≡ text.old.items ++ row_text word.now numbers.now) }
+    ensures unchanged { OnErr result (text.new.items ≡ text.old.items) }
+{
+    let start = text.len();
+    text.extend_from_slice(word.as_bytes())?;
+    let added = add_numbers(numbers, text);
+    if added.is_err() {
+        text.truncate(start);
+    }
+    added
+}
+
+/// Appends the rest of a line: numbers, each after a space. Where memory runs out, it may be a part.
+pub fn add_numbers(numbers: &[u64], text: &mut Vec<u8>) -> Result<(), AllocError>
+    ensures added { OnOk result (text.new.items ≡ text.old.items ++ numbers_text numbers.now) }
+    ensures kept { IsKept text.old.items text.new.items }
+{
+    let mut buffer = Buffer::new();
+    for number in numbers {
+        text.push(b' ')?;
+        text.extend_from_slice(buffer.format(*number).as_bytes())?;
+    }
+    text.push(b'\n')?;
+    Ok(())
+}

@@ -1,0 +1,12 @@
+-- Want of memory may stop every command.
+use Rattle.std.proofs.Common.{ℕ, ◌≡◌, List, Result, Ok, Err}
+use Rattle.std.specs.Prelude.{IsErr, IsErrAnd, MatchResult}
+use Rattle.std.proofs.lemmas.Bool.{false≢true}
+use Rattle.fq_model.specs.declared.command.Command.{Command}
+use Rattle.twodfq_main.specs.Program.{IsOutputStop}
+use Rattle.twodfq_main.specs.declared.stop.Stop.{Stop}
+use Rattle.twodfq_main.specs.declared.stop.Stop.TheVariants.{NoMemory}
+
+pub wants_memory : {A : Type 0} (P : A → Type 0) (command : Command) (input : List ℕ) (r : Result A Stop) → IsErr r × IsErrAnd r (λ stop. stop ≡ NoMemory) → MatchResult r P (IsOutputStop command input)
+wants_memory P command input (Ok x) h = absurd (false≢true h.0)
+wants_memory P command input (Err stop) h = rw h.1 tt

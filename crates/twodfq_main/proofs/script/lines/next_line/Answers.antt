@@ -1,9 +1,0 @@
-use Rattle.std.proofs.Common.{sym, ◌∙◌}
-use Rattle.twodfq_main.proofs.Lines.{first_line_at, first_line_open}
-use Rattle.twodfq_main.proofs.script.lines.next_line.Goals as goal
-
-pub returns-in-Some : goal.returns-in-Some
-returns-in-Some c = first_line_at c.args.text.now c.in-Some.end (sym c.in-Some.is ∙ c.line_end.ensures)
-
-pub returns-in-None : goal.returns-in-None
-returns-in-None c = first_line_open c.args.text.now (sym c.is_empty.ensures ∙ c.if-is_empty.false) (sym c.in-None.is ∙ c.line_end.ensures)
