@@ -63,6 +63,28 @@ fn writing_in_pieces(rt: HostRuntime) -> Result<(), Fail> {
     Ok(())
 }
 
+#[test]
+fn clean_source_gives_all(rt: HostRuntime) -> Result<(), Fail> {
+    let mut source = CleanSource::new(b"abc".to_vec(rt.alloc())?);
+    let all = read_all(rt.alloc(), &mut source, 3)?;
+    assert_eq!(rt; all.as_slice(), b"abc".as_slice());
+    Ok(())
+}
+
+#[test]
+fn clean_sink_fails_where_it_is_full(rt: HostRuntime) -> Result<(), Fail> {
+    let mut sink = CleanSink::with_room(rt.alloc(), 4)?;
+    for (text, want, written) in [
+        ("abc", Ok(()), "abc"),
+        ("de", Err(WriteFault), "abcd"),
+        ("", Ok(()), "abcd"),
+    ] {
+        assert_eq!(rt; write_all(&mut sink, text.as_bytes()), want);
+        assert_eq!(rt; sink.bytes(), written.as_bytes(), "after {text}");
+    }
+    Ok(())
+}
+
 // A pipe whose other end is gone, seen at each read and at each flush.
 #[derive(Drop)]
 struct Broken;
