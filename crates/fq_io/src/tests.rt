@@ -6,16 +6,13 @@ use std::test::Fail;
 #[test]
 fn reading_in_pieces(rt: HostRuntime) -> Result<(), Fail> {
     for (fail, limit, want, rest) in [
-        (9, 10, Ok("abcdefghij"), ""),
-        (9, 6, Err(ReadAllFault::TooLong(6)), "hij"),
-        (1, 10, Err(ReadAllFault::ReadFault), "efghij"),
+        (9, 10, None, ""),
+        (9, 6, Some(ReadAllFault::TooLong(6)), "hij"),
+        (1, 10, Some(ReadAllFault::ReadFault), "efghij"),
     ] {
         let bytes = b"abcdefghij".to_vec(rt.alloc())?;
         let mut source = MemSource::new(bytes, 4, vec![in rt.alloc(); fail]?);
-        match read_all(rt.alloc(), &mut source, limit) {
-            Ok(all) => assert_eq!(rt; Ok(all.as_slice()), want.map(str::as_bytes)),
-            Err(fault) => assert_eq!(rt; Err(fault), want),
-        }
+        assert_eq!(rt; read_all(rt.alloc(), &mut source, limit).err(), want);
         let after = read_all(rt.alloc(), &mut source, 10)?;
         assert_eq!(rt; after.as_slice(), rest.as_bytes(), "after {want:?}");
     }
