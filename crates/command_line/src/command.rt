@@ -1,0 +1,40 @@
+//! The commands.
+ghost use Rattle.std.specs.Prelude.{◌≡◌, map, unwrap_or, slice_index_or};
+ghost use Rattle.std.specs.String.{string_bytes};
+ghost use Rattle.fq_model.specs.Options.{command_of, command_by};
+ghost use Rattle.fq_model.specs.Command.{script_row};
+ghost use Rattle.command_line.specs.Commands.{built_commands};
+
+use crate::options::{Value, values_in};
+use crate::table::{SCRIPT_OPTIONS, SCRIPT_PRINTS};
+use fq_model::command::{Command, ScriptPrint};
+
+/// The command that words ask for, without the program's name before them. None where they are no line of the table of
+/// commands. Takes no memory.
+pub fn command(words: &[String]) -> Option<Command>
+    ensures { result ≡ command_of built_commands (map string_bytes words.now) }
+{
+    let (word, words) = words.split_first()?;
+    match word.as_str() {
+        "script" => script_command(words),
+        _ => None,
+    }
+}
+
+// `script`, by the words after it.
+fn script_command(words: &[String]) -> Option<Command>
+    ensures { result ≡ command_by (map string_bytes words.now) script_row }
+{
+    let [print] = values_in::<1>(&SCRIPT_OPTIONS, words)?;
+    let print = choice(&SCRIPT_PRINTS, print, ScriptPrint::Replies);
+    Some(Command::Script { print })
+}
+
+// What a value stands for that is a place among these.
+fn choice<T: Copy>(all: &[T], place: Value, default: T) -> T
+    ensures { result ≡ slice_index_or all.now (unwrap_or place 0) default }
+{
+    all.get(place.unwrap_or(0) as usize)
+        .copied()
+        .unwrap_or(default)
+}

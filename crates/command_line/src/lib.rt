@@ -1,0 +1,9 @@
+//! The words of a command line, read by one table of the commands, their options, and the values and defaults of these.
+#![tactic(auto)]
+
+pub mod command;
+mod given;
+mod options;
+mod table;
+#[cfg(test)]
+mod tests;

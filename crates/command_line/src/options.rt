@@ -1,0 +1,136 @@
+//! The options of a command, and what words say of them.
+ghost use Rattle.std.specs.Prelude.{◌≡◌, IsTrue, IfSome, length, map, position, bytes_eq};
+ghost use Rattle.std.specs.String.{string_bytes};
+ghost use Rattle.fq_model.specs.Options.{Within, is_value, number_among, number_for, absent_value, values_in};
+ghost use Rattle.command_line.specs.Rows.{seen_values, seen_row, are_distinct, or_absent, AreWithin};
+
+use crate::given::{first_option, is_end};
+use fq_model::words::number;
+
+/// What may be written as the value of an option. It is never empty, and never begins with `-`.
+pub enum Values {
+    /// A number from `low` to `high`.
+    Within { low: u64, high: u64 },
+    /// One of these words, which stands for its place among them, counted from 0.
+    Among(&'static [&'static str]),
+}
+
+/// What it means that an option is not given.
+pub enum Absent {
+    /// The words are no command line.
+    Required,
+    /// The option has no value.
+    Nothing,
+    /// The same as this text.
+    Default(&'static str),
+}
+
+/// An option of a command.
+pub struct OptionRow {
+    /// With its dashes.
+    pub name: &'static str,
+    pub values: Values,
+    pub absent: Absent,
+}
+
+/// The value of an option, if it has one.
+pub type Value = Option<u64>;
+
+/// The values of options, in the order of their rows, by the words after a command's own. None where the words are not
+/// just these options, each at most once, and then perhaps one `--`; where one is given that is none of its values; and
+/// where one is not given that is required.
+pub fn values_in<const N: usize>(rows: &[OptionRow], words: &[String]) -> Option<[Value; N]>
+    requires count { length rows.now ≡ N }
+    requires distinct { IsTrue (are_distinct (map seen_row rows.now)) }
+    ensures values { result ≡ values_in (map seen_row rows.now) (map string_bytes words.now) }
+    ensures range { IfSome result (AreWithin (map seen_row rows.now)) }
+{
+    let mut values = [None; N];
+    let mut left = words;
+    while let Some((given, more)) = first_option(left) {
+        let k = place_of(rows, given.name)?;
+        if values[k].is_some() {
+            return None;
+        }
+        let n = rows[k].values.number_for(given.text)?;
+        values[k] = Some(n);
+        left = more;
+    }
+    if !is_end(left) {
+        return None;
+    }
+    for (k, row) in rows.iter().enumerate() {
+        values[k] = row.or_absent(values[k])?;
+    }
+    Some(values)
+}
+
+// The place of the option of a name.
+fn place_of(rows: &[OptionRow], name: &str) -> Option<usize>
+    ensures { result ≡ position (λ row. bytes_eq row.name.now name.now) rows.now }
+{
+    rows.iter().position(|row| row.name == name)
+}
+
+impl OptionRow {
+    // The value that is given for the option, or the one that it has where none is.
+    fn or_absent(&self, given: Value) -> Option<Value>
+        ensures { result ≡ or_absent (seen_row self.now) given }
+    {
+        match given {
+            Some(_) => Some(given),
+            None => self.absent_value(),
+        }
+    }
+
+    // The value of the option where it is not given.
+    fn absent_value(&self) -> Option<Value>
+        ensures { let row = seen_row self.now in result ≡ absent_value row.values row.absent }
+    {
+        match self.absent {
+            Absent::Required => None,
+            Absent::Nothing => Some(None),
+            Absent::Default(text) => Some(Some(self.values.number_for(text)?)),
+        }
+    }
+}
+
+impl Values {
+    // The number for which a text stands, if it may be a value and is one of these.
+    fn number_for(&self, text: &str) -> Option<u64>
+        ensures { result ≡ number_for (seen_values self.now) text.now }
+    {
+        if !is_value(text) {
+            return None;
+        }
+        match self {
+            Values::Within { low, high } => number_within(*low, *high, text),
+            Values::Among(words) => Some(place_among(words, text)? as u64),
+        }
+    }
+}
+
+// Whether a text may be a value: it is not empty, and does not begin with `-`.
+fn is_value(text: &str) -> bool
+    ensures { result ≡ is_value text.now }
+{
+    match text.as_bytes() {
+        [] => false,
+        [first, ..] => *first != b'-',
+    }
+}
+
+// The number that a text spells, if it is from low to high.
+fn number_within(low: u64, high: u64, text: &str) -> Option<u64>
+    ensures { result ≡ number_among (Within low high) text.now }
+{
+    let n = number(text.as_bytes())?;
+    if n < low || n > high { None } else { Some(n) }
+}
+
+// The place of a text among words.
+fn place_among(words: &[&str], text: &str) -> Option<usize>
+    ensures { result ≡ position (λ w. bytes_eq w.now text.now) words.now }
+{
+    words.iter().position(|word| *word == text)
+}
