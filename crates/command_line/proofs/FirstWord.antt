@@ -1,9 +1,8 @@
 -- The row of a table whose command the first word is.
-use Rattle.std.proofs.Common.{ℕ, ◌≡◌, ◌≢◌, Bool, true, false, List, [], ◌∷◌, map, length, find, None, String, Global, string_bytes, bytes_eq, refl, sym, ap, arith}
+use Rattle.std.proofs.Common.{ℕ, ◌≡◌, ◌≢◌, false, List, [], ◌∷◌, map, length, find, None, String, Global, string_bytes, bytes_eq, refl, sym, ap, arith}
 use Rattle.std.specs.Option.{option_and_then}
 use Rattle.std.proofs.lemmas.Bool.{false_from_ne_true}
 use Rattle.std.proofs.lemmas.Slice.Eq.{bytes_eq-Decides}
-use Rattle.fq_model.specs.Lines.{Words}
 use Rattle.fq_model.specs.Options.{CommandRow, command_by, command_of}
 
 -- no words are no command

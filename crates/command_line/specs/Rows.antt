@@ -1,33 +1,48 @@
 -- What the options of a command are in the definitions.
-use Rattle.std.specs.Prelude.{ℕ, Bool, false, List, [], ◌∷◌, map, Option, Some, None, option_and_then}
-use Rattle.std.specs.Option.{option_map_or}
+use Rattle.std.specs.Prelude.{ℕ, ◌≤◌, Bool, true, ◌&&◌, not, List, [], ◌∷◌, map, Option, Some, None, bytes_eq}
+use Rattle.std.specs.List.{list_any}
 use Rattle.command_line.specs.declared.options.Values as code_values
 use Rattle.command_line.specs.declared.options.Values.TheVariants as values
 use Rattle.command_line.specs.declared.options.Absent as code_absent
 use Rattle.command_line.specs.declared.options.Absent.TheVariants as absent
 use Rattle.command_line.specs.declared.options.OptionRow as code_row
-use Rattle.fq_model.specs.Lines.{Words}
-use Rattle.fq_model.specs.Options.{Values, Within, Among, Absent, Required, Nothing, Default, OptionRow, Value, options_of, are_known, texts_for, value_of}
+use Rattle.fq_model.specs.Options.{Values, Within, Among, Absent, Required, Nothing, Default, OptionRow, Value, absent_value}
 
 -- what may be written as a value
-abbrev pub values_seen : code_values.Values → Values
-values_seen (values.Within low high) = Within low high
-values_seen (values.Among words) = Among (map (λ w. w.now) words.now)
+abbrev pub seen_values : code_values.Values → Values
+seen_values (values.Within low high) = Within low high
+seen_values (values.Among words) = Among (map (λ w. w.now) words.now)
 
 -- what it means that an option is not given
-abbrev pub absent_seen : code_absent.Absent → Absent
-absent_seen absent.Required = Required
-absent_seen absent.Nothing = Nothing
-absent_seen (absent.Default text) = Default text.now
+abbrev pub seen_absent : code_absent.Absent → Absent
+seen_absent absent.Required = Required
+seen_absent absent.Nothing = Nothing
+seen_absent (absent.Default text) = Default text.now
 
 -- an option of a command
-abbrev pub row_seen : code_row.OptionRow → OptionRow
-row_seen row = record { name = row.name.now; values = values_seen row.values; absent = absent_seen row.absent }
+abbrev pub seen_row : code_row.OptionRow → OptionRow
+seen_row row = record { name = row.name.now; values = seen_values row.values; absent = seen_absent row.absent }
 
--- the words are options, each of them known, and perhaps one `--`
-abbrev pub are_known_in : List OptionRow → Words → Bool
-are_known_in rows words = option_map_or (are_known rows) (options_of words) false
+-- an option has this name
+abbrev pub has_name : List ℕ → OptionRow → Bool
+has_name name row = bytes_eq row.name name
 
--- the value of one option by the words after a command's own
-abbrev pub value_in : OptionRow → Words → Option Value
-value_in row words = option_and_then (λ given. value_of row (texts_for row.name given)) (options_of words)
+-- no two options have one name
+abbrev pub are_distinct : List OptionRow → Bool
+are_distinct [] = true
+are_distinct (row ∷ rows) = not (list_any (has_name row.name) rows) && are_distinct rows
+
+-- the value of an option that is given, or the one that it has where it is not
+abbrev pub or_absent : OptionRow → Value → Option Value
+or_absent row (Some n) = Some (Some n)
+or_absent row None = absent_value row.values row.absent
+
+-- a number that is given lies from low to high
+abbrev pub IsWithin : Values → Value → Type 0
+IsWithin (Within low high) (Some n) = (low ≤ n) × (n ≤ high)
+IsWithin _ _ = Unit {0}
+
+-- each value lies in its option's range
+abbrev pub AreWithin : List OptionRow → List Value → Type 0
+AreWithin (row ∷ rows) (v ∷ vs) = IsWithin row.values v × AreWithin rows vs
+AreWithin _ _ = Unit {0}

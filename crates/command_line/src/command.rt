@@ -16,13 +16,13 @@ pub fn command(words: &[String]) -> Option<Command>
 {
     let (word, words) = words.split_first()?;
     match word.as_str() {
-        "script" => script(words),
+        "script" => script_command(words),
         _ => None,
     }
 }
 
 // `script`, by the words after it.
-fn script(words: &[String]) -> Option<Command>
+fn script_command(words: &[String]) -> Option<Command>
     ensures { result ≡ command_by (map string_bytes words.now) script_row }
 {
     let [print] = values_in::<1>(&SCRIPT_OPTIONS, words)?;

@@ -1,7 +1,7 @@
 //! Options as words give them.
 ghost use Rattle.std.specs.Prelude.{◌≡◌, map, option_map};
 ghost use Rattle.std.specs.String.{string_bytes};
-ghost use Rattle.command_line.specs.Given.{given_seen, assigned, first_given, is_end};
+ghost use Rattle.command_line.specs.Given.{seen_given, assignment, first_option, is_end};
 
 /// An option as it is given: its name with the dashes, and the text of its value.
 #[derive(Clone, Copy)]
@@ -11,12 +11,13 @@ pub struct Given<'a> {
 }
 
 /// The option that stands first among words, and the words after it; or none, where no option stands there.
-pub fn first_given(words: &[String]) -> Option<(Given<'_>, &[String])>
-    ensures { option_map (λ r. (given_seen r.0, map string_bytes r.1.now)) result ≡ first_given (map string_bytes words.now) }
+pub fn first_option(words: &[String]) -> Option<(Given<'_>, &[String])>
+    ensures { option_map (λ r. (seen_given r.0, map string_bytes r.1.now)) result
+        ≡ first_option (map string_bytes words.now) }
 {
     match words {
         [] => None,
-        [word, more @ ..] => match (assigned(word), more) {
+        [word, more @ ..] => match (assignment(word), more) {
             (Some(given), _) => Some((given, more)),
             (None, [text, more @ ..]) => Some((Given { name: word, text }, more)),
             (None, []) => None,
@@ -25,8 +26,8 @@ pub fn first_given(words: &[String]) -> Option<(Given<'_>, &[String])>
 }
 
 // `<name>=<text>` in one word; the name ends at the first `=`.
-fn assigned(word: &str) -> Option<Given<'_>>
-    ensures { option_map given_seen result ≡ assigned word.now }
+fn assignment(word: &str) -> Option<Given<'_>>
+    ensures { option_map seen_given result ≡ assignment word.now }
 {
     let (name, text) = word.split_once('=')?;
     Some(Given { name, text })

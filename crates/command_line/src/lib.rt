@@ -1,9 +1,9 @@
-//! The words of a command line, read by a table of the commands, their options, and the values and defaults of these.
+//! The words of a command line, read by one table of the commands, their options, and the values and defaults of these.
 #![tactic(auto)]
 
 pub mod command;
 mod given;
-pub mod options;
+mod options;
 mod table;
 #[cfg(test)]
 mod tests;

@@ -1,13 +1,10 @@
 //! The options of a command, and what words say of them.
-ghost use Rattle.std.specs.Prelude.{◌≡◌, length, map, position, bytes_eq};
-ghost use Rattle.std.specs.List.{list_any};
-ghost use Rattle.std.specs.Option.{option_copied};
+ghost use Rattle.std.specs.Prelude.{◌≡◌, IsTrue, IfSome, length, map, position, bytes_eq};
 ghost use Rattle.std.specs.String.{string_bytes};
-ghost use Rattle.fq_model.specs.Options.{Within, is_value, number_among, number_for, value_of, values_in, absent_value};
-ghost use Rattle.command_line.specs.Given.{texts_of};
-ghost use Rattle.command_line.specs.Rows.{values_seen, row_seen, value_in, are_known_in};
+ghost use Rattle.fq_model.specs.Options.{Within, is_value, number_among, number_for, absent_value, values_in};
+ghost use Rattle.command_line.specs.Rows.{seen_values, seen_row, are_distinct, or_absent, AreWithin};
 
-use crate::given::{first_given, is_end};
+use crate::given::{first_option, is_end};
 use fq_model::words::number;
 
 /// What may be written as the value of an option. It is never empty, and never begins with `-`.
@@ -40,79 +37,55 @@ pub struct OptionRow {
 pub type Value = Option<u64>;
 
 /// The values of options, in the order of their rows, by the words after a command's own. None where the words are not
-/// just these options, each at most once, and then perhaps one `--`; where one has no such value; and where one is not
-/// given that is required.
+/// just these options, each at most once, and then perhaps one `--`; where one is given that is none of its values; and
+/// where one is not given that is required.
 pub fn values_in<const N: usize>(rows: &[OptionRow], words: &[String]) -> Option<[Value; N]>
-    requires { length rows.now ≡ N }
-    ensures { result ≡ values_in (map row_seen rows.now) (map string_bytes words.now) }
+    requires count { length rows.now ≡ N }
+    requires distinct { IsTrue (are_distinct (map seen_row rows.now)) }
+    ensures values { result ≡ values_in (map seen_row rows.now) (map string_bytes words.now) }
+    ensures range { IfSome result (AreWithin (map seen_row rows.now)) }
 {
-    if !are_known(rows, words) {
+    let mut values = [None; N];
+    let mut left = words;
+    while let Some((given, more)) = first_option(left) {
+        let k = place_of(rows, given.name)?;
+        if values[k].is_some() {
+            return None;
+        }
+        let n = rows[k].values.number_for(given.text)?;
+        values[k] = Some(n);
+        left = more;
+    }
+    if !is_end(left) {
         return None;
     }
-    let mut values = [None; N];
     for (k, row) in rows.iter().enumerate() {
-        values[k] = row.value_in(words)?;
+        values[k] = row.or_absent(values[k])?;
     }
     Some(values)
 }
 
-// Whether the words are options, each of them known, and then perhaps one `--`.
-fn are_known(rows: &[OptionRow], words: &[String]) -> bool
-    ensures { result ≡ are_known_in (map row_seen rows.now) (map string_bytes words.now) }
+// The place of the option of a name.
+fn place_of(rows: &[OptionRow], name: &str) -> Option<usize>
+    ensures { result ≡ position (λ row. bytes_eq row.name.now name.now) rows.now }
 {
-    let mut left = words;
-    while let Some((given, more)) = first_given(left) {
-        if !is_known(rows, given.name) {
-            return false;
-        }
-        left = more;
-    }
-    is_end(left)
-}
-
-// Whether a name is that of an option.
-fn is_known(rows: &[OptionRow], name: &str) -> bool
-    ensures { result ≡ list_any (λ row. bytes_eq row.name.now name.now) rows.now }
-{
-    rows.iter().any(|row| row.name == name)
+    rows.iter().position(|row| row.name == name)
 }
 
 impl OptionRow {
-    // The value of the option by words. None where the words are not options, or it is given twice, or with another value,
-    // or not given and required.
-    fn value_in(&self, words: &[String]) -> Option<Value>
-        ensures { result ≡ value_in (row_seen self.now) (map string_bytes words.now) }
+    // The value that is given for the option, or the one that it has where none is.
+    fn or_absent(&self, given: Value) -> Option<Value>
+        ensures { result ≡ or_absent (seen_row self.now) given }
     {
-        let mut text = None;
-        let mut left = words;
-        while let Some((given, more)) = first_given(left) {
-            if given.name == self.name {
-                if text.is_some() {
-                    return None;
-                }
-                text = Some(given.text);
-            }
-            left = more;
-        }
-        if !is_end(left) {
-            return None;
-        }
-        self.value_of(text)
-    }
-
-    // The value of the option where this text is given for it, or none is.
-    fn value_of(&self, text: Option<&str>) -> Option<Value>
-        ensures { result ≡ value_of (row_seen self.now) (texts_of (option_copied text.entry)) }
-    {
-        match text {
-            Some(text) => Some(Some(self.values.number_for(text)?)),
+        match given {
+            Some(_) => Some(given),
             None => self.absent_value(),
         }
     }
 
     // The value of the option where it is not given.
     fn absent_value(&self) -> Option<Value>
-        ensures { let row = row_seen self.now in result ≡ absent_value row.values row.absent }
+        ensures { let row = seen_row self.now in result ≡ absent_value row.values row.absent }
     {
         match self.absent {
             Absent::Required => None,
@@ -125,7 +98,7 @@ impl OptionRow {
 impl Values {
     // The number for which a text stands, if it may be a value and is one of these.
     fn number_for(&self, text: &str) -> Option<u64>
-        ensures { result ≡ number_for (values_seen self.now) text.now }
+        ensures { result ≡ number_for (seen_values self.now) text.now }
     {
         if !is_value(text) {
             return None;

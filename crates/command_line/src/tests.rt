@@ -1,15 +1,113 @@
 use crate::command::command;
+use crate::options::{Absent, OptionRow, Value, Values, values_in};
 use fq_model::command::{Command, ScriptPrint};
+use std::alloc::{AllocError, Global};
 use std::test::Fail;
 
+// An option of each kind.
+const ROWS: [OptionRow; 3] = [
+    OptionRow {
+        name: "--seed",
+        values: Values::Within {
+            low: 0,
+            high: 18446744073709551615,
+        },
+        absent: Absent::Required,
+    },
+    OptionRow {
+        name: "--workers",
+        values: Values::Within { low: 1, high: 64 },
+        absent: Absent::Default("4"),
+    },
+    OptionRow {
+        name: "--explain",
+        values: Values::Within { low: 0, high: 9 },
+        absent: Absent::Nothing,
+    },
+];
+
+// The words of a line, one space between each two.
+fn words_of(alloc: Global, line: &str) -> Result<Vec<String>, AllocError> {
+    let mut words = Vec::new(alloc);
+    for word in line.split(' ') {
+        words.push(word.to_string(alloc)?)?;
+    }
+    Ok(words)
+}
+
 #[test]
-fn plain(rt: HostRuntime) -> Result<(), Fail> {
-    let words = ["script".to_string(rt.alloc())?];
-    assert_eq!(rt;
-        command(&words),
-        Some(Command::Script {
-            print: ScriptPrint::Replies
-        })
-    );
+fn script_is_read(rt: HostRuntime) -> Result<(), Fail> {
+    let replies = Some(ScriptPrint::Replies);
+    let journal = Some(ScriptPrint::Journal);
+    let both = Some(ScriptPrint::Both);
+    for (line, want) in [
+        ("script", replies),
+        ("script --print replies", replies),
+        ("script --print journal", journal),
+        ("script --print both", both),
+        ("script --print=both --", both),
+        ("script --print journal --", journal),
+        ("script --", replies),
+        ("", None),
+        ("--", None),
+        ("help", None),
+        ("-h", None),
+        ("run", None),
+        ("Script", None),
+        ("script --help", None),
+        ("script extra", None),
+        ("script -- --", None),
+        ("script -- --print both", None),
+        ("script --print", None),
+        ("script --print=", None),
+        ("script --print -x", None),
+        ("script --print --", None),
+        ("script --print Journal", None),
+        ("script --print=journal=x", None),
+        ("script --print journal --print journal", None),
+    ] {
+        let words = words_of(rt.alloc(), line)?;
+        let want = want.map(|print| Command::Script { print });
+        assert_eq!(rt; command(&words), want, "at {line}");
+    }
+    assert_eq!(rt; command(&[]), None);
+    Ok(())
+}
+
+#[test]
+fn options_are_read(rt: HostRuntime) -> Result<(), Fail> {
+    let most = 18446744073709551615;
+    for (line, want) in [
+        ("--seed 0", Some([Some(0), Some(4), None])),
+        (
+            "--seed=18446744073709551615 --",
+            Some([Some(most), Some(4), None]),
+        ),
+        (
+            "--workers 64 --explain=0 --seed 7",
+            Some([Some(7), Some(64), Some(0)]),
+        ),
+        (
+            "--workers=1 --seed=7 --explain 9",
+            Some([Some(7), Some(1), Some(9)]),
+        ),
+        ("--workers 4", None),
+        ("--", None),
+        ("--seed 18446744073709551616", None),
+        ("--seed 07", None),
+        ("--seed +7", None),
+        ("--seed 7 --workers 0", None),
+        ("--seed 7 --workers 65", None),
+        ("--seed 7 --explain", None),
+        ("--seed 7 --explain 10", None),
+        ("--seed 7 --explain none", None),
+        ("--seed 7 --explain=0 --explain=0", None),
+        ("--seed 7 --Workers 4", None),
+        ("--seed 7 --work 4", None),
+    ] {
+        let words = words_of(rt.alloc(), line)?;
+        let read: Option<[Value; 3]> = values_in(&ROWS, &words);
+        assert_eq!(rt; read, want, "at {line}");
+    }
     Ok(())
 }

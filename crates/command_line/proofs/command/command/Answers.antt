@@ -14,7 +14,7 @@ returns-in-script c =
     let rest = map string_bytes c.in_ok-word.words.now in
     let first = command_first built_commands c.args.words.now c.in_ok-word.word.now c.in_ok-word.words.now c.in_ok-word.ensures.cases.0 in
     let row = ap (λ w. option_and_then (command_by rest) (find (λ row. bytes_eq row.word w) built_commands)) (sym c.as_str.ensures.value ∙ c.in-script.is) in
-    c.script.ensures ∙ sym (first ∙ row)
+    c.script_command.ensures ∙ sym (first ∙ row)
 
 pub returns-in_default : goal.returns-in_default
 returns-in_default c =

@@ -1,30 +1,100 @@
-use Rattle.std.proofs.Common.{◌<◌, ◌≤◌, ◌≡◌, map, length, sym, ◌∙◌, arith}
-use Rattle.std.proofs.Math.ListN.{set, length-set}
+use Rattle.std.proofs.Common.{ℕ, ◌≤◌, ◌≡◌, if◌then◌else◌, List, [], map, length, get_or, position, Option, Some, None, sym, ap, ◌∙◌, arith}
+use Rattle.std.proofs.Math.ListN.{set, length-set, get_or-map}
+use Rattle.std.proofs.lemmas.List.{length-replicate}
 use Rattle.std.specs.String.{string_bytes}
-use Rattle.command_line.specs.Rows.{row_seen}
-use Rattle.command_line.proofs.Lists.{length_map}
-use Rattle.command_line.proofs.Words.{values_unknown, values_known, values_more, values_stop, values_all}
+use Rattle.command_line.specs.declared.options.OptionRow as code
+use Rattle.fq_model.specs.Options.{Within, Required, OptionRow, number_for}
+use Rattle.command_line.specs.Given.{seen_given}
+use Rattle.command_line.specs.Rows.{seen_row, has_name}
+use Rattle.command_line.proofs.Lists.{length_map, position-map}
+use Rattle.command_line.proofs.Words.{rest_shorter}
+use Rattle.command_line.proofs.Numbers.{after_start, after_unknown, after_twice, after_bad, after_step, after_end, with_absent}
+use Rattle.command_line.proofs.Defaults.{filled_start, filled_more, filled_stop, filled_all}
+use Rattle.command_line.proofs.Ranges.{values_in-within}
 use Rattle.command_line.proofs.options.values_in.Goals as goal
 
-pub returns-then-not-are_known : goal.returns-then-not-are_known
-returns-then-not-are_known g c = sym (values_unknown (map row_seen c.args.rows.now) (map string_bytes c.args.words.now) (sym c.if-not-are_known.ensures))
+-- an option that is no row's
+no_option : OptionRow
+no_option = record { name = []; values = Within 0 0; absent = Required }
 
-pub returns-in_err-values : goal.returns-in_err-values
-returns-in_err-values g c =
-    let words = map string_bytes c.args.words.now in
-    let known = values_known (map row_seen c.args.rows.now) words (sym c.if-not-are_known.ensures) in
-    let stop = values_stop c.args.rows.now c.loop-k.k _ words c.loop-k.values (omega arith) (sym c.value_in.ensures ∙ c.in_err-values.was) in
-    c.from_residual.ensures ∙ sym (known ∙ (c.loop-k.invariant.1 ∙ stop))
+-- the place of a name among the rows, as the definitions see them
+place_seen : (rows : List code.OptionRow) (name : List ℕ) (found place : Option ℕ) → found ≡ position (λ row. has_name name (seen_row row)) rows → found ≡ place → position (has_name name) (map seen_row rows) ≡ place
+place_seen rows name found place is was = position-map (has_name name) seen_row rows ∙ (sym is ∙ was)
+
+-- the number for which a text stands at a row, as the definitions see it
+number_seen : (rows : List code.OptionRow) (k : ℕ) (d : code.OptionRow) (text : List ℕ) (found number : Option ℕ) → found ≡ number_for (seen_row (get_or rows k d)).values text → found ≡ number → number_for (get_or (map seen_row rows) k (seen_row d)).values text ≡ number
+number_seen rows k d text found number is was = ap (λ row. number_for row.values text) (get_or-map seen_row rows k d) ∙ (sym is ∙ was)
+
+pub loop-given-init : goal.loop-given-init
+loop-given-init g c =
+    let long : length (map seen_row c.args.rows.now) ≡ g.row.N = omega (arith, length_map seen_row c.args.rows.now) in
+    (length-replicate g.row.N None ∙ sym c.requires.count, after_start (map seen_row c.args.rows.now) g.row.N (map string_bytes c.args.words.now) long)
+
+pub returns-in_err-k-clause-values : goal.returns-in_err-k-clause-values
+returns-in_err-k-clause-values g c =
+    let given = seen_given c.in-Some.given in
+    let place = place_seen c.args.rows.now given.name c.place_of.result None c.place_of.ensures c.in_err-k.was in
+    let unknown = after_unknown (map seen_row c.args.rows.now) c.loop-given.values (map string_bytes c.loop-given.left.now) given (map string_bytes c.in-Some.more.now) (sym c.in-Some.ensures) place in
+    c.from_residual.ensures ∙ sym (c.loop-given.invariant.1 ∙ unknown)
+
+pub returns-then-is_some-clause-values : goal.returns-then-is_some-clause-values
+returns-then-is_some-clause-values g c =
+    let given = seen_given c.in-Some.given in
+    let place = place_seen c.args.rows.now given.name c.place_of.result (Some c.in_ok-k.k) c.place_of.ensures c.in_ok-k.was in
+    let long : length c.loop-given.values ≡ length (map seen_row c.args.rows.now) = omega (arith, length_map seen_row c.args.rows.now) in
+    let twice = after_twice (map seen_row c.args.rows.now) c.loop-given.values (map string_bytes c.loop-given.left.now) given (map string_bytes c.in-Some.more.now) c.in_ok-k.k no_option (sym c.in-Some.ensures) place long (sym c.if-is_some.ensures) in
+    sym (c.loop-given.invariant.1 ∙ twice)
+
+pub returns-in_err-n-clause-values : goal.returns-in_err-n-clause-values
+returns-in_err-n-clause-values g c =
+    let given = seen_given c.in-Some.given in
+    let place = place_seen c.args.rows.now given.name c.place_of.result (Some c.in_ok-k.k) c.place_of.ensures c.in_ok-k.was in
+    let number = number_seen c.args.rows.now c.in_ok-k.k _ given.text c.number_for.result None c.number_for.ensures c.in_err-n.was in
+    let long : length c.loop-given.values ≡ length (map seen_row c.args.rows.now) = omega (arith, length_map seen_row c.args.rows.now) in
+    let bad = after_bad (map seen_row c.args.rows.now) c.loop-given.values (map string_bytes c.loop-given.left.now) given (map string_bytes c.in-Some.more.now) c.in_ok-k.k _ (sym c.in-Some.ensures) place long number in
+    c.from_residual-in_err-n.ensures ∙ sym (c.loop-given.invariant.1 ∙ bad)
+
+pub loop-given-smaller : goal.loop-given-smaller
+loop-given-smaller g c =
+    let left = c.loop-given.left.now in
+    let more = c.in-Some.more.now in
+    let shorter = rest_shorter (map string_bytes left) (seen_given c.in-Some.given) (map string_bytes more) (sym c.in-Some.ensures) in
+    omega (arith, shorter, length_map string_bytes left, length_map string_bytes more)
+
+pub loop-given-preserved : goal.loop-given-preserved
+loop-given-preserved g c =
+    let given = seen_given c.in-Some.given in
+    let place = place_seen c.args.rows.now given.name c.place_of.result (Some c.in_ok-k.k) c.place_of.ensures c.in_ok-k.was in
+    let number = number_seen c.args.rows.now c.in_ok-k.k _ given.text c.number_for.result (Some c.in_ok-n.n) c.number_for.ensures c.in_ok-n.was in
+    let long : length c.loop-given.values ≡ length (map seen_row c.args.rows.now) = omega (arith, length_map seen_row c.args.rows.now) in
+    let step = after_step (map seen_row c.args.rows.now) c.loop-given.values (map string_bytes c.loop-given.left.now) given (map string_bytes c.in-Some.more.now) c.in_ok-k.k _ c.in_ok-n.n (sym c.in-Some.ensures) c.requires.distinct place long (sym c.if-is_some.ensures) number in
+    (length-set c.loop-given.values c.in_ok-k.k (Some c.in_ok-n.n) ∙ c.loop-given.invariant.0, c.loop-given.invariant.1 ∙ step)
+
+pub loop-k-init : goal.loop-k-init
+loop-k-init g c =
+    let rows = map seen_row c.args.rows.now in
+    let ends = after_end rows c.loop-given.values (map string_bytes c.loop-given.left.now) (sym c.in_default.ensures) in
+    let ended = ap (λ b. if b then with_absent rows c.loop-given.values else None) (sym c.if-not-is_end.ensures) in
+    (c.loop-given.invariant.0, c.loop-given.invariant.1 ∙ (ends ∙ (ended ∙ filled_start rows c.loop-given.values)))
+
+pub returns-in_err-values-clause-values : goal.returns-in_err-values-clause-values
+returns-in_err-values-clause-values g c =
+    let stop = filled_stop c.args.rows.now c.loop-k.values c.loop-k.k _ (omega arith) (omega arith) (sym c.or_absent.ensures ∙ c.in_err-values.was) in
+    c.from_residual-in_err-values.ensures ∙ sym (c.loop-k.invariant.1 ∙ stop)
 
 pub loop-k-preserved : goal.loop-k-preserved
 loop-k-preserved g c =
     let long : length (set c.loop-k.values c.loop-k.k c.in_ok-values.field-0) ≡ length c.args.rows.now = omega (arith, length-set c.loop-k.values c.loop-k.k c.in_ok-values.field-0) in
-    (long, c.loop-k.invariant.1 ∙ values_more c.args.rows.now c.loop-k.k _ (map string_bytes c.args.words.now) c.loop-k.values c.in_ok-values.field-0 (omega arith) (omega arith) (sym c.value_in.ensures ∙ c.in_ok-values.was))
+    (long, c.loop-k.invariant.1 ∙ filled_more c.args.rows.now c.loop-k.values c.loop-k.k _ c.in_ok-values.field-0 (omega arith) (omega arith) (sym c.or_absent.ensures ∙ c.in_ok-values.was))
 
-pub returns : goal.returns
-returns g c =
-    let rows = map row_seen c.args.rows.now in
-    let words = map string_bytes c.args.words.now in
-    let known = sym c.if-not-are_known.ensures in
-    let past : length rows ≤ c.loop-k.k = omega (arith, length_map row_seen c.args.rows.now) in
-    sym (values_known rows words known ∙ (c.loop-k.invariant.1 ∙ values_all rows c.loop-k.k words c.loop-k.values known past (omega arith)))
+pub returns-clause-values : goal.returns-clause-values
+returns-clause-values g c =
+    let rows = map seen_row c.args.rows.now in
+    let past : length rows ≤ c.loop-k.k = omega (arith, length_map seen_row c.args.rows.now) in
+    sym (c.loop-k.invariant.1 ∙ filled_all rows c.loop-k.values c.loop-k.k past (omega arith))
+
+pub returns-clause-range : goal.returns-clause-range
+returns-clause-range g c =
+    let rows = map seen_row c.args.rows.now in
+    let past : length rows ≤ c.loop-k.k = omega (arith, length_map seen_row c.args.rows.now) in
+    values_in-within rows (map string_bytes c.args.words.now) c.loop-k.values (c.loop-k.invariant.1 ∙ filled_all rows c.loop-k.values c.loop-k.k past (omega arith))
