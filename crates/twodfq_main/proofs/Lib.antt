@@ -1,3 +1,4 @@
 pub mod Serving
 pub mod Runs
 pub mod Wants
+pub mod CleanRuns

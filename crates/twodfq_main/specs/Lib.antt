@@ -2,3 +2,4 @@ pub mod Commands
 pub mod Program
 pub mod Causes
 pub mod Stops
+pub mod Laws

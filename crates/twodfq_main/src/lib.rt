@@ -1,6 +1,7 @@
 //! The program over any source and sinks.
 #![tactic(auto)]
 
+pub mod laws;
 pub mod program;
 mod script;
 pub mod serve;

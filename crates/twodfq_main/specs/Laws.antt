@@ -1,0 +1,32 @@
+-- What follows for a run over memory that never fails.
+use Rattle.std.specs.Prelude.{ℕ, ◌<◌, ◌≡◌, ◌≢◌, List, [], length, Option, Some}
+use Rattle.fq_io.specs.Clean.{IsClean}
+use Rattle.fq_model.specs.declared.command.Command.{Command}
+use Rattle.fq_model.specs.Lines.{Words}
+use Rattle.twodfq_main.specs.Commands.{asked}
+use Rattle.twodfq_main.specs.Program.{Move, IsAnswered, IsRun}
+
+-- a clean source was read: its faults are 0 before and after
+abbrev pub IsCleanSource : Move → Type 0
+IsCleanSource source = (source.before.faults ≡ 0) × (source.after.faults ≡ 0)
+
+-- a clean sink with this room was fresh, and was perhaps written to
+pub record IsCleanSink (room : ℕ) (sink : Move) : Type 0 where
+  pub fresh : sink.before ≡ record { bytes = Some []; faults = 0 }
+  pub written : List ℕ
+  pub told : sink.after.bytes ≡ Some written
+  pub clean : IsClean room written sink.after.faults
+
+-- each output of what the words ask for is shorter than this
+abbrev pub AreOutputsShorter : ℕ → Words → Move → Type 0
+AreOutputsShorter room words source =
+    (command : Command) (text : List ℕ) → asked words ≡ Some command → IsAnswered command source text → length text < room
+
+-- over a clean source the program never ends with 4
+abbrev pub NeverFailsReading : Type 0
+NeverFailsReading = (words : Words) (source sink errs : Move) (status : ℕ) → IsRun words source sink errs status → IsCleanSource source → status ≢ 4
+
+-- over a fresh clean sink that has more room than the output has bytes it never ends with 5
+abbrev pub NeverFailsWriting : Type 0
+NeverFailsWriting = (words : Words) (source sink errs : Move) (status room : ℕ) → IsRun words source sink errs status
+    → IsCleanSink room sink → AreOutputsShorter room words source → status ≢ 5
