@@ -3,11 +3,13 @@ ghost use Rattle.std.specs.Prelude.{◌≡◌, map, unwrap_or, slice_index_or};
 ghost use Rattle.std.specs.String.{string_bytes};
 ghost use Rattle.fq_model.specs.Options.{command_of, command_by};
 ghost use Rattle.fq_model.specs.Command.{script_row};
-ghost use Rattle.command_line.specs.Commands.{built_commands};
+ghost use Rattle.command_line.specs.Commands.{journal_run_row, built_commands};
 
 use crate::options::{Value, values_in};
-use crate::table::{SCRIPT_OPTIONS, SCRIPT_PRINTS};
-use fq_model::command::{Command, ScriptPrint};
+use crate::table::{ESTIMATORS, POLICIES, RUN_OPTIONS, SCRIPT_OPTIONS, SCRIPT_PRINTS};
+use fq_model::command::{Command, HistoryPrint, ScriptPrint};
+use fq_model::config::{Estimator, Policy};
+use fq_model::trace::RunOptions;
 
 /// The command that words ask for, without the program's name before them. None where they are no line of the table of
 /// commands. Takes no memory.
@@ -17,6 +19,7 @@ pub fn command(words: &[String]) -> Option<Command>
     let (word, words) = words.split_first()?;
     match word.as_str() {
         "script" => script_command(words),
+        "run" => run_command(words),
         _ => None,
     }
 }
@@ -28,6 +31,25 @@ fn script_command(words: &[String]) -> Option<Command>
     let [print] = values_in::<1>(&SCRIPT_OPTIONS, words)?;
     let print = choice(&SCRIPT_PRINTS, print, ScriptPrint::Replies);
     Some(Command::Script { print })
+}
+
+// `run`, by the words after it.
+fn run_command(words: &[String]) -> Option<Command>
+    ensures { result ≡ command_by (map string_bytes words.now) journal_run_row }
+{
+    let [workers, policy, estimate, initial, refresh, _] = values_in::<6>(&RUN_OPTIONS, words)?;
+    let options = RunOptions {
+        workers: workers.unwrap_or(0) as u32,
+        policy: choice(&POLICIES, policy, Policy::TwoDfq),
+        estimate: choice(&ESTIMATORS, estimate, Estimator::Pessimistic),
+        initial: initial.unwrap_or(0),
+        refresh: refresh.unwrap_or(0),
+    };
+    Some(Command::Run {
+        options,
+        slot: 0,
+        print: HistoryPrint::Journal,
+    })
 }
 
 // What a value stands for that is a place among these.

@@ -1,6 +1,8 @@
 use crate::command::command;
 use crate::options::{Absent, OptionRow, Value, Values, values_in};
-use fq_model::command::{Command, ScriptPrint};
+use fq_model::command::{Command, HistoryPrint, ScriptPrint};
+use fq_model::config::{Estimator, Policy};
+use fq_model::trace::RunOptions;
 use std::alloc::{AllocError, Global};
 use std::test::Fail;
 
@@ -10,7 +12,7 @@ const ROWS: [OptionRow; 3] = [
         name: "--seed",
         values: Values::Within {
             low: 0,
-            high: 18446744073709551615,
+            high: u64::MAX,
         },
         absent: Absent::Required,
     },
@@ -52,7 +54,7 @@ fn script_is_read(rt: HostRuntime) -> Result<(), Fail> {
         ("--", None),
         ("help", None),
         ("-h", None),
-        ("run", None),
+        ("scripts", None),
         ("Script", None),
         ("script --help", None),
         ("script extra", None),
@@ -75,8 +77,48 @@ fn script_is_read(rt: HostRuntime) -> Result<(), Fail> {
 }
 
 #[test]
+fn run_is_read(rt: HostRuntime) -> Result<(), Fail> {
+    let plain = RunOptions {
+        workers: 4,
+        policy: Policy::TwoDfq,
+        estimate: Estimator::Pessimistic,
+        initial: 1000,
+        refresh: 10000,
+    };
+    let asked = RunOptions {
+        workers: 64,
+        policy: Policy::Wf2q,
+        estimate: Estimator::Declared,
+        initial: 1,
+        refresh: 0,
+    };
+    for (line, want) in [
+        ("run --print journal", Some(plain)),
+        (
+            "run --print=journal --refresh 0 --initial=1 --estimate declared --policy wf2q --workers=64 --",
+            Some(asked),
+        ),
+        ("run", None),
+        ("run --print report", None),
+        ("run --print journal --slot 5", None),
+        ("run --print journal --workers 0", None),
+        ("run --print journal --workers 65", None),
+        ("gen --seed 1 --tenants 1 --requests 1", None),
+    ] {
+        let words = words_of(rt.alloc(), line)?;
+        let want = want.map(|options| Command::Run {
+            options,
+            slot: 0,
+            print: HistoryPrint::Journal,
+        });
+        assert_eq!(rt; command(&words), want, "at {line}");
+    }
+    Ok(())
+}
+
+#[test]
 fn options_are_read(rt: HostRuntime) -> Result<(), Fail> {
-    let most = 18446744073709551615;
+    let most = u64::MAX;
     for (line, want) in [
         ("--seed 0", Some([Some(0), Some(4), None])),
         (

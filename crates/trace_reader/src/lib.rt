@@ -4,6 +4,7 @@
 pub mod fault;
 mod fields;
 pub mod laws;
+pub mod messages;
 pub mod printing;
 pub mod reading;
 #[cfg(test)]

@@ -11,9 +11,15 @@ returns-in-script c =
     let named = command_named built_commands c.args.words.now c.in_ok-word.word.now c.in_ok-word.words.now _ c.in_ok-word.ensures.cases.0 (sym c.as_str.ensures.value ∙ c.in-script.is) in
     c.script_command.ensures ∙ sym named
 
+pub returns-in-run : goal.returns-in-run
+returns-in-run c =
+    let named = command_named built_commands c.args.words.now c.in_ok-word.word.now c.in_ok-word.words.now _ c.in_ok-word.ensures.cases.0 (sym c.as_str.ensures.value ∙ c.in-run.is) in
+    c.run_command.ensures ∙ sym named
+
 pub returns-in_default : goal.returns-in_default
 returns-in_default c =
     let first = command_first built_commands c.args.words.now c.in_ok-word.word.now c.in_ok-word.words.now c.in_ok-word.ensures.cases.0 in
     let value = c.as_str.ensures.value in
     let script = rw value at c.in_default.not-script in
-    sym (rw (other_word _ _ script) at first)
+    let run = rw value at c.in_default.not-run in
+    sym (rw (other_word _ _ script, other_word _ _ run) at first)
