@@ -4,5 +4,10 @@ pub mod Order
 pub mod Sums
 pub mod Legal
 pub mod Room
+pub mod Steps
+pub mod Reporting
+pub mod Finishing
+pub mod Coming
+pub mod Taking
 pub mod InLimits
 pub mod NoFault
