@@ -95,15 +95,15 @@ keeps_done T O P a i w g =
             served_stays T O.refresh P e r row no (k.served r row is (rw no at d))
       ];
       works = at_set (λ j o. (x : Work) → o ≡ Some x → Serves T O Q j x) a.staff i None known
-        (λ x is. absurd (cc))
-        (λ j ne x is. serves_stays T O P e j x (k.works j x is) (cond-false (i == j) _ _ (ne_eqb i j (λ q. ne (sym q)))) (others_differ T O P a i j s.request (k.works j x is).request k s.runs (k.works j x is).runs ne) (λ t. omega (arith, t, wait)));
+          (λ x is. absurd (cc))
+          (λ j ne x is. serves_stays T O P e j x (k.works j x is) (cond-false (i == j) _ _ (ne_eqb i j (λ q. ne (sym q)))) (others_differ T O P a i j s.request (k.works j x is).request k s.runs (k.works j x is).runs ne) (λ t. omega (arith, t, wait)));
       idle = at_set (λ j o. o ≡ None → running_on Q j ≡ None) a.staff i None known (λ is. idle_now T P i s.request w) (λ j ne is. cond-false (i == j) _ _ (ne_eqb i j (λ q. ne (sym q))) ∙ k.idle j is);
       in_turn = (k.in_turn, in_turn_now P e turn);
       busy = (k.busy, record { lower_run = tt; settled = λ h. elim h [ inl l ↦ settled_now T O P a k (g.settled (omega (arith, l, k.moment_is))) | inr c ↦ absurd (cc) ] });
       in_time = omega (arith, now, wait);
       works_follow = at_set (λ j o. (x : Work) → o ≡ Some x → ComesBefore (work_moment w) (1, i) (work_moment x) (work_rank j x)) a.staff i None known
-        (λ x is. absurd (cc))
-        (λ j ne x is. other_work (work_moment w) 1 i j x ne (g.works j x is));
+          (λ x is. absurd (cc))
+          (λ j ne x is. other_work (work_moment w) 1 i j x ne (g.works j x is));
       rows_follow = λ row is. subst (λ r. ComesBefore (work_moment w) (1, i) row.moment (2, r)) k.submitted_is (any_row (work_moment w) 1 i row.moment a.submitted (λ z. absurd (omega arith)) (g.requests row (subst (λ r. slice_get T.rows r ≡ Some row) (sym k.submitted_is) is)));
       idle_follow = λ j d. inr (refl, inl (omega arith));
     }

@@ -9,5 +9,8 @@ pub mod Reporting
 pub mod Finishing
 pub mod Coming
 pub mod Taking
+pub mod Calls
+pub mod Events
+pub mod Ending
 pub mod InLimits
 pub mod NoFault

@@ -90,15 +90,15 @@ keeps_report T O P a i w g =
       requests = k.requests;
       served = λ r row is d. served_stays T O.refresh P e r row (ne_eqb s.request r (λ q. both_ways _ fit.runs.not_done (subst (λ x. is_done P x ≡ true) (sym q) d))) (k.served r row is d);
       works = at_set (λ j o. (x : Work) → o ≡ Some x → Serves T O Q j x) a.staff i (Some (reported_work w O.refresh)) known
-        (λ x is. subst (Serves T O Q i) (some_same _ _ is) (reported_serves T O P i w s n))
-        (λ j ne x is. serves_stays T O P e j x (k.works j x is) refl (others_differ T O P a i j s.request (k.works j x is).request k s.runs (k.works j x is).runs ne) (λ t. omega (arith, t, wait)));
+          (λ x is. subst (Serves T O Q i) (some_same _ _ is) (reported_serves T O P i w s n))
+          (λ j ne x is. serves_stays T O P e j x (k.works j x is) refl (others_differ T O P a i j s.request (k.works j x is).request k s.runs (k.works j x is).runs ne) (λ t. omega (arith, t, wait)));
       idle = at_set (λ j o. o ≡ None → running_on P j ≡ None) a.staff i (Some (reported_work w O.refresh)) known (λ is. absurd (cc)) (λ j ne is. k.idle j is);
       in_turn = (k.in_turn, in_turn_now P e turn);
       busy = (k.busy, record { lower_run = tt; settled = λ h. elim h [ inl l ↦ settled_now T O P a k (g.settled (omega (arith, l, k.moment_is))) | inr c ↦ absurd (cc) ] });
       in_time = omega (arith, now, wait);
       works_follow = at_set (λ j o. (x : Work) → o ≡ Some x → ComesBefore (work_moment w) (0, i) (work_moment x) (work_rank j x)) a.staff i (Some (reported_work w O.refresh)) known
-        (λ x is. subst (λ y. ComesBefore (work_moment w) (0, i) (work_moment y) (work_rank i y)) (some_same _ _ is) (inl (omega (arith, n.due_is, n.some_refresh, g.below))))
-        (λ j ne x is. other_work (work_moment w) 0 i j x ne (g.works j x is));
+          (λ x is. subst (λ y. ComesBefore (work_moment w) (0, i) (work_moment y) (work_rank i y)) (some_same _ _ is) (inl (omega (arith, n.due_is, n.some_refresh, g.below))))
+          (λ j ne x is. other_work (work_moment w) 0 i j x ne (g.works j x is));
       rows_follow = λ row is. subst (λ r. ComesBefore (work_moment w) (0, i) row.moment (2, r)) k.submitted_is (any_row (work_moment w) 0 i row.moment a.submitted (λ z. absurd (omega arith)) (g.requests row (subst (λ r. slice_get T.rows r ≡ Some row) (sym k.submitted_is) is)));
       idle_follow = λ j d. inr (refl, inl (omega arith));
     }

@@ -25,3 +25,7 @@ pub sum_by_number : (f : TraceRow → ℕ) (rows : List TraceRow) → sum_below 
 unfolding sum_below
 sum_by_number f [] = refl
 sum_by_number f (row ∷ rows) = sum_front (λ r. f (row_at (row ∷ rows) r)) (length rows) ∙ ap (λ n. f row + n) (sum_by_number f rows)
+
+pub submitters_low : (rows : List TraceRow) → ((r : ℕ) → r < length rows → (row_at rows r).submitter ≤ 63) → submitters rows ≤ 64
+submitters_low [] h = omega arith
+submitters_low (row ∷ rows) h = omega (arith, h 0 (omega arith), submitters_low rows (λ r l. h (suc r) (omega arith)))

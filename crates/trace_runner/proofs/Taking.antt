@@ -54,7 +54,7 @@ taken_row T O P a i r estimate m k f =
     omega (arith, submitted_below (run_config T O) P r k.legal (waits_submitted P r wt), k.rows_left)
 
 -- its first entry comes later
-due_some : (start cost refresh : ℕ) → 1 ≤ cost → (1 ≤ (new_work start cost refresh).due) × ((new_work start cost refresh).due ≤ cost)
+pub due_some : (start cost refresh : ℕ) → 1 ≤ cost → (1 ≤ (new_work start cost refresh).due) × ((new_work start cost refresh).due ≤ cost)
 due_some start cost refresh c = elim (cases_eq refresh 0) [
   | inl e ↦ let d : (new_work start cost refresh).due ≡ cost = cond-true (refresh == 0) _ _ (eq-eqb refresh 0 e) in (omega (arith, d), omega (arith, d))
   | inr ne ↦ let d : (new_work start cost refresh).due ≡ min refresh cost = cond-false (refresh == 0) _ _ (ne_eqb refresh 0 ne) in (omega (arith, d), omega (arith, d))
@@ -115,15 +115,15 @@ keeps_take T O P a i r estimate g =
       requests = k.requests;
       served = λ q row is d. served_stays T O.refresh P e q row (ne_eqb r q (λ x. both_ways _ untaken (subst (λ y. is_taken P y ≡ true) (sym x) (done_taken (run_config T O) P q k.legal d)))) (k.served q row is d);
       works = at_set (λ j o. (x : Work) → o ≡ Some x → Serves T O Q j x) a.staff i (Some (work_of T O P r)) g.idle.known
-        (λ x is. subst (Serves T O Q i) (some_same _ _ is) new)
-        (λ j ne x is. serves_stays T O P e j x (k.works j x is) (cond-false (i == j) _ _ (ne_eqb i j (λ q. ne (sym q)))) (other j (k.works j x is).request (k.works j x is).runs) (λ t. omega (arith, t, wait)));
+          (λ x is. subst (Serves T O Q i) (some_same _ _ is) new)
+          (λ j ne x is. serves_stays T O P e j x (k.works j x is) (cond-false (i == j) _ _ (ne_eqb i j (λ q. ne (sym q)))) (other j (k.works j x is).request (k.works j x is).runs) (λ t. omega (arith, t, wait)));
       idle = at_set (λ j o. o ≡ None → running_on Q j ≡ None) a.staff i (Some (work_of T O P r)) g.idle.known (λ is. absurd (cc)) (λ j ne is. cond-false (i == j) _ _ (ne_eqb i j (λ q. ne (sym q))) ∙ k.idle j is);
       in_turn = (k.in_turn, in_turn_now P e turn);
       busy = (k.busy, record { lower_run = lower_run T O P a i k g.idle.known g.least; settled = λ h. elim h [ inl x ↦ absurd (omega (arith, x)) | inr c ↦ absurd (cc) ] });
       in_time = omega (arith, k.in_time, wait);
       works_follow = at_set (λ j o. (x : Work) → o ≡ Some x → ComesBefore (last_moment P) (3, i) (work_moment x) (work_rank j x)) a.staff i (Some (work_of T O P r)) g.idle.known
-        (λ x is. subst (λ y. ComesBefore (last_moment P) (3, i) (work_moment y) (work_rank i y)) (some_same _ _ is) (inl (omega (arith, due.0))))
-        (λ j ne x is. any_work (last_moment P) 3 i j x (omega arith) (g.works j x is));
+          (λ x is. subst (λ y. ComesBefore (last_moment P) (3, i) (work_moment y) (work_rank i y)) (some_same _ _ is) (inl (omega (arith, due.0))))
+          (λ j ne x is. any_work (last_moment P) 3 i j x (omega arith) (g.works j x is));
       rows_follow = λ row is. any_row (last_moment P) 3 i row.moment (submits P) (λ z. absurd (omega arith)) (g.requests row is);
       idle_follow = λ j d. inr (refl, inr (refl, later j d));
     }
@@ -131,9 +131,9 @@ keeps_take T O P a i r estimate g =
     later : (j : ℕ) → IsIdle (set a.staff i (Some (work_of T O P r))) j → i < j
     later j d = elim (cases_eq j i) [
       | inl q ↦ absurd (
-        let s : work_at (set a.staff i (Some (work_of T O P r))) i ≡ Some (work_of T O P r) = Rattle.std.proofs.Common.get_or-set_same a.staff i (Some (work_of T O P r)) None g.idle.known in
-        let n : None ≡ Some (work_of T O P r) = sym d.idle ∙ ap (work_at (set a.staff i (Some (work_of T O P r)))) q ∙ s in cc
-      )
+          let s : work_at (set a.staff i (Some (work_of T O P r))) i ≡ Some (work_of T O P r) = Rattle.std.proofs.Common.get_or-set_same a.staff i (Some (work_of T O P r)) None g.idle.known in
+          let n : None ≡ Some (work_of T O P r) = sym d.idle ∙ ap (work_at (set a.staff i (Some (work_of T O P r)))) q ∙ s in cc
+          )
       | inr ne ↦
           let was : work_at a.staff j ≡ None = sym (Rattle.std.proofs.Common.get_or-set_other a.staff i j (Some (work_of T O P r)) None ne) ∙ d.idle in
           omega (arith, g.least j (record { known = omega (arith, d.known, length-set a.staff i (Some (work_of T O P r))); idle = was }), ne)

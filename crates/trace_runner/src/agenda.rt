@@ -1,6 +1,7 @@
 //! What a simulation is about to do.
-ghost use Rattle.std.specs.Prelude.{◌≡◌, ◌+◌, ◌<◌, ◌≤◌, ◌-◌, None, Some, IfOk, IfSome, MatchOption, length, replicate, slice_set};
+ghost use Rattle.std.specs.Prelude.{◌≡◌, ◌+◌, ◌<◌, ◌≤◌, ◌-◌, None, Some, IfOk, IfErr, IfSome, MatchOption, length, replicate, slice_set};
 ghost use Rattle.vt_fixed.specs.declared.limits.TheConstants.{GREATEST_MOMENT};
+ghost use Rattle.trace_runner.specs.declared.fault.SimFault.TheVariants as faults;
 ghost use Rattle.trace_runner.specs.Staff.{IsSmall, work_moment};
 ghost use Rattle.trace_runner.specs.Agenda.{event_of_work, event_of_row, comes_by, IsTimed, NothingTimed, IsNext, NothingNext};
 
@@ -52,13 +53,14 @@ impl Agenda {
     pub fn open(alloc: Global, workers: u32, first_caller: u32) -> Result<Agenda, SimFault>
         requires some { 1 ≤ workers }
         requires few { workers ≤ MOST_WORKERS }
-        ensures { IfOk result (λ a. a ≡ record {
+        ensures opened { IfOk result (λ a. a ≡ record {
           staff = replicate workers None;
           first_caller = first_caller;
           moment = 0;
           submitted = 0;
           waiting = 0;
         }) }
+        ensures fault { IfErr result (λ f. f ≡ faults.NoMemory) }
     {
         Ok(Agenda {
             staff: Staff::open(alloc, workers)?,

@@ -1,4 +1,13 @@
 //! The simulation.
+ghost use Rattle.std.specs.Prelude.{◌≡◌, ◌+◌, ◌<◌, ◌⊎◌, length, IfOk, IfErr, Err};
+ghost use Rattle.fq_model.specs.declared.limits.TheConstants.{MOST_ENTRIES};
+ghost use Rattle.fq_model.specs.History.{history_of};
+ghost use Rattle.fq_model.specs.Simulated.{needed_entries, run_config, IsSimulated};
+ghost use Rattle.fq_model.specs.TraceText.{IsLawfulTrace};
+ghost use Rattle.trace_runner.specs.Agenda.{IsNext};
+ghost use Rattle.trace_runner.specs.Plan.{AreInRange};
+ghost use Rattle.trace_runner.specs.Simulation.{Simulates};
+ghost use Rattle.trace_runner.specs.declared.fault.SimFault.TheVariants as faults;
 
 use crate::agenda::{Agenda, Event, What};
 use crate::fault::SimFault;
@@ -18,7 +27,17 @@ pub fn simulate<X: Chooser + Drop>(
     alloc: Global,
     trace: &Trace,
     options: RunOptions,
-) -> Result<Scheduler<u64, X>, SimFault> {
+) -> Result<Scheduler<u64, X>, SimFault>
+    requires lawful { IsLawfulTrace trace.now }
+    requires options { AreInRange options }
+    ensures simulated { IfOk result (λ s. IsSimulated trace.now options (history_of s.past)) }
+    ensures config { IfOk result (λ s. s.config ≡ run_config trace.now options) }
+    ensures too_many { MOST_ENTRIES < needed_entries trace.now.rows options.refresh
+        → result ≡ Err (faults.TooManyEntries (needed_entries trace.now.rows options.refresh)) }
+    ensures fault { IfErr result (λ f. (f ≡ faults.NoMemory)
+        ⊎ ((f ≡ faults.TooManyEntries (needed_entries trace.now.rows options.refresh))
+        × (MOST_ENTRIES < needed_entries trace.now.rows options.refresh))) }
+{
     let needed = needed(trace, options.refresh);
     if needed > MOST_ENTRIES as u64 {
         return Err(SimFault::TooManyEntries(needed));
@@ -42,7 +61,12 @@ fn step<X: Chooser + Drop>(
     trace: &Trace,
     options: RunOptions,
     event: Event,
-) {
+)
+    requires simulates { Simulates trace.now options scheduler.old agenda.old }
+    requires next { IsNext agenda.old trace.now.rows event }
+    ensures simulates { Simulates trace.now options scheduler.new agenda.new }
+    ensures grows { length scheduler.new.past ≡ length scheduler.old.past + 1 }
+{
     let moment = event.moment;
     match event.what {
         What::Report { worker, work } => {

@@ -1,5 +1,6 @@
 //! What each worker serves, and which of them comes next.
-ghost use Rattle.std.specs.Prelude.{◌≡◌, ◌+◌, ◌<◌, ◌≤◌, None, IfOk, IfSome, MatchOption, length, replicate, slice_set};
+ghost use Rattle.std.specs.Prelude.{◌≡◌, ◌+◌, ◌<◌, ◌≤◌, None, IfOk, IfErr, IfSome, MatchOption, length, replicate, slice_set};
+ghost use Rattle.trace_runner.specs.declared.fault.SimFault.TheVariants as faults;
 ghost use Rattle.trace_runner.specs.Staff.{busy_key, idle_key, new_work, reported_work, work_key, work_moment, IsSmall, NoneWorks, NoneIdle, IsFirstWork, IsFirstIdle};
 
 use crate::fault::SimFault;
@@ -113,7 +114,8 @@ impl Staff {
     pub fn open(alloc: Global, workers: u32) -> Result<Staff, SimFault>
         requires some { 1 ≤ workers }
         requires few { workers ≤ MOST_WORKERS }
-        ensures { IfOk result (λ s. s ≡ replicate workers None) }
+        ensures opened { IfOk result (λ s. s ≡ replicate workers None) }
+        ensures fault { IfErr result (λ f. f ≡ faults.NoMemory) }
     {
         let works = vec![in alloc; None; workers as usize]?;
         let busy = Tree::open(alloc, workers)?;
