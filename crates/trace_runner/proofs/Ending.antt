@@ -142,7 +142,7 @@ close_answered T O s t a reply sim h =
     let P : History = history_of s.past in
     let now : a.moment ≡ last_moment P = sim.keeps.moment_is in
     let r = closed (run_config T O) P (history_of t.past) 0 (last_moment P) reply sim.keeps.open_still (effective_now P (last_moment P) (omega arith) (last_moment_small (run_config T O) P sim.keeps.legal))
-      (subst (λ x. Answers (run_config T O) P (call.Close 0 x) reply (history_of t.past)) now (subst (λ C. Answers C P (call.Close 0 a.moment) reply (history_of t.past)) sim.config_is h.answers)) in
+    (subst (λ x. Answers (run_config T O) P (call.Close 0 x) reply (history_of t.past)) now (subst (λ C. Answers C P (call.Close 0 a.moment) reply (history_of t.past)) sim.config_is h.answers)) in
     r
 
 pub simulated : (T : Trace) (O : RunOptions) (s t : SchedulerView ℕ) (a : Agenda) → Simulates T O s a → NothingNext a T.rows → AnswersCall s (call.Close 0 a.moment) answer.Accepted t → IsSimulated T O (history_of t.past)

@@ -1,4 +1,6 @@
 //! Traces whose simulated histories were made by hand.
+ghost use Rattle.std.specs.Prelude.{◌<◌};
+
 use crate::fault::SimFault;
 use crate::runner::simulate;
 use fq_model::config::{Estimator, Policy};
