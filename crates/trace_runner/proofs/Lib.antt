@@ -1,0 +1,16 @@
+pub mod Rows
+pub mod Trees
+pub mod Order
+pub mod Sums
+pub mod Legal
+pub mod Room
+pub mod Steps
+pub mod Reporting
+pub mod Finishing
+pub mod Coming
+pub mod Taking
+pub mod Calls
+pub mod Events
+pub mod Ending
+pub mod InLimits
+pub mod NoFault

@@ -1,0 +1,27 @@
+use Rattle.std.proofs.Common.{arith, ap, subst, sym, ◌≡◌, ◌≤◌, ◌∙◌, replicate, None}
+use Rattle.fq_model.specs.declared.limits.TheConstants.{MOST_ENTRIES}
+use Rattle.fq_model.specs.Courses.{submitters}
+use Rattle.fq_model.specs.Simulated.{needed_entries}
+use Rattle.sched_state.specs.Scheduler.{SchedulerView}
+use Rattle.trace_runner.specs.declared.agenda.Agenda.{Agenda}
+use Rattle.trace_runner.specs.Agenda.{NothingNext}
+use Rattle.trace_runner.specs.Plan.{IsPlan}
+use Rattle.trace_runner.proofs.Ending.{first_agenda, simulated, simulates_first, past_low}
+use Rattle.trace_runner.proofs.runner.simulate.Goals as goal
+
+pub events-init : goal.events-init
+events-init g c =
+    let few : needed_entries c.args.trace.now.rows c.args.options.refresh ≤ MOST_ENTRIES = omega (arith, c.needed-needed.ensures, c.if-needed.false) in
+    let plan : IsPlan c.args.trace.now c.args.options = record { lawful = c.requires.lawful; options = c.requires.options; few = few } in
+    simulates_first c.args.trace.now c.args.options c.in_ok-scheduler.scheduler c.in_ok-agenda.agenda plan
+    (ap (λ (s : SchedulerView _). s.config) c.in_ok-scheduler.ensures ∙ c.in_ok-config.ensures)
+    (ap (λ (s : SchedulerView _). s.past) c.in_ok-scheduler.ensures)
+    (c.in_ok-agenda.ensures.opened ∙ ap (λ n. let a : Agenda = record { staff = replicate c.args.options.workers None; first_caller = n; moment = 0; submitted = 0; waiting = 0 } in a) (c.submitters.ensures.count ∙ ap submitters c.rows.ensures))
+
+pub events-smaller : goal.events-smaller
+events-smaller g c = omega (arith, past_low c.args.trace.now c.args.options _ _ c.step.ensures.simulates, c.step.ensures.grows)
+
+pub returns-clause-simulated : goal.returns-clause-simulated
+returns-clause-simulated g c =
+    let nothing : NothingNext c.events.agenda c.args.trace.now.rows = subst (NothingNext c.events.agenda) c.rows-in-events.ensures c.in_default.ensures in
+    simulated c.args.trace.now c.args.options c.events.scheduler _ c.events.agenda c.events.invariant nothing c.in-Ok.ensures.answers

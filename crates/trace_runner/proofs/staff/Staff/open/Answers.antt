@@ -1,0 +1,10 @@
+use Rattle.std.proofs.Common.{◌≡◌, ◌<◌, ◌∙◌, sym, subst, get_or, None, Some, arith, length, replicate, rules}
+use Rattle.trace_runner.proofs.Trees.{opened_staff, all_idle, no_key}
+use Rattle.trace_runner.proofs.staff.Staff.open.Goals as goal
+
+pub invariant_of-result : goal.invariant_of-result
+invariant_of-result c =
+    let works : c.in_ok-works.works.items ≡ replicate c.args.workers None = search rules in
+    let busy : c.in_ok-busy.busy ≡ replicate c.args.workers None = search rules in
+    let all : c.loop-worker.idle ≡ replicate c.args.workers (Some no_key) = all_idle c.args.workers c.loop-worker.idle c.loop-worker.invariant.len (λ j l. c.loop-worker.invariant.idle j (omega (arith, c.loop-worker-test.false))) in
+    rw (works, busy) (opened_staff c.args.workers c.loop-worker.idle all)

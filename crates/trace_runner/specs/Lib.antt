@@ -1,0 +1,4 @@
+pub mod Plan
+pub mod Staff
+pub mod Agenda
+pub mod Simulation

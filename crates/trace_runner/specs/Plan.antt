@@ -1,0 +1,35 @@
+-- What may be simulated.
+use Rattle.std.specs.Prelude.{ℕ, ◌≤◌, List, All, slice_index_or}
+use Rattle.vt_fixed.specs.declared.limits.TheConstants.{GREATEST_COST, MOST_WORKERS}
+use Rattle.fq_model.specs.declared.limits.TheConstants.{MOST_ENTRIES}
+use Rattle.fq_model.specs.declared.trace.RunOptions.{RunOptions}
+use Rattle.fq_model.specs.declared.trace.TraceRow.{TraceRow}
+use Rattle.fq_model.specs.Courses.{sum_over, reports_below}
+use Rattle.fq_model.specs.Limits.{IsWithin}
+use Rattle.fq_model.specs.Simulated.{needed_entries}
+use Rattle.fq_model.specs.Trace.{Trace}
+use Rattle.fq_model.specs.TraceText.{IsLawfulTrace}
+
+-- the numbers of the options are within their limits
+pub record AreInRange (O : RunOptions) : Type 0 where
+  pub workers : IsWithin 1 MOST_WORKERS O.workers
+  pub initial : IsWithin 1 GREATEST_COST O.initial
+  pub refresh : O.refresh ≤ GREATEST_COST
+
+-- row r, or zeros past the end
+abbrev pub row_at : List TraceRow → ℕ → TraceRow
+row_at rows r = slice_index_or rows r (record { moment = 0; submitter = 0; tenant = 0; kind = 0; declared = 0; cost = 0 })
+
+-- the costs of requests are within their limits
+abbrev pub AreCosts : List TraceRow → Type 0
+AreCosts rows = All (λ row. IsWithin 1 GREATEST_COST row.cost) rows
+
+-- how many Reports the requests will have
+abbrev pub planned_reports : List TraceRow → ℕ → ℕ
+planned_reports rows refresh = sum_over (λ row. reports_below refresh row.cost) rows
+
+-- a trace and options that can be simulated
+pub record IsPlan (T : Trace) (O : RunOptions) : Type 0 where
+  pub lawful : IsLawfulTrace T
+  pub options : AreInRange O
+  pub few : needed_entries T.rows O.refresh ≤ MOST_ENTRIES

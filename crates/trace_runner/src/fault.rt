@@ -1,0 +1,49 @@
+//! Why there is no simulated history.
+ghost use Rattle.std.specs.Prelude.{◌≡◌};
+ghost use Rattle.trace_runner.specs.declared.fault.SimFault.TheVariants as faults;
+
+use fq_model::limits::MOST_ENTRIES;
+use std::alloc::{AllocError, AllocFailed};
+
+/// Why a trace is not simulated.
+#[derive(Clone, Copy, Debug, PartialEq, Eq, thiserror::Error)]
+pub enum SimFault {
+    /// The history would have so many entries; there may be 4,194,304.
+    #[error("the history would have {0} entries, and there may be {MOST_ENTRIES}")]
+    TooManyEntries(u64),
+    /// There was no memory.
+    #[error("no memory for the simulation")]
+    NoMemory,
+}
+
+impl From<AllocError> for SimFault {
+    ghost from_gives = { λ _ fault. fault ≡ faults.NoMemory };
+
+    fn from(_fault: AllocError) -> SimFault {
+        SimFault::NoMemory
+    }
+}
+
+impl<T: Drop> From<AllocFailed<T>> for SimFault {
+    ghost from_gives = { λ _ fault. fault ≡ faults.NoMemory };
+
+    fn from(_fault: AllocFailed<T>) -> SimFault {
+        SimFault::NoMemory
+    }
+}
+
+impl From<winner_tree::NoMemory> for SimFault {
+    ghost from_gives = { λ _ fault. fault ≡ faults.NoMemory };
+
+    fn from(_fault: winner_tree::NoMemory) -> SimFault {
+        SimFault::NoMemory
+    }
+}
+
+impl From<sched_state::NoMemory> for SimFault {
+    ghost from_gives = { λ _ fault. fault ≡ faults.NoMemory };
+
+    fn from(_fault: sched_state::NoMemory) -> SimFault {
+        SimFault::NoMemory
+    }
+}

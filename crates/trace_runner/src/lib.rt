@@ -1,0 +1,12 @@
+//! The simulated history of a trace: its requests come when their rows say, cost what they say, and are taken by workers
+//! of which none is idle while a request waits.
+#![tactic(auto)]
+
+pub mod agenda;
+pub mod fault;
+pub mod needed;
+pub mod opening;
+pub mod runner;
+pub mod staff;
+#[cfg(test)]
+mod tests;

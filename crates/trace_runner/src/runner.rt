@@ -1,0 +1,106 @@
+//! The simulation.
+ghost use Rattle.std.specs.Prelude.{◌≡◌, ◌+◌, ◌<◌, ◌⊎◌, length, IfOk, IfErr, Err};
+ghost use Rattle.fq_model.specs.declared.limits.TheConstants.{MOST_ENTRIES};
+ghost use Rattle.fq_model.specs.History.{history_of};
+ghost use Rattle.fq_model.specs.Simulated.{needed_entries, run_config, IsSimulated};
+ghost use Rattle.fq_model.specs.TraceText.{IsLawfulTrace};
+ghost use Rattle.trace_runner.specs.Agenda.{IsNext};
+ghost use Rattle.trace_runner.specs.Plan.{AreInRange};
+ghost use Rattle.trace_runner.specs.Simulation.{Simulates};
+ghost use Rattle.trace_runner.specs.declared.fault.SimFault.TheVariants as faults;
+
+use crate::agenda::{Agenda, Event, What};
+use crate::fault::SimFault;
+use crate::needed::needed;
+use crate::opening::{config_of, submitters};
+use crate::staff::Work;
+use fq_model::limits::MOST_ENTRIES;
+use fq_model::trace::RunOptions;
+use rival_policies::chooser::Chooser;
+use sched_state::{Scheduler, Taken};
+use std::alloc::Global;
+use trace_reader::trace::Trace;
+
+/// The simulated history of a trace, on the scheduler that made it. Of requests that come at one moment the first row is
+/// submitted first; worker i is caller s + i, where s is the number of submitters.
+pub fn simulate<X: Chooser + Drop>(
+    alloc: Global,
+    trace: &Trace,
+    options: RunOptions,
+) -> Result<Scheduler<u64, X>, SimFault>
+    requires lawful { IsLawfulTrace trace.now }
+    requires options { AreInRange options }
+    ensures simulated { IfOk result (λ s. IsSimulated trace.now options (history_of s.past)) }
+    ensures config { IfOk result (λ s. s.config ≡ run_config trace.now options) }
+    ensures too_many { MOST_ENTRIES < needed_entries trace.now.rows options.refresh
+        → result ≡ Err (faults.TooManyEntries (needed_entries trace.now.rows options.refresh)) }
+    ensures fault { IfErr result (λ f. (f ≡ faults.NoMemory)
+        ⊎ ((f ≡ faults.TooManyEntries (needed_entries trace.now.rows options.refresh))
+        × (MOST_ENTRIES < needed_entries trace.now.rows options.refresh))) }
+{
+    let needed = needed(trace, options.refresh);
+    if needed > MOST_ENTRIES as u64 {
+        return Err(SimFault::TooManyEntries(needed));
+    }
+    let config = config_of(alloc, trace, options, needed as u32)?;
+    let mut agenda = Agenda::open(alloc, options.workers, submitters(trace.rows()))?;
+    let mut scheduler = Scheduler::open(alloc, config)?;
+    'events: while let Some(event) = agenda.next(trace.rows()) {
+        step(&mut scheduler, &mut agenda, trace, options, event);
+    }
+    match scheduler.close(0, agenda.moment) {
+        Ok(()) => Ok(scheduler),
+        Err(_) => unreachable!(),
+    }
+}
+
+// Makes the call of the next event.
+fn step<X: Chooser + Drop>(
+    scheduler: &mut Scheduler<u64, X>,
+    agenda: &mut Agenda,
+    trace: &Trace,
+    options: RunOptions,
+    event: Event,
+)
+    requires simulates { Simulates trace.now options scheduler.old agenda.old }
+    requires next { IsNext agenda.old trace.now.rows event }
+    ensures simulates { Simulates trace.now options scheduler.new agenda.new }
+    ensures grows { length scheduler.new.past ≡ length scheduler.old.past + 1 }
+{
+    let moment = event.moment;
+    match event.what {
+        What::Report { worker, work } => {
+            match scheduler.report(agenda.caller(worker), moment, worker, work.due) {
+                Ok(()) => agenda.worked(moment, worker, Some(work.after_report(options.refresh))),
+                Err(_) => unreachable!(),
+            }
+        }
+        What::Done { worker, work } => {
+            match scheduler.done(agenda.caller(worker), moment, worker, work.cost) {
+                Ok(()) => agenda.worked(moment, worker, None),
+                Err(_) => unreachable!(),
+            }
+        }
+        What::Submit(row) => {
+            let label = agenda.submitted as u64;
+            match scheduler.submit(
+                row.submitter,
+                moment,
+                row.tenant,
+                row.kind,
+                row.declared,
+                label,
+            ) {
+                Ok(_) => agenda.came(moment),
+                Err(_) => unreachable!(),
+            }
+        }
+        What::Take { worker } => match scheduler.take(agenda.caller(worker), moment, worker) {
+            Taken::Run { request, .. } => {
+                let cost = trace.rows()[request as usize].cost;
+                agenda.taken(worker, Work::new(moment, cost, options.refresh));
+            }
+            _ => unreachable!(),
+        },
+    }
+}
