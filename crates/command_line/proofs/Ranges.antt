@@ -5,11 +5,11 @@ use Rattle.std.proofs.lemmas.Bool.{ltb-false}
 use Rattle.fq_model.specs.Numbers.{number_of}
 use Rattle.fq_model.specs.Lines.{Words}
 use Rattle.fq_model.specs.Options.{Values, Within, Among, Absent, Required, Nothing, Default, OptionRow, Given, Value, options_of, are_known, texts_for, is_value, within, number_among, number_for, absent_value, value_of, values_of, values_in}
-use Rattle.command_line.specs.Rows.{IsWithin, AreWithin}
+use Rattle.command_line.specs.Rows.{IsWithin, IsValueOf, AreValuesOf}
 
 -- where there is a value, it is in the range
 abbrev GivesWithin : Values → Option ℕ → Type 0
-GivesWithin values found = (n : ℕ) → found ≡ Some n → IsWithin values (Some n)
+GivesWithin values found = (n : ℕ) → found ≡ Some n → IsWithin values n
 
 within_range : (low high n m : ℕ) (below above : Bool) → nat_lt n low ≡ below → nat_lt high n ≡ above → (if below || above then None else Some n) ≡ Some m → (low ≤ m) × (m ≤ high)
 within_range low high n m true above b a e = absurd (cc)
@@ -26,53 +26,49 @@ where_value : (b : Bool) (found : Option ℕ) (n : ℕ) → (if b then found els
 where_value true found n e = e
 where_value false found n e = absurd (cc)
 
-number_range : (values : Values) (text : List ℕ) (n : ℕ) → number_for values text ≡ Some n → IsWithin values (Some n)
+number_range : (values : Values) (text : List ℕ) (n : ℕ) → number_for values text ≡ Some n → IsWithin values n
 unfolding number_for
 number_range (Among words) text n e = tt
 number_range (Within low high) text n e = among_range low high (number_of text) n (where_value (is_value text) (number_among (Within low high) text) n e)
 
 -- a number that is found is the value
-mapped_range : (values : Values) (found : Option ℕ) (v : Value) → GivesWithin values found → option_map (λ n. Some n) found ≡ Some v → IsWithin values v
-mapped_range values None v range e = absurd (cc)
-mapped_range values (Some n) v range e =
+found_range : (row : OptionRow) (found : Option ℕ) (v : Value) → GivesWithin row.values found → option_map (λ n. Some n) found ≡ Some v → IsValueOf row v
+found_range row None v range e = absurd (cc)
+found_range row (Some n) v range e =
     let same : Some n ≡ v = cc in
-    subst (IsWithin values) same (range n refl)
+    subst (IsValueOf row) same (range n refl)
 
-nothing_range : (values : Values) → IsWithin values None
-nothing_range (Within low high) = tt
-nothing_range (Among words) = tt
-
-absent_range : (values : Values) (absent : Absent) (v : Value) → absent_value values absent ≡ Some v → IsWithin values v
-absent_range values Required v e = absurd (cc)
-absent_range values Nothing v e =
+absent_range : (row : OptionRow) (absent : Absent) (v : Value) → row.absent ≡ absent → absent_value row.values absent ≡ Some v → IsValueOf row v
+absent_range row Required v is e = absurd (cc)
+absent_range row Nothing v is e =
     let same : None ≡ v = cc in
-    subst (IsWithin values) same (nothing_range values)
-absent_range values (Default text) v e = mapped_range values (number_for values text) v (number_range values text) e
+    subst (IsValueOf row) same is
+absent_range row (Default text) v is e = found_range row (number_for row.values text) v (number_range row.values text) e
 
-value_range : (row : OptionRow) (texts : List (List ℕ)) (v : Value) → value_of row texts ≡ Some v → IsWithin row.values v
-value_range row [] v e = absent_range row.values row.absent v e
-value_range row (text ∷ []) v e = mapped_range row.values (number_for row.values text) v (number_range row.values text) e
+value_range : (row : OptionRow) (texts : List (List ℕ)) (v : Value) → value_of row texts ≡ Some v → IsValueOf row v
+value_range row [] v e = absent_range row row.absent v refl e
+value_range row (text ∷ []) v e = found_range row (number_for row.values text) v (number_range row.values text) e
 value_range row (text ∷ u ∷ texts) v e = absurd (cc)
 
-pair_range : (rows : List OptionRow) (row : OptionRow) (value : Option Value) (values : Option (List Value)) (vs : List Value) → ((v : Value) → value ≡ Some v → IsWithin row.values v) → ((ws : List Value) → values ≡ Some ws → AreWithin rows ws) → option_and_then (λ v. option_map (λ ws. v ∷ ws) values) value ≡ Some vs → AreWithin (row ∷ rows) vs
+pair_range : (rows : List OptionRow) (row : OptionRow) (value : Option Value) (values : Option (List Value)) (vs : List Value) → ((v : Value) → value ≡ Some v → IsValueOf row v) → ((ws : List Value) → values ≡ Some ws → AreValuesOf rows ws) → option_and_then (λ v. option_map (λ ws. v ∷ ws) values) value ≡ Some vs → AreValuesOf (row ∷ rows) vs
 pair_range rows row None values vs first later e = absurd (cc)
 pair_range rows row (Some v) None vs first later e = absurd (cc)
 pair_range rows row (Some v) (Some ws) vs first later e =
     let same : v ∷ ws ≡ vs = cc in
-    subst (AreWithin (row ∷ rows)) same (first v refl, later ws refl)
+    subst (AreValuesOf (row ∷ rows)) same (first v refl, later ws refl)
 
-values_range : (rows : List OptionRow) (given : List Given) (vs : List Value) → values_of rows given ≡ Some vs → AreWithin rows vs
+values_range : (rows : List OptionRow) (given : List Given) (vs : List Value) → values_of rows given ≡ Some vs → AreValuesOf rows vs
 values_range [] given vs e = tt
 values_range (row ∷ rows) given vs e = pair_range rows row (value_of row (texts_for row.name given)) (values_of rows given) vs (value_range row (texts_for row.name given)) (values_range rows given) e
 
-known_range : (rows : List OptionRow) (known : Bool) (given : List Given) (vs : List Value) → (if known then values_of rows given else None) ≡ Some vs → AreWithin rows vs
+known_range : (rows : List OptionRow) (known : Bool) (given : List Given) (vs : List Value) → (if known then values_of rows given else None) ≡ Some vs → AreValuesOf rows vs
 known_range rows true given vs e = values_range rows given vs e
 known_range rows false given vs e = absurd (cc)
 
-given_range : (rows : List OptionRow) (given : Option (List Given)) (vs : List Value) → option_and_then (λ g. if are_known rows g then values_of rows g else None) given ≡ Some vs → AreWithin rows vs
+given_range : (rows : List OptionRow) (given : Option (List Given)) (vs : List Value) → option_and_then (λ g. if are_known rows g then values_of rows g else None) given ≡ Some vs → AreValuesOf rows vs
 given_range rows None vs e = absurd (cc)
 given_range rows (Some given) vs e = known_range rows (are_known rows given) given vs e
 
-pub values_in-within : (rows : List OptionRow) (words : Words) (vs : List Value) → values_in rows words ≡ Some vs → AreWithin rows vs
+pub values_in-range : (rows : List OptionRow) (words : Words) (vs : List Value) → values_in rows words ≡ Some vs → AreValuesOf rows vs
 unfolding values_in
-values_in-within rows words vs e = given_range rows (options_of words) vs e
+values_in-range rows words vs e = given_range rows (options_of words) vs e

@@ -1,5 +1,5 @@
 -- What the options of a command are in the definitions.
-use Rattle.std.specs.Prelude.{ℕ, ◌≤◌, Bool, true, ◌&&◌, not, List, [], ◌∷◌, map, Option, Some, None, bytes_eq}
+use Rattle.std.specs.Prelude.{ℕ, ◌≤◌, ◌≡◌, Bool, true, ◌&&◌, not, List, [], ◌∷◌, map, Option, Some, None, bytes_eq}
 use Rattle.std.specs.List.{list_any}
 use Rattle.command_line.specs.declared.options.Values as code_values
 use Rattle.command_line.specs.declared.options.Values.TheVariants as values
@@ -37,12 +37,17 @@ abbrev pub or_absent : OptionRow → Value → Option Value
 or_absent row (Some n) = Some (Some n)
 or_absent row None = absent_value row.values row.absent
 
--- a number that is given lies from low to high
-abbrev pub IsWithin : Values → Value → Type 0
-IsWithin (Within low high) (Some n) = (low ≤ n) × (n ≤ high)
-IsWithin _ _ = Unit {0}
+-- a number may be a value
+abbrev pub IsWithin : Values → ℕ → Type 0
+IsWithin (Within low high) n = (low ≤ n) × (n ≤ high)
+IsWithin (Among words) n = Unit {0}
 
--- each value lies in its option's range
-abbrev pub AreWithin : List OptionRow → List Value → Type 0
-AreWithin (row ∷ rows) (v ∷ vs) = IsWithin row.values v × AreWithin rows vs
-AreWithin _ _ = Unit {0}
+-- an option may have this value, or none
+abbrev pub IsValueOf : OptionRow → Value → Type 0
+IsValueOf row (Some n) = IsWithin row.values n
+IsValueOf row None = row.absent ≡ Nothing
+
+-- the options may have these values, in their order
+abbrev pub AreValuesOf : List OptionRow → List Value → Type 0
+AreValuesOf (row ∷ rows) (v ∷ vs) = IsValueOf row v × AreValuesOf rows vs
+AreValuesOf _ _ = Unit {0}

@@ -1,9 +1,9 @@
 //! The commands.
-ghost use Rattle.std.specs.Prelude.{◌≡◌, map, unwrap_or, slice_index_or};
+ghost use Rattle.std.specs.Prelude.{◌≡◌, IfSome, map, unwrap_or, slice_index_or};
 ghost use Rattle.std.specs.String.{string_bytes};
 ghost use Rattle.fq_model.specs.Options.{command_of, command_by};
 ghost use Rattle.fq_model.specs.Command.{script_row};
-ghost use Rattle.command_line.specs.Commands.{journal_run_row, built_commands};
+ghost use Rattle.command_line.specs.Commands.{journal_run_row, built_commands, IsInRange};
 
 use crate::options::{Value, values_in};
 use crate::table::{ESTIMATORS, POLICIES, RUN_OPTIONS, SCRIPT_OPTIONS, SCRIPT_PRINTS};
@@ -14,7 +14,8 @@ use fq_model::trace::RunOptions;
 /// The command that words ask for, without the program's name before them. None where they are no line of the table of
 /// commands. Takes no memory.
 pub fn command(words: &[String]) -> Option<Command>
-    ensures { result ≡ command_of built_commands (map string_bytes words.now) }
+    ensures asked { result ≡ command_of built_commands (map string_bytes words.now) }
+    ensures range { IfSome result IsInRange }
 {
     let (word, words) = words.split_first()?;
     match word.as_str() {
@@ -26,7 +27,8 @@ pub fn command(words: &[String]) -> Option<Command>
 
 // `script`, by the words after it.
 fn script_command(words: &[String]) -> Option<Command>
-    ensures { result ≡ command_by (map string_bytes words.now) script_row }
+    ensures asked { result ≡ command_by (map string_bytes words.now) script_row }
+    ensures range { IfSome result IsInRange }
 {
     let [print] = values_in::<1>(&SCRIPT_OPTIONS, words)?;
     let print = choice(&SCRIPT_PRINTS, print, ScriptPrint::Replies);
@@ -35,7 +37,8 @@ fn script_command(words: &[String]) -> Option<Command>
 
 // `run`, by the words after it.
 fn run_command(words: &[String]) -> Option<Command>
-    ensures { result ≡ command_by (map string_bytes words.now) journal_run_row }
+    ensures asked { result ≡ command_by (map string_bytes words.now) journal_run_row }
+    ensures range { IfSome result IsInRange }
 {
     let [workers, policy, estimate, initial, refresh, _] = values_in::<6>(&RUN_OPTIONS, words)?;
     let options = RunOptions {

@@ -2,7 +2,7 @@
 ghost use Rattle.std.specs.Prelude.{◌≡◌, IsTrue, IfSome, length, map, position, bytes_eq};
 ghost use Rattle.std.specs.String.{string_bytes};
 ghost use Rattle.fq_model.specs.Options.{Within, is_value, number_among, number_for, absent_value, values_in};
-ghost use Rattle.command_line.specs.Rows.{seen_values, seen_row, are_distinct, or_absent, AreWithin};
+ghost use Rattle.command_line.specs.Rows.{seen_values, seen_row, are_distinct, or_absent, AreValuesOf};
 
 use crate::given::{first_option, is_end};
 use fq_model::words::number;
@@ -43,7 +43,7 @@ pub fn values_in<const N: usize>(rows: &[OptionRow], words: &[String]) -> Option
     requires count { length rows.now ≡ N }
     requires distinct { IsTrue (are_distinct (map seen_row rows.now)) }
     ensures values { result ≡ values_in (map seen_row rows.now) (map string_bytes words.now) }
-    ensures range { IfSome result (AreWithin (map seen_row rows.now)) }
+    ensures range { IfSome result (AreValuesOf (map seen_row rows.now)) }
 {
     let mut values = [None; N];
     let mut left = words;

@@ -10,7 +10,7 @@ use Rattle.twodfq_main.specs.Program.{Move, Device, Fails, Ends, IsRun, IsAnswer
 use Rattle.twodfq_main.specs.Laws.{NeverFailsReading, NeverFailsWriting, IsCleanSink, IsCleanSource}
 use Rattle.twodfq_main.proofs.Runs.{run_means}
 use Rattle.twodfq_main.specs.declared.stop.Stop.{Stop}
-use Rattle.twodfq_main.specs.declared.stop.Stop.TheVariants.{Words, TooLong, Fault, Reading, Writing, NoMemory}
+use Rattle.twodfq_main.specs.declared.stop.Stop.TheVariants.{Words, TooLong, Fault, Reading, Writing, NoMemory, TooManyEntries}
 
 pub no_reading : NeverFailsReading
 no_reading words source sink errs status run clean four =
@@ -34,6 +34,7 @@ by_end words (Some command) source sink (Err TooLong) room is ends clean short f
 by_end words (Some command) source sink (Err (Fault message)) room is ends clean short five = omega (arith, five)
 by_end words (Some command) source sink (Err Reading) room is ends clean short five = omega (arith, five)
 by_end words (Some command) source sink (Err NoMemory) room is ends clean short five = omega (arith, five)
+by_end words (Some command) source sink (Err (TooManyEntries message)) room is ends clean short five = omega (arith, five)
 by_end words (Some command) source sink (Err Writing) room is ends clean short five =
     part_fits room sink ends.text clean (short command ends.text is ends.answered) ends.wrote.0 ends.wrote.1
 

@@ -1,31 +1,40 @@
 -- What the program is asked by its words, what it writes for an input, and what is told of an input's first fault.
-use Rattle.std.specs.Prelude.{ℕ, ◌≡◌, Bool, true, false, List, ◌++◌, Option, Some, None, is_ok, Err, Ok, codes}
+use Rattle.std.specs.Prelude.{ℕ, ◌<◌, ◌≤◌, ◌≡◌, Bool, true, false, List, ◌++◌, Option, Some, None, is_ok, Result, Err, Ok, codes}
+use Rattle.std.specs.Fmt.{decimal}
 use Rattle.fq_model.specs.declared.command.Command.{Command}
-use Rattle.fq_model.specs.declared.command.Command.TheVariants.{Script}
+use Rattle.fq_model.specs.declared.command.Command.TheVariants.{Script, Run}
 use Rattle.fq_model.specs.declared.command.ScriptPrint.{ScriptPrint}
 use Rattle.fq_model.specs.declared.event.Entry.{Entry}
 use Rattle.fq_model.specs.declared.event.Reply.{Reply}
 use Rattle.fq_model.specs.declared.fault.ScriptKind.{ScriptKind}
+use Rattle.fq_model.specs.declared.fault.TraceKind.{TraceKind}
+use Rattle.fq_model.specs.declared.limits.TheConstants.{MOST_ENTRIES}
+use Rattle.fq_model.specs.declared.trace.RunOptions.{RunOptions}
 use Rattle.fq_model.specs.History.{history_of}
 use Rattle.fq_model.specs.Outcome.{Outcome}
 use Rattle.fq_model.specs.Document.{config_of}
 use Rattle.fq_model.specs.Script as scripts
+use Rattle.fq_model.specs.Simulated.{needed_entries, run_config, IsSimulated}
 use Rattle.fq_model.specs.Texts.{replies_text}
+use Rattle.fq_model.specs.Trace.{Trace}
+use Rattle.fq_model.specs.TraceGrammar.{trace_of}
 use Rattle.fq_model.specs.JournalText.{journal_text}
 use Rattle.fq_model.specs.FaultTexts.{script_fault_text, placed_text}
 use Rattle.fq_model.specs.Output.{script_output_text}
 use Rattle.fq_model.specs.Options.{command_of}
 use Rattle.fq_model.specs.Lines.{Words}
 use Rattle.command_line.specs.Commands.{built_commands}
+use Rattle.trace_reader.specs.FaultTexts.{trace_fault_text}
 
--- a command, if it is one that waits for nobody
-abbrev pub unless_it_waits : Option Command → Option Command
-unless_it_waits (Some (Script print)) = Some (Script print)
-unless_it_waits _ = None
+-- a command, if it is one that the program serves: scripts and traces, which wait for nobody
+abbrev pub if_served : Option Command → Option Command
+if_served (Some (Script print)) = Some (Script print)
+if_served (Some (Run options slot print)) = Some (Run options slot print)
+if_served _ = None
 
 -- what the words, without the program's name, ask for, if they are a line of the table of commands
 abbrev pub asked : Words → Option Command
-asked words = unless_it_waits (command_of built_commands words)
+asked words = if_served (command_of built_commands words)
 
 -- a message: one line, after the program's name
 abbrev pub message_line : List ℕ → List ℕ
@@ -50,19 +59,62 @@ pub record TellsScriptFault (input message : List ℕ) : Type 0 where
   pub first : scripts.script_of input ≡ Err (line, fault)
   pub told : message ≡ message_line (placed_text line (script_fault_text fault))
 
+-- Traces.
+
+-- the input is a trace whose simulated history has no more entries than there may be. The entries, in order of time, are
+-- that history under these options, and the text is their journal.
+pub record IsSimulatedJournal (options : RunOptions) (input text : List ℕ) : Type 0 where
+  pub trace : Trace
+  pub read : trace_of input ≡ Ok trace
+  pub few : needed_entries trace.rows options.refresh ≤ MOST_ENTRIES
+  pub past : List Entry
+  pub simulated : IsSimulated trace options (history_of past)
+  pub text_is : text ≡ journal_text (run_config trace options) trace.tenants trace.kinds past
+
+-- the message names the first fault of an input that is no trace
+pub record TellsTraceFault (input message : List ℕ) : Type 0 where
+  pub line : ℕ
+  pub fault : TraceKind
+  pub first : trace_of input ≡ Err (line, fault)
+  pub told : message ≡ message_line (placed_text line (trace_fault_text fault))
+
+-- how many entries the simulated history of what was read would have
+abbrev pub trace_entries : RunOptions → Result Trace (ℕ × TraceKind) → ℕ
+trace_entries options (Ok trace) = needed_entries trace.rows options.refresh
+trace_entries options (Err fault) = 0
+
+-- what is told of a history that would have so many entries, and may not
+abbrev pub entries_message : ℕ → List ℕ
+entries_message needed =
+    message_line (codes "the history would have " ++ decimal needed ++ codes " entries, more than 4194304")
+
 -- By command.
+
+-- how many entries the history that the command makes would have, where that is known from its input
+abbrev pub entries_needed : Command → List ℕ → ℕ
+entries_needed (Run options slot print) input = trace_entries options (trace_of input)
+entries_needed _ input = 0
 
 -- the input is what the command reads
 abbrev pub is_input : Command → List ℕ → Bool
 is_input (Script print) input = is_ok (scripts.script_of input)
+is_input (Run options slot print) input = is_ok (trace_of input)
 is_input _ input = false
 
 -- what the command writes for an input
 abbrev pub Outputs : Command → List ℕ → List ℕ → Type 0
 Outputs (Script print) input text = IsServed print input text
+Outputs (Run options slot print) input text = IsSimulatedJournal options input text
 Outputs _ input text = ⊥
 
 -- the message names the first fault of the input
 abbrev pub TellsFault : Command → List ℕ → List ℕ → Type 0
 TellsFault (Script print) input message = TellsScriptFault input message
+TellsFault (Run options slot print) input message = TellsTraceFault input message
 TellsFault _ input message = ⊥
+
+-- the history that the command would make has more entries than there may be, and the message tells how many
+pub record TellsEntries (command : Command) (input message : List ℕ) : Type 0 where
+  pub read : is_input command input ≡ true
+  pub too_many : MOST_ENTRIES < entries_needed command input
+  pub told : message ≡ entries_message (entries_needed command input)

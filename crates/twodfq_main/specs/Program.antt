@@ -7,9 +7,9 @@ use Rattle.fq_io.specs.Sources.{GaveAll, TookAtMost, TookTooMany}
 use Rattle.fq_io.specs.Sinks.{AppendsPart}
 use Rattle.fq_model.specs.declared.command.Command.{Command}
 use Rattle.fq_model.specs.Lines as lines
-use Rattle.twodfq_main.specs.Commands.{asked, Outputs, TellsFault}
+use Rattle.twodfq_main.specs.Commands.{asked, Outputs, TellsFault, TellsEntries}
 use Rattle.twodfq_main.specs.declared.stop.Stop.{Stop}
-use Rattle.twodfq_main.specs.declared.stop.Stop.TheVariants.{Words, TooLong, Fault, Reading, Writing, NoMemory}
+use Rattle.twodfq_main.specs.declared.stop.Stop.TheVariants.{Words, TooLong, Fault, Reading, Writing, NoMemory, TooManyEntries}
 
 -- the greatest length of an input, in bytes
 abbrev pub greatest_input : ℕ
@@ -73,6 +73,13 @@ pub record IsFaulty (command : Command) (source : Move) (message : List ℕ) : T
   pub within : length input ≤ greatest_input
   pub fault : TellsFault command input message
 
+-- the input was read whole, and this message tells how many entries its history would have, which are too many
+pub record IsOverfull (command : Command) (source : Move) (message : List ℕ) : Type 0 where
+  pub input : List ℕ
+  pub read : ReadsAll source input
+  pub within : length input ≤ greatest_input
+  pub entries : TellsEntries command input message
+
 -- more bytes came than an input may have
 abbrev pub IsTooLong : Move → Type 0
 IsTooLong source = TookTooMany source.before.bytes source.after.bytes greatest_input
@@ -97,6 +104,7 @@ EndsCommand command source sink (Err Words) = ⊥
 EndsCommand command source sink (Err Reading) = Fails source × ReadsAtMost source (greatest_input + 1) × Stays sink
 EndsCommand command source sink (Err TooLong) = IsTooLong source × Stays sink
 EndsCommand command source sink (Err (Fault message)) = IsFaulty command source (string_bytes message) × Stays sink
+EndsCommand command source sink (Err (TooManyEntries message)) = IsOverfull command source (string_bytes message) × Stays sink
 EndsCommand command source sink (Err Writing) = FailsWriting command source sink
 EndsCommand command source sink (Err NoMemory) = ReadsAtMost source (greatest_input + 1) × Stays sink
 
@@ -114,6 +122,7 @@ status_of (Err (Fault message)) = 3
 status_of (Err Reading) = 4
 status_of (Err Writing) = 5
 status_of (Err NoMemory) = 6
+status_of (Err (TooManyEntries message)) = 7
 
 -- the message of a stop, one line
 abbrev pub message_of : Stop → List ℕ
@@ -123,6 +132,7 @@ message_of (Fault message) = string_bytes message
 message_of Reading = codes "twodfq: reading failed\n"
 message_of Writing = codes "twodfq: writing failed\n"
 message_of NoMemory = codes "twodfq: out of memory\n"
+message_of (TooManyEntries message) = string_bytes message
 
 -- the message was written, or a front part of it where that failed; a fault of the messages changes nothing else
 abbrev pub Tells : Move → List ℕ → Type 0
@@ -145,5 +155,6 @@ pub record IsRun (words : lines.Words) (source sink errs : Move) (status : ℕ) 
 -- why a command has no output for an input
 abbrev pub IsOutputStop : Command → List ℕ → Stop → Type 0
 IsOutputStop command input (Fault message) = TellsFault command input (string_bytes message)
+IsOutputStop command input (TooManyEntries message) = TellsEntries command input (string_bytes message)
 IsOutputStop command input NoMemory = Unit {0}
 IsOutputStop command input _ = ⊥

@@ -7,6 +7,7 @@ mod script;
 pub mod serve;
 #[cfg(test)]
 mod served_tests;
+mod simulation;
 pub mod stop;
 #[cfg(test)]
 mod tests;

@@ -1,16 +1,20 @@
 //! The program, over any source, sinks and clock.
-ghost use Rattle.std.specs.Prelude.{◌≡◌, ◌≤◌, map, option_map, Err};
+ghost use Rattle.std.specs.Prelude.{◌≡◌, ◌≤◌, map, Err};
 ghost use Rattle.std.specs.String.{string_bytes};
-ghost use Rattle.fq_model.specs.declared.command.Command.TheVariants.{Script};
+ghost use Rattle.fq_model.specs.declared.command.Command.TheVariants.{Script, Run};
+ghost use Rattle.fq_model.specs.declared.command.HistoryPrint.TheVariants.{Journal};
+ghost use Rattle.command_line.specs.Commands.{AreInRange};
 ghost use Rattle.twodfq_main.specs.Commands.{asked};
 ghost use Rattle.twodfq_main.specs.Program.{Ends, EndsCommand, IsRun, Tells, moved, status_of, message_of};
 ghost use Rattle.twodfq_main.specs.Causes.{StatusMeans};
 
 use crate::script::served_text;
+use crate::simulation::simulated_text;
 use crate::stop::Stop;
 use command_line::command::command;
 use fq_io::{Clock, Sink, Source, read_all, write_all};
 use fq_model::command::{Command, ScriptPrint};
+use fq_model::trace::RunOptions;
 use std::alloc::Global;
 use std::sync::Wait;
 use std::thread::Threads;
@@ -19,7 +23,7 @@ use std::thread::Threads;
 pub const GREATEST_INPUT: u64 = 67108864;
 
 /// The program: does what the words say, without the program's name before them. The clock is not asked yet.
-/// The answer is the exit status: 0, or 2 to 6.
+/// The answer is the exit status: 0, or 2 to 7.
 pub fn twodfq<T: Wait + Threads + Sync, R: Source, W: Sink, E: Sink, K: Clock + Sync>(
     _rt: &T,
     alloc: Global,
@@ -80,21 +84,6 @@ pub fn tell<E: Sink>(errs: &mut E, stop: Stop) -> u8
     stop.status()
 }
 
-// What of a script is printed, if the words ask for that.
-fn asked(words: &[String]) -> Option<ScriptPrint>
-    ensures { option_map Script result ≡ asked (map string_bytes words.now) }
-{
-    match command(words)? {
-        Command::Script { print } => Some(print),
-        Command::Run { .. }
-        | Command::Live { .. }
-        | Command::Gen { .. }
-        | Command::Check { .. }
-        | Command::Compare { .. }
-        | Command::Shape { .. } => None,
-    }
-}
-
 // Does what the words ask for, or says why not.
 fn run<R: Source, W: Sink>(
     alloc: Global,
@@ -107,8 +96,14 @@ fn run<R: Source, W: Sink>(
     ensures source_later { R.faults source.old ≤ R.faults source.new }
     ensures sink_later { W.faults sink.old ≤ W.faults sink.new }
 {
-    match asked(words) {
-        Some(print) => run_script(alloc, print, source, sink),
+    match command(words) {
+        Some(Command::Script { print }) => run_script(alloc, print, source, sink),
+        Some(Command::Run { options, .. }) => run_trace(alloc, options, source, sink),
+        Some(Command::Live { .. }) => Err(Stop::Words),
+        Some(Command::Gen { .. }) => Err(Stop::Words),
+        Some(Command::Check { .. }) => Err(Stop::Words),
+        Some(Command::Compare { .. }) => Err(Stop::Words),
+        Some(Command::Shape { .. }) => Err(Stop::Words),
         None => Err(Stop::Words),
     }
 }
@@ -127,6 +122,25 @@ fn run_script<R: Source, W: Sink>(
 {
     let input = read_all(alloc, source, GREATEST_INPUT)?;
     let text = served_text(alloc, print, input.as_slice())?;
+    write_all(sink, text.as_slice())?;
+    Ok(())
+}
+
+// Reads a trace, simulates it and writes the journal, or says why not.
+fn run_trace<R: Source, W: Sink>(
+    alloc: Global,
+    options: RunOptions,
+    source: &mut R,
+    sink: &mut W,
+) -> Result<(), Stop>
+    requires { AreInRange options }
+    ensures ends { EndsCommand (Run options 0 Journal) (moved R.left R.faults source.old source.new)
+        (moved W.written W.faults sink.old sink.new) result }
+    ensures source_later { R.faults source.old ≤ R.faults source.new }
+    ensures sink_later { W.faults sink.old ≤ W.faults sink.new }
+{
+    let input = read_all(alloc, source, GREATEST_INPUT)?;
+    let text = simulated_text(alloc, options, input.as_slice())?;
     write_all(sink, text.as_slice())?;
     Ok(())
 }

@@ -22,10 +22,12 @@ pub enum Stop {
     Writing,
     /// Memory ran out.
     NoMemory,
+    /// The history would have more entries than there may be: how many, as a message.
+    TooManyEntries(String),
 }
 
 impl Stop {
-    /// The exit status: 2 to 6.
+    /// The exit status: 2 to 7.
     pub fn status(&self) -> u8
         ensures { result ≡ status_of (Err self.now) }
     {
@@ -35,6 +37,7 @@ impl Stop {
             Stop::Reading => 4,
             Stop::Writing => 5,
             Stop::NoMemory => 6,
+            Stop::TooManyEntries(_) => 7,
         }
     }
 
@@ -45,7 +48,7 @@ impl Stop {
         match self {
             Stop::Words => "twodfq: the words are not a command line\n",
             Stop::TooLong => "twodfq: input longer than 67108864 bytes\n",
-            Stop::Fault(message) => message.as_str(),
+            Stop::Fault(message) | Stop::TooManyEntries(message) => message.as_str(),
             Stop::Reading => "twodfq: reading failed\n",
             Stop::Writing => "twodfq: writing failed\n",
             Stop::NoMemory => "twodfq: out of memory\n",

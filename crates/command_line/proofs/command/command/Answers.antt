@@ -3,21 +3,21 @@ use Rattle.command_line.specs.Commands.{built_commands}
 use Rattle.command_line.proofs.FirstWord.{command_none, command_first, command_named, other_word}
 use Rattle.command_line.proofs.command.command.Goals as goal
 
-pub returns-in_err-word : goal.returns-in_err-word
-returns-in_err-word c = c.from_residual.ensures ∙ sym (command_none built_commands c.args.words.now c.in_err-word.ensures.cases)
+pub returns-in_err-word-clause-asked : goal.returns-in_err-word-clause-asked
+returns-in_err-word-clause-asked c = c.from_residual.ensures ∙ sym (command_none built_commands c.args.words.now c.in_err-word.ensures.cases)
 
-pub returns-in-script : goal.returns-in-script
-returns-in-script c =
+pub returns-in-script-clause-asked : goal.returns-in-script-clause-asked
+returns-in-script-clause-asked c =
     let named = command_named built_commands c.args.words.now c.in_ok-word.word.now c.in_ok-word.words.now _ c.in_ok-word.ensures.cases.0 (sym c.as_str.ensures.value ∙ c.in-script.is) in
-    c.script_command.ensures ∙ sym named
+    c.script_command.ensures.asked ∙ sym named
 
-pub returns-in-run : goal.returns-in-run
-returns-in-run c =
+pub returns-in-run-clause-asked : goal.returns-in-run-clause-asked
+returns-in-run-clause-asked c =
     let named = command_named built_commands c.args.words.now c.in_ok-word.word.now c.in_ok-word.words.now _ c.in_ok-word.ensures.cases.0 (sym c.as_str.ensures.value ∙ c.in-run.is) in
-    c.run_command.ensures ∙ sym named
+    c.run_command.ensures.asked ∙ sym named
 
-pub returns-in_default : goal.returns-in_default
-returns-in_default c =
+pub returns-in_default-clause-asked : goal.returns-in_default-clause-asked
+returns-in_default-clause-asked c =
     let first = command_first built_commands c.args.words.now c.in_ok-word.word.now c.in_ok-word.words.now c.in_ok-word.ensures.cases.0 in
     let value = c.as_str.ensures.value in
     let script = rw value at c.in_default.not-script in

@@ -6,12 +6,12 @@ use Rattle.fq_model.specs.Command.{script_of_values}
 use Rattle.fq_model.specs.CommandOptions.{script_options}
 use Rattle.command_line.proofs.command.script_command.Goals as goal
 
-pub returns-in_err-print : goal.returns-in_err-print
-returns-in_err-print c =
+pub returns-in_err-print-clause-asked : goal.returns-in_err-print-clause-asked
+returns-in_err-print-clause-asked c =
     let values : c.values_in.result ≡ values_in script_options (map string_bytes c.args.words.now) = c.values_in.ensures.values in
     c.from_residual.ensures ∙ ap (option_map script_of_values) (sym c.in_err-print.was ∙ values)
 
-pub returns : goal.returns
-returns c =
+pub returns-clause-asked : goal.returns-clause-asked
+returns-clause-asked c =
     let values : c.values_in.result ≡ values_in script_options (map string_bytes c.args.words.now) = c.values_in.ensures.values in
     ap (λ print. Some (Script print)) c.choice-print.ensures ∙ ap (option_map script_of_values) (sym c.in_ok-print.was ∙ values)

@@ -10,7 +10,7 @@ use Rattle.command_line.proofs.Lists.{length_map, position-map}
 use Rattle.command_line.proofs.Words.{rest_shorter}
 use Rattle.command_line.proofs.Numbers.{after_start, after_unknown, after_twice, after_bad, after_step, after_end, with_absent}
 use Rattle.command_line.proofs.Defaults.{filled_start, filled_more, filled_stop, filled_all}
-use Rattle.command_line.proofs.Ranges.{values_in-within}
+use Rattle.command_line.proofs.Ranges.{values_in-range}
 use Rattle.command_line.proofs.options.values_in.Goals as goal
 
 -- an option that is no row's
@@ -97,4 +97,4 @@ pub returns-clause-range : goal.returns-clause-range
 returns-clause-range g c =
     let rows = map seen_row c.args.rows.now in
     let past : length rows ≤ c.loop-k.k = omega (arith, length_map seen_row c.args.rows.now) in
-    values_in-within rows (map string_bytes c.args.words.now) c.loop-k.values (c.loop-k.invariant.1 ∙ filled_all rows c.loop-k.values c.loop-k.k past (omega arith))
+    values_in-range rows (map string_bytes c.args.words.now) c.loop-k.values (c.loop-k.invariant.1 ∙ filled_all rows c.loop-k.values c.loop-k.k past (omega arith))
