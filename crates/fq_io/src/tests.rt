@@ -2,19 +2,17 @@ use crate::*;
 use std::io::{self, ErrorKind, Read, Write};
 use std::test::Fail;
 
-// Each is read in pieces of 4 bytes, and then the rest of it.
+// Each is read in pieces of 4 bytes: calls 0 to 2 give bytes, and call 3 finds the end.
 #[test]
 fn reading_in_pieces(rt: HostRuntime) -> Result<(), Fail> {
-    for (fail, limit, want, rest) in [
-        (9, 10, None, ""),
-        (9, 6, Some(ReadAllFault::TooLong(6)), "hij"),
-        (1, 10, Some(ReadAllFault::ReadFault), "efghij"),
+    for (fail, limit, want) in [
+        (9, 10, None),
+        (9, 9, Some(ReadAllFault::TooLong(9))),
+        (3, 10, Some(ReadAllFault::ReadFault)),
     ] {
         let bytes = b"abcdefghij".to_vec(rt.alloc())?;
         let mut source = MemSource::new(bytes, 4, vec![in rt.alloc(); fail]?);
         assert_eq!(rt; read_all(rt.alloc(), &mut source, limit).err(), want);
-        let after = read_all(rt.alloc(), &mut source, 10)?;
-        assert_eq!(rt; after.as_slice(), rest.as_bytes(), "after {want:?}");
     }
     Ok(())
 }

@@ -1,11 +1,12 @@
 //! The printer of journals.
-ghost use Rattle.std.specs.Prelude.{◌≡◌, ◌++◌, codes, string_bytes, IfOk, OnOk, OnErr};
+ghost use Rattle.std.specs.Prelude.{◌≡◌, ◌++◌, [], ◌∷◌, codes, string_bytes, IfOk, OnOk, OnErr};
 ghost use Rattle.std.specs.Fmt.{decimal};
 ghost use Rattle.std.specs.List.{list_any};
 ghost use Rattle.fq_model.specs.History.{is_change};
 ghost use Rattle.fq_model.specs.Numbers.{policy_word, estimator_word};
 ghost use Rattle.fq_model.specs.JournalText.{entry_line, entries_text, version_for, header_line, tenants_text, kinds_text, head_text, journal_text};
 ghost use Rattle.tenant_table.specs.Names.{names_of};
+ghost use Rattle.journal_text.specs.Printing.{row_text};
 
 use crate::fault::NoMemory;
 use crate::rows::add_row;
@@ -129,21 +130,21 @@ fn add_entries(past: &[Entry], text: &mut Vec<u8>) -> Result<(), AllocError>
     ensures { OnOk result (text.new.items ≡ text.old.items ++ entries_text past.now) }
 {
     for entry in past {
-        add_entry(entry, text)?;
+        add_entry(*entry, text)?;
     }
     Ok(())
 }
 
 /// Appends an entry's line. Where memory runs out, `out` stays as it was.
-pub fn entry_line(entry: &Entry, out: &mut Vec<u8>) -> Result<(), NoMemory>
-    ensures added { OnOk result (out.new.items ≡ out.old.items ++ entry_line entry.now) }
+pub fn entry_line(entry: Entry, out: &mut Vec<u8>) -> Result<(), NoMemory>
+    ensures added { OnOk result (out.new.items ≡ out.old.items ++ entry_line entry) }
     ensures unchanged { OnErr result (out.new.items ≡ out.old.items) }
 {
     Ok(add_entry(entry, out)?)
 }
 
-fn add_entry(entry: &Entry, out: &mut Vec<u8>) -> Result<(), AllocError>
-    ensures added { OnOk result (out.new.items ≡ out.old.items ++ entry_line entry.now) }
+fn add_entry(entry: Entry, out: &mut Vec<u8>) -> Result<(), AllocError>
+    ensures added { OnOk result (out.new.items ≡ out.old.items ++ entry_line entry) }
     ensures unchanged { OnErr result (out.new.items ≡ out.old.items) }
 {
     let who = entry.who as u64;
@@ -157,43 +158,49 @@ fn add_entry(entry: &Entry, out: &mut Vec<u8>) -> Result<(), AllocError>
             label,
         } => {
             let (request, tenant, kind) = (request as u64, tenant as u64, kind as u64);
-            add_row(
-                "submit",
-                &[who, moment, request, tenant, kind, declared, label],
-                out,
-            )
+            let numbers = [who, moment, request, tenant, kind, declared, label];
+            add_row("submit", &numbers, out)
         }
         Act::Take {
             worker,
             request,
             estimate,
-        } => add_row(
-            "take",
-            &[who, moment, worker as u64, request as u64, estimate],
-            out,
-        ),
+        } => add_work("take", entry, worker, request, estimate, out),
         Act::Report {
             worker,
             request,
             used,
-        } => add_row(
-            "report",
-            &[who, moment, worker as u64, request as u64, used],
-            out,
-        ),
+        } => add_work("report", entry, worker, request, used, out),
         Act::Done {
             worker,
             request,
             cost,
-        } => add_row(
-            "done",
-            &[who, moment, worker as u64, request as u64, cost],
-            out,
-        ),
+        } => add_work("done", entry, worker, request, cost, out),
         Act::Close => add_row("close", &[who, moment], out),
         Act::Weight { tenant, weight } => {
             add_row("weight", &[who, moment, tenant as u64, weight as u64], out)
         }
         Act::Workers { count } => add_row("workers", &[who, moment, count as u64], out),
     }
+}
+
+// Appends the line of an entry about a worker, its request, and a number of microseconds.
+fn add_work(
+    word: &str,
+    entry: Entry,
+    worker: u32,
+    request: u32,
+    number: u64,
+    out: &mut Vec<u8>,
+) -> Result<(), AllocError>
+    ensures added { OnOk result (out.new.items ≡ out.old.items
+        ++ row_text word.now (entry.who ∷ entry.moment ∷ worker ∷ request ∷ number ∷ [])) }
+    ensures unchanged { OnErr result (out.new.items ≡ out.old.items) }
+{
+    let (worker, request) = (worker as u64, request as u64);
+    add_row(
+        word,
+        &[entry.who as u64, entry.moment, worker, request, number],
+        out,
+    )
 }

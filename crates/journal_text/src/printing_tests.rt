@@ -34,7 +34,7 @@ fn prints_every_reply(rt: HostRuntime) -> Result<(), Fail> {
         Reply::Refused(Cause::Workers(0)),
     ];
     let mut text = replies_text(rt.alloc(), &replies)?;
-    reply_line(&Reply::Idle, &mut text)?;
+    reply_line(Reply::Idle, &mut text)?;
     let lines = "request 0\nrun 4294967295 5 18446744073709551615\nok\nidle\ndrained\nretired 2\n\
         refused closed\nrefused tenant 2\nrefused kind 1\nrefused cost 1000000001\n\
         refused slots 10\nrefused full 100\nrefused worker 64\nrefused busy 3\n\
@@ -107,7 +107,7 @@ fn prints_a_journal(rt: HostRuntime) -> Result<(), Fail> {
         assert_eq!(rt; text.as_slice(), wanted.as_bytes());
     }
     let mut line = Vec::new(rt.alloc());
-    entry_line(&past[4], &mut line)?;
+    entry_line(past[4], &mut line)?;
     assert_eq!(rt; line.as_slice(), b"close 7 20\n".as_slice());
     Ok(())
 }

@@ -8,11 +8,11 @@ use fq_model::event::{Cause, Reply};
 use std::alloc::{AllocError, Global};
 
 /// Appends a reply's line. Where memory runs out, `out` stays as it was.
-pub fn reply_line(reply: &Reply, out: &mut Vec<u8>) -> Result<(), NoMemory>
-    ensures added { OnOk result (out.new.items ≡ out.old.items ++ reply_line reply.now) }
+pub fn reply_line(reply: Reply, out: &mut Vec<u8>) -> Result<(), NoMemory>
+    ensures added { OnOk result (out.new.items ≡ out.old.items ++ reply_line reply) }
     ensures unchanged { OnErr result (out.new.items ≡ out.old.items) }
 {
-    match *reply {
+    match reply {
         Reply::Request(request) => add_row("request", &[request as u64], out)?,
         Reply::Run {
             request,
@@ -54,7 +54,7 @@ pub fn replies_text(alloc: Global, replies: &[Reply]) -> Result<Vec<u8>, NoMemor
 {
     let mut text = Vec::new(alloc);
     for reply in replies {
-        reply_line(reply, &mut text)?;
+        reply_line(*reply, &mut text)?;
     }
     Ok(text)
 }

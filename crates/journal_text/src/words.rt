@@ -57,7 +57,7 @@ pub fn ranged_at(words: &[&[u8]], k: u32, low: u64, high: u64) -> Result<u64, Li
     Ok(n)
 }
 
-/// A number of 32 bits: of a caller, a tenant, a kind or a worker.
+/// A number of 32 bits: of a caller, a tenant, a kind or a worker, a weight, or a count.
 #[tactic(auto, unfolding(fq_model::specs::Lines::index_at))]
 pub fn index_at(words: &[&[u8]], k: u32) -> Result<u32, LineError>
     requires there { k < length words.now }

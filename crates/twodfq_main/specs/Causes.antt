@@ -34,8 +34,8 @@ May So ask input = IsSomeAnd ask (λ command. IfSome input (So command))
 abbrev pub Must : (Command → List ℕ → Type 0) → Option Command → Option (List ℕ) → Type 0
 Must So ask input = IsSomeAnd ask (λ command. IsSomeAnd input (So command))
 
--- what a status says of words and input, where both are told: 2 comes exactly where the words are no command line, 3 only
--- where the input is refused, 4 and 5 only where reading and writing failed, 7 only where the history would have too many
+-- what a status says of the words, and of an input whose bytes are told: 2 comes exactly where the words are no command line, 3 only
+-- where the input is refused, 4 only where reading failed, 5 only where writing failed, 7 only where the history would have too many
 -- entries. And on a command line, where nothing fails, an input that is refused gives 3, one whose history would have too
 -- many entries 7, and one that is taken 0, or any of them 6 where memory ran out.
 pub record StatusMeans (words : Words) (source sink : Move) (status : ℕ) : Type 0 where

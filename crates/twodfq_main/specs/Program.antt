@@ -101,7 +101,7 @@ pub record FailsWriting (command : Command) (source sink : Move) : Type 0 where
 abbrev pub EndsCommand : Command → Move → Move → Result (Unit {0}) Stop → Type 0
 EndsCommand command source sink (Ok done) = Succeeds command source sink
 EndsCommand command source sink (Err Words) = ⊥
-EndsCommand command source sink (Err Reading) = Fails source × ReadsAtMost source (greatest_input + 1) × Stays sink
+EndsCommand command source sink (Err Reading) = Fails source × ReadsAtMost source greatest_input × Stays sink
 EndsCommand command source sink (Err TooLong) = IsTooLong source × Stays sink
 EndsCommand command source sink (Err (Fault message)) = IsFaulty command source (string_bytes message) × Stays sink
 EndsCommand command source sink (Err (TooManyEntries message)) = IsOverfull command source (string_bytes message) × Stays sink

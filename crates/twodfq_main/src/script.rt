@@ -23,7 +23,7 @@ use std::alloc::Global;
 use tenant_table::kinds::Kinds;
 use tenant_table::tenants::Tenants;
 
-/// What is printed for an input: of the replies to its calls, and of the journal that they leave.
+/// What is asked for of a script: the replies to its calls, the journal that they leave, or both.
 pub fn served_text(alloc: Global, what: ScriptPrint, input: &[u8]) -> Result<Vec<u8>, Stop>
     ensures { MatchResult result (λ text. IsServed what input.now text.items) (IsOutputStop (Script what) input.now) }
 {

@@ -5,7 +5,7 @@ use std::alloc::Global;
 use std::process::Abort;
 use std::test::Fail;
 
-// Two requests of one tenant, served in turn until the scheduler is drained.
+// A request of one tenant, served until the scheduler is drained, and one that comes after the close.
 pub const SERVED: &str =
     "script 1\nconfig 1 2dfq declared 1000 100 10\ntenant a 1\ntenant b 1\nkind get\n\
     submit 0 0 0 0 5 7\ntake 9 0 0\ndone 9 5 0 5\ntake 9 5 0\nclose 0 5\ntake 9 5 0\nsubmit 0 5 0 0 5 8\n";
