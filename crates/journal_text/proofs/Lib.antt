@@ -4,3 +4,5 @@ mod FirstLine
 mod NoFault
 mod Names
 mod DocumentLimits
+mod Telling
+mod Histories
