@@ -12,5 +12,6 @@ pub mod Taking
 pub mod Calls
 pub mod Events
 pub mod Ending
+pub mod Only
 pub mod InLimits
 pub mod NoFault

@@ -4,6 +4,7 @@
 
 pub mod agenda;
 pub mod fault;
+pub mod laws;
 pub mod needed;
 pub mod opening;
 pub mod runner;
