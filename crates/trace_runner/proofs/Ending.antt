@@ -25,7 +25,7 @@ use Rattle.sched_state.specs.Scheduler.{SchedulerView}
 use Rattle.sched_state.specs.Replies.{AnswersCall}
 use Rattle.trace_runner.specs.declared.agenda.Agenda.{Agenda}
 use Rattle.trace_runner.specs.declared.staff.Work.{Work}
-use Rattle.trace_runner.specs.Agenda.{NothingNext, NoneTakes}
+use Rattle.trace_runner.specs.Agenda.{NothingNext, NoneTakes, opened_agenda}
 use Rattle.trace_runner.specs.Plan.{IsPlan}
 use Rattle.trace_runner.specs.Simulation.{Simulates, Keeps}
 use Rattle.trace_runner.specs.Staff.{work_at}
@@ -47,7 +47,7 @@ no_work : (n i : ℕ) (w : Work) {A : Type 0} → work_at (replicate n None) i �
 no_work n i w e = absurd (let x : None ≡ Some w = sym (none_at n i) ∙ e in cc)
 
 abbrev pub first_agenda : Trace → RunOptions → Agenda
-first_agenda T O = record { staff = replicate O.workers None; first_caller = submitters T.rows; moment = 0; submitted = 0; waiting = 0 }
+first_agenda T O = opened_agenda O.workers (submitters T.rows)
 
 pub begins : (T : Trace) (O : RunOptions) → Keeps T O [] (first_agenda T O)
 unfolding is_closed is_done

@@ -320,7 +320,7 @@ same_course T O es fs P r s t h =
     let c = taken_course P r h in
     let test : Entry → Bool = λ e. serves r e.act in
     let firsts : first_of_all (course (onto es P) r) ≡ first_of_all (course (onto fs P) r) =
-      ap first_of_all (kept_onto test es P) ∙ first_onto_cons (kept test es) (course P r) c ∙ sym (ap first_of_all (kept_onto test fs P) ∙ first_onto_cons (kept test fs) (course P r) c) in
+    ap first_of_all (kept_onto test es P) ∙ first_onto_cons (kept test es) (course P r) c ∙ sym (ap first_of_all (kept_onto test fs P) ∙ first_onto_cons (kept test fs) (course P r) c) in
     same_served T O.refresh (onto es P) (onto fs P) r row (s.served r row is) (t.served r row is) firsts
 
 -- ---- nothing is skipped
