@@ -13,5 +13,7 @@ pub mod Calls
 pub mod Events
 pub mod Ending
 pub mod Only
+pub mod Exists
+pub mod Entries
 pub mod InLimits
 pub mod NoFault

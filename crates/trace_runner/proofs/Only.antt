@@ -1,8 +1,7 @@
 -- A trace has one simulated history.
-use Rattle.std.proofs.Common.{ℕ, zero, suc, ◌+◌, ◌-◌, ◌*◌, ◌<◌, ◌≤◌, ◌≡◌, ◌≢◌, ◌==◌, ◌⊎◌, Bool, true, false, cond, not, List, [], ◌∷◌, ◌++◌, length, take, reverse, Option, Some, None, arith, refl, ap, sym, ◌∙◌, subst, inl, inr, ◌||◌, append_assoc, append-nil, filter}
-use Rattle.std.specs.Prelude.{slice_get}
-use Rattle.std.proofs.lemmas.Bool.{cases_eq, cases_lt, eq-eqb, ne_eqb, eqb-true, false≢true, both_ways, cond-true, cond-false, or_right, or_left, or_cases, or_parts, false_from_ne_true}
-use Rattle.std.proofs.lemmas.List.{reverse-append, reverse-reverse, append_cancel_right, length-reverse, take_all}
+use Rattle.std.proofs.Common.{ℕ, zero, suc, ◌+◌, ◌*◌, ◌<◌, ◌≤◌, ◌≡◌, ◌==◌, ◌⊎◌, Bool, true, false, cond, List, [], ◌∷◌, ◌++◌, length, reverse, Option, Some, None, arith, refl, ap, sym, ◌∙◌, subst, inl, inr, ◌||◌, append_assoc, append-nil, filter}
+use Rattle.std.proofs.lemmas.Bool.{cases_lt, eq-eqb, false≢true, both_ways, cond-true, or_right, or_left, or_cases, or_parts, false_from_ne_true}
+use Rattle.std.proofs.lemmas.List.{reverse-append, reverse-reverse, append_cancel_right, length-reverse}
 use Rattle.fq_model.specs.declared.config.Config.{Config}
 use Rattle.fq_model.specs.declared.event.Act.{Act}
 use Rattle.fq_model.specs.declared.event.Act.TheVariants.{Submit, Take, Report, Done, Close, Weight, Workers}
@@ -10,14 +9,14 @@ use Rattle.fq_model.specs.declared.event.Entry.{Entry}
 use Rattle.fq_model.specs.declared.trace.RunOptions.{RunOptions}
 use Rattle.fq_model.specs.declared.trace.TraceRow.{TraceRow}
 use Rattle.fq_model.specs.Courses.{Each, worker_caller, course, serves, with_reports, course_acts, reports_below}
-use Rattle.fq_model.specs.History.{History, history_of, has_act, is_close, is_closed, is_change, is_submit, is_taken, is_done, is_done_of, is_take_of, is_waiting, submits, with_submit, waiting, Runs, pool_at, request_bound}
-use Rattle.fq_model.specs.Rules.{IsLegal, Fits, FitsTake, RunsNothing}
+use Rattle.fq_model.specs.History.{History, has_act, is_close, is_closed, is_change, is_submit, is_taken, is_done, is_done_of, is_take_of, is_waiting, submits, with_submit, waiting, Runs, request_bound}
+use Rattle.fq_model.specs.Rules.{IsLegal, Fits, FitsTake}
 use Rattle.fq_model.specs.Simulated.{run_config, row_submits, timed, time_served, rank, RankBefore, InTurn, IsServed, IsSimulated, KeepsBusy, AllRun, IsSettled, ClosesLast, RunsSomething}
 use Rattle.fq_model.specs.Time.{last_moment}
 use Rattle.fq_model.specs.Trace.{Trace}
 use Rattle.fq_laws.proofs.History.Asked.{waits_submitted, waits_untaken}
 use Rattle.fq_laws.proofs.History.Requests.{submitted_below, taken_submitted, use_taken, done_taken}
-use Rattle.fq_laws.proofs.History.Workers.{running_runs, runs_running}
+use Rattle.fq_laws.proofs.History.Workers.{runs_running}
 use Rattle.fq_laws.proofs.Rules.Answers.{chosen_request_one, chosen_estimate_one}
 use Rattle.fq_laws.proofs.Rules.Takes.{take_waits}
 use Rattle.fq_laws.proofs.Sums.{count_some}
@@ -25,7 +24,7 @@ use Rattle.trace_runner.specs.Plan.{row_at}
 use Rattle.trace_runner.specs.Staff.{ComesBefore}
 use Rattle.trace_runner.proofs.Ending.{close_entry}
 use Rattle.trace_runner.proofs.Legal.{pool_same, untouched}
-use Rattle.trace_runner.proofs.Rows.{row_there, row_known}
+use Rattle.trace_runner.proofs.Rows.{row_there}
 
 -- the entries after P, in order of time, put onto it
 pub onto : List Entry → History → History
@@ -385,12 +384,12 @@ done_in_course (e ∷ P) r = by_test (serves r e.act) refl (done_in_course P r)
     by_test true is ih = ap (λ b. is_done_of r e.act || b) ih
     by_test false is ih = ih ∙ sym (ap (λ b. b || has_act (is_done_of r) P) (done_serves e.act is))
 
-served_done : (T : Trace) (refresh : ℕ) (H : History) (r : ℕ) (row : TraceRow) → IsServed T refresh H r row → is_done H r ≡ true
+pub served_done : (T : Trace) (refresh : ℕ) (H : History) (r : ℕ) (row : TraceRow) → IsServed T refresh H r row → is_done H r ≡ true
 unfolding is_done
 served_done T refresh H r row s = sym (done_in_course H r) ∙ ap (has_act (is_done_of r)) s.course_is ∙ or_left _ _ (eq-eqb r r refl)
 
 -- what is done with the Close was done before it
-done_before : (P : History) (r : ℕ) → is_done (close_entry P ∷ P) r ≡ true → is_done P r ≡ true
+pub done_before : (P : History) (r : ℕ) → is_done (close_entry P ∷ P) r ≡ true → is_done P r ≡ true
 unfolding is_done
 done_before P r h = h
 
@@ -593,7 +592,7 @@ agree T O e f es fs P s t m k = by_act e.act refl h.legal.3
 same_pair : (a b : ℕ × ℕ) → a.0 ≡ b.0 → a.1 ≡ b.1 → a ≡ b
 same_pair a b x y = ap (λ n. let p : ℕ × ℕ = (n, a.1) in p) x ∙ ap (λ n. let p : ℕ × ℕ = (b.0, n) in p) y
 
-order : (m n : ℕ) (a b : ℕ × ℕ) → (ComesBefore m a n b ⊎ ComesBefore n b m a) ⊎ ((m ≡ n) × (a ≡ b))
+pub order : (m n : ℕ) (a b : ℕ × ℕ) → (ComesBefore m a n b ⊎ ComesBefore n b m a) ⊎ ((m ≡ n) × (a ≡ b))
 order m n a b = by_order (cases_lt m n) (cases_lt n m) (cases_lt a.0 b.0) (cases_lt b.0 a.0) (cases_lt a.1 b.1) (cases_lt b.1 a.1)
   where
     by_order : ((m < n) ⊎ (n ≤ m)) → ((n < m) ⊎ (m ≤ n)) → ((a.0 < b.0) ⊎ (b.0 ≤ a.0)) → ((b.0 < a.0) ⊎ (a.0 ≤ b.0)) → ((a.1 < b.1) ⊎ (b.1 ≤ a.1)) → ((b.1 < a.1) ⊎ (a.1 ≤ b.1)) → (ComesBefore m a n b ⊎ ComesBefore n b m a) ⊎ ((m ≡ n) × (a ≡ b))

@@ -1,12 +1,11 @@
-use Rattle.std.proofs.Common.{arith, ap, subst, sym, ◌≡◌, ◌≤◌, ◌∙◌, replicate, None}
+use Rattle.std.proofs.Common.{arith, ap, subst, ◌≤◌, ◌∙◌}
 use Rattle.fq_model.specs.declared.limits.TheConstants.{MOST_ENTRIES}
 use Rattle.fq_model.specs.Courses.{submitters}
 use Rattle.fq_model.specs.Simulated.{needed_entries}
 use Rattle.sched_state.specs.Scheduler.{SchedulerView}
-use Rattle.trace_runner.specs.declared.agenda.Agenda.{Agenda}
 use Rattle.trace_runner.specs.Agenda.{NothingNext, opened_agenda}
 use Rattle.trace_runner.specs.Plan.{IsPlan}
-use Rattle.trace_runner.proofs.Ending.{first_agenda, simulated, simulates_first, past_low}
+use Rattle.trace_runner.proofs.Ending.{simulated, simulates_first, past_low}
 use Rattle.trace_runner.proofs.runner.simulate.Goals as goal
 
 pub events-init : goal.events-init
