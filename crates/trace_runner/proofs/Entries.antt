@@ -13,7 +13,8 @@ use Rattle.trace_runner.specs.Plan.{IsPlan, row_at, planned_reports}
 use Rattle.trace_runner.proofs.Ending.{close_entry}
 use Rattle.trace_runner.proofs.InLimits.{in_limits}
 use Rattle.trace_runner.proofs.Legal.{counted, reports, reports_of, reports_sum}
-use Rattle.trace_runner.proofs.Only.{all_submitted, served_done, done_before}
+use Rattle.trace_runner.proofs.Only.{served_done, done_before}
+use Rattle.trace_runner.proofs.Rests.{all_submitted}
 use Rattle.trace_runner.proofs.Room.{served_reports, planned_by_number}
 use Rattle.trace_runner.proofs.Rows.{row_there}
 
