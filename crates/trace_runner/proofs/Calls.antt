@@ -1,5 +1,5 @@
 -- What the calls of the simulation are answered.
-use Rattle.std.proofs.Common.{ℕ, zero, suc, ◌+◌, ◌-◌, ◌*◌, ◌<◌, ◌≤◌, ◌≡◌, ◌≢◌, ◌==◌, Bool, true, false, cond, max, min, List, [], ◌∷◌, length, Option, Some, None, arith, refl, ap, sym, ◌∙◌, subst, inl, inr, leb, ltb, nat_le, nat_lt, MatchBool, is_some, is_none, set, reverse}
+use Rattle.std.proofs.Common.{ℕ, ◌+◌, ◌<◌, ◌≤◌, ◌≡◌, ◌==◌, false, List, ◌∷◌, length, Option, Some, None, arith, refl, ap, leb, ltb, nat_le}
 use Rattle.std.proofs.lemmas.Bool.{ne_eqb, le-ltb, lt-leb, MatchBool-at_false}
 use Rattle.std.proofs.lemmas.List.{length-reverse}
 use Rattle.vt_fixed.specs.declared.limits.TheConstants.{GREATEST_COST, GREATEST_MOMENT}
@@ -10,16 +10,11 @@ use Rattle.fq_model.specs.declared.event.Call.TheVariants as call
 use Rattle.fq_model.specs.declared.event.Reply.{Reply}
 use Rattle.fq_model.specs.declared.event.Reply.TheVariants as answer
 use Rattle.fq_model.specs.declared.event.Cause.{Cause}
-use Rattle.fq_model.specs.declared.trace.RunOptions.{RunOptions}
-use Rattle.fq_model.specs.declared.trace.TraceRow.{TraceRow}
-use Rattle.fq_model.specs.History.{History, history_of, submits, waiting, running, running_on, last_use, is_closed, pool_at, Runs}
+use Rattle.fq_model.specs.History.{History, history_of, submits, waiting, running_on, last_use, is_closed, pool_at}
 use Rattle.fq_model.specs.Rules.{RefusedOrElse, Answers, FitsUse, FitsSubmit, FitsTake, HasRoom, report_refusal, done_refusal, submit_refusal, take_refusal, close_refusal, request_on, needed_room, RunsChosen, AnswersFree, AnswersPooled}
-use Rattle.fq_model.specs.Simulated.{run_config}
 use Rattle.fq_model.specs.Time.{last_moment, effective_moment}
-use Rattle.fq_model.specs.Trace.{Trace}
-use Rattle.fq_laws.proofs.History.Workers.{runs_running, running_nothing}
+use Rattle.fq_laws.proofs.History.Workers.{running_nothing}
 use Rattle.fq_laws.proofs.Rules.Refusals.{request_on_is}
-use Rattle.trace_runner.proofs.Legal.{pool_same}
 
 -- where nothing refuses, the call is accepted
 accepted : (o : Option Cause) (P : History) (reply : Reply) (Q : History) (A : Type 0) → o ≡ None → RefusedOrElse o P reply Q A → A

@@ -1,24 +1,22 @@
 -- What the simulation keeps at a Submit.
-use Rattle.std.proofs.Common.{ℕ, zero, suc, ◌+◌, ◌-◌, ◌*◌, ◌<◌, ◌≤◌, ◌≡◌, ◌≢◌, ◌==◌, ◌⊎◌, Bool, true, false, cond, max, min, List, [], ◌∷◌, ◌++◌, length, take, reverse, Option, Some, None, arith, refl, ap, sym, ◌∙◌, subst, inl, inr, if◌then◌else◌, get_or, filter, map}
+use Rattle.std.proofs.Common.{ℕ, zero, suc, ◌+◌, ◌<◌, ◌≤◌, ◌≡◌, List, [], ◌∷◌, ◌++◌, take, reverse, Some, arith, refl, ap, sym, ◌∙◌, inl, inr}
 use Rattle.std.specs.Prelude.{slice_get}
-use Rattle.std.proofs.lemmas.Bool.{cases_eq, cases_lt, eq-eqb, ne_eqb, both_ways, cond-true, cond-false}
+use Rattle.std.proofs.lemmas.Bool.{cases_lt}
 use Rattle.std.proofs.lemmas.List.{reverse-append}
 use Rattle.fq_model.specs.declared.event.Act.TheVariants.{Submit}
 use Rattle.fq_model.specs.declared.event.Entry.{Entry}
 use Rattle.fq_model.specs.declared.trace.RunOptions.{RunOptions}
 use Rattle.fq_model.specs.declared.trace.TraceRow.{TraceRow}
-use Rattle.fq_model.specs.History.{History, history_of, is_closed, is_done, is_submit, submits, waiting, running_on}
+use Rattle.fq_model.specs.History.{History, history_of, is_closed, is_done, submits, waiting}
 use Rattle.fq_model.specs.Rules.{FitsSubmit}
 use Rattle.fq_model.specs.Simulated.{run_config, row_submits}
-use Rattle.fq_model.specs.Time.{last_moment}
 use Rattle.fq_model.specs.Trace.{Trace}
 use Rattle.fq_laws.proofs.History.Numbers.{waiting_submitted}
 use Rattle.trace_runner.specs.declared.agenda.Agenda.{Agenda}
-use Rattle.trace_runner.specs.declared.staff.Work.{Work}
 use Rattle.trace_runner.specs.Plan.{IsPlan}
 use Rattle.trace_runner.specs.Agenda.{ByWorks, NoneTakes}
-use Rattle.trace_runner.specs.Simulation.{FollowsLast, InTime, Serves, Keeps}
-use Rattle.trace_runner.specs.Staff.{work_at, work_moment, work_rank, ComesBefore, IsIdle}
+use Rattle.trace_runner.specs.Simulation.{FollowsLast, InTime, Keeps}
+use Rattle.trace_runner.specs.Staff.{ComesBefore}
 use Rattle.trace_runner.proofs.InLimits.{in_limits}
 use Rattle.trace_runner.proofs.Room.{room_to_submit, waiting_few}
 use Rattle.trace_runner.proofs.Rows.{lawful_row, rows_rise, row_known}

@@ -1,21 +1,17 @@
 -- The beginning and the end of a simulation.
-use Rattle.std.proofs.Common.{ℕ, zero, suc, ◌+◌, ◌-◌, ◌*◌, ◌<◌, ◌≤◌, ◌≡◌, ◌≢◌, ◌==◌, Bool, true, false, cond, max, List, [], ◌∷◌, length, take, replicate, Option, Some, None, arith, refl, ap, sym, ◌∙◌, subst, inl, inr, get_or, filter}
-use Rattle.std.specs.Prelude.{slice_get}
-use Rattle.std.proofs.lemmas.Bool.{false≢true, both_ways, and_from, not_from_false, cond-false, cond-true, cases_lt}
-use Rattle.std.proofs.lemmas.List.{take_all, length-replicate, length-reverse, get_or-replicate, get_or_past}
-use Rattle.vt_fixed.specs.declared.limits.TheConstants.{GREATEST_MOMENT}
-use Rattle.fq_model.specs.declared.config.Config.{Config}
+use Rattle.std.proofs.Common.{ℕ, zero, suc, ◌<◌, ◌≤◌, ◌≡◌, Bool, true, false, max, [], ◌∷◌, length, replicate, Option, Some, None, arith, refl, ap, sym, ◌∙◌, subst, inl, inr, get_or}
+use Rattle.std.proofs.lemmas.Bool.{false≢true, and_from, not_from_false}
+use Rattle.std.proofs.lemmas.List.{take_all, length-replicate, length-reverse}
 use Rattle.fq_model.specs.declared.event.Act.TheVariants.{Close}
 use Rattle.fq_model.specs.declared.event.Entry.{Entry}
 use Rattle.fq_model.specs.declared.event.Call.TheVariants as call
 use Rattle.fq_model.specs.declared.event.Reply.{Reply}
 use Rattle.fq_model.specs.declared.event.Reply.TheVariants as answer
 use Rattle.fq_model.specs.declared.trace.RunOptions.{RunOptions}
-use Rattle.fq_model.specs.declared.trace.TraceRow.{TraceRow}
 use Rattle.fq_model.specs.Courses.{submitters}
-use Rattle.fq_model.specs.History.{History, history_of, is_closed, is_close, is_submitted, is_taken, is_done, is_waiting, has_act, is_change, submits, waiting, running_on, request_bound}
+use Rattle.fq_model.specs.History.{History, history_of, is_closed, is_submitted, is_taken, is_done, is_waiting, submits, waiting, request_bound}
 use Rattle.fq_model.specs.Rules.{Answers}
-use Rattle.fq_model.specs.Simulated.{run_config, row_submits, IsSimulated, InTurn, IsServed, needed_entries}
+use Rattle.fq_model.specs.Simulated.{run_config, row_submits, IsSimulated, InTurn, needed_entries}
 use Rattle.fq_model.specs.Time.{last_moment}
 use Rattle.fq_model.specs.Trace.{Trace}
 use Rattle.fq_laws.proofs.History.Counts.{waiting_none}
@@ -25,7 +21,7 @@ use Rattle.sched_state.specs.Scheduler.{SchedulerView}
 use Rattle.sched_state.specs.Replies.{AnswersCall}
 use Rattle.trace_runner.specs.declared.agenda.Agenda.{Agenda}
 use Rattle.trace_runner.specs.declared.staff.Work.{Work}
-use Rattle.trace_runner.specs.Agenda.{NothingNext, NoneTakes}
+use Rattle.trace_runner.specs.Agenda.{NothingNext, NoneTakes, opened_agenda}
 use Rattle.trace_runner.specs.Plan.{IsPlan}
 use Rattle.trace_runner.specs.Simulation.{Simulates, Keeps}
 use Rattle.trace_runner.specs.Staff.{work_at}
@@ -47,7 +43,7 @@ no_work : (n i : ℕ) (w : Work) {A : Type 0} → work_at (replicate n None) i �
 no_work n i w e = absurd (let x : None ≡ Some w = sym (none_at n i) ∙ e in cc)
 
 abbrev pub first_agenda : Trace → RunOptions → Agenda
-first_agenda T O = record { staff = replicate O.workers None; first_caller = submitters T.rows; moment = 0; submitted = 0; waiting = 0 }
+first_agenda T O = opened_agenda O.workers (submitters T.rows)
 
 pub begins : (T : Trace) (O : RunOptions) → Keeps T O [] (first_agenda T O)
 unfolding is_closed is_done

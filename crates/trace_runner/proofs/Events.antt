@@ -1,8 +1,8 @@
 -- What the simulation keeps at each event.
-use Rattle.std.proofs.Common.{ℕ, zero, suc, ◌+◌, ◌-◌, ◌*◌, ◌<◌, ◌≤◌, ◌≡◌, ◌≢◌, ◌==◌, Bool, true, false, List, [], ◌∷◌, length, Option, Some, None, arith, refl, ap, sym, ◌∙◌, subst, inl, inr, set}
+use Rattle.std.proofs.Common.{ℕ, ◌+◌, ◌-◌, ◌<◌, ◌≤◌, ◌≡◌, ◌∷◌, length, Some, None, arith, refl, ap, sym, ◌∙◌, subst, set}
 use Rattle.std.specs.Prelude.{slice_get}
 use Rattle.vt_fixed.specs.declared.limits.TheConstants.{GREATEST_MOMENT, GREATEST_COST}
-use Rattle.fq_model.specs.declared.event.Act.TheVariants.{Submit, Take, Report, Done}
+use Rattle.fq_model.specs.declared.event.Act.TheVariants.{Take}
 use Rattle.fq_model.specs.declared.event.Entry.{Entry}
 use Rattle.fq_model.specs.declared.event.Call.TheVariants as call
 use Rattle.fq_model.specs.declared.event.Reply.{Reply}
@@ -10,10 +10,10 @@ use Rattle.fq_model.specs.declared.event.Reply.TheVariants as answer
 use Rattle.fq_model.specs.declared.trace.RunOptions.{RunOptions}
 use Rattle.fq_model.specs.declared.trace.TraceRow.{TraceRow}
 use Rattle.fq_model.specs.Courses.{worker_caller}
-use Rattle.fq_model.specs.History.{History, history_of, submits, waiting, running_on}
-use Rattle.fq_model.specs.Rules.{Answers}
+use Rattle.fq_model.specs.History.{History, history_of, submits}
+use Rattle.fq_model.specs.Rules.{Answers, FitsTake}
 use Rattle.fq_model.specs.Simulated.{run_config}
-use Rattle.fq_model.specs.Time.{last_moment, effective_moment}
+use Rattle.fq_model.specs.Time.{last_moment}
 use Rattle.fq_model.specs.Trace.{Trace}
 use Rattle.sched_state.specs.Scheduler.{SchedulerView}
 use Rattle.sched_state.specs.Replies.{AnswersCall, take_reply}
@@ -21,18 +21,16 @@ use Rattle.sched_state.specs.declared.replies.Taken.{Taken}
 use Rattle.sched_state.specs.declared.replies.Taken.TheVariants as takens
 use Rattle.fq_model.specs.declared.event.Cause.{Cause}
 use Rattle.trace_runner.specs.declared.agenda.Agenda.{Agenda}
-use Rattle.trace_runner.specs.declared.agenda.Event.{Event}
 use Rattle.trace_runner.specs.declared.agenda.What.TheVariants as what
 use Rattle.trace_runner.specs.declared.staff.Work.{Work}
-use Rattle.trace_runner.specs.Agenda.{IsNext, ByWorks, ByRows, NoneTakes}
+use Rattle.trace_runner.specs.Agenda.{IsNext, ByWorks, ByRows}
 use Rattle.trace_runner.specs.Plan.{IsPlan, row_at}
-use Rattle.trace_runner.specs.Simulation.{Simulates, Keeps, Serves, InTime, FollowsLast}
-use Rattle.trace_runner.specs.Staff.{work_at, work_moment, reported_work, new_work, IsSmall}
+use Rattle.trace_runner.specs.Simulation.{Simulates, Keeps, Serves}
+use Rattle.trace_runner.specs.Staff.{work_moment, reported_work, new_work, IsSmall}
 use Rattle.trace_runner.proofs.Calls.{effective_now, grown, reported, finished, submitted, took_now, Took}
 use Rattle.trace_runner.proofs.Coming.{AtSubmit, came_agenda, submit_entry, fits_submit, keeps_submit}
 use Rattle.trace_runner.proofs.Finishing.{AtDone, done_entry, finished_agenda, keeps_done}
 use Rattle.trace_runner.proofs.Legal.{pool_same}
-use Rattle.trace_runner.proofs.Order.{report_rank, done_rank}
 use Rattle.trace_runner.proofs.Reporting.{AtReport, report_entry, reported_agenda, keeps_report}
 use Rattle.trace_runner.proofs.Room.{room_to_report, waiting_few}
 use Rattle.trace_runner.proofs.Rows.{lawful_row, row_there, row_known}
@@ -57,10 +55,10 @@ stepped T O s t a b c e sim config h k bc = record {
 
 -- ---- Reports
 
-abbrev at_report : (T : Trace) (O : RunOptions) (s : SchedulerView ℕ) (a : Agenda) (m i : ℕ) (w : Work) → Simulates T O s a → IsNext a T.rows (record { moment = m; what = what.Report i w }) → AtReport T O (history_of s.past) a i w
-at_report T O s a m i w sim n = record {
-  plan = sim.plan;
-  keeps = sim.keeps;
+abbrev pub at_report : (T : Trace) (O : RunOptions) (P : History) (a : Agenda) (m i : ℕ) (w : Work) → IsPlan T O → Keeps T O P a → IsNext a T.rows (record { moment = m; what = what.Report i w }) → AtReport T O P a i w
+at_report T O P a m i w p k n = record {
+  plan = p;
+  keeps = k;
   at = n.timed.may_come.0;
   below = n.timed.may_come.2;
   works = subst (λ x. ByWorks a.staff x (0, i)) n.timed.may_come.3 n.timed.works;
@@ -90,14 +88,14 @@ report_answered T O s t a m i who w reply sim n by h =
 pub report_stepped : (T : Trace) (O : RunOptions) (s t : SchedulerView ℕ) (a b : Agenda) (m i who : ℕ) (w v : Work) → Simulates T O s a → IsNext a T.rows (record { moment = m; what = what.Report i w }) → who ≡ a.first_caller + i → AnswersCall s (call.Report who m i w.due) answer.Accepted t → v ≡ reported_work w O.refresh → b ≡ record a { staff = set a.staff i (Some v); moment = m } → Stepped T O s t b
 report_stepped T O s t a b m i who w v sim n by h vis bis =
     let r = report_answered T O s t a m i who w answer.Accepted sim n by h in
-    stepped T O s t a b (reported_agenda a i w O.refresh) _ sim h.config_is r.1 (keeps_report T O (history_of s.past) a i w (at_report T O s a m i w sim n)) (bis ∙ rw (vis, n.timed.may_come.3) refl)
+    stepped T O s t a b (reported_agenda a i w O.refresh) _ sim h.config_is r.1 (keeps_report T O (history_of s.past) a i w (at_report T O (history_of s.past) a m i w sim.plan sim.keeps n)) (bis ∙ rw (vis, n.timed.may_come.3) refl)
 
 -- ---- Dones
 
-abbrev at_done : (T : Trace) (O : RunOptions) (s : SchedulerView ℕ) (a : Agenda) (m i : ℕ) (w : Work) → Simulates T O s a → IsNext a T.rows (record { moment = m; what = what.Done i w }) → AtDone T O (history_of s.past) a i w
-at_done T O s a m i w sim n = record {
-  plan = sim.plan;
-  keeps = sim.keeps;
+abbrev pub at_done : (T : Trace) (O : RunOptions) (P : History) (a : Agenda) (m i : ℕ) (w : Work) → IsPlan T O → Keeps T O P a → IsNext a T.rows (record { moment = m; what = what.Done i w }) → AtDone T O P a i w
+at_done T O P a m i w p k n = record {
+  plan = p;
+  keeps = k;
   at = n.timed.may_come.0;
   whole = n.timed.may_come.2;
   works = subst (λ x. ByWorks a.staff x (1, i)) n.timed.may_come.3 n.timed.works;
@@ -124,16 +122,16 @@ done_answered T O s t a m i who w reply sim n by h =
 pub done_stepped : (T : Trace) (O : RunOptions) (s t : SchedulerView ℕ) (a b : Agenda) (m i who : ℕ) (w : Work) → Simulates T O s a → IsNext a T.rows (record { moment = m; what = what.Done i w }) → who ≡ a.first_caller + i → AnswersCall s (call.Done who m i w.cost) answer.Accepted t → b ≡ record a { staff = set a.staff i None; moment = m } → Stepped T O s t b
 done_stepped T O s t a b m i who w sim n by h bis =
     let r = done_answered T O s t a m i who w answer.Accepted sim n by h in
-    stepped T O s t a b (finished_agenda a i w) _ sim h.config_is r.1 (keeps_done T O (history_of s.past) a i w (at_done T O s a m i w sim n)) (bis ∙ rw n.timed.may_come.3 refl)
+    stepped T O s t a b (finished_agenda a i w) _ sim h.config_is r.1 (keeps_done T O (history_of s.past) a i w (at_done T O (history_of s.past) a m i w sim.plan sim.keeps n)) (bis ∙ rw n.timed.may_come.3 refl)
 
 -- ---- Submits
 
-abbrev at_submit : (T : Trace) (O : RunOptions) (s : SchedulerView ℕ) (a : Agenda) (m : ℕ) (row : TraceRow) → Simulates T O s a → IsNext a T.rows (record { moment = m; what = what.Submit row }) → AtSubmit T O (history_of s.past) a row
-at_submit T O s a m row sim n = record {
-  plan = sim.plan;
-  keeps = sim.keeps;
-  at = subst (λ r. slice_get T.rows r ≡ Some row) sim.keeps.submitted_is n.timed.may_come.0;
-  works = subst (λ r. ByWorks a.staff row.moment (2, r)) sim.keeps.submitted_is (subst (λ x. ByWorks a.staff x (2, a.submitted)) n.timed.may_come.1 n.timed.works);
+abbrev pub at_submit : (T : Trace) (O : RunOptions) (P : History) (a : Agenda) (m : ℕ) (row : TraceRow) → IsPlan T O → Keeps T O P a → IsNext a T.rows (record { moment = m; what = what.Submit row }) → AtSubmit T O P a row
+at_submit T O P a m row p k n = record {
+  plan = p;
+  keeps = k;
+  at = subst (λ r. slice_get T.rows r ≡ Some row) k.submitted_is n.timed.may_come.0;
+  works = subst (λ r. ByWorks a.staff row.moment (2, r)) k.submitted_is (subst (λ x. ByWorks a.staff x (2, a.submitted)) n.timed.may_come.1 n.timed.works);
   settled = λ l. n.settled (omega (arith, l, n.timed.may_come.1));
 }
 
@@ -142,7 +140,7 @@ pub submit_answered : (T : Trace) (O : RunOptions) (s t : SchedulerView ℕ) (a 
 submit_answered T O s t a m row reply sim n h =
     let P : History = history_of s.past in
     let k = sim.keeps in
-    let g = at_submit T O s a m row sim n in
+    let g = at_submit T O (history_of s.past) a m row sim.plan sim.keeps n in
     let low : last_moment P ≤ m = omega (arith, follows_low P row.moment _ (k.rows_follow row g.at), n.timed.may_come.1) in
     let late : m ≤ GREATEST_MOMENT = omega (arith, (Rattle.trace_runner.proofs.Rows.lawful_row T (submits P) row sim.plan.lawful g.at).moment, n.timed.may_come.1) in
     let r = submitted (run_config T O) P (history_of t.past) row.submitter m row.tenant row.kind row.declared a.submitted reply (fits_submit T O P a row g) (effective_now P m low late)
@@ -152,7 +150,7 @@ submit_answered T O s t a m row reply sim n h =
 pub submit_stepped : (T : Trace) (O : RunOptions) (s t : SchedulerView ℕ) (a b : Agenda) (m q : ℕ) (row : TraceRow) → Simulates T O s a → IsNext a T.rows (record { moment = m; what = what.Submit row }) → AnswersCall s (call.Submit row.submitter m row.tenant row.kind row.declared a.submitted) (answer.Request q) t → b ≡ record a { submitted = a.submitted + 1; waiting = a.waiting + 1; moment = m } → Stepped T O s t b
 submit_stepped T O s t a b m q row sim n h bis =
     let r = submit_answered T O s t a m row (answer.Request q) sim n h in
-    stepped T O s t a b (came_agenda a row) _ sim h.config_is r.1 (keeps_submit T O (history_of s.past) a row (at_submit T O s a m row sim n)) (bis ∙ rw n.timed.may_come.1 refl)
+    stepped T O s t a b (came_agenda a row) _ sim h.config_is r.1 (keeps_submit T O (history_of s.past) a row (at_submit T O (history_of s.past) a m row sim.plan sim.keeps n)) (bis ∙ rw n.timed.may_come.1 refl)
 
 -- ---- Takes
 
@@ -169,17 +167,17 @@ take_answered T O s t a m i who reply sim n h =
     (effective_now P (last_moment P) (omega arith) late)
     (subst (λ x. Answers (run_config T O) P (call.Take who x i) reply (history_of t.past)) now (subst (λ C. Answers C P (call.Take who m i) reply (history_of t.past)) sim.config_is h.answers))
 
-abbrev at_take : (T : Trace) (O : RunOptions) (s t : SchedulerView ℕ) (a : Agenda) (m i who : ℕ) (reply : Reply) → (sim : Simulates T O s a) → (n : IsNext a T.rows (record { moment = m; what = what.Take i })) → (k : Took (run_config T O) (history_of s.past) (history_of t.past) who (last_moment (history_of s.past)) i reply) → AtTake T O (history_of s.past) a i k.request k.estimate
-at_take T O s t a m i who reply sim n k =
-    let now : m ≡ last_moment (history_of s.past) = n.timed.may_come.3 ∙ sim.keeps.moment_is in
+abbrev pub at_take : (T : Trace) (O : RunOptions) (P : History) (a : Agenda) (m i r estimate : ℕ) → IsPlan T O → Keeps T O P a → IsNext a T.rows (record { moment = m; what = what.Take i }) → FitsTake (run_config T O) P (last_moment P) i r estimate → AtTake T O P a i r estimate
+at_take T O P a m i r estimate p k n fits =
+    let now : m ≡ last_moment P = n.timed.may_come.3 ∙ k.moment_is in
     record {
-      plan = sim.plan;
-      keeps = sim.keeps;
+      plan = p;
+      keeps = k;
       idle = n.timed.may_come.0;
       least = n.timed.may_come.1;
       works = subst (λ x. ByWorks a.staff x (3, i)) now n.timed.works;
-      requests = subst (λ r. ByRows T.rows r (last_moment (history_of s.past)) (3, i)) sim.keeps.submitted_is (subst (λ x. ByRows T.rows a.submitted x (3, i)) now n.timed.requests);
-      fits = k.fits;
+      requests = subst (λ r. ByRows T.rows r (last_moment P) (3, i)) k.submitted_is (subst (λ x. ByRows T.rows a.submitted x (3, i)) now n.timed.requests);
+      fits = fits;
     }
 
 same_run : (q r e f l j : ℕ) → answer.Run q e l ≡ answer.Run r f j → q ≡ r
@@ -200,7 +198,7 @@ take_stepped T O s t a b m i who q estimate label v sim n by h vis bis =
     let now : m ≡ last_moment P = n.timed.may_come.3 ∙ sim.keeps.moment_is in
     let caller : who ≡ worker_caller T.rows i = omega (arith, sim.keeps.caller_is) in
     let work : v ≡ work_of T O P k.request = vis ∙ ap (λ x. new_work x (row_at T.rows q).cost O.refresh) now ∙ ap (λ r. new_work (last_moment P) (row_at T.rows r).cost O.refresh) same in
-    stepped T O s t a b (taken_agenda T O P a i k.request) (take_entry T P i k.request k.estimate) sim h.config_is (k.grows ∙ ap (λ x. let e : Entry = record { who = x; moment = last_moment P; act = Take i k.request k.estimate } in e ∷ P) caller) (keeps_take T O P a i k.request k.estimate (at_take T O s t a m i who (answer.Run q estimate label) sim n k)) (bis ∙ ap (λ x. let b : Agenda = record a { staff = set a.staff i (Some x); waiting = a.waiting - 1 } in b) work)
+    stepped T O s t a b (taken_agenda T O P a i k.request) (take_entry T P i k.request k.estimate) sim h.config_is (k.grows ∙ ap (λ x. let e : Entry = record { who = x; moment = last_moment P; act = Take i k.request k.estimate } in e ∷ P) caller) (keeps_take T O P a i k.request k.estimate (at_take T O P a m i k.request k.estimate sim.plan sim.keeps n k.fits)) (bis ∙ ap (λ x. let b : Agenda = record a { staff = set a.staff i (Some x); waiting = a.waiting - 1 } in b) work)
 
 -- ---- what the calls ask
 

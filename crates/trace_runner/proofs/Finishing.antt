@@ -1,15 +1,14 @@
 -- What the simulation keeps at a Done.
-use Rattle.std.proofs.Common.{ℕ, zero, suc, ◌+◌, ◌-◌, ◌*◌, ◌<◌, ◌≤◌, ◌≡◌, ◌≢◌, ◌==◌, ◌⊎◌, Bool, true, false, cond, max, min, List, [], ◌∷◌, length, Option, Some, None, arith, refl, ap, sym, ◌∙◌, subst, inl, inr, if◌then◌else◌, get_or, set, length-set, filter}
+use Rattle.std.proofs.Common.{ℕ, ◌*◌, ◌<◌, ◌≤◌, ◌≡◌, ◌==◌, true, false, ◌∷◌, Some, None, arith, refl, ap, sym, ◌∙◌, subst, inl, inr, set, length-set}
 use Rattle.std.specs.Prelude.{slice_get}
-use Rattle.std.proofs.lemmas.Bool.{cases_eq, cases_lt, eq-eqb, ne_eqb, both_ways, cond-true, cond-false}
+use Rattle.std.proofs.lemmas.Bool.{cases_eq, eq-eqb, ne_eqb, cond-true, cond-false}
 use Rattle.fq_model.specs.declared.event.Act.TheVariants.{Done}
 use Rattle.fq_model.specs.declared.event.Entry.{Entry}
 use Rattle.fq_model.specs.declared.trace.RunOptions.{RunOptions}
 use Rattle.fq_model.specs.declared.trace.TraceRow.{TraceRow}
 use Rattle.fq_model.specs.Courses.{course, worker_caller, reports_below}
-use Rattle.fq_model.specs.History.{History, is_closed, is_done, is_taken, submits, waiting, Runs, running_on, last_use}
-use Rattle.fq_model.specs.Simulated.{run_config, timed, IsServed}
-use Rattle.fq_model.specs.Time.{last_moment}
+use Rattle.fq_model.specs.History.{History, is_closed, is_done, waiting, running_on}
+use Rattle.fq_model.specs.Simulated.{IsServed}
 use Rattle.fq_model.specs.Trace.{Trace}
 use Rattle.fq_laws.proofs.History.Counts.{waiting_done}
 use Rattle.trace_runner.specs.declared.agenda.Agenda.{Agenda}
@@ -17,11 +16,10 @@ use Rattle.trace_runner.specs.declared.staff.Work.{Work}
 use Rattle.trace_runner.specs.Plan.{IsPlan}
 use Rattle.trace_runner.specs.Agenda.{ByWorks, ByRows, NoneTakes}
 use Rattle.trace_runner.specs.Simulation.{FollowsLast, InTime, Serves, Keeps}
-use Rattle.trace_runner.specs.Staff.{work_at, work_moment, work_rank, ComesBefore, IsIdle}
+use Rattle.trace_runner.specs.Staff.{work_at, work_moment, work_rank, ComesBefore}
 use Rattle.trace_runner.proofs.Order.{done_rank}
 use Rattle.trace_runner.proofs.Room.{all_reported}
-use Rattle.trace_runner.proofs.Rows.{row_is}
-use Rattle.trace_runner.proofs.Steps.{follows_low, in_turn_now, other_work, any_row, not_late, at_set, settled_now, others_differ, serves_stays, served_stays, fits_use, worker_entry, worker_known, some_same, due_cases}
+use Rattle.trace_runner.proofs.Steps.{follows_low, in_turn_now, other_work, any_row, not_late, at_set, settled_now, others_differ, serves_stays, served_stays, fits_use, worker_entry, worker_known, due_cases}
 
 -- worker i has a Done now
 pub record AtDone (T : Trace) (O : RunOptions) (P : History) (a : Agenda) (i : ℕ) (w : Work) : Type 0 where

@@ -1,15 +1,13 @@
 -- The configuration of a simulation is in its limits.
-use Rattle.std.proofs.Common.{ℕ, ◌+◌, ◌*◌, ◌≤◌, ◌<◌, ◌≡◌, max, length, arith, All, List, subst, sym, ap, refl, ◌∙◌, Some, None}
+use Rattle.std.proofs.Common.{ℕ, ◌*◌, ◌≤◌, ◌≡◌, max, length, arith, List, subst, sym, ap, refl, ◌∙◌, Some, None}
 use Rattle.fq_model.specs.declared.config.Config.{Config}
 use Rattle.fq_model.specs.declared.trace.RunOptions.{RunOptions}
-use Rattle.fq_model.specs.declared.limits.TheConstants.{MOST_TENANTS, MOST_KINDS, MOST_PAIRS, LEAST_ENTRIES, MOST_ENTRIES, MOST_REQUESTS, MOST_ROWS}
+use Rattle.fq_model.specs.declared.limits.TheConstants.{MOST_PAIRS, LEAST_ENTRIES}
 use Rattle.fq_model.specs.declared.config.ConfigFault.{ConfigFault}
-use Rattle.fq_model.specs.Limits.{InLimits, IsWithin, config_fault}
-use Rattle.fq_model.specs.Names.{AreNames}
+use Rattle.fq_model.specs.Limits.{InLimits, config_fault}
 use Rattle.fq_model.specs.Simulated.{run_config, needed_entries}
 use Rattle.fq_model.specs.Trace.{Trace}
-use Rattle.fq_model.specs.TraceText.{IsLawfulTrace}
-use Rattle.trace_runner.specs.Plan.{AreInRange, IsPlan}
+use Rattle.trace_runner.specs.Plan.{IsPlan}
 use Rattle.trace_runner.proofs.NoFault.{no_fault}
 
 pub in_limits : (T : Trace) (O : RunOptions) → IsPlan T O → InLimits (run_config T O)

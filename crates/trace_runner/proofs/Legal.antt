@@ -1,6 +1,6 @@
 -- What legal histories are, and how many entries they have.
-use Rattle.std.proofs.Common.{ℕ, zero, suc, ◌+◌, ◌*◌, ◌<◌, ◌≤◌, ◌≡◌, ◌≢◌, ◌==◌, ◌&&◌, ◌||◌, Bool, true, false, cond, not, max, if◌then◌else◌, List, [], ◌∷◌, length, Option, Some, None, arith, refl, ap, sym, ◌∙◌, subst, inl, inr, ◌⊎◌, filter}
-use Rattle.std.proofs.lemmas.Bool.{cases_eq, cases_Bool, eq-eqb, eqb-true, ne_eqb, false≢true, both_ways, or_parts, or_cases, or_left, or_right, and_from, and_parts, not_from_false, cond-true, cond-false, false_from_ne_true}
+use Rattle.std.proofs.Common.{ℕ, zero, suc, ◌+◌, ◌*◌, ◌<◌, ◌≤◌, ◌≡◌, ◌==◌, ◌||◌, Bool, true, false, cond, max, [], ◌∷◌, length, arith, refl, ap, sym, ◌∙◌, subst, inl, inr}
+use Rattle.std.proofs.lemmas.Bool.{cases_eq, eq-eqb, ne_eqb, false≢true, both_ways, or_parts, or_cases, or_left, or_right, and_from, cond-true, cond-false}
 use Rattle.fq_model.specs.declared.config.Config.{Config}
 use Rattle.fq_model.specs.declared.event.Act.{Act}
 use Rattle.fq_model.specs.declared.event.Act.TheVariants.{Submit, Take, Report, Done, Close, Weight, Workers}
@@ -8,12 +8,11 @@ use Rattle.fq_model.specs.declared.event.Entry.{Entry}
 use Rattle.fq_model.specs.Courses.{course, serves}
 use Rattle.fq_model.specs.History.{History, has_act, count_acts, is_submitted, is_taken, is_done, is_closed, is_change, is_close, is_take_of, is_take_by, is_submit_of, is_waiting, is_running, waiting, running, submits, with_submit, last_use, use_in, Runs, pool_at, request_bound}
 use Rattle.fq_model.specs.Limits.{InLimits}
-use Rattle.fq_model.specs.Rules.{IsLegal, Fits, FitsUse}
-use Rattle.fq_model.specs.Sums.{sum_below, count_below}
+use Rattle.fq_model.specs.Rules.{IsLegal, Fits}
+use Rattle.fq_model.specs.Sums.{sum_below}
 use Rattle.fq_laws.specs.Words.{one_more}
-use Rattle.fq_laws.proofs.Sums.{sum_same, sum_at, sum_zero, count_at_most, count_some}
+use Rattle.fq_laws.proofs.Sums.{sum_same, sum_at, sum_zero, count_at_most}
 use Rattle.fq_laws.proofs.History.Requests.{submitted_below, taken_submitted, use_taken}
-use Rattle.fq_laws.proofs.History.Weights.{pool_step}
 use Rattle.fq_laws.proofs.History.Counts.{running_submit, running_report, waiting_report, waiting_done, waiting_none, running_none}
 use Rattle.fq_laws.proofs.History.Numbers.{waiting_submitted, waiting_taken, running_taken, running_finished}
 use Rattle.fq_laws.proofs.Rules.Limits.{submitted_count}

@@ -12,5 +12,9 @@ pub mod Taking
 pub mod Calls
 pub mod Events
 pub mod Ending
+pub mod Rests
+pub mod Only
+pub mod Exists
+pub mod Entries
 pub mod InLimits
 pub mod NoFault

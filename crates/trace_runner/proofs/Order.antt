@@ -1,5 +1,5 @@
 -- The order of events.
-use Rattle.std.proofs.Common.{ℕ, zero, suc, ◌+◌, ◌<◌, ◌≤◌, ◌≡◌, ◌≢◌, ◌==◌, ◌⊎◌, Bool, true, false, cond, if◌then◌else◌, arith, refl, ap, sym, ◌∙◌, subst, inl, inr, List, [], ◌∷◌, length, Option, Some, None, nat_lt, nat_le, MatchOption, get_or}
+use Rattle.std.proofs.Common.{ℕ, ◌<◌, ◌≤◌, ◌≡◌, ◌==◌, ◌⊎◌, Bool, true, false, cond, arith, refl, ap, sym, ◌∙◌, subst, inl, inr, List, length, Option, Some, None, MatchOption, get_or}
 use Rattle.std.specs.Prelude.{slice_get}
 use Rattle.std.proofs.lemmas.Bool.{cases_eq, cases_lt, eq-eqb, ne_eqb, lt-ltb, le-ltb, leb-false, leb-true, false≢true, cond-true, cond-false}
 use Rattle.std.proofs.lemmas.Option.{slice_get_within, slice_get-get_or}
@@ -7,10 +7,9 @@ use Rattle.fq_model.specs.declared.trace.TraceRow.{TraceRow}
 use Rattle.fq_model.specs.Simulated.{RankBefore}
 use Rattle.trace_runner.specs.declared.agenda.Agenda.{Agenda}
 use Rattle.trace_runner.specs.declared.agenda.Event.{Event}
-use Rattle.trace_runner.specs.declared.agenda.What.{What}
 use Rattle.trace_runner.specs.declared.agenda.What.TheVariants as what
 use Rattle.trace_runner.specs.declared.staff.Work.{Work}
-use Rattle.trace_runner.specs.Staff.{work_at, work_moment, work_rank, IsSmall, IsIdle, NoneIdle, NoneWorks, ComesBefore, IsFirstWork, IsFirstIdle}
+use Rattle.trace_runner.specs.Staff.{work_at, work_moment, work_rank, IsSmall, NoneWorks, ComesBefore, IsFirstWork, IsFirstIdle}
 use Rattle.trace_runner.specs.Agenda.{next_of_work, event_of_work, event_of_row, comes_by, what_rank, ComesBy, ByWorks, ByRows, MayCome, NoneTakes, IsTimed, NothingTimed, IsNext, NothingNext}
 
 -- a worker's next event is a Report or a Done
@@ -49,7 +48,7 @@ work_before_row i r w = inl (low (w.due == w.cost))
 row_moments : (i r : ℕ) (w : Work) (m : ℕ) → work_moment w ≤ m → ComesBefore (work_moment w) (work_rank i w) m (2, r)
 row_moments i r w m le = elim (cases_lt (work_moment w) m) [ inl l ↦ inl l | inr g ↦ inr (omega arith, work_before_row i r w) ]
 
-one_work : (works : List (Option Work)) (i j : ℕ) (w x : Work) → work_at works i ≡ Some w → work_at works j ≡ Some x → j ≡ i → w ≡ x
+pub one_work : (works : List (Option Work)) (i j : ℕ) (w x : Work) → work_at works i ≡ Some w → work_at works j ≡ Some x → j ≡ i → w ≡ x
 one_work works i j w x a b e =
     let both : Some w ≡ Some x = sym a ∙ ap (work_at works) (sym e) ∙ b in cc
 

@@ -1,24 +1,20 @@
 -- What the simulation keeps at a Report.
-use Rattle.std.proofs.Common.{ℕ, zero, suc, ◌+◌, ◌-◌, ◌*◌, ◌<◌, ◌≤◌, ◌≡◌, ◌≢◌, ◌==◌, ◌⊎◌, Bool, true, false, cond, max, min, List, [], ◌∷◌, length, Option, Some, None, arith, refl, ap, sym, ◌∙◌, subst, inl, inr, if◌then◌else◌, get_or, set, length-set, filter}
+use Rattle.std.proofs.Common.{ℕ, suc, ◌+◌, ◌*◌, ◌<◌, ◌≤◌, ◌≡◌, ◌==◌, true, min, ◌∷◌, Some, None, arith, refl, sym, ◌∙◌, subst, inl, inr, set, length-set}
 use Rattle.std.specs.Prelude.{slice_get}
-use Rattle.std.proofs.lemmas.Bool.{cases_eq, cases_lt, eq-eqb, ne_eqb, both_ways, cond-true, cond-false}
+use Rattle.std.proofs.lemmas.Bool.{eq-eqb, ne_eqb, both_ways, cond-true, cond-false}
 use Rattle.fq_model.specs.declared.event.Act.TheVariants.{Report}
 use Rattle.fq_model.specs.declared.event.Entry.{Entry}
 use Rattle.fq_model.specs.declared.trace.RunOptions.{RunOptions}
-use Rattle.fq_model.specs.declared.trace.TraceRow.{TraceRow}
 use Rattle.fq_model.specs.Courses.{course, worker_caller}
 use Rattle.fq_model.specs.History.{History, is_closed, is_done, is_taken, submits, waiting, Runs, running_on, last_use}
-use Rattle.fq_model.specs.Simulated.{run_config, timed}
-use Rattle.fq_model.specs.Time.{last_moment}
 use Rattle.fq_model.specs.Trace.{Trace}
 use Rattle.fq_laws.proofs.History.Counts.{waiting_report}
-use Rattle.fq_laws.proofs.History.Workers.{running_runs}
 use Rattle.trace_runner.specs.declared.agenda.Agenda.{Agenda}
 use Rattle.trace_runner.specs.declared.staff.Work.{Work}
 use Rattle.trace_runner.specs.Plan.{IsPlan}
 use Rattle.trace_runner.specs.Agenda.{ByWorks, ByRows, NoneTakes}
 use Rattle.trace_runner.specs.Simulation.{FollowsLast, InTime, Serves, Keeps}
-use Rattle.trace_runner.specs.Staff.{work_at, work_moment, work_rank, ComesBefore, IsIdle, reported_work}
+use Rattle.trace_runner.specs.Staff.{work_at, work_moment, work_rank, ComesBefore, reported_work}
 use Rattle.trace_runner.proofs.Order.{report_rank}
 use Rattle.trace_runner.proofs.Room.{room_to_report}
 use Rattle.trace_runner.proofs.Steps.{follows_low, in_turn_now, other_work, any_row, not_late, at_set, settled_now, others_differ, serves_stays, served_stays, fits_use, worker_entry, worker_known, some_same, ReportsNext, reports_next}

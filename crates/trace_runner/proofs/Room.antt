@@ -1,20 +1,18 @@
 -- Room for what is still to come.
-use Rattle.std.proofs.Common.{ℕ, zero, suc, ◌+◌, ◌-◌, ◌*◌, ◌/◌, ◌<◌, ◌≤◌, ◌≡◌, ◌==◌, Bool, true, false, cond, max, min, List, [], ◌∷◌, length, Option, Some, None, arith, refl, ap, sym, ◌∙◌, subst, inl, inr, if◌then◌else◌}
-use Rattle.std.specs.Prelude.{slice_get}
-use Rattle.std.proofs.lemmas.Bool.{cases_eq, cases_lt, eq-eqb, ne_eqb, cond-true, cond-false}
+use Rattle.std.proofs.Common.{ℕ, zero, suc, ◌+◌, ◌-◌, ◌*◌, ◌<◌, ◌≤◌, ◌≡◌, ◌==◌, Bool, true, false, [], ◌∷◌, length, Option, Some, None, arith, refl, ap, sym, ◌∙◌, subst, inl, inr}
+use Rattle.std.proofs.lemmas.Bool.{cases_eq, eq-eqb, ne_eqb, cond-true, cond-false}
 use Rattle.std.proofs.Math.Nat.{div-eq_of_lt-le}
 use Rattle.std.proofs.lemmas.Nat.{le-div}
-use Rattle.fq_model.specs.declared.event.Act.{Act}
-use Rattle.fq_model.specs.declared.event.Act.TheVariants.{Take, Report, Done}
+use Rattle.fq_model.specs.declared.event.Act.TheVariants.{Take}
 use Rattle.fq_model.specs.declared.trace.RunOptions.{RunOptions}
 use Rattle.fq_model.specs.declared.trace.TraceRow.{TraceRow}
-use Rattle.fq_model.specs.Courses.{reports_below, with_reports, course, sum_over, course_acts, worker_caller}
+use Rattle.fq_model.specs.Courses.{reports_below, with_reports, worker_caller}
 use Rattle.fq_model.specs.History.{History, is_taken, is_done, submits, waiting, running, Runs, running_on}
 use Rattle.fq_model.specs.Rules.{HasRoom}
-use Rattle.fq_model.specs.Simulated.{run_config, needed_entries, timed, IsServed}
+use Rattle.fq_model.specs.Simulated.{run_config, timed, IsServed}
 use Rattle.fq_model.specs.Sums.{sum_below}
 use Rattle.fq_model.specs.Trace.{Trace}
-use Rattle.fq_laws.proofs.History.Workers.{runs_running, runs_worker_known}
+use Rattle.fq_laws.proofs.History.Workers.{runs_running}
 use Rattle.trace_runner.specs.declared.agenda.Agenda.{Agenda}
 use Rattle.trace_runner.specs.declared.staff.Work.{Work}
 use Rattle.trace_runner.specs.Plan.{IsPlan, row_at, planned_reports}
@@ -86,7 +84,7 @@ request_planned T O P a r k l = by_taken (is_taken P r) refl (is_done P r) refl
         let s = served_by T O P a r on.0 k on.1 in
         subst (λ q. reports_of P q ≤ reports_below O.refresh (row_at T.rows q).cost) s.2 (serving_planned T O P on.0 s.0 s.1)
 
-planned_by_number : (T : Trace) (O : RunOptions) → sum_below (λ r. reports_below O.refresh (row_at T.rows r).cost) (length T.rows) ≡ planned_reports T.rows O.refresh
+pub planned_by_number : (T : Trace) (O : RunOptions) → sum_below (λ r. reports_below O.refresh (row_at T.rows r).cost) (length T.rows) ≡ planned_reports T.rows O.refresh
 planned_by_number T O = sum_by_number (λ row. reports_below O.refresh row.cost) T.rows
 
 pub reports_low : (T : Trace) (O : RunOptions) (P : History) (a : Agenda) → Keeps T O P a → reports P ≤ planned_reports T.rows O.refresh

@@ -1,10 +1,9 @@
 -- The rows of a trace by number.
-use Rattle.std.proofs.Common.{ℕ, zero, suc, ◌<◌, ◌≤◌, ◌≡◌, List, [], ◌∷◌, length, Option, Some, None, get_or, arith, refl, ap, sym, ◌∙◌, All, map, subst}
+use Rattle.std.proofs.Common.{ℕ, ◌<◌, ◌≤◌, ◌≡◌, List, length, Some, get_or, arith, ap, ◌∙◌, map, subst}
 use Rattle.std.proofs.lemmas.Option.{slice_get-get_or, get_or_from_slice_get, slice_get_within}
 use Rattle.std.proofs.lemmas.List.{get_or-map, length-map}
 use Rattle.std.specs.Prelude.{slice_get}
 use Rattle.fq_model.specs.declared.trace.TraceRow.{TraceRow}
-use Rattle.fq_model.specs.declared.trace.RunOptions.{RunOptions}
 use Rattle.fq_model.specs.Trace.{Trace}
 use Rattle.fq_model.specs.TraceText.{IsLawfulTrace, IsLawfulRow}
 use Rattle.trace_runner.specs.Plan.{row_at}

@@ -1,17 +1,15 @@
 -- What the simulation keeps at one entry more.
-use Rattle.std.proofs.Common.{ℕ, zero, suc, ◌+◌, ◌-◌, ◌*◌, ◌<◌, ◌≤◌, ◌≡◌, ◌≢◌, ◌==◌, ◌⊎◌, Bool, true, false, cond, max, min, List, [], ◌∷◌, ◌++◌, length, take, reverse, Option, Some, None, arith, refl, ap, sym, ◌∙◌, subst, inl, inr, if◌then◌else◌, get_or, set, length-set, get_or-set_same, get_or-set_other, filter, add-one}
-use Rattle.std.specs.Prelude.{slice_get}
-use Rattle.std.proofs.lemmas.Bool.{cases_eq, cases_lt, eq-eqb, ne_eqb, false≢true, both_ways, cond-true, cond-false, or_parts}
-use Rattle.vt_fixed.specs.declared.limits.TheConstants.{GREATEST_COST, GREATEST_MOMENT}
+use Rattle.std.proofs.Common.{ℕ, suc, ◌+◌, ◌*◌, ◌<◌, ◌≤◌, ◌≡◌, ◌≢◌, ◌==◌, ◌⊎◌, Bool, true, false, cond, min, List, [], ◌∷◌, length, Option, Some, None, arith, refl, ap, sym, ◌∙◌, subst, inl, inr, set, get_or-set_same, get_or-set_other}
+use Rattle.std.proofs.lemmas.Bool.{cases_eq, cases_lt, eq-eqb, ne_eqb, cond-true, cond-false}
+use Rattle.vt_fixed.specs.declared.limits.TheConstants.{GREATEST_MOMENT}
 use Rattle.fq_model.specs.declared.event.Act.{Act}
-use Rattle.fq_model.specs.declared.event.Act.TheVariants.{Submit, Take, Report, Done, Close}
 use Rattle.fq_model.specs.declared.event.Entry.{Entry}
 use Rattle.fq_model.specs.declared.trace.RunOptions.{RunOptions}
 use Rattle.fq_model.specs.declared.trace.TraceRow.{TraceRow}
-use Rattle.fq_model.specs.Courses.{course, serves, worker_caller, with_reports}
-use Rattle.fq_model.specs.History.{History, is_close, is_taken, is_done, submits, waiting, Runs, running_on, running_after, last_use}
-use Rattle.fq_model.specs.Rules.{IsLegal, FitsUse}
-use Rattle.fq_model.specs.Simulated.{run_config, timed, rank, RankBefore, InTurn, IsServed, AllRun, RunsSomething, IsSettled}
+use Rattle.fq_model.specs.Courses.{serves, worker_caller}
+use Rattle.fq_model.specs.History.{History, Runs, running_on, running_after}
+use Rattle.fq_model.specs.Rules.{FitsUse}
+use Rattle.fq_model.specs.Simulated.{run_config, rank, RankBefore, InTurn, IsServed, AllRun, RunsSomething, IsSettled}
 use Rattle.fq_model.specs.Time.{last_moment}
 use Rattle.fq_model.specs.Trace.{Trace}
 use Rattle.fq_laws.proofs.History.Workers.{running_runs, runs_on_one}
@@ -20,10 +18,9 @@ use Rattle.trace_runner.specs.declared.staff.Work.{Work}
 use Rattle.trace_runner.specs.Plan.{IsPlan}
 use Rattle.trace_runner.specs.Agenda.{ComesBy, NoneTakes}
 use Rattle.trace_runner.specs.Simulation.{FollowsLast, InTime, Serves, Keeps}
-use Rattle.trace_runner.specs.Staff.{work_at, work_moment, work_rank, ComesBefore, IsIdle, NoneIdle, IsSmall}
+use Rattle.trace_runner.specs.Staff.{work_at, work_moment, work_rank, ComesBefore, IsIdle, IsSmall}
 use Rattle.trace_runner.proofs.Legal.{unused}
-use Rattle.trace_runner.proofs.Room.{waiting_few, room_to_report, room_to_submit, all_reported}
-use Rattle.trace_runner.proofs.Rows.{lawful_row, rows_rise, row_known}
+use Rattle.trace_runner.proofs.Rows.{lawful_row}
 use Rattle.std.proofs.lemmas.List.{get_or_past}
 
 -- ---- turns

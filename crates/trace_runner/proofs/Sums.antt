@@ -1,5 +1,5 @@
 -- Sums over rows.
-use Rattle.std.proofs.Common.{ℕ, zero, suc, ◌+◌, ◌*◌, ◌<◌, ◌≤◌, ◌≡◌, max, List, [], ◌∷◌, ◌++◌, length, take, arith, refl, ap, sym, ◌∙◌, get_or}
+use Rattle.std.proofs.Common.{ℕ, zero, suc, ◌+◌, ◌<◌, ◌≤◌, ◌≡◌, max, List, [], ◌∷◌, length, take, arith, refl, ap, ◌∙◌}
 use Rattle.fq_model.specs.declared.trace.TraceRow.{TraceRow}
 use Rattle.fq_model.specs.Courses.{sum_over, submitters}
 use Rattle.fq_model.specs.Sums.{sum_below}

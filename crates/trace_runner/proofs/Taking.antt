@@ -1,13 +1,11 @@
 -- What the simulation keeps at a Take.
 use Rattle.std.proofs.Common.{ℕ, zero, suc, ◌+◌, ◌-◌, ◌*◌, ◌<◌, ◌≤◌, ◌≡◌, ◌≢◌, ◌==◌, ◌⊎◌, Bool, true, false, cond, max, min, List, [], ◌∷◌, length, Option, Some, None, arith, refl, ap, sym, ◌∙◌, subst, inl, inr, if◌then◌else◌, get_or, set, length-set, filter}
-use Rattle.std.specs.Prelude.{slice_get}
-use Rattle.std.proofs.lemmas.Bool.{cases_eq, cases_lt, eq-eqb, ne_eqb, both_ways, cond-true, cond-false}
+use Rattle.std.proofs.lemmas.Bool.{cases_eq, eq-eqb, ne_eqb, both_ways, cond-true, cond-false}
 use Rattle.fq_model.specs.declared.event.Act.TheVariants.{Take}
 use Rattle.fq_model.specs.declared.event.Entry.{Entry}
 use Rattle.fq_model.specs.declared.trace.RunOptions.{RunOptions}
-use Rattle.fq_model.specs.declared.trace.TraceRow.{TraceRow}
-use Rattle.fq_model.specs.Courses.{course, worker_caller}
-use Rattle.fq_model.specs.History.{History, is_closed, is_done, is_taken, is_waiting, submits, waiting, Runs, running_on, last_use}
+use Rattle.fq_model.specs.Courses.{worker_caller}
+use Rattle.fq_model.specs.History.{History, is_closed, is_done, is_taken, submits, waiting, running_on}
 use Rattle.fq_model.specs.Rules.{FitsTake}
 use Rattle.fq_model.specs.Simulated.{run_config, timed}
 use Rattle.fq_model.specs.Time.{last_moment}
@@ -20,13 +18,13 @@ use Rattle.fq_laws.proofs.Rules.Takes.{take_waits}
 use Rattle.trace_runner.specs.declared.agenda.Agenda.{Agenda}
 use Rattle.trace_runner.specs.declared.staff.Work.{Work}
 use Rattle.trace_runner.specs.Plan.{IsPlan, row_at}
-use Rattle.trace_runner.specs.Agenda.{ByWorks, ByRows, NoneTakes}
-use Rattle.trace_runner.specs.Simulation.{FollowsLast, InTime, Serves, Keeps}
+use Rattle.trace_runner.specs.Agenda.{ByWorks, ByRows}
+use Rattle.trace_runner.specs.Simulation.{FollowsLast, Serves, Keeps}
 use Rattle.trace_runner.specs.Staff.{work_at, work_moment, work_rank, ComesBefore, IsIdle, new_work}
 use Rattle.trace_runner.proofs.InLimits.{in_limits}
 use Rattle.trace_runner.proofs.Legal.{untouched, no_use}
 use Rattle.trace_runner.proofs.Rows.{lawful_row, row_there}
-use Rattle.trace_runner.proofs.Steps.{follows_low, in_turn_now, any_work, any_row, not_late, at_set, lower_run, serves_stays, served_stays, worker_entry, some_same}
+use Rattle.trace_runner.proofs.Steps.{in_turn_now, any_work, any_row, not_late, at_set, lower_run, serves_stays, served_stays, worker_entry, some_same}
 
 -- worker i takes r now
 pub record AtTake (T : Trace) (O : RunOptions) (P : History) (a : Agenda) (i r estimate : ℕ) : Type 0 where

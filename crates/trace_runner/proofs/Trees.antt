@@ -1,12 +1,12 @@
 -- What the trees of the workers say of them.
-use Rattle.std.proofs.Common.{ℕ, zero, suc, ◌+◌, ◌<◌, ◌≤◌, ◌≡◌, ◌≢◌, ◌==◌, ◌⊎◌, Bool, true, false, cond, if◌then◌else◌, arith, refl, ap, sym, ◌∙◌, subst, inl, inr, List, [], ◌∷◌, length, map, Option, Some, None, get_or, set, replicate, pos, get_or-set_same, get_or-set_other, length-set, IfSome}
+use Rattle.std.proofs.Common.{ℕ, zero, suc, ◌<◌, ◌≤◌, ◌≡◌, arith, refl, ap, sym, ◌∙◌, subst, inl, inr, List, [], ◌∷◌, length, map, Option, Some, None, get_or, set, replicate, pos, get_or-set_same, get_or-set_other, IfSome}
 use Rattle.std.proofs.lemmas.Bool.{cases_eq, cases_lt}
 use Rattle.std.proofs.lemmas.Int.{ints}
 use Rattle.std.proofs.lemmas.List.{map-set, get_or_past, get_or-replicate, length-replicate, length-map, ext_get_or}
 use Rattle.winner_tree.specs.declared.key.Key.{Key}
-use Rattle.winner_tree.specs.Order.{IsBefore, Precedes, key_of, HasKey, HasNoKey, IsFirst}
+use Rattle.winner_tree.specs.Order.{Precedes, key_of, HasNoKey, IsFirst}
 use Rattle.trace_runner.specs.declared.staff.Work.{Work}
-use Rattle.trace_runner.specs.Staff.{work_at, work_moment, work_rank, work_key, busy_key, idle_key, IsSmall, NoneWorks, IsIdle, NoneIdle, ComesBefore, IsFirstWork, IsFirstIdle, KeepsStaff}
+use Rattle.trace_runner.specs.Staff.{work_at, work_moment, work_key, busy_key, idle_key, IsSmall, NoneWorks, IsIdle, NoneIdle, ComesBefore, IsFirstWork, IsFirstIdle, KeepsStaff}
 
 busy_at : (works : List (Option Work)) (i : ℕ) → get_or (map busy_key works) i None ≡ busy_key (get_or works i None)
 busy_at [] i = refl

@@ -1,5 +1,5 @@
 -- What a simulation does next.
-use Rattle.std.specs.Prelude.{ℕ, ◌<◌, ◌≤◌, ◌≡◌, ◌==◌, ◌⊎◌, nat_lt, nat_le, Bool, false, if◌then◌else◌, List, Option, Some, None, length, slice_get}
+use Rattle.std.specs.Prelude.{ℕ, ◌+◌, ◌-◌, ◌<◌, ◌≤◌, ◌≡◌, ◌⊎◌, nat_lt, nat_le, Bool, false, if◌then◌else◌, List, Option, Some, None, length, replicate, slice_get, slice_set}
 use Rattle.fq_model.specs.declared.trace.TraceRow.{TraceRow}
 use Rattle.trace_runner.specs.declared.agenda.Agenda.{Agenda}
 use Rattle.trace_runner.specs.declared.agenda.Event.{Event}
@@ -7,6 +7,28 @@ use Rattle.trace_runner.specs.declared.agenda.What.{What}
 use Rattle.trace_runner.specs.declared.agenda.What.TheVariants as what
 use Rattle.trace_runner.specs.declared.staff.Work.{Work}
 use Rattle.trace_runner.specs.Staff.{work_at, work_moment, work_rank, IsSmall, IsIdle, NoneIdle, NoneWorks, ComesBefore}
+
+-- so many idle workers, who are numbered on from this caller, and nothing done yet
+abbrev pub opened_agenda : ℕ → ℕ → Agenda
+opened_agenda workers first_caller = record {
+  staff = replicate workers None;
+  first_caller = first_caller;
+  moment = 0;
+  submitted = 0;
+  waiting = 0;
+}
+
+-- worker i reported or ended at m, and serves this then
+abbrev pub after_work : Agenda → ℕ → ℕ → Option Work → Agenda
+after_work a m i next = record a { staff = slice_set a.staff i next; moment = m }
+
+-- the next request came at m
+abbrev pub after_submit : Agenda → ℕ → Agenda
+after_submit a m = record a { submitted = a.submitted + 1; waiting = a.waiting + 1; moment = m }
+
+-- worker i took a request, and serves this then
+abbrev pub after_take : Agenda → ℕ → Work → Agenda
+after_take a i work = record a { staff = slice_set a.staff i (Some work); waiting = a.waiting - 1 }
 
 -- what worker i does next that serves this
 abbrev pub next_of_work : ℕ → Work → What

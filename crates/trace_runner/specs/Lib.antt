@@ -2,3 +2,4 @@ pub mod Plan
 pub mod Staff
 pub mod Agenda
 pub mod Simulation
+pub mod Laws

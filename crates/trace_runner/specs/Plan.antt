@@ -1,5 +1,5 @@
 -- What may be simulated.
-use Rattle.std.specs.Prelude.{ℕ, ◌≤◌, List, All, slice_index_or}
+use Rattle.std.specs.Prelude.{ℕ, ◌<◌, ◌≤◌, List, All, slice_index_or}
 use Rattle.vt_fixed.specs.declared.limits.TheConstants.{GREATEST_COST, MOST_WORKERS}
 use Rattle.fq_model.specs.declared.limits.TheConstants.{MOST_ENTRIES}
 use Rattle.fq_model.specs.declared.trace.RunOptions.{RunOptions}
@@ -9,6 +9,8 @@ use Rattle.fq_model.specs.Limits.{IsWithin}
 use Rattle.fq_model.specs.Simulated.{needed_entries}
 use Rattle.fq_model.specs.Trace.{Trace}
 use Rattle.fq_model.specs.TraceText.{IsLawfulTrace}
+use Rattle.trace_runner.specs.declared.fault.SimFault.{SimFault}
+use Rattle.trace_runner.specs.declared.fault.SimFault.TheVariants.{TooManyEntries}
 
 -- the numbers of the options are within their limits
 pub record AreInRange (O : RunOptions) : Type 0 where
@@ -27,6 +29,13 @@ AreCosts rows = All (λ row. IsWithin 1 GREATEST_COST row.cost) rows
 -- how many Reports the requests will have
 abbrev pub planned_reports : List TraceRow → ℕ → ℕ
 planned_reports rows refresh = sum_over (λ row. reports_below refresh row.cost) rows
+
+-- the simulated history of the trace would have too many entries, and the fault that says so
+abbrev pub IsTooLong : Trace → RunOptions → Type 0
+IsTooLong T O = MOST_ENTRIES < needed_entries T.rows O.refresh
+
+abbrev pub too_long : Trace → RunOptions → SimFault
+too_long T O = TooManyEntries (needed_entries T.rows O.refresh)
 
 -- a trace and options that can be simulated
 pub record IsPlan (T : Trace) (O : RunOptions) : Type 0 where

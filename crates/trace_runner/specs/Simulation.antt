@@ -1,5 +1,5 @@
 -- What a simulation keeps: its history so far, and what is still to come.
-use Rattle.std.specs.Prelude.{ℕ, suc, ◌+◌, ◌*◌, ◌<◌, ◌≤◌, ◌≡◌, ◌==◌, min, true, false, if◌then◌else◌, List, [], ◌∷◌, length, filter, take, slice_get, Some, None}
+use Rattle.std.specs.Prelude.{ℕ, suc, ◌+◌, ◌*◌, ◌<◌, ◌≤◌, ◌≡◌, ◌==◌, min, true, false, if◌then◌else◌, [], ◌∷◌, length, filter, take, slice_get, Some, None}
 use Rattle.vt_fixed.specs.declared.limits.TheConstants.{GREATEST_COST}
 use Rattle.fq_model.specs.declared.limits.TheConstants.{GREATEST_TRACE_MOMENT}
 use Rattle.fq_model.specs.declared.event.Act.TheVariants.{Take}

@@ -1,15 +1,13 @@
 //! What a simulation is about to do.
-ghost use Rattle.std.specs.Prelude.{◌≡◌, ◌+◌, ◌<◌, ◌≤◌, ◌-◌, None, Some, IfOk, IfErr, IfSome, MatchOption, length, replicate, slice_set};
-ghost use Rattle.vt_fixed.specs.declared.limits.TheConstants.{GREATEST_MOMENT};
+ghost use Rattle.std.specs.Prelude.{◌≡◌, ◌+◌, ◌<◌, ◌≤◌, IfOk, IfErr, IfSome, MatchOption, length};
 ghost use Rattle.trace_runner.specs.declared.fault.SimFault.TheVariants as faults;
-ghost use Rattle.trace_runner.specs.Staff.{IsSmall, work_moment};
+ghost use Rattle.trace_runner.specs.Staff.{IsSmall};
+ghost use Rattle.trace_runner.specs.Agenda.{opened_agenda, after_work, after_submit, after_take};
 ghost use Rattle.trace_runner.specs.Agenda.{event_of_work, event_of_row, comes_by, IsTimed, NothingTimed, IsNext, NothingNext};
 
 use crate::fault::SimFault;
 use crate::staff::{Staff, Work};
-use fq_model::limits::{
-    GREATEST_COST, GREATEST_MOMENT, GREATEST_SUBMITTER, MOST_ROWS, MOST_WORKERS,
-};
+use fq_model::limits::{GREATEST_SUBMITTER, MOST_ROWS, MOST_WORKERS};
 use fq_model::trace::TraceRow;
 use std::alloc::Global;
 
@@ -53,13 +51,7 @@ impl Agenda {
     pub fn open(alloc: Global, workers: u32, first_caller: u32) -> Result<Agenda, SimFault>
         requires some { 1 ≤ workers }
         requires few { workers ≤ MOST_WORKERS }
-        ensures opened { IfOk result (λ a. a ≡ record {
-          staff = replicate workers None;
-          first_caller = first_caller;
-          moment = 0;
-          submitted = 0;
-          waiting = 0;
-        }) }
+        ensures opened { IfOk result (λ a. a ≡ opened_agenda workers first_caller) }
         ensures fault { IfErr result (λ f. f ≡ faults.NoMemory) }
     {
         Ok(Agenda {
@@ -120,7 +112,7 @@ impl Agenda {
     pub fn worked(&mut self, moment: u64, worker: u32, next: Option<Work>)
         requires worker { worker < length self.old.staff }
         requires small { IfSome next IsSmall }
-        ensures { self.new ≡ record self.old { staff = slice_set self.old.staff worker next; moment = moment } }
+        ensures { self.new ≡ after_work self.old moment worker next }
     {
         self.staff.set(worker, next);
         self.moment = moment;
@@ -130,7 +122,7 @@ impl Agenda {
     pub fn came(&mut self, moment: u64)
         requires few { self.old.submitted < MOST_ROWS }
         requires waiting { self.old.waiting ≤ self.old.submitted }
-        ensures { self.new ≡ record self.old { submitted = self.old.submitted + 1; waiting = self.old.waiting + 1; moment = moment } }
+        ensures { self.new ≡ after_submit self.old moment }
     {
         self.submitted += 1;
         self.waiting += 1;
@@ -142,7 +134,7 @@ impl Agenda {
         requires worker { worker < length self.old.staff }
         requires small { IsSmall work }
         requires some { 1 ≤ self.old.waiting }
-        ensures { self.new ≡ record self.old { staff = slice_set self.old.staff worker (Some work); waiting = self.old.waiting - 1 } }
+        ensures { self.new ≡ after_take self.old worker work }
     {
         self.staff.set(worker, Some(work));
         self.waiting -= 1;

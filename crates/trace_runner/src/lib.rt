@@ -1,12 +1,13 @@
-//! The simulated history of a trace: its requests come when their rows say, cost what they say, and are taken by workers
-//! of which none is idle while a request waits.
+//! The simulated history of a trace: its requests come when their rows say, cost what they say, and are taken by
+//! workers of which none is idle while a request waits.
 #![tactic(auto)]
 
-pub mod agenda;
+mod agenda;
 pub mod fault;
+pub mod laws;
 pub mod needed;
-pub mod opening;
+mod opening;
 pub mod runner;
-pub mod staff;
+mod staff;
 #[cfg(test)]
 mod tests;

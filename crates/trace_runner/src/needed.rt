@@ -9,8 +9,9 @@ use fq_model::limits::{GREATEST_COST, MOST_ROWS};
 use fq_model::trace::TraceRow;
 use trace_reader::trace::Trace;
 
-/// The number of entries of the simulated history of a trace, where running requests are reported after each `refresh`
-/// microseconds, or not at all where that is 0: a Submit, a Take and a Done of each request, its Reports, and the Close.
+/// The number of entries of the simulated history of a trace, where running requests are reported after each
+/// `refresh` microseconds, or not at all where that is 0: a Submit, a Take and a Done of each request, its Reports, and
+/// the Close. It may be more than a history can have.
 pub fn needed(trace: &Trace, refresh: u64) -> u64
     requires { IsLawfulTrace trace.now }
     ensures { result ≡ needed_entries trace.now.rows refresh }

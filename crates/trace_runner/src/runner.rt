@@ -1,11 +1,10 @@
 //! The simulation.
 ghost use Rattle.std.specs.Prelude.{◌≡◌, ◌+◌, ◌<◌, ◌⊎◌, length, IfOk, IfErr, Err};
-ghost use Rattle.fq_model.specs.declared.limits.TheConstants.{MOST_ENTRIES};
 ghost use Rattle.fq_model.specs.History.{history_of};
-ghost use Rattle.fq_model.specs.Simulated.{needed_entries, run_config, IsSimulated};
+ghost use Rattle.fq_model.specs.Simulated.{run_config, IsSimulated};
 ghost use Rattle.fq_model.specs.TraceText.{IsLawfulTrace};
 ghost use Rattle.trace_runner.specs.Agenda.{IsNext};
-ghost use Rattle.trace_runner.specs.Plan.{AreInRange};
+ghost use Rattle.trace_runner.specs.Plan.{AreInRange, IsTooLong, too_long};
 ghost use Rattle.trace_runner.specs.Simulation.{Simulates};
 ghost use Rattle.trace_runner.specs.declared.fault.SimFault.TheVariants as faults;
 
@@ -21,8 +20,12 @@ use sched_state::{Scheduler, Taken};
 use std::alloc::Global;
 use trace_reader::trace::Trace;
 
-/// The simulated history of a trace, on the scheduler that made it. Of requests that come at one moment the first row is
-/// submitted first; worker i is caller s + i, where s is the number of submitters.
+/// The simulated history of a trace, on the scheduler that made it: each request comes at its row's moment, runs for its
+/// cost from its Take on, and is reported after each `refresh` microseconds of that. At one moment Reports are before
+/// Dones, Dones before Submits, and Submits before Takes; each go by worker, and Submits by row. No worker is idle while
+/// a request waits. Worker i is the caller that is i above the submitters, and a label is its row's number, from 0.
+/// An entry costs what the scheduler's call costs, and the logarithm of the number of workers. A fault before the
+/// opening is `TooManyEntries`; all memory is taken at the opening.
 pub fn simulate<X: Chooser + Drop>(
     alloc: Global,
     trace: &Trace,
@@ -32,11 +35,9 @@ pub fn simulate<X: Chooser + Drop>(
     requires options { AreInRange options }
     ensures simulated { IfOk result (λ s. IsSimulated trace.now options (history_of s.past)) }
     ensures config { IfOk result (λ s. s.config ≡ run_config trace.now options) }
-    ensures too_many { MOST_ENTRIES < needed_entries trace.now.rows options.refresh
-        → result ≡ Err (faults.TooManyEntries (needed_entries trace.now.rows options.refresh)) }
+    ensures too_many { IsTooLong trace.now options → result ≡ Err (too_long trace.now options) }
     ensures fault { IfErr result (λ f. (f ≡ faults.NoMemory)
-        ⊎ ((f ≡ faults.TooManyEntries (needed_entries trace.now.rows options.refresh))
-        × (MOST_ENTRIES < needed_entries trace.now.rows options.refresh))) }
+        ⊎ ((f ≡ too_long trace.now options) × IsTooLong trace.now options)) }
 {
     let needed = needed(trace, options.refresh);
     if needed > MOST_ENTRIES as u64 {
@@ -54,7 +55,7 @@ pub fn simulate<X: Chooser + Drop>(
     }
 }
 
-// Makes the call of the next event.
+// Makes the call of the next event, and notes it in the agenda.
 fn step<X: Chooser + Drop>(
     scheduler: &mut Scheduler<u64, X>,
     agenda: &mut Agenda,

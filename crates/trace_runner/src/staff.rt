@@ -1,7 +1,8 @@
 //! What each worker serves, and which of them comes next.
-ghost use Rattle.std.specs.Prelude.{◌≡◌, ◌+◌, ◌<◌, ◌≤◌, None, IfOk, IfErr, IfSome, MatchOption, length, replicate, slice_set};
+ghost use Rattle.std.specs.Prelude.{◌≡◌, ◌<◌, ◌≤◌, None, IfOk, IfErr, IfSome, MatchOption, length, replicate, slice_set};
 ghost use Rattle.trace_runner.specs.declared.fault.SimFault.TheVariants as faults;
-ghost use Rattle.trace_runner.specs.Staff.{busy_key, idle_key, new_work, reported_work, work_key, work_moment, IsSmall, NoneWorks, NoneIdle, IsFirstWork, IsFirstIdle};
+ghost use Rattle.trace_runner.specs.Staff.{busy_key, idle_key, new_work, reported_work, work_key, work_moment, IsSmall};
+ghost use Rattle.trace_runner.specs.Staff.{NoneWorks, NoneIdle, IsFirstWork, IsFirstIdle};
 
 use crate::fault::SimFault;
 use fq_model::limits::{GREATEST_COST, MOST_WORKERS};
@@ -20,8 +21,8 @@ pub struct Work {
 }
 
 impl Work {
-    /// What a worker serves that takes a request of this cost, which is reported after each `refresh` microseconds, or not
-    /// at all where that is 0.
+    /// What a worker serves that takes a request of this cost, which is reported after each `refresh` microseconds, or
+    /// not at all where that is 0.
     pub fn new(start: u64, cost: u64, refresh: u64) -> Work
         ensures { result ≡ new_work start cost refresh }
     {
@@ -137,7 +138,7 @@ impl Staff {
         self.idle.set(worker, idle_key(work));
     }
 
-    /// The worker of which the next entry comes first: by moment, and at one moment Reports before Dones, and in each of
+    /// The worker of which the next entry comes first: by moment, at one moment Reports before Dones, and in each of
     /// these by worker.
     pub fn first_work(&self) -> Option<(u32, Work)>
         ensures { MatchOption result (NoneWorks self.now) (λ e. IsFirstWork self.now e.0 e.1) }

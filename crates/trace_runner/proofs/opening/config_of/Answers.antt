@@ -1,4 +1,4 @@
-use Rattle.std.proofs.Common.{◌≡◌, ◌∙◌, ap, max, subst, sym, ◌≤◌, length, arith}
+use Rattle.std.proofs.Common.{◌≡◌, ◌∙◌, ap, max, subst, ◌≤◌, length, arith}
 use Rattle.fq_model.specs.declared.limits.TheConstants.{LEAST_ENTRIES, MOST_ENTRIES}
 use Rattle.fq_model.specs.Simulated.{needed_entries}
 use Rattle.trace_runner.specs.Plan.{IsPlan}

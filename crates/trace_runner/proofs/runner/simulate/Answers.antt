@@ -1,12 +1,11 @@
-use Rattle.std.proofs.Common.{arith, ap, subst, sym, ◌≡◌, ◌≤◌, ◌∙◌, replicate, None}
+use Rattle.std.proofs.Common.{arith, ap, subst, ◌≤◌, ◌∙◌}
 use Rattle.fq_model.specs.declared.limits.TheConstants.{MOST_ENTRIES}
 use Rattle.fq_model.specs.Courses.{submitters}
 use Rattle.fq_model.specs.Simulated.{needed_entries}
 use Rattle.sched_state.specs.Scheduler.{SchedulerView}
-use Rattle.trace_runner.specs.declared.agenda.Agenda.{Agenda}
-use Rattle.trace_runner.specs.Agenda.{NothingNext}
+use Rattle.trace_runner.specs.Agenda.{NothingNext, opened_agenda}
 use Rattle.trace_runner.specs.Plan.{IsPlan}
-use Rattle.trace_runner.proofs.Ending.{first_agenda, simulated, simulates_first, past_low}
+use Rattle.trace_runner.proofs.Ending.{simulated, simulates_first, past_low}
 use Rattle.trace_runner.proofs.runner.simulate.Goals as goal
 
 pub events-init : goal.events-init
@@ -16,7 +15,7 @@ events-init g c =
     simulates_first c.args.trace.now c.args.options c.in_ok-scheduler.scheduler c.in_ok-agenda.agenda plan
     (ap (λ (s : SchedulerView _). s.config) c.in_ok-scheduler.ensures ∙ c.in_ok-config.ensures)
     (ap (λ (s : SchedulerView _). s.past) c.in_ok-scheduler.ensures)
-    (c.in_ok-agenda.ensures.opened ∙ ap (λ n. let a : Agenda = record { staff = replicate c.args.options.workers None; first_caller = n; moment = 0; submitted = 0; waiting = 0 } in a) (c.submitters.ensures.count ∙ ap submitters c.rows.ensures))
+    (c.in_ok-agenda.ensures.opened ∙ ap (opened_agenda c.args.options.workers) (c.submitters.ensures.count ∙ ap submitters c.rows.ensures))
 
 pub events-smaller : goal.events-smaller
 events-smaller g c = omega (arith, past_low c.args.trace.now c.args.options _ _ c.step.ensures.simulates, c.step.ensures.grows)

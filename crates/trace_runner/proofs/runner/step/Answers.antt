@@ -1,6 +1,4 @@
-use Rattle.std.proofs.Common.{arith, ap, length, ◌≡◌, ◌≤◌, ◌<◌, ◌∙◌, sym, subst}
-use Rattle.fq_model.specs.declared.event.Reply.TheVariants as answer
-use Rattle.trace_runner.specs.declared.agenda.What.{What}
+use Rattle.std.proofs.Common.{arith, ap, length, ◌∙◌, subst}
 use Rattle.trace_runner.specs.declared.agenda.What.TheVariants as what
 use Rattle.trace_runner.specs.Agenda.{IsNext}
 use Rattle.trace_runner.specs.Plan.{row_at}

@@ -1,4 +1,4 @@
-use Rattle.std.proofs.Common.{◌≡◌, subst, sym, MatchOption}
+use Rattle.std.proofs.Common.{subst}
 use Rattle.trace_runner.specs.Staff.{IsFirstIdle, NoneIdle}
 use Rattle.trace_runner.proofs.Trees.{first_idle_is, none_idle}
 use Rattle.trace_runner.proofs.staff.Staff.first_idle.Goals as goal

@@ -1,4 +1,4 @@
-use Rattle.std.proofs.Common.{◌≡◌, ◌∙◌, sym, subst, get_or, None, Some, MatchOption, length, ◌<◌, arith}
+use Rattle.std.proofs.Common.{◌≡◌, ◌∙◌, sym, subst, None, Some, length, ◌<◌}
 use Rattle.std.proofs.lemmas.List.{get_or_read}
 use Rattle.trace_runner.specs.Staff.{IsFirstWork, NoneWorks, work_at}
 use Rattle.trace_runner.proofs.Trees.{first_work_is, none_works, first_work_known}

@@ -1,4 +1,4 @@
-use Rattle.std.proofs.Common.{◌≡◌, ◌<◌, ◌∙◌, sym, subst, get_or, None, Some, arith, length, replicate, rules}
+use Rattle.std.proofs.Common.{◌≡◌, None, Some, arith, replicate, rules}
 use Rattle.trace_runner.proofs.Trees.{opened_staff, all_idle, no_key}
 use Rattle.trace_runner.proofs.staff.Staff.open.Goals as goal
 

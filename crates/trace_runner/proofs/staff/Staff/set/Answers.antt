@@ -1,5 +1,5 @@
 use Rattle.std.proofs.Common.{◌≡◌, ◌∙◌, sym, ap, subst, set, ◌<◌, length}
-use Rattle.trace_runner.specs.Staff.{KeepsStaff, busy_key, idle_key}
+use Rattle.trace_runner.specs.Staff.{busy_key, idle_key}
 use Rattle.trace_runner.proofs.Trees.{set_staff}
 use Rattle.trace_runner.proofs.staff.Staff.set.Goals as goal
 

@@ -1,0 +1,17 @@
+//! Laws of simulated histories: the contract of each function is the law, and its body is empty.
+ghost use Rattle.trace_runner.specs.Laws.{OneSimulated, SomeSimulated, EntriesNeeded};
+
+/// A trace and its options fix the simulated history.
+pub fn one_simulated()
+    ensures { OneSimulated }
+{}
+
+/// Where the entries that are needed are not too many, there is one.
+pub fn some_simulated()
+    ensures { SomeSimulated }
+{}
+
+/// It has just those entries.
+pub fn entries_needed()
+    ensures { EntriesNeeded }
+{}
