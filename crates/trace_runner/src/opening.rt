@@ -3,14 +3,12 @@ ghost use Rattle.std.specs.Prelude.{ℕ, ◌≡◌, ◌+◌, ◌≤◌, ◌<◌,
 ghost use Rattle.fq_model.specs.Courses.{submitters};
 ghost use Rattle.fq_model.specs.Simulated.{needed_entries, run_config};
 ghost use Rattle.fq_model.specs.TraceText.{IsLawfulTrace};
-ghost use Rattle.tenant_table.specs.Names.{weights_of};
 ghost use Rattle.trace_runner.specs.Plan.{AreInRange, row_at};
 
 use fq_model::config::{Checked, Config, Weights};
 use fq_model::limits::{GREATEST_SUBMITTER, LEAST_ENTRIES, MOST_ENTRIES};
 use fq_model::trace::{RunOptions, TraceRow};
 use std::alloc::{AllocError, Global};
-use tenant_table::tenants::Tenants;
 use trace_reader::trace::Trace;
 
 /// The configuration of a simulation that needs so many entries: all requests may wait at once.
@@ -28,7 +26,7 @@ pub fn config_of(
 {
     let config = Config {
         workers: options.workers,
-        weights: Weights::from_vec(weights(alloc, trace.tenants())?),
+        weights: Weights::from_vec(trace.tenants().weights(alloc)?),
         kinds: trace.kinds().len(),
         entries: needed.max(LEAST_ENTRIES),
         requests: trace.rows().len().max(1) as u32,
@@ -40,17 +38,6 @@ pub fn config_of(
         Ok(checked) => Ok(checked),
         Err(_) => unreachable!(),
     }
-}
-
-// The weights, by tenant.
-fn weights(alloc: Global, tenants: &Tenants) -> Result<Vec<u32>, AllocError>
-    ensures { IfOk result (λ v. v.items ≡ weights_of tenants.now) }
-{
-    let mut weights = Vec::new(alloc);
-    for t in 0..tenants.len() {
-        weights.push(tenants.weight(t))?;
-    }
-    Ok(weights)
 }
 
 /// The number of submitters: one more than the greatest that a request names, or 1 where there are no requests. The
