@@ -71,7 +71,8 @@ abbrev pub MayCome : Agenda → List TraceRow → ℕ → What → Type 0
 MayCome a rows m (what.Report i w) = (work_at a.staff i ≡ Some w) × IsSmall w × (w.due < w.cost) × (m ≡ work_moment w)
 MayCome a rows m (what.Done i w) = (work_at a.staff i ≡ Some w) × IsSmall w × (w.due ≡ w.cost) × (m ≡ work_moment w)
 MayCome a rows m (what.Submit row) = (slice_get rows a.submitted ≡ Some row) × (m ≡ row.moment)
-MayCome a rows m (what.Take i) = IsIdle a.staff i × ((j : ℕ) → IsIdle a.staff j → i ≤ j) × (1 ≤ a.waiting) × (m ≡ a.moment)
+MayCome a rows m (what.Take i) =
+    IsIdle a.staff i × ((j : ℕ) → IsIdle a.staff j → i ≤ j) × (1 ≤ a.waiting) × (m ≡ a.moment)
 
 -- nothing waits, or each worker serves a request
 abbrev pub NoneTakes : Agenda → Type 0

@@ -9,7 +9,9 @@ use Rattle.trace_runner.specs.Plan.{IsPlan}
 
 -- a lawful trace has one simulated history under its options at most
 abbrev pub OneSimulated : Type 0
-OneSimulated = (T : Trace) (O : RunOptions) (H K : History) → IsLawfulTrace T → IsSimulated T O H → IsSimulated T O K → H ≡ K
+OneSimulated =
+    (T : Trace) (O : RunOptions) (H K : History) →
+    IsLawfulTrace T → IsSimulated T O H → IsSimulated T O K → H ≡ K
 
 -- a trace and options that can be simulated have a simulated history
 abbrev pub SomeSimulated : Type 0
@@ -17,4 +19,6 @@ SomeSimulated = (T : Trace) (O : RunOptions) → IsPlan T O → (H : History) ×
 
 -- a simulated history has just the entries that are needed
 abbrev pub EntriesNeeded : Type 0
-EntriesNeeded = (T : Trace) (O : RunOptions) (H : History) → IsPlan T O → IsSimulated T O H → length H ≡ needed_entries T.rows O.refresh
+EntriesNeeded =
+    (T : Trace) (O : RunOptions) (H : History) →
+    IsPlan T O → IsSimulated T O H → length H ≡ needed_entries T.rows O.refresh

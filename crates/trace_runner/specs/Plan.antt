@@ -20,7 +20,8 @@ pub record AreInRange (O : RunOptions) : Type 0 where
 
 -- row r, or zeros past the end
 abbrev pub row_at : List TraceRow → ℕ → TraceRow
-row_at rows r = slice_index_or rows r (record { moment = 0; submitter = 0; tenant = 0; kind = 0; declared = 0; cost = 0 })
+row_at rows r =
+    slice_index_or rows r (record { moment = 0; submitter = 0; tenant = 0; kind = 0; declared = 0; cost = 0 })
 
 -- the costs of requests are within their limits
 abbrev pub AreCosts : List TraceRow → Type 0

@@ -39,7 +39,8 @@ pub record Serves (T : Trace) (O : RunOptions) (P : History) (i : ℕ) (w : Work
   pub below : reports * O.refresh < w.cost
   pub no_reports : O.refresh ≡ 0 → reports ≡ 0
   pub estimate : ℕ
-  pub course_is : course P request ≡ timed (worker_caller T.rows i) w.start (with_reports i request O.refresh reports (Take i request estimate ∷ []))
+  pub course_is : course P request ≡ timed (worker_caller T.rows i) w.start
+      (with_reports i request O.refresh reports (Take i request estimate ∷ []))
   pub used_is : last_use P request ≡ reports * O.refresh
   pub in_time : InTime P (w.start + w.cost)
 
@@ -56,7 +57,8 @@ pub record Keeps (T : Trace) (O : RunOptions) (P : History) (a : Agenda) : Type 
   pub rows_left : submits P ≤ length T.rows
   pub workers : length a.staff ≡ O.workers
   pub requests : filter (λ e. is_submit e.act) P ≡ history_of (row_submits 0 (take (submits P) T.rows))
-  pub served : (r : ℕ) (row : TraceRow) → slice_get T.rows r ≡ Some row → is_done P r ≡ true → IsServed T O.refresh P r row
+  pub served : (r : ℕ) (row : TraceRow) → slice_get T.rows r ≡ Some row → is_done P r ≡ true →
+      IsServed T O.refresh P r row
   pub works : (i : ℕ) (w : Work) → work_at a.staff i ≡ Some w → Serves T O P i w
   pub idle : (i : ℕ) → work_at a.staff i ≡ None → running_on P i ≡ None
   pub in_turn : Each InTurn P

@@ -7,7 +7,11 @@ use Rattle.fq_model.specs.Simulated.{RankBefore}
 
 -- what a worker serves that takes a request at the start: its first Report is at refresh, if that is below the cost
 abbrev pub new_work : ℕ → ℕ → ℕ → Work
-new_work start cost refresh = record { start = start; cost = cost; due = if refresh == 0 then cost else min refresh cost }
+new_work start cost refresh = record {
+  start = start;
+  cost = cost;
+  due = if refresh == 0 then cost else min refresh cost;
+}
 
 -- the same after its Report: the next is one refresh later, if that is below the cost
 abbrev pub reported_work : Work → ℕ → Work

@@ -3,7 +3,8 @@ ghost use Rattle.std.specs.Prelude.{◌≡◌, ◌+◌, ◌<◌, ◌≤◌, IfOk
 ghost use Rattle.trace_runner.specs.declared.fault.SimFault.TheVariants as faults;
 ghost use Rattle.trace_runner.specs.Staff.{IsSmall};
 ghost use Rattle.trace_runner.specs.Agenda.{opened_agenda, after_work, after_submit, after_take};
-ghost use Rattle.trace_runner.specs.Agenda.{event_of_work, event_of_row, comes_by, IsTimed, NothingTimed, IsNext, NothingNext};
+ghost use Rattle.trace_runner.specs.Agenda.{event_of_work, event_of_row, comes_by};
+ghost use Rattle.trace_runner.specs.Agenda.{IsTimed, NothingTimed, IsNext, NothingNext};
 
 use crate::fault::SimFault;
 use crate::staff::{Staff, Work};

@@ -20,7 +20,7 @@ pub fn needed(trace: &Trace, refresh: u64) -> u64
     3 * rows.len() as u64 + 1 + planned(rows, refresh)
 }
 
-// The Reports of all rows.
+// How many Reports all rows have.
 fn planned(rows: &[TraceRow], refresh: u64) -> u64
     requires few { length rows.now ≤ MOST_ROWS }
     requires costs { AreCosts rows.now }
@@ -34,7 +34,7 @@ fn planned(rows: &[TraceRow], refresh: u64) -> u64
     sum
 }
 
-// The Reports of a request of this cost: there is none at the cost itself, where the Done stands.
+// How many a request of this cost has: there is none at the cost itself, where the Done stands.
 #[tactic(auto, unfolding(fq_model::specs::Courses::reports_below))]
 fn reports_below(refresh: u64, cost: u64) -> u64
     requires low { 1 ≤ cost }

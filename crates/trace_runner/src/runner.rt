@@ -20,12 +20,12 @@ use sched_state::{Scheduler, Taken};
 use std::alloc::Global;
 use trace_reader::trace::Trace;
 
-/// The simulated history of a trace, on the scheduler that made it: each request comes at its row's moment, runs for its
-/// cost from its Take on, and is reported after each `refresh` microseconds of that. At one moment Reports are before
-/// Dones, Dones before Submits, and Submits before Takes; each go by worker, and Submits by row. No worker is idle while
-/// a request waits. Worker i is the caller that is i above the submitters, and a label is its row's number, from 0.
-/// An entry costs what the scheduler's call costs, and the logarithm of the number of workers. A fault before the
-/// opening is `TooManyEntries`; all memory is taken at the opening.
+/// The simulated history of a trace, on the scheduler that made it. Each request comes at its row's moment, runs for
+/// its cost from its Take on, and is reported after each `refresh` microseconds of that. At one moment Reports are
+/// before Dones, Dones before Submits, and Submits before Takes; these go by worker, and Submits by row. No worker is
+/// idle while a request waits. Submitters are the callers from 0 on, workers those that follow, and labels are the
+/// rows' numbers from 0. An entry costs what the scheduler's call costs, and the logarithm of the number of workers.
+/// All memory is taken at the opening, and none where there would be too many entries.
 pub fn simulate<X: Chooser + Drop>(
     alloc: Global,
     trace: &Trace,

@@ -2,6 +2,7 @@
 ghost use Rattle.std.specs.Prelude.{◌<◌};
 
 use crate::fault::SimFault;
+use crate::needed::needed;
 use crate::runner::simulate;
 use fq_model::config::{Estimator, Policy};
 use fq_model::event::{Act, Entry};
@@ -22,7 +23,7 @@ fn submit(who: u32, moment: u64, request: u32, tenant: u32, kind: u32, declared:
     Entry { who, moment, act }
 }
 
-// Where there is one submitter, the workers are the callers from 1 on.
+// The submitters are the callers 0 and 1, so worker 0 is caller 2.
 fn take(moment: u64, worker: u32, request: u32, estimate: u64) -> Entry
     requires { worker < 64 }
 {
@@ -116,6 +117,7 @@ fn running_requests_are_reported(rt: HostRuntime) -> Result<(), Fail> {
     let trace = read(rt.alloc(), REALISTIC.as_bytes())?;
     let scheduler: Scheduler<u64, PlainChooser> = simulate(rt.alloc(), &trace, DEFAULTS)?;
     let past = scheduler.past();
+    assert_eq!(rt; needed(&trace, DEFAULTS.refresh), 44);
     assert_eq!(rt; past.len(), 44);
     assert_eq!(rt; scheduler.config().entries(), 44);
     let first = [(3, 0, 0), (4, 1, 2), (5, 2, 1)];

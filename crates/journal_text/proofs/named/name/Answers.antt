@@ -1,4 +1,4 @@
-use Rattle.std.proofs.Common.{◌∙◌, sym}
+use Rattle.std.proofs.Common.{sym}
 use Rattle.journal_text.proofs.Names.{no_name}
 use Rattle.journal_text.proofs.named.name.Goals as goal
 

@@ -1,4 +1,4 @@
-use Rattle.std.proofs.Common.{◌≡◌, ◌≤◌, ◌++◌, ◌+◌, [], ◌∷◌, length, drop, rules, arith}
+use Rattle.std.proofs.Common.{◌≡◌, ◌++◌, ◌+◌, [], ◌∷◌, length, drop, rules, arith}
 use Rattle.std.specs.Prelude.{codes}
 use Rattle.fq_model.specs.JournalText.{tenants_text}
 use Rattle.tenant_table.specs.Names.{names_of}
