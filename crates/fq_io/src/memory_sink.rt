@@ -79,11 +79,14 @@ impl Sink for MemSink {
 
     ghost faults = { λ s. s.faults };
 
+    ghost room = { λ s. Some s.room };
+
     /// Takes no memory.
     fn write(&mut self, piece: &[u8]) -> Result<usize, Failed>
         ensures some { TakesSome result piece.now }
         ensures bytes { WriteAppends (Some self.old.written) (Some self.new.written) result piece.now }
         ensures cause { HasCause self.old.faults self.new.faults result }
+        ensures fixed { Some self.new.room ≡ Some self.old.room }
 
         // Exactly what a call does.
         ensures failed { IsErr result ↔ IsTrue (refuses self.old (length piece.now)) }

@@ -1,5 +1,5 @@
 //! The adapter over std's writers.
-ghost use Rattle.std.specs.Prelude.{◌≡◌, ℕ, ◌-◌, ◌^◌, ◌≤◌, None};
+ghost use Rattle.std.specs.Prelude.{◌≡◌, ℕ, Option, ◌-◌, ◌^◌, ◌≤◌, None};
 ghost use Rattle.std.specs.Io.KnownBytes.{WriteAppends};
 ghost use Rattle.fq_io.specs.Faults.{HasCause, faults_after};
 ghost use Rattle.fq_io.specs.Sinks.{TakesSome};
@@ -51,11 +51,14 @@ impl<W: Write> Sink for StdSink<W> {
 
     ghost faults = { λ s. s };
 
+    ghost room = { λ _. None };
+
     /// Any error of the writer is a fault, an interrupted call too, and so is a flush that fails.
     fn write(&mut self, piece: &[u8]) -> Result<usize, Failed>
         ensures some { TakesSome result piece.now }
         ensures bytes { WriteAppends None None result piece.now }
         ensures cause { HasCause self.old self.new result }
+        ensures fixed { ◌≡◌ {A = Option ℕ} None None }
         ensures count { self.new ≡ faults_after result self.old }
     {
         let answer = push(&mut self.writer, piece);

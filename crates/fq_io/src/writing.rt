@@ -1,5 +1,5 @@
 //! Writing a text to its end.
-ghost use Rattle.std.specs.Prelude.{◌≤◌, length, OnOk, OnErr};
+ghost use Rattle.std.specs.Prelude.{◌≡◌, ◌≤◌, length, OnOk, OnErr};
 ghost use Rattle.std.specs.Io.KnownBytes.{Appends};
 ghost use Rattle.fq_io.specs.Faults.{Rose};
 ghost use Rattle.fq_io.specs.Sinks.{AppendsPart};
@@ -25,6 +25,7 @@ pub fn write_all<S: Sink>(sink: &mut S, bytes: &[u8]) -> Result<(), WriteFault>
     ensures cause { OnErr result (Rose (S.faults sink.old) (S.faults sink.new)) }
     ensures part { OnErr result (AppendsPart (S.written sink.old) (S.written sink.new) bytes.now) }
     ensures later { S.faults sink.old ≤ S.faults sink.new }
+    ensures fixed { S.room sink.new ≡ S.room sink.old }
 {
     let mut at = 0;
     'writing: while at < bytes.len() {

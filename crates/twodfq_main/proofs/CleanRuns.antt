@@ -1,13 +1,15 @@
 -- Runs over memory that never fails.
 use Rattle.std.proofs.Common.{ℕ, ◌<◌, ◌≡◌, ◌≢◌, ◌∙◌, sym, ap, refl, arith, List, [], length, Option, Some, None, Result, Ok, Err}
+use Rattle.fq_io.specs.Clean.{CleanMemory, IsClean}
 use Rattle.fq_io.specs.Faults.{Rose}
 use Rattle.fq_io.specs.Sinks.{AppendsPart}
+use Rattle.fq_io.specs.Sources.{GaveAll}
 use Rattle.fq_io.proofs.Clean.{stays_zero, never_full}
 use Rattle.fq_model.specs.declared.command.Command.{Command}
 use Rattle.fq_model.specs.Lines as lines
-use Rattle.twodfq_main.specs.Commands.{asked}
-use Rattle.twodfq_main.specs.Program.{Move, Device, Fails, Ends, IsRun, IsAnswered, FailsWriting, status_of}
-use Rattle.twodfq_main.specs.Laws.{NeverFailsReading, NeverFailsWriting, IsCleanSink, IsCleanSource}
+use Rattle.twodfq_main.specs.Commands.{asked, Outputs}
+use Rattle.twodfq_main.specs.Program.{Move, Device, Fails, Ends, IsRun, status_of}
+use Rattle.twodfq_main.specs.Laws.{NeverFailsReading, NeverFailsWriting, AreOutputsShorter, IsCleanSink, IsCleanSource}
 use Rattle.twodfq_main.proofs.Runs.{run_means}
 use Rattle.twodfq_main.specs.declared.stop.Stop.{Stop}
 use Rattle.twodfq_main.specs.declared.stop.Stop.TheVariants.{Words, TooLong, Fault, Reading, Writing, NoMemory, TooManyEntries}
@@ -24,20 +26,36 @@ part_fits room sink text clean short fails part =
     let rose : Rose 0 sink.after.faults = rw (ap (λ (d : Device). d.faults) clean.fresh) at fails in
     never_full room written.0 sink.after.faults text clean.written clean.clean short written.2 rose
 
-by_end : (words : lines.Words) (ask : Option Command) (source sink : Move) (end : Result (Unit {0}) Stop) (room : ℕ) → asked words ≡ ask → Ends ask source sink end
-    → IsCleanSink room sink → ((command : Command) (text : List ℕ) → asked words ≡ Some command → IsAnswered command source text → length text < room)
-    → status_of end ≢ 5
-by_end words None source sink end room is ends clean short five = omega (arith, rw ends.0 at five)
-by_end words (Some command) source sink (Ok done) room is ends clean short five = omega (arith, five)
-by_end words (Some command) source sink (Err Words) room is ends clean short five = ends
-by_end words (Some command) source sink (Err TooLong) room is ends clean short five = omega (arith, five)
-by_end words (Some command) source sink (Err (Fault message)) room is ends clean short five = omega (arith, five)
-by_end words (Some command) source sink (Err Reading) room is ends clean short five = omega (arith, five)
-by_end words (Some command) source sink (Err NoMemory) room is ends clean short five = omega (arith, five)
-by_end words (Some command) source sink (Err (TooManyEntries message)) room is ends clean short five = omega (arith, five)
-by_end words (Some command) source sink (Err Writing) room is ends clean short five =
-    part_fits room sink ends.text clean (short command ends.text is ends.answered) ends.wrote.0 ends.wrote.1
+-- a told input is what was read
+told_input : (input read : List ℕ) (left : Option (List ℕ)) → GaveAll (Some input) left read → read ≡ input
+told_input input read None gave = absurd gave
+told_input input read (Some ys) gave = gave.0
+
+by_end : (words : lines.Words) (ask : Option Command) (source sink : Move) (end : Result (Unit {0}) Stop) (room : ℕ) (input : List ℕ) → asked words ≡ ask
+    → Ends ask source sink end → source.before.bytes ≡ Some input → IsCleanSink room sink → AreOutputsShorter room words input → status_of end ≢ 5
+by_end words None source sink end room input is ends told clean short five = omega (arith, rw ends.0 at five)
+by_end words (Some command) source sink (Ok done) room input is ends told clean short five = omega (arith, five)
+by_end words (Some command) source sink (Err Words) room input is ends told clean short five = ends
+by_end words (Some command) source sink (Err TooLong) room input is ends told clean short five = omega (arith, five)
+by_end words (Some command) source sink (Err (Fault message)) room input is ends told clean short five = omega (arith, five)
+by_end words (Some command) source sink (Err Reading) room input is ends told clean short five = omega (arith, five)
+by_end words (Some command) source sink (Err NoMemory) room input is ends told clean short five = omega (arith, five)
+by_end words (Some command) source sink (Err (TooManyEntries message)) room input is ends told clean short five = omega (arith, five)
+by_end words (Some command) source sink (Err Writing) room input is ends told clean short five =
+    let gave : GaveAll (Some input) source.after.bytes ends.answered.input = rw told at ends.answered.read in
+    let same : ends.answered.input ≡ input = told_input input ends.answered.input source.after.bytes gave in
+    part_fits room sink ends.text clean (short command ends.text is (rw same at ends.answered.output)) ends.wrote.0 ends.wrote.1
 
 pub no_writing : NeverFailsWriting
-no_writing words source sink errs status room run clean short five =
-    by_end words (asked words) source sink run.end room refl run.ends clean short (sym run.status_is ∙ five)
+no_writing words source sink errs status room input run told clean short five =
+    by_end words (asked words) source sink run.end room input refl run.ends told clean short (sym run.status_is ∙ five)
+
+-- the same of a clean sink before and after
+pub never_writes : (old new : CleanMemory) {words : lines.Words} {left : Option (List ℕ)} {left_faults faults : ℕ} {input : List ℕ} {errs : Move} {status : ℕ}
+    → old.written ≡ [] → old.faults ≡ 0 → Some new.room ≡ Some old.room → IsClean new.room new.written new.faults
+    → IsRun words (record { before = record { bytes = Some input; faults = faults }; after = record { bytes = left; faults = left_faults } })
+    (record { before = record { bytes = Some old.written; faults = old.faults }; after = record { bytes = Some new.written; faults = new.faults } }) errs status
+    → AreOutputsShorter old.room words input → status ≢ 5
+never_writes old new {words} {left} {left_faults} {faults} {input} {errs} {status} written none room clean run short five =
+    let same : new.room ≡ old.room = cc in
+    no_writing words _ _ errs status old.room input run refl (record { fresh = rw (written, none) refl; written = new.written; told = refl; clean = rw same at clean }) short five

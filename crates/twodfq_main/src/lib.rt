@@ -1,6 +1,8 @@
 //! The program over any source and sinks.
 #![tactic(auto)]
 
+#[cfg(test)]
+mod clean_tests;
 pub mod laws;
 pub mod program;
 mod script;

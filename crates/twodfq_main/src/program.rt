@@ -37,6 +37,7 @@ pub fn twodfq<T: Wait + Threads + Sync, R: Source, W: Sink, E: Sink, K: Clock + 
         (moved W.written W.faults sink.old sink.new) (moved E.written E.faults errs.old errs.new) result }
     ensures status { StatusMeans (map string_bytes words.now) (moved R.left R.faults source.old source.new)
         (moved W.written W.faults sink.old sink.new) result }
+    ensures sink_room { W.room sink.new ≡ W.room sink.old }
 {
     plain(alloc, words, source, sink, errs)
 }
@@ -53,6 +54,7 @@ pub fn plain<R: Source, W: Sink, E: Sink>(
         (moved W.written W.faults sink.old sink.new) (moved E.written E.faults errs.old errs.new) result }
     ensures status { StatusMeans (map string_bytes words.now) (moved R.left R.faults source.old source.new)
         (moved W.written W.faults sink.old sink.new) result }
+    ensures sink_room { W.room sink.new ≡ W.room sink.old }
 {
     told_run(alloc, words, source, sink, errs)
 }
@@ -65,8 +67,9 @@ fn told_run<R: Source, W: Sink, E: Sink>(
     sink: &mut W,
     errs: &mut E,
 ) -> u8
-    ensures { IsRun (map string_bytes words.now) (moved R.left R.faults source.old source.new)
+    ensures run { IsRun (map string_bytes words.now) (moved R.left R.faults source.old source.new)
         (moved W.written W.faults sink.old sink.new) (moved E.written E.faults errs.old errs.new) result }
+    ensures sink_room { W.room sink.new ≡ W.room sink.old }
 {
     match run(alloc, words, source, sink) {
         Ok(()) => 0,
@@ -95,6 +98,7 @@ fn run<R: Source, W: Sink>(
         (moved W.written W.faults sink.old sink.new) result }
     ensures source_later { R.faults source.old ≤ R.faults source.new }
     ensures sink_later { W.faults sink.old ≤ W.faults sink.new }
+    ensures sink_room { W.room sink.new ≡ W.room sink.old }
 {
     match command(words) {
         Some(Command::Script { print }) => run_script(alloc, print, source, sink),
@@ -119,6 +123,7 @@ fn run_script<R: Source, W: Sink>(
         (moved W.written W.faults sink.old sink.new) result }
     ensures source_later { R.faults source.old ≤ R.faults source.new }
     ensures sink_later { W.faults sink.old ≤ W.faults sink.new }
+    ensures sink_room { W.room sink.new ≡ W.room sink.old }
 {
     let input = read_all(alloc, source, GREATEST_INPUT)?;
     let text = served_text(alloc, print, input.as_slice())?;
@@ -138,6 +143,7 @@ fn run_trace<R: Source, W: Sink>(
         (moved W.written W.faults sink.old sink.new) result }
     ensures source_later { R.faults source.old ≤ R.faults source.new }
     ensures sink_later { W.faults sink.old ≤ W.faults sink.new }
+    ensures sink_room { W.room sink.new ≡ W.room sink.old }
 {
     let input = read_all(alloc, source, GREATEST_INPUT)?;
     let text = simulated_text(alloc, options, input.as_slice())?;

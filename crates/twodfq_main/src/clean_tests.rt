@@ -1,0 +1,41 @@
+//! The program over memory that never fails.
+ghost use Rattle.std.specs.Prelude.{◌≡◌, ◌≢◌, [], map};
+ghost use Rattle.std.specs.String.{string_bytes};
+ghost use Rattle.twodfq_main.specs.Laws.{AreOutputsShorter};
+
+use crate::program::plain;
+use crate::tests::{SERVED, SERVED_REPLIES};
+use fq_io::{CleanSink, CleanSource};
+use std::alloc::Global;
+use std::test::Fail;
+
+// Where the sink has more room than the output has bytes, neither reading nor writing can fail.
+fn clean_run(
+    alloc: Global,
+    words: &[String],
+    source: &mut CleanSource,
+    sink: &mut CleanSink,
+    errs: &mut CleanSink,
+) -> u8
+    requires written { sink.old.written ≡ [] }
+    requires faults { sink.old.faults ≡ 0 }
+    requires room { AreOutputsShorter sink.old.room (map string_bytes words.now) source.old }
+    ensures reads { result ≢ 4 }
+    ensures writes { result ≢ 5 }
+{
+    let status = plain(alloc, words, source, sink, errs);
+    let _ = sink.bytes();
+    status
+}
+
+#[test]
+fn memory_never_fails(rt: HostRuntime) -> Result<(), Fail> {
+    let words = [String::from_str(rt.alloc(), "script")?];
+    let mut source = CleanSource::new(SERVED.as_bytes().to_vec(rt.alloc())?);
+    let mut sink = CleanSink::with_room(rt.alloc(), 1000)?;
+    let mut errs = CleanSink::with_room(rt.alloc(), 1000)?;
+    let status = plain(rt.alloc(), &words, &mut source, &mut sink, &mut errs);
+    assert_eq!(rt; status, 0);
+    assert_eq!(rt; sink.bytes(), SERVED_REPLIES.as_bytes());
+    Ok(())
+}
