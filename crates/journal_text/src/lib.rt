@@ -5,6 +5,8 @@ pub mod body;
 pub mod calls;
 pub mod document;
 pub mod fault;
+#[cfg(test)]
+mod fault_tests;
 mod head;
 pub mod laws;
 mod lines;
