@@ -6,7 +6,7 @@ use std::test::Fail;
 
 #[test]
 fn reads_a_script(rt: HostRuntime) -> Result<(), Fail> {
-    let text = "script 2\nconfig 1 2dfq declared 1000 100 10\ntenant a 1\ntenant b 1\nkind get\n\
+    let text = "script 2\nconfig 1 2dfq declared 1000 100 10\ntenant a 1\ntenant b 3\nkind get\n\
         submit 0 0 0 0 5 7\ntake 9 0 0\ndone 9 5 0 5\nreport 9 5 0 3\nclose 0 5\n\
         weight 4 7 5 4294967295\nworkers 6 18446744073709551615 0\n";
     let script = read_script(rt.alloc(), text.as_bytes())?;
@@ -17,7 +17,7 @@ fn reads_a_script(rt: HostRuntime) -> Result<(), Fail> {
     assert_eq!(rt; config.initial(), 1000);
     assert_eq!(rt; config.entries(), 100);
     assert_eq!(rt; config.requests(), 10);
-    assert_eq!(rt; config.tenants(), 2);
+    assert_eq!(rt; config.weights(), [1, 3].as_slice());
     assert_eq!(rt; config.kinds(), 1);
     assert_eq!(rt; script.tenants().len(), 2);
     assert_eq!(rt; script.tenants().name(1) == "b", true);
