@@ -20,15 +20,18 @@ pub struct Wanted<'a> {
     pub told: &'a str,
 }
 
+/// A source of these bytes that never fails.
 pub fn source_of(alloc: Global, input: &str) -> Result<MemSource, Fail> {
     let bytes = input.as_bytes().to_vec(alloc)?;
     Ok(MemSource::new(bytes, 4096, Vec::new(alloc)))
 }
 
+/// A sink with room for 1000 bytes that never fails.
 pub fn sink(alloc: Global) -> Result<MemSink, Fail> {
     Ok(MemSink::new(alloc, 1000, 1000, Vec::new(alloc))?)
 }
 
+/// Runs `plain`, and compares its status, what was written and what was told with what is wanted.
 pub fn check(
     rt: &impl Abort,
     alloc: Global,
