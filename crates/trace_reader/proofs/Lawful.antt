@@ -98,22 +98,22 @@ tenant-below names fields k t h =
 -- ---- one record more
 
 -- what holds of a trace that is being read
-record IsKept (t : Trace) : Type 0 where
-  tenants : AreNames MOST_TENANTS t.tenants
-  kinds : AreNames MOST_KINDS t.kinds
-  pairs : length t.tenants * length t.kinds ≤ MOST_PAIRS
-  weighed : length t.weights ≡ length t.tenants
-  weights : All IsWeight t.weights
-  few : length t.rows ≤ MOST_ROWS
-  rows : All (IsLawfulRow (length t.tenants) (length t.kinds)) t.rows
-  in_order : IsNonDecreasing (map (λ row. row.moment) t.rows)
+pub record IsKept (t : Trace) : Type 0 where
+  pub tenants : AreNames MOST_TENANTS t.tenants
+  pub kinds : AreNames MOST_KINDS t.kinds
+  pub pairs : length t.tenants * length t.kinds ≤ MOST_PAIRS
+  pub weighed : length t.weights ≡ length t.tenants
+  pub weights : All IsWeight t.weights
+  pub few : length t.rows ≤ MOST_ROWS
+  pub rows : All (IsLawfulRow (length t.tenants) (length t.kinds)) t.rows
+  pub in_order : IsNonDecreasing (map (λ row. row.moment) t.rows)
 
-record IsFew (t u : Trace) : Type 0 where
-  tenants : length t.tenants ≤ MOST_TENANTS
-  kinds : length t.kinds ≤ MOST_KINDS
-  rows : length t.rows ≤ MOST_ROWS
-  pairs : length t.tenants * length t.kinds ≤ MOST_PAIRS
-  same : t ≡ u
+pub record IsFew (t u : Trace) : Type 0 where
+  pub tenants : length t.tenants ≤ MOST_TENANTS
+  pub kinds : length t.kinds ≤ MOST_KINDS
+  pub rows : length t.rows ≤ MOST_ROWS
+  pub pairs : length t.tenants * length t.kinds ≤ MOST_PAIRS
+  pub same : t ≡ u
 
 few : (a b c d : Bool) (t u : Trace) → (if a || (b || (c || d)) then Err TooMany else Ok t) ≡ Ok u → (a ≡ false) × (b ≡ false) × (c ≡ false) × (d ≡ false) × (t ≡ u)
 few true b c d t u h = absurd (cc)
@@ -206,6 +206,26 @@ in_order-push rows row order last = rw (map-append (λ r. r.moment) rows (row �
         let place : length (map (λ r. r.moment) (r ∷ rs)) - 1 ≡ length rs = omega (arith, length-map rs (λ r. r.moment)) in
         rw (place, last-moment r rs d) last
 
+-- one request more, whose numbers are within their limits
+pub with_row-kept : (t u : Trace) (moment submitter tenant : ℕ) (kind : List ℕ) (declared cost : ℕ) → IsKept t → IsFew (with_row t moment submitter tenant kind declared cost) u
+    → (moment ≤ GREATEST_TRACE_MOMENT) × (last_row_moment t.rows ≤ moment) → submitter ≤ GREATEST_SUBMITTER → tenant < length t.tenants → is_name kind ≡ true
+    → IsWithin 1 GREATEST_COST declared → IsWithin 1 GREATEST_COST cost → IsKept u
+with_row-kept t u moment submitter tenant kind declared cost kept is_few after caller known spelled declared_within cost_within =
+    let kinds = kinds_after t.kinds kind (number_among t.kinds kind) refl kept.kinds spelled is_few.kinds in
+    let row : TraceRow = record { moment = moment; submitter = submitter; tenant = tenant; kind = number_by_appearance t.kinds kind; declared = declared; cost = cost } in
+    subst IsKept {x = with_row t moment submitter tenant kind declared cost} is_few.same (record {
+      tenants = kept.tenants;
+      kinds = kinds.names;
+      pairs = is_few.pairs;
+      weighed = kept.weighed;
+      weights = kept.weights;
+      few = is_few.rows;
+      rows = All-push (IsLawfulRow (length t.tenants) (length (with_appearance t.kinds kind))) t.rows row
+          (λ k d b. widen (length t.tenants) (length t.tenants) (length t.kinds) (length (with_appearance t.kinds kind)) (get_or t.rows k d) (omega arith) kinds.more (kept.rows k d b))
+          (record { moment = after.0; submitter = caller; tenant = known; kind = kinds.number; declared = declared_within; cost = cost_within });
+      in_order = in_order-push t.rows row kept.in_order after.1;
+    })
+
 with_request-kept : (t u : Trace) (whole : Record) → IsKept t → with_request t whole ≡ Ok u → IsKept u
 unfolding with_request
 with_request-kept t u whole kept h =
@@ -216,30 +236,14 @@ with_request-kept t u whole kept h =
     let kind = bind_ok (name_at fields.0 4) _ u tenant.2 in
     let declared = bind_ok (ranged_at fields.0 5 1 GREATEST_COST) _ u kind.2 in
     let cost = bind_ok (ranged_at fields.0 6 1 GREATEST_COST) _ u declared.2 in
-    let more : Trace = with_row t moment.0 submitter.0 tenant.0 kind.0 declared.0 cost.0 in
-    let is_few = not_too_many-few more u cost.2 in
-    let after = moment-after t.rows fields.0 1 moment.0 moment.1 in
-    let kinds = kinds_after t.kinds kind.0 (number_among t.kinds kind.0) refl kept.kinds (named fields.0 4 kind.0 kind.1) is_few.kinds in
-    let row : TraceRow = record { moment = moment.0; submitter = submitter.0; tenant = tenant.0; kind = number_by_appearance t.kinds kind.0; declared = declared.0; cost = cost.0 } in
-    subst IsKept {x = more} is_few.same (record {
-      tenants = kept.tenants;
-      kinds = kinds.names;
-      pairs = is_few.pairs;
-      weighed = kept.weighed;
-      weights = kept.weights;
-      few = is_few.rows;
-      rows = All-push (IsLawfulRow (length t.tenants) (length (with_appearance t.kinds kind.0))) t.rows row
-          (λ k d b. widen (length t.tenants) (length t.tenants) (length t.kinds) (length (with_appearance t.kinds kind.0)) (get_or t.rows k d) (omega arith) kinds.more (kept.rows k d b))
-          (record {
-            moment = after.0;
-            submitter = (ranged-within fields.0 2 0 GREATEST_SUBMITTER submitter.0 submitter.1).1;
-            tenant = tenant-below t.tenants fields.0 3 tenant.0 tenant.1;
-            kind = kinds.number;
-            declared = ranged-within fields.0 5 1 GREATEST_COST declared.0 declared.1;
-            cost = ranged-within fields.0 6 1 GREATEST_COST cost.0 cost.1;
-          });
-      in_order = in_order-push t.rows row kept.in_order after.1;
-    })
+    with_row-kept t u moment.0 submitter.0 tenant.0 kind.0 declared.0 cost.0 kept
+    (not_too_many-few (with_row t moment.0 submitter.0 tenant.0 kind.0 declared.0 cost.0) u cost.2)
+    (moment-after t.rows fields.0 1 moment.0 moment.1)
+    (ranged-within fields.0 2 0 GREATEST_SUBMITTER submitter.0 submitter.1).1
+    (tenant-below t.tenants fields.0 3 tenant.0 tenant.1)
+    (named fields.0 4 kind.0 kind.1)
+    (ranged-within fields.0 5 1 GREATEST_COST declared.0 declared.1)
+    (ranged-within fields.0 6 1 GREATEST_COST cost.0 cost.1)
 
 which : {A : Type 0} (test : Bool) (x y r : A) → (if test then x else y) ≡ r → (x ≡ r) ⊎ (y ≡ r)
 which true x y r h = inl h
@@ -261,7 +265,7 @@ with_record-kept t u fields kept h =
 
 -- ---- all records
 
-no_names : (limit : ℕ) → AreNames limit []
+pub no_names : (limit : ℕ) → AreNames limit []
 no_names limit = record { few = omega arith; spelled = λ k d b. absurd (omega arith); distinct = λ i j d a b. absurd (omega arith) }
 
 none_kept : IsKept no_records
@@ -279,7 +283,7 @@ none_kept = record {
 a_row : TraceRow
 a_row = record { moment = 0; submitter = 0; tenant = 0; kind = 0; declared = 0; cost = 0 }
 
-lawful_at_end : (t : Trace) (none : Bool) → is_empty t.rows ≡ none → is_empty t.tenants ≡ false → IsKept t → IsLawfulTrace (with_some_kind t)
+pub lawful_at_end : (t : Trace) (none : Bool) → is_empty t.rows ≡ none → is_empty t.tenants ≡ false → IsKept t → IsLawfulTrace (with_some_kind t)
 lawful_at_end t true none some kept =
     let no_rows : length t.rows ≡ 0 = eqb-true (length t.rows) 0 none in
     rw none (record {

@@ -6,3 +6,5 @@ mod Plain
 mod Numerals
 mod Texts
 mod ReadBack
+mod GeneratedTenants
+mod Generated

@@ -82,7 +82,7 @@ tenant_recorded t name weight spelled none limits fits =
 
 -- ---- names
 
-none_among : (names : List (List ℕ)) (name : List ℕ) → ((k : ℕ) → k < length names → get_or names k [] ≢ name) → number_among names name ≡ None
+pub none_among : (names : List (List ℕ)) (name : List ℕ) → ((k : ℕ) → k < length names → get_or names k [] ≢ name) → number_among names name ≡ None
 none_among names name other =
     let place : position_or_len (bytes_eq name) names ≡ length names = position_or_len_is (bytes_eq name) names (length names) [] (omega arith)
     (λ k b. false_from_ne_true (bytes_eq name (get_or names k [])) (λ same. other k b (sym ((bytes_eq-Decides name (get_or names k [])).0 same))))

@@ -1,3 +1,4 @@
 pub mod Reading
+pub mod Generating
 pub mod Laws
 pub mod FaultTexts

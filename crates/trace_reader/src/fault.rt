@@ -1,9 +1,12 @@
-//! Why a trace was not read.
+//! Why a trace was not read, or not generated.
 ghost use Rattle.std.specs.Prelude.{◌≡◌};
 ghost use Rattle.trace_reader.specs.declared.fault.RecordError.TheVariants.{Memory};
+ghost use Rattle.trace_reader.specs.declared.fault.TraceFault.TheVariants as trace_faults;
+ghost use Rattle.trace_reader.specs.declared.fault.GenFault.TheVariants as gen_faults;
 ghost use Rattle.trace_reader.specs.Reading.{fault_at};
 
 use fq_model::fault::TraceKind;
+use fq_model::limits::{MOST_ROWS, MOST_TENANTS};
 use std::alloc::{AllocError, AllocFailed};
 use thiserror::Error;
 
@@ -16,6 +19,36 @@ pub enum TraceFault {
     /// Memory ran out.
     #[error("out of memory")]
     NoMemory,
+}
+
+impl From<AllocError> for TraceFault {
+    ghost from_gives = { λ _ fault. fault ≡ trace_faults.NoMemory };
+
+    fn from(_: AllocError) -> TraceFault {
+        TraceFault::NoMemory
+    }
+}
+
+/// Why a trace was not generated: the first reason, in the order of these variants.
+#[derive(Clone, Copy, Debug, PartialEq, Eq, Error)]
+pub enum GenFault {
+    /// How many tenants were asked for, which is not from 1 to 4,096.
+    #[error("the number of tenants {0} is not from 1 to {MOST_TENANTS}")]
+    Tenants(u32),
+    /// How many requests were asked for, which is over 262,144.
+    #[error("the number of requests {0} is over {MOST_ROWS}")]
+    Requests(u32),
+    /// Memory ran out.
+    #[error("out of memory")]
+    NoMemory,
+}
+
+impl From<AllocError> for GenFault {
+    ghost from_gives = { λ _ fault. fault ≡ gen_faults.NoMemory };
+
+    fn from(_: AllocError) -> GenFault {
+        GenFault::NoMemory
+    }
 }
 
 /// There was no memory for a trace's text.

@@ -111,7 +111,8 @@ pub fn moment_at(rows: &[TraceRow], fields: &StringRecord, k: u32) -> Result<u64
     Ok(moment)
 }
 
-fn last_moment(rows: &[TraceRow]) -> u64
+/// The moment of the last of these rows, or 0 where there are none.
+pub fn last_moment(rows: &[TraceRow]) -> u64
     ensures { result ≡ last_row_moment rows.now }
 {
     match rows.last() {

@@ -1,7 +1,12 @@
-//! Laws of traces and their texts. Nothing here runs.
-ghost use Rattle.trace_reader.specs.Laws.{ReadsBack};
+//! Laws of traces and their texts, and of generated traces. Nothing here runs.
+ghost use Rattle.trace_reader.specs.Laws.{ReadsBack, GeneratedIsShort};
 
 /// Reading the text of a lawful trace, whose kinds stand in the order of their first requests, gives the trace.
 pub fn reads_back()
     ensures { ReadsBack }
+{}
+
+/// The simulated history of a generated trace under the default options has room in a history.
+pub fn generated_is_short()
+    ensures { GeneratedIsShort }
 {}

@@ -1,8 +1,10 @@
-//! Traces: their reader, which names the first fault of a text, and their printer.
+//! Traces: their reader, which names the first fault of a text, their printer, and the generator of traces of random
+//! numbers.
 #![tactic(auto)]
 
 pub mod fault;
 mod fields;
+pub mod generating;
 pub mod laws;
 pub mod messages;
 pub mod printing;

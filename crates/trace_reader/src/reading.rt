@@ -21,7 +21,6 @@ use fq_model::limits::{
 };
 use fq_model::trace::TraceRow;
 use std::alloc::Global;
-use tenant_table::kinds::Kinds;
 
 fn are_too_many(tenants: u32, kinds: u32, rows: usize) -> bool
     ensures { result ≡ are_too_many tenants kinds rows }
@@ -118,19 +117,7 @@ fn finish(alloc: Global, trace: Trace, place: u64) -> Result<Trace, TraceFault>
             kind: TraceKind::NoTenants,
         });
     }
-    if !trace.rows.is_empty() {
-        return Ok(trace);
-    }
-    let Trace {
-        tenants,
-        kinds: _,
-        rows,
-    } = trace;
-    let mut kinds = Kinds::new(alloc);
-    match kinds.add("-") {
-        Ok(_) => Ok(Trace::new(tenants, kinds, rows)),
-        Err(_) => Err(TraceFault::NoMemory),
-    }
+    Ok(trace.with_some_kind(alloc)?)
 }
 
 /// Reads a trace, or names its first fault. An answer that memory ran out says nothing of the text.

@@ -1,5 +1,6 @@
 //! Traces written by hand, with what the grammar says of them.
-use crate::fault::TraceFault;
+use crate::fault::{GenFault, TraceFault};
+use crate::generating::generate;
 use crate::printing::print;
 use crate::reading::read;
 use fq_model::fault::TraceKind;
@@ -188,5 +189,34 @@ fn counts_tenants_and_kinds(rt: HostRuntime) -> Result<(), Fail> {
     }
     let most = trace_of(alloc, 1024, 64)?;
     assert_eq!(rt; read(alloc, most.as_bytes()).err(), None);
+    Ok(())
+}
+
+// The numbers of seed 7 begin 2442223337, 414063806, 2743600285.
+#[test]
+fn generates_traces(rt: HostRuntime) -> Result<(), Fail> {
+    let alloc = rt.alloc();
+    for (tenants, kind, first) in [
+        (1, "get", row((137, 0), 0, (500, 785))),
+        (64, "mix", row((137, 0), 62, (1000, 885))),
+        (63, "scan", row((137, 0), 23, (50000, 50285))),
+    ] {
+        let trace = generate(alloc, 7, tenants, 1)?;
+        assert_eq!(rt; trace.kinds().find(kind), Some(0));
+        let rows = [TraceRow { kind: 0, ..first }];
+        assert_eq!(rt; trace.rows(), rows.as_slice());
+    }
+    let trace = generate(alloc, 1, 2, 0)?;
+    assert_eq!(rt; trace.kinds().find("-"), Some(0));
+    let text = print(alloc, &trace)?;
+    assert_eq!(rt; text.as_slice(), b"tenant,t0,1\ntenant,t1,2\n".as_slice());
+    for (tenants, requests, fault) in [
+        (0, 262145, GenFault::Tenants(0)),
+        (4097, 0, GenFault::Tenants(4097)),
+        (1, 262145, GenFault::Requests(262145)),
+    ] {
+        let answer = generate(alloc, 7, tenants, requests).err();
+        assert_eq!(rt; answer, Some(fault));
+    }
     Ok(())
 }
