@@ -1,4 +1,3 @@
 pub mod Reading
 pub mod Generating
 pub mod Laws
-pub mod FaultTexts

@@ -17,4 +17,3 @@ pub mod Only
 pub mod Exists
 pub mod Entries
 pub mod InLimits
-pub mod NoFault
