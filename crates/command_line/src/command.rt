@@ -2,12 +2,15 @@
 ghost use Rattle.std.specs.Prelude.{◌≡◌, IfSome, map, unwrap_or, slice_index_or};
 ghost use Rattle.std.specs.String.{string_bytes};
 ghost use Rattle.fq_model.specs.Options.{command_of, command_by};
-ghost use Rattle.fq_model.specs.Command.{script_row};
-ghost use Rattle.command_line.specs.Commands.{journal_run_row, built_commands, IsInRange};
+ghost use Rattle.fq_model.specs.Command.{script_row, run_row, gen_row};
+ghost use Rattle.command_line.specs.Commands.{built_commands, IsInRange};
 
 use crate::options::{Value, values_in};
-use crate::table::{ESTIMATORS, POLICIES, RUN_OPTIONS, SCRIPT_OPTIONS, SCRIPT_PRINTS};
-use fq_model::command::{Command, HistoryPrint, ScriptPrint};
+use crate::table::{
+    ESTIMATORS, GEN_OPTIONS, GEN_PRINTS, HISTORY_PRINTS, POLICIES, RUN_OPTIONS, SCRIPT_OPTIONS,
+    SCRIPT_PRINTS,
+};
+use fq_model::command::{Command, GenPrint, HistoryPrint, ScriptPrint};
 use fq_model::config::{Estimator, Policy};
 use fq_model::trace::RunOptions;
 
@@ -21,6 +24,7 @@ pub fn command(words: &[String]) -> Option<Command>
     match word.as_str() {
         "script" => script_command(words),
         "run" => run_command(words),
+        "gen" => gen_command(words),
         _ => None,
     }
 }
@@ -37,10 +41,13 @@ fn script_command(words: &[String]) -> Option<Command>
 
 // `run`, by the words after it.
 fn run_command(words: &[String]) -> Option<Command>
-    ensures asked { result ≡ command_by (map string_bytes words.now) journal_run_row }
+    ensures asked { result ≡ command_by (map string_bytes words.now) run_row }
     ensures range { IfSome result IsInRange }
 {
-    let [workers, policy, estimate, initial, refresh, _] = values_in::<6>(&RUN_OPTIONS, words)?;
+    let [workers, policy, estimate, initial, refresh, slot, print] = values_in::<7>(
+        &RUN_OPTIONS,
+        words,
+    )?;
     let options = RunOptions {
         workers: workers.unwrap_or(0) as u32,
         policy: choice(&POLICIES, policy, Policy::TwoDfq),
@@ -50,8 +57,22 @@ fn run_command(words: &[String]) -> Option<Command>
     };
     Some(Command::Run {
         options,
-        slot: 0,
-        print: HistoryPrint::Journal,
+        slot: slot.unwrap_or(0),
+        print: choice(&HISTORY_PRINTS, print, HistoryPrint::Both),
+    })
+}
+
+// `gen`, by the words after it.
+fn gen_command(words: &[String]) -> Option<Command>
+    ensures asked { result ≡ command_by (map string_bytes words.now) gen_row }
+    ensures range { IfSome result IsInRange }
+{
+    let [seed, tenants, requests, print] = values_in::<4>(&GEN_OPTIONS, words)?;
+    Some(Command::Gen {
+        seed: seed.unwrap_or(0),
+        tenants: tenants.unwrap_or(0) as u32,
+        requests: requests.unwrap_or(0) as u32,
+        print: choice(&GEN_PRINTS, print, GenPrint::Trace),
     })
 }
 

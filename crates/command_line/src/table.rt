@@ -1,9 +1,9 @@
 //! The options of the commands, and what the words that they list stand for.
 
 use crate::options::{Absent, OptionRow, Values};
-use fq_model::command::ScriptPrint;
+use fq_model::command::{GenPrint, HistoryPrint, ScriptPrint};
 use fq_model::config::{Estimator, Policy};
-use fq_model::limits::{GREATEST_COST, MOST_WORKERS};
+use fq_model::limits::{GREATEST_COST, GREATEST_SLOT, MOST_ROWS, MOST_TENANTS, MOST_WORKERS};
 
 /// The policies, in the order of the words for them.
 pub const POLICIES: [Policy; 4] = [Policy::Wfq, Policy::Wf2q, Policy::Msf2q, Policy::TwoDfq];
@@ -22,6 +22,17 @@ pub const SCRIPT_PRINTS: [ScriptPrint; 3] = [
     ScriptPrint::Both,
 ];
 
+/// The same for `run`.
+pub const HISTORY_PRINTS: [HistoryPrint; 4] = [
+    HistoryPrint::Journal,
+    HistoryPrint::Report,
+    HistoryPrint::Both,
+    HistoryPrint::Summary,
+];
+
+/// The same for `gen`.
+pub const GEN_PRINTS: [GenPrint; 2] = [GenPrint::Trace, GenPrint::Summary];
+
 /// The options of `script`.
 pub const SCRIPT_OPTIONS: [OptionRow; 1] = [OptionRow {
     name: "--print",
@@ -29,8 +40,9 @@ pub const SCRIPT_OPTIONS: [OptionRow; 1] = [OptionRow {
     absent: Absent::Default("replies"),
 }];
 
-/// The options of `run`. Costs are microseconds; refresh 0 asks for no reports. What is printed has to be said.
-pub const RUN_OPTIONS: [OptionRow; 6] = [
+/// The options of `run`. Costs and the slot are microseconds; refresh 0 asks for no reports, and slot 0 for the automatic
+/// slot.
+pub const RUN_OPTIONS: [OptionRow; 7] = [
     OptionRow {
         name: "--workers",
         values: Values::Within {
@@ -66,8 +78,49 @@ pub const RUN_OPTIONS: [OptionRow; 6] = [
         absent: Absent::Default("10000"),
     },
     OptionRow {
+        name: "--slot",
+        values: Values::Within {
+            low: 0,
+            high: GREATEST_SLOT,
+        },
+        absent: Absent::Default("0"),
+    },
+    OptionRow {
         name: "--print",
-        values: Values::Among(&["journal"]),
+        values: Values::Among(&["journal", "report", "both", "summary"]),
+        absent: Absent::Default("both"),
+    },
+];
+
+/// The options of `gen`.
+pub const GEN_OPTIONS: [OptionRow; 4] = [
+    OptionRow {
+        name: "--seed",
+        values: Values::Within {
+            low: 0,
+            high: u64::MAX,
+        },
         absent: Absent::Required,
+    },
+    OptionRow {
+        name: "--tenants",
+        values: Values::Within {
+            low: 1,
+            high: MOST_TENANTS as u64,
+        },
+        absent: Absent::Required,
+    },
+    OptionRow {
+        name: "--requests",
+        values: Values::Within {
+            low: 0,
+            high: MOST_ROWS as u64,
+        },
+        absent: Absent::Required,
+    },
+    OptionRow {
+        name: "--print",
+        values: Values::Among(&["trace", "summary"]),
+        absent: Absent::Default("trace"),
     },
 ];

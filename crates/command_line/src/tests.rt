@@ -1,6 +1,6 @@
 use crate::command::command;
 use crate::options::{Absent, OptionRow, Value, Values, values_in};
-use fq_model::command::{Command, HistoryPrint, ScriptPrint};
+use fq_model::command::{Command, GenPrint, HistoryPrint, ScriptPrint};
 use fq_model::config::{Estimator, Policy};
 use fq_model::trace::RunOptions;
 use std::alloc::{AllocError, Global};
@@ -76,8 +76,25 @@ fn script_is_read(rt: HostRuntime) -> Result<(), Fail> {
     Ok(())
 }
 
+fn run(options: RunOptions, slot: u64, print: HistoryPrint) -> Command {
+    Command::Run {
+        options,
+        slot,
+        print,
+    }
+}
+
+fn generate(seed: u64, tenants: u32, requests: u32, print: GenPrint) -> Command {
+    Command::Gen {
+        seed,
+        tenants,
+        requests,
+        print,
+    }
+}
+
 #[test]
-fn run_is_read(rt: HostRuntime) -> Result<(), Fail> {
+fn run_and_gen_are_read(rt: HostRuntime) -> Result<(), Fail> {
     let plain = RunOptions {
         workers: 4,
         policy: Policy::TwoDfq,
@@ -93,24 +110,51 @@ fn run_is_read(rt: HostRuntime) -> Result<(), Fail> {
         refresh: 0,
     };
     for (line, want) in [
-        ("run --print journal", Some(plain)),
+        ("run", Some(run(plain, 0, HistoryPrint::Both))),
         (
-            "run --print=journal --refresh 0 --initial=1 --estimate declared --policy wf2q --workers=64 --",
-            Some(asked),
+            "run --workers=64 --",
+            Some(run(
+                RunOptions {
+                    workers: 64,
+                    ..plain
+                },
+                0,
+                HistoryPrint::Both,
+            )),
         ),
-        ("run", None),
-        ("run --print report", None),
-        ("run --print journal --slot 5", None),
-        ("run --print journal --workers 0", None),
-        ("run --print journal --workers 65", None),
-        ("gen --seed 1 --tenants 1 --requests 1", None),
+        (
+            "run --print=journal --refresh 0 --initial=1 --estimate declared --policy wf2q --workers=64 --slot 5",
+            Some(run(asked, 5, HistoryPrint::Journal)),
+        ),
+        (
+            "run --print report --slot=1000000000000000",
+            Some(run(plain, 1000000000000000, HistoryPrint::Report)),
+        ),
+        (
+            "run --slot 0 --print summary",
+            Some(run(plain, 0, HistoryPrint::Summary)),
+        ),
+        ("run --slot 1 --slot 2", None),
+        ("run --slot 1000000000000001", None),
+        ("run --workers 0", None),
+        ("run --workers 65", None),
+        ("live", None),
+        (
+            "gen --requests 262144 --tenants=4096 --seed 18446744073709551615",
+            Some(generate(u64::MAX, 4096, 262144, GenPrint::Trace)),
+        ),
+        (
+            "gen --seed 7 --tenants 1 --requests 0 --print summary --",
+            Some(generate(7, 1, 0, GenPrint::Summary)),
+        ),
+        ("gen --seed 1", None),
+        ("gen --seed 7 --seed 7 --tenants 1 --requests 0", None),
+        ("gen --seed 07 --tenants 1 --requests 0", None),
+        ("gen --seed 7 --tenants 0 --requests 0", None),
+        ("gen --seed 7 --tenants 4097 --requests 0", None),
+        ("gen --seed 7 --tenants 1 --requests 262145", None),
     ] {
         let words = words_of(rt.alloc(), line)?;
-        let want = want.map(|options| Command::Run {
-            options,
-            slot: 0,
-            print: HistoryPrint::Journal,
-        });
         assert_eq!(rt; command(&words), want, "at {line}");
     }
     Ok(())

@@ -1,15 +1,16 @@
 use Rattle.std.proofs.Common.{◌≡◌, map, option_map, sym, ap, ◌∙◌}
 use Rattle.std.specs.String.{string_bytes}
 use Rattle.fq_model.specs.Options.{values_in}
-use Rattle.command_line.specs.Commands.{journal_run_options, journal_run_of_values}
+use Rattle.fq_model.specs.Command.{run_of_values}
+use Rattle.fq_model.specs.CommandOptions.{run_options}
 use Rattle.command_line.proofs.command.run_command.Goals as goal
 
 pub returns-in_err-workers-clause-asked : goal.returns-in_err-workers-clause-asked
 returns-in_err-workers-clause-asked c =
-    let values : c.values_in.result ≡ values_in journal_run_options (map string_bytes c.args.words.now) = c.values_in.ensures.values in
-    c.from_residual.ensures ∙ ap (option_map journal_run_of_values) (sym c.in_err-workers.was ∙ values)
+    let values : c.values_in.result ≡ values_in run_options (map string_bytes c.args.words.now) = c.values_in.ensures.values in
+    c.from_residual.ensures ∙ ap (option_map run_of_values) (sym c.in_err-workers.was ∙ values)
 
 pub returns-clause-asked : goal.returns-clause-asked
 returns-clause-asked c =
-    let values : c.values_in.result ≡ values_in journal_run_options (map string_bytes c.args.words.now) = c.values_in.ensures.values in
-    rw (c.unwrap_or.ensures, c.unwrap_or-2.ensures, c.unwrap_or-3.ensures, c.choice.ensures, c.choice-2.ensures) (ap (option_map journal_run_of_values) (sym c.in_ok-workers.was ∙ values))
+    let values : c.values_in.result ≡ values_in run_options (map string_bytes c.args.words.now) = c.values_in.ensures.values in
+    rw (c.unwrap_or.ensures, c.unwrap_or-2.ensures, c.unwrap_or-3.ensures, c.choice.ensures, c.choice-2.ensures, c.unwrap_or-4.ensures, c.choice-3.ensures) (ap (option_map run_of_values) (sym c.in_ok-workers.was ∙ values))
