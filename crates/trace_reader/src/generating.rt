@@ -1,5 +1,5 @@
-//! Traces of random numbers. They follow the multi-tenant loads on which fair queuing across threads was measured (Mace,
-//! Bodik, Musuvathi, Fonseca and Varadarajan, 2016): tenants with small requests, with large ones, and with a mix.
+//! Traces of random numbers: of four tenants in turn two have small requests, one has a few large ones among small ones,
+//! and one has large ones. The rule is this program's own, and is taken from no measured load.
 ghost use Rattle.std.specs.Prelude.{◌≡◌, ◌<◌, ◌≤◌, IsTrue, [], length, IfOk, OnOk};
 ghost use Rattle.fq_model.specs.Generator.{generated_name, generated_weight, generated_tenants, generated_kind, generated_declared, mixed_cost, generated_cost, with_generated, generated_trace};
 ghost use Rattle.fq_model.specs.Limits.{IsWithin};
@@ -21,8 +21,8 @@ use std::alloc::{AllocError, AllocFailed, Global};
 use tenant_table::kinds::Kinds;
 use tenant_table::tenants::Tenants;
 
-/// The trace of a seed: 1 to 4,096 tenants and up to 262,144 requests, made of the numbers of PCG32 (O'Neill, 2014). The
-/// same numbers give the same trace.
+/// The trace of a seed, which may be any number: 1 to 4,096 tenants and up to 262,144 requests, three numbers of PCG32
+/// (O'Neill, 2014) for each request. Moments, declared numbers and costs are microseconds.
 pub fn generate(alloc: Global, seed: u64, tenants: u32, requests: u32) -> Result<Trace, GenFault>
     ensures trace { IfOk result (λ t. t ≡ generated_trace seed tenants requests) }
     ensures lawful { IfOk result IsLawfulTrace }
