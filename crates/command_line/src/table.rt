@@ -40,8 +40,8 @@ pub const SCRIPT_OPTIONS: [OptionRow; 1] = [OptionRow {
     absent: Absent::Default("replies"),
 }];
 
-/// The options of `run`. Costs and the slot are microseconds; refresh 0 asks for no reports, and slot 0 for the automatic
-/// slot.
+/// The options of `run`. Costs and the slot are microseconds; refresh 0 asks for no reports, and slot 0 for the
+/// automatic slot.
 pub const RUN_OPTIONS: [OptionRow; 7] = [
     OptionRow {
         name: "--workers",

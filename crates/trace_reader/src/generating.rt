@@ -1,5 +1,5 @@
-//! Traces of random numbers: of four tenants in turn two have small requests, one has a few large ones among small ones,
-//! and one has large ones. The rule is this program's own, and is taken from no measured load.
+//! Traces of random numbers: of four tenants in turn two have small requests, one a few large ones among small ones, and
+//! one large ones. The rule is this program's own, and is taken from no measured load.
 ghost use Rattle.std.specs.Prelude.{◌≡◌, ◌<◌, ◌≤◌, IsTrue, [], length, IfOk, OnOk};
 ghost use Rattle.fq_model.specs.Generator.{generated_name, generated_weight, generated_tenants, generated_kind, generated_declared, mixed_cost, generated_cost, with_generated, generated_trace};
 ghost use Rattle.fq_model.specs.Limits.{IsWithin};
@@ -17,7 +17,7 @@ use fq_model::trace::TraceRow;
 use rand_core::SeedableRng;
 use rand_core::utils::NextWord;
 use rand_pcg::Lcg64Xsh32;
-use std::alloc::{AllocError, AllocFailed, Global};
+use std::alloc::{AllocError, Global};
 use tenant_table::kinds::Kinds;
 use tenant_table::tenants::Tenants;
 
