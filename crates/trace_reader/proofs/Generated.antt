@@ -1,5 +1,5 @@
 -- The trace that is generated is lawful, has few kinds, and ends early.
-use Rattle.std.proofs.Common.{ℕ, zero, suc, ◌+◌, ◌*◌, ◌/◌, ◌%◌, ◌<◌, ◌≤◌, ◌≡◌, ◌==◌, Bool, true, false, ◌||◌, if◌then◌else◌, List, [], ◌∷◌, ◌++◌, length, get_or, All, Option, Some, None, is_some, option_map, unwrap_or, bytes_eq, refl, sym, ap, ◌∙◌, subst, arith, length-append}
+use Rattle.std.proofs.Common.{ℕ, zero, suc, ◌+◌, ◌*◌, ◌/◌, ◌%◌, ◌<◌, ◌≤◌, ◌≡◌, ◌==◌, max, Bool, true, false, ◌||◌, if◌then◌else◌, List, [], ◌∷◌, ◌++◌, length, get_or, All, Option, Some, None, Ok, is_some, option_map, unwrap_or, bytes_eq, refl, sym, ap, ◌∙◌, subst, arith, length-append}
 use Rattle.std.specs.Prelude.{codes}
 use Rattle.std.specs.List.{list_any, IsDistinct, last_or}
 use Rattle.std.proofs.Math.Numerals.{add-one}
@@ -8,6 +8,7 @@ use Rattle.std.proofs.lemmas.Bool.{eqb-true, false_from_ne_true}
 use Rattle.std.proofs.lemmas.Cmp.{nat_list_eq_equiv}
 use Rattle.std.proofs.lemmas.List.Elements.{All-push}
 use Rattle.std.proofs.lemmas.List.Folds.{list_any-append}
+use Rattle.std.proofs.lemmas.List.Quantifiers.{position-Some}
 use Rattle.std.proofs.lemmas.Map.Keys.{IsDistinct-from_apart}
 use Rattle.std.proofs.lemmas.Map.Made.{length-le_from_is_member}
 use Rattle.std.proofs.lemmas.Slice.Eq.{bytes_eq-Decides}
@@ -25,10 +26,12 @@ use Rattle.fq_model.specs.Numbers.{is_name}
 use Rattle.fq_model.specs.Reading.{is_empty}
 use Rattle.fq_model.specs.Simulated.{needed_entries}
 use Rattle.fq_model.specs.Trace.{Trace, last_row_moment, with_some_kind}
-use Rattle.fq_model.specs.TraceText.{IsLawfulTrace}
+use Rattle.fq_model.specs.TraceGrammar.{trace_of}
+use Rattle.fq_model.specs.TraceText.{IsLawfulTrace, KindsAppear, HasKindsInOrder, trace_text}
 use Rattle.trace_reader.specs.Generating.{HasRoomForOne}
 use Rattle.trace_reader.proofs.GeneratedTenants.{are_names, are_weights, as_many, count}
 use Rattle.trace_reader.proofs.Lawful.{IsKept, IsFew, with_row-kept, lawful_at_end, no_names}
+use Rattle.trace_reader.proofs.ReadBack.{reads_back}
 
 -- ---- kinds
 
@@ -102,6 +105,30 @@ one_at_most kinds name = go (is_some (number_among kinds name))
 pub kind_spelled : (i : ℕ) → is_name (generated_kind i) ≡ true
 kind_spelled i = by_kind (λ name. is_name name ≡ true) i refl refl refl
 
+-- the number of a kind is that of one of the kinds so far, or the next one
+kinds_more : (kinds : List (List ℕ)) (name : List ℕ)
+    → (number_by_appearance kinds name ≤ length kinds) × (length (with_appearance kinds name) ≡ max (length kinds) (number_by_appearance kinds name + 1))
+kinds_more kinds name = go (number_among kinds name) refl
+  where
+    go : (o : Option ℕ) → number_among kinds name ≡ o
+        → (unwrap_or o (length kinds) ≤ length kinds) × (length (if is_some o then kinds else kinds ++ name ∷ []) ≡ max (length kinds) (unwrap_or o (length kinds) + 1))
+    go None is = (omega arith, omega (arith, length-append kinds (name ∷ [])))
+    go (Some k) is =
+        let below : k < length kinds = (position-Some (bytes_eq name) kinds k [] is).0 in
+        (omega arith, omega arith)
+
+appear-push : (seen kinds : ℕ) (rows : List TraceRow) (row : TraceRow) → KindsAppear seen rows kinds → row.kind ≤ kinds
+    → KindsAppear seen (rows ++ row ∷ []) (max kinds (row.kind + 1))
+appear-push seen kinds [] row same next = (omega (arith, same), ap (λ k. max k (row.kind + 1)) same)
+appear-push seen kinds (r ∷ rows) row is next = (is.0, appear-push (max seen (r.kind + 1)) kinds rows row is.1 next)
+
+in_order_at_end : (tenants : List (List ℕ)) (weights : List ℕ) (kinds : List (List ℕ)) (rows : List TraceRow) → KindsAppear 0 rows (length kinds)
+    → HasKindsInOrder (with_some_kind (record { tenants = tenants; weights = weights; kinds = kinds; rows = rows }))
+in_order_at_end tenants weights kinds [] appear = refl
+in_order_at_end tenants weights kinds (row ∷ rows) appear =
+    let some : is_empty (row ∷ rows) ≡ false = false_from_ne_true (is_empty (row ∷ rows)) (λ none. omega (arith, eqb-true (length (row ∷ rows)) 0 none)) in
+    rw some appear
+
 -- ---- numbers
 
 declared_within : (i : ℕ) → IsWithin 1 GREATEST_COST (generated_declared i)
@@ -140,6 +167,7 @@ last-push o (y ∷ ys) x = last-push (Some y) ys x
 record IsGenerated (n j : ℕ) (t : Trace) : Type 0 where
   kept : IsKept t
   among : AreAmong t.kinds
+  appear : KindsAppear 0 t.rows (length t.kinds)
   tenants : length t.tenants ≡ n
   rows : length t.rows ≡ j
   moment : last_row_moment t.rows ≤ 199 * j
@@ -158,6 +186,7 @@ none_generated n few = record {
     in_order = λ i j d a b. absurd (omega arith);
   };
   among = λ q there. absurd (cc);
+  appear = refl;
   tenants = count n;
   rows = refl;
   moment = omega arith;
@@ -171,6 +200,7 @@ one_generated n j t a b c some few room is =
     let u = with_generated n j t a b c in
     let row : TraceRow = record { moment = last_row_moment t.rows + a % 200; submitter = j % 4; tenant = tenant; kind = number_by_appearance t.kinds kind; declared = generated_declared tenant; cost = generated_cost tenant c } in
     let cost = cost_within tenant c in
+    let more = kinds_more t.kinds kind in
     let kinds : length u.kinds ≤ 4 = omega (arith, one_at_most t.kinds kind, three_at_most MOST_KINDS t.kinds is.kept.kinds is.among) in
     let rows : length u.rows ≡ suc j = omega (arith, is.rows, length-append t.rows (row ∷ [])) in
     let last : last_row_moment u.rows ≡ row.moment = ap (λ o. unwrap_or (option_map (λ r. r.moment) o) 0) (last-push None t.rows row) in
@@ -186,6 +216,7 @@ one_generated n j t a b c some few room is =
           (omega (arith, is.moment), omega arith) (omega arith) (omega (arith, is.tenants)) (kind_spelled tenant)
           (declared_within tenant) (cost.0, omega (arith, cost.1));
       among = among_after t.kinds tenant is.among;
+      appear = rw more.1 (appear-push 0 (length t.kinds) t.rows row is.appear more.0);
       tenants = is.tenants;
       rows = rows;
       moment = omega (arith, last, is.moment);
@@ -220,6 +251,15 @@ generated_lawful seed n j some few room =
     let is = is_generated seed n j some few room in
     let t = generated_requests seed n j in
     lawful_at_end t (is_empty t.rows) refl (false_from_ne_true (is_empty t.tenants) (λ none. omega (arith, is.tenants, eqb-true (length t.tenants) 0 none))) is.kept
+
+in_order : (seed n j : ℕ) → 1 ≤ n → n ≤ MOST_TENANTS → j ≤ MOST_ROWS → HasKindsInOrder (generated_trace seed n j)
+unfolding generated_trace
+in_order seed n j some few room =
+    let t = generated_requests seed n j in
+    in_order_at_end t.tenants t.weights t.kinds t.rows (is_generated seed n j some few room).appear
+
+pub generated_read : (seed n j : ℕ) → 1 ≤ n → n ≤ MOST_TENANTS → j ≤ MOST_ROWS → trace_of (trace_text (generated_trace seed n j)) ≡ Ok (generated_trace seed n j)
+generated_read seed n j some few room = reads_back (generated_trace seed n j) (generated_lawful seed n j some few room) (in_order seed n j some few room)
 
 same_rows : (t : Trace) → (with_some_kind t).rows ≡ t.rows
 same_rows t = go (is_empty t.rows)

@@ -13,6 +13,12 @@ use Rattle.fq_model.specs.TraceText.{HasKindsInOrder, IsLawfulTrace, trace_text}
 abbrev pub ReadsBack : Type 0
 ReadsBack = (t : Trace) → IsLawfulTrace t → HasKindsInOrder t → trace_of (trace_text t) ≡ Ok t
 
+-- the text of a generated trace spells that trace
+abbrev pub GeneratedReadsBack : Type 0
+GeneratedReadsBack =
+    (seed tenants requests : ℕ) → IsWithin 1 MOST_TENANTS tenants → requests ≤ MOST_ROWS
+    → trace_of (trace_text (generated_trace seed tenants requests)) ≡ Ok (generated_trace seed tenants requests)
+
 -- a generated trace has a simulated history under the default options: it needs no more entries than there may be
 abbrev pub GeneratedIsShort : Type 0
 GeneratedIsShort =
