@@ -1,0 +1,17 @@
+-- Words for the laws.
+use Rattle.std.specs.Prelude.{ℕ, ◌==◌, if◌then◌else◌, Option, Some, None}
+use Rattle.vt_fixed.specs.Rounding.{length_of}
+use Rattle.fq_model.specs.declared.config.Config.{Config}
+use Rattle.fq_model.specs.declared.event.Act.{Act}
+use Rattle.fq_model.specs.declared.event.Act.TheVariants.{Take}
+use Rattle.fq_model.specs.History.{History, Request, request_at, weight_at}
+
+-- the length, at tenant t's weight in P, of what the request declared, where it is one of t, else 0
+abbrev pub declared_length : Config → History → ℕ → Option Request → ℕ
+declared_length C P t None = 0
+declared_length C P t (Some q) = if q.tenant == t then length_of q.declared (weight_at C P t) else 0
+
+-- what the act takes of tenant t: the length of a request of t that it takes, else 0
+abbrev pub taken_length : Config → History → ℕ → Act → ℕ
+taken_length C P t (Take worker request estimate) = declared_length C P t (request_at P request)
+taken_length C P t _ = 0
