@@ -43,9 +43,9 @@ keeps_to C P r q h was =
     record { estimator = estimator_declared C.estimate p.0; uses = leb-true _ _ k.0; cost = k.1 }
 
 -- where none is named that is not as declared, all are
-pub all_declared : (C : Config) (P : History) → InLimits C → IsLegal C P → not_declared C P ≡ None → AllDeclared C P
+pub all_are_declared : (C : Config) (P : History) → InLimits C → IsLegal C P → not_declared C P ≡ None → AllDeclared C P
 unfolding not_declared request_bound
-all_declared C P lim l h = λ r q was. keeps_to C P r q (not-false _ (least_none (λ s. not (is_as_declared C P s)) (2 ^ 32) h r (asked_small C P r q lim l was))) was
+all_are_declared C P lim l h = λ r q was. keeps_to C P r q (not-false _ (least_none (λ s. not (is_as_declared C P s)) (2 ^ 32) h r (asked_small C P r q lim l was))) was
 
 -- ---- shorter histories
 

@@ -1,2 +1,7 @@
 pub mod Declared
 pub mod Starts
+pub mod Choices
+pub mod Lengths
+pub mod Runs
+pub mod Gaps
+pub mod Bounds

@@ -1,5 +1,5 @@
 //! The laws, one function a law: its contract is the law, and its body is empty.
-ghost use Rattle.gap_laws.specs.Laws.{ChargeRisesAtTakes, StartRisesAtTakes};
+ghost use Rattle.gap_laws.specs.Laws.{ChargeRisesAtTakes, StartRisesAtTakes, RunsBegin, GapStaysBelow, LargestIsBounded};
 
 /// Where every request costs what was declared, a Take adds the length of the declared cost to the virtual charge of its
 /// tenant, and nothing else changes a virtual charge: no Report and no Done.
@@ -10,4 +10,22 @@ pub fn charge_rises_at_takes()
 /// So where a tenant that waits starts moves on at the Takes of its own requests alone, by their declared lengths.
 pub fn start_rises_at_takes()
     ensures { StartRisesAtTakes }
+{}
+
+/// A run of prefixes at which two tenants wait begins at one whose next shorter prefix is not such a one, and has all that
+/// follow up to where it is asked for.
+pub fn runs_begin()
+    ensures { RunsBegin }
+{}
+
+/// The bound of the gap. While two tenants wait, where the one starts is above where the other starts by no more than it
+/// was when both began to wait, or by no more than the longest length that a request of either has: under the staggered
+/// policy twice that. Whether the two differ, and whether they are there, does not matter.
+pub fn gap_stays_below()
+    ensures { GapStaysBelow }
+{}
+
+/// So the largest difference that a gap tells is at most the bound that it tells.
+pub fn largest_is_bounded()
+    ensures { LargestIsBounded }
 {}

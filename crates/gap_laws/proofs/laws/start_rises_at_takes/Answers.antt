@@ -1,7 +1,7 @@
 use Rattle.std.proofs.Common.{◌∷◌}
-use Rattle.gap_laws.proofs.Declared.{all_declared}
+use Rattle.gap_laws.proofs.Declared.{all_are_declared}
 use Rattle.gap_laws.proofs.Starts.{start_taken}
 use Rattle.gap_laws.proofs.laws.start_rises_at_takes.Goals as goal
 
 pub returns : goal.returns
-returns c = λ C P e t r lim l d h. start_taken C P e t r lim l (all_declared C (e ∷ P) lim l d) h
+returns c = λ C P e t r lim l d h. start_taken C P e t r lim l (all_are_declared C (e ∷ P) lim l d) h
