@@ -78,7 +78,7 @@ gap_parts (Some x) b gap h =
 
 pub largest_bounded : LargestIsBounded
 unfolding tag_gap largest_difference difference_bound
-largest_bounded C H f g gap lim l d h =
-    let p = gap_parts (largest_difference C H f g) (difference_bound C H f g) gap h in
-    let each : EachAtMost (difference_bound C H f g) (shared_differences C H f g) = each_below C H f g (longest_length C H f g) (pos (lengths_in_bound C.policy * longest_length C H f g)) (difference_bound C H f g) refl lim l (all_are_declared C H lim l d) (longest_covers_first C H f g) (longest_covers_second C H f g) (omega (arith, ints)) in
+largest_bounded C H f g gap h is =
+    let p = gap_parts (largest_difference C H f g) (difference_bound C H f g) gap is in
+    let each : EachAtMost (difference_bound C H f g) (shared_differences C H f g) = each_below C H f g (longest_length C H f g) (pos (lengths_in_bound C.policy * longest_length C H f g)) (difference_bound C H f g) refl h.limits h.legal (all_are_declared C H h) (longest_covers_first C H f g) (longest_covers_second C H f g) (omega (arith, ints)) in
     rw p.1 (largest_low (difference_bound C H f g) gap.largest (shared_differences C H f g) each p.0)

@@ -1,5 +1,5 @@
 -- What follows where every request is as declared: each charge is the declared cost from the Take on.
-use Rattle.std.proofs.Common.{ℕ, ◌+◌, ◌≤◌, ◌^◌, ◌≡◌, ◌==◌, ◌||◌, ◌∙◌, max, cond, Bool, true, false, not, refl, sym, ap, subst, arith, inl, inr, [], ◌∷◌, ◌++◌, Option, Some, None}
+use Rattle.std.proofs.Common.{ℕ, ◌+◌, ◌<◌, ◌≤◌, ◌^◌, ◌≡◌, ◌==◌, ◌||◌, ◌∙◌, max, cond, Bool, true, false, not, refl, sym, ap, subst, arith, inl, inr, [], ◌∷◌, ◌++◌, Option, Some, None}
 use Rattle.std.proofs.lemmas.Bool.{cases_Bool, false≢true, true_from_ne_false, and_parts, not-false, leb-true, eqb-true, or_parts}
 use Rattle.vt_fixed.specs.Rounding.{length_of}
 use Rattle.fq_model.specs.declared.config.Config.{Config}
@@ -19,7 +19,7 @@ use Rattle.fq_laws.proofs.History.Numbers.{asked_small}
 use Rattle.fq_laws.proofs.History.Requests.{asked_stays, taken_known, use_taken, use_known, use_undone}
 use Rattle.fq_laws.proofs.Charge.Requests.{estimate_some, cost_none, charge_report, charge_done}
 use Rattle.fq_laws.proofs.Charge.Tenants.{virtual_charge_submit, virtual_charge_taken, virtual_charge_reported, virtual_charge_finished, virtual_charge_quiet}
-use Rattle.gap_laws.specs.Words.{declared_length, taken_length}
+use Rattle.gap_laws.specs.Words.{HasDeclaredCosts, declared_length, taken_length}
 
 -- the request r, of which q is known, is as declared
 pub record KeepsTo (C : Config) (P : History) (r : ℕ) (q : Request) : Type 0 where
@@ -43,9 +43,11 @@ keeps_to C P r q h was =
     record { estimator = estimator_declared C.estimate p.0; uses = leb-true _ _ k.0; cost = k.1 }
 
 -- where none is named that is not as declared, all are
-pub all_are_declared : (C : Config) (P : History) → InLimits C → IsLegal C P → not_declared C P ≡ None → AllDeclared C P
+pub all_are_declared : (C : Config) (P : History) → HasDeclaredCosts C P → AllDeclared C P
 unfolding not_declared request_bound
-all_are_declared C P lim l h = λ r q was. keeps_to C P r q (not-false _ (least_none (λ s. not (is_as_declared C P s)) (2 ^ 32) h r (asked_small C P r q lim l was))) was
+all_are_declared C P h = λ r q was.
+    let b : r < 2 ^ 32 = asked_small C P r q h.limits h.legal was in
+    keeps_to C P r q (not-false _ (least_none (λ s. not (is_as_declared C P s)) (2 ^ 32) h.declared r b)) was
 
 -- ---- shorter histories
 

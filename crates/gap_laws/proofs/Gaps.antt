@@ -15,7 +15,7 @@ use Rattle.fq_model.specs.Time.{last_moment}
 use Rattle.fq_model.specs.Charge.{request_estimate}
 use Rattle.fq_model.specs.Keys.{HeadKeys, keys_at, HasKeys, IsChoiceAt, turn_at, start}
 use Rattle.fq_model.specs.Rules.{IsLegal, FitsTake, IsChosen}
-use Rattle.fq_model.specs.Gap.{is_shared, start_difference, run_start, lengths_in_bound}
+use Rattle.fq_model.specs.Gap.{is_shared, start_difference, run_start, lengths_in_bound, longest_length}
 use Rattle.fq_laws.specs.Words.{one_more}
 use Rattle.fq_laws.proofs.Rules.Takes.{choice_head}
 use Rattle.fq_laws.proofs.Keys.Choices.{KeysOf, keys_of, head_has_keys}
@@ -113,16 +113,16 @@ at_first : (x b : ℤ) → x ≤ℤ int_max x b
 at_first x b = omega (arith, ints, clamps)
 
 -- what is known of the difference at a shared prefix, where no length is above B
-abbrev pub IsBelow : Config → History → ℕ → ℕ → ℕ → Type 0
-IsBelow C P f g B = start_difference C P f g ≤ℤ int_max (start_difference C (run_start P f g) f g) (pos (lengths_in_bound C.policy * B))
+abbrev pub BelowLengths : Config → History → ℕ → ℕ → ℕ → Type 0
+BelowLengths C P f g B = start_difference C P f g ≤ℤ int_max (start_difference C (run_start P f g) f g) (pos (lengths_in_bound C.policy * B))
 
-apart_below : (C : Config) (P : History) (f g B : ℕ) → f ≢ g → InLimits C → IsLegal C P → AllDeclared C P → LengthsAtMost C P f B → LengthsAtMost C P g B → is_shared P f g ≡ true → IsBelow C P f g B
+apart_below : (C : Config) (P : History) (f g B : ℕ) → f ≢ g → InLimits C → IsLegal C P → AllDeclared C P → LengthsAtMost C P f B → LengthsAtMost C P g B → is_shared P f g ≡ true → BelowLengths C P f g B
 apart_below C [] f g B ne lim l d low_f low_g h = absurd (both_ways _ (nil_unshared f g) h)
 apart_below C (e ∷ P) f g B ne lim l d low_f low_g h = elim (cases_Bool (is_shared P f g)) [
   | inl before ↦
       let older_f : LengthsAtMost C P f B = lengths_older C e P f B low_f in
       let older_g : LengthsAtMost C P g B = lengths_older C e P g B low_g in
-      let older : IsBelow C P f g B = apart_below C P f g B ne lim l.0 (declared_older C e P l d) older_f older_g before in
+      let older : BelowLengths C P f g B = apart_below C P f g B ne lim l.0 (declared_older C e P l d) older_f older_g before in
       rw (run_on e P f g before) (within_either _ _ _ _ older (difference_step C e P f g B ne lim l d older_f older_g before))
   | inr before ↦ rw (run_new e P f g before) (at_first (start_difference C (e ∷ P) f g) (pos (lengths_in_bound C.policy * B)))
 ]
@@ -132,13 +132,14 @@ same_below : (C : Config) (P : History) (f B : ℕ) (z : ℤ) → start_differen
 unfolding start_difference
 same_below C P f B z = omega (arith, ints, clamps)
 
-pub difference_below : (C : Config) (P : History) (f g B : ℕ) → InLimits C → IsLegal C P → AllDeclared C P → LengthsAtMost C P f B → LengthsAtMost C P g B → is_shared P f g ≡ true → IsBelow C P f g B
+pub difference_below : (C : Config) (P : History) (f g B : ℕ) → InLimits C → IsLegal C P → AllDeclared C P → LengthsAtMost C P f B → LengthsAtMost C P g B → is_shared P f g ≡ true → BelowLengths C P f g B
 difference_below C P f g B lim l d low_f low_g h = elim (cases_eq f g) [
   | inl e ↦ rw (← e) (same_below C P f B (start_difference C (run_start P f f) f f))
   | inr ne ↦ apart_below C P f g B ne lim l d low_f low_g h
 ]
 
 pub gap_below : GapStaysBelow
-gap_below C newer P f g lim l d h =
-    difference_below C P f g _ lim (legal_prefix C newer P l) (declared_prefix C newer P l (all_are_declared C (newer ++ P) lim l d))
-    (lengths_prefix C newer P f _ (longest_covers_first C (newer ++ P) f g)) (lengths_prefix C newer P g _ (longest_covers_second C (newer ++ P) f g)) h
+gap_below C newer P f g h is =
+    let low_f : LengthsAtMost C P f (longest_length C (newer ++ P) f g) = lengths_prefix C newer P f _ (longest_covers_first C (newer ++ P) f g) in
+    let low_g : LengthsAtMost C P g (longest_length C (newer ++ P) f g) = lengths_prefix C newer P g _ (longest_covers_second C (newer ++ P) f g) in
+    difference_below C P f g _ h.limits (legal_prefix C newer P h.legal) (declared_prefix C newer P h.legal (all_are_declared C (newer ++ P) h)) low_f low_g is

@@ -5,3 +5,4 @@ pub mod Lengths
 pub mod Runs
 pub mod Gaps
 pub mod Bounds
+pub mod Computed

@@ -4,8 +4,16 @@ use Rattle.vt_fixed.specs.Rounding.{length_of}
 use Rattle.fq_model.specs.declared.config.Config.{Config}
 use Rattle.fq_model.specs.declared.event.Act.{Act}
 use Rattle.fq_model.specs.declared.event.Act.TheVariants.{Take}
+use Rattle.fq_model.specs.Limits.{InLimits}
 use Rattle.fq_model.specs.History.{History, Request, request_at, weight_at}
-use Rattle.fq_model.specs.Gap.{is_shared}
+use Rattle.fq_model.specs.Rules.{IsLegal}
+use Rattle.fq_model.specs.Gap.{is_shared, not_declared}
+
+-- H is a legal history of a configuration that is in its limits, and each of its requests is as declared
+pub record HasDeclaredCosts (C : Config) (H : History) : Type 0 where
+  pub limits : InLimits C
+  pub legal : IsLegal C H
+  pub declared : not_declared C H ≡ None
 
 -- the length, at tenant t's weight in P, of what the request declared, where it is one of t, else 0
 abbrev pub declared_length : Config → History → ℕ → Option Request → ℕ

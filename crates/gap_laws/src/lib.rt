@@ -2,4 +2,5 @@
 //! that waits too, at weights and numbers of workers that change.
 #![tactic(auto)]
 
+pub mod examples;
 pub mod laws;
