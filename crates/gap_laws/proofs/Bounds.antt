@@ -70,7 +70,7 @@ each_below C (e ∷ P) f g B K b is lim l d low_f low_g h =
       | inr now ↦ rw now older
     ]
 
-gap_parts : (o : Option ℤ) (b : ℤ) (gap : TagGap) → option_map (λ largest. record { largest = largest; bound = b }) o ≡ Some gap → (o ≡ Some gap.largest) × (gap.bound ≡ b)
+pub gap_parts : (o : Option ℤ) (b : ℤ) (gap : TagGap) → option_map (λ largest. record { largest = largest; bound = b }) o ≡ Some gap → (o ≡ Some gap.largest) × (gap.bound ≡ b)
 gap_parts None b gap h = absurd (cc)
 gap_parts (Some x) b gap h =
     let j : record { largest = x; bound = b } ≡ gap = cc in

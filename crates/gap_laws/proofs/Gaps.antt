@@ -20,7 +20,7 @@ use Rattle.fq_laws.specs.Words.{one_more}
 use Rattle.fq_laws.proofs.Rules.Takes.{choice_head}
 use Rattle.fq_laws.proofs.Keys.Choices.{KeysOf, keys_of, head_has_keys}
 use Rattle.fq_laws.proofs.Keys.Others.{start_moment}
-use Rattle.gap_laws.specs.Words.{taken_length}
+use Rattle.gap_laws.specs.Words.{HasDeclaredCosts, taken_length}
 use Rattle.gap_laws.specs.Laws.{GapStaysBelow}
 use Rattle.gap_laws.proofs.Declared.{KeepsTo, AllDeclared, all_are_declared, legal_prefix, declared_older, declared_prefix, estimate_declared}
 use Rattle.gap_laws.proofs.Starts.{start_taken}
@@ -138,8 +138,14 @@ difference_below C P f g B lim l d low_f low_g h = elim (cases_eq f g) [
   | inr ne ↦ apart_below C P f g B ne lim l d low_f low_g h
 ]
 
-pub gap_below : GapStaysBelow
-gap_below C newer P f g h is =
+below_at : (C : Config) (newer P : History) (f g : ℕ) → HasDeclaredCosts C (newer ++ P) → is_shared P f g ≡ true → BelowLengths C P f g (longest_length C (newer ++ P) f g)
+below_at C newer P f g h is =
     let low_f : LengthsAtMost C P f (longest_length C (newer ++ P) f g) = lengths_prefix C newer P f _ (longest_covers_first C (newer ++ P) f g) in
     let low_g : LengthsAtMost C P g (longest_length C (newer ++ P) f g) = lengths_prefix C newer P g _ (longest_covers_second C (newer ++ P) f g) in
     difference_below C P f g _ h.limits (legal_prefix C newer P h.legal) (declared_prefix C newer P h.legal (all_are_declared C (newer ++ P) h)) low_f low_g is
+
+pub gap_below : GapStaysBelow
+gap_below C H P f g h is =
+    let newer : History = is.0.0 in
+    let split : H ≡ newer ++ P = is.0.1 in
+    subst (λ Q. BelowLengths C P f g (longest_length C Q f g)) (sym split) (below_at C newer P f g (subst (HasDeclaredCosts C) split h) is.1)

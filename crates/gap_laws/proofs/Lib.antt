@@ -6,3 +6,4 @@ pub mod Runs
 pub mod Gaps
 pub mod Bounds
 pub mod Computed
+pub mod Told

@@ -1,13 +1,13 @@
 -- Runs of shared prefixes, and where they begin.
-use Rattle.std.proofs.Common.{ℕ, ◌≡◌, true, false, refl, sym, ap, subst, inl, inr, [], ◌∷◌, ◌++◌, Option, Some, None}
+use Rattle.std.proofs.Common.{ℕ, ◌≤◌, ◌⊎◌, length, length-append, arith, ◌≡◌, true, false, refl, sym, ap, subst, inl, inr, [], ◌∷◌, ◌++◌, Option, Some, None}
 use Rattle.std.specs.Prelude.{is_some}
 use Rattle.std.proofs.lemmas.Bool.{cases_Bool, both_ways, false≢true, and_parts}
 use Rattle.fq_model.specs.declared.event.Entry.{Entry}
 use Rattle.fq_model.specs.History.{History, head, request_bound, waits_for}
 use Rattle.fq_model.specs.Gap.{is_shared, run_start}
 use Rattle.fq_laws.proofs.Sums.{least_by}
-use Rattle.gap_laws.specs.Words.{BeginsRun}
-use Rattle.gap_laws.specs.Laws.{RunsBegin}
+use Rattle.gap_laws.specs.Words.{IsPrefix, RunBegins}
+use Rattle.gap_laws.specs.Laws.{RunStartIs}
 
 -- ---- heads
 
@@ -49,33 +49,38 @@ pub run_new : (e : Entry) (P : History) (f g : ℕ) → is_shared P f g ≡ fals
 unfolding run_start
 run_new e P f g h = rw h refl
 
-nil_parts : (left passed : History) → [] ≡ left ++ passed → passed ≡ []
-nil_parts [] passed h = sym h
-nil_parts (e ∷ left) passed h = absurd (cc)
+-- what a prefix is a prefix of is a prefix of one entry more
+pub prefix_older : (e : Entry) (P R : History) → IsPrefix R P → IsPrefix R (e ∷ P)
+prefix_older e P R h = (e ∷ h.0, ap (λ Q. e ∷ Q) h.1)
+
+-- a prefix is the history or one of a shorter history
+prefix_cases : (e : Entry) (P R : History) → IsPrefix R (e ∷ P) → (R ≡ e ∷ P) ⊎ IsPrefix R P
+prefix_cases e P R h = go h.0 h.1
+  where
+    go : (newer : History) → e ∷ P ≡ newer ++ R → (R ≡ e ∷ P) ⊎ IsPrefix R P
+    go [] split = inl (sym split)
+    go (x ∷ newer) split = let rest : P ≡ newer ++ R = cc in inr (newer, rest)
+
+not_longer : (P R : History) → IsPrefix R P → length R ≤ length P
+not_longer P R h = let long : length P ≡ length (h.0 ++ R) = ap length h.1 in omega (arith, long, length-append h.0 R)
 
 -- the run goes on by one entry more
-longer_run : (e : Entry) (P Q : History) (f g : ℕ) → is_shared (e ∷ P) f g ≡ true → BeginsRun P f g Q → BeginsRun (e ∷ P) f g Q
-longer_run e P Q f g now b = record { newer = e ∷ b.newer; goes_on = longer; first = b.first; shared = run }
-  where
-    longer : e ∷ P ≡ e ∷ b.newer ++ Q
-    longer = ap (λ R. e ∷ R) b.goes_on
-
-    run : (left passed : History) → e ∷ b.newer ≡ left ++ passed → is_shared (passed ++ Q) f g ≡ true
-    run [] passed split = subst (λ R. is_shared (R ++ Q) f g ≡ true) split (subst (λ R. is_shared R f g ≡ true) longer now)
-    run (x ∷ left) passed split = let rest : b.newer ≡ left ++ passed = cc in b.shared left passed rest
-
--- it begins at what follows a prefix that is not shared
-new_run : (e : Entry) (P : History) (f g : ℕ) → is_shared (e ∷ P) f g ≡ true → is_shared P f g ≡ false → BeginsRun (e ∷ P) f g (e ∷ P)
-new_run e P f g now before = record {
-  newer = [];
-  goes_on = refl;
-  first = before;
-  shared = λ left passed split. subst (λ R. is_shared (R ++ e ∷ P) f g ≡ true) (sym (nil_parts left passed split)) now;
+longer_run : (e : Entry) (P Q : History) (f g : ℕ) → is_shared (e ∷ P) f g ≡ true → RunBegins P f g Q → RunBegins (e ∷ P) f g Q
+longer_run e P Q f g now b = record {
+  first = ((prefix_older e P Q b.first.0.0, b.first.0.1), b.first.1);
+  shared = λ R of_longer over. elim (prefix_cases e P R of_longer) [ inl all ↦ rw all now | inr older ↦ b.shared R older over ];
 }
 
-pub begins_run : RunsBegin
-begins_run [] f g h = absurd (both_ways _ (nil_unshared f g) h)
-begins_run (e ∷ P) f g h = elim (cases_Bool (is_shared P f g)) [
-  | inl before ↦ subst (BeginsRun (e ∷ P) f g) (sym (run_on e P f g before)) (longer_run e P (run_start P f g) f g h (begins_run P f g before))
-  | inr before ↦ subst (BeginsRun (e ∷ P) f g) (sym (run_new e P f g before)) (new_run e P f g h before)
+-- it begins at what follows a prefix that is not shared
+new_run : (e : Entry) (P : History) (f g : ℕ) → is_shared (e ∷ P) f g ≡ true → is_shared P f g ≡ false → RunBegins (e ∷ P) f g (e ∷ P)
+new_run e P f g now before = record {
+  first = ((([], refl), now), before);
+  shared = λ R of_longer over. elim (prefix_cases e P R of_longer) [ inl all ↦ rw all now | inr older ↦ absurd (omega (arith, not_longer P R older, not_longer R (e ∷ P) over)) ];
+}
+
+pub run_begins : RunStartIs
+run_begins [] f g h = absurd (both_ways _ (nil_unshared f g) h)
+run_begins (e ∷ P) f g h = elim (cases_Bool (is_shared P f g)) [
+  | inl before ↦ subst (RunBegins (e ∷ P) f g) (sym (run_on e P f g before)) (longer_run e P (run_start P f g) f g h (run_begins P f g before))
+  | inr before ↦ subst (RunBegins (e ∷ P) f g) (sym (run_new e P f g before)) (new_run e P f g h before)
 ]
