@@ -1,5 +1,5 @@
--- The gap of a short history, computed: as in the worked histories of the laws below, each definition stands once more over
--- the numbers below n, with `within` in its name, and with a lemma that it is the same.
+-- The gap of a short history, computed: each definition stands once more over the numbers below n, with `within` in its
+-- name, and with a lemma that it is the same.
 use Rattle.std.proofs.Common.{ℕ, ◌≡◌, Bool, true, false, not, ◌&&◌, if◌then◌else◌, List, refl, inl, inr, [], ◌∷◌, Option, None, ℤ, pos}
 use Rattle.std.specs.Prelude.{is_some, ◌-ℤ◌, ◌*◌, option_map}
 use Rattle.std.proofs.lemmas.Bool.{cases_lt}

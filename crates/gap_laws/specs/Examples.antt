@@ -1,6 +1,6 @@
--- Worked histories, the newest entry first, whose gap is found by hand: each shows that one part of the bound is needed. The
--- numbers of an act stand in the order of its fields: Submit request tenant kind declared label, Take worker request
--- estimate, Done worker request cost, Weight tenant weight.
+-- Worked histories, the newest entry first, whose gap is found by hand: each shows that one part of the bound is
+-- needed. The numbers of an act stand in the order of its fields: Submit request tenant kind declared label, Take
+-- worker request estimate, Done worker request cost, Weight tenant weight.
 use Rattle.std.specs.Prelude.{ℕ, [], ◌∷◌, pos}
 use Rattle.fq_model.specs.declared.config.Config.{Config}
 use Rattle.fq_model.specs.declared.config.Policy.TheVariants.{Wfq, Wf2q, TwoDfq}

@@ -34,8 +34,8 @@ RunStartIs = (P : History) (f g : ℕ) → is_shared P f g ≡ true → RunBegin
 abbrev pub bound_length : Config → History → ℕ → ℕ → ℤ
 bound_length C H f g = pos (lengths_in_bound C.policy * longest_length C H f g)
 
--- at each shared prefix P the start of f is above that of g by no more than where the run of P began, or by no more than
--- the lengths in the bound
+-- at each shared prefix P the start of f is above that of g by no more than where the run of P began, or by no more
+-- than the lengths in the bound
 abbrev pub GapStaysBelow : Type 0
 GapStaysBelow =
     (C : Config) (H P : History) (f g : ℕ) → HasDeclaredCosts C H → IsSharedIn H f g P
