@@ -1,0 +1,59 @@
+-- What the choice of one tenant says of another with a head.
+use Rattle.std.proofs.Common.{ℕ, ◌+◌, ◌*◌, ◌<◌, ◌≤◌, ◌≢◌, arith, inl, inr, pos, ◌≤ℤ◌}
+use Rattle.std.specs.Prelude.{◌+ℤ◌, ◌-ℤ◌}
+use Rattle.std.proofs.lemmas.Int.{ints, by_lt_z}
+use Rattle.vt_fixed.proofs.Bounds.{part_le}
+use Rattle.fq_model.specs.declared.config.Policy.{Policy}
+use Rattle.fq_model.specs.declared.config.Policy.TheVariants.{Wfq, Wf2q, Msf2q, TwoDfq}
+use Rattle.fq_model.specs.Keys.{HeadKeys, Turn, stagger, eligible_key, IsEligible, FinishBefore, EligibleBefore, IsChoice}
+use Rattle.fq_model.specs.Gap.{lengths_in_bound}
+use Rattle.fq_laws.proofs.Keys.Choices.{eligible_or_not}
+
+-- the keys of the head r that starts at s and is so long
+abbrev pub keys : ℕ → ℕ → ℕ → HeadKeys
+keys s len r = record { start = pos s; len = pos len; request = r }
+
+-- a head with its stagger is at most the bound's lengths long
+stagger_high : (policy : Policy) (len i n B : ℕ) → i < n → len ≤ B → (stagger policy (pos len) i n +ℤ pos len) ≤ℤ pos (lengths_in_bound policy * B)
+stagger_high Wfq len i n B lt low = omega (arith, ints)
+stagger_high Wf2q len i n B lt low = omega (arith, ints)
+stagger_high Msf2q len i n B lt low = omega (arith, ints)
+stagger_high TwoDfq len i n B lt low = omega (arith, ints, part_le len i n lt)
+
+stagger_low : (policy : Policy) (len i n : ℕ) → pos 0 ≤ℤ stagger policy (pos len) i n
+stagger_low Wfq len i n = omega (arith, ints)
+stagger_low Wf2q len i n = omega (arith, ints)
+stagger_low Msf2q len i n = omega (arith, ints)
+stagger_low TwoDfq len i n = omega (arith, ints)
+
+length_counts : (policy : Policy) (B : ℕ) → B ≤ lengths_in_bound policy * B
+length_counts Wfq B = omega arith
+length_counts Wf2q B = omega arith
+length_counts Msf2q B = omega arith
+length_counts TwoDfq B = omega arith
+
+-- the chosen tenant, whose head starts at a and is x long, starts at a + x after the Take; another one starts at b
+by_finish : (a b x y r s B : ℕ) → y ≤ B → FinishBefore (keys a x r) (keys b y s) → a + x ≤ b + B
+by_finish a b x y r s B low (inl h) = omega (arith, ints)
+by_finish a b x y r s B low (inr h) = omega (arith, ints)
+
+by_key : (policy : Policy) (i n a b x y B : ℕ) → i < n → x ≤ B → (pos a -ℤ stagger policy (pos x) i n) ≤ℤ (pos b -ℤ stagger policy (pos y) i n) → a + x ≤ b + lengths_in_bound policy * B
+by_key policy i n a b x y B lt low h = omega (arith, ints, stagger_high policy x i n B lt low, stagger_low policy y i n)
+
+key_first : (at : Turn) (k l : HeadKeys) → EligibleBefore at k l → eligible_key at k ≤ℤ eligible_key at l
+key_first at k l (inl h) = omega (arith, ints)
+key_first at k l (inr h) = omega (arith, ints)
+
+-- an eligible head comes before one that is not, by the eligible key
+key_passes : (at : Turn) (k l : HeadKeys) → IsEligible at k → ¬ IsEligible at l → eligible_key at k ≤ℤ eligible_key at l
+key_passes at k l (inl all) out = absurd (out (inl all))
+key_passes at k l (inr is) out = by_lt_z at.virtual_time (eligible_key at l) (λ late. omega (arith, ints)) (λ early. absurd (out (inr early)))
+
+-- after its Take the chosen tenant is ahead of another with a head by at most one length, or under 2dfq by two
+pub chosen_bound : (at : Turn) (Has : ℕ → HeadKeys → Type 0) (f g a b x y r s B : ℕ) → at.worker < at.workers → g ≢ f → Has g (keys b y s) → x ≤ B → y ≤ B → IsChoice at Has f (keys a x r) → a + x ≤ b + lengths_in_bound at.policy * B
+chosen_bound at Has f g a b x y r s B lt ne has low_x low_y (inl c) = elim (eligible_or_not at (keys b y s)) [
+  | inl early ↦ omega (arith, by_finish a b x y r s B low_y (c.first g (keys b y s) ne has early), length_counts at.policy B)
+  | inr late ↦ by_key at.policy at.worker at.workers a b x y B lt low_x (key_passes at (keys a x r) (keys b y s) c.passes late)
+]
+chosen_bound at Has f g a b x y r s B lt ne has low_x low_y (inr c) =
+    by_key at.policy at.worker at.workers a b x y B lt low_x (key_first at (keys a x r) (keys b y s) (c.1.first g (keys b y s) ne has tt))

@@ -1,0 +1,21 @@
+use Rattle.std.proofs.Common.{refl, arith}
+use Rattle.gap_laws.specs.Examples.{stagger_config, stagger_history}
+use Rattle.fq_laws.proofs.Computed.Histories.{IsShort, computing}
+use Rattle.gap_laws.proofs.Computed.{premises_are, gap_is, computing_gap}
+use Rattle.gap_laws.proofs.examples.stagger.Goals as goal
+
+short : IsShort 5 2 stagger_history
+unfolding stagger_history
+short = record { bound = omega arith; acts = refl }
+
+pub returns-clause-premises : goal.returns-clause-premises
+unfolding computing computing_gap stagger_config stagger_history
+returns-clause-premises c = premises_are 5 2 stagger_config stagger_history short refl refl refl
+
+pub returns-clause-longest : goal.returns-clause-longest
+unfolding computing computing_gap stagger_config stagger_history
+returns-clause-longest c = refl
+
+pub returns-clause-gap : goal.returns-clause-gap
+unfolding computing computing_gap stagger_config stagger_history
+returns-clause-gap c = gap_is 5 2 stagger_config stagger_history 0 1 short

@@ -1,0 +1,67 @@
+-- What bounds how far one tenant gets ahead of another, where every request costs what was declared.
+use Rattle.std.specs.Prelude.{ℕ, ◌+◌, ◌*◌, ◌≡◌, true, ◌∷◌, Some, None, ℤ, pos, ◌≤ℤ◌, ◌↔◌}
+use Rattle.std.specs.Int.{int_max}
+use Rattle.fq_model.specs.declared.config.Config.{Config}
+use Rattle.fq_model.specs.declared.event.Entry.{Entry}
+use Rattle.fq_model.specs.History.{History, head}
+use Rattle.fq_model.specs.Time.{last_moment}
+use Rattle.fq_model.specs.Charge.{virtual_charge}
+use Rattle.fq_model.specs.Keys.{start}
+use Rattle.fq_model.specs.Gap.{is_shared, start_difference, run_start, lengths_in_bound, longest_length, TagGap, tag_gap}
+use Rattle.gap_laws.specs.Words.{HasDeclaredCosts, taken_length, IsSharedIn, IsFirstIn, RunBegins, IsGreatestAt, IsGreatestOver}
+
+-- ---- what moves a charge and a start
+
+-- one entry on, a virtual charge is greater by the length that the entry takes
+abbrev pub ChargeRisesAtTakes : Type 0
+ChargeRisesAtTakes =
+    (C : Config) (P : History) (e : Entry) (t : ℕ) → HasDeclaredCosts C (e ∷ P)
+    → virtual_charge C (e ∷ P) t ≡ virtual_charge C P t + taken_length C P t e.act
+
+-- so is where a tenant that waits starts
+abbrev pub StartRisesAtTakes : Type 0
+StartRisesAtTakes =
+    (C : Config) (P : History) (e : Entry) (t r : ℕ) → HasDeclaredCosts C (e ∷ P) → head P t ≡ Some r
+    → start C (e ∷ P) e.moment t ≡ start C P (last_moment P) t + taken_length C P t e.act
+
+-- ---- the bound
+
+-- the run of each shared prefix begins where `run_start` says
+abbrev pub RunStartIs : Type 0
+RunStartIs = (P : History) (f g : ℕ) → is_shared P f g ≡ true → RunBegins P f g (run_start P f g)
+
+-- how many steps the lengths in the bound make
+abbrev pub bound_length : Config → History → ℕ → ℕ → ℤ
+bound_length C H f g = pos (lengths_in_bound C.policy * longest_length C H f g)
+
+-- at each shared prefix P the start of f is above that of g by no more than where the run of P began, or by no more
+-- than the lengths in the bound
+abbrev pub GapStaysBelow : Type 0
+GapStaysBelow =
+    (C : Config) (H P : History) (f g : ℕ) → HasDeclaredCosts C H → IsSharedIn H f g P
+    → start_difference C P f g ≤ℤ int_max (start_difference C (run_start P f g) f g) (bound_length C H f g)
+
+-- the largest difference of a gap is at most its bound
+abbrev pub LargestIsBounded : Type 0
+LargestIsBounded =
+    (C : Config) (H : History) (f g : ℕ) (gap : TagGap) → HasDeclaredCosts C H → tag_gap C H f g ≡ Some gap
+    → gap.largest ≤ℤ gap.bound
+
+-- ---- what a gap tells
+
+-- there is one exactly where some prefix is shared
+abbrev pub GapIsThere : Type 0
+GapIsThere =
+    (C : Config) (H : History) (f g : ℕ) → (tag_gap C H f g ≡ None) ↔ ((P : History) → ¬ IsSharedIn H f g P)
+
+-- its largest difference is the greatest at a shared prefix
+abbrev pub LargestIsGreatest : Type 0
+LargestIsGreatest =
+    (C : Config) (H : History) (f g : ℕ) (gap : TagGap) → tag_gap C H f g ≡ Some gap
+    → IsGreatestAt (IsSharedIn H f g) (λ P. start_difference C P f g) gap.largest
+
+-- its bound is the greater of the lengths in the bound and of the greatest difference where a run begins
+abbrev pub BoundIsGreatest : Type 0
+BoundIsGreatest =
+    (C : Config) (H : History) (f g : ℕ) (gap : TagGap) → tag_gap C H f g ≡ Some gap
+    → IsGreatestOver (IsFirstIn H f g) (λ P. start_difference C P f g) (bound_length C H f g) gap.bound

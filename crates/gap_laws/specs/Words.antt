@@ -1,0 +1,54 @@
+-- Words for the laws.
+use Rattle.std.specs.Prelude.{ℕ, ◌==◌, ◌≡◌, true, false, if◌then◌else◌, ◌++◌, drop, Option, Some, None, ℤ, ◌≤ℤ◌, ◌⊎◌}
+use Rattle.vt_fixed.specs.Rounding.{length_of}
+use Rattle.fq_model.specs.declared.config.Config.{Config}
+use Rattle.fq_model.specs.declared.event.Act.{Act}
+use Rattle.fq_model.specs.declared.event.Act.TheVariants.{Take}
+use Rattle.fq_model.specs.Limits.{InLimits}
+use Rattle.fq_model.specs.History.{History, Request, request_at, weight_at}
+use Rattle.fq_model.specs.Rules.{IsLegal}
+use Rattle.fq_model.specs.Gap.{is_shared, not_declared}
+
+-- H is a legal history of a configuration that is in its limits, and each of its requests is as declared
+pub record HasDeclaredCosts (C : Config) (H : History) : Type 0 where
+  pub limits : InLimits C
+  pub legal : IsLegal C H
+  pub declared : not_declared C H ≡ None
+
+-- the length, at tenant t's weight in P, of what the request declared, where it is one of t, else 0
+abbrev pub declared_length : Config → History → ℕ → Option Request → ℕ
+declared_length C P t None = 0
+declared_length C P t (Some q) = if q.tenant == t then length_of q.declared (weight_at C P t) else 0
+
+-- what the act takes of tenant t: the length of a request of t that it takes, else 0
+abbrev pub taken_length : Config → History → ℕ → Act → ℕ
+taken_length C P t (Take worker request estimate) = declared_length C P t (request_at P request)
+taken_length C P t _ = 0
+
+-- P is a prefix of H: H has the entries of P, and then newer ones
+abbrev pub IsPrefix : History → History → Type 0
+IsPrefix P H = (newer : History) × (H ≡ newer ++ P)
+
+-- P is a prefix of H at which both tenants wait
+abbrev pub IsSharedIn : History → ℕ → ℕ → History → Type 0
+IsSharedIn H f g P = IsPrefix P H × (is_shared P f g ≡ true)
+
+-- P is one of these at which a run of them begins: the prefix one entry shorter is none
+abbrev pub IsFirstIn : History → ℕ → ℕ → History → Type 0
+IsFirstIn H f g P = IsSharedIn H f g P × (is_shared (drop 1 P) f g ≡ false)
+
+-- the run to which the shared prefix P belongs begins at Q: all prefixes from Q to P are shared
+pub record RunBegins (P : History) (f g : ℕ) (Q : History) : Type 0 where
+  pub first : IsFirstIn P f g Q
+  pub shared : (R : History) → IsPrefix R P → IsPrefix Q R → is_shared R f g ≡ true
+
+-- x is the greatest of the values at the histories that pass
+pub record IsGreatestAt (Passes : History → Type 0) (value : History → ℤ) (x : ℤ) : Type 0 where
+  pub reached : (P : History) × Passes P × (value P ≡ x)
+  pub greatest : (P : History) → Passes P → value P ≤ℤ x
+
+-- x is the greater of y and of the values at the histories that pass, if there are any
+pub record IsGreatestOver (Passes : History → Type 0) (value : History → ℤ) (y x : ℤ) : Type 0 where
+  pub reached : (x ≡ y) ⊎ ((P : History) × Passes P × (value P ≡ x))
+  pub least : y ≤ℤ x
+  pub greatest : (P : History) → Passes P → value P ≤ℤ x
