@@ -1,1 +1,5 @@
 pub mod Doublings
+pub mod Pasts
+pub mod Ranks
+pub mod Gains
+pub mod Groups

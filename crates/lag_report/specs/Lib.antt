@@ -1,2 +1,5 @@
 pub mod Reports
+pub mod Courses
+pub mod Work
+pub mod Ranked
 pub mod Laws

@@ -1,5 +1,11 @@
 //! Laws about reports.
+ghost use Rattle.fq_model.specs.Ranks.{OneAtRank};
 ghost use Rattle.lag_report.specs.Laws.{AutoSlotServes};
+
+/// At a rank of samples stands one number at most.
+pub fn one_at_rank()
+    ensures { OneAtRank }
+{}
 
 /// The automatic slot may be asked for, and gives no legal history too many cells.
 pub fn auto_slot_serves()

@@ -2,8 +2,13 @@
 #![tactic(auto)]
 
 pub mod automatic;
+pub mod course;
 pub mod fault;
 pub mod laws;
+pub mod lines;
 pub mod parts;
 pub mod printing;
+pub mod reading;
 pub mod reporting;
+pub mod samples;
+pub mod work;
