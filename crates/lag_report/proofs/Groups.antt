@@ -42,19 +42,19 @@ pub middle : (t : ℕ) (cs : List Course) (i j : ℕ) → Parts t cs i j → tak
 middle t cs i j p =
     let order : i ≤ j = in_order t cs i j p in
     let front : filter (is_own t) (take i cs) ≡ [] = keeps_none t (take i cs) (λ k d l.
-        let before : k < i = omega (arith, l, length-take i cs) in
-        let less : (get_or cs k d).tenant < t = ltb-true _ _ (p.below.0 k d (omega arith) before) in
-        ap (is_own t) (get_or-take i cs k d before) ∙ ne_eqb _ _ (λ e. absurd (omega (arith, less, e)))) in
+    let before : k < i = omega (arith, l, length-take i cs) in
+    let less : (get_or cs k d).tenant < t = ltb-true _ _ (p.below.0 k d (omega arith) before) in
+    ap (is_own t) (get_or-take i cs k d before) ∙ ne_eqb _ _ (λ e. absurd (omega (arith, less, e)))) in
     let own_part : filter (is_own t) (take (j - i) (drop i cs)) ≡ take (j - i) (drop i cs) = keeps_all t (take (j - i) (drop i cs)) (λ k d l.
-        let before : k < j - i = omega (arith, l, length-take (j - i) (drop i cs)) in
-        let least : t ≤ (get_or cs (i + k) d).tenant = ltb-false _ _ (p.below.1 (i + k) d (omega arith) (omega (arith, before, p.high))) in
-        let most : (get_or cs (i + k) d).tenant ≤ t = leb-true _ _ (p.up_to.0 (i + k) d (omega arith) (omega (arith, before))) in
-        ap (is_own t) (get_or-take (j - i) (drop i cs) k d before ∙ get_or-drop i cs k d) ∙ eq-eqb _ _ (omega (arith, least, most))) in
+    let before : k < j - i = omega (arith, l, length-take (j - i) (drop i cs)) in
+    let least : t ≤ (get_or cs (i + k) d).tenant = ltb-false _ _ (p.below.1 (i + k) d (omega arith) (omega (arith, before, p.high))) in
+    let most : (get_or cs (i + k) d).tenant ≤ t = leb-true _ _ (p.up_to.0 (i + k) d (omega arith) (omega (arith, before))) in
+    ap (is_own t) (get_or-take (j - i) (drop i cs) k d before ∙ get_or-drop i cs k d) ∙ eq-eqb _ _ (omega (arith, least, most))) in
     let back : filter (is_own t) (drop (j - i) (drop i cs)) ≡ [] = keeps_none t (drop (j - i) (drop i cs)) (λ k d l.
-        let inside : j + k < length cs = omega (arith, l, length-drop (j - i) (drop i cs), length-drop i cs, order, p.high) in
-        let greater : t < (get_or cs (j + k) d).tenant = leb-false _ _ (p.up_to.1 (j + k) d (omega arith) inside) in
-        let there : i + (j - i + k) ≡ j + k = omega (arith, order) in
-        ap (is_own t) (get_or-drop (j - i) (drop i cs) k d ∙ get_or-drop i cs (j - i + k) d ∙ ap (λ n. get_or cs n d) there) ∙ ne_eqb _ _ (λ e. absurd (omega (arith, greater, e)))) in
+    let inside : j + k < length cs = omega (arith, l, length-drop (j - i) (drop i cs), length-drop i cs, order, p.high) in
+    let greater : t < (get_or cs (j + k) d).tenant = leb-false _ _ (p.up_to.1 (j + k) d (omega arith) inside) in
+    let there : i + (j - i + k) ≡ j + k = omega (arith, order) in
+    ap (is_own t) (get_or-drop (j - i) (drop i cs) k d ∙ get_or-drop i cs (j - i + k) d ∙ ap (λ n. get_or cs n d) there) ∙ ne_eqb _ _ (λ e. absurd (omega (arith, greater, e)))) in
     sym (ap (filter (is_own t)) (sym (take-append-drop i cs) ∙ ap (λ xs. take i cs ++ xs) (sym (take-append-drop (j - i) (drop i cs))))
     ∙ filter-append (is_own t) (take i cs) (take (j - i) (drop i cs) ++ drop (j - i) (drop i cs))
     ∙ ap₂ (λ xs ys. xs ++ ys) front (filter-append (is_own t) (take (j - i) (drop i cs)) (drop (j - i) (drop i cs)) ∙ ap₂ (λ xs ys. xs ++ ys) own_part back ∙ append-nil (take (j - i) (drop i cs))))

@@ -3,3 +3,5 @@ pub mod Pasts
 pub mod Ranks
 pub mod Gains
 pub mod Groups
+pub mod Texts
+pub mod CoursesAre

@@ -1,17 +1,18 @@
 -- What stands at a rank.
-use Rattle.std.proofs.Common.{ℕ, suc, ◌+◌, ◌-◌, ◌<◌, ◌≤◌, ◌≡◌, Bool, true, false, cond, List, [], ◌∷◌, Option, Some, length, get_or, take, drop, arith, refl, ap, sym, ◌∙◌, subst, inl, inr, ℤ, pos, int_lt, int_le, nat_le, nat_lt, unwrap_or, ◌≢◌, All}
+use Rattle.std.proofs.Common.{ℕ, suc, ◌+◌, ◌-◌, ◌<◌, ◌≤◌, ◌≡◌, Bool, true, false, not, cond, List, [], ◌∷◌, Option, Some, length, get_or, take, drop, arith, refl, ap, sym, ◌∙◌, subst, inl, inr, ℤ, pos, int_lt, int_le, nat_le, nat_lt, unwrap_or, ◌≢◌, All}
 use Rattle.std.specs.Prelude.{◌<ℤ◌, ◌≤ℤ◌}
-use Rattle.std.specs.List.{find, count_by}
+use Rattle.std.specs.List.{find, count_by, filter}
 use Rattle.std.specs.List.Sorted.{IsPermutation, IsSorted}
 use Rattle.std.specs.Ordering.{int_cmp, is_lt}
 use Rattle.std.proofs.lemmas.Cmp.{int_cmp_total}
 use Rattle.std.proofs.lemmas.Int.{ints}
 use Rattle.std.proofs.lemmas.Bool.{cases_Bool, both_ways, and_parts, and_from, leb-true, ltb-true, le-leb, lt-ltb, cond-true, cond-false}
 use Rattle.std.proofs.lemmas.List.{get_or-drop, length-drop, length-take, get_or-take, get_or_default}
-use Rattle.std.proofs.lemmas.List.Sums.{sum_by-cons, sum_by-le-sum_by, sum_by-take-drop, count_by-le-length}
+use Rattle.std.proofs.lemmas.List.Sums.{sum_by-cons, sum_by-le-sum_by, sum_by-take-drop, count_by-le-length, get_or-le-sum_by, length-filter}
+use Rattle.std.proofs.lemmas.List.Filters.{length-filter_both}
 use Rattle.std.proofs.lemmas.List.Sorted.{sum_by-IsPermutation, sorted_far, ranks_by}
 use Rattle.fluid_reference.proofs.Lists.{sum_none}
-use Rattle.fq_model.specs.Ranks.{count_up_to, count_less, is_at_rank, at_rank, OneAtRank}
+use Rattle.fq_model.specs.Ranks.{count_up_to, count_less, is_at_rank, at_rank, least_sample, greatest_sample, OneAtRank}
 use Rattle.lag_report.specs.Ranked.{Ascends}
 
 -- ---- one number at most
@@ -28,6 +29,12 @@ at_most x y h = grind (arith, ints)
 
 not_less : (x y : ℤ) → y ≤ℤ x → cond (int_lt x y) 1 0 ≡ (let none : ℕ = 0 in none)
 not_less x y h = grind (arith, ints)
+
+not_less_one : (x y : ℤ) → y ≤ℤ x → cond (not (int_lt x y)) 1 0 ≡ (let one : ℕ = 1 in one)
+not_less_one x y h = grind (arith, ints)
+
+at_most_itself : (x : ℤ) → x ≤ℤ x
+at_most_itself x = omega (arith, ints)
 
 -- what is at most x is less than a greater y
 less_than_more : (x y z : ℤ) → x <ℤ y → cond (int_le z x) 1 0 ≤ cond (int_lt z y) 1 0
@@ -117,3 +124,20 @@ not_after x y h = grind (arith, ints)
 
 pub from_sort : (xs : List ℤ) → IsSorted int_cmp xs → Ascends xs
 from_sort xs sorted i j d early inside = not_after (get_or xs i d) (get_or xs j d) (sorted_far (λ x y. is_lt (int_cmp x y)) (ranks_by int_cmp_total (λ x. x)) xs sorted i j d early inside)
+
+-- ---- the least and the greatest
+
+pub least_at : (xs : List ℤ) (m : ℤ) (k : ℕ) (d : ℤ) → k < length xs → get_or xs k d ≡ m → All (λ x. m ≤ℤ x) xs → m ≡ least_sample xs
+least_at xs m k d inside is low =
+    let here : 1 ≤ count_up_to m xs = omega (arith, get_or-le-sum_by (λ x. cond_ℕ (int_le x m)) xs k d inside, ap cond_ℕ (at_most (get_or xs k d) m (subst (λ x. x ≤ℤ m) (sym is) (at_most_itself m)))) in
+    let less : count_less m xs ≡ 0 = sum_none (λ x. cond_ℕ (int_lt x m)) xs (λ j e l. not_less (get_or xs j e) m (low j e l)) in
+    sym (one_at_rank 1 xs m (and_from (nat_le 1 (count_up_to m xs)) (nat_lt (count_less m xs) 1) (le-leb 1 (count_up_to m xs) here) (lt-ltb (count_less m xs) 1 (omega (arith, less)))))
+
+pub greatest_at : (xs : List ℤ) (m : ℤ) (k : ℕ) (d : ℤ) → k < length xs → get_or xs k d ≡ m → All (λ x. x ≤ℤ m) xs → m ≡ greatest_sample xs
+greatest_at xs m k d inside is high =
+    let all : count_up_to m xs ≡ length xs = count_all (λ x. int_le x m) xs (λ j e l. at_most (get_or xs j e) m (high j e l)) in
+    let both : length (filter (λ x. int_lt x m) xs) + length (filter (λ x. not (int_lt x m)) xs) ≡ length xs = length-filter_both (λ x. int_lt x m) (λ x. not (int_lt x m)) (λ x. refl) xs in
+    let other : cond_ℕ (not (int_lt (get_or xs k d) m)) ≡ 1 = not_less_one (get_or xs k d) m (subst (λ x. m ≤ℤ x) (sym is) (at_most_itself m)) in
+    let here : 1 ≤ count_by (λ x. not (int_lt x m)) xs = omega (arith, get_or-le-sum_by (λ x. cond_ℕ (not (int_lt x m))) xs k d inside, other) in
+    let fewer : count_less m xs < length xs = omega (arith, both, here, length-filter (λ x. int_lt x m) xs, length-filter (λ x. not (int_lt x m)) xs) in
+    sym (one_at_rank (length xs) xs m (and_from (nat_le (length xs) (count_up_to m xs)) (nat_lt (count_less m xs) (length xs)) (le-leb (length xs) (count_up_to m xs) (omega (arith, all))) (lt-ltb (count_less m xs) (length xs) fewer)))

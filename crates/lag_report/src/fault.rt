@@ -31,6 +31,12 @@ impl From<AllocError> for NoMemory {
     }
 }
 
+impl<T: Drop> From<AllocFailed<T>> for NoMemory {
+    fn from(_: AllocFailed<T>) -> NoMemory {
+        NoMemory
+    }
+}
+
 impl From<AllocError> for ReportFault {
     ghost from_gives = { λ _ fault. fault ≡ faults.NoMemory };
 

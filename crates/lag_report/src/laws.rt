@@ -1,6 +1,6 @@
 //! Laws about reports.
 ghost use Rattle.fq_model.specs.Ranks.{OneAtRank};
-ghost use Rattle.lag_report.specs.Laws.{AutoSlotServes};
+ghost use Rattle.lag_report.specs.Laws.{AutoSlotServes, RowsCountSubmits};
 
 /// At a rank of samples stands one number at most.
 pub fn one_at_rank()
@@ -10,4 +10,9 @@ pub fn one_at_rank()
 /// The automatic slot may be asked for, and gives no legal history too many cells.
 pub fn auto_slot_serves()
     ensures { AutoSlotServes }
+{}
+
+/// The requests of all tenants' rows are the Submits of the history.
+pub fn rows_count_submits()
+    ensures { RowsCountSubmits }
 {}

@@ -47,5 +47,5 @@ returns c =
     let f3 : SFits w64 c.rank-lag.result.p99 = search rules in
     let f4 : SFits w64 c.rank-lag.result.greatest = search rules in
     same_line c.args.weight (length c.args.courses.now) c.charged.result (number_at c.args.served.now (length c.args.served.now - 1)) _ _ _ _ _ c.rank-lag.result
-        (to_z-of_z w64 _ f0) (to_z-of_z w64 _ f1) (to_z-of_z w64 _ f2) (to_z-of_z w64 _ f3) (to_z-of_z w64 _ f4)
+    (to_z-of_z w64 _ f0) (to_z-of_z w64 _ f1) (to_z-of_z w64 _ f2) (to_z-of_z w64 _ f3) (to_z-of_z w64 _ f4)
     ∙ ap₂ (λ n r. line_with c.args.weight (length c.args.courses.now) n (number_at c.args.served.now (length c.args.served.now - 1)) r) c.charged.ensures (c.rank-lag.ensures ∙ ap ranked (lags_of b))

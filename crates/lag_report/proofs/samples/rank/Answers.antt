@@ -29,11 +29,11 @@ returns c =
     let f3 : SFits w64 (get_or c.sort_unstable.new.self c.place-3.result (pos 0)) = search rules in
     let f4 : SFits w64 (get_or c.sort_unstable.new.self (length c.sort_unstable.new.self - 1) (pos 0)) = search rules in
     five _ _ _ _ _ _ _ _ _ _
-        (read b 0 1 refl (omega (arith, long)) f0)
-        (read b _ _ (rank_of 50 _ c.place.ensures.rank) c.place.ensures.within f1)
-        (read b _ _ (rank_of 90 _ c.place-2.ensures.rank) c.place-2.ensures.within f2)
-        (read b _ _ (rank_of 99 _ c.place-3.ensures.rank) c.place-3.ensures.within f3)
-        (read b _ (length c.args.samples.now) (omega (arith, long)) (omega (arith, long)) f4)
+    (read b 0 1 refl (omega (arith, long)) f0)
+    (read b _ _ (rank_of 50 _ c.place.ensures.rank) c.place.ensures.within f1)
+    (read b _ _ (rank_of 90 _ c.place-2.ensures.rank) c.place-2.ensures.within f2)
+    (read b _ _ (rank_of 99 _ c.place-3.ensures.rank) c.place-3.ensures.within f3)
+    (read b _ (length c.args.samples.now) (omega (arith, long)) (omega (arith, long)) f4)
   where
     five : (a b c d e v w x y z : ℤ) → a ≡ v → b ≡ w → c ≡ x → d ≡ y → e ≡ z → (let r : Ranked = record { least = a; p50 = b; p90 = c; p99 = d; greatest = e } in r) ≡ record { least = v; p50 = w; p90 = x; p99 = y; greatest = z }
     five a b c d e v w x y z f g h i j = cc

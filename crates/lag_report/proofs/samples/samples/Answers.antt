@@ -21,8 +21,8 @@ loop-k-preserved c =
     let work : c.loop-k.work + get_or c.args.gains.now c.loop-k.k 0 ≡ sum (take (c.loop-k.k + 1) c.args.gains.now) = ap (λ n. n + get_or c.args.gains.now c.loop-k.k 0) c.loop-k.invariant.work ∙ sym (sum_by_more (λ x. x) c.args.gains.now c.loop-k.k 0 (omega (arith, c.requires.same, c.loop-k-test.true))) in
     let few : c.loop-k.work + get_or c.args.gains.now c.loop-k.k 0 ≤ 2000000000000000 = omega (arith, c.loop-k.invariant.work, sum_by_more_le (λ x. x) c.args.gains.now c.loop-k.k 0 (omega (arith, c.requires.same, c.loop-k-test.true)), c.requires.gained) in
     let here : to_z w64 (of_z w64 (to_z w64 (get_or c.args.served.now c.loop-k.k 0) -ℤ to_z w64 (c.loop-k.work + get_or c.args.gains.now c.loop-k.k 0))) ≡ sample_at c.args.served.now (λ k. sum (take k c.args.gains.now)) c.loop-k.k =
-        lag_is (get_or c.args.served.now c.loop-k.k 0) (c.loop-k.work + get_or c.args.gains.now c.loop-k.k 0) (c.requires.served c.loop-k.k 0 c.loop-k-test.true) few
-        ∙ ap (λ n. pos (get_or c.args.served.now c.loop-k.k 0) -ℤ pos n) (work ∙ ap (λ n. sum (take n c.args.gains.now)) (add-one c.loop-k.k)) in
+    lag_is (get_or c.args.served.now c.loop-k.k 0) (c.loop-k.work + get_or c.args.gains.now c.loop-k.k 0) (c.requires.served c.loop-k.k 0 c.loop-k-test.true) few
+    ∙ ap (λ n. pos (get_or c.args.served.now c.loop-k.k 0) -ℤ pos n) (work ∙ ap (λ n. sum (take n c.args.gains.now)) (add-one c.loop-k.k)) in
     record {
       work = work;
       samples = c.in_ok-push.ensures.items ∙ ap₂ (λ (xs : List ℤ) z. xs ++ z ∷ []) c.loop-k.invariant.samples here ∙ sym (list_more (sample_at c.args.served.now (λ k. sum (take k c.args.gains.now))) c.loop-k.k);
