@@ -1,21 +1,17 @@
 -- The courses of a legal history are what it says of each request.
-use Rattle.std.proofs.Common.{ℕ, zero, suc, ◌+◌, ◌<◌, ◌≤◌, ◌≡◌, ◌≢◌, ◌^◌, Bool, true, false, cond, nat_eq, List, [], ◌∷◌, ◌++◌, Option, Some, None, unwrap_or, length, get_or, slice_set, arith, refl, ap, ap₂, sym, ◌∙◌, subst, inl, inr, length-append, length-set, add-one, ◌||◌, get_or-set_same, get_or-set_other}
+use Rattle.std.proofs.Common.{ℕ, ◌<◌, ◌≡◌, ◌≢◌, Bool, true, false, nat_eq, List, [], ◌∷◌, ◌++◌, Option, Some, None, unwrap_or, length, slice_set, arith, refl, ap, ap₂, sym, ◌∙◌, subst, inl, inr, length-append, length-set, ◌||◌, get_or-set_same, get_or-set_other}
 use Rattle.std.proofs.lemmas.Bool.{cases_eq, cases_Bool, cond-true, cond-false, eq-eqb, ne_eqb, or_parts, false≢true}
 use Rattle.std.proofs.Math.ListN.{get_or-append}
 use Rattle.std.proofs.Math.Seq.{get_or-append_seam}
-use Rattle.fluid_reference.proofs.Lists.{list_same, list_length, list_at}
 use Rattle.fq_model.specs.declared.config.Config.{Config}
 use Rattle.fq_model.specs.declared.event.Act.{Act}
-use Rattle.fq_model.specs.declared.event.Act.TheVariants.{Submit, Take, Report, Done, Close, Weight, Workers}
-use Rattle.fq_model.specs.declared.event.Entry.{Entry}
+use Rattle.fq_model.specs.declared.event.Act.TheVariants.{Submit, Take, Done}
 use Rattle.fq_model.specs.declared.fluid.FluidRow.{FluidRow}
-use Rattle.fq_model.specs.Sums.{list_below}
-use Rattle.fq_model.specs.History.{History, Request, request_at, request_in, submits, has_act, is_submit_of, is_take_of, is_done_of, is_taken, is_done, is_submitted}
-use Rattle.fq_model.specs.Charge.{final_cost, cost_in}
+use Rattle.fq_model.specs.History.{History, Request, request_at, submits, has_act, is_submit_of, is_take_of, is_done_of, is_taken, is_done, is_submitted}
 use Rattle.fq_model.specs.Rules.{IsLegal, Fits}
 use Rattle.fq_model.specs.Fluid.{moment_of, submit_moment, fluid_rows_of, with_row, with_row_of}
 use Rattle.fq_model.specs.Lag.{take_moment, done_moment, measured_cost}
-use Rattle.fq_laws.proofs.History.Requests.{fresh, fresh_unsubmitted, fresh_untaken, fresh_undone, submitted_below, taken_submitted, use_known, use_taken, taken_known}
+use Rattle.fq_laws.proofs.History.Requests.{fresh_untaken, fresh_undone, submitted_below, taken_submitted, use_known, use_taken}
 use Rattle.fq_laws.proofs.History.Asked.{waits_submitted, asked_submitted}
 use Rattle.fq_laws.proofs.Rules.Takes.{take_waits}
 use Rattle.fq_laws.proofs.Charge.Requests.{cost_none}
@@ -23,7 +19,7 @@ use Rattle.lag_report.specs.declared.course.Course.{Course}
 use Rattle.lag_report.specs.Courses.{submitted, course_at, courses_after, courses_of, rows_after, rows_of, NamesOneOf, NamesSubmitted}
 
 -- whose a request is, or 0
-abbrev tenant_in : Option Request → ℕ
+abbrev pub tenant_in : Option Request → ℕ
 tenant_in None = 0
 tenant_in (Some q) = q.tenant
 

@@ -1,5 +1,5 @@
 -- What stands at a rank.
-use Rattle.std.proofs.Common.{ℕ, suc, ◌+◌, ◌-◌, ◌<◌, ◌≤◌, ◌≡◌, Bool, true, false, not, cond, List, [], ◌∷◌, Option, Some, length, get_or, take, drop, arith, refl, ap, sym, ◌∙◌, subst, inl, inr, ℤ, pos, int_lt, int_le, nat_le, nat_lt, unwrap_or, ◌≢◌, All}
+use Rattle.std.proofs.Common.{ℕ, suc, ◌+◌, ◌-◌, ◌<◌, ◌≤◌, ◌≡◌, Bool, true, false, not, cond, List, [], ◌∷◌, Some, length, get_or, take, drop, arith, refl, ap, sym, ◌∙◌, subst, inl, inr, ℤ, pos, int_lt, int_le, nat_le, nat_lt, unwrap_or, ◌≢◌, All}
 use Rattle.std.specs.Prelude.{◌<ℤ◌, ◌≤ℤ◌}
 use Rattle.std.specs.List.{find, count_by, filter}
 use Rattle.std.specs.List.Sorted.{IsPermutation, IsSorted}

@@ -1,5 +1,5 @@
 -- Texts that are added to, and the least and the greatest of rows.
-use Rattle.std.proofs.Common.{ℕ, zero, suc, ◌+◌, ◌<◌, ◌≤◌, ◌≡◌, List, [], ◌∷◌, ◌++◌, length, drop, map, get_or, Some, slice_get, refl, sym, ap, ◌∙◌, arith, append_assoc, subst, All, add-one, ℤ, pos, ◌≤ℤ◌, below_more}
+use Rattle.std.proofs.Common.{ℕ, zero, suc, ◌+◌, ◌<◌, ◌≤◌, ◌≡◌, List, [], ◌∷◌, ◌++◌, length, drop, map, get_or, Some, slice_get, refl, sym, ap, ◌∙◌, arith, append_assoc, All, add-one, ℤ, pos, ◌≤ℤ◌, below_more}
 use Rattle.std.proofs.lemmas.Int.{ints}
 use Rattle.std.proofs.lemmas.List.{get_or-map, length-map}
 use Rattle.std.proofs.lemmas.List.Elements.{All-map}

@@ -1,9 +1,9 @@
 -- What a history says of the courses of its requests.
-use Rattle.std.specs.Prelude.{ℕ, ◌<◌, ◌≡◌, ◌==◌, Bool, true, false, if◌then◌else◌, List, [], ◌∷◌, ◌++◌, length, All, slice_index_or, slice_set}
+use Rattle.std.specs.Prelude.{ℕ, ◌<◌, ◌≡◌, ◌==◌, true, false, if◌then◌else◌, List, [], ◌∷◌, ◌++◌, length, All, slice_index_or, slice_set}
 use Rattle.fq_model.specs.declared.event.Act.{Act}
 use Rattle.fq_model.specs.declared.event.Act.TheVariants.{Submit, Take, Done}
 use Rattle.fq_model.specs.declared.fluid.FluidRow.{FluidRow}
-use Rattle.fq_model.specs.History.{History, submits}
+use Rattle.fq_model.specs.History.{History}
 use Rattle.lag_report.specs.declared.course.Course.{Course}
 
 -- a request of a tenant that was submitted at m, and no more

@@ -1,6 +1,7 @@
 -- Work by slots, and what a report says of a tenant by the courses of its requests.
-use Rattle.std.specs.Prelude.{ℕ, zero, suc, ◌+◌, ◌-◌, ◌*◌, ◌/◌, ◌<◌, ◌≤◌, ◌≡◌, List, length, take, sum, sum_by, slice_index_or, ℤ, pos, ◌-ℤ◌}
+use Rattle.std.specs.Prelude.{ℕ, zero, suc, ◌-◌, ◌*◌, ◌/◌, ◌<◌, ◌≤◌, ◌≡◌, ◌==◌, List, [], length, take, sum, sum_by, filter, slice_index, slice_index_or, ℤ, pos, ◌-ℤ◌}
 use Rattle.vt_fixed.specs.declared.limits.TheConstants.{GREATEST_COST, GREATEST_MOMENT}
+use Rattle.fq_model.specs.declared.limits.TheConstants.{MOST_CELLS, GREATEST_BACKLOG}
 use Rattle.fq_model.specs.declared.lag.TenantLag.{TenantLag}
 use Rattle.fq_model.specs.Sums.{list_below}
 use Rattle.fq_model.specs.Lag.{work_between}
@@ -56,3 +57,25 @@ line_of weight served courses Q = record {
   p99 = percentile 99 (lags_from served courses Q);
   greatest = greatest_sample (lags_from served courses Q);
 }
+
+-- ---- all tenants
+
+-- what the table says of a slot
+abbrev pub slot_at : List (List ℕ) → ℕ → List ℕ
+slot_at table k = slice_index_or table k []
+
+-- what a tenant is served by the end of each slot
+abbrev pub column_of : List (List ℕ) → ℕ → List ℕ
+column_of table t = list_below (λ k. number_at (slot_at table k) t) (length table)
+
+-- a table of some slots, and no more cells than there may be, for so many tenants, with no number above the limit
+pub record IsTable (tenants : ℕ) (table : List (List ℕ)) : Type 0 where
+  pub some : 1 ≤ length table
+  pub few : length table ≤ MOST_CELLS
+  pub tenants_are : (k : ℕ) → k < length table → length (slot_at table k) ≡ tenants
+  pub low : (k t : ℕ) → k < length table → t < tenants → number_at (slot_at table k) t ≤ GREATEST_BACKLOG
+
+-- what a report says of tenant t, of these weights, of requests with these courses and by this table
+abbrev pub line_for : List ℕ → List Course → List (List ℕ) → ℕ → ℕ → TenantLag
+line_for weights courses table Q t =
+    line_of (slice_index weights t) (column_of table t) (filter (λ c. c.tenant == t) courses) Q

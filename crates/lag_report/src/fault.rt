@@ -1,7 +1,9 @@
 //! Why there is no report.
 ghost use Rattle.std.specs.Prelude.{◌≡◌};
 ghost use Rattle.lag_report.specs.declared.fault.ReportFault.TheVariants as faults;
+ghost use Rattle.lag_report.specs.Faults.{fault_from};
 
+use fluid_reference::fault::FluidFault;
 use fq_model::limits::MOST_CELLS;
 use std::alloc::{AllocError, AllocFailed};
 use thiserror::Error;
@@ -42,6 +44,17 @@ impl From<AllocError> for ReportFault {
 
     fn from(_: AllocError) -> ReportFault {
         ReportFault::NoMemory
+    }
+}
+
+impl From<FluidFault> for ReportFault {
+    ghost from_gives = { λ fluid fault. fault ≡ fault_from fluid };
+
+    fn from(fault: FluidFault) -> ReportFault {
+        match fault {
+            FluidFault::TooLong { slots, tenants } => ReportFault::TooLong { slots, tenants },
+            FluidFault::NoMemory => ReportFault::NoMemory,
+        }
     }
 }
 

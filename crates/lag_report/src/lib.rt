@@ -11,4 +11,6 @@ pub mod printing;
 pub mod reading;
 pub mod reporting;
 pub mod samples;
+#[cfg(test)]
+mod tests;
 pub mod work;

@@ -5,8 +5,12 @@ ghost use Rattle.fq_model.specs.Rules.{IsLegal};
 ghost use Rattle.fq_model.specs.Report.{lag_report};
 ghost use Rattle.lag_report.specs.Reports.{report_refusal, IsReason};
 
+use crate::automatic::last_moment;
 use crate::fault::ReportFault;
+use crate::lines::{by_tenant, lines};
 use crate::parts::Report;
+use crate::reading::{changes, read, unfinished};
+use fluid_reference::slots::slots;
 use fq_model::config::Checked;
 use fq_model::event::Entry;
 use fq_model::limits::GREATEST_SLOT;
@@ -15,7 +19,7 @@ use std::alloc::Global;
 /// What each tenant of a history was served against its fluid service, in slots of so many microseconds from moment 0 on,
 /// the last of which holds the last entry's moment.
 pub fn report(
-    _alloc: Global,
+    alloc: Global,
     past: &[Entry],
     config: &Checked,
     slot: u64,
@@ -27,5 +31,23 @@ pub fn report(
     ensures sound { IfOk result (λ _. report_refusal config.now (history_of past.now) slot ≡ None) }
     ensures reason { IfErr result (λ fault. IsReason fault (report_refusal config.now (history_of past.now) slot)) }
 {
-    Err(ReportFault::NoMemory)
+    let weights = config.weights();
+    let mut requests = read(alloc, past)?;
+    if let Some(request) = unfinished(requests.courses.as_slice()) {
+        return Err(ReportFault::Unfinished(request as u32));
+    }
+    let end = last_moment(past);
+    let count = end / slot + 1;
+    let changes = changes(alloc, past)?;
+    let fluid = slots(
+        alloc,
+        requests.rows.as_slice(),
+        changes.as_slice(),
+        config,
+        slot,
+        count,
+    )?;
+    by_tenant(requests.courses.as_mut_slice());
+    let rows = lines(alloc, requests.courses.as_slice(), &fluid, weights, slot)?;
+    Ok(Report::new(slot, count, rows, end, past.len() as u64))
 }

@@ -1,4 +1,4 @@
-use Rattle.std.proofs.Common.{ℕ, ◌+◌, ◌≤◌, ◌≡◌, nat_lt, nat_le, length, arith, rules, refl}
+use Rattle.std.proofs.Common.{◌≤◌, nat_lt, nat_le, rules}
 use Rattle.std.proofs.lemmas.List.Sorted.{IsPartitionedBy-leb, IsPartitionedBy-ltb, IsPartitionPoint-from_clause}
 use Rattle.lag_report.specs.declared.course.Course.{Course}
 use Rattle.lag_report.proofs.Groups.{Parts, in_order, middle}

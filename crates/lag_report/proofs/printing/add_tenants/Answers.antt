@@ -1,8 +1,6 @@
-use Rattle.std.proofs.Common.{◌≡◌, length, arith, ap, sym, ◌∙◌, ◌++◌, drop, ℕ}
+use Rattle.std.proofs.Common.{arith, ap, sym, ◌∙◌, ◌++◌}
 use Rattle.std.proofs.lemmas.List.{append-nil}
 use Rattle.tenant_table.specs.Names.{names_of}
-use Rattle.tenant_table.proofs.Tables.{length_names}
-use Rattle.fq_model.specs.ReportText.{tenant_lag_lines}
 use Rattle.lag_report.proofs.Texts.{next_line, no_line_left}
 use Rattle.lag_report.proofs.printing.add_tenants.Goals as goal
 

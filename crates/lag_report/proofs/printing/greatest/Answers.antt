@@ -1,5 +1,5 @@
-use Rattle.std.proofs.Common.{ℕ, ◌+◌, ◌<◌, ◌≤◌, ◌≡◌, length, get_or, ℤ, ◌≤ℤ◌, arith, rules, subst, sym, ap, ◌∙◌, refl, below_more, w64}
-use mir.Val.{SFits, to_z, of_z}
+use Rattle.std.proofs.Common.{ℕ, ◌+◌, ◌<◌, ◌≡◌, length, get_or, ◌≤ℤ◌, arith, rules, subst, sym, ◌∙◌, refl, below_more, w64}
+use mir.Val.{SFits}
 use Rattle.std.proofs.lemmas.Int.{to_z-of_z, ints}
 use Rattle.std.proofs.lemmas.Bool.{eqb-true, eqb-false}
 use Rattle.std.proofs.lemmas.List.{get_or_default}
@@ -38,4 +38,4 @@ pub returns : goal.returns
 returns c =
     let fits : SFits w64 (get_or c.args.rows.now c.loop-k.place no_row).greatest = search rules in
     to_z-of_z w64 _ fits ∙ greatest_of c.args.rows.now (get_or c.args.rows.now c.loop-k.place no_row).greatest c.loop-k.place c.loop-k.invariant.inside refl
-        (λ j d l. subst (λ r. r.greatest ≤ℤ (get_or c.args.rows.now c.loop-k.place no_row).greatest) (get_or_default c.args.rows.now j no_row d l) (c.loop-k.invariant.best j (omega (arith, l))))
+    (λ j d l. subst (λ r. r.greatest ≤ℤ (get_or c.args.rows.now c.loop-k.place no_row).greatest) (get_or_default c.args.rows.now j no_row d l) (c.loop-k.invariant.best j (omega (arith, l))))

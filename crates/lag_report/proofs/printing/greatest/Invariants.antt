@@ -1,4 +1,4 @@
-use Rattle.std.proofs.Common.{ℕ, ◌<◌, ◌≤◌, length, get_or, ◌≤ℤ◌}
+use Rattle.std.proofs.Common.{ℕ, ◌<◌, length, get_or, ◌≤ℤ◌}
 use Rattle.lag_report.proofs.Texts.{no_row}
 use Rattle.lag_report.proofs.printing.greatest.Given as goal
 

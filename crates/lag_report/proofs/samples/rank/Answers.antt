@@ -1,11 +1,10 @@
-use Rattle.std.proofs.Common.{ℕ, ◌+◌, ◌-◌, ◌*◌, ◌<◌, ◌≤◌, ◌≡◌, length, get_or, ℤ, pos, arith, rules, refl, ap, sym, ◌∙◌, w64}
+use Rattle.std.proofs.Common.{ℕ, ◌+◌, ◌-◌, ◌*◌, ◌<◌, ◌≡◌, length, get_or, ℤ, pos, arith, rules, refl, ap, ◌∙◌, w64}
 use mir.Val.{SFits, to_z, of_z}
 use Rattle.std.proofs.lemmas.Int.{to_z-of_z}
-use Rattle.std.proofs.lemmas.List.Sorted.{length_permutation}
 use Rattle.vt_fixed.specs.Rounding.{ceil_div}
 use Rattle.fq_model.specs.Ranks.{at_rank}
 use Rattle.lag_report.specs.declared.samples.Ranked.{Ranked}
-use Rattle.lag_report.specs.Ranked.{Ascends, ranked}
+use Rattle.lag_report.specs.Ranked.{Ascends}
 use Rattle.lag_report.proofs.Ranks.{from_sort, at_place}
 use Rattle.lag_report.proofs.samples.rank.Goals as goal
 use Rattle.lag_report.proofs.samples.rank.Goals.{After-place-3}

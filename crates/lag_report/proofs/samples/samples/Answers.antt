@@ -1,4 +1,4 @@
-use Rattle.std.proofs.Common.{ℕ, suc, ◌+◌, ◌≤◌, ◌<◌, ◌≡◌, ◌++◌, ◌∷◌, [], List, length, take, get_or, sum, arith, rules, refl, ap, ap₂, sym, ◌∙◌, ℤ, pos, ◌-ℤ◌, add-one, w64}
+use Rattle.std.proofs.Common.{ℕ, ◌+◌, ◌≤◌, ◌≡◌, ◌++◌, ◌∷◌, [], List, take, get_or, sum, arith, refl, ap, ap₂, sym, ◌∙◌, ℤ, pos, ◌-ℤ◌, add-one, w64}
 use mir.Val.{to_z, of_z}
 use Rattle.std.proofs.lemmas.Int.{ints}
 use Rattle.std.proofs.lemmas.List.Sums.{sum_by_more, sum_by_more_le}

@@ -1,4 +1,4 @@
-use Rattle.std.proofs.Common.{◌≡◌, take, sum, length, ◌≤◌}
+use Rattle.std.proofs.Common.{◌≡◌, take, sum}
 use Rattle.fq_model.specs.Sums.{list_below}
 use Rattle.lag_report.specs.Work.{sample_at}
 use Rattle.lag_report.proofs.samples.samples.Given as goal

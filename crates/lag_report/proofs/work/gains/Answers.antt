@@ -1,4 +1,4 @@
-use Rattle.std.proofs.Common.{◌≡◌, ◌++◌, length, take, drop, replicate, arith, rules, ap, sym, ◌∙◌, subst, All, ℕ, sum, ◌+◌, ◌≤◌}
+use Rattle.std.proofs.Common.{◌≡◌, ◌++◌, length, take, drop, replicate, arith, rules, ap, sym, ◌∙◌, subst, ℕ, sum, ◌+◌, ◌≤◌}
 use Rattle.std.proofs.lemmas.List.{length-replicate, length-take}
 use Rattle.std.proofs.lemmas.List.Elements.{All-take}
 use Rattle.fluid_reference.proofs.Known.{written_back}

@@ -1,4 +1,4 @@
-use Rattle.std.proofs.Common.{refl, ◌/◌, length-set, ℕ, suc, ◌+◌, ◌-◌, ◌*◌, ◌<◌, ◌≤◌, ◌≡◌, min, length, take, sum, arith, ap, sym, ◌∙◌, inl, inr, true, false, nat_le, add-one, subst}
+use Rattle.std.proofs.Common.{refl, ◌/◌, length-set, ℕ, suc, ◌+◌, ◌-◌, ◌*◌, ◌<◌, ◌≤◌, ◌≡◌, min, length, take, sum, arith, ap, sym, ◌∙◌, inl, inr, nat_le, add-one, subst}
 use Rattle.std.proofs.lemmas.Bool.{cases_Bool, leb-true, leb-false}
 use Rattle.std.proofs.lemmas.List.Sums.{get_or-le-sum_by}
 use Rattle.std.proofs.lemmas.List.{take_all}

@@ -1,4 +1,4 @@
-use Rattle.std.proofs.Common.{ℕ, ◌≡◌, ◌≤◌, ◌+◌, ◌-◌, ◌/◌, min, take, sum, length}
+use Rattle.std.proofs.Common.{ℕ, ◌≡◌, ◌≤◌, ◌+◌, min, take, sum, length}
 use Rattle.lag_report.specs.Work.{work_in}
 use Rattle.lag_report.proofs.work.spread.Given as goal
 
