@@ -1,10 +1,10 @@
 -- Worked histories are legal.
-use Rattle.std.proofs.Common.{ℕ, [], ◌∷◌, List, refl, arith}
+use Rattle.std.proofs.Common.{[], ◌∷◌, List, refl, arith}
 use Rattle.fq_model.specs.declared.event.Act.TheVariants.{Submit, Take, Done, Close, Weight}
 use Rattle.fq_model.specs.declared.event.Entry.{Entry}
 use Rattle.fq_model.specs.History.{history_of}
 use Rattle.fq_model.specs.Rules.{IsLegal}
-use Rattle.fq_laws.proofs.Computed.Histories.{IsShort, computing}
+use Rattle.fq_laws.proofs.Computed.Histories.{computing}
 use Rattle.fq_laws.proofs.Computed.Legal.{legal_is}
 use Rattle.lag_report.specs.Worked.{worked_config}
 
