@@ -1,0 +1,114 @@
+-- How many requests and changes a legal history has, and that their numbers are in their limits.
+use Rattle.std.proofs.Common.{ℕ, ◌+◌, ◌-◌, ◌*◌, ◌<◌, ◌≤◌, ◌≡◌, List, [], ◌∷◌, ◌++◌, length, arith, refl, ap, ◌∙◌, All, length-append}
+use Rattle.std.proofs.lemmas.List.Elements.{All-push}
+use Rattle.std.proofs.lemmas.List.Sorted.{IsNonDecreasingBy-push}
+use Rattle.std.specs.List.Sorted.{IsNonDecreasingBy}
+use Rattle.fq_model.specs.declared.config.Config.{Config}
+use Rattle.fq_model.specs.declared.event.Act.{Act}
+use Rattle.fq_model.specs.declared.event.Act.TheVariants.{Submit, Take, Report, Done, Weight, Workers}
+use Rattle.fq_model.specs.declared.fluid.FluidRow.{FluidRow}
+use Rattle.fq_model.specs.declared.fluid.Change.{Change}
+use Rattle.fq_model.specs.declared.fluid.What.TheVariants as changed
+use Rattle.fq_model.specs.Limits.{InLimits}
+use Rattle.fq_model.specs.History.{History, submits, waiting, running}
+use Rattle.fq_model.specs.Time.{last_moment}
+use Rattle.fq_model.specs.Rules.{IsLegal, Fits}
+use Rattle.fq_model.specs.Fluid.{changes_of, with_change}
+use Rattle.fluid_reference.specs.Slots.{IsRowOf, IsChangeOf}
+use Rattle.fq_laws.specs.Words.{one_more}
+use Rattle.fq_laws.proofs.Rules.Room.{has_room}
+use Rattle.fq_laws.proofs.History.Requests.{use_known, request_known}
+use Rattle.fq_laws.proofs.History.Numbers.{waiting_submitted, waiting_taken, running_taken, running_finished}
+use Rattle.fq_laws.proofs.History.Counts.{running_submit, running_report, waiting_report, waiting_done, running_quiet, waiting_quiet, waiting_none, running_none}
+use Rattle.lag_report.specs.Courses.{course_at, courses_of, rows_after, rows_of}
+use Rattle.lag_report.proofs.CoursesAre.{tenant_in, courses_are, names_known}
+
+-- ---- requests
+
+-- each request that is done took three entries, and each that waits or runs has taken one or two
+record Counted (P : History) (rows : List FluidRow) : Type 0 where
+  all : waiting P + running P + length rows ≡ submits P
+  entries : submits P + running P + 2 * length rows ≤ length P
+
+counted_at : (C : Config) (P : History) (who m : ℕ) (a : Act) (rows : List FluidRow) → InLimits C → IsLegal C P → Fits C P m a → Counted P rows → Counted (one_more who m a P) (rows_after (courses_of P) a rows)
+counted_at C P who m (Submit q tenant kind declared label) rows lim l f n =
+    let w = waiting_submitted C P who m q tenant kind declared label lim l f in
+    let r = running_submit P who m q tenant kind declared label in
+    record { all = omega (arith, w, r, n.all); entries = omega (arith, r, n.entries) }
+counted_at C P who m (Take w q estimate) rows lim l f n =
+    let s = waiting_taken C P who m w q estimate lim l f in
+    let r = running_taken C P who m w q estimate lim l f in
+    record { all = omega (arith, s, r, n.all); entries = omega (arith, r, n.entries) }
+counted_at C P who m (Report w q used) rows lim l f n =
+    let s = waiting_report P who m w q used in
+    let r = running_report P who m w q used in
+    record { all = omega (arith, s, r, n.all); entries = omega (arith, r, n.entries) }
+counted_at C P who m (Done w q cost) rows lim l f n =
+    let s = waiting_done P who m w q cost in
+    let r = running_finished C P who m w q cost lim l f in
+    let more = length-append rows (record { tenant = (course_at (courses_of P) q).tenant; submit = (course_at (courses_of P) q).submit; cost = cost } ∷ []) in
+    record { all = omega (arith, s, r, more, n.all); entries = omega (arith, r, more, n.entries) }
+counted_at C P who m a rows lim l f n =
+    let s = waiting_quiet P who m a refl in
+    let r = running_quiet P who m a refl in
+    record { all = omega (arith, s, r, n.all); entries = omega (arith, r, n.entries) }
+
+counted : (C : Config) (H : History) → InLimits C → IsLegal C H → Counted H (rows_of H)
+counted C [] lim l = record { all = omega (arith, waiting_none, running_none); entries = omega (arith, running_none) }
+counted C (e ∷ P) lim l = counted_at C P e.who e.moment e.act (rows_of P) lim l.0 l.3 (counted C P lim l.0)
+
+pub submits_few : (C : Config) (H : History) → InLimits C → IsLegal C H → submits H ≤ 2000000
+submits_few C H lim l = let n = counted C H lim l in omega (arith, n.all, n.entries, has_room C H lim l, lim.entries.1)
+
+pub rows_few : (C : Config) (H : History) → InLimits C → IsLegal C H → length (rows_of H) ≤ 2000000
+rows_few C H lim l = let n = counted C H lim l in omega (arith, n.all, submits_few C H lim l)
+
+row_in : (C : Config) (P : History) (m : ℕ) (a : Act) (rows : List FluidRow) → IsLegal C P → Fits C P m a → All (IsRowOf (length C.weights)) rows → All (IsRowOf (length C.weights)) (rows_after (courses_of P) a rows)
+row_in C P m (Done w q cost) rows l f ih =
+    let asked = use_known C P w q cost l f in
+    let course = (courses_are C P l).each q (names_known C P m (Done w q cost) l f) in
+    let tenant : (course_at (courses_of P) q).tenant ≡ asked.0.tenant = ap (λ c. c.tenant) course ∙ ap tenant_in asked.1 in
+    let low : asked.0.tenant < length C.weights = (request_known C P q asked.0 l asked.1).tenant_known in
+    All-push (IsRowOf (length C.weights)) rows _ ih (record { tenant = omega (arith, tenant, low); cost = f.in_range })
+row_in C P m _ rows l f ih = ih
+
+pub rows_in : (C : Config) (H : History) → IsLegal C H → All (IsRowOf (length C.weights)) (rows_of H)
+rows_in C [] l = λ k d b. absurd (omega (arith, b))
+rows_in C (e ∷ P) l = row_in C P e.moment e.act (rows_of P) l.0 l.3 (rows_in C P l.0)
+
+-- ---- changes
+
+change_in : (C : Config) (P : History) (m : ℕ) (a : Act) (changes : List Change) → InLimits C → Fits C P m a → All (IsChangeOf (length C.weights)) changes → All (IsChangeOf (length C.weights)) (with_change m a changes)
+change_in C P m (Weight tenant weight) changes lim f ih = All-push (IsChangeOf (length C.weights)) changes _ ih (f.tenant_known, f.weight_in_range)
+change_in C P m (Workers count) changes lim f ih = All-push (IsChangeOf (length C.weights)) changes _ ih (f.count_in_range.0, omega (arith, f.count_in_range.1, lim.workers.1))
+change_in C P m _ changes lim f ih = ih
+
+pub changes_in : (C : Config) (H : History) → InLimits C → IsLegal C H → All (IsChangeOf (length C.weights)) (changes_of H)
+changes_in C [] lim l = λ k d b. absurd (omega (arith, b))
+changes_in C (e ∷ P) lim l = change_in C P e.moment e.act (changes_of P) lim l.3 (changes_in C P lim l.0)
+
+-- changes come in order of time, and none after the last entry
+record InTime (last : ℕ) (changes : List Change) : Type 0 where
+  low : All (λ (c : Change). c.moment ≤ last) changes
+  order : IsNonDecreasingBy (λ (c : Change). c.moment) changes
+
+later : (last m : ℕ) (changes : List Change) → last ≤ m → InTime last changes → InTime m changes
+later last m changes h t = record { low = λ k d b. omega (arith, t.low k d b, h); order = t.order }
+
+push_change : (m : ℕ) (changes : List Change) (c : Change) → c.moment ≡ m → InTime m changes → InTime m (changes ++ c ∷ [])
+push_change m changes c is t = record {
+  low = All-push (λ (c : Change). c.moment ≤ m) changes c t.low (omega (arith, is));
+  order = IsNonDecreasingBy-push (λ (c : Change). c.moment) changes c t.order (λ d some. omega (arith, is, t.low (length changes - 1) d (omega (arith, some))));
+}
+
+in_time_at : (m : ℕ) (a : Act) (changes : List Change) → InTime m changes → InTime m (with_change m a changes)
+in_time_at m (Weight tenant weight) changes t = push_change m changes (record { moment = m; what = changed.Weight tenant weight }) refl t
+in_time_at m (Workers count) changes t = push_change m changes (record { moment = m; what = changed.Workers count }) refl t
+in_time_at m _ changes t = t
+
+in_time : (C : Config) (H : History) → IsLegal C H → InTime (last_moment H) (changes_of H)
+in_time C [] l = record { low = λ k d b. absurd (omega (arith, b)); order = λ i j d h b. absurd (omega (arith, b)) }
+in_time C (e ∷ P) l = in_time_at e.moment e.act (changes_of P) (later (last_moment P) e.moment (changes_of P) l.1 (in_time C P l.0))
+
+pub changes_order : (C : Config) (H : History) → IsLegal C H → IsNonDecreasingBy (λ (c : Change). c.moment) (changes_of H)
+changes_order C H l = (in_time C H l).order

@@ -1,0 +1,13 @@
+pub mod Doublings
+pub mod Pasts
+pub mod Ranks
+pub mod Gains
+pub mod Groups
+pub mod Texts
+pub mod CoursesAre
+pub mod Totals
+pub mod Ends
+pub mod Counts
+pub mod TenantLines
+pub mod Refusals
+pub mod Worked

@@ -1,0 +1,29 @@
+use Rattle.std.proofs.Common.{ℕ, ◌+◌, ◌≤◌, ◌≡◌, ◌++◌, ◌∷◌, [], List, take, get_or, sum, arith, refl, ap, ap₂, sym, ◌∙◌, ℤ, pos, ◌-ℤ◌, add-one, w64}
+use mir.Val.{to_z, of_z}
+use Rattle.std.proofs.lemmas.Int.{ints}
+use Rattle.std.proofs.lemmas.List.Sums.{sum_by_more, sum_by_more_le}
+use Rattle.fluid_reference.proofs.Lists.{list_none, list_more}
+use Rattle.lag_report.specs.Work.{sample_at}
+use Rattle.lag_report.proofs.samples.samples.Goals as goal
+
+pub overflow_add-work : goal.overflow_add-work
+overflow_add-work c = omega (arith, c.loop-k.invariant.work, sum_by_more_le (λ x. x) c.args.gains.now c.loop-k.k 0 (omega (arith, c.requires.same, c.loop-k-test.true)), c.requires.gained)
+
+pub loop-k-init : goal.loop-k-init
+loop-k-init c = record { work = refl; samples = c.new-samples.ensures.items ∙ sym (list_none _) }
+
+-- what is pushed: a difference of numbers that are in their limits
+lag_is : (served work : ℕ) → served ≤ 2000000000000000 → work ≤ 2000000000000000 → to_z w64 (of_z w64 (to_z w64 served -ℤ to_z w64 work)) ≡ pos served -ℤ pos work
+lag_is served work s w = omega (arith, ints)
+
+pub loop-k-preserved : goal.loop-k-preserved
+loop-k-preserved c =
+    let work : c.loop-k.work + get_or c.args.gains.now c.loop-k.k 0 ≡ sum (take (c.loop-k.k + 1) c.args.gains.now) = ap (λ n. n + get_or c.args.gains.now c.loop-k.k 0) c.loop-k.invariant.work ∙ sym (sum_by_more (λ x. x) c.args.gains.now c.loop-k.k 0 (omega (arith, c.requires.same, c.loop-k-test.true))) in
+    let few : c.loop-k.work + get_or c.args.gains.now c.loop-k.k 0 ≤ 2000000000000000 = omega (arith, c.loop-k.invariant.work, sum_by_more_le (λ x. x) c.args.gains.now c.loop-k.k 0 (omega (arith, c.requires.same, c.loop-k-test.true)), c.requires.gained) in
+    let here : to_z w64 (of_z w64 (to_z w64 (get_or c.args.served.now c.loop-k.k 0) -ℤ to_z w64 (c.loop-k.work + get_or c.args.gains.now c.loop-k.k 0))) ≡ sample_at c.args.served.now (λ k. sum (take k c.args.gains.now)) c.loop-k.k =
+    lag_is (get_or c.args.served.now c.loop-k.k 0) (c.loop-k.work + get_or c.args.gains.now c.loop-k.k 0) (c.requires.served c.loop-k.k 0 c.loop-k-test.true) few
+    ∙ ap (λ n. pos (get_or c.args.served.now c.loop-k.k 0) -ℤ pos n) (work ∙ ap (λ n. sum (take n c.args.gains.now)) (add-one c.loop-k.k)) in
+    record {
+      work = work;
+      samples = c.in_ok-push.ensures.items ∙ ap₂ (λ (xs : List ℤ) z. xs ++ z ∷ []) c.loop-k.invariant.samples here ∙ sym (list_more (sample_at c.args.served.now (λ k. sum (take k c.args.gains.now))) c.loop-k.k);
+    }

@@ -1,0 +1,10 @@
+use Rattle.std.proofs.Common.{◌≡◌, take, sum}
+use Rattle.fq_model.specs.Sums.{list_below}
+use Rattle.lag_report.specs.Work.{sample_at}
+use Rattle.lag_report.proofs.samples.samples.Given as goal
+
+abbrev pub invariant-loop-k : goal.invariant-loop-k
+invariant-loop-k l = record {
+  work : l.work ≡ sum (take l.k l.gains);
+  samples : l.samples.items ≡ list_below (sample_at l.served (λ k. sum (take k l.gains))) l.k;
+}

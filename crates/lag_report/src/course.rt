@@ -1,0 +1,17 @@
+//! The course of a request.
+
+/// When a request came, was taken and was done, in microseconds.
+#[derive(Clone, Copy, Debug, PartialEq, Eq)]
+pub struct Course {
+    /// Whose it is.
+    pub tenant: u32,
+    /// When it was submitted.
+    pub submit: u64,
+    /// When it was taken, or 0 where it is not taken.
+    pub taken: u64,
+    /// When it was done, or 0 where it is not done.
+    pub ended: u64,
+    /// Its measured cost, or 0 where it is not done.
+    pub cost: u64,
+    pub is_done: bool,
+}

@@ -1,0 +1,115 @@
+//! What a report says of a tenant.
+ghost use Rattle.std.specs.Prelude.{◌≡◌, ◌≤◌, ◌<◌, ◌==◌, length, IfOk, All, filter, sum_by, ℕ};
+ghost use Rattle.fq_model.specs.Sums.{list_below};
+ghost use Rattle.std.specs.List.Sorted.{IsNonDecreasingBy, IsPermutation};
+ghost use Rattle.lag_report.specs.Work.{EndsWithin, IsTable, slot_at, column_of, line_of, line_for};
+
+use crate::course::Course;
+use crate::samples::{rank, samples};
+use crate::work::gains;
+use fluid_reference::table::FluidTable;
+use fq_model::lag::TenantLag;
+use fq_model::limits::{
+    GREATEST_BACKLOG, GREATEST_SLOT, MOST_CELLS, MOST_FLUID_ROWS, MOST_TENANTS,
+};
+use std::alloc::{AllocError, Global};
+
+/// What a report says of each tenant, by number: of requests in the order of their tenants, where tenants are served so.
+pub fn lines(
+    alloc: Global,
+    courses: &[Course],
+    fluid: &FluidTable,
+    weights: &[u32],
+    slot: u64,
+) -> Result<Vec<TenantLag>, AllocError>
+    requires positive { 1 ≤ slot }
+    requires short { slot ≤ GREATEST_SLOT }
+    requires tenants { length weights.now ≤ MOST_TENANTS }
+    requires table { IsTable (length weights.now) fluid.now }
+    requires order { IsNonDecreasingBy (λ c. c.tenant) courses.now }
+    requires requests { length courses.now ≤ MOST_FLUID_ROWS }
+    requires end { All (EndsWithin slot (length fluid.now)) courses.now }
+    ensures { IfOk result (λ v. v.items
+        ≡ list_below (line_for weights.now courses.now fluid.now slot) (length weights.now)) }
+{
+    let mut lines = Vec::new(alloc);
+    for t in 0..weights.len() {
+        let served = column(alloc, fluid, t)?;
+        let own = of_tenant(courses, t as u32);
+        let line = line(alloc, weights[t], own, served.as_slice(), slot)?;
+        lines.push(line)?;
+    }
+    Ok(lines)
+}
+
+// What a tenant is served up to the end of each slot.
+fn column(alloc: Global, fluid: &FluidTable, tenant: usize) -> Result<Vec<u64>, AllocError>
+    requires { (k : ℕ) → k < length fluid.now → tenant < length (slot_at fluid.now k) }
+    ensures { IfOk result (λ v. v.items ≡ column_of fluid.now tenant) }
+{
+    let mut column = Vec::new(alloc);
+    for k in 0..fluid.len() {
+        column.push(fluid.slot(k)[tenant])?;
+    }
+    Ok(column)
+}
+
+/// Puts courses in the order of their tenants.
+pub fn by_tenant(courses: &mut [Course])
+    ensures same { IsPermutation courses.old courses.new }
+    ensures order { IsNonDecreasingBy (λ c. c.tenant) courses.new }
+{
+    courses.sort_unstable_by_key(|course| course.tenant);
+}
+
+// What a report says of a tenant of this weight, whose requests have these courses, and which was served so much up to
+// the end of each slot.
+fn line(
+    alloc: Global,
+    weight: u32,
+    courses: &[Course],
+    served: &[u64],
+    slot: u64,
+) -> Result<TenantLag, AllocError>
+    requires positive { 1 ≤ slot }
+    requires short { slot ≤ GREATEST_SLOT }
+    requires some { 1 ≤ length served.now }
+    requires few { length served.now ≤ MOST_CELLS }
+    requires served { All (λ s. s ≤ GREATEST_BACKLOG) served.now }
+    requires requests { length courses.now ≤ MOST_FLUID_ROWS }
+    requires end { All (EndsWithin slot (length served.now)) courses.now }
+    ensures { IfOk result (λ line. line ≡ line_of weight served.now courses.now slot) }
+{
+    let gains = gains(alloc, courses, slot, served.len())?;
+    let mut lags = samples(alloc, served, gains.as_slice())?;
+    let lag = rank(lags.as_mut_slice());
+    Ok(TenantLag {
+        weight,
+        requests: courses.len() as u32,
+        charged: charged(courses),
+        fluid: served[served.len() - 1],
+        least: lag.least,
+        p50: lag.p50,
+        p90: lag.p90,
+        p99: lag.p99,
+        greatest: lag.greatest,
+    })
+}
+
+// What requests that are done were charged.
+fn charged(courses: &[Course]) -> u64
+    requires { sum_by (λ c. c.cost) courses.now ≤ GREATEST_BACKLOG }
+    ensures { result ≡ sum_by (λ c. c.cost) courses.now }
+{
+    courses.iter().map(|course| course.cost).sum()
+}
+
+// The courses of a tenant's requests, of courses in the order of their tenants.
+fn of_tenant(courses: &[Course], tenant: u32) -> &[Course]
+    requires { IsNonDecreasingBy (λ c. c.tenant) courses.now }
+    ensures { result.now ≡ filter (λ c. c.tenant == tenant) courses.now }
+{
+    let from = courses.partition_point(|course| course.tenant < tenant);
+    let to = courses.partition_point(|course| course.tenant <= tenant);
+    &courses[from..to]
+}

@@ -1,0 +1,122 @@
+//! What a history says of its requests and of its changes.
+ghost use Rattle.std.specs.Prelude.{◌≡◌, ◌<◌, ◌^◌, length, IfOk, OnOk, not, position, map};
+ghost use Rattle.fq_model.specs.History.{history_of};
+ghost use Rattle.fq_model.specs.Fluid.{changes_of, with_change};
+ghost use Rattle.lag_report.specs.Courses.{NamesOneOf, NamesSubmitted, courses_after, courses_of, rows_after, rows_of, submitted};
+
+use crate::course::Course;
+use fq_model::event::{Act, Entry};
+use fq_model::fluid::{Change, FluidRow, What};
+use std::alloc::{AllocError, Global};
+
+/// What a history says of its requests.
+#[derive(Drop)]
+pub struct Requests {
+    /// Their courses, by number.
+    pub courses: Vec<Course>,
+    /// Those that are done, in the order of their Dones.
+    pub rows: Vec<FluidRow>,
+}
+
+impl Requests {
+    // Takes in one entry more.
+    fn add(&mut self, entry: Entry) -> Result<(), AllocError>
+        requires { NamesOneOf (length self.old.courses.items) entry.act }
+        ensures courses { OnOk result (self.new.courses.items
+            ≡ courses_after entry.moment entry.act self.old.courses.items) }
+        ensures rows { OnOk result (self.new.rows.items
+            ≡ rows_after self.old.courses.items entry.act self.old.rows.items) }
+    {
+        let moment = entry.moment;
+        match entry.act {
+            Act::Submit { tenant, .. } => self.courses.push(submitted(tenant, moment))?,
+            Act::Take { request, .. } => {
+                let course = self.courses[request as usize];
+                self.courses[request as usize] = Course {
+                    taken: moment,
+                    ..course
+                };
+            }
+            Act::Done { request, cost, .. } => {
+                let course = self.courses[request as usize];
+                self.rows.push(FluidRow {
+                    tenant: course.tenant,
+                    submit: course.submit,
+                    cost,
+                })?;
+                self.courses[request as usize] = Course {
+                    ended: moment,
+                    cost,
+                    is_done: true,
+                    ..course
+                };
+            }
+            _ => {}
+        }
+        Ok(())
+    }
+}
+
+// The course of a request that was just submitted.
+fn submitted(tenant: u32, submit: u64) -> Course
+    ensures { result ≡ submitted tenant submit }
+{
+    Course {
+        tenant,
+        submit,
+        taken: 0,
+        ended: 0,
+        cost: 0,
+        is_done: false,
+    }
+}
+
+/// What the entries, in order of time, say of the requests.
+pub fn read(alloc: Global, past: &[Entry]) -> Result<Requests, AllocError>
+    requires { NamesSubmitted (history_of past.now) }
+    ensures courses { IfOk result (λ r. r.courses.items ≡ courses_of (history_of past.now)) }
+    ensures rows { IfOk result (λ r. r.rows.items ≡ rows_of (history_of past.now)) }
+{
+    let mut requests = Requests {
+        courses: Vec::new(alloc),
+        rows: Vec::new(alloc),
+    };
+    for entry in past {
+        requests.add(*entry)?;
+    }
+    Ok(requests)
+}
+
+/// The least request that is not done, if there is one.
+pub fn unfinished(courses: &[Course]) -> Option<usize>
+    ensures { result ≡ position (λ c. not c.is_done) courses.now }
+{
+    courses.iter().position(|course| !course.is_done)
+}
+
+/// The changes of weights and of the number of workers, in order of time.
+pub fn changes(alloc: Global, past: &[Entry]) -> Result<Vec<Change>, AllocError>
+    ensures { IfOk result (λ v. v.items ≡ changes_of (history_of past.now)) }
+{
+    let mut changes = Vec::new(alloc);
+    for entry in past {
+        add_change(*entry, &mut changes)?;
+    }
+    Ok(changes)
+}
+
+// Adds what the entry changes, if it is a change.
+fn add_change(entry: Entry, changes: &mut Vec<Change>) -> Result<(), AllocError>
+    ensures { OnOk result (changes.new.items ≡ with_change entry.moment entry.act changes.old.items) }
+{
+    let what = match entry.act {
+        Act::Weight { tenant, weight } => What::Weight { tenant, weight },
+        Act::Workers { count } => What::Workers { count },
+        _ => return Ok(()),
+    };
+    changes.push(Change {
+        moment: entry.moment,
+        what,
+    })?;
+    Ok(())
+}

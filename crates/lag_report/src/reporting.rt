@@ -1,0 +1,53 @@
+//! The report of a history.
+ghost use Rattle.std.specs.Prelude.{◌≡◌, ◌≤◌, IfOk, IfErr, None};
+ghost use Rattle.fq_model.specs.History.{history_of};
+ghost use Rattle.fq_model.specs.Rules.{IsLegal};
+ghost use Rattle.fq_model.specs.Report.{lag_report};
+ghost use Rattle.lag_report.specs.Reports.{report_refusal, IsReason};
+
+use crate::automatic::last_moment;
+use crate::fault::ReportFault;
+use crate::lines::{by_tenant, lines};
+use crate::parts::Report;
+use crate::reading::{changes, read, unfinished};
+use fluid_reference::slots::slots;
+use fq_model::config::Checked;
+use fq_model::event::Entry;
+use fq_model::limits::GREATEST_SLOT;
+use std::alloc::Global;
+
+/// What each tenant of a history was served against its fluid service, in slots of so many microseconds from moment 0 on,
+/// the last of which holds the last entry's moment.
+pub fn report(
+    alloc: Global,
+    past: &[Entry],
+    config: &Checked,
+    slot: u64,
+) -> Result<Report, ReportFault>
+    requires legal { IsLegal config.now (history_of past.now) }
+    requires positive { 1 ≤ slot }
+    requires short { slot ≤ GREATEST_SLOT }
+    ensures report { IfOk result (λ r. r ≡ lag_report config.now (history_of past.now) slot) }
+    ensures sound { IfOk result (λ _. report_refusal config.now (history_of past.now) slot ≡ None) }
+    ensures reason { IfErr result (λ fault. IsReason fault (report_refusal config.now (history_of past.now) slot)) }
+{
+    let weights = config.weights();
+    let mut requests = read(alloc, past)?;
+    if let Some(request) = unfinished(requests.courses.as_slice()) {
+        return Err(ReportFault::Unfinished(request as u32));
+    }
+    let end = last_moment(past);
+    let count = end / slot + 1;
+    let changes = changes(alloc, past)?;
+    let fluid = slots(
+        alloc,
+        requests.rows.as_slice(),
+        changes.as_slice(),
+        config,
+        slot,
+        count,
+    )?;
+    by_tenant(requests.courses.as_mut_slice());
+    let rows = lines(alloc, requests.courses.as_slice(), &fluid, weights, slot)?;
+    Ok(Report::new(slot, count, rows, end, past.len() as u64))
+}

@@ -1,0 +1,63 @@
+//! The work done on requests, by slot.
+ghost use Rattle.std.specs.Prelude.{◌≡◌, ◌≤◌, ◌<◌, ◌+◌, ◌*◌, length, take, sum, sum_by, All, IfOk, ℕ};
+ghost use Rattle.vt_fixed.specs.declared.limits.TheConstants.{GREATEST_COST, GREATEST_MOMENT};
+ghost use Rattle.lag_report.specs.Work.{worked, work_in, EndsWithin, GainsAre};
+
+use crate::course::Course;
+use fq_model::limits::{GREATEST_BACKLOG, GREATEST_SLOT, MOST_FLUID_ROWS};
+use std::alloc::{AllocError, Global};
+
+/// The work gained in each slot by requests that end in these slots.
+pub fn gains(
+    alloc: Global,
+    courses: &[Course],
+    slot: u64,
+    slots: usize,
+) -> Result<Vec<u64>, AllocError>
+    requires positive { 1 ≤ slot }
+    requires short { slot ≤ GREATEST_SLOT }
+    requires few { length courses.now ≤ MOST_FLUID_ROWS }
+    requires end { All (EndsWithin slot slots) courses.now }
+    ensures len { IfOk result (λ v. length v.items ≡ slots) }
+    ensures gains { IfOk result (λ v. GainsAre slot courses.now v.items) }
+{
+    let mut gains = vec![in alloc; 0u64; slots]?;
+    for course in courses {
+        spread(gains.as_mut_slice(), *course, slot);
+    }
+    Ok(gains)
+}
+
+// Adds what a request gains in each slot.
+fn spread(gains: &mut [u64], course: Course, slot: u64)
+    requires positive { 1 ≤ slot }
+    requires short { slot ≤ GREATEST_SLOT }
+    requires ends { EndsWithin slot (length gains.old) course }
+    requires room { sum gains.old ≤ GREATEST_BACKLOG }
+    ensures { (k : ℕ) → k ≤ length gains.old
+        → sum (take k gains.new) ≡ sum (take k gains.old) + work_in slot k course }
+{
+    let first = course.taken.saturating_sub(1) / slot;
+    let last = course.ended.saturating_sub(1) / slot;
+    let mut before = 0;
+    for k in first..last + 1 {
+        let after = worked(course, (k + 1) * slot);
+        gains[k as usize] += after - before;
+        before = after;
+    }
+}
+
+// The work done on a request by a moment.
+fn worked(course: Course, moment: u64) -> u64
+    requires cost { course.cost ≤ GREATEST_COST }
+    ensures { result ≡ worked moment course }
+{
+    if course.ended <= moment {
+        course.cost
+    } else if moment <= course.taken {
+        0
+    } else {
+        let part = course.cost as u128 * (moment - course.taken) as u128;
+        (part / (course.ended - course.taken) as u128) as u64
+    }
+}
