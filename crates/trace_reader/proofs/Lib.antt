@@ -7,4 +7,4 @@ mod Numerals
 mod Texts
 mod ReadBack
 mod GeneratedTenants
-mod Generated
+pub mod Generated

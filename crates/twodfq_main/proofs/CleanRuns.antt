@@ -1,18 +1,19 @@
 -- Runs over memory that never fails.
-use Rattle.std.proofs.Common.{ℕ, ◌<◌, ◌≡◌, ◌≢◌, ◌∙◌, sym, ap, refl, arith, List, [], length, Option, Some, None, Result, Ok, Err}
+use Rattle.std.proofs.Common.{ℕ, ◌<◌, ◌≡◌, ◌≢◌, ◌∙◌, sym, ap, subst, refl, arith, List, [], length, Option, Some, None, Result, Ok, Err}
 use Rattle.fq_io.specs.Clean.{CleanMemory, IsClean}
 use Rattle.fq_io.specs.Faults.{Rose}
 use Rattle.fq_io.specs.Sinks.{AppendsPart}
 use Rattle.fq_io.specs.Sources.{GaveAll}
 use Rattle.fq_io.proofs.Clean.{stays_zero, never_full}
 use Rattle.fq_model.specs.declared.command.Command.{Command}
+use Rattle.fq_model.specs.declared.command.Command.TheVariants as commands
 use Rattle.fq_model.specs.Lines as lines
 use Rattle.twodfq_main.specs.Commands.{asked, Outputs}
-use Rattle.twodfq_main.specs.Program.{Move, Device, Fails, Ends, IsRun, status_of}
+use Rattle.twodfq_main.specs.Program.{Move, Device, Fails, ReadsInput, Ends, IsRun, status_of}
 use Rattle.twodfq_main.specs.Laws.{NeverFailsReading, NeverFailsWriting, AreOutputsShorter, IsCleanSink, IsCleanSource}
 use Rattle.twodfq_main.proofs.Runs.{run_means}
 use Rattle.twodfq_main.specs.declared.stop.Stop.{Stop}
-use Rattle.twodfq_main.specs.declared.stop.Stop.TheVariants.{Words, TooLong, Fault, Reading, Writing, NoMemory, TooManyEntries}
+use Rattle.twodfq_main.specs.declared.stop.Stop.TheVariants.{Words, TooLong, Fault, Reading, Writing, NoMemory, TooManyEntries, TooManyCells}
 
 pub no_reading : NeverFailsReading
 no_reading words source sink errs status run clean four =
@@ -26,10 +27,18 @@ part_fits room sink text clean short fails part =
     let rose : Rose 0 sink.after.faults = rw (ap (λ (d : Device). d.faults) clean.fresh) at fails in
     never_full room written.0 sink.after.faults text clean.written clean.clean short written.2 rose
 
--- a told input is what was read
+-- what is written for what was read is written for the input that is told
 told_input : (input read : List ℕ) (left : Option (List ℕ)) → GaveAll (Some input) left read → read ≡ input
 told_input input read None gave = absurd gave
 told_input input read (Some ys) gave = gave.0
+
+told_outputs : (command : Command) (source : Move) (input read text : List ℕ) → source.before.bytes ≡ Some input → ReadsInput command source read → Outputs command read text → Outputs command input text
+told_outputs (commands.Gen seed tenants requests print) source input read text told reads out = out
+told_outputs (commands.Script print) source input read text told reads out =
+    subst (λ xs. Outputs (commands.Script print) xs text) (told_input input read source.after.bytes (rw told at reads)) out
+told_outputs (commands.Run options slot print) source input read text told reads out =
+    subst (λ xs. Outputs (commands.Run options slot print) xs text) (told_input input read source.after.bytes (rw told at reads)) out
+told_outputs _ source input read text told reads out = absurd out
 
 by_end : (words : lines.Words) (ask : Option Command) (source sink : Move) (end : Result (Unit {0}) Stop) (room : ℕ) (input : List ℕ) → asked words ≡ ask
     → Ends ask source sink end → source.before.bytes ≡ Some input → IsCleanSink room sink → AreOutputsShorter room words input → status_of end ≢ 5
@@ -41,10 +50,10 @@ by_end words (Some command) source sink (Err (Fault message)) room input is ends
 by_end words (Some command) source sink (Err Reading) room input is ends told clean short five = omega (arith, five)
 by_end words (Some command) source sink (Err NoMemory) room input is ends told clean short five = omega (arith, five)
 by_end words (Some command) source sink (Err (TooManyEntries message)) room input is ends told clean short five = omega (arith, five)
+by_end words (Some command) source sink (Err (TooManyCells message)) room input is ends told clean short five = omega (arith, five)
 by_end words (Some command) source sink (Err Writing) room input is ends told clean short five =
-    let gave : GaveAll (Some input) source.after.bytes ends.answered.input = rw told at ends.answered.read in
-    let same : ends.answered.input ≡ input = told_input input ends.answered.input source.after.bytes gave in
-    part_fits room sink ends.text clean (short command ends.text is (rw same at ends.answered.output)) ends.wrote.0 ends.wrote.1
+    let out = told_outputs command source input ends.answered.input ends.text told ends.answered.read ends.answered.output in
+    part_fits room sink ends.text clean (short command ends.text is out) ends.wrote.0 ends.wrote.1
 
 pub no_writing : NeverFailsWriting
 no_writing words source sink errs status room input run told clean short five =

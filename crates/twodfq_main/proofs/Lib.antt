@@ -2,3 +2,4 @@ pub mod Serving
 pub mod Runs
 pub mod Wants
 pub mod CleanRuns
+pub mod Reports

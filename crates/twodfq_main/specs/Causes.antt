@@ -1,9 +1,10 @@
 -- What a status of the program says of the words and of an input whose bytes are told, and the other way round.
-use Rattle.std.specs.Prelude.{ℕ, ◌<◌, ◌≤◌, ◌≡◌, ◌↔◌, IsTrue, List, length, false, Option, ◌⊎◌, IsSome, IfSome, IsSomeAnd}
+use Rattle.std.specs.Prelude.{ℕ, ◌<◌, ◌≤◌, ◌≡◌, ◌↔◌, IsTrue, List, [], length, false, Option, Some, ◌⊎◌, IsSome, IfSome, IsSomeAnd}
 use Rattle.fq_model.specs.declared.command.Command.{Command}
+use Rattle.fq_model.specs.declared.command.Command.TheVariants.{Gen}
 use Rattle.fq_model.specs.Lines.{Words}
 use Rattle.fq_model.specs.declared.limits.TheConstants.{MOST_ENTRIES}
-use Rattle.twodfq_main.specs.Commands.{asked, is_input, entries_needed}
+use Rattle.twodfq_main.specs.Commands.{asked, is_input, entries_needed, MakesManyCells}
 use Rattle.twodfq_main.specs.Program.{Move, Fails, greatest_input}
 
 -- the words ask for something
@@ -18,26 +19,35 @@ IsRefused command input = (is_input command input ≡ false) ⊎ (greatest_input
 abbrev pub IsRead : Command → List ℕ → Type 0
 IsRead command input = IsTrue (is_input command input) × (length input ≤ greatest_input)
 
--- so it is, and the history would have more entries than there may be
+-- the history that the command makes would have more entries than it may, or the report of it more cells
+abbrev pub MakesTooMuch : Command → List ℕ → Type 0
+MakesTooMuch command input = (MOST_ENTRIES < entries_needed command input) ⊎ MakesManyCells command input
+
+-- the input is read, and too much would be made of it
 abbrev pub IsOver : Command → List ℕ → Type 0
-IsOver command input = IsRead command input × (MOST_ENTRIES < entries_needed command input)
+IsOver command input = IsRead command input × MakesTooMuch command input
 
--- so it is, and the history has no more entries than there may be
+-- the input is read, and not too much is made of it
 abbrev pub IsTaken : Command → List ℕ → Type 0
-IsTaken command input = IsRead command input × (entries_needed command input ≤ MOST_ENTRIES)
+IsTaken command input = IsRead command input × ¬ MakesTooMuch command input
 
--- something is asked for, and this is so of its input, where the bytes are told
+-- the input of a command, where that is known: the bytes of its source, if they are told; `gen` has the empty one
+abbrev pub input_of : Command → Option (List ℕ) → Option (List ℕ)
+input_of (Gen seed tenants requests print) bytes = Some []
+input_of _ bytes = bytes
+
+-- something is asked for, and this is so of its input, where that is known
 abbrev pub May : (Command → List ℕ → Type 0) → Option Command → Option (List ℕ) → Type 0
-May So ask input = IsSomeAnd ask (λ command. IfSome input (So command))
+May So ask bytes = IsSomeAnd ask (λ command. IfSome (input_of command bytes) (So command))
 
--- something is asked for, the bytes of its input are told, and this is so of them
+-- something is asked for, its input is known, and this is so of it
 abbrev pub Must : (Command → List ℕ → Type 0) → Option Command → Option (List ℕ) → Type 0
-Must So ask input = IsSomeAnd ask (λ command. IsSomeAnd input (So command))
+Must So ask bytes = IsSomeAnd ask (λ command. IsSomeAnd (input_of command bytes) (So command))
 
--- what a status says of the words, and of an input whose bytes are told: 2 comes exactly where the words are no command line, 3 only
--- where the input is refused, 4 only where reading failed, 5 only where writing failed, 7 only where the history would have too many
--- entries. And on a command line, where nothing fails, an input that is refused gives 3, one whose history would have too
--- many entries 7, and one that is taken 0, or any of them 6 where memory ran out.
+-- what a status says of the words, and of an input that is known: 2 comes exactly where the words are no command line, 3 only
+-- where the input is refused, 4 only where reading failed, 5 only where writing failed, 7 only where too much would be made of the
+-- input. And on a command line, where nothing fails, an input that is refused gives 3, one of which too much would be made
+-- 7, and one that is taken 0, or any of them 6 where memory ran out.
 pub record StatusMeans (words : Words) (source sink : Move) (status : ℕ) : Type 0 where
   pub line : (status ≡ 2) ↔ ¬ IsCommandLine words
   pub refused : status ≡ 3 → May IsRefused (asked words) source.before.bytes

@@ -1,9 +1,12 @@
 -- What the program is asked by its words, what it writes for an input, and what is told of an input's first fault.
-use Rattle.std.specs.Prelude.{ℕ, ◌<◌, ◌≤◌, ◌≡◌, Bool, true, false, List, ◌++◌, Option, Some, None, is_ok, Result, Err, Ok, codes}
-use Rattle.std.specs.Fmt.{decimal}
+use Rattle.std.specs.Prelude.{ℕ, ◌<◌, ◌≡◌, Bool, true, false, List, ◌++◌, Option, Some, None, is_ok, Result, Err, Ok, codes}
 use Rattle.fq_model.specs.declared.command.Command.{Command}
-use Rattle.fq_model.specs.declared.command.Command.TheVariants.{Script, Run}
+use Rattle.fq_model.specs.declared.command.Command.TheVariants.{Script, Run, Gen}
 use Rattle.fq_model.specs.declared.command.ScriptPrint.{ScriptPrint}
+use Rattle.fq_model.specs.declared.command.HistoryPrint.{HistoryPrint}
+use Rattle.fq_model.specs.declared.command.HistoryPrint.TheVariants.{Summary}
+use Rattle.fq_model.specs.declared.command.GenPrint.{GenPrint}
+use Rattle.fq_model.specs.declared.command.GenPrint.TheVariants as gen
 use Rattle.fq_model.specs.declared.event.Entry.{Entry}
 use Rattle.fq_model.specs.declared.event.Reply.{Reply}
 use Rattle.fq_model.specs.declared.fault.ScriptKind.{ScriptKind}
@@ -12,32 +15,33 @@ use Rattle.fq_model.specs.declared.limits.TheConstants.{MOST_ENTRIES}
 use Rattle.fq_model.specs.declared.trace.RunOptions.{RunOptions}
 use Rattle.fq_model.specs.History.{history_of}
 use Rattle.fq_model.specs.Outcome.{Outcome}
+use Rattle.fq_model.specs.Command.{default_run_options}
 use Rattle.fq_model.specs.Document.{config_of}
+use Rattle.fq_model.specs.Generator.{generated_trace}
 use Rattle.fq_model.specs.Script as scripts
-use Rattle.fq_model.specs.Simulated.{needed_entries, run_config, IsSimulated}
+use Rattle.fq_model.specs.Simulated.{needed_entries}
 use Rattle.fq_model.specs.Texts.{replies_text}
 use Rattle.fq_model.specs.Trace.{Trace}
 use Rattle.fq_model.specs.TraceGrammar.{trace_of}
+use Rattle.fq_model.specs.TraceText.{trace_text}
 use Rattle.fq_model.specs.JournalText.{journal_text}
 use Rattle.fq_model.specs.FaultTexts.{script_fault_text, trace_fault_text, placed_text}
 use Rattle.fq_model.specs.Output.{script_output_text}
 use Rattle.fq_model.specs.Options.{command_of}
 use Rattle.fq_model.specs.Lines.{Words}
 use Rattle.command_line.specs.Commands.{built_commands}
+use Rattle.twodfq_main.specs.Histories.{message_line, entries_message, cells_message, IsSimulatedOutput, SimulatesManyCells, simulated_cells}
 
--- a command, if it is one that the program serves: scripts and traces, which wait for nobody
+-- a command, if it is one that the program serves: those that wait for nobody
 abbrev pub if_served : Option Command → Option Command
 if_served (Some (Script print)) = Some (Script print)
 if_served (Some (Run options slot print)) = Some (Run options slot print)
+if_served (Some (Gen seed tenants requests print)) = Some (Gen seed tenants requests print)
 if_served _ = None
 
 -- what the words, without the program's name, ask for, if they are a line of the table of commands
 abbrev pub asked : Words → Option Command
 asked words = if_served (command_of built_commands words)
-
--- a message: one line, after the program's name
-abbrev pub message_line : List ℕ → List ℕ
-message_line text = codes "twodfq: " ++ text ++ codes "\n"
 
 -- Scripts.
 
@@ -60,15 +64,11 @@ pub record TellsScriptFault (input message : List ℕ) : Type 0 where
 
 -- Traces.
 
--- the input is a trace whose simulated history has no more entries than there may be. The entries, in order of time, are
--- that history under these options, and the text is their journal.
-pub record IsSimulatedJournal (options : RunOptions) (input text : List ℕ) : Type 0 where
+-- the input is a trace, and the text is what is asked for of its simulated history
+pub record IsRunOutput (options : RunOptions) (slot : ℕ) (print : HistoryPrint) (input text : List ℕ) : Type 0 where
   pub trace : Trace
   pub read : trace_of input ≡ Ok trace
-  pub few : needed_entries trace.rows options.refresh ≤ MOST_ENTRIES
-  pub past : List Entry
-  pub simulated : IsSimulated trace options (history_of past)
-  pub text_is : text ≡ journal_text (run_config trace options) trace.tenants trace.kinds past
+  pub output : IsSimulatedOutput trace options slot print text
 
 -- the message names the first fault of an input that is no trace
 pub record TellsTraceFault (input message : List ℕ) : Type 0 where
@@ -82,28 +82,48 @@ abbrev pub trace_entries : RunOptions → Result Trace (ℕ × TraceKind) → �
 trace_entries options (Ok trace) = needed_entries trace.rows options.refresh
 trace_entries options (Err fault) = 0
 
--- what is told of a history that would have so many entries, and may not
-abbrev pub entries_message : ℕ → List ℕ
-entries_message needed =
-    message_line (codes "the history would have " ++ decimal needed ++ codes " entries, more than 4194304")
+-- the input is a trace, and the report of its simulated history would have more cells than it may
+pub record RunsManyCells (options : RunOptions) (slot : ℕ) (print : HistoryPrint) (input : List ℕ) : Type 0 where
+  pub trace : Trace
+  pub read : trace_of input ≡ Ok trace
+  pub many : SimulatesManyCells trace options slot print
 
--- By command.
+-- so it is, and the message tells how many
+pub record TellsRunCells (options : RunOptions) (slot : ℕ) (print : HistoryPrint) (input message : List ℕ) : Type 0 where
+  pub run : RunsManyCells options slot print input
+  pub told : message ≡ cells_message (simulated_cells run.many)
+
+-- Generated traces.
+
+-- the text is the generated trace, or the summary of its simulated history under the default options, by the automatic slot
+abbrev pub IsGeneratedOutput : GenPrint → Trace → List ℕ → Type 0
+IsGeneratedOutput gen.Trace T text = text ≡ trace_text T
+IsGeneratedOutput gen.Summary T text = IsSimulatedOutput T default_run_options 0 Summary text
+
+-- By command. One that reads no input has the empty one.
 
 -- how many entries the history that the command makes would have, where that is known from its input
 abbrev pub entries_needed : Command → List ℕ → ℕ
 entries_needed (Run options slot print) input = trace_entries options (trace_of input)
 entries_needed _ input = 0
 
+-- the report of the history that the command makes would have more cells than it may
+abbrev pub MakesManyCells : Command → List ℕ → Type 0
+MakesManyCells (Run options slot print) input = RunsManyCells options slot print input
+MakesManyCells _ input = ⊥
+
 -- the input is what the command reads
 abbrev pub is_input : Command → List ℕ → Bool
 is_input (Script print) input = is_ok (scripts.script_of input)
 is_input (Run options slot print) input = is_ok (trace_of input)
+is_input (Gen seed tenants requests print) input = true
 is_input _ input = false
 
 -- what the command writes for an input
 abbrev pub Outputs : Command → List ℕ → List ℕ → Type 0
 Outputs (Script print) input text = IsServed print input text
-Outputs (Run options slot print) input text = IsSimulatedJournal options input text
+Outputs (Run options slot print) input text = IsRunOutput options slot print input text
+Outputs (Gen seed tenants requests print) input text = IsGeneratedOutput print (generated_trace seed tenants requests) text
 Outputs _ input text = ⊥
 
 -- the message names the first fault of the input
@@ -117,3 +137,8 @@ pub record TellsEntries (command : Command) (input message : List ℕ) : Type 0 
   pub read : is_input command input ≡ true
   pub too_many : MOST_ENTRIES < entries_needed command input
   pub told : message ≡ entries_message (entries_needed command input)
+
+-- the report of the history that the command makes would have more cells than it may, and the message tells how many
+abbrev pub TellsCells : Command → List ℕ → List ℕ → Type 0
+TellsCells (Run options slot print) input message = TellsRunCells options slot print input message
+TellsCells _ input message = ⊥

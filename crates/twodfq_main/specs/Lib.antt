@@ -1,3 +1,4 @@
+pub mod Histories
 pub mod Commands
 pub mod Program
 pub mod Causes

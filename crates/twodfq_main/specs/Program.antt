@@ -1,15 +1,16 @@
 -- What the program does with its words, its input, its output and its messages.
-use Rattle.std.specs.Prelude.{ℕ, ◌+◌, ◌≤◌, ◌≡◌, List, length, Option, Some, None, Result, Ok, Err, codes, ◌⊎◌}
+use Rattle.std.specs.Prelude.{ℕ, ◌+◌, ◌≤◌, ◌≡◌, List, [], length, Option, Some, None, Result, Ok, Err, codes, ◌⊎◌}
 use Rattle.std.specs.String.{string_bytes}
 use Rattle.std.specs.Io.KnownBytes.{Appends}
 use Rattle.fq_io.specs.Faults.{Rose}
 use Rattle.fq_io.specs.Sources.{GaveAll, TookAtMost, TookTooMany}
 use Rattle.fq_io.specs.Sinks.{AppendsPart}
 use Rattle.fq_model.specs.declared.command.Command.{Command}
+use Rattle.fq_model.specs.declared.command.Command.TheVariants.{Gen}
 use Rattle.fq_model.specs.Lines as lines
-use Rattle.twodfq_main.specs.Commands.{asked, Outputs, TellsFault, TellsEntries}
+use Rattle.twodfq_main.specs.Commands.{asked, Outputs, TellsFault, TellsEntries, TellsCells}
 use Rattle.twodfq_main.specs.declared.stop.Stop.{Stop}
-use Rattle.twodfq_main.specs.declared.stop.Stop.TheVariants.{Words, TooLong, Fault, Reading, Writing, NoMemory, TooManyEntries}
+use Rattle.twodfq_main.specs.declared.stop.Stop.TheVariants.{Words, TooLong, Fault, Reading, Writing, NoMemory, TooManyEntries, TooManyCells}
 
 -- the greatest length of an input, in bytes
 abbrev pub greatest_input : ℕ
@@ -47,6 +48,14 @@ Later device = device.before.faults ≤ device.after.faults
 abbrev pub ReadsAll : Move → List ℕ → Type 0
 ReadsAll source bytes = GaveAll source.before.bytes source.after.bytes bytes
 
+-- at most so many bytes were read from it
+abbrev pub ReadsAtMost : Move → ℕ → Type 0
+ReadsAtMost source n = TookAtMost source.before.bytes source.after.bytes n
+
+-- more bytes came than an input may have
+abbrev pub IsTooLong : Move → Type 0
+IsTooLong source = TookTooMany source.before.bytes source.after.bytes greatest_input
+
 -- this text was written to it
 abbrev pub Writes : Move → List ℕ → Type 0
 Writes sink text = Appends sink.before.bytes sink.after.bytes text
@@ -55,34 +64,57 @@ Writes sink text = Appends sink.before.bytes sink.after.bytes text
 abbrev pub WritesPart : Move → List ℕ → Type 0
 WritesPart sink text = Fails sink × AppendsPart sink.before.bytes sink.after.bytes text
 
--- at most so many bytes were read from it
-abbrev pub ReadsAtMost : Move → ℕ → Type 0
-ReadsAtMost source n = TookAtMost source.before.bytes source.after.bytes n
+-- What a command reads: all but `gen` an input.
+
+-- the command read this input, to its end; `gen` read nothing
+abbrev pub ReadsInput : Command → Move → List ℕ → Type 0
+ReadsInput (Gen seed tenants requests print) source input = Stays source × (input ≡ [])
+ReadsInput _ source input = ReadsAll source input
+
+-- a read failed, which came after no more bytes than an input may have
+abbrev pub FailsReading : Command → Move → Type 0
+FailsReading (Gen seed tenants requests print) source = ⊥
+FailsReading _ source = Fails source × ReadsAtMost source greatest_input
+
+-- the input was too long
+abbrev pub ReadsTooMuch : Command → Move → Type 0
+ReadsTooMuch (Gen seed tenants requests print) source = ⊥
+ReadsTooMuch _ source = IsTooLong source
+
+-- the command stopped while it read, or after
+abbrev pub ReadsSome : Command → Move → Type 0
+ReadsSome (Gen seed tenants requests print) source = Stays source
+ReadsSome _ source = ReadsAtMost source (greatest_input + 1)
+
+-- How a command ends.
 
 -- the input was read whole, and this is the command's output for it
 pub record IsAnswered (command : Command) (source : Move) (text : List ℕ) : Type 0 where
   pub input : List ℕ
-  pub read : ReadsAll source input
+  pub read : ReadsInput command source input
   pub within : length input ≤ greatest_input
   pub output : Outputs command input text
 
 -- the input was read whole, and this message names its first fault
 pub record IsFaulty (command : Command) (source : Move) (message : List ℕ) : Type 0 where
   pub input : List ℕ
-  pub read : ReadsAll source input
+  pub read : ReadsInput command source input
   pub within : length input ≤ greatest_input
   pub fault : TellsFault command input message
 
 -- the input was read whole, and this message tells how many entries its history would have, which are too many
 pub record IsOverfull (command : Command) (source : Move) (message : List ℕ) : Type 0 where
   pub input : List ℕ
-  pub read : ReadsAll source input
+  pub read : ReadsInput command source input
   pub within : length input ≤ greatest_input
   pub entries : TellsEntries command input message
 
--- more bytes came than an input may have
-abbrev pub IsTooLong : Move → Type 0
-IsTooLong source = TookTooMany source.before.bytes source.after.bytes greatest_input
+-- the input was read whole, and this message tells how many cells the report of its history would have, which are too many
+pub record IsOversized (command : Command) (source : Move) (message : List ℕ) : Type 0 where
+  pub input : List ℕ
+  pub read : ReadsInput command source input
+  pub within : length input ≤ greatest_input
+  pub cells : TellsCells command input message
 
 -- all of the output was written
 pub record Succeeds (command : Command) (source sink : Move) : Type 0 where
@@ -101,12 +133,13 @@ pub record FailsWriting (command : Command) (source sink : Move) : Type 0 where
 abbrev pub EndsCommand : Command → Move → Move → Result (Unit {0}) Stop → Type 0
 EndsCommand command source sink (Ok done) = Succeeds command source sink
 EndsCommand command source sink (Err Words) = ⊥
-EndsCommand command source sink (Err Reading) = Fails source × ReadsAtMost source greatest_input × Stays sink
-EndsCommand command source sink (Err TooLong) = IsTooLong source × Stays sink
+EndsCommand command source sink (Err Reading) = FailsReading command source × Stays sink
+EndsCommand command source sink (Err TooLong) = ReadsTooMuch command source × Stays sink
 EndsCommand command source sink (Err (Fault message)) = IsFaulty command source (string_bytes message) × Stays sink
 EndsCommand command source sink (Err (TooManyEntries message)) = IsOverfull command source (string_bytes message) × Stays sink
+EndsCommand command source sink (Err (TooManyCells message)) = IsOversized command source (string_bytes message) × Stays sink
 EndsCommand command source sink (Err Writing) = FailsWriting command source sink
-EndsCommand command source sink (Err NoMemory) = ReadsAtMost source (greatest_input + 1) × Stays sink
+EndsCommand command source sink (Err NoMemory) = ReadsSome command source × Stays sink
 
 -- the same by what the words ask for: where that is nothing, neither source nor sink is called
 abbrev pub Ends : Option Command → Move → Move → Result (Unit {0}) Stop → Type 0
@@ -123,6 +156,7 @@ status_of (Err Reading) = 4
 status_of (Err Writing) = 5
 status_of (Err NoMemory) = 6
 status_of (Err (TooManyEntries message)) = 7
+status_of (Err (TooManyCells message)) = 7
 
 -- the message of a stop, one line
 abbrev pub message_of : Stop → List ℕ
@@ -133,6 +167,7 @@ message_of Reading = codes "twodfq: reading failed\n"
 message_of Writing = codes "twodfq: writing failed\n"
 message_of NoMemory = codes "twodfq: out of memory\n"
 message_of (TooManyEntries message) = string_bytes message
+message_of (TooManyCells message) = string_bytes message
 
 -- the message was written, or a front part of it where that failed; a fault of the messages changes nothing else
 abbrev pub Tells : Move → List ℕ → Type 0
@@ -156,5 +191,6 @@ pub record IsRun (words : lines.Words) (source sink errs : Move) (status : ℕ) 
 abbrev pub IsOutputStop : Command → List ℕ → Stop → Type 0
 IsOutputStop command input (Fault message) = TellsFault command input (string_bytes message)
 IsOutputStop command input (TooManyEntries message) = TellsEntries command input (string_bytes message)
+IsOutputStop command input (TooManyCells message) = TellsCells command input (string_bytes message)
 IsOutputStop command input NoMemory = Unit {0}
 IsOutputStop command input _ = ⊥

@@ -1,16 +1,24 @@
 -- The stop of the program that each fault of a part is.
-use Rattle.std.specs.Prelude.{ℕ, ◌≡◌}
+use Rattle.std.specs.Prelude.{ℕ, ◌<◌, ◌≡◌}
 use Rattle.std.specs.String.{string_bytes}
 use Rattle.fq_io.specs.declared.reading.ReadAllFault.{ReadAllFault}
 use Rattle.fq_io.specs.declared.reading.ReadAllFault.TheVariants as reading
+use Rattle.fq_model.specs.declared.command.HistoryPrint.{HistoryPrint}
+use Rattle.fq_model.specs.declared.config.Config.{Config}
+use Rattle.fq_model.specs.declared.limits.TheConstants.{MOST_ENTRIES}
+use Rattle.fq_model.specs.declared.trace.RunOptions.{RunOptions}
 use Rattle.fq_model.specs.FaultTexts.{script_fault_text, trace_fault_text, placed_text}
+use Rattle.fq_model.specs.History.{History}
+use Rattle.fq_model.specs.Report.{cells_of}
+use Rattle.fq_model.specs.Simulated.{needed_entries}
+use Rattle.fq_model.specs.Trace.{Trace}
 use Rattle.journal_text.specs.declared.fault.ScriptFault.{ScriptFault}
 use Rattle.journal_text.specs.declared.fault.ScriptFault.TheVariants as script
 use Rattle.trace_reader.specs.declared.fault.TraceFault.{TraceFault}
 use Rattle.trace_reader.specs.declared.fault.TraceFault.TheVariants as trace
-use Rattle.twodfq_main.specs.Commands.{message_line, entries_message}
+use Rattle.twodfq_main.specs.Histories.{HasManyCells, SimulatesManyCells, simulated_cells, message_line, entries_message, cells_message}
 use Rattle.twodfq_main.specs.declared.stop.Stop.{Stop}
-use Rattle.twodfq_main.specs.declared.stop.Stop.TheVariants.{TooLong, Fault, Reading, NoMemory, TooManyEntries}
+use Rattle.twodfq_main.specs.declared.stop.Stop.TheVariants.{TooLong, Fault, Reading, NoMemory, TooManyEntries, TooManyCells}
 
 abbrev pub reading_stop : ReadAllFault → Stop
 reading_stop reading.ReadFault = Reading
@@ -34,3 +42,27 @@ abbrev pub IsEntriesStop : ℕ → Stop → Type 0
 IsEntriesStop needed (TooManyEntries message) = string_bytes message ≡ entries_message needed
 IsEntriesStop needed NoMemory = Unit {0}
 IsEntriesStop needed _ = ⊥
+
+-- where a report would have so many cells, and may not: a message that tells how many, unless memory ran out
+abbrev pub IsManyCellsStop : ℕ → Stop → Type 0
+IsManyCellsStop cells (TooManyCells message) = string_bytes message ≡ cells_message cells
+IsManyCellsStop cells NoMemory = Unit {0}
+IsManyCellsStop cells _ = ⊥
+
+-- where a finished history is not written: a message that tells how many cells its report would have, and may not, unless
+-- memory ran out
+abbrev pub IsCellsStop : HistoryPrint → ℕ → Config → History → Stop → Type 0
+IsCellsStop print slot C H (TooManyCells message) =
+    HasManyCells print slot C H × (string_bytes message ≡ cells_message (cells_of C H slot))
+IsCellsStop print slot C H NoMemory = Unit {0}
+IsCellsStop print slot C H _ = ⊥
+
+-- where the simulated history of a trace is not written: one that would have too many entries, or whose report too many cells
+abbrev pub IsSimulationStop : Trace → RunOptions → ℕ → HistoryPrint → Stop → Type 0
+IsSimulationStop T O slot print (TooManyEntries message) =
+    (MOST_ENTRIES < needed_entries T.rows O.refresh)
+    × (string_bytes message ≡ entries_message (needed_entries T.rows O.refresh))
+IsSimulationStop T O slot print (TooManyCells message) =
+    (many : SimulatesManyCells T O slot print) × (string_bytes message ≡ cells_message (simulated_cells many))
+IsSimulationStop T O slot print NoMemory = Unit {0}
+IsSimulationStop T O slot print _ = ⊥

@@ -3,8 +3,10 @@
 
 #[cfg(test)]
 mod clean_tests;
+mod generation;
 pub mod laws;
 pub mod program;
+mod reporting;
 mod script;
 pub mod serve;
 #[cfg(test)]

@@ -1,19 +1,20 @@
 //! The program, over any source, sinks and clock.
 ghost use Rattle.std.specs.Prelude.{◌≡◌, ◌≤◌, map, Err};
 ghost use Rattle.std.specs.String.{string_bytes};
-ghost use Rattle.fq_model.specs.declared.command.Command.TheVariants.{Script, Run};
-ghost use Rattle.fq_model.specs.declared.command.HistoryPrint.TheVariants.{Journal};
-ghost use Rattle.fq_model.specs.Limits.{AreInRange};
+ghost use Rattle.fq_model.specs.declared.command.Command.TheVariants.{Script, Run, Gen};
+ghost use Rattle.fq_model.specs.declared.limits.TheConstants.{GREATEST_SLOT, MOST_TENANTS, MOST_ROWS};
+ghost use Rattle.fq_model.specs.Limits.{IsWithin, AreInRange};
 ghost use Rattle.twodfq_main.specs.Commands.{asked};
-ghost use Rattle.twodfq_main.specs.Program.{Ends, EndsCommand, IsRun, Tells, moved, status_of, message_of};
+ghost use Rattle.twodfq_main.specs.Program.{Ends, EndsCommand, Move, Stays, IsRun, Tells, moved, status_of, message_of};
 ghost use Rattle.twodfq_main.specs.Causes.{StatusMeans};
 
+use crate::generation::generated_text;
 use crate::script::served_text;
-use crate::simulation::simulated_text;
+use crate::simulation::run_text;
 use crate::stop::Stop;
 use command_line::command::command;
 use fq_io::{Clock, Sink, Source, read_all, write_all};
-use fq_model::command::{Command, ScriptPrint};
+use fq_model::command::{Command, GenPrint, HistoryPrint, ScriptPrint};
 use fq_model::trace::RunOptions;
 use std::alloc::Global;
 use std::sync::Wait;
@@ -102,9 +103,18 @@ fn run<R: Source, W: Sink>(
 {
     match command(words) {
         Some(Command::Script { print }) => run_script(alloc, print, source, sink),
-        Some(Command::Run { options, .. }) => run_trace(alloc, options, source, sink),
+        Some(Command::Run {
+            options,
+            slot,
+            print,
+        }) => run_trace(alloc, options, slot, print, source, sink),
         Some(Command::Live { .. }) => Err(Stop::Words),
-        Some(Command::Gen { .. }) => Err(Stop::Words),
+        Some(Command::Gen {
+            seed,
+            tenants,
+            requests,
+            print,
+        }) => run_generator(alloc, seed, tenants, requests, print, sink),
         Some(Command::Check { .. }) => Err(Stop::Words),
         Some(Command::Compare { .. }) => Err(Stop::Words),
         Some(Command::Shape { .. }) => Err(Stop::Words),
@@ -131,22 +141,46 @@ fn run_script<R: Source, W: Sink>(
     Ok(())
 }
 
-// Reads a trace, simulates it and writes the journal, or says why not.
+// Reads a trace, simulates it and writes what is asked for of its history, or says why not.
 fn run_trace<R: Source, W: Sink>(
     alloc: Global,
     options: RunOptions,
+    slot: u64,
+    print: HistoryPrint,
     source: &mut R,
     sink: &mut W,
 ) -> Result<(), Stop>
-    requires { AreInRange options }
-    ensures ends { EndsCommand (Run options 0 Journal) (moved R.left R.faults source.old source.new)
+    requires options { AreInRange options }
+    requires slot { slot ≤ GREATEST_SLOT }
+    ensures ends { EndsCommand (Run options slot print) (moved R.left R.faults source.old source.new)
         (moved W.written W.faults sink.old sink.new) result }
     ensures source_later { R.faults source.old ≤ R.faults source.new }
     ensures sink_later { W.faults sink.old ≤ W.faults sink.new }
     ensures sink_room { W.room sink.new ≡ W.room sink.old }
 {
     let input = read_all(alloc, source, GREATEST_INPUT)?;
-    let text = simulated_text(alloc, options, input.as_slice())?;
+    let text = run_text(alloc, options, slot, print, input.as_slice())?;
+    write_all(sink, text.as_slice())?;
+    Ok(())
+}
+
+// Generates a trace and writes it, or the summary of its history, or says why not.
+fn run_generator<W: Sink>(
+    alloc: Global,
+    seed: u64,
+    tenants: u32,
+    requests: u32,
+    print: GenPrint,
+    sink: &mut W,
+) -> Result<(), Stop>
+    requires tenants { IsWithin 1 MOST_TENANTS tenants }
+    requires requests { requests ≤ MOST_ROWS }
+    ensures ends { (source : Move) → Stays source →
+        EndsCommand (Gen seed tenants requests print) source (moved W.written W.faults sink.old sink.new) result }
+    ensures sink_later { W.faults sink.old ≤ W.faults sink.new }
+    ensures sink_room { W.room sink.new ≡ W.room sink.old }
+{
+    let text = generated_text(alloc, seed, tenants, requests, print)?;
     write_all(sink, text.as_slice())?;
     Ok(())
 }

@@ -6,7 +6,8 @@ ghost use Rattle.fq_model.specs.JournalText.{journal_text};
 ghost use Rattle.fq_model.specs.Output.{script_output_text};
 ghost use Rattle.fq_model.specs.Texts.{replies_text};
 ghost use Rattle.tenant_table.specs.Names.{names_of};
-ghost use Rattle.twodfq_main.specs.Commands.{IsServed, message_line};
+ghost use Rattle.twodfq_main.specs.Commands.{IsServed};
+ghost use Rattle.twodfq_main.specs.Histories.{message_line};
 ghost use Rattle.twodfq_main.specs.Program.{IsOutputStop};
 ghost use Rattle.twodfq_main.specs.Stops.{IsFaultStop};
 

@@ -1,54 +1,72 @@
-//! `run`: the simulated history of a trace, and its journal.
-ghost use Rattle.std.specs.Prelude.{◌≡◌, string_bytes, MatchResult, IfOk};
-ghost use Rattle.fq_model.specs.Limits.{AreInRange};
+//! `run`: what is asked for of the simulated history of a trace.
+ghost use Rattle.std.specs.Prelude.{◌≡◌, ◌≤◌, string_bytes, MatchResult, IfOk};
 ghost use Rattle.fq_model.specs.declared.command.Command.TheVariants.{Run};
-ghost use Rattle.fq_model.specs.declared.command.HistoryPrint.TheVariants.{Journal};
+ghost use Rattle.fq_model.specs.declared.limits.TheConstants.{GREATEST_SLOT};
 ghost use Rattle.fq_model.specs.FaultTexts.{placed_text, trace_fault_text};
-ghost use Rattle.twodfq_main.specs.Commands.{IsSimulatedJournal, entries_message, message_line};
+ghost use Rattle.fq_model.specs.Limits.{AreInRange};
+ghost use Rattle.fq_model.specs.TraceText.{IsLawfulTrace};
+ghost use Rattle.twodfq_main.specs.Commands.{IsRunOutput};
+ghost use Rattle.twodfq_main.specs.Histories.{IsSimulatedOutput, entries_message, message_line};
 ghost use Rattle.twodfq_main.specs.Program.{IsOutputStop};
-ghost use Rattle.twodfq_main.specs.Stops.{IsTraceFaultStop, IsEntriesStop};
+ghost use Rattle.twodfq_main.specs.Stops.{IsTraceFaultStop, IsEntriesStop, IsSimulationStop};
 
+use crate::reporting::history_text;
 use crate::stop::Stop;
+use fq_model::command::HistoryPrint;
 use fq_model::fault::TraceKind;
 use fq_model::trace::RunOptions;
-use journal_text::printing::print;
 use rival_policies::plain::PlainChooser;
 use sched_state::Scheduler;
 use std::alloc::{AllocError, Global};
 use trace_reader::fault::{NoMemory, TraceFault};
 use trace_reader::messages::placed_fault;
 use trace_reader::reading::read;
+use trace_reader::trace::Trace;
 use trace_runner::fault::SimFault;
 use trace_runner::runner::simulate;
 
-/// The journal of the simulated history of a trace.
-pub fn simulated_text(alloc: Global, options: RunOptions, input: &[u8]) -> Result<Vec<u8>, Stop>
-    requires { AreInRange options }
-    ensures { MatchResult result (λ text. IsSimulatedJournal options input.now text.items)
-        (IsOutputStop (Run options 0 Journal) input.now) }
+/// What is asked for of the simulated history of a trace that has to be read.
+pub fn run_text(
+    alloc: Global,
+    options: RunOptions,
+    slot: u64,
+    what: HistoryPrint,
+    input: &[u8],
+) -> Result<Vec<u8>, Stop>
+    requires options { AreInRange options }
+    requires slot { slot ≤ GREATEST_SLOT }
+    ensures { MatchResult result (λ text. IsRunOutput options slot what input.now text.items)
+        (IsOutputStop (Run options slot what) input.now) }
 {
-    let trace = match read(alloc, input) {
-        Ok(trace) => trace,
-        Err(fault) => return Err(fault_stop(alloc, fault)),
-    };
+    match read(alloc, input) {
+        Ok(trace) => simulated_text(alloc, &trace, options, slot, what),
+        Err(fault) => Err(fault_stop(alloc, fault)),
+    }
+}
+
+/// What is asked for of the simulated history of a trace.
+pub fn simulated_text(
+    alloc: Global,
+    trace: &Trace,
+    options: RunOptions,
+    slot: u64,
+    what: HistoryPrint,
+) -> Result<Vec<u8>, Stop>
+    requires lawful { IsLawfulTrace trace.now }
+    requires options { AreInRange options }
+    requires slot { slot ≤ GREATEST_SLOT }
+    ensures { MatchResult result (λ text. IsSimulatedOutput trace.now options slot what text.items)
+        (IsSimulationStop trace.now options slot what) }
+{
     let simulated: Result<Scheduler<u64, PlainChooser>, SimFault> = simulate(
-        alloc, &trace, options,
+        alloc, trace, options,
     );
-    let scheduler = match simulated {
-        Ok(scheduler) => scheduler,
-        Err(SimFault::TooManyEntries(needed)) => return Err(entries_stop(alloc, needed)),
-        Err(SimFault::NoMemory) => return Err(Stop::NoMemory),
-    };
-    let text = print(
-        alloc,
-        scheduler.past(),
-        scheduler.config(),
-        trace.tenants(),
-        trace.kinds(),
-    );
-    match text {
-        Ok(text) => Ok(text),
-        Err(_) => Err(Stop::NoMemory),
+    match simulated {
+        Ok(scheduler) => {
+            history_text(alloc, what, slot, &scheduler, trace.tenants(), trace.kinds())
+        }
+        Err(SimFault::TooManyEntries(needed)) => Err(entries_stop(alloc, needed)),
+        Err(SimFault::NoMemory) => Err(Stop::NoMemory),
     }
 }
 

@@ -24,6 +24,8 @@ pub enum Stop {
     NoMemory,
     /// The history would have more entries than there may be: how many, as a message.
     TooManyEntries(String),
+    /// The report would have more cells than it may: how many, as a message.
+    TooManyCells(String),
 }
 
 impl Stop {
@@ -37,7 +39,7 @@ impl Stop {
             Stop::Reading => 4,
             Stop::Writing => 5,
             Stop::NoMemory => 6,
-            Stop::TooManyEntries(_) => 7,
+            Stop::TooManyEntries(_) | Stop::TooManyCells(_) => 7,
         }
     }
 
@@ -48,7 +50,9 @@ impl Stop {
         match self {
             Stop::Words => "twodfq: the words are not a command line\n",
             Stop::TooLong => "twodfq: input longer than 67108864 bytes\n",
-            Stop::Fault(message) | Stop::TooManyEntries(message) => message.as_str(),
+            Stop::Fault(message)
+            | Stop::TooManyEntries(message)
+            | Stop::TooManyCells(message) => message.as_str(),
             Stop::Reading => "twodfq: reading failed\n",
             Stop::Writing => "twodfq: writing failed\n",
             Stop::NoMemory => "twodfq: out of memory\n",
@@ -105,6 +109,26 @@ impl From<sched_state::NoMemory> for Stop {
     ghost from_gives = { λ _ stop. stop ≡ stops.NoMemory };
 
     fn from(_fault: sched_state::NoMemory) -> Stop {
+        Stop::NoMemory
+    }
+}
+
+impl From<trace_reader::fault::NoMemory> for Stop {
+    ghost use Rattle.twodfq_main.specs.declared.stop.Stop.TheVariants as stops;
+
+    ghost from_gives = { λ _ stop. stop ≡ stops.NoMemory };
+
+    fn from(_fault: trace_reader::fault::NoMemory) -> Stop {
+        Stop::NoMemory
+    }
+}
+
+impl From<lag_report::fault::NoMemory> for Stop {
+    ghost use Rattle.twodfq_main.specs.declared.stop.Stop.TheVariants as stops;
+
+    ghost from_gives = { λ _ stop. stop ≡ stops.NoMemory };
+
+    fn from(_fault: lag_report::fault::NoMemory) -> Stop {
         Stop::NoMemory
     }
 }
