@@ -9,16 +9,18 @@ use fq_model::event::{Act, Entry};
 use fq_model::fluid::{Change, FluidRow, What};
 use std::alloc::{AllocError, Global};
 
-/// What a history says of its requests.
+/// What a history says of its requests, and of weights and the number of workers that change.
 #[derive(Drop)]
-pub struct Requests {
-    /// Their courses, by number.
+pub struct Contents {
+    /// The courses of the requests, by number.
     pub courses: Vec<Course>,
-    /// Those that are done, in the order of their Dones.
+    /// The requests that are done, in the order of their Dones.
     pub rows: Vec<FluidRow>,
+    /// The changes, in order of time.
+    pub changes: Vec<Change>,
 }
 
-impl Requests {
+impl Contents {
     // Takes in one entry more.
     fn add(&mut self, entry: Entry) -> Result<(), AllocError>
         requires { NamesOneOf (length self.old.courses.items) entry.act }
@@ -26,6 +28,8 @@ impl Requests {
             ≡ courses_after entry.moment entry.act self.old.courses.items) }
         ensures rows { OnOk result (self.new.rows.items
             ≡ rows_after self.old.courses.items entry.act self.old.rows.items) }
+        ensures changes { OnOk result (self.new.changes.items
+            ≡ with_change entry.moment entry.act self.old.changes.items) }
     {
         let moment = entry.moment;
         match entry.act {
@@ -51,7 +55,7 @@ impl Requests {
                     ..course
                 };
             }
-            _ => {}
+            _ => add_change(entry, &mut self.changes)?,
         }
         Ok(())
     }
@@ -71,20 +75,22 @@ fn submitted(tenant: u32, submit: u64) -> Course
     }
 }
 
-/// What the entries, in order of time, say of the requests.
-pub fn read(alloc: Global, past: &[Entry]) -> Result<Requests, AllocError>
+/// What the entries, in order of time, say.
+pub fn read(alloc: Global, past: &[Entry]) -> Result<Contents, AllocError>
     requires { NamesSubmitted (history_of past.now) }
     ensures courses { IfOk result (λ r. r.courses.items ≡ courses_of (history_of past.now)) }
     ensures rows { IfOk result (λ r. r.rows.items ≡ rows_of (history_of past.now)) }
+    ensures changes { IfOk result (λ r. r.changes.items ≡ changes_of (history_of past.now)) }
 {
-    let mut requests = Requests {
+    let mut contents = Contents {
         courses: Vec::new(alloc),
         rows: Vec::new(alloc),
+        changes: Vec::new(alloc),
     };
     for entry in past {
-        requests.add(*entry)?;
+        contents.add(*entry)?;
     }
-    Ok(requests)
+    Ok(contents)
 }
 
 /// The least request that is not done, if there is one.
@@ -92,17 +98,6 @@ pub fn unfinished(courses: &[Course]) -> Option<usize>
     ensures { result ≡ position (λ c. not c.is_done) courses.now }
 {
     courses.iter().position(|course| !course.is_done)
-}
-
-/// The changes of weights and of the number of workers, in order of time.
-pub fn changes(alloc: Global, past: &[Entry]) -> Result<Vec<Change>, AllocError>
-    ensures { IfOk result (λ v. v.items ≡ changes_of (history_of past.now)) }
-{
-    let mut changes = Vec::new(alloc);
-    for entry in past {
-        add_change(*entry, &mut changes)?;
-    }
-    Ok(changes)
 }
 
 // Adds what the entry changes, if it is a change.

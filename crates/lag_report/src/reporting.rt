@@ -9,7 +9,7 @@ use crate::automatic::last_moment;
 use crate::fault::ReportFault;
 use crate::lines::{by_tenant, lines};
 use crate::parts::Report;
-use crate::reading::{changes, read, unfinished};
+use crate::reading::{read, unfinished};
 use fluid_reference::slots::slots;
 use fq_model::config::Checked;
 use fq_model::event::Entry;
@@ -32,22 +32,21 @@ pub fn report(
     ensures reason { IfErr result (λ fault. IsReason fault (report_refusal config.now (history_of past.now) slot)) }
 {
     let weights = config.weights();
-    let mut requests = read(alloc, past)?;
-    if let Some(request) = unfinished(requests.courses.as_slice()) {
+    let mut contents = read(alloc, past)?;
+    if let Some(request) = unfinished(contents.courses.as_slice()) {
         return Err(ReportFault::Unfinished(request as u32));
     }
     let end = last_moment(past);
     let count = end / slot + 1;
-    let changes = changes(alloc, past)?;
     let fluid = slots(
         alloc,
-        requests.rows.as_slice(),
-        changes.as_slice(),
+        contents.rows.as_slice(),
+        contents.changes.as_slice(),
         config,
         slot,
         count,
     )?;
-    by_tenant(requests.courses.as_mut_slice());
-    let rows = lines(alloc, requests.courses.as_slice(), &fluid, weights, slot)?;
+    by_tenant(contents.courses.as_mut_slice());
+    let rows = lines(alloc, contents.courses.as_slice(), &fluid, weights, slot)?;
     Ok(Report::new(slot, count, rows, end, past.len() as u64))
 }

@@ -1,6 +1,7 @@
 use Rattle.std.proofs.Common.{◌≡◌, ◌∷◌, ◌∙◌, sym, ap, subst, length, take, get_or, ◌+◌, ap₂}
 use Rattle.fq_model.specs.declared.event.Act.TheVariants.{Submit}
 use Rattle.fq_model.specs.declared.event.Entry.{Entry}
+use Rattle.fq_model.specs.Fluid.{changes_of, with_change}
 use Rattle.fq_model.specs.History.{history_of}
 use Rattle.lag_report.specs.Courses.{NamesOneOf, courses_of, rows_of, courses_after, rows_after}
 use Rattle.lag_report.proofs.Pasts.{history_more, named}
@@ -19,5 +20,6 @@ loop-entry-preserved c =
     let more : history_of (take (c.loop-entry.entry-index + 1) c.args.past.now) ≡ entry ∷ history_of (take c.loop-entry.entry-index c.args.past.now) = history_more c.args.past.now c.loop-entry.entry-index none c.loop-entry-test.true in
     record {
       courses = c.in_ok-add.ensures.courses ∙ ap (courses_after entry.moment entry.act) c.loop-entry.invariant.courses ∙ sym (ap courses_of more);
+      changes = c.in_ok-add.ensures.changes ∙ ap (with_change entry.moment entry.act) c.loop-entry.invariant.changes ∙ sym (ap changes_of more);
       rows = c.in_ok-add.ensures.rows ∙ ap₂ (λ cs rs. rows_after cs entry.act rs) c.loop-entry.invariant.courses c.loop-entry.invariant.rows ∙ sym (ap rows_of more);
     }

@@ -31,7 +31,7 @@ read-requires c = names_submitted c.args.config.now (history_of c.args.past.now)
 -- the first course that is not done is that of the least request that is not
 found : (c : In-Some) → unfinished (history_of c.args.past.now) ≡ Some c.in-Some.request
 found c =
-    let at : position (λ (r : Course). not r.is_done) c.as_slice.result.now ≡ unfinished (history_of c.args.past.now) = ap (position (λ (r : Course). not r.is_done)) (c.as_slice.ensures.value ∙ c.in_ok-requests.ensures.courses) ∙ unfinished_is c.args.config.now (history_of c.args.past.now) c.weights-weights.ensures.limits c.requires.legal in
+    let at : position (λ (r : Course). not r.is_done) c.as_slice.result.now ≡ unfinished (history_of c.args.past.now) = ap (position (λ (r : Course). not r.is_done)) (c.as_slice.ensures.value ∙ c.in_ok-contents.ensures.courses) ∙ unfinished_is c.args.config.now (history_of c.args.past.now) c.weights-weights.ensures.limits c.requires.legal in
     sym (c.in-Some.ensures ∙ at)
 
 pub overflow_cast-result : goal.overflow_cast-result
@@ -43,15 +43,15 @@ returns-in-Some-clause-reason c = for_request c.args.config.now (history_of c.ar
 -- all requests are done
 none : (c : After-as_slice-3) → unfinished (history_of c.args.past.now) ≡ None
 none c =
-    let at : position (λ (r : Course). not r.is_done) c.as_slice.result.now ≡ unfinished (history_of c.args.past.now) = ap (position (λ (r : Course). not r.is_done)) (c.as_slice.ensures.value ∙ c.in_ok-requests.ensures.courses) ∙ unfinished_is c.args.config.now (history_of c.args.past.now) c.weights-weights.ensures.limits c.requires.legal in
+    let at : position (λ (r : Course). not r.is_done) c.as_slice.result.now ≡ unfinished (history_of c.args.past.now) = ap (position (λ (r : Course). not r.is_done)) (c.as_slice.ensures.value ∙ c.in_ok-contents.ensures.courses) ∙ unfinished_is c.args.config.now (history_of c.args.past.now) c.weights-weights.ensures.limits c.requires.legal in
     sym at ∙ sym c.unfinished.ensures ∙ none_from c.unfinished.result c.in_default.not-Some
 
 -- what the fluid service is asked
 rows_now : (c : After-as_slice-3) → c.as_slice-2.result.now ≡ rows_of (history_of c.args.past.now)
-rows_now c = c.as_slice-2.ensures.value ∙ c.in_ok-requests.ensures.rows
+rows_now c = c.as_slice-2.ensures.value ∙ c.in_ok-contents.ensures.rows
 
 changes_now : (c : After-as_slice-3) → c.as_slice-3.result.now ≡ changes_of (history_of c.args.past.now)
-changes_now c = c.as_slice-3.ensures.value ∙ c.in_ok-changes.ensures
+changes_now c = c.as_slice-3.ensures.value ∙ c.in_ok-contents.ensures.changes
 
 count_is : (c : After-as_slice-3) → c.last_moment-end.result / c.args.slot + 1 ≡ slots_of (history_of c.args.past.now) c.args.slot
 count_is c = ap (λ n. n / c.args.slot + 1) c.last_moment-end.ensures
@@ -78,22 +78,22 @@ returns-in_err-fluid-clause-reason c =
 table_now : (c : After-as_slice-4) → c.in_ok-fluid.fluid ≡ fluid_table c.args.config.now (fluid_rows_of (history_of c.args.past.now)) (history_of c.args.past.now) c.args.slot (slots_of (history_of c.args.past.now) c.args.slot)
 table_now c = table_is c.args.config.now (history_of c.args.past.now) c.args.slot (c.last_moment-end.result / c.args.slot + 1) c.as_slice-2.result.now c.as_slice-3.result.now c.in_ok-fluid.fluid c.requires.legal
     (ap (λ n. n / c.args.slot + 1) c.last_moment-end.ensures)
-    (c.as_slice-2.ensures.value ∙ c.in_ok-requests.ensures.rows)
-    (c.as_slice-3.ensures.value ∙ c.in_ok-changes.ensures)
+    (c.as_slice-2.ensures.value ∙ c.in_ok-contents.ensures.rows)
+    (c.as_slice-3.ensures.value ∙ c.in_ok-contents.ensures.changes)
     c.in_ok-fluid.ensures.table
 
 -- the courses are those of the history, in another order
 courses_now : (c : After-as_slice-4) → IsPermutation (courses_of (history_of c.args.past.now)) c.as_slice-4.result.now
 courses_now c =
-    let items = c.in_ok-requests.requests.courses.items in
+    let items = c.in_ok-contents.contents.courses.items in
     let same : length c.by_tenant.new.courses ≡ length items = length_permutation _ _ c.by_tenant.ensures.same ∙ ap length c.as_mut_slice.ensures.value in
-    let back = written_back c.in_ok-requests.requests.courses.len items c.by_tenant.new.courses same c.in_ok-requests.requests.courses.ok.0 in
+    let back = written_back c.in_ok-contents.contents.courses.len items c.by_tenant.new.courses same c.in_ok-contents.contents.courses.ok.0 in
     let now : c.as_slice-4.result.now ≡ c.by_tenant.new.courses = c.as_slice-4.ensures.value ∙ back in
-    subst (λ cs. IsPermutation cs c.as_slice-4.result.now) (c.as_mut_slice.ensures.value ∙ c.in_ok-requests.ensures.courses) (subst (IsPermutation c.as_mut_slice.result.now) (sym now) c.by_tenant.ensures.same)
+    subst (λ cs. IsPermutation cs c.as_slice-4.result.now) (c.as_mut_slice.ensures.value ∙ c.in_ok-contents.ensures.courses) (subst (IsPermutation c.as_mut_slice.result.now) (sym now) c.by_tenant.ensures.same)
 
 all_are_done : (c : After-as_slice-4) → (r : ℕ) → r < submits (history_of c.args.past.now) → is_done (history_of c.args.past.now) r ≡ true
 all_are_done c =
-    let at : position (λ (r : Course). not r.is_done) c.as_slice.result.now ≡ unfinished (history_of c.args.past.now) = ap (position (λ (r : Course). not r.is_done)) (c.as_slice.ensures.value ∙ c.in_ok-requests.ensures.courses) ∙ unfinished_is c.args.config.now (history_of c.args.past.now) c.weights-weights.ensures.limits c.requires.legal in
+    let at : position (λ (r : Course). not r.is_done) c.as_slice.result.now ≡ unfinished (history_of c.args.past.now) = ap (position (λ (r : Course). not r.is_done)) (c.as_slice.ensures.value ∙ c.in_ok-contents.ensures.courses) ∙ unfinished_is c.args.config.now (history_of c.args.past.now) c.weights-weights.ensures.limits c.requires.legal in
     all_done c.args.config.now (history_of c.args.past.now) c.requires.legal c.weights-weights.ensures.limits (sym at ∙ sym c.unfinished.ensures ∙ none_from c.unfinished.result c.in_default.not-Some)
 
 cells_few : (c : After-as_slice-4) → slots_of (history_of c.args.past.now) c.args.slot * length c.args.config.now.weights ≤ 4000000
