@@ -2,15 +2,15 @@
 #![tactic(auto)]
 
 pub mod automatic;
-pub mod course;
+mod course;
 pub mod fault;
 pub mod laws;
-pub mod lines;
+mod lines;
 pub mod parts;
 pub mod printing;
-pub mod reading;
+mod reading;
 pub mod reporting;
-pub mod samples;
+mod samples;
 #[cfg(test)]
 mod tests;
-pub mod work;
+mod work;
