@@ -1,11 +1,9 @@
 -- The commands that there are.
-use Rattle.std.specs.Prelude.{◌≤◌, ◌≡◌, List, [], ◌∷◌, codes}
-use Rattle.vt_fixed.specs.declared.limits.TheConstants.{GREATEST_COST, MOST_WORKERS}
+use Rattle.std.specs.Prelude.{◌≡◌, List, [], ◌∷◌, codes}
 use Rattle.fq_model.specs.declared.command.Command.{Command}
 use Rattle.fq_model.specs.declared.command.Command.TheVariants as commands
 use Rattle.fq_model.specs.declared.command.HistoryPrint.TheVariants as history
-use Rattle.fq_model.specs.declared.trace.RunOptions.{RunOptions}
-use Rattle.fq_model.specs.Limits.{IsWithin}
+use Rattle.fq_model.specs.Limits.{AreInRange}
 use Rattle.fq_model.specs.Options.{Value, Among, Required, OptionRow, CommandRow}
 use Rattle.fq_model.specs.CommandOptions.{history_print_word, workers_option, policy_option, estimate_option, initial_option, refresh_option}
 use Rattle.fq_model.specs.Command.{run_options_of, script_row}
@@ -28,12 +26,6 @@ journal_run_row = record { word = codes "run"; options = journal_run_options; me
 -- the table by which the program's words are read
 abbrev pub built_commands : List (CommandRow Command)
 built_commands = script_row ∷ journal_run_row ∷ []
-
--- the numbers that a trace is run with are within their limits
-pub record AreInRange (options : RunOptions) : Type 0 where
-  pub workers : IsWithin 1 MOST_WORKERS options.workers
-  pub initial : IsWithin 1 GREATEST_COST options.initial
-  pub refresh : options.refresh ≤ GREATEST_COST
 
 -- the numbers that a command is asked with are within their limits; and of a trace the journal is printed
 abbrev pub IsInRange : Command → Type 0

@@ -1,4 +1,4 @@
--- The commands of the program, and the tables of those that there are.
+-- The commands of the program, by the rows of which its table is made.
 use Rattle.std.specs.Prelude.{ℕ, List, None, unwrap_or, slice_index_or, codes}
 use Rattle.fq_model.specs.declared.command.Command.{Command}
 use Rattle.fq_model.specs.declared.command.Command.TheVariants as commands

@@ -1,8 +1,10 @@
--- What is told of the faults of scripts and journals.
+-- What is told of the faults of scripts, journals and traces.
 use Rattle.std.specs.Prelude.{ℕ, List, ◌++◌, codes}
 use Rattle.std.specs.Fmt.{decimal}
 use Rattle.fq_model.specs.declared.fault.ScriptKind.{ScriptKind}
 use Rattle.fq_model.specs.declared.fault.ScriptKind.TheVariants.{Word, Fields, Number, Range, Twice, TooMany, Header, Missing}
+use Rattle.fq_model.specs.declared.fault.TraceKind.{TraceKind}
+use Rattle.fq_model.specs.declared.fault.TraceKind.TheVariants as traces
 
 -- a fault in a text with this title, `script` or `journal`
 abbrev pub fault_text : List ℕ → ScriptKind → List ℕ
@@ -22,6 +24,19 @@ script_fault_text fault = fault_text (codes "script") fault
 -- a fault in a journal
 abbrev pub journal_fault_text : ScriptKind → List ℕ
 journal_fault_text fault = fault_text (codes "journal") fault
+
+-- a fault in a trace
+abbrev pub trace_fault_text : TraceKind → List ℕ
+trace_fault_text traces.NotUtf8 = codes "not UTF-8"
+trace_fault_text traces.Word = codes "unknown word or name"
+trace_fault_text (traces.Fields n) = decimal n ++ codes " fields"
+trace_fault_text (traces.Number field) = codes "field " ++ decimal field ++ codes " is not a number"
+trace_fault_text (traces.Range field) = codes "field " ++ decimal field ++ codes " is out of range"
+trace_fault_text traces.UnknownTenant = codes "unknown tenant"
+trace_fault_text traces.Twice = codes "named twice"
+trace_fault_text traces.Backward = codes "moment goes back"
+trace_fault_text traces.TooMany = codes "too many"
+trace_fault_text traces.NoTenants = codes "no tenants"
 
 -- what is told of a fault with this text, at this line
 abbrev pub placed_text : ℕ → List ℕ → List ℕ

@@ -1,7 +1,6 @@
 mod Heads
 mod Kept
 mod FirstLine
-mod NoFault
 mod Names
 mod DocumentLimits
 mod Telling

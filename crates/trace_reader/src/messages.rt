@@ -1,7 +1,6 @@
 //! What is told of the faults of traces.
 ghost use Rattle.std.specs.Prelude.{◌≡◌, string_bytes, IfOk};
-ghost use Rattle.fq_model.specs.FaultTexts.{placed_text};
-ghost use Rattle.trace_reader.specs.FaultTexts.{trace_fault_text};
+ghost use Rattle.fq_model.specs.FaultTexts.{placed_text, trace_fault_text};
 
 use crate::fault::NoMemory;
 use fq_model::fault::TraceKind;

@@ -8,7 +8,7 @@ use Rattle.fq_model.specs.Limits.{InLimits, config_fault}
 use Rattle.fq_model.specs.Simulated.{run_config, needed_entries}
 use Rattle.fq_model.specs.Trace.{Trace}
 use Rattle.trace_runner.specs.Plan.{IsPlan}
-use Rattle.trace_runner.proofs.NoFault.{no_fault}
+use Rattle.fq_laws.proofs.Faults.{no_fault}
 
 pub in_limits : (T : Trace) (O : RunOptions) → IsPlan T O → InLimits (run_config T O)
 in_limits T O p = record {

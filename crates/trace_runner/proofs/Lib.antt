@@ -16,5 +16,5 @@ pub mod Rests
 pub mod Only
 pub mod Exists
 pub mod Entries
+pub mod Finished
 pub mod InLimits
-pub mod NoFault

@@ -1,7 +1,8 @@
 -- Laws of simulated histories.
-use Rattle.std.specs.Prelude.{◌≡◌, length}
+use Rattle.std.specs.Prelude.{◌≡◌, length, None}
 use Rattle.fq_model.specs.declared.trace.RunOptions.{RunOptions}
 use Rattle.fq_model.specs.History.{History}
+use Rattle.fq_model.specs.Report.{unfinished}
 use Rattle.fq_model.specs.Simulated.{IsSimulated, needed_entries}
 use Rattle.fq_model.specs.Trace.{Trace}
 use Rattle.fq_model.specs.TraceText.{IsLawfulTrace}
@@ -22,3 +23,7 @@ abbrev pub EntriesNeeded : Type 0
 EntriesNeeded =
     (T : Trace) (O : RunOptions) (H : History) →
     IsPlan T O → IsSimulated T O H → length H ≡ needed_entries T.rows O.refresh
+
+-- and all that it submits is done
+abbrev pub AllAreDone : Type 0
+AllAreDone = (T : Trace) (O : RunOptions) (H : History) → IsSimulated T O H → unfinished H ≡ None

@@ -1,22 +1,16 @@
 -- What may be simulated.
 use Rattle.std.specs.Prelude.{ℕ, ◌<◌, ◌≤◌, List, All, slice_index_or}
-use Rattle.vt_fixed.specs.declared.limits.TheConstants.{GREATEST_COST, MOST_WORKERS}
+use Rattle.vt_fixed.specs.declared.limits.TheConstants.{GREATEST_COST}
 use Rattle.fq_model.specs.declared.limits.TheConstants.{MOST_ENTRIES}
 use Rattle.fq_model.specs.declared.trace.RunOptions.{RunOptions}
 use Rattle.fq_model.specs.declared.trace.TraceRow.{TraceRow}
 use Rattle.fq_model.specs.Courses.{sum_over, reports_below}
-use Rattle.fq_model.specs.Limits.{IsWithin}
+use Rattle.fq_model.specs.Limits.{IsWithin, AreInRange}
 use Rattle.fq_model.specs.Simulated.{needed_entries}
 use Rattle.fq_model.specs.Trace.{Trace}
 use Rattle.fq_model.specs.TraceText.{IsLawfulTrace}
 use Rattle.trace_runner.specs.declared.fault.SimFault.{SimFault}
 use Rattle.trace_runner.specs.declared.fault.SimFault.TheVariants.{TooManyEntries}
-
--- the numbers of the options are within their limits
-pub record AreInRange (O : RunOptions) : Type 0 where
-  pub workers : IsWithin 1 MOST_WORKERS O.workers
-  pub initial : IsWithin 1 GREATEST_COST O.initial
-  pub refresh : O.refresh ≤ GREATEST_COST
 
 -- row r, or zeros past the end
 abbrev pub row_at : List TraceRow → ℕ → TraceRow

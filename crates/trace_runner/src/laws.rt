@@ -1,5 +1,5 @@
 //! Laws of simulated histories: the contract of each function is the law, and its body is empty.
-ghost use Rattle.trace_runner.specs.Laws.{OneSimulated, SomeSimulated, EntriesNeeded};
+ghost use Rattle.trace_runner.specs.Laws.{OneSimulated, SomeSimulated, EntriesNeeded, AllAreDone};
 
 /// A trace and its options fix the simulated history.
 pub fn one_simulated()
@@ -14,4 +14,9 @@ pub fn some_simulated()
 /// It has just those entries.
 pub fn entries_needed()
     ensures { EntriesNeeded }
+{}
+
+/// All that it submits is done.
+pub fn all_are_done()
+    ensures { AllAreDone }
 {}

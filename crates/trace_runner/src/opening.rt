@@ -3,7 +3,8 @@ ghost use Rattle.std.specs.Prelude.{ℕ, ◌≡◌, ◌+◌, ◌≤◌, ◌<◌,
 ghost use Rattle.fq_model.specs.Courses.{submitters};
 ghost use Rattle.fq_model.specs.Simulated.{needed_entries, run_config};
 ghost use Rattle.fq_model.specs.TraceText.{IsLawfulTrace};
-ghost use Rattle.trace_runner.specs.Plan.{AreInRange, row_at};
+ghost use Rattle.fq_model.specs.Limits.{AreInRange};
+ghost use Rattle.trace_runner.specs.Plan.{row_at};
 
 use fq_model::config::{Checked, Config, Weights};
 use fq_model::limits::{GREATEST_SUBMITTER, LEAST_ENTRIES, MOST_ENTRIES};

@@ -4,7 +4,8 @@ ghost use Rattle.fq_model.specs.History.{history_of};
 ghost use Rattle.fq_model.specs.Simulated.{run_config, IsSimulated};
 ghost use Rattle.fq_model.specs.TraceText.{IsLawfulTrace};
 ghost use Rattle.trace_runner.specs.Agenda.{IsNext};
-ghost use Rattle.trace_runner.specs.Plan.{AreInRange, IsTooLong, too_long};
+ghost use Rattle.fq_model.specs.Limits.{AreInRange};
+ghost use Rattle.trace_runner.specs.Plan.{IsTooLong, too_long};
 ghost use Rattle.trace_runner.specs.Simulation.{Simulates};
 ghost use Rattle.trace_runner.specs.declared.fault.SimFault.TheVariants as faults;
 

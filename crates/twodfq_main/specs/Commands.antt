@@ -19,12 +19,11 @@ use Rattle.fq_model.specs.Texts.{replies_text}
 use Rattle.fq_model.specs.Trace.{Trace}
 use Rattle.fq_model.specs.TraceGrammar.{trace_of}
 use Rattle.fq_model.specs.JournalText.{journal_text}
-use Rattle.fq_model.specs.FaultTexts.{script_fault_text, placed_text}
+use Rattle.fq_model.specs.FaultTexts.{script_fault_text, trace_fault_text, placed_text}
 use Rattle.fq_model.specs.Output.{script_output_text}
 use Rattle.fq_model.specs.Options.{command_of}
 use Rattle.fq_model.specs.Lines.{Words}
 use Rattle.command_line.specs.Commands.{built_commands}
-use Rattle.trace_reader.specs.FaultTexts.{trace_fault_text}
 
 -- a command, if it is one that the program serves: scripts and traces, which wait for nobody
 abbrev pub if_served : Option Command → Option Command

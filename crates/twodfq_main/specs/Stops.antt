@@ -3,10 +3,9 @@ use Rattle.std.specs.Prelude.{ℕ, ◌≡◌}
 use Rattle.std.specs.String.{string_bytes}
 use Rattle.fq_io.specs.declared.reading.ReadAllFault.{ReadAllFault}
 use Rattle.fq_io.specs.declared.reading.ReadAllFault.TheVariants as reading
-use Rattle.fq_model.specs.FaultTexts.{script_fault_text, placed_text}
+use Rattle.fq_model.specs.FaultTexts.{script_fault_text, trace_fault_text, placed_text}
 use Rattle.journal_text.specs.declared.fault.ScriptFault.{ScriptFault}
 use Rattle.journal_text.specs.declared.fault.ScriptFault.TheVariants as script
-use Rattle.trace_reader.specs.FaultTexts.{trace_fault_text}
 use Rattle.trace_reader.specs.declared.fault.TraceFault.{TraceFault}
 use Rattle.trace_reader.specs.declared.fault.TraceFault.TheVariants as trace
 use Rattle.twodfq_main.specs.Commands.{message_line, entries_message}

@@ -3,7 +3,7 @@ ghost use Rattle.std.specs.Prelude.{◌≡◌, ◌≤◌, map, Err};
 ghost use Rattle.std.specs.String.{string_bytes};
 ghost use Rattle.fq_model.specs.declared.command.Command.TheVariants.{Script, Run};
 ghost use Rattle.fq_model.specs.declared.command.HistoryPrint.TheVariants.{Journal};
-ghost use Rattle.command_line.specs.Commands.{AreInRange};
+ghost use Rattle.fq_model.specs.Limits.{AreInRange};
 ghost use Rattle.twodfq_main.specs.Commands.{asked};
 ghost use Rattle.twodfq_main.specs.Program.{Ends, EndsCommand, IsRun, Tells, moved, status_of, message_of};
 ghost use Rattle.twodfq_main.specs.Causes.{StatusMeans};

@@ -1,10 +1,9 @@
 //! `run`: the simulated history of a trace, and its journal.
 ghost use Rattle.std.specs.Prelude.{◌≡◌, string_bytes, MatchResult, IfOk};
-ghost use Rattle.command_line.specs.Commands.{AreInRange};
+ghost use Rattle.fq_model.specs.Limits.{AreInRange};
 ghost use Rattle.fq_model.specs.declared.command.Command.TheVariants.{Run};
 ghost use Rattle.fq_model.specs.declared.command.HistoryPrint.TheVariants.{Journal};
-ghost use Rattle.fq_model.specs.FaultTexts.{placed_text};
-ghost use Rattle.trace_reader.specs.FaultTexts.{trace_fault_text};
+ghost use Rattle.fq_model.specs.FaultTexts.{placed_text, trace_fault_text};
 ghost use Rattle.twodfq_main.specs.Commands.{IsSimulatedJournal, entries_message, message_line};
 ghost use Rattle.twodfq_main.specs.Program.{IsOutputStop};
 ghost use Rattle.twodfq_main.specs.Stops.{IsTraceFaultStop, IsEntriesStop};

@@ -1,5 +1,5 @@
 use Rattle.fq_model.specs.Document.{config_of}
-use Rattle.journal_text.proofs.NoFault.{no_fault}
+use Rattle.fq_laws.proofs.Faults.{no_fault}
 use Rattle.journal_text.proofs.DocumentLimits.{config_of-in_limits}
 use Rattle.journal_text.proofs.reading.read_document.Goals as goal
 

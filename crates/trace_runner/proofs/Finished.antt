@@ -1,0 +1,27 @@
+-- A simulated history leaves no request undone.
+use Rattle.std.proofs.Common.{ℕ, ◌≡◌, Bool, true, false, not, ◌&&◌, None, length, arith, refl, ap}
+use Rattle.fq_model.specs.declared.trace.RunOptions.{RunOptions}
+use Rattle.fq_model.specs.History.{History, is_submitted, is_done, submits, request_bound}
+use Rattle.fq_model.specs.Report.{unfinished, is_unfinished}
+use Rattle.fq_model.specs.Simulated.{run_config, IsSimulated}
+use Rattle.fq_model.specs.Trace.{Trace}
+use Rattle.fq_laws.proofs.History.Requests.{submitted_below}
+use Rattle.fq_laws.proofs.Sums.{least_by}
+use Rattle.trace_runner.specs.Plan.{row_at}
+use Rattle.trace_runner.proofs.Only.{served_done}
+use Rattle.trace_runner.proofs.Rests.{all_submitted}
+use Rattle.trace_runner.proofs.Rows.{row_there}
+
+module _ (T : Trace) (O : RunOptions) (H : History) (s : IsSimulated T O H) where
+  ended : (r : ℕ) → is_submitted H r ≡ true → is_done H r ≡ true
+  ended r submitted =
+      let b = submitted_below (run_config T O) H r s.legal submitted in
+      served_done T O.refresh H r (row_at T.rows r) (s.served r (row_at T.rows r) (row_there T.rows r (omega (arith, b, all_submitted T O H s))))
+
+  not_unfinished : (r : ℕ) (b : Bool) → is_submitted H r ≡ b → (b && not (is_done H r)) ≡ false
+  not_unfinished r false is = refl
+  not_unfinished r true is = ap not (ended r is)
+
+  pub none_unfinished : unfinished H ≡ None
+  unfolding unfinished
+  none_unfinished = least_by (is_unfinished H) request_bound None (λ r _. not_unfinished r (is_submitted H r) refl)
