@@ -1,0 +1,8 @@
+pub mod Prefixes
+pub mod AskedLemmas
+pub mod StrayLemmas
+pub mod LengthLemmas
+pub mod FoundLemmas
+pub mod ReadingLemmas
+pub mod GapLemmas
+mod TestPasts
