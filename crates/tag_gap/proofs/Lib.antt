@@ -4,5 +4,6 @@ pub mod StrayLemmas
 pub mod LengthLemmas
 pub mod FoundLemmas
 pub mod ReadingLemmas
+pub mod EntryLemmas
 pub mod GapLemmas
 mod TestPasts

@@ -25,4 +25,6 @@ tenant_fault C f g = first_true (tenant_faults C f g)
 
 -- why they have none in this one (the request is read only where there is one)
 abbrev pub gap_fault : Config → History → ℕ → ℕ → Option GapFault
-gap_fault C H f g = first_true (tenant_faults C f g ++ (is_some (not_declared C H), NotDeclared (unwrap_or (not_declared C H) 0)) ∷ [])
+gap_fault C H f g =
+    first_true
+    (tenant_faults C f g ++ (is_some (not_declared C H), NotDeclared (unwrap_or (not_declared C H) 0)) ∷ [])

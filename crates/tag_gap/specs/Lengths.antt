@@ -6,6 +6,7 @@ use Rattle.tag_gap.specs.declared.lengths.Extremes.{Extremes}
 
 -- the greatest declared cost and the least weight of a tenant, with one act more
 abbrev pub extremes_with : Extremes → Act → ℕ → Extremes
-extremes_with x (Submit request tenant kind declared label) t = if tenant == t then record { cost = max x.cost declared; weight = x.weight } else x
-extremes_with x (Weight tenant weight) t = if tenant == t then record { cost = x.cost; weight = min x.weight weight } else x
+extremes_with x (Submit request tenant kind declared label) t =
+    if tenant == t then record x { cost = max x.cost declared } else x
+extremes_with x (Weight tenant weight) t = if tenant == t then record x { weight = min x.weight weight } else x
 extremes_with x _ t = x

@@ -5,7 +5,7 @@
 pub struct Gap {
     /// The greatest difference of their starts at a prefix in which both wait.
     pub largest: i128,
-    /// The greatest difference at the first prefix of a run of such, or the longest length of a request of the two, twice
-    /// under 2dfq, whichever is greater.
+    /// The greater of two numbers: the greatest difference at the first prefix of a run of such, and the longest length
+    /// of a request of the two, or twice that under 2dfq.
     pub bound: i128,
 }

@@ -21,10 +21,11 @@ use fq_model::config::Checked;
 use fq_model::event::Entry;
 use std::alloc::Global;
 
-/// How far the start of tenant f was above that of tenant g at most, at the prefixes of a past in which both wait, and what
-/// bounds that; none where they never wait both. Fair queuing bounds such a difference of two backlogged flows by their
-/// longest packets (Golestani, 1994; Goyal, Vin and Cheng, 1996), whose lengths are known: so all requests must cost what
-/// was declared. Takes time in proportion to the past, and memory in proportion to its requests and the tenants.
+/// How far the start of tenant f was above that of tenant g at most, at the prefixes of a past in which both wait, and
+/// what bounds that; none where they never wait both. Fair queuing bounds such a difference of two backlogged flows by
+/// the lengths of their longest packets (Golestani, 1994; Goyal, Vin and Cheng, 1996), which are known there: so all
+/// requests must cost what was declared. The faults of the tenants are found before any memory is taken. Takes time in
+/// proportion to the past, and memory in proportion to its requests and the tenants.
 pub fn tag_gap(
     alloc: Global,
     past: &[Entry],

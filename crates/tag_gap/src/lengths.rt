@@ -12,8 +12,8 @@ use fq_model::config::{Checked, Policy};
 use fq_model::event::{Act, Entry};
 use vt_fixed::length;
 
-/// What the difference of two tenants' starts stays within while both wait, or else where it began, in steps: the longest
-/// length of a request of the two, and under 2dfq twice that.
+/// While two tenants wait, the start of the first is above that of the second by no more than this, in steps, or than
+/// where it began: the longest length of a request of the two, and under 2dfq twice that.
 pub fn least_bound(past: &[Entry], config: &Checked, f: u32, g: u32) -> i128
     requires legal { IsLegal config.now (history_of past.now) }
     requires f_known { f < length config.now.weights }
@@ -29,7 +29,7 @@ pub fn least_bound(past: &[Entry], config: &Checked, f: u32, g: u32) -> i128
     }
 }
 
-// The longest length of a request of the tenant, in steps: that of the greatest declared number at the least weight that
+// The longest length of a request of the tenant, in steps: that of the greatest declared cost at the least weight that
 // the tenant has had, since a length rises with the cost and falls with the weight.
 fn longest(past: &[Entry], config: &Checked, tenant: u32) -> i128
     requires legal { IsLegal config.now (history_of past.now) }

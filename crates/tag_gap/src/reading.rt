@@ -4,7 +4,8 @@ ghost use Rattle.fq_model.specs.History.{History};
 ghost use Rattle.fq_model.specs.Time.{last_moment};
 ghost use Rattle.fq_model.specs.Keys.{start};
 ghost use Rattle.fq_laws.specs.Steps.{Awaits, Follows, Submits};
-ghost use Rattle.tag_gap.specs.Reading.{Keeps, KeepsSome, Takes, AwaitsEntry, FollowsEntry, raised_first, difference_at};
+ghost use Rattle.tag_gap.specs.Reading.{Keeps, KeepsSome, Takes, raised_first, difference_at};
+ghost use Rattle.tag_gap.specs.Reading.{AwaitsEntry, FollowsEntry};
 ghost use Rattle.tag_gap.specs.declared.fault.GapFault.TheVariants as faults;
 
 use crate::asked::Asked;

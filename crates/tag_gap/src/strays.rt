@@ -6,7 +6,7 @@ ghost use Rattle.fq_model.specs.Gap.{not_declared};
 ghost use Rattle.fq_model.specs.Limits.{InLimits};
 ghost use Rattle.fq_model.specs.Rules.{IsLegal};
 ghost use Rattle.tag_gap.specs.Asked.{AreAsked};
-ghost use Rattle.tag_gap.specs.Strays.{IsKnown, stray, lesser};
+ghost use Rattle.tag_gap.specs.Strays.{IsKnown, declared_of, stray, lesser};
 
 use crate::asked::Asked;
 use fq_model::config::{Checked, Estimator};
@@ -46,14 +46,18 @@ fn stray(entry: &Entry, asked: &[Asked]) -> Option<u32>
     ensures { result ≡ stray asked.now entry.now.act }
 {
     match entry.act {
-        Act::Report { request, used, .. } if used > asked[request as usize].declared => Some(
-            request,
-        ),
-        Act::Done { request, cost, .. } if cost != asked[request as usize].declared => Some(
-            request,
-        ),
+        Act::Report { request, used, .. } if used > declared_of(asked, request) => Some(request),
+        Act::Done { request, cost, .. } if cost != declared_of(asked, request) => Some(request),
         _ => None,
     }
+}
+
+// What is declared of a request, in microseconds.
+fn declared_of(asked: &[Asked], request: u32) -> u64
+    requires { request < length asked.now }
+    ensures { result ≡ declared_of asked.now request }
+{
+    asked[request as usize].declared
 }
 
 // The lesser of the numbers that are there.

@@ -3,7 +3,8 @@ use Rattle.std.proofs.lemmas.Int.{ints}
 use Rattle.fq_model.specs.Time.{last_moment}
 use Rattle.fq_laws.proofs.Keys.Tags.{start_within}
 use Rattle.fq_laws.proofs.Rules.Limits.{last_moment_small}
-use Rattle.tag_gap.proofs.ReadingLemmas.{read_number, apart_none, apart_some}
+use Rattle.tag_gap.proofs.ReadingLemmas.{read_number}
+use Rattle.tag_gap.proofs.EntryLemmas.{apart_none, apart_some}
 use Rattle.tag_gap.proofs.reading.Reading.difference.Goals as goal
 use Rattle.tag_gap.proofs.reading.Reading.difference.Goals.{then-index-eq0-via-then-index-eq0, then-index-eq0-via-else-index-eq0+then-index-eq0-2}
 

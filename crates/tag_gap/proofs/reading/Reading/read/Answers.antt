@@ -1,5 +1,5 @@
 use Rattle.std.proofs.Common.{refl}
-use Rattle.tag_gap.proofs.ReadingLemmas.{read_submit, read_take, read_pass, read_done, read_weight, read_workers, awaits_done, done_within}
+use Rattle.tag_gap.proofs.EntryLemmas.{read_submit, read_take, read_pass, read_done, read_weight, read_workers, awaits_done, done_within}
 use Rattle.tag_gap.proofs.reading.Reading.read.Goals as goal
 
 pub bounds-asked-request-in-Done : goal.bounds-asked-request-in-Done

@@ -2,7 +2,7 @@ use Rattle.std.proofs.Common.{arith}
 use Rattle.std.proofs.lemmas.Int.{ints}
 use Rattle.fq_model.specs.Time.{last_moment}
 use Rattle.tag_rules.proofs.AccountSteps.{tag_is_sum}
-use Rattle.tag_gap.proofs.ReadingLemmas.{start_idle, start_tag}
+use Rattle.tag_gap.proofs.EntryLemmas.{start_idle, start_tag}
 use Rattle.tag_gap.proofs.reading.Reading.start.Goals as goal
 
 pub returns-in-Msf2q : goal.returns-in-Msf2q
