@@ -76,73 +76,60 @@ steady_keeps C P e k n steady h times accounts waiting is =
 abbrev pub asked_at : List Asked → ℕ → Asked
 asked_at asked r = get_or asked r (record { tenant = 0; declared = 0 })
 
--- a Submit
-submits_is : (P : History) (e : Entry) (r t kind declared label : ℕ) → e.act ≡ Submit r t kind declared label → Submits e.moment t P e
-submits_is P e r t kind declared label is = record { request = r; kind = kind; declared = declared; label = label; moment_is = refl; act_is = is }
-
-pub read_submit : (asked : List Asked) (e : Entry) (k n : Reading) (r t kind declared label : ℕ) → e.act ≡ Submit r t kind declared label → Follows Keeps (Submits e.moment t) k n → FollowsEntry asked e k n
-read_submit asked e k n r t kind declared label act f = λ C P may is. f C P e is.limits may.costs.legal (submits_is P e r t kind declared label act) is
-
--- a Take of a request of which it is known what was asked
-record AskedTake (P : History) (asked : List Asked) (r : ℕ) : Type 0 where
+-- a request of the history is among those that are kept
+record KnownAt (P : History) (asked : List Asked) (r : ℕ) : Type 0 where
   what : Request
   was : request_at P r ≡ Some what
   within : r < length asked
   tenant_is : what.tenant ≡ (asked_at asked r).tenant
 
-asked_take : (C : Config) (P : History) (asked : List Asked) (e : Entry) (r : ℕ) → MayCome C asked P e → (q : Request) → request_at P r ≡ Some q → AskedTake P asked r
-asked_take C P asked e r may q was =
-    let at : slice_get asked r ≡ Some (asked_of q) = may.known r q was in
-    record {
-      what = q;
-      was = was;
-      within = slice_get_within asked r (asked_of q) at;
-      tenant_is = ap (λ (x : Asked). x.tenant) (sym (get_or_from_slice_get asked r (asked_of q) (record { tenant = 0; declared = 0 }) at));
-    }
+module _ (C : Config) (P : History) (asked : List Asked) (e : Entry) (may : MayCome C asked P e) where
+  known_at : (r : ℕ) (q : Request) → request_at P r ≡ Some q → KnownAt P asked r
+  known_at r q was =
+      let at : slice_get asked r ≡ Some (asked_of q) = may.known r q was in
+      record {
+        what = q;
+        was = was;
+        within = slice_get_within asked r (asked_of q) at;
+        tenant_is = ap (λ (x : Asked). x.tenant) (sym (get_or_from_slice_get asked r (asked_of q) (record { tenant = 0; declared = 0 }) at));
+      }
 
-take_asked : (C : Config) (P : History) (asked : List Asked) (e : Entry) (w r estimate : ℕ) → MayCome C asked P e → e.act ≡ Take w r estimate → AskedTake P asked r
-take_asked C P asked e w r estimate may act =
-    let f : FitsTake C P e.moment w r estimate = subst (Fits C P e.moment) act may.costs.legal.3 in
-    asked_take C P asked e r may f.asked f.chosen.asked
+  -- so is one that is taken or done
+  taken_at : (w r estimate : ℕ) → e.act ≡ Take w r estimate → KnownAt P asked r
+  taken_at w r estimate act = let f : FitsTake C P e.moment w r estimate = subst (Fits C P e.moment) act may.costs.legal.3 in known_at r f.asked f.chosen.asked
 
-done_asked : (C : Config) (P : History) (asked : List Asked) (e : Entry) (w r cost : ℕ) → MayCome C asked P e → e.act ≡ Done w r cost → AskedTake P asked r
-done_asked C P asked e w r cost may act =
-    let f : FitsUse P w r cost = subst (Fits C P e.moment) act may.costs.legal.3 in
-    let q = use_known C P w r cost may.costs.legal.0 f in
-    asked_take C P asked e r may q.0 q.1
+  done_at : (w r cost : ℕ) → e.act ≡ Done w r cost → KnownAt P asked r
+  done_at w r cost act =
+      let f : FitsUse P w r cost = subst (Fits C P e.moment) act may.costs.legal.3 in
+      let q = use_known C P w r cost may.costs.legal.0 f in
+      known_at r q.0 q.1
 
-takes_is : (C : Config) (P : History) (asked : List Asked) (e : Entry) (w r estimate : ℕ) → MayCome C asked P e → e.act ≡ Take w r estimate → Takes e.moment (asked_at asked r).tenant estimate P e
-takes_is C P asked e w r estimate may act = let x = take_asked C P asked e w r estimate may act in record { worker = w; request = r; asked = x.what; moment_is = refl; act_is = act; asked_is = x.was; tenant_is = x.tenant_is }
+  takes_is : (w r estimate : ℕ) → e.act ≡ Take w r estimate → Takes e.moment (asked_at asked r).tenant estimate P e
+  takes_is w r estimate act = let x = taken_at w r estimate act in record { worker = w; request = r; asked = x.what; moment_is = refl; act_is = act; asked_is = x.was; tenant_is = x.tenant_is }
 
-completes_is : (C : Config) (P : History) (asked : List Asked) (e : Entry) (w r cost : ℕ) → MayCome C asked P e → e.act ≡ Done w r cost → Completes e.moment (asked_at asked r).tenant P e
-completes_is C P asked e w r cost may act = let x = done_asked C P asked e w r cost may act in record { worker = w; request = r; cost = cost; asked = x.what; moment_is = refl; act_is = act; asked_is = x.was; tenant_is = x.tenant_is }
+  completes_is : (w r cost : ℕ) → e.act ≡ Done w r cost → Completes e.moment (asked_at asked r).tenant P e
+  completes_is w r cost act = let x = done_at w r cost act in record { worker = w; request = r; cost = cost; asked = x.what; moment_is = refl; act_is = act; asked_is = x.was; tenant_is = x.tenant_is }
 
-module _ (asked : List Asked) (e : Entry) (k : Reading) (a : AwaitsEntry asked e k) where
-  awaits : {K : Type 0} (KeptIs : Config → History → K → Type 0) (Comes : History → Entry → Type 0) (kept : K) → Comes a.history e → KeptIs a.config a.history kept → Awaits KeptIs Comes kept
-  awaits KeptIs Comes kept comes is = record { config = a.config; history = a.history; entry = e; limits = a.keeps.limits; legal = a.comes.costs.legal; comes = comes; kept_is = is }
+-- what the calls at a Done ask for
+pub done_within : (asked : List Asked) (e : Entry) (k : Reading) (w r cost : ℕ) → AwaitsEntry asked e k → e.act ≡ Done w r cost → r < length asked
+done_within asked e k w r cost a act = (done_at a.config a.history asked e a.comes w r cost act).within
 
-  pub awaits_take : (w r estimate : ℕ) → e.act ≡ Take w r estimate → Awaits Keeps (Takes e.moment (asked_at asked r).tenant estimate) k
-  awaits_take w r estimate act = awaits Keeps (Takes e.moment (asked_at asked r).tenant estimate) k (takes_is a.config a.history asked e w r estimate a.comes act) a.keeps
+pub awaits_done : (asked : List Asked) (e : Entry) (k : Reading) (w r cost : ℕ) → AwaitsEntry asked e k → e.act ≡ Done w r cost → Awaits TimesAre (Completes e.moment (asked_at asked r).tenant) k.times
+awaits_done asked e k w r cost a act = record { config = a.config; history = a.history; entry = e; limits = a.keeps.limits; legal = a.comes.costs.legal; comes = completes_is a.config a.history asked e a.comes w r cost act; kept_is = a.keeps.times_are }
 
-  pub take_within : (w r estimate : ℕ) → e.act ≡ Take w r estimate → r < length asked
-  take_within w r estimate act = (take_asked a.config a.history asked e w r estimate a.comes act).within
-
-  pub awaits_done : (w r cost : ℕ) → e.act ≡ Done w r cost → Awaits TimesAre (Completes e.moment (asked_at asked r).tenant) k.times
-  awaits_done w r cost act = awaits TimesAre (Completes e.moment (asked_at asked r).tenant) k.times (completes_is a.config a.history asked e w r cost a.comes act) a.keeps.times_are
-
-  pub done_within : (w r cost : ℕ) → e.act ≡ Done w r cost → r < length asked
-  done_within w r cost act = (done_asked a.config a.history asked e w r cost a.comes act).within
+-- what each act makes of what is kept
+pub read_submit : (asked : List Asked) (e : Entry) (k n : Reading) (r t kind declared label : ℕ) → e.act ≡ Submit r t kind declared label → Follows Keeps (Submits e.moment t) k n → FollowsEntry asked e k n
+read_submit asked e k n r t kind declared label act f = λ C P may is. f C P e is.limits may.costs.legal (record { request = r; kind = kind; declared = declared; label = label; moment_is = refl; act_is = act }) is
 
 pub read_take : (asked : List Asked) (e : Entry) (k n : Reading) (w r estimate : ℕ) → e.act ≡ Take w r estimate → Follows Keeps (Takes e.moment (asked_at asked r).tenant estimate) k n → FollowsEntry asked e k n
-read_take asked e k n w r estimate act f = λ C P may is. f C P e is.limits may.costs.legal (takes_is C P asked e w r estimate may act) is
+read_take asked e k n w r estimate act f = λ C P may is. f C P e is.limits may.costs.legal (takes_is C P asked e may w r estimate act) is
 
--- an entry that is told to the times alone
 pub read_pass : (asked : List Asked) (e : Entry) (k n : Reading) → ((w : ℕ) × (r : ℕ) × (used : ℕ) × (e.act ≡ Report w r used)) ⊎ (e.act ≡ Close) → PassOn e.moment k.times n.times → n.accounts ≡ k.accounts → n.waiting ≡ k.waiting → FollowsEntry asked e k n
 read_pass asked e k n (inl x) f accounts waiting = λ C P may is. steady_keeps C P e k n (rw x.3 refl) may.costs (f C P e (record { moment_is = refl; act_passes = rw x.3 refl }) is.times_are) accounts waiting is
 read_pass asked e k n (inr act) f accounts waiting = λ C P may is. steady_keeps C P e k n (rw act refl) may.costs (f C P e (record { moment_is = refl; act_passes = rw act refl }) is.times_are) accounts waiting is
 
 pub read_done : (asked : List Asked) (e : Entry) (k n : Reading) (w r cost : ℕ) → e.act ≡ Done w r cost → Follows TimesAre (Completes e.moment (asked_at asked r).tenant) k.times n.times → n.accounts ≡ k.accounts → n.waiting ≡ k.waiting → FollowsEntry asked e k n
-read_done asked e k n w r cost act f accounts waiting = λ C P may is. steady_keeps C P e k n (rw act refl) may.costs (f C P e is.limits may.costs.legal (completes_is C P asked e w r cost may act) is.times_are) accounts waiting is
+read_done asked e k n w r cost act f accounts waiting = λ C P may is. steady_keeps C P e k n (rw act refl) may.costs (f C P e is.limits may.costs.legal (completes_is C P asked e may w r cost act) is.times_are) accounts waiting is
 
 pub read_weight : (asked : List Asked) (e : Entry) (k n : Reading) (t weight : ℕ) → e.act ≡ Weight t weight → Follows TimesAre (Reweighs e.moment t weight) k.times n.times → n.accounts ≡ k.accounts → n.waiting ≡ k.waiting → FollowsEntry asked e k n
 read_weight asked e k n t weight act f accounts waiting = λ C P may is. steady_keeps C P e k n (rw act refl) may.costs (f C P e is.limits may.costs.legal (record { moment_is = refl; act_is = act }) is.times_are) accounts waiting is

@@ -3,10 +3,10 @@ use Rattle.tag_gap.proofs.EntryLemmas.{read_submit, read_take, read_pass, read_d
 use Rattle.tag_gap.proofs.reading.Reading.read.Goals as goal
 
 pub bounds-asked-request-in-Done : goal.bounds-asked-request-in-Done
-bounds-asked-request-in-Done c = done_within c.args.asked.now c.args.entry.now c.args.self.now c.requires c.in-Done.worker c.in-Done.request c.in-Done.cost c.in-Done.is
+bounds-asked-request-in-Done c = done_within c.args.asked.now c.args.entry.now c.args.self.now c.in-Done.worker c.in-Done.request c.in-Done.cost c.requires c.in-Done.is
 
 pub done-requires : goal.done-requires
-done-requires c = awaits_done c.args.asked.now c.args.entry.now c.args.self.now c.requires c.in-Done.worker c.in-Done.request c.in-Done.cost c.in-Done.is
+done-requires c = awaits_done c.args.asked.now c.args.entry.now c.args.self.now c.in-Done.worker c.in-Done.request c.in-Done.cost c.requires c.in-Done.is
 
 pub returns-in-Submit : goal.returns-in-Submit
 returns-in-Submit c = read_submit c.args.asked.now c.args.entry.now c.args.self.now c.submit.new.self c.in-Submit.request c.in-Submit.tenant c.in-Submit.kind c.in-Submit.declared c.in-Submit.label c.in-Submit.is c.submit.ensures
