@@ -9,7 +9,7 @@ use Rattle.fq_model.specs.Keys.{HeadKeys, Turn, stagger, eligible_key, IsEligibl
 use Rattle.fq_model.specs.Gap.{lengths_in_bound}
 use Rattle.fq_laws.proofs.Keys.Choices.{eligible_or_not}
 
--- the keys of a head that starts at s and is so long
+-- the keys of the head r that starts at s and is so long
 abbrev pub keys : ℕ → ℕ → ℕ → HeadKeys
 keys s len r = record { start = pos s; len = pos len; request = r }
 
@@ -32,7 +32,7 @@ length_counts Wf2q B = omega arith
 length_counts Msf2q B = omega arith
 length_counts TwoDfq B = omega arith
 
--- the head of the chosen tenant, with k = keys a x r, after its Take starts a + x; another head starts b
+-- the chosen tenant, whose head starts at a and is x long, starts at a + x after the Take; another one starts at b
 by_finish : (a b x y r s B : ℕ) → y ≤ B → FinishBefore (keys a x r) (keys b y s) → a + x ≤ b + B
 by_finish a b x y r s B low (inl h) = omega (arith, ints)
 by_finish a b x y r s B low (inr h) = omega (arith, ints)

@@ -4,6 +4,6 @@ pub mod Choices
 pub mod Lengths
 pub mod Runs
 pub mod Gaps
+pub mod Told
 pub mod Bounds
 pub mod Computed
-pub mod Told

@@ -1,5 +1,5 @@
 -- What a gap tells is what its words say: the greatest differences at prefixes.
-use Rattle.std.proofs.Common.{ℕ, ◌≡◌, ◌⊎◌, Bool, true, false, not, ◌&&◌, cond, refl, sym, subst, arith, inl, inr, List, [], ◌∷◌, ◌++◌, drop, Some, None, ℤ, ◌≤ℤ◌}
+use Rattle.std.proofs.Common.{ℕ, ◌≡◌, ◌⊎◌, Bool, true, false, not, ◌&&◌, cond, refl, sym, ap, Option, subst, arith, inl, inr, List, [], ◌∷◌, ◌++◌, drop, Some, None, ℤ, ◌≤ℤ◌}
 use Rattle.std.specs.Prelude.{option_map, ◌↔◌}
 use Rattle.std.specs.Int.{int_max}
 use Rattle.std.proofs.lemmas.Int.{ints, clamps, by_lt_z}
@@ -11,7 +11,6 @@ use Rattle.fq_model.specs.Gap.{is_shared, start_difference, shared_differences, 
 use Rattle.gap_laws.specs.Words.{IsPrefix, IsSharedIn, IsFirstIn, IsGreatestAt}
 use Rattle.gap_laws.specs.Laws.{bound_length, GapIsThere, LargestIsGreatest, BoundIsGreatest}
 use Rattle.gap_laws.proofs.Runs.{nil_unshared, prefix_older}
-use Rattle.gap_laws.proofs.Bounds.{gap_parts}
 
 -- ---- the greatest of numbers
 
@@ -128,6 +127,13 @@ first_found C H f g x h =
     let w : FoundAt (first_test f g) (difference C f g) H x = value_found (first_test f g) (difference C f g) H x (rw (first_are C H f g) at h) in
     let p = and_parts _ _ w.passes in
     (w.at, ((w.is_prefix, p.0), not-true _ p.1), w.is)
+
+-- what is told, if a gap is
+gap_parts : (o : Option ℤ) (b : ℤ) (gap : TagGap) → option_map (λ largest. record { largest = largest; bound = b }) o ≡ Some gap → (o ≡ Some gap.largest) × (gap.bound ≡ b)
+gap_parts None b gap h = absurd (cc)
+gap_parts (Some x) b gap h =
+    let j : record { largest = x; bound = b } ≡ gap = cc in
+    (ap (λ z. Some z.largest) j, sym (ap (λ z. z.bound) j))
 
 greatest_at : (C : Config) (H : History) (f g : ℕ) (xs : List ℤ) (x : ℤ) → shared_differences C H f g ≡ xs → greatest_of xs ≡ Some x → IsGreatestAt (IsSharedIn H f g) (λ P. start_difference C P f g) x
 greatest_at C H f g [] x is h = absurd (cc)
