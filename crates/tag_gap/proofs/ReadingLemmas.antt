@@ -133,7 +133,6 @@ submit_follows m t w k n v z times shows same read accounts waiting = λ C P e l
 -- what the calls at a Submit ask for
 pub record MaySubmit (k : Reading) (t : ℕ) : Type 0 where
   pub waits : t < length k.waiting.items
-  pub charged_one : t < length k.accounts.charges
   pub few : slice_index k.waiting.items t < 4294967295
 
 pub may_submit : (m t : ℕ) (k : Reading) → Awaits Keeps (Submits m t) k → MaySubmit k t
@@ -141,7 +140,6 @@ may_submit m t k w =
     let known = (submits_open w.config w.history w.entry m t w.limits w.legal w.comes).known in
     record {
       waits = omega (arith, known, w.kept_is.waiting_are.tenants);
-      charged_one = omega (arith, known, w.kept_is.accounts_are.charges_sized);
       few = waiting_low w.config w.history k t known w.kept_is;
     }
 

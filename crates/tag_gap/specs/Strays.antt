@@ -1,4 +1,4 @@
--- Requests that are not as declared.
+-- Strays: requests that are not as declared.
 use Rattle.std.specs.Prelude.{ℕ, min, nat_lt, ◌<◌, ◌==◌, if◌then◌else◌, List, Option, Some, None, slice_index_or}
 use Rattle.fq_model.specs.declared.event.Act.{Act}
 use Rattle.fq_model.specs.declared.event.Act.TheVariants.{Report, Done}

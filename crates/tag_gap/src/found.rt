@@ -48,7 +48,7 @@ impl Found {
         }
     }
 
-    /// The gap, if some prefix is shared. Its bound is at least this.
+    /// The gap, if some prefix was shared. Its bound is at least this.
     pub fn gap(&self, least: i128) -> Option<Gap>
         ensures { result ≡ gap_from self.now least }
     {

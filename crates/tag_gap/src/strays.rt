@@ -1,4 +1,4 @@
-//! Which request is not as declared.
+//! Strays: requests that are not as declared.
 ghost use Rattle.std.specs.Prelude.{◌≡◌, ◌<◌, length};
 ghost use Rattle.fq_model.specs.declared.config.Estimator.TheVariants as Estimator;
 ghost use Rattle.fq_model.specs.History.{history_of};

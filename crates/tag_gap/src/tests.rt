@@ -41,6 +41,7 @@ fn two_tenants(
     Ok(config.check()?)
 }
 
+// An entry of caller 0, with this act, and with a Submit, a Take and a Done.
 fn at(moment: u64, act: Act) -> Entry
     ensures { result ≡ record { who = 0; moment = moment; act = act } }
 {
