@@ -1,0 +1,169 @@
+-- What is kept of a history, one entry on, and where its tenants start.
+use Rattle.std.proofs.Common.{ℕ, ◌+◌, ◌<◌, ◌≡◌, ◌≢◌, ◌⊎◌, ◌∙◌, ◌&&◌, true, false, Bool, refl, ap, sym, subst, arith, inl, inr, List, ◌∷◌, length, Some, None, ℤ, pos, get_or, ◌-ℤ◌}
+use Rattle.std.specs.Prelude.{slice_index, slice_get, is_some, if◌then◌else◌}
+use Rattle.std.proofs.lemmas.Option.{get_or_from_slice_get, slice_get_within}
+use Rattle.fq_model.specs.declared.config.Config.{Config}
+use Rattle.fq_model.specs.declared.config.Policy.{Policy}
+use Rattle.fq_model.specs.declared.config.Policy.TheVariants.{Wfq, Wf2q, Msf2q, TwoDfq}
+use Rattle.fq_model.specs.declared.event.Act.{Act}
+use Rattle.fq_model.specs.declared.event.Act.TheVariants.{Submit, Take, Report, Done, Close, Weight, Workers}
+use Rattle.fq_model.specs.declared.event.Entry.{Entry}
+use Rattle.fq_model.specs.History.{History, Request, request_at, head, queue, queue_after}
+use Rattle.fq_model.specs.Time.{last_moment, virtual_idle_time}
+use Rattle.fq_model.specs.Charge.{virtual_charge}
+use Rattle.fq_model.specs.Keys.{tag, tag_base, start, is_submit_for}
+use Rattle.fq_model.specs.Rules.{Fits, FitsTake, FitsUse}
+use Rattle.fq_model.specs.Gap.{is_shared, start_difference}
+use Rattle.fq_laws.specs.Steps.{Awaits, Follows, Submits, Completes, Reweighs, Staffs}
+use Rattle.fq_laws.proofs.History.Queues.{head_is_first}
+use Rattle.fq_laws.proofs.History.Requests.{use_known}
+use Rattle.fq_laws.proofs.Keys.Tags.{base_step}
+use Rattle.virtual_clock.specs.Histories.{TimesAre, PassOn}
+use Rattle.gap_laws.specs.Words.{HasDeclaredCosts, taken_length}
+use Rattle.gap_laws.proofs.Declared.{all_are_declared, charge_step}
+use Rattle.tag_gap.specs.declared.asked.Asked.{Asked}
+use Rattle.tag_gap.specs.declared.reading.Reading.{Reading}
+use Rattle.tag_gap.specs.Asked.{asked_of}
+use Rattle.tag_gap.proofs.ReadingLemmas.{no_first, some_first}
+use Rattle.tag_gap.specs.Reading.{Keeps, Takes, MayCome, AwaitsEntry, FollowsEntry, difference_at}
+
+-- ---- the other acts
+
+-- the act is no Submit and no Take
+abbrev pub is_steady : Act → Bool
+is_steady (Submit request tenant kind declared label) = false
+is_steady (Take worker request estimate) = false
+is_steady _ = true
+
+-- it takes no length, raises no base and changes no queue
+record Steady (C : Config) (P : History) (u : ℕ) (a : Act) : Type 0 where
+  no_length : taken_length C P u a ≡ 0
+  no_submit : is_submit_for u a ≡ false
+  same_queue : queue_after P u a (queue P u) ≡ queue P u
+
+steady_at : (C : Config) (P : History) (u : ℕ) (a : Act) → is_steady a ≡ true → Steady C P u a
+steady_at C P u (Submit request tenant kind declared label) h = absurd (cc)
+steady_at C P u (Take worker request estimate) h = absurd (cc)
+steady_at C P u a h = record { no_length = refl; no_submit = refl; same_queue = refl }
+
+-- where all is as declared, it leaves charges and waiting requests as they are
+steady_keeps : (C : Config) (P : History) (e : Entry) (k n : Reading) → is_steady e.act ≡ true → HasDeclaredCosts C (e ∷ P) → TimesAre C (e ∷ P) n.times → n.accounts ≡ k.accounts → n.waiting ≡ k.waiting → Keeps C P k → Keeps C (e ∷ P) n
+steady_keeps C P e k n steady h times accounts waiting is =
+    let charges : (u : ℕ) → virtual_charge C (e ∷ P) u ≡ virtual_charge C P u = λ u. (
+    let s = steady_at C P u e.act steady in
+    omega (arith, charge_step C P e u h.limits h.legal (all_are_declared C (e ∷ P) h), s.no_length)
+    ) in
+    let bases : (u : ℕ) → tag_base C (e ∷ P) u ≡ tag_base C P u = λ u. (let s = steady_at C P u e.act steady in base_step C P e u ∙ rw s.no_submit refl) in
+    record {
+      limits = h.limits;
+      legal = h.legal;
+      times_are = times;
+      accounts_are = rw accounts (record {
+        charges_sized = is.accounts_are.charges_sized;
+        bases_sized = is.accounts_are.bases_sized;
+        charges_are = λ u b. is.accounts_are.charges_are u b ∙ ap pos (sym (charges u));
+        bases_are = λ u b. is.accounts_are.bases_are u b ∙ ap pos (sym (bases u));
+      });
+      waiting_are = rw waiting (record {
+        tenants = is.waiting_are.tenants;
+        each = λ u b. is.waiting_are.each u b ∙ ap length (sym (steady_at C P u e.act steady).same_queue);
+      });
+    }
+
+-- ---- one entry
+
+-- what a request asked, as it is kept
+abbrev pub asked_at : List Asked → ℕ → Asked
+asked_at asked r = get_or asked r (record { tenant = 0; declared = 0 })
+
+-- a request of the history is among those that are kept
+record KnownAt (P : History) (asked : List Asked) (r : ℕ) : Type 0 where
+  what : Request
+  was : request_at P r ≡ Some what
+  within : r < length asked
+  tenant_is : what.tenant ≡ (asked_at asked r).tenant
+
+module _ (C : Config) (P : History) (asked : List Asked) (e : Entry) (may : MayCome C asked P e) where
+  known_at : (r : ℕ) (q : Request) → request_at P r ≡ Some q → KnownAt P asked r
+  known_at r q was =
+      let at : slice_get asked r ≡ Some (asked_of q) = may.known r q was in
+      record {
+        what = q;
+        was = was;
+        within = slice_get_within asked r (asked_of q) at;
+        tenant_is = ap (λ (x : Asked). x.tenant) (sym (get_or_from_slice_get asked r (asked_of q) (record { tenant = 0; declared = 0 }) at));
+      }
+
+  -- so is one that is taken or done
+  taken_at : (w r estimate : ℕ) → e.act ≡ Take w r estimate → KnownAt P asked r
+  taken_at w r estimate act = let f : FitsTake C P e.moment w r estimate = subst (Fits C P e.moment) act may.costs.legal.3 in known_at r f.asked f.chosen.asked
+
+  done_at : (w r cost : ℕ) → e.act ≡ Done w r cost → KnownAt P asked r
+  done_at w r cost act =
+      let f : FitsUse P w r cost = subst (Fits C P e.moment) act may.costs.legal.3 in
+      let q = use_known C P w r cost may.costs.legal.0 f in
+      known_at r q.0 q.1
+
+  takes_is : (w r estimate : ℕ) → e.act ≡ Take w r estimate → Takes e.moment (asked_at asked r).tenant estimate P e
+  takes_is w r estimate act = let x = taken_at w r estimate act in record { worker = w; request = r; asked = x.what; moment_is = refl; act_is = act; asked_is = x.was; tenant_is = x.tenant_is }
+
+  completes_is : (w r cost : ℕ) → e.act ≡ Done w r cost → Completes e.moment (asked_at asked r).tenant P e
+  completes_is w r cost act = let x = done_at w r cost act in record { worker = w; request = r; cost = cost; asked = x.what; moment_is = refl; act_is = act; asked_is = x.was; tenant_is = x.tenant_is }
+
+-- what the calls at a Done ask for
+pub done_within : (asked : List Asked) (e : Entry) (k : Reading) (w r cost : ℕ) → AwaitsEntry asked e k → e.act ≡ Done w r cost → r < length asked
+done_within asked e k w r cost a act = (done_at a.config a.history asked e a.comes w r cost act).within
+
+pub awaits_done : (asked : List Asked) (e : Entry) (k : Reading) (w r cost : ℕ) → AwaitsEntry asked e k → e.act ≡ Done w r cost → Awaits TimesAre (Completes e.moment (asked_at asked r).tenant) k.times
+awaits_done asked e k w r cost a act = record { config = a.config; history = a.history; entry = e; limits = a.keeps.limits; legal = a.comes.costs.legal; comes = completes_is a.config a.history asked e a.comes w r cost act; kept_is = a.keeps.times_are }
+
+-- what each act makes of what is kept
+pub read_submit : (asked : List Asked) (e : Entry) (k n : Reading) (r t kind declared label : ℕ) → e.act ≡ Submit r t kind declared label → Follows Keeps (Submits e.moment t) k n → FollowsEntry asked e k n
+read_submit asked e k n r t kind declared label act f = λ C P may is. f C P e is.limits may.costs.legal (record { request = r; kind = kind; declared = declared; label = label; moment_is = refl; act_is = act }) is
+
+pub read_take : (asked : List Asked) (e : Entry) (k n : Reading) (w r estimate : ℕ) → e.act ≡ Take w r estimate → Follows Keeps (Takes e.moment (asked_at asked r).tenant estimate) k n → FollowsEntry asked e k n
+read_take asked e k n w r estimate act f = λ C P may is. f C P e is.limits may.costs.legal (takes_is C P asked e may w r estimate act) is
+
+pub read_pass : (asked : List Asked) (e : Entry) (k n : Reading) → ((w : ℕ) × (r : ℕ) × (used : ℕ) × (e.act ≡ Report w r used)) ⊎ (e.act ≡ Close) → PassOn e.moment k.times n.times → n.accounts ≡ k.accounts → n.waiting ≡ k.waiting → FollowsEntry asked e k n
+read_pass asked e k n (inl x) f accounts waiting = λ C P may is. steady_keeps C P e k n (rw x.3 refl) may.costs (f C P e (record { moment_is = refl; act_passes = rw x.3 refl }) is.times_are) accounts waiting is
+read_pass asked e k n (inr act) f accounts waiting = λ C P may is. steady_keeps C P e k n (rw act refl) may.costs (f C P e (record { moment_is = refl; act_passes = rw act refl }) is.times_are) accounts waiting is
+
+pub read_done : (asked : List Asked) (e : Entry) (k n : Reading) (w r cost : ℕ) → e.act ≡ Done w r cost → Follows TimesAre (Completes e.moment (asked_at asked r).tenant) k.times n.times → n.accounts ≡ k.accounts → n.waiting ≡ k.waiting → FollowsEntry asked e k n
+read_done asked e k n w r cost act f accounts waiting = λ C P may is. steady_keeps C P e k n (rw act refl) may.costs (f C P e is.limits may.costs.legal (completes_is C P asked e may w r cost act) is.times_are) accounts waiting is
+
+pub read_weight : (asked : List Asked) (e : Entry) (k n : Reading) (t weight : ℕ) → e.act ≡ Weight t weight → Follows TimesAre (Reweighs e.moment t weight) k.times n.times → n.accounts ≡ k.accounts → n.waiting ≡ k.waiting → FollowsEntry asked e k n
+read_weight asked e k n t weight act f accounts waiting = λ C P may is. steady_keeps C P e k n (rw act refl) may.costs (f C P e is.limits may.costs.legal (record { moment_is = refl; act_is = act }) is.times_are) accounts waiting is
+
+pub read_workers : (asked : List Asked) (e : Entry) (k n : Reading) (count : ℕ) → e.act ≡ Workers count → Follows TimesAre (Staffs e.moment count) k.times n.times → n.accounts ≡ k.accounts → n.waiting ≡ k.waiting → FollowsEntry asked e k n
+read_workers asked e k n count act f accounts waiting = λ C P may is. steady_keeps C P e k n (rw act refl) may.costs (f C P e is.limits may.costs.legal (record { moment_is = refl; act_is = act }) is.times_are) accounts waiting is
+
+-- ---- starts and their difference
+
+pub start_idle : (C : Config) (P : History) (m t : ℕ) (p : Policy) → p ≡ C.policy → p ≡ Msf2q → start C P m t ≡ virtual_charge C P t + virtual_idle_time C P m t
+unfolding start
+start_idle C P m t p same is = rw (← same, is) refl
+
+pub start_tag : (C : Config) (P : History) (m t : ℕ) (p : Policy) → p ≡ C.policy → (p ≡ Wfq) ⊎ ((p ≡ Wf2q) ⊎ (p ≡ TwoDfq)) → start C P m t ≡ tag C P t
+unfolding start
+start_tag C P m t p same (inl is) = rw (← same, is) refl
+start_tag C P m t p same (inr (inl is)) = rw (← same, is) refl
+start_tag C P m t p same (inr (inr is)) = rw (← same, is) refl
+
+head_none : (C : Config) (P : History) (k : Reading) (t : ℕ) → t < length C.weights → Keeps C P k → slice_index k.waiting.items t ≡ 0 → is_some (head P t) ≡ false
+head_none C P k t known is none = rw (head_is_first C P t is.limits is.legal, no_first (queue P t) (omega (arith, none, is.waiting_are.each t known))) refl
+
+head_some : (C : Config) (P : History) (k : Reading) (t : ℕ) → t < length C.weights → Keeps C P k → slice_index k.waiting.items t ≢ 0 → is_some (head P t) ≡ true
+head_some C P k t known is some = let x = some_first (queue P t) (λ e. some (omega (arith, e, is.waiting_are.each t known))) in rw (head_is_first C P t is.limits is.legal, x.1) refl
+
+pub apart_none : (C : Config) (P : History) (k : Reading) (f g : ℕ) → f < length C.weights → g < length C.weights → Keeps C P k → (slice_index k.waiting.items f ≡ 0) ⊎ (slice_index k.waiting.items g ≡ 0) → None ≡ difference_at C P f g
+unfolding is_shared
+apart_none C P k f g known_f known_g is (inl none) = rw (head_none C P k f known_f is none) refl
+apart_none C P k f g known_f known_g is (inr none) = rw (head_none C P k g known_g is none) (neither (is_some (head P f)))
+  where
+    neither : (b : Bool) → None ≡ (if b && false then Some (start_difference C P f g) else None)
+    neither true = refl
+    neither false = refl
+
+pub apart_some : (C : Config) (P : History) (k : Reading) (f g : ℕ) (z : ℤ) → f < length C.weights → g < length C.weights → Keeps C P k → slice_index k.waiting.items f ≢ 0 → slice_index k.waiting.items g ≢ 0 → z ≡ pos (start C P (last_moment P) f) -ℤ pos (start C P (last_moment P) g) → Some z ≡ difference_at C P f g
+unfolding is_shared start_difference
+apart_some C P k f g z known_f known_g is some_f some_g apart = rw (head_some C P k f known_f is some_f, head_some C P k g known_g is some_g) (ap Some apart)

@@ -1,0 +1,240 @@
+-- What is kept of a history, one entry on.
+use Rattle.std.proofs.Common.{ℕ, ◌+◌, ◌-◌, ◌<◌, ◌≤◌, ◌≡◌, ◌≢◌, ◌==◌, ◌∙◌, true, false, Bool, cond, refl, ap, ap₂, sym, subst, arith, inl, inr, List, [], ◌∷◌, length, replicate, Some, None, ℤ, pos, get_or, ◌+ℤ◌, length-set, get_or-set_same, get_or-set_other, length-append, length-drop}
+use Rattle.std.specs.Prelude.{slice_index, slice_set}
+use Rattle.std.proofs.lemmas.Bool.{cases_Bool, cases_eq, eq-eqb, ne_eqb}
+use Rattle.std.proofs.lemmas.Int.{ints}
+use Rattle.std.proofs.lemmas.List.{get_or-replicate, length-replicate}
+use Rattle.std.proofs.lemmas.Option.{get_or_from_slice_get, slice_get_read}
+use Rattle.vt_fixed.specs.Rounding.{length_of}
+use Rattle.vt_fixed.specs.declared.limits.TheConstants.{GREATEST_COST}
+use Rattle.fq_model.specs.declared.config.Config.{Config}
+use Rattle.fq_model.specs.declared.event.Act.{Act}
+use Rattle.fq_model.specs.declared.event.Act.TheVariants.{Submit, Take}
+use Rattle.fq_model.specs.declared.event.Entry.{Entry}
+use Rattle.fq_model.specs.Limits.{InLimits}
+use Rattle.fq_model.specs.History.{History, Request, request_at, is_of_tenant, head, queue, queue_after, weight_at, is_submit}
+use Rattle.fq_model.specs.Time.{virtual_time}
+use Rattle.fq_model.specs.Charge.{virtual_charge}
+use Rattle.fq_model.specs.Rules.{IsLegal, FitsTake}
+use Rattle.fq_laws.specs.Words.{one_more, first}
+use Rattle.fq_laws.specs.Steps.{Awaits, Follows, Passes, Submits}
+use Rattle.fq_laws.proofs.History.Queues.{head_is_first}
+use Rattle.fq_laws.proofs.History.Requests.{request_known}
+use Rattle.fq_laws.proofs.History.Asked.{of_own, of_other}
+use Rattle.fq_laws.proofs.History.Weights.{weight_step}
+use Rattle.fq_laws.proofs.Charge.Estimates.{estimate_range}
+use Rattle.fq_laws.proofs.Charge.Tenants.{virtual_charge_taken}
+use Rattle.fq_laws.proofs.Rules.Takes.{take_head}
+use Rattle.fq_laws.proofs.Rules.Limits.{length_entries}
+use Rattle.fq_laws.proofs.Time.Clock.{virtual_time_step}
+use Rattle.virtual_clock.specs.declared.times.Times.{Times}
+use Rattle.virtual_clock.specs.Histories.{TimesAre, PassOn, IsTimeOf, IsWeightOf}
+use Rattle.virtual_clock.proofs.Opening.{submits_open}
+use Rattle.tag_rules.specs.Accounts.{AccountsView, AccountsAre, IsCharge, at_first, charge_of, charged}
+use Rattle.tag_rules.proofs.AccountSteps.{accounts_nil, accounts_raise, accounts_leave, accounts_charge, may_charge}
+use Rattle.tag_gap.specs.declared.reading.Reading.{Reading}
+use Rattle.tag_gap.specs.Reading.{WaitingAre, Keeps, Takes, raised_first}
+
+-- an entry, once its act is known
+entry_is : (e : Entry) (a : Act) → e.act ≡ a → e ≡ record { who = e.who; moment = e.moment; act = a }
+entry_is e a is = ap (λ (x : Act). record { who = e.who; moment = e.moment; act = x }) is
+
+-- ---- the empty history
+
+pub keeps_nil : (C : Config) (k : Reading) → InLimits C → TimesAre C [] k.times → k.accounts ≡ at_first (length C.weights) → k.waiting.items ≡ replicate (length C.weights) 0 → Keeps C [] k
+keeps_nil C k lim times accounts waiting = record {
+  limits = lim;
+  legal = tt;
+  times_are = times;
+  accounts_are = rw accounts (accounts_nil C);
+  waiting_are = rw waiting (record { tenants = length-replicate (length C.weights) 0; each = λ t b. get_or-replicate (length C.weights) t 0 0 b });
+}
+
+-- ---- how many wait
+
+-- where the queue of one tenant changes, its number is written
+waiting_written : (C : Config) (P : History) (e : Entry) (t n : ℕ) (waiting : List ℕ) → t < length C.weights → n ≡ length (queue (e ∷ P) t) → ((u : ℕ) → u ≢ t → queue (e ∷ P) u ≡ queue P u) → WaitingAre C P waiting → WaitingAre C (e ∷ P) (slice_set waiting t n)
+waiting_written C P e t n waiting known own others is = record {
+  tenants = length-set waiting t n ∙ is.tenants;
+  each = λ u b. elim (cases_eq u t) [
+    | inl same ↦ rw (same, get_or-set_same waiting t n 0 (omega (arith, is.tenants, known))) own
+    | inr other ↦ rw (get_or-set_other waiting t u n 0 other) (is.each u b ∙ ap length (sym (others u other)))
+  ];
+}
+
+queue_low_at : (P : History) (t : ℕ) (a : Act) → length (queue P t) ≤ length P → length (queue_after P t a (queue P t)) ≤ length P + 1
+queue_low_at P t (Submit request tenant kind declared label) h = elim (cases_Bool (tenant == t)) [ inl e ↦ rw e (omega (arith, length-append (queue P t) (request ∷ []), h)) | inr e ↦ rw e (omega (arith, h)) ]
+queue_low_at P t (Take worker request estimate) h = elim (cases_Bool (is_of_tenant t (request_at P request))) [ inl e ↦ rw e (omega (arith, length-drop 1 (queue P t), h)) | inr e ↦ rw e (omega (arith, h)) ]
+queue_low_at P t a h = omega (arith, h)
+
+queue_low : (P : History) (t : ℕ) → length (queue P t) ≤ length P
+queue_low [] t = omega arith
+queue_low (e ∷ P) t = omega (arith, queue_low_at P t e.act (queue_low P t))
+
+-- no count passes 32 bits
+pub waiting_low : (C : Config) (P : History) (k : Reading) (t : ℕ) → t < length C.weights → Keeps C P k → slice_index k.waiting.items t < 4294967295
+waiting_low C P k t known is = omega (arith, is.waiting_are.each t known, queue_low P t, length_entries C P is.limits is.legal, is.limits.entries.1)
+
+-- a tenant has a head where one waits
+pub no_first : (xs : List ℕ) → length xs ≡ 0 → first xs ≡ None
+no_first [] e = refl
+no_first (x ∷ xs) e = absurd (omega arith)
+
+pub some_first : (xs : List ℕ) → length xs ≢ 0 → (x : ℕ) × (first xs ≡ Some x)
+some_first [] ne = absurd (ne refl)
+some_first (x ∷ xs) ne = (x, refl)
+
+first_some : (xs : List ℕ) (x : ℕ) → first xs ≡ Some x → 1 ≤ length xs
+first_some [] x e = absurd (cc)
+first_some (y ∷ ys) x e = omega arith
+
+-- ---- a Submit
+
+accounts_submit : (C : Config) (P : History) (a : AccountsView) (who m r t kind declared label n : ℕ) → InLimits C → IsLegal C (one_more who m (Submit r t kind declared label) P) → n ≡ length (queue P t) → AccountsAre C P a → AccountsAre C (one_more who m (Submit r t kind declared label) P) (raised_first n a t (pos (virtual_time C P m)))
+accounts_submit C P a who m r t kind declared label n lim l count is = elim (cases_eq n 0) [
+  | inl e ↦ rw (eq-eqb n 0 e) (accounts_raise C P a who m r t kind declared label lim l (head_is_first C P t lim l.0 ∙ no_first (queue P t) (omega (arith, e, count))) is)
+  | inr ne ↦ (
+      let x = some_first (queue P t) (λ z. ne (omega (arith, z, count))) in
+      rw (ne_eqb n 0 ne) (accounts_leave C P a who m r t kind declared label x.0 lim l (head_is_first C P t lim l.0 ∙ x.1) is)
+      )
+]
+
+queue_submit_own : (P : History) (who m r t kind declared label : ℕ) → length (queue (one_more who m (Submit r t kind declared label) P) t) ≡ length (queue P t) + 1
+queue_submit_own P who m r t kind declared label = rw (eq-eqb t t refl) (length-append (queue P t) (r ∷ []))
+
+queue_submit_other : (P : History) (who m r t u kind declared label : ℕ) → u ≢ t → queue (one_more who m (Submit r t kind declared label) P) u ≡ queue P u
+queue_submit_other P who m r t u kind declared label ne = rw (ne_eqb t u (λ e. ne (sym e))) refl
+
+-- what is kept after a Submit, once the tag is raised at v and one more waits
+submitted_keeps : (C : Config) (P : History) (k n : Reading) (who m r t kind declared label : ℕ) → InLimits C → IsLegal C (one_more who m (Submit r t kind declared label) P) → Keeps C P k → TimesAre C (one_more who m (Submit r t kind declared label) P) n.times → n.accounts ≡ raised_first (slice_index k.waiting.items t) k.accounts t (pos (virtual_time C P m)) → n.waiting.items ≡ slice_set k.waiting.items t (slice_index k.waiting.items t + 1) → Keeps C (one_more who m (Submit r t kind declared label) P) n
+submitted_keeps C P k n who m r t kind declared label lim l is times accounts waiting =
+    let count = is.waiting_are.each t l.3.tenant_known in
+    record {
+      limits = lim;
+      legal = l;
+      times_are = times;
+      accounts_are = rw accounts (accounts_submit C P k.accounts who m r t kind declared label (slice_index k.waiting.items t) lim l count is.accounts_are);
+      waiting_are = rw waiting (waiting_written C P (record { who = who; moment = m; act = Submit r t kind declared label }) t _ k.waiting.items l.3.tenant_known (omega (arith, count, queue_submit_own P who m r t kind declared label)) (λ u ne. queue_submit_other P who m r t u kind declared label ne) is.waiting_are);
+    }
+
+-- a number that is read, and found there
+pub read_number : (xs : List ℕ) (i x : ℕ) → i < length xs → x ≡ get_or xs i x → x ≡ slice_index xs i
+read_number xs i x b is = sym (get_or_from_slice_get xs i x 0 (slice_get_read xs (length xs) i x refl b is))
+
+pub submit_follows : (m t w : ℕ) (k n : Reading) (v z : ℤ) → Follows TimesAre (Submits m t) k.times n.times → IsTimeOf n.times v → z ≡ v → w ≡ slice_index k.waiting.items t → n.accounts ≡ raised_first w k.accounts t z → n.waiting.items ≡ slice_set k.waiting.items t (w + 1) → Follows Keeps (Submits m t) k n
+submit_follows m t w k n v z times shows same read accounts waiting = λ C P e lim l s is.
+    let entry = entry_is e _ s.act_is in
+    let are : TimesAre C (e ∷ P) n.times = times C P e lim l s is.times_are in
+    let at : z ≡ pos (virtual_time C P e.moment) = same ∙ (shows C (e ∷ P) are ∙ ap pos (virtual_time_step C P e)) in
+    let raises : n.accounts ≡ raised_first (slice_index k.waiting.items t) k.accounts t (pos (virtual_time C P e.moment)) = accounts ∙ ap₂ (λ (x : ℕ) y. raised_first x k.accounts t y) read at in
+    let more : n.waiting.items ≡ slice_set k.waiting.items t (slice_index k.waiting.items t + 1) = waiting ∙ ap (λ (x : ℕ). slice_set k.waiting.items t (x + 1)) read in
+    subst (λ (x : Entry). Keeps C (x ∷ P) n) (sym entry) (submitted_keeps C P k n e.who e.moment s.request t s.kind s.declared s.label lim (subst (λ (x : Entry). IsLegal C (x ∷ P)) entry l) is (subst (λ (x : Entry). TimesAre C (x ∷ P) n.times) entry are) raises more)
+
+-- what the calls at a Submit ask for
+pub record MaySubmit (k : Reading) (t : ℕ) : Type 0 where
+  pub waits : t < length k.waiting.items
+  pub few : slice_index k.waiting.items t < 4294967295
+
+pub may_submit : (m t : ℕ) (k : Reading) → Awaits Keeps (Submits m t) k → MaySubmit k t
+may_submit m t k w =
+    let known = (submits_open w.config w.history w.entry m t w.limits w.legal w.comes).known in
+    record {
+      waits = omega (arith, known, w.kept_is.waiting_are.tenants);
+      few = waiting_low w.config w.history k t known w.kept_is;
+    }
+
+-- ---- a Take
+
+-- what a Take of a request of tenant t changes, at this estimate
+record TakeStep (C : Config) (P : History) (e : Entry) (t estimate : ℕ) : Type 0 where
+  known : t < length C.weights
+  low : estimate ≤ GREATEST_COST
+  no_submit : is_submit e.act ≡ false
+  waits : 1 ≤ length (queue P t)
+  own_charge : virtual_charge C (e ∷ P) t ≡ virtual_charge C P t + length_of estimate (weight_at C P t)
+  other_charges : (u : ℕ) → u ≢ t → virtual_charge C (e ∷ P) u ≡ virtual_charge C P u
+  own_queue : length (queue (e ∷ P) t) ≡ length (queue P t) - 1
+  other_queues : (u : ℕ) → u ≢ t → queue (e ∷ P) u ≡ queue P u
+  same_weight : weight_at C (e ∷ P) t ≡ weight_at C P t
+
+taken_charge : (C : Config) (P : History) (who m w r estimate u : ℕ) (b : Bool) → InLimits C → IsLegal C (one_more who m (Take w r estimate) P) → is_of_tenant u (request_at P r) ≡ b → virtual_charge C (one_more who m (Take w r estimate) P) u ≡ virtual_charge C P u + cond b (length_of estimate (weight_at C P u)) 0
+taken_charge C P who m w r estimate u b lim l own = virtual_charge_taken C P who m u w r estimate lim l.0 l.3 ∙ ap (λ (b : Bool). virtual_charge C P u + cond b (length_of estimate (weight_at C P u)) 0) own
+
+taken_waits : (C : Config) (P : History) (m w r estimate : ℕ) (q : Request) → InLimits C → IsLegal C P → FitsTake C P m w r estimate → request_at P r ≡ Some q → 1 ≤ length (queue P q.tenant)
+taken_waits C P m w r estimate q lim l f was =
+    let x = take_head C P m w r estimate f in
+    let same : Some x.what ≡ Some q = sym x.was_asked ∙ was in
+    let j : x.what ≡ q = cc in
+    let at : head P q.tenant ≡ Some r = subst (λ (y : Request). head P y.tenant ≡ Some r) j x.is_head in
+    first_some (queue P q.tenant) r (sym (head_is_first C P q.tenant lim l) ∙ at)
+
+take_step_at : (C : Config) (P : History) (who m w r estimate : ℕ) (q : Request) → InLimits C → IsLegal C (one_more who m (Take w r estimate) P) → request_at P r ≡ Some q → TakeStep C P (record { who = who; moment = m; act = Take w r estimate }) q.tenant estimate
+take_step_at C P who m w r estimate q lim l was =
+    let own : is_of_tenant q.tenant (request_at P r) ≡ true = of_own P q.tenant r q was refl in
+    record {
+      known = (request_known C P r q l.0 was).tenant_known;
+      low = omega (arith, l.3.chosen.estimate_is, (estimate_range C P r l.3.asked lim l.0 l.3.chosen.asked).1);
+      no_submit = refl;
+      waits = taken_waits C P m w r estimate q lim l.0 l.3 was;
+      own_charge = taken_charge C P who m w r estimate q.tenant true lim l own;
+      other_charges = λ u ne. omega (arith, taken_charge C P who m w r estimate u false lim l (of_other P u r q was (λ e. ne (sym e))));
+      own_queue = rw own (length-drop 1 (queue P q.tenant));
+      other_queues = λ u ne. rw (of_other P u r q was (λ e. ne (sym e))) refl;
+      same_weight = weight_step C P (record { who = who; moment = m; act = Take w r estimate }) q.tenant;
+    }
+
+take_step : (C : Config) (P : History) (e : Entry) (m t estimate : ℕ) → InLimits C → IsLegal C (e ∷ P) → Takes m t estimate P e → TakeStep C P e t estimate
+take_step C P e m t estimate lim l s =
+    let entry = entry_is e _ s.act_is in
+    let at = take_step_at C P e.who e.moment s.worker s.request estimate s.asked lim (subst (λ (x : Entry). IsLegal C (x ∷ P)) entry l) s.asked_is in
+    subst (λ (u : ℕ). TakeStep C P e u estimate) s.tenant_is (subst (λ (x : Entry). TakeStep C P x s.asked.tenant estimate) (sym entry) at)
+
+take_passes : (m t estimate : ℕ) (P : History) (e : Entry) → Takes m t estimate P e → Passes m P e
+take_passes m t estimate P e s = record { moment_is = s.moment_is; act_passes = rw s.act_is refl }
+
+own_change : (a b d : ℕ) → b ≡ a + d → pos a +ℤ pos d ≡ pos b
+own_change a b d e = omega (arith, ints)
+
+pub take_follows : (m t estimate w weight : ℕ) (k n : Reading) (z : ℤ) → PassOn m k.times n.times → IsWeightOf n.times t weight → z ≡ pos (length_of estimate weight) → n.accounts ≡ charged k.accounts t z → w ≡ slice_index k.waiting.items t → n.waiting.items ≡ slice_set k.waiting.items t (w - 1) → Follows Keeps (Takes m t estimate) k n
+take_follows m t estimate w weight k n z times shows long accounts read waiting = λ C P e lim l s is.
+    let x = take_step C P e m t estimate lim l s in
+    let are : TimesAre C (e ∷ P) n.times = times C P e (take_passes m t estimate P e s) is.times_are in
+    let heavy : weight ≡ weight_at C P t = shows C (e ∷ P) are x.known ∙ x.same_weight in
+    let change : z ≡ pos (length_of estimate (weight_at C P t)) = long ∙ ap (λ (y : ℕ). pos (length_of estimate y)) heavy in
+    let own : pos (virtual_charge C P t) +ℤ z ≡ pos (virtual_charge C (e ∷ P) t) = rw change (own_change _ _ _ x.own_charge) in
+    record {
+      limits = lim;
+      legal = l;
+      times_are = are;
+      accounts_are = rw accounts (accounts_charge C P k.accounts e t z x.no_submit x.known own x.other_charges is.accounts_are);
+      waiting_are = rw waiting (waiting_written C P e t (w - 1) k.waiting.items x.known (omega (arith, read, is.waiting_are.each t x.known, x.own_queue)) x.other_queues is.waiting_are);
+    }
+
+-- what the calls at a Take ask for
+pub record MayTake (k : Reading) (times : Times) (t estimate : ℕ) : Type 0 where
+  pub weighed : t < length times.weights
+  pub low : estimate ≤ GREATEST_COST
+  pub charged_one : t < length k.accounts.charges
+  pub charge : (weight : ℕ) (z : ℤ) → IsWeightOf times t weight → z ≡ pos (length_of estimate weight) → IsCharge (charge_of k.accounts t +ℤ z)
+  pub waits : t < length k.waiting.items
+  pub some : 1 ≤ slice_index k.waiting.items t
+
+pub may_take : (m t estimate : ℕ) (k : Reading) (times : Times) → Awaits Keeps (Takes m t estimate) k → PassOn m k.times times → MayTake k times t estimate
+may_take m t estimate k times a passes =
+    let C = a.config in
+    let P = a.history in
+    let e = a.entry in
+    let x = take_step C P e m t estimate a.limits a.legal a.comes in
+    let are : TimesAre C (e ∷ P) times = passes C P e (take_passes m t estimate P e a.comes) a.kept_is.times_are in
+    record {
+      weighed = omega (arith, x.known, are.weights_are.tenants);
+      low = x.low;
+      charged_one = omega (arith, x.known, a.kept_is.accounts_are.charges_sized);
+      charge = λ weight z shows long. (
+          let heavy : weight ≡ weight_at C P t = shows C (e ∷ P) are x.known ∙ x.same_weight in
+          let change : z ≡ pos (length_of estimate (weight_at C P t)) = long ∙ ap (λ (y : ℕ). pos (length_of estimate y)) heavy in
+          may_charge C P k.accounts e t z a.limits a.legal x.known (rw change (own_change _ _ _ x.own_charge)) a.kept_is.accounts_are
+          );
+      waits = omega (arith, x.known, a.kept_is.waiting_are.tenants);
+      some = omega (arith, a.kept_is.waiting_are.each t x.known, x.waits);
+    }

@@ -1,0 +1,27 @@
+use Rattle.std.proofs.Common.{refl}
+use Rattle.tag_gap.proofs.EntryLemmas.{read_submit, read_take, read_pass, read_done, read_weight, read_workers, awaits_done, done_within}
+use Rattle.tag_gap.proofs.reading.Reading.read.Goals as goal
+
+pub bounds-asked-request-in-Done : goal.bounds-asked-request-in-Done
+bounds-asked-request-in-Done c = done_within c.args.asked.now c.args.entry.now c.args.self.now c.in-Done.worker c.in-Done.request c.in-Done.cost c.requires c.in-Done.is
+
+pub done-requires : goal.done-requires
+done-requires c = awaits_done c.args.asked.now c.args.entry.now c.args.self.now c.in-Done.worker c.in-Done.request c.in-Done.cost c.requires c.in-Done.is
+
+pub returns-in-Submit : goal.returns-in-Submit
+returns-in-Submit c = read_submit c.args.asked.now c.args.entry.now c.args.self.now c.submit.new.self c.in-Submit.request c.in-Submit.tenant c.in-Submit.kind c.in-Submit.declared c.in-Submit.label c.in-Submit.is c.submit.ensures
+
+pub returns-in-Take : goal.returns-in-Take
+returns-in-Take c = read_take c.args.asked.now c.args.entry.now c.args.self.now c.take.new.self c.in-Take.worker c.in-Take.request c.in-Take.estimate c.in-Take.is c.take.ensures
+
+pub returns-in-Report : goal.returns-in-Report
+returns-in-Report c = read_pass c.args.asked.now c.args.entry.now c.args.self.now _ c.in-Report.is c.pass.ensures refl refl
+
+pub returns-in-Done : goal.returns-in-Done
+returns-in-Done c = read_done c.args.asked.now c.args.entry.now c.args.self.now _ c.in-Done.worker c.in-Done.request c.in-Done.cost c.in-Done.is c.done.ensures refl refl
+
+pub returns-in-Weight : goal.returns-in-Weight
+returns-in-Weight c = read_weight c.args.asked.now c.args.entry.now c.args.self.now _ c.in-Weight.tenant c.in-Weight.weight c.in-Weight.is c.reweigh.ensures refl refl
+
+pub returns-in-Workers : goal.returns-in-Workers
+returns-in-Workers c = read_workers c.args.asked.now c.args.entry.now c.args.self.now _ c.in-Workers.count c.in-Workers.is c.staff.ensures refl refl

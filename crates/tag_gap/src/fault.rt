@@ -1,0 +1,48 @@
+//! Why there is no gap.
+ghost use Rattle.std.specs.Prelude.{◌≡◌};
+ghost use Rattle.tag_gap.specs.declared.fault.GapFault.TheVariants as faults;
+
+use std::alloc::{AllocError, AllocFailed};
+use tag_rules::accounts;
+use virtual_clock::idles;
+
+/// Why no gap of two tenants is told.
+#[derive(Clone, Copy, Debug, PartialEq, Eq, thiserror::Error)]
+pub enum GapFault {
+    /// No tenant has this number.
+    #[error("no tenant has the number {0}")]
+    UnknownTenant(u32),
+    /// The two are one tenant.
+    #[error("the two tenants are one")]
+    SameTenant,
+    /// The least request that is not as declared.
+    #[error("request {0} is not as declared")]
+    NotDeclared(u32),
+    /// There was no memory.
+    #[error("no memory for the gap")]
+    NoMemory,
+}
+
+impl From<AllocError> for GapFault {
+    ghost from_gives = { λ _ fault. fault ≡ faults.NoMemory };
+
+    fn from(_fault: AllocError) -> GapFault {
+        GapFault::NoMemory
+    }
+}
+
+impl From<idles::NoMemory> for GapFault {
+    ghost from_gives = { λ _ fault. fault ≡ faults.NoMemory };
+
+    fn from(_fault: idles::NoMemory) -> GapFault {
+        GapFault::NoMemory
+    }
+}
+
+impl From<accounts::NoMemory> for GapFault {
+    ghost from_gives = { λ _ fault. fault ≡ faults.NoMemory };
+
+    fn from(_fault: accounts::NoMemory) -> GapFault {
+        GapFault::NoMemory
+    }
+}
