@@ -44,10 +44,10 @@ May So ask bytes = IsSomeAnd ask (λ command. IfSome (input_of command bytes) (S
 abbrev pub Must : (Command → List ℕ → Type 0) → Option Command → Option (List ℕ) → Type 0
 Must So ask bytes = IsSomeAnd ask (λ command. IsSomeAnd (input_of command bytes) (So command))
 
--- what a status says of the words, and of an input that is known: 2 comes exactly where the words are no command line, 3 only
--- where the input is refused, 4 only where reading failed, 5 only where writing failed, 7 only where too much would be made of the
--- input. And on a command line, where nothing fails, an input that is refused gives 3, one of which too much would be made
--- 7, and one that is taken 0, or any of them 6 where memory ran out.
+-- what a status says of the words, and of an input that is known: 2 comes exactly where the words are no command line, 3
+-- only where the input is refused, 4 only where reading failed, 5 only where writing failed, 7 only where too much would
+-- be made of the input. And on a command line, where nothing fails, an input that is refused gives 3, one of which too
+-- much would be made 7, and one that is taken 0, or any of them 6 where memory ran out.
 pub record StatusMeans (words : Words) (source sink : Move) (status : ℕ) : Type 0 where
   pub line : (status ≡ 2) ↔ ¬ IsCommandLine words
   pub refused : status ≡ 3 → May IsRefused (asked words) source.before.bytes
@@ -56,4 +56,5 @@ pub record StatusMeans (words : Words) (source sink : Move) (status : ℕ) : Typ
   pub over : status ≡ 7 → May IsOver (asked words) source.before.bytes
   pub refuses : Must IsRefused (asked words) source.before.bytes → ¬ Fails source → (status ≡ 3) ⊎ (status ≡ 6)
   pub overflows : Must IsOver (asked words) source.before.bytes → ¬ Fails source → (status ≡ 7) ⊎ (status ≡ 6)
-  pub complete : Must IsTaken (asked words) source.before.bytes → ¬ Fails source → ¬ Fails sink → (status ≡ 0) ⊎ (status ≡ 6)
+  pub complete :
+      Must IsTaken (asked words) source.before.bytes → ¬ Fails source → ¬ Fails sink → (status ≡ 0) ⊎ (status ≡ 6)

@@ -89,13 +89,15 @@ pub record RunsManyCells (options : RunOptions) (slot : ℕ) (print : HistoryPri
   pub many : SimulatesManyCells trace options slot print
 
 -- so it is, and the message tells how many
-pub record TellsRunCells (options : RunOptions) (slot : ℕ) (print : HistoryPrint) (input message : List ℕ) : Type 0 where
+pub record TellsRunCells (options : RunOptions) (slot : ℕ) (print : HistoryPrint) (input message : List ℕ)
+    : Type 0 where
   pub run : RunsManyCells options slot print input
   pub told : message ≡ cells_message (simulated_cells run.many)
 
 -- Generated traces.
 
--- the text is the generated trace, or the summary of its simulated history under the default options, by the automatic slot
+-- the text is the generated trace, or the summary of its simulated history under the default options, by the automatic
+-- slot
 abbrev pub IsGeneratedOutput : GenPrint → Trace → List ℕ → Type 0
 IsGeneratedOutput gen.Trace T text = text ≡ trace_text T
 IsGeneratedOutput gen.Summary T text = IsSimulatedOutput T default_run_options 0 Summary text
@@ -123,7 +125,8 @@ is_input _ input = false
 abbrev pub Outputs : Command → List ℕ → List ℕ → Type 0
 Outputs (Script print) input text = IsServed print input text
 Outputs (Run options slot print) input text = IsRunOutput options slot print input text
-Outputs (Gen seed tenants requests print) input text = IsGeneratedOutput print (generated_trace seed tenants requests) text
+Outputs (Gen seed tenants requests print) input text =
+    IsGeneratedOutput print (generated_trace seed tenants requests) text
 Outputs _ input text = ⊥
 
 -- the message names the first fault of the input

@@ -41,21 +41,23 @@ pub record IsReportBy (slot : ℕ) (C : Config) (H : History) (report : LagRepor
   pub few : ¬ HasManyCells history.Report slot C H
   pub report_is : report ≡ lag_report C H (slot_for C H slot)
 
--- the report that is made, if there is one, has no more cells than it may, and the text is what is asked for of the history
--- that has these entries in order of time
-pub record IsHistoryOutput (print : HistoryPrint) (slot : ℕ) (C : Config) (tenants kinds : List (List ℕ)) (past : List Entry) (text : List ℕ) : Type 0 where
+-- the report that is made, if there is one, has no more cells than it may, and the text is what is asked for of the
+-- history that has these entries in order of time
+pub record IsHistoryOutput (print : HistoryPrint) (slot : ℕ) (C : Config) (tenants kinds : List (List ℕ))
+    (past : List Entry) (text : List ℕ) : Type 0 where
   pub few : ¬ HasManyCells print slot C (history_of past)
   pub text_is : text ≡ history_output print C tenants kinds past slot
 
 -- Simulated histories.
 
--- the simulated history of the trace under these options has no more entries than there may be, and these in order of time
+-- the simulated history of the trace under these options has no more entries than there may be; in order of time these
 pub record Simulates (T : Trace) (O : RunOptions) (past : List Entry) : Type 0 where
   pub few : needed_entries T.rows O.refresh ≤ MOST_ENTRIES
   pub simulated : IsSimulated T O (history_of past)
 
 -- the text is what is asked for of the simulated history of the trace
-pub record IsSimulatedOutput (T : Trace) (O : RunOptions) (slot : ℕ) (print : HistoryPrint) (text : List ℕ) : Type 0 where
+pub record IsSimulatedOutput (T : Trace) (O : RunOptions) (slot : ℕ) (print : HistoryPrint) (text : List ℕ)
+    : Type 0 where
   pub past : List Entry
   pub simulates : Simulates T O past
   pub output : IsHistoryOutput print slot (run_config T O) T.tenants T.kinds past text
@@ -67,7 +69,8 @@ pub record SimulatesManyCells (T : Trace) (O : RunOptions) (slot : ℕ) (print :
   pub many : HasManyCells print slot (run_config T O) (history_of past)
 
 -- how many
-abbrev pub simulated_cells : {T : Trace} {O : RunOptions} {slot : ℕ} {print : HistoryPrint} → SimulatesManyCells T O slot print → ℕ
+abbrev pub simulated_cells :
+    {T : Trace} {O : RunOptions} {slot : ℕ} {print : HistoryPrint} → SimulatesManyCells T O slot print → ℕ
 simulated_cells {T} {O} {slot} {print} x = cells_of (run_config T O) (history_of x.past) slot
 
 -- what is told of a history that would have so many entries, and may not

@@ -109,7 +109,7 @@ pub record IsOverfull (command : Command) (source : Move) (message : List ℕ) :
   pub within : length input ≤ greatest_input
   pub entries : TellsEntries command input message
 
--- the input was read whole, and this message tells how many cells the report of its history would have, which are too many
+-- the input was read whole, and this message tells how many cells the report of its history would have: too many
 pub record IsOversized (command : Command) (source : Move) (message : List ℕ) : Type 0 where
   pub input : List ℕ
   pub read : ReadsInput command source input
@@ -136,8 +136,10 @@ EndsCommand command source sink (Err Words) = ⊥
 EndsCommand command source sink (Err Reading) = FailsReading command source × Stays sink
 EndsCommand command source sink (Err TooLong) = ReadsTooMuch command source × Stays sink
 EndsCommand command source sink (Err (Fault message)) = IsFaulty command source (string_bytes message) × Stays sink
-EndsCommand command source sink (Err (TooManyEntries message)) = IsOverfull command source (string_bytes message) × Stays sink
-EndsCommand command source sink (Err (TooManyCells message)) = IsOversized command source (string_bytes message) × Stays sink
+EndsCommand command source sink (Err (TooManyEntries message)) =
+    IsOverfull command source (string_bytes message) × Stays sink
+EndsCommand command source sink (Err (TooManyCells message)) =
+    IsOversized command source (string_bytes message) × Stays sink
 EndsCommand command source sink (Err Writing) = FailsWriting command source sink
 EndsCommand command source sink (Err NoMemory) = ReadsSome command source × Stays sink
 

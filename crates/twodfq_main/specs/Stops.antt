@@ -49,15 +49,16 @@ IsManyCellsStop cells (TooManyCells message) = string_bytes message ≡ cells_me
 IsManyCellsStop cells NoMemory = Unit {0}
 IsManyCellsStop cells _ = ⊥
 
--- where a finished history is not written: a message that tells how many cells its report would have, and may not, unless
--- memory ran out
+-- where a finished history is not written: a message that tells how many cells its report would have, and may not,
+-- unless memory ran out
 abbrev pub IsCellsStop : HistoryPrint → ℕ → Config → History → Stop → Type 0
 IsCellsStop print slot C H (TooManyCells message) =
     HasManyCells print slot C H × (string_bytes message ≡ cells_message (cells_of C H slot))
 IsCellsStop print slot C H NoMemory = Unit {0}
 IsCellsStop print slot C H _ = ⊥
 
--- where the simulated history of a trace is not written: one that would have too many entries, or whose report too many cells
+-- where the simulated history of a trace is not written: one that would have too many entries, or whose report would
+-- have too many cells
 abbrev pub IsSimulationStop : Trace → RunOptions → ℕ → HistoryPrint → Stop → Type 0
 IsSimulationStop T O slot print (TooManyEntries message) =
     (MOST_ENTRIES < needed_entries T.rows O.refresh)

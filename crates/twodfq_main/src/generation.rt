@@ -25,7 +25,8 @@ const DEFAULT_OPTIONS: RunOptions = RunOptions {
     refresh: 10000,
 };
 
-/// The trace of a seed as a text, or the summary of its simulated history under the default options, by the automatic slot.
+/// The trace of a seed as a text, or the summary of its simulated history under the default options and the automatic
+/// slot.
 pub fn generated_text(
     alloc: Global,
     seed: u64,

@@ -38,7 +38,8 @@ pub fn history_text<X: Chooser + Drop>(
     requires names { length tenants.now ≡ length scheduler.now.config.weights }
     requires done { unfinished (history_of scheduler.now.past) ≡ None }
     ensures { MatchResult result
-        (λ text. IsHistoryOutput what slot scheduler.now.config (names_of tenants.now) kinds.now scheduler.now.past text.items)
+        (λ text. IsHistoryOutput what slot scheduler.now.config
+            (names_of tenants.now) kinds.now scheduler.now.past text.items)
         (IsCellsStop what slot scheduler.now.config (history_of scheduler.now.past)) }
 {
     match what {
@@ -82,7 +83,8 @@ fn reported<X: Chooser>(
     requires names { length tenants.now ≡ length scheduler.now.config.weights }
     requires done { unfinished (history_of scheduler.now.past) ≡ None }
     ensures { MatchResult result
-        (λ text. IsHistoryOutput prints.Report slot scheduler.now.config (names_of tenants.now) [] scheduler.now.past text.items)
+        (λ text. IsHistoryOutput prints.Report slot scheduler.now.config
+            (names_of tenants.now) [] scheduler.now.past text.items)
         (IsCellsStop prints.Report slot scheduler.now.config (history_of scheduler.now.past)) }
 {
     let report = made_report(alloc, slot, scheduler)?;
