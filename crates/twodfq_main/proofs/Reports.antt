@@ -112,6 +112,6 @@ pub generated_summary : {A : Type 0} (bytes : A → List ℕ) (seed tenants requ
     → MatchResult answer (λ a. IsGeneratedOutput what (generated_trace seed tenants requests) (bytes a)) (λ stop. stop ≡ NoMemory)
 generated_summary bytes seed tenants requests what T answer some few is same x =
     let y : MatchResult answer (λ a. IsSimulatedOutput (generated_trace seed tenants requests) default_run_options 0 prints.Summary (bytes a)) (IsSimulationStop (generated_trace seed tenants requests) default_run_options 0 prints.Summary) =
-        subst (λ U. MatchResult answer (λ a. IsSimulatedOutput U default_run_options 0 prints.Summary (bytes a)) (IsSimulationStop U default_run_options 0 prints.Summary)) same x in
+    subst (λ U. MatchResult answer (λ a. IsSimulatedOutput U default_run_options 0 prints.Summary (bytes a)) (IsSimulationStop U default_run_options 0 prints.Summary)) same x in
     subst (λ p. MatchResult answer (λ a. IsGeneratedOutput p (generated_trace seed tenants requests) (bytes a)) (λ stop. stop ≡ NoMemory)) (sym is)
     (by_memory bytes (generated_trace seed tenants requests) default_run_options prints.Summary answer (generated_short seed tenants requests some.0 some.1 few) y)

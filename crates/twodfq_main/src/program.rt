@@ -103,18 +103,22 @@ fn run<R: Source, W: Sink>(
 {
     match command(words) {
         Some(Command::Script { print }) => run_script(alloc, print, source, sink),
-        Some(Command::Run {
-            options,
-            slot,
-            print,
-        }) => run_trace(alloc, options, slot, print, source, sink),
+        Some(
+            Command::Run {
+                options,
+                slot,
+                print,
+            },
+        ) => run_trace(alloc, options, slot, print, source, sink),
         Some(Command::Live { .. }) => Err(Stop::Words),
-        Some(Command::Gen {
-            seed,
-            tenants,
-            requests,
-            print,
-        }) => run_generator(alloc, seed, tenants, requests, print, sink),
+        Some(
+            Command::Gen {
+                seed,
+                tenants,
+                requests,
+                print,
+            },
+        ) => run_generator(alloc, seed, tenants, requests, print, sink),
         Some(Command::Check { .. }) => Err(Stop::Words),
         Some(Command::Compare { .. }) => Err(Stop::Words),
         Some(Command::Shape { .. }) => Err(Stop::Words),

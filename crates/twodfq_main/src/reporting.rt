@@ -39,7 +39,7 @@ pub fn history_text<X: Chooser + Drop>(
     requires done { unfinished (history_of scheduler.now.past) ≡ None }
     ensures { MatchResult result
         (λ text. IsHistoryOutput what slot scheduler.now.config
-            (names_of tenants.now) kinds.now scheduler.now.past text.items)
+        (names_of tenants.now) kinds.now scheduler.now.past text.items)
         (IsCellsStop what slot scheduler.now.config (history_of scheduler.now.past)) }
 {
     match what {
@@ -84,7 +84,7 @@ fn reported<X: Chooser>(
     requires done { unfinished (history_of scheduler.now.past) ≡ None }
     ensures { MatchResult result
         (λ text. IsHistoryOutput prints.Report slot scheduler.now.config
-            (names_of tenants.now) [] scheduler.now.past text.items)
+        (names_of tenants.now) [] scheduler.now.past text.items)
         (IsCellsStop prints.Report slot scheduler.now.config (history_of scheduler.now.past)) }
 {
     let report = made_report(alloc, slot, scheduler)?;
@@ -107,7 +107,11 @@ fn made_report<X: Chooser>(
 {
     let past = scheduler.past();
     let config = scheduler.config();
-    let chosen = if slot == 0 { auto_slot(past, config) } else { slot };
+    let chosen = if slot == 0 {
+        auto_slot(past, config)
+    } else {
+        slot
+    };
     match report(alloc, past, config, chosen) {
         Ok(report) => Ok(report),
         Err(ReportFault::TooLong { slots, tenants }) => Err(cells_stop(alloc, slots, tenants)),

@@ -58,12 +58,17 @@ pub fn simulated_text(
     ensures { MatchResult result (λ text. IsSimulatedOutput trace.now options slot what text.items)
         (IsSimulationStop trace.now options slot what) }
 {
-    let simulated: Result<Scheduler<u64, PlainChooser>, SimFault> = simulate(
-        alloc, trace, options,
-    );
+    let simulated: Result<Scheduler<u64, PlainChooser>, SimFault> = simulate(alloc, trace, options);
     match simulated {
         Ok(scheduler) => {
-            history_text(alloc, what, slot, &scheduler, trace.tenants(), trace.kinds())
+            history_text(
+                alloc,
+                what,
+                slot,
+                &scheduler,
+                trace.tenants(),
+                trace.kinds(),
+            )
         }
         Err(SimFault::TooManyEntries(needed)) => Err(entries_stop(alloc, needed)),
         Err(SimFault::NoMemory) => Err(Stop::NoMemory),

@@ -50,9 +50,8 @@ impl Stop {
         match self {
             Stop::Words => "twodfq: the words are not a command line\n",
             Stop::TooLong => "twodfq: input longer than 67108864 bytes\n",
-            Stop::Fault(message)
-            | Stop::TooManyEntries(message)
-            | Stop::TooManyCells(message) => message.as_str(),
+            Stop::Fault(message) | Stop::TooManyEntries(message) | Stop::TooManyCells(message) =>
+                message.as_str(),
             Stop::Reading => "twodfq: reading failed\n",
             Stop::Writing => "twodfq: writing failed\n",
             Stop::NoMemory => "twodfq: out of memory\n",
