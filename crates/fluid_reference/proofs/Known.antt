@@ -18,7 +18,7 @@ use Rattle.fq_model.specs.Level.{gift, level, IsLevel}
 use Rattle.water_level.specs.Backlogs.{IsBacklog}
 use Rattle.water_level.proofs.TheOne.{the_one}
 use Rattle.fq_model.specs.Fluid.{prefix_at, history_of_changes, fluid, slot_gift, slot_level, backlog_at, backlogs_at, costs_by, cost_by, fluid_table}
-use Rattle.fluid_reference.specs.Slots.{IsRowOf, CostsAre, SettingIs, row_of, change_of, number_at, want_of, wants_of, served_after, served_next, backlog_at_place}
+use Rattle.fluid_reference.specs.Slots.{IsRowOf, CostsAre, SettingIs, row_of, change_of, number_at, want_of, wants_of, served_after, served_next}
 use Rattle.fluid_reference.proofs.Lists.{list_same, list_at, list_length, list_more, list_none}
 use Rattle.fluid_reference.proofs.Places.{prefix_to, costs_to}
 use Rattle.fluid_reference.proofs.Within.{within}
@@ -96,9 +96,6 @@ wants_in_range costs served weights low same heavy k d l =
       units = omega (arith, low k here);
       weight = heavy k 0 (omega (arith, here, same));
     })
-
-pub want_small : (costs served weights : List ℕ) (t : ℕ) → t < length costs → number_at costs t ≤ 2000000000000000 → number_at served t ≤ 2000000000000000 → number_at served t + (backlog_at_place (wants_of costs served weights) t).units ≤ 2000000000000000
-want_small costs served weights t here low served_few = omega (arith, low, served_few, ap (λ (b : Backlog). b.units) (list_at (want_of costs served weights) (length costs) t (record { units = 0; weight = 0 }) here))
 
 -- the level that they have is the one
 pub level_of_wants : (cap : ℕ) (wants : List Backlog) (l : Level) → All IsBacklog wants → IsLevel cap wants l → l ≡ level cap wants

@@ -4,3 +4,4 @@ pub mod Within
 pub mod Places
 pub mod Steps
 pub mod Known
+pub mod Backlogged

@@ -1,12 +1,12 @@
 -- Lists over the numbers below a bound.
-use Rattle.std.proofs.Common.{ℕ, zero, suc, ◌+◌, ◌<◌, ◌≤◌, ◌≡◌, List, [], ◌∷◌, ◌++◌, length, arith, refl, ap, ap₂, sym, ◌∙◌, subst, inl, inr, get_or, length-append, add-one, sum_by, All, drop}
+use Rattle.std.proofs.Common.{ℕ, zero, suc, ◌+◌, ◌<◌, ◌≤◌, ◌≡◌, List, [], ◌∷◌, ◌++◌, length, arith, refl, ap, ap₂, sym, ◌∙◌, subst, inl, inr, get_or, length-append, add-one, sum_by, All, drop, map}
 use Rattle.std.proofs.lemmas.Bool.{cases_eq}
 use Rattle.std.proofs.lemmas.List.{get_or_default, get_or-drop, length-drop}
-use Rattle.std.proofs.lemmas.List.Sums.{sum_by-cons}
+use Rattle.std.proofs.lemmas.List.Sums.{sum_by-cons, sum_by_push}
 use Rattle.std.proofs.Math.ListN.{get_or-append}
 use Rattle.std.proofs.Math.Seq.{get_or-append_seam}
 use Rattle.std.specs.List.Sorted.{IsNonDecreasingBy}
-use Rattle.fq_model.specs.Sums.{list_below}
+use Rattle.fq_model.specs.Sums.{list_below, sum_below}
 
 pub list_same : {A : Type 0} (f g : ℕ → A) (n : ℕ) → ((k : ℕ) → k < n → f k ≡ g k) → list_below f n ≡ list_below g n
 unfolding list_below
@@ -42,6 +42,16 @@ sum_same f g (x ∷ xs) h = sum_by-cons f x xs ∙ ap₂ ◌+◌ (h 0 x (omega a
 pub sum_none : {X : Type 0} (f : X → ℕ) (xs : List X) → All (λ x. f x ≡ 0) xs → sum_by f xs ≡ 0
 sum_none f [] h = refl
 sum_none f (x ∷ xs) h = sum_by-cons f x xs ∙ omega (arith, h 0 x (omega arith), sum_none f xs (λ k d l. h (suc k) d (omega (arith, l))))
+
+-- sums over lists made of numbers
+pub sum_of_list : {A : Type 0} (f : A → ℕ) (g : ℕ → A) (n : ℕ) → sum_by f (list_below g n) ≡ sum_below (λ k. f (g k)) n
+unfolding list_below sum_below
+sum_of_list f g zero = refl
+sum_of_list f g (suc n) = omega (arith, sum_by_push f (list_below g n) (g n), sum_of_list f g n)
+
+pub sum_of_map : {A B : Type 0} (f : B → ℕ) (g : A → B) (xs : List A) → sum_by f (map g xs) ≡ sum_by (λ x. f (g x)) xs
+sum_of_map f g [] = refl
+sum_of_map f g (x ∷ xs) = sum_by-cons f (g x) (map g xs) ∙ ap (λ n. f (g x) + n) (sum_of_map f g xs) ∙ sym (sum_by-cons (λ y. f (g y)) x xs)
 
 -- in order, what comes from a place on is beyond what the first of them is beyond
 pub beyond : {X : Type 0} (n : X → ℕ) (xs : List X) (j m : ℕ) (e : X) → IsNonDecreasingBy n xs → (j < length xs → m < n (get_or xs j e)) → All (λ x. m < n x) (drop j xs)

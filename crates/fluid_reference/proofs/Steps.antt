@@ -2,8 +2,8 @@
 use Rattle.std.proofs.Common.{ℕ, ◌+◌, ◌<◌, ◌≤◌, ◌≡◌, ◌≢◌, List, [], ◌∷◌, ◌++◌, length, arith, refl, ap, ap₂, sym, ◌∙◌, subst, inl, inr, cond, nat_eq, All, take, get_or, slice_set, sum_by, length-set, get_or-set_same, get_or-set_other}
 use Rattle.std.proofs.lemmas.Bool.{cases_eq, eq-eqb, ne_eqb}
 use Rattle.std.proofs.lemmas.List.Sums.{sum_by_push, sum_by-le}
-use Rattle.std.proofs.lemmas.List.{take_more}
-use Rattle.std.proofs.lemmas.List.Elements.{All-push}
+use Rattle.std.proofs.lemmas.List.{take_more, length-take}
+use Rattle.std.proofs.lemmas.List.Elements.{All-push, All-take}
 use Rattle.fq_model.specs.declared.config.Config.{Config}
 use Rattle.fq_model.specs.declared.fluid.FluidRow.{FluidRow}
 use Rattle.fq_model.specs.declared.fluid.Change.{Change}
@@ -45,6 +45,15 @@ cost_bound n rows t a few = omega (arith, few, sum_by-le (cost_of t) 1000000000 
       | inl e ↦ rw e h
       | inr e ↦ rw e (omega arith)
     ]
+
+-- also with the next request
+pub next_low : (n : ℕ) (sorted : List FluidRow) (j : ℕ) → All (IsRowOf n) sorted → length sorted ≤ 2000000 → j < length sorted → sum_by (cost_of (row_of sorted j).tenant) (take j sorted) + (row_of sorted j).cost ≤ 2000000000000000
+next_low n sorted j a few some = omega (
+  arith,
+  sum_more sorted j (row_of sorted j).tenant some,
+  own_cost (row_of sorted j),
+  cost_bound n (take (j + 1) sorted) (row_of sorted j).tenant (All-take (IsRowOf n) (j + 1) sorted a) (omega (arith, length-take (j + 1) sorted, few)),
+)
 
 -- ---- changes
 

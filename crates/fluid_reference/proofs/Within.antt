@@ -12,7 +12,7 @@ use Rattle.fq_model.specs.History.{History}
 use Rattle.fq_model.specs.Level.{gift}
 use Rattle.fq_model.specs.Fluid.{fluid, cost_by, costs_by, slot_level, backlog_at}
 
-gift_low : (l : Level) (b : Backlog) → gift l b ≤ b.units
+pub gift_low : (l : Level) (b : Backlog) → gift l b ≤ b.units
 gift_low levels.All b = omega arith
 gift_low (levels.At x) b = omega arith
 

@@ -1,7 +1,7 @@
 -- Requests and changes in their limits, and what is known of them at a slot's start.
-use Rattle.std.specs.Prelude.{ℕ, suc, ◌+◌, ◌-◌, ◌*◌, ◌<◌, ◌≤◌, ◌≡◌, ◌==◌, if◌then◌else◌, List, length, sum_by, slice_index_or}
+use Rattle.std.specs.Prelude.{ℕ, suc, ◌+◌, ◌-◌, ◌*◌, ◌<◌, ◌≤◌, ◌≡◌, ◌==◌, nat_lt, Bool, if◌then◌else◌, List, length, All, take, sum_by, count_by, slice_index_or}
 use Rattle.vt_fixed.specs.declared.limits.TheConstants.{GREATEST_COST, MOST_WORKERS}
-use Rattle.fq_model.specs.declared.limits.TheConstants.{MOST_CELLS}
+use Rattle.fq_model.specs.declared.limits.TheConstants.{MOST_CELLS, MOST_TENANTS, GREATEST_BACKLOG}
 use Rattle.fq_model.specs.declared.config.Config.{Config}
 use Rattle.fq_model.specs.declared.fluid.FluidRow.{FluidRow}
 use Rattle.fq_model.specs.declared.fluid.Change.{Change}
@@ -50,6 +50,29 @@ cost_of t row = if row.tenant == t then row.cost else 0
 -- each tenant's costs are those of its requests among these
 abbrev pub CostsAre : List FluidRow → List ℕ → Type 0
 CostsAre rows costs = (t : ℕ) → t < length costs → number_at costs t ≡ sum_by (cost_of t) rows
+
+-- the requests up to a place have joined by a moment: they came by it, and each tenant's costs are theirs
+pub record HaveJoined (sorted : List FluidRow) (at place : ℕ) (costs : List ℕ) : Type 0 where
+  pub in_list : place ≤ length sorted
+  pub theirs : CostsAre (take place sorted) costs
+  pub before : All (λ r. r.submit ≤ at) (take place sorted)
+
+-- tenant t has a backlog: its requests that joined cost more than it was served
+abbrev pub has_backlog : List ℕ → List ℕ → ℕ → Bool
+has_backlog costs served t = nat_lt (number_at served t) (number_at costs t)
+
+-- these are the tenants that have a backlog, each of them once
+abbrev pub AreBacklogged : List ℕ → List ℕ → List ℕ → Type 0
+AreBacklogged costs served tenants = (t : ℕ) → count_by (λ u. u == t) tenants ≡ (if has_backlog costs served t then 1 else 0)
+
+-- what a slot shares by is in its limits, of the same tenants
+pub record CanShare (costs served weights : List ℕ) : Type 0 where
+  pub few : length costs ≤ MOST_TENANTS
+  pub served_len : length served ≡ length costs
+  pub weights_len : length weights ≡ length costs
+  pub costs_low : (t : ℕ) → t < length costs → number_at costs t ≤ GREATEST_BACKLOG
+  pub served_low : (t : ℕ) → t < length costs → number_at served t ≤ GREATEST_BACKLOG
+  pub in_range : All IsWeight weights
 
 -- the weights and the number of workers are those after these changes
 pub record SettingIs (C : Config) (changes : List Change) (weights : List ℕ) (workers : ℕ) : Type 0 where

@@ -1,34 +1,53 @@
-use Rattle.std.proofs.Common.{arith, ◌≡◌, ◌≤◌, ◌+◌, length, All, subst, sym, ap, ap₂, ◌∙◌}
-use Rattle.fq_model.specs.Sums.{list_below}
-use Rattle.fq_model.specs.Level.{level}
+use Rattle.std.proofs.Common.{arith, ◌≡◌, ◌<◌, length, All, get_or, map, subst, sym, ap, ◌∙◌, length-set}
+use Rattle.std.proofs.lemmas.List.{get_or-map, length-map, take_all}
+use Rattle.fq_model.specs.Level.{gift, IsLevel}
 use Rattle.water_level.specs.Backlogs.{IsBacklog}
-use Rattle.fluid_reference.specs.Slots.{want_of, wants_of, served_after, number_at, backlog_at_place}
-use Rattle.fluid_reference.proofs.Lists.{list_length}
-use Rattle.fluid_reference.proofs.Known.{wants_in_range, want_small, level_of_wants}
+use Rattle.fluid_reference.specs.Slots.{want_of, AreBacklogged}
+use Rattle.fluid_reference.proofs.Backlogged.{IsGiven, known_tenants, no_more, backlogs_in_range, given_one, given_low, served_is, still_are}
 use Rattle.fluid_reference.proofs.sharing.share.Goals as goal
-use Rattle.fluid_reference.proofs.sharing.share.Goals.{After-as_slice}
+use Rattle.fluid_reference.proofs.sharing.share.Goals.{After-as_slice, After-give}
 
-wants_are : (c : After-as_slice) → c.as_slice.result.now ≡ wants_of c.args.costs.now c.args.served.now c.args.weights.now
+pub wants-requires-clause-known : goal.wants-requires-clause-known
+wants-requires-clause-known c = known_tenants _ _ _ c.requires.backlogged
+
+pub still_backlogged-requires-clause-known : goal.still_backlogged-requires-clause-known
+still_backlogged-requires-clause-known c = known_tenants _ _ _ c.requires.backlogged
+
+wants_are : (c : After-as_slice) → c.as_slice.result.now ≡ map (want_of c.args.costs.now c.args.served.now c.args.weights.now) c.args.backlogged.now
 wants_are c = c.as_slice.ensures.value ∙ c.in_ok-wants.ensures
 
-in_range : (c : After-as_slice) → All IsBacklog c.as_slice.result.now
-in_range c = subst (All IsBacklog) (sym (wants_are c)) (wants_in_range c.args.costs.now c.args.served.now c.args.weights.now c.requires.costs c.requires.weights_len c.requires.weights)
-
 pub level-requires-clause-few : goal.level-requires-clause-few
-level-requires-clause-few c = omega (arith, ap length (wants_are c), list_length (want_of c.args.costs.now c.args.served.now c.args.weights.now) (length c.args.costs.now), c.requires.few)
+level-requires-clause-few c = omega (arith, ap length (wants_are c), length-map c.args.backlogged.now (want_of c.args.costs.now c.args.served.now c.args.weights.now), no_more c.args.costs.now c.args.served.now c.args.backlogged.now c.requires.backlogged, c.requires.in_range.few)
 
 pub level-requires-clause-in_range : goal.level-requires-clause-in_range
-level-requires-clause-in_range c = in_range c
+level-requires-clause-in_range c = subst (All IsBacklog) (sym (wants_are c)) (backlogs_in_range _ _ _ _ c.requires.in_range (known_tenants _ _ _ c.requires.backlogged))
 
-pub serve-requires-clause-same : goal.serve-requires-clause-same
-serve-requires-clause-same c = ap length (c.as_slice-2.ensures.value ∙ c.in_ok-wants.ensures) ∙ list_length (want_of c.args.costs.now c.args.served.now c.args.weights.now) (length c.args.costs.now) ∙ sym c.requires.served_len
+-- the next one's gift
+gift_is : (c : After-give) → c.give.result ≡ gift c.in_ok-level.level (want_of c.args.costs.now c.args.served.now c.args.weights.now (get_or c.args.backlogged.now c.loop-k.k 0))
+gift_is c = c.give.ensures ∙ ap (gift c.in_ok-level.level) (c.index.ensures ∙ ap (λ bs. get_or bs c.loop-k.k c.index.result.now) c.in_ok-wants.ensures ∙ get_or-map (want_of c.args.costs.now c.args.served.now c.args.weights.now) c.args.backlogged.now c.loop-k.k 0 c.index.result.now c.loop-k-test.true)
 
-pub serve-requires-clause-small : goal.serve-requires-clause-small
-serve-requires-clause-small c = λ t l. subst (λ bs. number_at c.args.served.now t + (backlog_at_place bs t).units ≤ 2000000000000000) (sym (c.as_slice-2.ensures.value ∙ c.in_ok-wants.ensures))
-    (want_small c.args.costs.now c.args.served.now c.args.weights.now t (omega (arith, l, c.requires.served_len)) (c.requires.costs t (omega (arith, l, c.requires.served_len))) (c.requires.served t (omega (arith, l, c.requires.served_len))))
+pub overflow_add-served : goal.overflow_add-served
+overflow_add-served c = omega (
+  arith,
+  gift_is (goal.at.overflow_add-served c).After-give,
+  given_low c.in_ok-level.level c.args.costs.now c.args.served.now c.args.weights.now c.args.backlogged.now c.loop-k.served c.loop-k.k c.requires.in_range c.requires.backlogged c.loop-k-test.true c.loop-k.invariant.given,
+)
+
+pub loop-k-preserved : goal.loop-k-preserved
+loop-k-preserved c =
+    let here : get_or c.args.backlogged.now c.loop-k.k 0 < length c.args.costs.now = known_tenants c.args.costs.now c.args.served.now c.args.backlogged.now c.requires.backlogged c.loop-k.k 0 c.loop-k-test.true in
+    record {
+      len = length-set c.loop-k.served _ _ ∙ c.loop-k.invariant.len;
+      given = rw (gift_is (goal.at.loop-k-preserved c).After-give) (given_one c.in_ok-level.level c.args.costs.now c.args.served.now c.args.weights.now c.args.backlogged.now c.loop-k.served c.loop-k.k c.loop-k-test.true (omega (arith, here, c.requires.in_range.served_len)) c.loop-k.invariant.len c.loop-k.invariant.given);
+    }
 
 pub returns-clause-next : goal.returns-clause-next
 returns-clause-next c =
-    let first : After-as_slice = (goal.at.returns-clause-next c).After-as_slice in
-    let at : c.in_ok-level.level ≡ level c.args.cap (wants_of c.args.costs.now c.args.served.now c.args.weights.now) = level_of_wants c.args.cap c.as_slice.result.now c.in_ok-level.level (in_range first) c.in_ok-level.ensures.level ∙ ap (level c.args.cap) (wants_are first) in
-    c.in_ok-after.ensures ∙ ap (list_below (served_after c.in_ok-level.level c.as_slice-2.result.now c.args.served.now)) c.requires.served_len ∙ ap₂ (λ l bs. list_below (served_after l bs c.args.served.now) (length c.args.costs.now)) at (c.as_slice-2.ensures.value ∙ c.in_ok-wants.ensures)
+    let all : IsGiven c.in_ok-level.level c.args.costs.now c.args.served.now c.args.weights.now c.args.backlogged.now c.loop-k.served = subst (λ w. IsGiven c.in_ok-level.level c.args.costs.now c.args.served.now c.args.weights.now w c.loop-k.served) (take_all c.loop-k.k c.args.backlogged.now (omega (arith, c.loop-k-test.false))) c.loop-k.invariant.given in
+    served_is c.args.cap c.in_ok-level.level c.args.costs.now c.args.served.now c.args.weights.now c.args.backlogged.now c.loop-k.served c.requires.in_range c.requires.backlogged
+        (subst (λ bs. IsLevel c.args.cap bs c.in_ok-level.level) (wants_are (goal.at.returns-clause-next c).After-as_slice) c.in_ok-level.ensures.level) c.loop-k.invariant.len all
+
+pub returns-clause-backlogged : goal.returns-clause-backlogged
+returns-clause-backlogged c =
+    let all : IsGiven c.in_ok-level.level c.args.costs.now c.args.served.now c.args.weights.now c.args.backlogged.now c.loop-k.served = subst (λ w. IsGiven c.in_ok-level.level c.args.costs.now c.args.served.now c.args.weights.now w c.loop-k.served) (take_all c.loop-k.k c.args.backlogged.now (omega (arith, c.loop-k-test.false))) c.loop-k.invariant.given in
+    subst (AreBacklogged c.args.costs.now c.loop-k.served) (sym c.in_ok-left.ensures) (still_are c.in_ok-level.level c.args.costs.now c.args.served.now c.args.weights.now c.args.backlogged.now c.loop-k.served c.requires.in_range.served_len c.requires.backlogged all)
