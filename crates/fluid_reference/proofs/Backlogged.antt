@@ -106,8 +106,7 @@ sum_wants costs served weights w f are none = sum_of_map f (want_of costs served
 pub level_of_all : (cap : ℕ) (costs served weights w : List ℕ) (l : Level) → AreBacklogged costs served w → IsLevel cap (map (want_of costs served weights) w) l → IsLevel cap (wants_of costs served weights) l
 level_of_all cap costs served weights w levels.All are is = omega (arith, is, sum_wants costs served weights w (λ b. b.units) are (λ b e. e))
 level_of_all cap costs served weights w (levels.At x) are is =
-    let gifts : (y : ℕ) → gifts_at y (map (want_of costs served weights) w) ≡ gifts_at y (wants_of costs served weights) = λ y. sum_wants costs served weights w (gift_at y) are (λ b e. no_gift (levels.At y) b e) in
-    (
+    let gifts : (y : ℕ) → gifts_at y (map (want_of costs served weights) w) ≡ gifts_at y (wants_of costs served weights) = λ y. sum_wants costs served weights w (gift_at y) are (λ b e. no_gift (levels.At y) b e) in (
       omega (arith, is.0, sum_wants costs served weights w (λ b. b.units) are (λ b e. e)),
       record { fits = omega (arith, is.1.fits, gifts x); greatest = λ y h. is.1.greatest y (omega (arith, h, gifts y)) },
     )
@@ -183,11 +182,11 @@ served_is cap l costs served weights w now can backlogged is same are =
     let at : l ≡ level cap wants = level_of_wants cap wants l (wants_in_range costs served weights can.costs_low can.weights_len can.in_range) (level_of_all cap costs served weights w l backlogged is) in
     let len : length now ≡ length (served_next cap costs served weights) = same ∙ can.served_len ∙ sym (list_length (served_after (level cap wants) wants served) (length costs)) in
     ext_get_or 0 now (served_next cap costs served weights) len (λ t here.
-      (let known : t < length costs = omega (arith, here, same, can.served_len) in
-      are t (omega (arith, here, same)) ∙ ap (λ n. number_at served t + n) (given_all l costs served weights w t backlogged known)
-      ∙ ap (λ m. number_at served t + gift m (want_of costs served weights t)) at
-      ∙ ap (λ b. number_at served t + gift (level cap wants) b) (sym (list_at (want_of costs served weights) (length costs) t (record { units = 0; weight = 0 }) known))
-      ∙ sym (list_at (served_after (level cap wants) wants served) (length costs) t 0 known)))
+    (let known : t < length costs = omega (arith, here, same, can.served_len) in
+    are t (omega (arith, here, same)) ∙ ap (λ n. number_at served t + n) (given_all l costs served weights w t backlogged known)
+    ∙ ap (λ m. number_at served t + gift m (want_of costs served weights t)) at
+    ∙ ap (λ b. number_at served t + gift (level cap wants) b) (sym (list_at (want_of costs served weights) (length costs) t (record { units = 0; weight = 0 }) known))
+    ∙ sym (list_at (served_after (level cap wants) wants served) (length costs) t 0 known)))
 
 -- ---- those that have a backlog after a change
 

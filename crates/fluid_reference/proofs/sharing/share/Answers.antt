@@ -45,7 +45,7 @@ pub returns-clause-next : goal.returns-clause-next
 returns-clause-next c =
     let all : IsGiven c.in_ok-level.level c.args.costs.now c.args.served.now c.args.weights.now c.args.backlogged.now c.loop-k.served = subst (λ w. IsGiven c.in_ok-level.level c.args.costs.now c.args.served.now c.args.weights.now w c.loop-k.served) (take_all c.loop-k.k c.args.backlogged.now (omega (arith, c.loop-k-test.false))) c.loop-k.invariant.given in
     served_is c.args.cap c.in_ok-level.level c.args.costs.now c.args.served.now c.args.weights.now c.args.backlogged.now c.loop-k.served c.requires.in_range c.requires.backlogged
-        (subst (λ bs. IsLevel c.args.cap bs c.in_ok-level.level) (wants_are (goal.at.returns-clause-next c).After-as_slice) c.in_ok-level.ensures.level) c.loop-k.invariant.len all
+    (subst (λ bs. IsLevel c.args.cap bs c.in_ok-level.level) (wants_are (goal.at.returns-clause-next c).After-as_slice) c.in_ok-level.ensures.level) c.loop-k.invariant.len all
 
 pub returns-clause-backlogged : goal.returns-clause-backlogged
 returns-clause-backlogged c =
