@@ -1,10 +1,10 @@
 -- A course whose work rises by one step a slice.
-use Rattle.std.proofs.Common.{ℕ, zero, suc, inl, inr, ◌-◌, ◌==◌, ◌<◌, ◌≤◌, ◌*◌, ◌/◌, ◌+◌, min, max, ◌%◌, if◌then◌else◌, arith, refl, sym, ap, ◌∙◌, subst, add-one, zero-add, ◌≡◌, List, map, length, get_or}
-use Rattle.std.specs.List.{range_with_len}
+use Rattle.std.proofs.Common.{ℕ, zero, suc, ◌-◌, ◌<◌, ◌≤◌, ◌*◌, ◌/◌, ◌+◌, min, max, ◌%◌, if◌then◌else◌, arith, refl, sym, ap, ◌∙◌, subst, add-one, zero-add, ◌≡◌, length}
 use Rattle.std.proofs.Math.Nat.{div-mul-le_self, lt-div-mul-add}
 use Rattle.std.proofs.lemmas.Nat.{mul-le, div_below}
 use Rattle.std.proofs.lemmas.Bool.{ne_eqb, eq-eqb}
 use Rattle.std.proofs.lemmas.List.FromFn.{length-map-range_with_len, get_or-map-range_with_len}
+use Rattle.vt_fixed.specs.declared.limits.TheConstants.{GREATEST_COST}
 use Rattle.fq_model.specs.declared.limits.TheConstants.{MOST_SLICES}
 use Rattle.vt_fixed.specs.Rounding.{ceil_div}
 use Rattle.fq_model.specs.Courses.{reports_below}
@@ -13,8 +13,8 @@ use Rattle.worker_gate.specs.declared.counters.Counters.{Counters}
 use Rattle.worker_gate.specs.declared.counters.TheConstants.{NO_COUNTERS}
 use Rattle.worker_gate.specs.declared.gate.Slice.TheVariants.{More, End}
 use Rattle.worker_gate.specs.Counting.{IsAtMost, greater_of}
-use Rattle.worker_gate.specs.Slices.{item_at, item_before, slice_at, total, IsCourse, Follows}
-use Rattle.worker_gate.specs.Stepping.{step_item, step_course, IsStepping}
+use Rattle.worker_gate.specs.Slices.{counters_after, counters_before, slice_at, total, IsCourse, Follows}
+use Rattle.worker_gate.specs.Stepping.{work_only, step_counters, step_course, IsStepping, StepsCountUp}
 
 pub has_step : (step cost : ℕ) → IsStepping step cost → 0 < step
 has_step zero cost s = omega (arith, s.some, s.few)
@@ -40,26 +40,26 @@ reaches step cost s =
     }
 
 pub course_length : (step cost : ℕ) → length (step_course step cost) ≡ reports_below step cost + 1
-course_length step cost = length-map-range_with_len (step_item step cost) 0 (reports_below step cost + 1)
+course_length step cost = length-map-range_with_len (step_counters step cost) 0 (reports_below step cost + 1)
 
 pub counted : (step cost : ℕ) → IsStepping step cost → (cost - 1) / step + 1 ≡ length (step_course step cost)
 counted step cost s = ap (λ n. n + 1) (sym (reports_are step cost (has_step step cost s))) ∙ sym (course_length step cost)
 
-pub course_item : (step cost k : ℕ) → k < reports_below step cost + 1 → item_at (step_course step cost) k ≡ step_item step cost k
-course_item step cost k h = get_or-map-range_with_len (step_item step cost) 0 (reports_below step cost + 1) k k NO_COUNTERS h (zero-add k)
+pub course_counters : (step cost k : ℕ) → k < reports_below step cost + 1 → counters_after (step_course step cost) k ≡ step_counters step cost k
+course_counters step cost k h = get_or-map-range_with_len (step_counters step cost) 0 (reports_below step cost + 1) k k NO_COUNTERS h (zero-add k)
 
-pub course_total : (step cost : ℕ) → IsStepping step cost → total (step_course step cost) ≡ record { work = cost; items = 0; bytes = 0 }
+pub course_total : (step cost : ℕ) → IsStepping step cost → total (step_course step cost) ≡ work_only cost
 course_total step cost s =
     let q : ℕ = reports_below step cost in
     let whole : min cost (suc q * step) ≡ cost = omega (arith, (reaches step cost s).reached) in
-    ap (item_before (step_course step cost)) (course_length step cost ∙ add-one q)
-    ∙ (course_item step cost q (omega arith) ∙ ap (λ n. let c : Counters = record { work = n; items = 0; bytes = 0 } in c) whole)
+    ap (counters_before (step_course step cost)) (course_length step cost ∙ add-one q)
+    ∙ (course_counters step cost q (omega arith) ∙ ap work_only whole)
 
-pub course_rises : (step cost k : ℕ) → k < reports_below step cost + 1 → IsAtMost (item_before (step_course step cost) k) (item_at (step_course step cost) k)
-course_rises step cost zero h = rw (course_item step cost zero h) record { work = omega arith; items = omega arith; bytes = omega arith }
+pub course_rises : (step cost k : ℕ) → k < reports_below step cost + 1 → IsAtMost (counters_before (step_course step cost) k) (counters_after (step_course step cost) k)
+course_rises step cost zero h = rw (course_counters step cost zero h) record { work = omega arith; items = omega arith; bytes = omega arith }
 course_rises step cost (suc k) h =
     let before : k < reports_below step cost + 1 = omega (arith, h) in
-    rw (course_item step cost k before) rw (course_item step cost (suc k) h) record { work = omega arith; items = omega arith; bytes = omega arith }
+    rw (course_counters step cost k before) rw (course_counters step cost (suc k) h) record { work = omega arith; items = omega arith; bytes = omega arith }
 
 pub step_is_course : (step cost : ℕ) → IsStepping step cost → IsCourse (step_course step cost)
 step_is_course step cost s =
@@ -77,76 +77,69 @@ greater_is a b h =
     let bytes : max a.bytes b.bytes ≡ b.bytes = omega (arith, h.bytes) in
     rw work rw items rw bytes refl
 
-pub greater_is_first : (a b : Counters) → IsAtMost b a → greater_of a b ≡ a
-greater_is_first a b h =
-    let work : max a.work b.work ≡ a.work = omega (arith, h.work) in
-    let items : max a.items b.items ≡ a.items = omega (arith, h.items) in
-    let bytes : max a.bytes b.bytes ≡ a.bytes = omega (arith, h.bytes) in
-    rw work rw items rw bytes refl
-
 pub greater_at_most : (a b most : Counters) → IsAtMost a most → IsAtMost b most → IsAtMost (greater_of a b) most
 greater_at_most a b most h k =
     record { work = omega (arith, h.work, k.work); items = omega (arith, h.items, k.items); bytes = omega (arith, h.bytes, k.bytes) }
 
-pub item_at_most : (step cost k : ℕ) → IsStepping step cost → IsAtMost (step_item step cost k) (total (step_course step cost))
-item_at_most step cost k s = rw (course_total step cost s) record { work = omega arith; items = omega arith; bytes = omega arith }
+pub step_within : (step cost k : ℕ) → IsStepping step cost → IsAtMost (step_counters step cost k) (total (step_course step cost))
+step_within step cost k s = rw (course_total step cost s) record { work = omega arith; items = omega arith; bytes = omega arith }
 
 -- after the item before, the greater is this slice's item
-pub raised_item : (step cost k : ℕ) (last : Counters) → k < reports_below step cost + 1 → last ≡ item_before (step_course step cost) k
-    → greater_of last (step_item step cost k) ≡ item_at (step_course step cost) k
-raised_item step cost k last here before =
-    ap (greater_of last) (sym (course_item step cost k here))
-    ∙ greater_is last (item_at (step_course step cost) k) (subst (λ c. IsAtMost c (item_at (step_course step cost) k)) (sym before) (course_rises step cost k here))
+pub raised_to_course : (step cost k : ℕ) (last : Counters) → k < reports_below step cost + 1 → last ≡ counters_before (step_course step cost) k
+    → greater_of last (step_counters step cost k) ≡ counters_after (step_course step cost) k
+raised_to_course step cost k last here before =
+    ap (greater_of last) (sym (course_counters step cost k here))
+    ∙ greater_is last (counters_after (step_course step cost) k) (subst (λ c. IsAtMost c (counters_after (step_course step cost) k)) (sym before) (course_rises step cost k here))
 
-pub more_item : (step cost k : ℕ) (last : Counters) → suc k < reports_below step cost + 1 → last ≡ item_before (step_course step cost) k
-    → More (greater_of last (step_item step cost k)) ≡ slice_at (step_course step cost) k
-more_item step cost k last h before =
-    ap More (raised_item step cost k last (omega (arith, h)) before)
-    ∙ sym (ap (λ b. if b then End (item_at (step_course step cost) k) else More (item_at (step_course step cost) k)) (ne_eqb (suc k) (length (step_course step cost)) (λ e. omega (arith, e, h, course_length step cost))))
+pub more_slice : (step cost k : ℕ) (last : Counters) → suc k < reports_below step cost + 1 → last ≡ counters_before (step_course step cost) k
+    → More (greater_of last (step_counters step cost k)) ≡ slice_at (step_course step cost) k
+more_slice step cost k last h before =
+    ap More (raised_to_course step cost k last (omega (arith, h)) before)
+    ∙ sym (ap (λ b. if b then End (counters_after (step_course step cost) k) else More (counters_after (step_course step cost) k)) (ne_eqb (suc k) (length (step_course step cost)) (λ e. omega (arith, e, h, course_length step cost))))
 
-pub end_item : (step cost k : ℕ) (last : Counters) → suc k ≡ reports_below step cost + 1 → last ≡ item_before (step_course step cost) k
-    → End (greater_of last (step_item step cost k)) ≡ slice_at (step_course step cost) k
-end_item step cost k last h before =
-    ap End (raised_item step cost k last (omega (arith, h)) before)
-    ∙ sym (ap (λ b. if b then End (item_at (step_course step cost) k) else More (item_at (step_course step cost) k)) (eq-eqb (suc k) (length (step_course step cost)) (omega (arith, h, course_length step cost))))
+pub end_slice : (step cost k : ℕ) (last : Counters) → suc k ≡ reports_below step cost + 1 → last ≡ counters_before (step_course step cost) k
+    → End (greater_of last (step_counters step cost k)) ≡ slice_at (step_course step cost) k
+end_slice step cost k last h before =
+    ap End (raised_to_course step cost k last (omega (arith, h)) before)
+    ∙ sym (ap (λ b. if b then End (counters_after (step_course step cost) k) else More (counters_after (step_course step cost) k)) (eq-eqb (suc k) (length (step_course step cost)) (omega (arith, h, course_length step cost))))
 
 -- a slice that isn't the last
 pub more_follows : (step cost k : ℕ) (last : Counters) → IsStepping step cost → suc k < reports_below step cost + 1
-    → Follows (step_course step cost) k last (More (greater_of last (step_item step cost k)))
+    → Follows (step_course step cost) k last (More (greater_of last (step_counters step cost k)))
 more_follows step cost k last s h =
     let here : k < reports_below step cost + 1 = omega (arith, h) in
     record {
       is_course = step_is_course step cost s;
-      item = λ _ before. more_item step cost k last h before;
-      within = λ low. greater_at_most last (step_item step cost k) (total (step_course step cost)) low (item_at_most step cost k s);
+      slice = λ _ before. more_slice step cost k last h before;
+      within = λ low. greater_at_most last (step_counters step cost k) (total (step_course step cost)) low (step_within step cost k s);
       ends = λ _ at. absurd (omega (arith, at, h, (reaches step cost s).few));
     }
 
 pub last_total : (step cost k : ℕ) (last : Counters) → IsStepping step cost → reports_below step cost ≤ k → IsAtMost last (total (step_course step cost))
-    → greater_of last (step_item step cost k) ≡ total (step_course step cost)
+    → greater_of last (step_counters step cost k) ≡ total (step_course step cost)
 last_total step cost k last s h low =
     let q : ℕ = reports_below step cost in
     let more : suc q * step ≤ suc k * step = mul-le (suc q) step (suc k) step (omega (arith, h)) (omega arith) in
     let whole : min cost (suc k * step) ≡ cost = omega (arith, (reaches step cost s).reached, more) in
-    let item : step_item step cost k ≡ total (step_course step cost) = ap (λ n. let c : Counters = record { work = n; items = 0; bytes = 0 } in c) whole ∙ sym (course_total step cost s) in
-    ap (greater_of last) item ∙ greater_is last (total (step_course step cost)) low
+    let reached : step_counters step cost k ≡ total (step_course step cost) = ap work_only whole ∙ sym (course_total step cost s) in
+    ap (greater_of last) reached ∙ greater_is last (total (step_course step cost)) low
 
 -- the last slice, and those that nothing asks for
 pub end_follows : (step cost k : ℕ) (last : Counters) → IsStepping step cost → reports_below step cost + 1 ≤ suc k
-    → Follows (step_course step cost) k last (End (greater_of last (step_item step cost k)))
+    → Follows (step_course step cost) k last (End (greater_of last (step_counters step cost k)))
 end_follows step cost k last s h =
     record {
       is_course = step_is_course step cost s;
-      item = λ here before. end_item step cost k last (omega (arith, h, here, course_length step cost)) before;
+      slice = λ here before. end_slice step cost k last (omega (arith, h, here, course_length step cost)) before;
       within = λ low. last_total step cost k last s (omega (arith, h)) low;
       ends = λ low _. ap End (last_total step cost k last s (omega (arith, h)) low);
     }
 
 -- the code's counters, step and number of slices
 pub raised : (step cost k work : ℕ) (last counters : Counters) → work ≡ min cost ((k + 1) * step)
-    → counters ≡ greater_of last (record { work = work; items = 0; bytes = 0 }) → counters ≡ greater_of last (step_item step cost k)
+    → counters ≡ greater_of last (work_only work) → counters ≡ greater_of last (step_counters step cost k)
 raised step cost k work last counters w e =
-    e ∙ ap (λ n. greater_of last (record { work = n; items = 0; bytes = 0 })) (w ∙ ap (λ n. min cost (n * step)) (add-one k))
+    e ∙ ap (λ n. greater_of last (work_only n)) (w ∙ ap (λ n. min cost (n * step)) (add-one k))
 
 pub whole_step : (refresh cost : ℕ) → refresh ≡ 0 → cost ≡ step_of refresh cost
 unfolding step_of
@@ -157,3 +150,29 @@ unfolding step_of
 refreshed_step refresh cost n h is =
     let up : max refresh n ≡ max refresh (ceil_div cost MOST_SLICES) = omega (arith, is) in
     up ∙ ap (λ b. if b then cost else max refresh (ceil_div cost MOST_SLICES)) (sym (ne_eqb refresh 0 h))
+
+pub steps_fit : (refresh cost : ℕ) → refresh ≤ GREATEST_COST → 1 ≤ cost → cost ≤ GREATEST_COST → IsStepping (step_of refresh cost) cost
+steps_fit zero cost small some limit =
+    subst (λ step. IsStepping step cost) (whole_step 0 cost refl) record { some = some; limit = limit; small = limit; few = omega arith }
+steps_fit (suc refresh) cost small some limit =
+    let n : ℕ = cost / 10000 + min 1 (cost % 10000) in
+    subst (λ step. IsStepping step cost) (refreshed_step (suc refresh) cost n (λ e. omega (arith, e)) refl)
+    record { some = some; limit = limit; small = omega (arith, small, limit); few = omega arith }
+
+pub reported_counters : (step cost k : ℕ) → IsStepping step cost → k < reports_below step cost
+    → counters_after (step_course step cost) k ≡ work_only (suc k * step)
+reported_counters step cost k s h =
+    let q : ℕ = reports_below step cost in
+    let within : suc k * step ≤ q * step = mul-le (suc k) step q step (omega (arith, h)) (omega arith) in
+    let low : min cost (suc k * step) ≡ suc k * step = omega (arith, within, (reaches step cost s).below) in
+    course_counters step cost k (omega (arith, h)) ∙ ap work_only low
+
+pub steps_count_up : StepsCountUp
+steps_count_up refresh cost small some limit =
+    let s : IsStepping (step_of refresh cost) cost = steps_fit refresh cost small some limit in
+    record {
+      is_course = step_is_course (step_of refresh cost) cost s;
+      length_is = course_length (step_of refresh cost) cost;
+      total_is = course_total (step_of refresh cost) cost s;
+      reported = λ k h. reported_counters (step_of refresh cost) cost k s h;
+    }

@@ -1,5 +1,5 @@
 -- How counters compare.
-use Rattle.std.specs.Prelude.{ℕ, ◌≤◌, ◌<◌, ◌^◌, max}
+use Rattle.std.specs.Prelude.{◌≤◌, max}
 use Rattle.worker_gate.specs.declared.counters.Counters.{Counters}
 
 -- no part of a is greater than the part of b
@@ -7,12 +7,6 @@ pub record IsAtMost (a b : Counters) : Type 0 where
   pub work : a.work ≤ b.work
   pub items : a.items ≤ b.items
   pub bytes : a.bytes ≤ b.bytes
-
--- each part is a number of 64 bits, as it is of all counters in code
-pub record AreWords (a : Counters) : Type 0 where
-  pub work : a.work < 2 ^ 64
-  pub items : a.items < 2 ^ 64
-  pub bytes : a.bytes < 2 ^ 64
 
 -- the greater of each part
 abbrev pub greater_of : Counters → Counters → Counters

@@ -2,15 +2,15 @@
 use Rattle.std.specs.Prelude.{ℕ, ◌≤◌, ◌<◌, min}
 use Rattle.vt_fixed.specs.declared.limits.TheConstants.{GREATEST_COST}
 use Rattle.worker_gate.specs.declared.counters.Counters.{Counters}
-use Rattle.worker_gate.specs.Counting.{IsAtMost, AreWords}
+use Rattle.worker_gate.specs.Counting.{IsAtMost}
 
 -- no cost is above the greatest
 abbrev pub IsWithinLimit : (Counters → ℕ) → Type 0
-IsWithinLimit cost_of = (a : Counters) → AreWords a → cost_of a ≤ GREATEST_COST
+IsWithinLimit cost_of = (a : Counters) → cost_of a ≤ GREATEST_COST
 
 -- where no counter falls, no cost falls
 abbrev pub NeverFalls : (Counters → ℕ) → Type 0
-NeverFalls cost_of = (a b : Counters) → AreWords b → IsAtMost a b → cost_of a ≤ cost_of b
+NeverFalls cost_of = (a b : Counters) → IsAtMost a b → cost_of a ≤ cost_of b
 
 -- the work, as far as a cost goes
 abbrev pub work_cost : Counters → ℕ

@@ -8,23 +8,23 @@ use Rattle.worker_gate.specs.declared.gate.Slice.TheVariants.{More, End}
 use Rattle.worker_gate.specs.Counting.{IsAtMost}
 
 -- the counters after slice k, counted from 0
-abbrev pub item_at : List Counters → ℕ → Counters
-item_at course k = get_or course k NO_COUNTERS
+abbrev pub counters_after : List Counters → ℕ → Counters
+counters_after course k = get_or course k NO_COUNTERS
 
 -- the counters before slice k
-abbrev pub item_before : List Counters → ℕ → Counters
-item_before course zero = NO_COUNTERS
-item_before course (suc k) = item_at course k
+abbrev pub counters_before : List Counters → ℕ → Counters
+counters_before course zero = NO_COUNTERS
+counters_before course (suc k) = counters_after course k
 
 -- the counters after the last slice
 abbrev pub total : List Counters → Counters
-total course = item_before course (length course)
+total course = counters_before course (length course)
 
 -- there is a slice, there are not too many, and the counters never fall
 pub record IsCourse (course : List Counters) : Type 0 where
   pub some : 0 < length course
   pub few : length course ≤ MOST_SLICES
-  pub rises : (k : ℕ) → k < length course → IsAtMost (item_before course k) (item_at course k)
+  pub rises : (k : ℕ) → k < length course → IsAtMost (counters_before course k) (counters_after course k)
 
 -- the counters of an answer
 abbrev pub counters_of : Slice → Counters
@@ -33,18 +33,18 @@ counters_of (End counters) = counters
 
 -- slice k of a course, which is an End exactly where it is the last
 abbrev pub slice_at : List Counters → ℕ → Slice
-slice_at course k = if suc k == length course then End (item_at course k) else More (item_at course k)
+slice_at course k = if suc k == length course then End (counters_after course k) else More (counters_after course k)
 
 -- an answer is at most the total, and an End carries it
 abbrev pub IsWithin : Counters → Slice → Type 0
 IsWithin most (More counters) = IsAtMost counters most
 IsWithin most (End counters) = counters ≡ most
 
--- What slice k may answer after `before` where this is the course: the course's slice if the one before was of the
--- course too, at most the total if the one before was, and an End where no further slice may come.
+-- What slice k may answer after counters of `before` where this is the course: the course's own slice if `before` is the
+-- course's too; at most the total, and an End where no further slice may come, if `before` is at most the total.
 pub record Follows (course : List Counters) (k : ℕ) (before : Counters) (answer : Slice) : Type 0 where
   pub is_course : IsCourse course
-  pub item : k < length course → before ≡ item_before course k → answer ≡ slice_at course k
+  pub slice : k < length course → before ≡ counters_before course k → answer ≡ slice_at course k
   pub within : IsAtMost before (total course) → IsWithin (total course) answer
   pub ends : IsAtMost before (total course) → suc k ≡ MOST_SLICES → answer ≡ End (total course)
 

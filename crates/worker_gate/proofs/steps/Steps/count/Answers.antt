@@ -1,4 +1,4 @@
-use Rattle.std.proofs.Common.{rules, sym, ap, ◌∙◌}
+use Rattle.std.proofs.Common.{sym}
 use Rattle.worker_gate.proofs.Stepping.{counted}
 use Rattle.worker_gate.proofs.steps.Steps.count.Goals as goal
 

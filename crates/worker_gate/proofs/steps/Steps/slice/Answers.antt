@@ -1,7 +1,4 @@
-use Rattle.std.proofs.Common.{ℕ, suc, ◌+◌, ◌<◌, ◌≤◌, ◌≡◌, arith, sym, ap, length}
-use Rattle.worker_gate.specs.declared.counters.Counters.{Counters}
-use Rattle.worker_gate.specs.declared.gate.Slice.TheVariants.{More, End}
-use Rattle.worker_gate.specs.Slices.{Follows}
+use Rattle.std.proofs.Common.{arith, sym, ap, length}
 use Rattle.worker_gate.proofs.Stepping.{raised, course_length, more_follows, end_follows}
 use Rattle.worker_gate.proofs.steps.Steps.slice.Goals as goal
 
@@ -9,10 +6,10 @@ pub returns-then-number-count-clause-follows : goal.returns-then-number-count-cl
 returns-then-number-count-clause-follows c =
     rw (raised c.self.inside.step c.self.inside.cost c.args.k c.min.result c.args.last c.greater-counters.result c.min.ensures c.greater-counters.ensures)
     (rw (sym c.self.view_is) (more_follows c.self.inside.step c.self.inside.cost c.args.k c.args.last c.self.invariant
-      (omega (arith, c.if-number-count.true, c.count.ensures, ap length (sym c.self.view_is), course_length c.self.inside.step c.self.inside.cost))))
+    (omega (arith, c.if-number-count.true, c.count.ensures, ap length (sym c.self.view_is), course_length c.self.inside.step c.self.inside.cost))))
 
 pub returns-else-number-count-clause-follows : goal.returns-else-number-count-clause-follows
 returns-else-number-count-clause-follows c =
     rw (raised c.self.inside.step c.self.inside.cost c.args.k c.min.result c.args.last c.greater-counters.result c.min.ensures c.greater-counters.ensures)
     (rw (sym c.self.view_is) (end_follows c.self.inside.step c.self.inside.cost c.args.k c.args.last c.self.invariant
-      (omega (arith, c.if-number-count.false, c.count.ensures, ap length (sym c.self.view_is), course_length c.self.inside.step c.self.inside.cost))))
+    (omega (arith, c.if-number-count.false, c.count.ensures, ap length (sym c.self.view_is), course_length c.self.inside.step c.self.inside.cost))))
