@@ -40,8 +40,8 @@ abbrev pub IsWithin : Counters → Slice → Type 0
 IsWithin most (More counters) = IsAtMost counters most
 IsWithin most (End counters) = counters ≡ most
 
--- What slice k may answer after counters of `before` where this is the course: the course's own slice if `before` is the
--- course's too; at most the total, and an End where no further slice may come, if `before` is at most the total.
+-- What slice k may answer after counters of `before`, where this is the course: the course's own slice if `before` is
+-- the course's too; at most the total, and an End where no further slice may come, if `before` is at most the total.
 pub record Follows (course : List Counters) (k : ℕ) (before : Counters) (answer : Slice) : Type 0 where
   pub is_course : IsCourse course
   pub slice : k < length course → before ≡ counters_before course k → answer ≡ slice_at course k
