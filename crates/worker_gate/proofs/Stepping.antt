@@ -104,14 +104,16 @@ pub greater_after : (course : List Counters) (k : ℕ) (last item : Counters) �
     → last ≡ counters_before course k → greater_of last item ≡ item
 greater_after course k last item up before = greater_is last item (subst (λ c. IsAtMost c item) (sym before) up)
 
-pub more_slice : (course : List Counters) (k : ℕ) (item : Counters) → counters_after course k ≡ item → suc k < length course
+pub more_slice : (course : List Counters) (k : ℕ) (item : Counters) → counters_after course k ≡ item
+    → suc k < length course
     → More item ≡ slice_at course k
 more_slice course k item is h =
     ap More (sym is)
     ∙ sym (ap (λ b. if b then End (counters_after course k) else More (counters_after course k))
     (ne_eqb (suc k) (length course) (λ e. omega (arith, e, h))))
 
-pub end_slice : (course : List Counters) (k : ℕ) (item : Counters) → counters_after course k ≡ item → suc k ≡ length course
+pub end_slice : (course : List Counters) (k : ℕ) (item : Counters) → counters_after course k ≡ item
+    → suc k ≡ length course
     → End item ≡ slice_at course k
 end_slice course k item is h =
     ap End (sym is)
@@ -136,7 +138,8 @@ more_follows step cost k last s h =
     }
 
 pub last_total : (step cost k : ℕ) (last : Counters) → IsStepping step cost → length (step_course step cost) ≤ suc k
-    → IsAtMost last (total (step_course step cost)) → greater_of last (step_counters step cost k) ≡ total (step_course step cost)
+    → IsAtMost last (total (step_course step cost))
+    → greater_of last (step_counters step cost k) ≡ total (step_course step cost)
 last_total step cost k last s h low =
     let q : ℕ = reports_below step cost in
     let reach : Reaches step cost q = reaches step cost s in

@@ -31,10 +31,12 @@ pub record IsStepping (step cost : ℕ) : Type 0 where
 pub record CountsUp (step cost : ℕ) : Type 0 where
   pub is_course : IsCourse (step_course step cost)
   pub length_is : length (step_course step cost) ≡ reports_below step cost + 1
-  pub reported : (k : ℕ) → k < reports_below step cost → counters_after (step_course step cost) k ≡ work_only (suc k * step)
+  pub reported :
+      (k : ℕ) → k < reports_below step cost → counters_after (step_course step cost) k ≡ work_only (suc k * step)
   pub total_is : total (step_course step cost) ≡ work_only cost
 
 -- each cost of a trace is counted up, however often its use is to be reported
 abbrev pub StepsCountUp : Type 0
 StepsCountUp =
-    (refresh cost : ℕ) → refresh ≤ GREATEST_COST → 1 ≤ cost → cost ≤ GREATEST_COST → CountsUp (step_of refresh cost) cost
+    (refresh cost : ℕ) → refresh ≤ GREATEST_COST → 1 ≤ cost → cost ≤ GREATEST_COST
+    → CountsUp (step_of refresh cost) cost

@@ -29,8 +29,8 @@ impl Model for Steps {
 }
 
 impl Steps {
-    /// Steps of `refresh` microseconds, after each of which a running request is charged anew (Mace and others, 2016), or
-    /// of as much more as the greatest number of slices asks; one step in all where `refresh` is 0.
+    /// Steps of `refresh` microseconds, after each of which a running request is charged anew (Mace and others, 2016),
+    /// or of as much more as the greatest number of slices asks; one step in all where `refresh` is 0.
     pub fn new(refresh: u64, cost: u64) -> Steps
         requires refresh { refresh ≤ GREATEST_COST }
         requires some { 1 ≤ cost }

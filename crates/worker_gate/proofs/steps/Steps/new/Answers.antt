@@ -11,5 +11,5 @@ returns c =
     ap (λ step. step_course step cost) (elim c.if-refresh-eq0.branch [
       | then-refresh-eq0 w ↦ w.step-is ∙ whole_step refresh cost w.if-refresh-eq0.true
       | else-refresh-eq0 w ↦ w.step-is
-          ∙ (w.max-step.ensures ∙ refreshed_step refresh cost w.div_ceil.result w.if-refresh-eq0.false w.div_ceil.ensures)
+          ∙ (w.max-step.ensures ∙ refreshed_step refresh cost _ w.if-refresh-eq0.false w.div_ceil.ensures)
     ])
