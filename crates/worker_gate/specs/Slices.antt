@@ -51,3 +51,15 @@ pub record Follows (course : List Counters) (k : ℕ) (before : Counters) (answe
 abbrev pub FollowsIfTold : Option (List Counters) → ℕ → Counters → Slice → Type 0
 FollowsIfTold None k before answer = Unit {0}
 FollowsIfTold (Some course) k before answer = Follows course k before answer
+
+-- what an answer of slice k means for whoever has followed the course so far: there is a further slice, and the counters
+-- are those before it, or the course has ended, and they are its total
+abbrev pub GoesOn : List Counters → ℕ → Slice → Type 0
+GoesOn course k (More counters) = (suc k < length course) × (counters ≡ counters_before course (suc k))
+GoesOn course k (End counters) = (suc k ≡ length course) × (counters ≡ total course)
+
+-- whoever hands each slice the counters of the one before follows the course to its end
+abbrev pub SlicesGoOn : Type 0
+SlicesGoOn =
+    (course : List Counters) (k : ℕ) (before : Counters) (answer : Slice) → Follows course k before answer
+    → k < length course → before ≡ counters_before course k → GoesOn course k answer
