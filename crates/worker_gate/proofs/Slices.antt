@@ -7,9 +7,12 @@ use Rattle.worker_gate.specs.Slices.{counters_after, counters_before, slice_at, 
 
 pub slice_goes_on : (course : List Counters) (k : ℕ) → k < length course → GoesOn course k (slice_at course k)
 slice_goes_on course k here =
-    cond_both (suc k == length course) (End (counters_after course k)) (More (counters_after course k)) (GoesOn course k)
-    (λ t. let last : suc k ≡ length course = eqb-true (suc k) (length course) t in (last, ap (counters_before course) last))
-    (λ f. let other : suc k ≡ length course → ⊥ = eqb-false (suc k) (length course) f in (omega (arith, here, other), refl))
+    let item : Counters = counters_after course k in
+    cond_both (suc k == length course) (End item) (More item) (GoesOn course k)
+    (λ t. let last : suc k ≡ length course = eqb-true (suc k) (length course) t in
+    (last, ap (counters_before course) last))
+    (λ f. let other : suc k ≡ length course → ⊥ = eqb-false (suc k) (length course) f in
+    (omega (arith, here, other), refl))
 
 pub slices_go_on : SlicesGoOn
 slices_go_on course k before answer follows here is =

@@ -52,8 +52,8 @@ abbrev pub FollowsIfTold : Option (List Counters) → ℕ → Counters → Slice
 FollowsIfTold None k before answer = Unit {0}
 FollowsIfTold (Some course) k before answer = Follows course k before answer
 
--- what an answer of slice k means for whoever has followed the course so far: there is a further slice, and the counters
--- are those before it, or the course has ended, and they are its total
+-- what an answer of slice k means for whoever has followed the course so far: there is a further slice, and these are
+-- the counters before it, or the course has ended, and they are its total
 abbrev pub GoesOn : List Counters → ℕ → Slice → Type 0
 GoesOn course k (More counters) = (suc k < length course) × (counters ≡ counters_before course (suc k))
 GoesOn course k (End counters) = (suc k ≡ length course) × (counters ≡ total course)
