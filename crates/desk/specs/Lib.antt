@@ -1,0 +1,4 @@
+pub mod Staffed
+pub mod Floors
+pub mod Told
+pub mod Growing
