@@ -30,7 +30,7 @@ free : (C : Config) (P : History) (s who moment i : ℕ) (b : Bool) (wanted repl
 free C P s who moment i true wanted reply Q by st x = subst (IsStaffed s) (sym x.1) st
 free C P s who moment i false wanted reply Q by st x = pooled C P s who moment i (waiting P == 0) _ reply Q by st x
 
-staffed_on : {J : Type 0} (label : J → ℕ) (crew : Crew) (P : History) (who : ℕ) (asked : Ask J) (reply : Reply) (Q : History) → MayAsk crew who asked → IsStaffed crew.submitters P → Answers crew.config P (call_of label who asked) reply Q → IsStaffed crew.submitters Q
+pub staffed_on : {J : Type 0} (label : J → ℕ) (crew : Crew) (P : History) (who : ℕ) (asked : Ask J) (reply : Reply) (Q : History) → MayAsk crew who asked → IsStaffed crew.submitters P → Answers crew.config P (call_of label who asked) reply Q → IsStaffed crew.submitters Q
 staffed_on label crew P who (ask.Submit moment tenant kind declared job) reply Q may st x = staffed_more crew.submitters who moment _ _ P _ reply Q may st x
 staffed_on label crew P who (ask.Take moment worker) reply Q may st x =
     refused_keeps (take_refusal crew.config P worker) P reply Q _ (IsStaffed crew.submitters) st (λ _ y. free crew.config P crew.submitters who moment worker (nat_le (pool_at crew.config P) worker) _ reply Q may st y) x

@@ -1,1 +1,5 @@
 pub mod Keeping
+pub mod Own
+pub mod Left
+pub mod Turned
+pub mod Splitting

@@ -39,6 +39,7 @@ pub enum Ask<J> {
 }
 
 /// What is told to each kind of question, as the scheduler answers it.
+#[derive(Drop)]
 pub enum Told<J> {
     Submitted(Result<u32, Refused<J>>),
     Took(Taken<J>),
