@@ -1,9 +1,8 @@
 -- What a Take, a Report and a Done of a worker leave it running.
 use Rattle.std.proofs.Common.{◌≡◌, ℕ, ◌<◌, ◌==◌, Bool, true, false, cond, Option, Some, None, [], ◌∷◌, sym, ap, ◌∙◌, refl, subst, arith, eq-eqb}
-use Rattle.std.specs.Prelude.{MatchBool, nat_le, nat_lt, is_some, is_none}
+use Rattle.std.specs.Prelude.{MatchBool, nat_le, is_some, is_none}
 use Rattle.std.proofs.lemmas.Bool.Decides.{nat_tests}
 use Rattle.fq_model.specs.declared.config.Config.{Config}
-use Rattle.fq_model.specs.declared.event.Act.TheVariants.{Report, Done}
 use Rattle.fq_model.specs.declared.event.Call.TheVariants as call
 use Rattle.fq_model.specs.declared.event.Cause.{Cause}
 use Rattle.fq_model.specs.declared.event.Cause.TheVariants as cause

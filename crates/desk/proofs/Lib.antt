@@ -3,3 +3,4 @@ pub mod Own
 pub mod Left
 pub mod Turned
 pub mod Splitting
+pub mod Joins

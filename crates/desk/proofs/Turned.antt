@@ -1,8 +1,8 @@
 -- What a turn of a worker's pass leaves it running, by its own entries.
-use Rattle.std.proofs.Common.{◌≡◌, ℕ, ◌+◌, ◌<◌, Option, Some, None, Result, List, sym, ap, ◌∙◌, subst}
+use Rattle.std.proofs.Common.{◌≡◌, ℕ, ◌+◌, ◌<◌, Some, None, Result, List, sym, ap, ◌∙◌, subst}
 use Rattle.fq_model.specs.declared.event.Entry.{Entry}
 use Rattle.fq_model.specs.declared.event.Reply.{Reply}
-use Rattle.fq_model.specs.History.{History, history_of, running_on}
+use Rattle.fq_model.specs.History.{history_of, running_on}
 use Rattle.fq_model.specs.Outcome.{own_entries}
 use Rattle.history_lock.specs.Histories.{IsPrefix, Gains}
 use Rattle.history_lock.specs.Passes.{LockView, PassView, IsOf}
@@ -14,7 +14,7 @@ use Rattle.desk.specs.declared.told.Told.TheVariants as told
 use Rattle.sched_state.specs.declared.replies.Taken.{Taken}
 use Rattle.sched_state.specs.Replies.{take_reply, change_reply}
 use Rattle.fq_model.specs.declared.event.Cause.{Cause}
-use Rattle.desk.specs.Staffed.{IsStaffed, MayAsk}
+use Rattle.desk.specs.Staffed.{MayAsk}
 use Rattle.desk.specs.Told.{call_of, reply_of, AnswersAsk}
 use Rattle.desk.specs.Tokens.{submitters_of, workers_of, IsAnswered}
 use Rattle.desk.proofs.Keeping.{staffed_on}

@@ -5,3 +5,4 @@ pub mod Growing
 pub mod Tokens
 pub mod Replies
 pub mod Opening
+pub mod Ending

@@ -9,8 +9,8 @@ ghost use Rattle.desk.specs.Replies.{took_reply, took_pass, took_worker, live_re
 use crate::desk::DeskOf;
 use crate::floor::Floor;
 use crate::refusals::{DoneRefusal, LiveRefusal, done_refusal, live_refusal};
-use crate::told::{Ask, Told};
 use crate::tokens::{Running, Submitter, Took, Worker};
+use crate::told::{Ask, Told};
 use fq_model::event::Cause;
 use fq_model::job::Job;
 use rival_policies::chooser::Chooser;

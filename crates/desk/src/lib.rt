@@ -3,16 +3,16 @@
 
 mod calls;
 mod desk;
+mod ending;
 mod floor;
 pub mod laws;
 mod opening;
 mod refusals;
-mod told;
 mod tokens;
+mod told;
 
 pub use desk::{Desk, DeskOf, MOST_SUBMITTERS};
 pub use floor::{Crew, Floor};
 pub use refusals::{DoneRefusal, LiveRefusal, OpenFault};
-pub use told::{Ask, Told};
 pub use tokens::{Running, Submitter, Took, Worker};
-
+pub use told::{Ask, Told};

@@ -13,7 +13,10 @@ pub enum Ask<J> {
         job: J,
     },
     /// A worker asks for work.
-    Take { moment: u64, worker: u32 },
+    Take {
+        moment: u64,
+        worker: u32,
+    },
     /// A worker says what its request has used so far.
     Report {
         moment: u64,
@@ -27,7 +30,9 @@ pub enum Ask<J> {
         cost: u64,
     },
     /// No more requests will come.
-    Close { moment: u64 },
+    Close {
+        moment: u64,
+    },
     /// The tenant is to have this weight from now on.
     Weight {
         moment: u64,
@@ -35,7 +40,10 @@ pub enum Ask<J> {
         weight: u32,
     },
     /// There are to be so many workers from now on.
-    Workers { moment: u64, count: u32 },
+    Workers {
+        moment: u64,
+        count: u32,
+    },
 }
 
 /// What is told to each kind of question, as the scheduler answers it.

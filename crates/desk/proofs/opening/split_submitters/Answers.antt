@@ -1,4 +1,4 @@
-use Rattle.std.proofs.Common.{◌≡◌, ◌+◌, ◌-◌, ◌∙◌, sym, refl, arith, length, subst, List, [], ◌∷◌, ◌++◌, length-append, rules}
+use Rattle.std.proofs.Common.{◌≡◌, ◌+◌, ◌∙◌, refl, arith, length, length-append}
 use Rattle.desk.specs.declared.tokens.Submitter.{Submitter}
 use Rattle.desk.proofs.Splitting.{split_on, new_pass, submitters_more}
 use Rattle.desk.proofs.opening.split_submitters.Goals as goal

@@ -1,4 +1,4 @@
-use Rattle.std.proofs.Common.{◌≡◌, ◌+◌, ◌-◌, ◌≤◌, length, vec_capacity}
+use Rattle.std.proofs.Common.{◌≡◌, ◌+◌, length, vec_capacity}
 use Rattle.desk.specs.Opening.{IsSplit, AreSubmitters}
 use Rattle.desk.proofs.opening.split_submitters.Given as goal
 

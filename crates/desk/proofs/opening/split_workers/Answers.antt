@@ -1,6 +1,5 @@
-use Rattle.std.proofs.Common.{◌≡◌, ◌+◌, ◌-◌, ◌∙◌, sym, refl, arith, length, subst, List, [], ◌∷◌, ◌++◌, length-append}
+use Rattle.std.proofs.Common.{◌≡◌, ◌+◌, ◌-◌, ◌∙◌, refl, arith, length-append}
 use Rattle.desk.specs.declared.tokens.Worker.{Worker}
-use Rattle.desk.specs.Opening.{IsNew, AreWorkers}
 use Rattle.desk.proofs.Splitting.{split_on, new_pass, workers_more}
 use Rattle.desk.proofs.opening.split_workers.Goals as goal
 

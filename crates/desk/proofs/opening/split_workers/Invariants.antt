@@ -1,4 +1,4 @@
-use Rattle.std.proofs.Common.{◌≡◌, ◌+◌, ◌-◌, ◌≤◌, length, vec_capacity}
+use Rattle.std.proofs.Common.{◌≡◌, ◌+◌, ◌-◌, length, vec_capacity}
 use Rattle.desk.specs.Opening.{IsSplit, AreWorkers}
 use Rattle.desk.proofs.opening.split_workers.Given as goal
 
