@@ -50,7 +50,10 @@ fn a_job_from_its_submission_to_the_end(rt: HostRuntime) -> Result<(), Fail> {
     let Took::Run(mut running, job) = took else {
         panic!(rt; "a request waits")
     };
-    assert_eq!(rt; (job, running.request(), running.estimate(), running.worker()), (7, 0, 5, 0));
+    assert_eq!(rt;
+        (job, running.request(), running.estimate(), running.worker()),
+        (7, 0, 5, 0)
+    );
     assert_eq!(rt; desk.report(&rt, &mut running, 50, 7), Ok(()));
     let falling = LiveRefusal::Falling { last: 7, given: 6 };
     assert_eq!(rt; desk.report(&rt, &mut running, 50, 6), Err(falling));
