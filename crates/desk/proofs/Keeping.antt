@@ -1,0 +1,52 @@
+-- Every call keeps the past legal and staffed.
+use Rattle.std.proofs.Common.{◌≡◌, ℕ, ◌+◌, Bool, true, false, Option, sym, subst, ◌==◌}
+use Rattle.std.specs.Prelude.{MatchBool, nat_le}
+use Rattle.fq_model.specs.declared.config.Config.{Config}
+use Rattle.fq_model.specs.declared.event.Act.{Act}
+use Rattle.fq_model.specs.declared.event.Cause.{Cause}
+use Rattle.fq_model.specs.declared.event.Reply.{Reply}
+use Rattle.fq_model.specs.History.{History, history_of, waiting, pool_at}
+use Rattle.fq_model.specs.Rules.{Answers, IsAnswered, IsAccepted, RefusedOrElse, AnswersPooled, RunsChosen, take_refusal, IsLegal}
+use Rattle.fq_laws.proofs.Rules.Answers.{answer_legal}
+use Rattle.fq_laws.proofs.Rules.Refusals.{refused_keeps}
+use Rattle.sched_state.specs.Scheduler.{SchedulerView}
+use Rattle.sched_state.specs.Replies.{AnswersCall}
+use Rattle.desk.specs.declared.floor.Crew.{Crew}
+use Rattle.desk.specs.declared.told.Ask.{Ask}
+use Rattle.desk.specs.declared.told.Ask.TheVariants as ask
+use Rattle.desk.specs.Staffed.{IsMadeBy, IsStaffed, MayAsk}
+use Rattle.desk.specs.Floors.{FloorView, crew_of, KeepsFloor}
+use Rattle.desk.specs.Told.{call_of}
+
+-- an accepted call of this act, refused or not, keeps the history staffed
+staffed_more : (s who moment : ℕ) (act : Act) (o : Option Cause) (P : History) (wanted reply : Reply) (Q : History) → IsMadeBy s who act → IsStaffed s P → RefusedOrElse o P reply Q (IsAccepted P who moment act wanted reply Q) → IsStaffed s Q
+staffed_more s who moment act o P wanted reply Q by st x = refused_keeps o P reply Q _ (IsStaffed s) st (λ _ y. subst (IsStaffed s) (sym y.1) (by, st)) x
+
+pooled : (C : Config) (P : History) (s who moment i : ℕ) (b : Bool) (wanted reply : Reply) (Q : History) → who ≡ s + i → IsStaffed s P → MatchBool b (IsAnswered P wanted reply Q) (RunsChosen C P who moment i reply Q) → IsStaffed s Q
+pooled C P s who moment i true wanted reply Q by st x = subst (IsStaffed s) (sym x.1) st
+pooled C P s who moment i false wanted reply Q by st x = subst (IsStaffed s) (sym x.accepted.1) (by, st)
+
+free : (C : Config) (P : History) (s who moment i : ℕ) (b : Bool) (wanted reply : Reply) (Q : History) → who ≡ s + i → IsStaffed s P → MatchBool b (IsAnswered P wanted reply Q) (AnswersPooled C P who moment i reply Q) → IsStaffed s Q
+free C P s who moment i true wanted reply Q by st x = subst (IsStaffed s) (sym x.1) st
+free C P s who moment i false wanted reply Q by st x = pooled C P s who moment i (waiting P == 0) _ reply Q by st x
+
+pub staffed_on : {J : Type 0} (label : J → ℕ) (crew : Crew) (P : History) (who : ℕ) (asked : Ask J) (reply : Reply) (Q : History) → MayAsk crew who asked → IsStaffed crew.submitters P → Answers crew.config P (call_of label who asked) reply Q → IsStaffed crew.submitters Q
+staffed_on label crew P who (ask.Submit moment tenant kind declared job) reply Q may st x = staffed_more crew.submitters who moment _ _ P _ reply Q may st x
+staffed_on label crew P who (ask.Take moment worker) reply Q may st x =
+    refused_keeps (take_refusal crew.config P worker) P reply Q _ (IsStaffed crew.submitters) st (λ _ y. free crew.config P crew.submitters who moment worker (nat_le (pool_at crew.config P) worker) _ reply Q may st y) x
+staffed_on label crew P who (ask.Report moment worker used) reply Q may st x = staffed_more crew.submitters who moment _ _ P _ reply Q may st x
+staffed_on label crew P who (ask.Done moment worker cost) reply Q may st x = staffed_more crew.submitters who moment _ _ P _ reply Q may st x
+staffed_on label crew P who (ask.Close moment) reply Q may st x = staffed_more crew.submitters who moment _ _ P _ reply Q may st x
+staffed_on label crew P who (ask.Weight moment tenant weight) reply Q may st x = staffed_more crew.submitters who moment _ _ P _ reply Q may st x
+staffed_on label crew P who (ask.Workers moment count) reply Q may st x = staffed_more crew.submitters who moment _ _ P _ reply Q may st x
+
+-- what a call on a floor that is seen so leaves keeps what a floor keeps
+pub kept : {J : Type 0} (label : J → ℕ) (before after : SchedulerView J) (s : ℕ) (seen : FloorView J) (who : ℕ) (given asked : Ask J) (reply : Reply) → record { scheduler = before; submitters = s } ≡ seen → given ≡ asked → MayAsk (crew_of seen) who given
+    → AnswersCall before (call_of label who asked) reply after → KeepsFloor before s → KeepsFloor after s
+kept {J = J} label before after s seen who given asked reply view is may a k =
+    let crew : Crew = record { config = before.config; submitters = s } in
+    let by : MayAsk crew who asked = subst (λ (f : FloorView J). MayAsk (crew_of f) who asked) (sym view) (subst (MayAsk (crew_of seen) who) is may) in record {
+      limits = rw a.config_is k.limits;
+      legal = subst (λ (C : Config). IsLegal C (history_of after.past)) (sym a.config_is) (answer_legal before.config (history_of before.past) (call_of label who asked) reply (history_of after.past) k.limits k.legal a.answers);
+      staffed = staffed_on label crew (history_of before.past) who asked reply (history_of after.past) by k.staffed a.answers;
+    }

@@ -1,0 +1,30 @@
+use Rattle.std.proofs.Common.{◌≡◌, ◌∙◌, sym, ap, subst, List, ◌∷◌}
+use Rattle.std.proofs.lemmas.Bool.{false≢true}
+use Rattle.fq_model.specs.declared.event.Entry.{Entry}
+use Rattle.history_lock.specs.Passes.{HasNoneAbove}
+use Rattle.desk.specs.Ending.{HasAll, AreAll, IsFirst, first_made}
+use Rattle.desk.proofs.Joins.{first_and_rest, ends_in, all_ended}
+use Rattle.desk.proofs.ending.DeskOf+Floor+J+X.finish.Goals as goal
+
+pub returns-in_err-floor-clause-settled : goal.returns-in_err-floor-clause-settled
+returns-in_err-floor-clause-settled g c = λ all.
+    let first = c.remove-first in
+    let both : c.args.submitters.items ≡ first.result ∷ first.new.self.items = first_and_rest _ _ _ c.requires.first first.ensures.value first.ensures.by_index.2 in
+    absurd (false≢true (c.in_err-floor.ensures.settled (all_ended c.args.self.lock first.result first.new.self.items c.args.workers.items _ _ c.join_submitters.ensures c.join_workers.ensures (subst IsFirst both c.requires.first) (subst (λ l. AreAll l c.args.workers.items) both all))))
+
+pub returns-clause-tokens : goal.returns-clause-tokens
+returns-clause-tokens g c =
+    let first = c.remove-first in let h = c.in_ok-floor.ensures in
+    let both : c.args.submitters.items ≡ first.result ∷ first.new.self.items = first_and_rest _ _ _ c.requires.first first.ensures.value first.ensures.by_index.2 in
+    let past : c.in_ok-floor.floor.scheduler.past ≡ c.into_scheduler.result.past = ap (λ s. s.past) (sym c.into_scheduler.ensures) in
+    subst (λ l. HasAll c.into_scheduler.result.past l c.args.workers.items) (sym both)
+    (subst (λ l. HasAll l (first.result ∷ first.new.self.items) c.args.workers.items) past
+    (ends_in c.args.self.lock first.result first.new.self.items c.args.workers.items _ _ c.join_submitters.ensures c.join_workers.ensures c.in_ok-floor.floor.scheduler.past (subst IsFirst both c.requires.first) h.seen h.mine h.ended))
+
+pub returns-clause-above : goal.returns-clause-above
+returns-clause-above g c =
+    let first = c.remove-first in let h = c.in_ok-floor.ensures in
+    let both : c.args.submitters.items ≡ first.result ∷ first.new.self.items = first_and_rest _ _ _ c.requires.first first.ensures.value first.ensures.by_index.2 in
+    let made : c.join_workers.new.first.made ≡ first_made c.args.submitters.items = c.join_workers.ensures.made ∙ (c.join_submitters.ensures.made ∙ ap first_made (sym both)) in
+    let past : c.in_ok-floor.floor.scheduler.past ≡ c.into_scheduler.result.past = ap (λ s. s.past) (sym c.into_scheduler.ensures) in
+    subst (HasNoneAbove c.into_scheduler.result.past) made (subst (λ (l : List Entry). HasNoneAbove l c.join_workers.new.first.made) past h.above)

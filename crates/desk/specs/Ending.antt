@@ -1,0 +1,64 @@
+-- What an ending asks and says.
+use Rattle.std.specs.Prelude.{ℕ, ◌<◌, ◌≤◌, ◌≡◌, ◌⊎◌, List, [], ◌∷◌, ◌++◌}
+use mathlib.Core.Option.{some}
+use lib.ListN.{get_elem?}
+use Rattle.fq_model.specs.declared.event.Entry.{Entry}
+use Rattle.fq_model.specs.Outcome.{own_entries}
+use Rattle.history_lock.specs.Histories.{IsPrefix}
+use Rattle.history_lock.specs.Passes.{LockView, PassView, IsOf}
+use Rattle.desk.specs.declared.floor.Crew.{Crew}
+use Rattle.desk.specs.declared.tokens.Submitter.{Submitter}
+use Rattle.desk.specs.declared.tokens.Worker.{Worker}
+
+-- it holds of each
+abbrev pub Each : {A : Type 0} → (A → Type 0) → List A → Type 0
+Each Holds [] = Unit {0}
+Each Holds (x ∷ xs) = Holds x × Each Holds xs
+
+-- it holds of some
+abbrev pub Some_of : {A : Type 0} → (A → Type 0) → List A → Type 0
+Some_of Holds [] = ⊥
+Some_of Holds (x ∷ xs) = Holds x ⊎ Some_of Holds xs
+
+abbrev pub IsFirst : List Submitter → Type 0
+IsFirst [] = ⊥
+IsFirst (token ∷ tokens) = token.pass.number ≡ 0
+
+-- the tokens are of this lock, and the first submitter is the one of number 0
+pub record AreOf (lock : LockView Crew) (submitters : List Submitter) (workers : List Worker) : Type 0 where
+  pub submitters_own : Each (λ t. IsOf lock t.pass) submitters
+  pub workers_own : Each (λ t. IsOf lock t.pass) workers
+  pub first : IsFirst submitters
+
+-- the past begins with all that the pass had seen, and has of its caller just its own entries
+abbrev pub IsIn : List Entry → PassView Crew → Type 0
+IsIn past pass = IsPrefix pass.seen past × (own_entries past pass.number ≡ pass.mine)
+
+-- the same of all that are handed in
+pub record HasAll (past : List Entry) (submitters : List Submitter) (workers : List Worker) : Type 0 where
+  pub of_submitters : Each (λ t. IsIn past t.pass) submitters
+  pub of_workers : Each (λ t. IsIn past t.pass) workers
+
+-- how many passes the first submitter's split off
+abbrev pub first_made : List Submitter → ℕ
+first_made [] = 0
+first_made (token ∷ tokens) = token.pass.made
+
+-- each pass that was split off is handed in
+abbrev pub AreAll : List Submitter → List Worker → Type 0
+AreAll submitters workers = (number : ℕ) → 0 < number → number ≤ first_made submitters → Some_of (λ t. t.pass.number ≡ number) submitters ⊎ Some_of (λ t. t.pass.number ≡ number) workers
+
+-- a pass has taken this one in
+abbrev pub IsTaken : PassView Crew → PassView Crew → Type 0
+IsTaken new pass = IsPrefix pass.seen new.seen × ((j : ℕ) × (get_elem? new.ended j ≡ some (pass.number, pass.mine)))
+
+-- the first pass, after it has taken in those of the tokens
+pub record HasJoined {A : Type 0} (lock : LockView Crew) (pass_of : A → PassView Crew) (old : PassView Crew) (tokens : List A) (new : PassView Crew) : Type 0 where
+  pub own : IsOf lock new
+  pub number : new.number ≡ 0
+  pub seen : IsPrefix old.seen new.seen
+  pub mine : new.mine ≡ old.mine
+  pub made : new.made ≡ old.made
+  pub more : List (ℕ × List Entry)
+  pub ended : new.ended ≡ old.ended ++ more
+  pub taken : Each (λ t. IsTaken new (pass_of t)) tokens

@@ -1,0 +1,53 @@
+-- What is told to what is asked.
+use Rattle.std.specs.Prelude.{ℕ, ◌≡◌, List, Ok, Err}
+use Rattle.fq_model.specs.declared.event.Call.{Call}
+use Rattle.fq_model.specs.declared.event.Call.TheVariants as call
+use Rattle.fq_model.specs.declared.event.Reply.{Reply}
+use Rattle.fq_model.specs.declared.event.Entry.{Entry}
+use Rattle.fq_model.specs.History.{history_of}
+use Rattle.fq_model.specs.Rules.{IsLegal, Answers}
+use Rattle.sched_state.specs.Replies.{submit_reply, take_reply, change_reply, close_reply}
+use Rattle.desk.specs.declared.floor.Crew.{Crew}
+use Rattle.desk.specs.declared.told.Ask.{Ask}
+use Rattle.desk.specs.declared.told.Ask.TheVariants as ask
+use Rattle.desk.specs.declared.told.Told.{Told}
+use Rattle.desk.specs.declared.told.Told.TheVariants as told
+use Rattle.desk.specs.Staffed.{IsStaffed}
+
+-- the call that is asked, by this caller
+abbrev pub call_of : {J : Type 0} → (J → ℕ) → ℕ → Ask J → Call
+call_of label who (ask.Submit moment tenant kind declared job) = call.Submit who moment tenant kind declared (label job)
+call_of label who (ask.Take moment worker) = call.Take who moment worker
+call_of label who (ask.Report moment worker used) = call.Report who moment worker used
+call_of label who (ask.Done moment worker cost) = call.Done who moment worker cost
+call_of label who (ask.Close moment) = call.Close who moment
+call_of label who (ask.Weight moment tenant weight) = call.Weight who moment tenant weight
+call_of label who (ask.Workers moment count) = call.Workers who moment count
+
+-- the reply that is told
+abbrev pub reply_of : {J : Type 0} → (J → ℕ) → Told J → Reply
+reply_of label (told.Submitted result) = submit_reply result
+reply_of label (told.Took taken) = take_reply label taken
+reply_of label (told.Reported result) = change_reply result
+reply_of label (told.Ended result) = change_reply result
+reply_of label (told.Closed result) = close_reply result
+reply_of label (told.Changed result) = change_reply result
+
+-- what is told is of the kind that was asked, and a refused Submit gives the job back that was handed in
+abbrev pub Suits : {J : Type 0} → Ask J → Told J → Type 0
+Suits (ask.Submit moment tenant kind declared job) (told.Submitted (Ok request)) = Unit {0}
+Suits (ask.Submit moment tenant kind declared job) (told.Submitted (Err refused)) = refused.job ≡ job
+Suits (ask.Take moment worker) (told.Took taken) = Unit {0}
+Suits (ask.Report moment worker used) (told.Reported result) = Unit {0}
+Suits (ask.Done moment worker cost) (told.Ended result) = Unit {0}
+Suits (ask.Close moment) (told.Closed result) = Unit {0}
+Suits (ask.Weight moment tenant weight) (told.Changed result) = Unit {0}
+Suits (ask.Workers moment count) (told.Changed result) = Unit {0}
+Suits _ _ = ⊥
+
+-- At P, which is legal and staffed, this is asked by this caller, and this is told; the history is then P2
+pub record AnswersAsk {J : Type 0} (label : J → ℕ) (crew : Crew) (P : List Entry) (who : ℕ) (asked : Ask J) (reply : Told J) (P2 : List Entry) : Type 0 where
+  pub legal : IsLegal crew.config (history_of P)
+  pub staffed : IsStaffed crew.submitters (history_of P)
+  pub answers : Answers crew.config (history_of P) (call_of label who asked) (reply_of label reply) (history_of P2)
+  pub suits : Suits asked reply

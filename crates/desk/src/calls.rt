@@ -1,0 +1,219 @@
+//! The calls of a desk. Each waits for its turn, and takes no memory.
+ghost use Rattle.std.specs.Prelude.{◌≡◌, IfErr};
+ghost use Rattle.fq_model.specs.declared.event.Call.TheVariants as call;
+ghost use Rattle.history_lock.specs.Passes.{IsOf};
+ghost use Rattle.sched_state.specs.Replies.{submit_reply, change_reply, close_reply};
+ghost use Rattle.desk.specs.Tokens.{Stays, IsAnswered};
+ghost use Rattle.desk.specs.Replies.{took_reply, took_pass, took_worker, live_reply, done_reply, done_pass, SameRun, GoesOn};
+
+use crate::desk::DeskOf;
+use crate::floor::Floor;
+use crate::refusals::{DoneRefusal, LiveRefusal, done_refusal, live_refusal};
+use crate::tokens::{Running, Submitter, Took, Worker};
+use crate::told::{Ask, Told};
+use fq_model::event::Cause;
+use fq_model::job::Job;
+use rival_policies::chooser::Chooser;
+use sched_state::{AlreadyClosed, Refused, Taken};
+use std::sync::Wait;
+
+impl<J: Job + Drop, X: Chooser> DeskOf<Floor<J, X>> {
+    /// A request comes, and gets the next number. Refused as the scheduler refuses; the job then comes back.
+    pub fn submit<R: Wait>(
+        &self,
+        rt: &R,
+        who: &mut Submitter,
+        moment: u64,
+        tenant: u32,
+        kind: u32,
+        declared: u64,
+        job: J,
+    ) -> Result<u32, Refused<J>>
+        requires { IsOf self.now.lock who.old.pass }
+        ensures stays { Stays self.now.lock who.old.pass who.new.pass }
+        ensures answers { IsAnswered self.now.lock.frame who.old.pass
+            (call.Submit who.old.pass.number moment tenant kind declared (J.label_of job)) (submit_reply result) who.new.pass }
+        ensures job_back { IfErr result (λ r. r.job ≡ job) }
+    {
+        let ask = Ask::Submit {
+            moment,
+            tenant,
+            kind,
+            declared,
+            job,
+        };
+        match self.lock.turn(rt, &mut who.pass, ask) {
+            Told::Submitted(result) => result,
+            _ => unreachable!(),
+        }
+    }
+
+    /// Nothing more is submitted from here on.
+    pub fn close<R: Wait>(
+        &self,
+        rt: &R,
+        who: &mut Submitter,
+        moment: u64,
+    ) -> Result<(), AlreadyClosed>
+        requires { IsOf self.now.lock who.old.pass }
+        ensures stays { Stays self.now.lock who.old.pass who.new.pass }
+        ensures answers { IsAnswered self.now.lock.frame who.old.pass
+            (call.Close who.old.pass.number moment) (close_reply result) who.new.pass }
+    {
+        match self.lock.turn(rt, &mut who.pass, Ask::Close { moment }) {
+            Told::Closed(result) => result,
+            _ => unreachable!(),
+        }
+    }
+
+    /// The tenant has this weight from here on. Refused as Tenant, Weight or Full.
+    pub fn weight<R: Wait>(
+        &self,
+        rt: &R,
+        who: &mut Submitter,
+        moment: u64,
+        tenant: u32,
+        weight: u32,
+    ) -> Result<(), Cause>
+        requires { IsOf self.now.lock who.old.pass }
+        ensures stays { Stays self.now.lock who.old.pass who.new.pass }
+        ensures answers { IsAnswered self.now.lock.frame who.old.pass
+            (call.Weight who.old.pass.number moment tenant weight) (change_reply result) who.new.pass }
+    {
+        let ask = Ask::Weight {
+            moment,
+            tenant,
+            weight,
+        };
+        match self.lock.turn(rt, &mut who.pass, ask) {
+            Told::Changed(result) => result,
+            _ => unreachable!(),
+        }
+    }
+
+    /// There are so many workers from here on. Refused as Workers or Full.
+    pub fn workers<R: Wait>(
+        &self,
+        rt: &R,
+        who: &mut Submitter,
+        moment: u64,
+        count: u32,
+    ) -> Result<(), Cause>
+        requires { IsOf self.now.lock who.old.pass }
+        ensures stays { Stays self.now.lock who.old.pass who.new.pass }
+        ensures answers { IsAnswered self.now.lock.frame who.old.pass
+            (call.Workers who.old.pass.number moment count) (change_reply result) who.new.pass }
+    {
+        let ask = Ask::Workers { moment, count };
+        match self.lock.turn(rt, &mut who.pass, ask) {
+            Told::Changed(result) => result,
+            _ => unreachable!(),
+        }
+    }
+
+    /// A worker asks for work. It keeps its token unless it is to run a request.
+    pub fn take<R: Wait>(&self, rt: &R, worker: Worker, moment: u64) -> Took<J>
+        requires { IsOf self.now.lock worker.pass }
+        ensures stays { Stays self.now.lock worker.pass (took_pass result) }
+        ensures answers { IsAnswered self.now.lock.frame worker.pass
+            (call.Take worker.pass.number moment worker.worker) (took_reply J.label_of result) (took_pass result) }
+        ensures worker { took_worker result ≡ worker.worker }
+    {
+        let Worker { mut pass, worker } = worker;
+        let ask = Ask::Take { moment, worker };
+        let Told::Took(taken) = self.lock.turn(rt, &mut pass, ask) else {
+            unreachable!()
+        };
+        match taken {
+            Taken::Run {
+                request,
+                estimate,
+                job,
+            } => {
+                let running = Running {
+                    pass,
+                    worker,
+                    request,
+                    estimate,
+                };
+                Took::Run(running, job)
+            }
+            Taken::Idle => Took::Idle(Worker { pass, worker }),
+            Taken::Drained => Took::Drained(Worker { pass, worker }),
+            Taken::Retired(workers) => Took::Retired(Worker { pass, worker }, workers),
+            Taken::UnknownWorker(_) => unreachable!(),
+            Taken::Busy(_) => unreachable!(),
+        }
+    }
+
+    /// The request has come to this use, in microseconds, and runs on.
+    pub fn report<R: Wait>(
+        &self,
+        rt: &R,
+        running: &mut Running,
+        moment: u64,
+        used: u64,
+    ) -> Result<(), LiveRefusal>
+        requires { IsOf self.now.lock running.old.pass }
+        ensures stays { Stays self.now.lock running.old.pass running.new.pass }
+        ensures answers { IsAnswered self.now.lock.frame running.old.pass
+            (call.Report running.old.pass.number moment running.old.worker used) (live_reply result) running.new.pass }
+        ensures run { SameRun running.old running.new }
+    {
+        let worker = running.worker;
+        let ask = Ask::Report {
+            moment,
+            worker,
+            used,
+        };
+        let Told::Reported(result) = self.lock.turn(rt, &mut running.pass, ask) else {
+            unreachable!()
+        };
+        match result {
+            Ok(()) => Ok(()),
+            Err(cause) => Err(live_refusal(cause)),
+        }
+    }
+
+    /// The request has ended, and this is its measured cost, in microseconds. Where that is refused the request runs on.
+    pub fn done<R: Wait>(
+        &self,
+        rt: &R,
+        running: Running,
+        moment: u64,
+        cost: u64,
+    ) -> Result<Worker, (Running, DoneRefusal)>
+        requires { IsOf self.now.lock running.pass }
+        ensures stays { Stays self.now.lock running.pass (done_pass result) }
+        ensures answers { IsAnswered self.now.lock.frame running.pass
+            (call.Done running.pass.number moment running.worker cost) (done_reply result) (done_pass result) }
+        ensures token { GoesOn running result }
+    {
+        let Running {
+            mut pass,
+            worker,
+            request,
+            estimate,
+        } = running;
+        let ask = Ask::Done {
+            moment,
+            worker,
+            cost,
+        };
+        let Told::Ended(result) = self.lock.turn(rt, &mut pass, ask) else {
+            unreachable!()
+        };
+        match result {
+            Ok(()) => Ok(Worker { pass, worker }),
+            Err(cause) => {
+                let running = Running {
+                    pass,
+                    worker,
+                    request,
+                    estimate,
+                };
+                Err((running, done_refusal(cause)))
+            }
+        }
+    }
+}

@@ -1,0 +1,21 @@
+//! The desk: one scheduler behind one lock, whose submitters and workers are threads that each hold a token.
+#![tactic(auto)]
+
+mod calls;
+mod desk;
+mod ending;
+mod floor;
+pub mod laws;
+mod opening;
+mod refusals;
+mod tokens;
+mod told;
+
+pub use desk::{Desk, DeskOf, MOST_SUBMITTERS};
+pub use floor::{Crew, Floor};
+pub use refusals::{DoneRefusal, LiveRefusal, OpenFault};
+pub use tokens::{Running, Submitter, Took, Worker};
+pub use told::{Ask, Told};
+
+#[cfg(test)]
+mod tests;

@@ -1,0 +1,64 @@
+//! Why the desk refuses.
+ghost use Rattle.std.specs.Prelude.{◌≡◌};
+ghost use Rattle.desk.specs.Replies.{live_cause, done_cause, IsLive, IsEnding};
+
+use fq_model::event::Cause;
+use fq_model::limits::GREATEST_COST;
+
+/// Why a desk is not opened.
+#[derive(Clone, Copy, Debug, PartialEq, Eq, thiserror::Error)]
+pub enum OpenFault {
+    /// So many submitters; there may be 1 to 64.
+    #[error("{0} submitters, and there may be 1 to 64")]
+    Submitters(u32),
+    #[error("no memory for a desk")]
+    NoMemory,
+}
+
+/// Why a report is refused. Uses are microseconds.
+#[derive(Clone, Copy, Debug, PartialEq, Eq, thiserror::Error)]
+pub enum LiveRefusal {
+    /// A use above the greatest cost.
+    #[error("a use of {0} microseconds, and it may be up to {GREATEST_COST}")]
+    Cost(u64),
+    /// A use below the greatest one reported so far.
+    #[error("a use of {given} microseconds, after a use of {last} was reported")]
+    Falling { last: u64, given: u64 },
+    /// The entries that are left, of this many, are needed for what was submitted.
+    #[error("the history may have {0} entries, and lacks room for a report")]
+    Full(u32),
+}
+
+/// Why a completion is refused. Costs are microseconds.
+#[derive(Clone, Copy, Debug, PartialEq, Eq, thiserror::Error)]
+pub enum DoneRefusal {
+    /// A cost above the greatest one.
+    #[error("a cost of {0} microseconds, and it may be up to {GREATEST_COST}")]
+    Cost(u64),
+    /// A cost below the greatest use reported.
+    #[error("a cost of {given} microseconds, after a use of {last} was reported")]
+    Falling { last: u64, given: u64 },
+}
+
+pub(crate) fn live_refusal(cause: Cause) -> LiveRefusal
+    requires { IsLive cause }
+    ensures { live_cause result ≡ cause }
+{
+    match cause {
+        Cause::Cost(used) => LiveRefusal::Cost(used),
+        Cause::Falling { last, given } => LiveRefusal::Falling { last, given },
+        Cause::Full(entries) => LiveRefusal::Full(entries),
+        _ => unreachable!(),
+    }
+}
+
+pub(crate) fn done_refusal(cause: Cause) -> DoneRefusal
+    requires { IsEnding cause }
+    ensures { done_cause result ≡ cause }
+{
+    match cause {
+        Cause::Cost(cost) => DoneRefusal::Cost(cost),
+        Cause::Falling { last, given } => DoneRefusal::Falling { last, given },
+        _ => unreachable!(),
+    }
+}
