@@ -1,0 +1,119 @@
+-- What a worker does with the jobs that it takes.
+use Rattle.std.specs.Prelude.{◌≡◌, ℕ, zero, suc, ◌<◌, Bool, false, if◌then◌else◌, List, [], ◌∷◌, map, length, Option, Some, None}
+use Rattle.fq_model.specs.declared.config.Config.{Config}
+use Rattle.fq_model.specs.declared.event.Act.{Act}
+use Rattle.fq_model.specs.declared.event.Act.TheVariants.{Take, Report, Done}
+use Rattle.fq_model.specs.declared.event.Call.TheVariants as call
+use Rattle.fq_model.specs.declared.event.Entry.{Entry}
+use Rattle.fq_model.specs.declared.event.Reply.{Reply}
+use Rattle.fq_model.specs.declared.event.Reply.TheVariants as answer
+use Rattle.fq_model.specs.History.{History, history_of, Request, request_at}
+use Rattle.fq_model.specs.Rules.{Answers, needed_room}
+use Rattle.history_lock.specs.Histories.{IsPrefix}
+use Rattle.history_lock.specs.Passes.{LockView}
+use Rattle.desk.specs.declared.floor.Crew.{Crew}
+use Rattle.desk.specs.declared.tokens.Worker.{Worker}
+use Rattle.desk.specs.Tokens.{Stays}
+use Rattle.worker_gate.specs.declared.counters.Counters.{Counters}
+use Rattle.worker_gate.specs.Moments.{HasToldMomentsFrom}
+use Rattle.worker_gate.specs.Slices.{counters_after, total, IsCourse}
+
+-- a use that a worker named of a request, and whether its Report stands in the history
+pub record Use : Type 0 where
+  pub used : ℕ
+  pub is_kept : Bool
+
+-- a job that a worker ran to its end: its request, the estimate at its Take, its label, the uses that were named, the
+-- newest first, and its cost
+pub record JobRun : Type 0 where
+  pub request : ℕ
+  pub estimate : ℕ
+  pub label : ℕ
+  pub uses : List Use
+  pub cost : ℕ
+
+-- Reports by worker i of the uses that are kept, the newest first, onto older acts
+abbrev pub with_uses : ℕ → ℕ → List Use → List Act → List Act
+with_uses i request [] older = older
+with_uses i request (use_ ∷ uses) older =
+    if use_.is_kept
+    then Report i request use_.used ∷ with_uses i request uses older
+    else with_uses i request uses older
+
+-- what worker i makes of a job, the newest act first, onto older acts: a Take, its Reports and a Done
+abbrev pub with_run : ℕ → JobRun → List Act → List Act
+with_run i run older =
+    Done i run.request run.cost ∷ with_uses i run.request run.uses (Take i run.request run.estimate ∷ older)
+
+-- what it makes of one job after another, the newest first
+abbrev pub with_runs : ℕ → List JobRun → List Act → List Act
+with_runs i [] older = older
+with_runs i (run ∷ runs) older = with_run i run (with_runs i runs older)
+
+-- the acts of entries in order of time, the newest first
+abbrev pub acts_of : List Entry → List Act
+acts_of entries = map (λ e. e.act) (history_of entries)
+
+-- what a rule makes of the first k slices of a course, the newest first
+abbrev pub uses_after : (Counters → ℕ) → List Counters → ℕ → List ℕ
+uses_after cost_of course zero = []
+uses_after cost_of course (suc k) = cost_of (counters_after course k) ∷ uses_after cost_of course k
+
+-- The run follows the course: the uses that it named are what the rule makes of each slice but the last, and its cost
+-- is what the rule makes of the total
+pub record FollowsCourse (cost_of : Counters → ℕ) (course : List Counters) (run : JobRun) : Type 0 where
+  pub is_course : IsCourse course
+  pub last : ℕ
+  pub last_is : suc last ≡ length course
+  pub uses_are : map (λ u. u.used) run.uses ≡ uses_after cost_of course last
+  pub cost_is : run.cost ≡ cost_of (total course)
+
+abbrev pub IsAsTold : (Counters → ℕ) → Option (List Counters) → JobRun → Type 0
+IsAsTold cost_of None run = Unit {0}
+IsAsTold cost_of (Some course) run = FollowsCourse cost_of course run
+
+-- at some moment of what was seen there was no room for a Report
+abbrev pub LackedRoom : Config → List Entry → Type 0
+LackedRoom C seen = (P : List Entry) × IsPrefix P seen × (C.entries < needed_room (history_of P) 2)
+
+-- a use is kept, or there was no room for its Report
+abbrev pub AreKeptWhereRoom : Config → List Entry → List Use → Type 0
+AreKeptWhereRoom C seen [] = Unit {0}
+AreKeptWhereRoom C seen (use_ ∷ uses) = (use_.is_kept ≡ false → LackedRoom C seen) × AreKeptWhereRoom C seen uses
+
+-- the label is that of the request
+abbrev pub HasLabel : History → ℕ → ℕ → Type 0
+HasLabel H request label = (asked : Request) × (request_at H request ≡ Some asked) × (asked.label ≡ label)
+
+-- what is true of a run, by what its worker has seen; course_of gives the course of a label, where that is told
+pub record IsRun (C : Config) (course_of : ℕ → Option (List Counters)) (cost_of : Counters → ℕ) (seen : List Entry) (run : JobRun) : Type 0 where
+  pub labelled : HasLabel (history_of seen) run.request run.label
+  pub kept : AreKeptWhereRoom C seen run.uses
+  pub follows : IsAsTold cost_of (course_of run.label) run
+
+abbrev pub AreRuns : Config → (ℕ → Option (List Counters)) → (Counters → ℕ) → List Entry → List JobRun → Type 0
+AreRuns C course_of cost_of seen [] = Unit {0}
+AreRuns C course_of cost_of seen (run ∷ runs) = IsRun C course_of cost_of seen run × AreRuns C course_of cost_of seen runs
+
+-- nothing waits and nothing more will come, or the pool has no place for the worker now
+abbrev pub EndsWork : Reply → Type 0
+EndsWork answer.Drained = Unit {0}
+EndsWork (answer.Retired workers) = Unit {0}
+EndsWork _ = ⊥
+
+-- at what it has seen, the worker is answered one of the two
+abbrev pub IsTurnedAway : Config → Worker → Type 0
+IsTurnedAway C worker = (moment : ℕ) × (reply : Reply) × EndsWork reply
+    × Answers C (history_of worker.pass.seen) (call.Take worker.pass.number moment worker.worker) reply (history_of worker.pass.seen)
+
+-- What the worker has done: it is turned away now, and what it has added to its own entries are the Take, the Reports and
+-- the Done of one job after another, at moments that the clock tells
+pub record Worked (lock : LockView Crew) (course_of : ℕ → Option (List Counters)) (cost_of : Counters → ℕ) (Tells : ℕ → Type 0) (old new : Worker) : Type 0 where
+  pub stays : Stays lock old.pass new.pass
+  pub worker : new.worker ≡ old.worker
+  pub seen : IsPrefix old.pass.seen new.pass.seen
+  pub runs : List JobRun
+  pub acts_are : acts_of new.pass.mine ≡ with_runs new.worker runs (acts_of old.pass.mine)
+  pub runs_are : AreRuns lock.frame.config course_of cost_of new.pass.seen runs
+  pub moments : HasToldMomentsFrom Tells new.pass.number (length old.pass.seen) (history_of new.pass.seen)
+  pub turned_away : IsTurnedAway lock.frame.config new

@@ -1,0 +1,90 @@
+//! Hands that work at once, each in a thread of its own.
+ghost use Rattle.worker_gate.specs.Hands.{AreHandsOf, HandDid, IsHandOf, HandsDid};
+
+use crate::cost_rule::{Cost, CostRule};
+use crate::feed::{OwnKind, feed_rows};
+use crate::gate::Gate;
+use crate::rows::Row;
+use crate::work::work;
+use desk::{DeskOf, Floor, Submitter, Worker};
+use fq_io::Clock;
+use fq_model::event::Cause;
+use fq_model::job::Job;
+use rival_policies::chooser::Chooser;
+use std::collections::VecDeque;
+use std::sync::Wait;
+use std::thread;
+use std::thread::Threads;
+
+/// What one thread of a pool does, and what is left of it then.
+pub enum Hand<J> {
+    /// A submitter hands in rows, of so many in all. Afterwards `rows` are those that are left, and `stopped` is the row
+    /// before them that was refused, with its cause, if one was.
+    Feed {
+        who: Submitter,
+        rows: VecDeque<Row<J>>,
+        total: u32,
+        stopped: Option<(Row<J>, Cause)>,
+    },
+    /// A worker serves. It stands here before and afterwards.
+    Work(Option<Worker>),
+}
+
+fn run<J: Job + Drop, X: Chooser, G: Gate<J>, K: Clock, F: Cost, R: Wait>(
+    desk: &DeskOf<Floor<J, X>>,
+    rt: &R,
+    hand: &mut Hand<J>,
+    gate: &G,
+    clock: &K,
+    rule: &CostRule<F>,
+)
+    requires { IsHandOf desk.now.lock hand.old }
+    ensures { HandDid J.label_of desk.now.lock (G.course gate.now) (F.cost_of rule.now) (K.tells clock.now) hand.old hand.new }
+{
+    match hand {
+        Hand::Feed {
+            who,
+            rows,
+            total,
+            stopped,
+        } => {
+            *stopped = feed_rows(desk, rt, who, rows, *total, clock, &OwnKind);
+        }
+        Hand::Work(slot) => {
+            let Some(worker) = slot.take() else {
+                unreachable!()
+            };
+            let back = slot.replace(work(desk, rt, worker, gate, clock, rule));
+            let None = back else { unreachable!() };
+        }
+    }
+}
+
+/// Each hand does its part in a thread of its own, and has its token back at the end. Where a thread cannot be started
+/// the caller does that part itself, one hand after another; so the submitters are to stand before the workers.
+pub fn pool<
+    J: Job + Drop + Send,
+    X: Chooser + Send,
+    G: Gate<J> + Sync,
+    K: Clock + Sync,
+    F: Cost + Sync,
+    R: Threads + Wait + Sync,
+>(
+    rt: &R,
+    desk: &DeskOf<Floor<J, X>>,
+    hands: &mut [Hand<J>],
+    gate: &G,
+    clock: &K,
+    rule: &CostRule<F>,
+)
+    requires { AreHandsOf desk.now.lock hands.old }
+    ensures { HandsDid J.label_of desk.now.lock (G.course gate.now) (F.cost_of rule.now) (K.tells clock.now)
+        hands.old hands.new }
+{
+    let threads = hands.len();
+    if threads > 0 {
+        thread::for_each_mut(rt, hands, threads, &|_, hand: &mut Hand<J>| {
+            run(desk, rt, hand, gate, clock, rule)
+        });
+    }
+}
