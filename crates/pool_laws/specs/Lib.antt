@@ -1,0 +1,2 @@
+pub mod PoolEnd
+pub mod Laws

@@ -1,0 +1,2 @@
+//! What follows where the hands of a pool have done their parts. Nothing here runs.
+#![tactic(auto)]
