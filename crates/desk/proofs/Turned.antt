@@ -74,3 +74,11 @@ module _ {J : Type 0} (label : J → ℕ) where
   -- what a turn ensures is what a call says
   pub answered : (crew : Crew) (old new : PassView Crew) (asked : Ask J) (reply : Told J) (r : Reply) → HasTurned crew old new asked reply → reply_of label reply ≡ r → IsAnswered crew old (call_of label old.number asked) r new
   answered crew old new asked reply r t is = record { P = t.0; begins = t.1; own = t.2; legal = t.3.legal; staffed = t.3.staffed; answers = rw (← is) t.3.answers; gains = t.4 }
+
+  -- what a pass has as its own after a turn are its entries in what it has seen
+  pub own_kept : (crew : Crew) (old new : PassView Crew) (asked : Ask J) (reply : Told J) → HasTurned crew old new asked reply → new.number ≡ old.number → new.mine ≡ own_entries new.seen new.number
+  own_kept crew old new asked reply t same = sym (ap (own_entries new.seen) same ∙ own_gained old.number t.0 new.seen old.mine new.mine t.2 t.4)
+
+-- the pass of a submitter is one after a turn
+pub below_kept : (lock : LockView Crew) (old new : PassView Crew) → IsOf lock old → IsOf lock new → new.number ≡ old.number → old.number < submitters_of old.frame → new.number < submitters_of new.frame
+below_kept lock old new was is same below = rw (same, is.1) (subst (λ f. old.number < submitters_of f) was.1 below)

@@ -1,6 +1,7 @@
 //! What the callers of a desk hold. Each token must be spent, and stands for one caller.
 ghost use Rattle.std.specs.Prelude.{◌≡◌, ◌<◌, ◌+◌, None, Some};
 ghost use Rattle.fq_model.specs.History.{history_of, running_on};
+ghost use Rattle.fq_model.specs.Outcome.{own_entries};
 ghost use Rattle.desk.specs.Tokens.{submitters_of, workers_of};
 
 use crate::floor::Crew;
@@ -9,6 +10,7 @@ use history_lock::Pass;
 /// The right to submit, to close, and to change weights and the number of workers.
 pub struct Submitter {
     pub(crate) pass: Pass<Crew>,
+    ghost own: { pass.mine ≡ own_entries pass.seen pass.number },
     ghost below: { pass.number < submitters_of pass.frame },
 }
 
@@ -25,6 +27,7 @@ impl Submitter {
 pub struct Worker {
     pub(crate) pass: Pass<Crew>,
     pub(crate) worker: u32,
+    ghost own: { pass.mine ≡ own_entries pass.seen pass.number },
     ghost numbered: { pass.number ≡ submitters_of pass.frame + worker },
     ghost known: { worker < workers_of pass.frame },
     ghost free: { running_on (history_of pass.mine) worker ≡ None },
@@ -36,6 +39,7 @@ pub struct Running {
     pub(crate) worker: u32,
     pub(crate) request: u32,
     pub(crate) estimate: u64,
+    ghost own: { pass.mine ≡ own_entries pass.seen pass.number },
     ghost numbered: { pass.number ≡ submitters_of pass.frame + worker },
     ghost known: { worker < workers_of pass.frame },
     ghost runs: { running_on (history_of pass.mine) worker ≡ Some request },
