@@ -1,7 +1,7 @@
 -- A simulated history leaves no request undone.
-use Rattle.std.proofs.Common.{ℕ, ◌≡◌, Bool, true, false, not, ◌&&◌, None, length, arith, refl, ap}
+use Rattle.std.proofs.Common.{ℕ, ◌≡◌, Bool, true, false, not, ◌&&◌, None, arith, refl, ap}
 use Rattle.fq_model.specs.declared.trace.RunOptions.{RunOptions}
-use Rattle.fq_model.specs.History.{History, is_submitted, is_done, submits, request_bound}
+use Rattle.fq_model.specs.History.{History, is_submitted, is_done, request_bound}
 use Rattle.fq_model.specs.Report.{unfinished, is_unfinished}
 use Rattle.fq_model.specs.Simulated.{run_config, IsSimulated}
 use Rattle.fq_model.specs.Trace.{Trace}

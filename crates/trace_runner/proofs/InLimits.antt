@@ -1,31 +1,37 @@
--- The configuration of a simulation is in its limits.
+-- The configuration of a trace is in its limits.
 use Rattle.std.proofs.Common.{ℕ, ◌*◌, ◌≤◌, ◌≡◌, max, length, arith, List, subst, sym, ap, refl, ◌∙◌, Some, None}
 use Rattle.fq_model.specs.declared.config.Config.{Config}
 use Rattle.fq_model.specs.declared.trace.RunOptions.{RunOptions}
-use Rattle.fq_model.specs.declared.limits.TheConstants.{MOST_PAIRS, LEAST_ENTRIES}
+use Rattle.fq_model.specs.declared.limits.TheConstants.{MOST_PAIRS, LEAST_ENTRIES, MOST_ENTRIES}
 use Rattle.fq_model.specs.declared.config.ConfigFault.{ConfigFault}
-use Rattle.fq_model.specs.Limits.{InLimits, config_fault}
-use Rattle.fq_model.specs.Simulated.{run_config, needed_entries}
+use Rattle.fq_model.specs.Courses.{trace_config}
+use Rattle.fq_model.specs.Limits.{InLimits, AreInRange, IsWithin, config_fault}
+use Rattle.fq_model.specs.Simulated.{run_config}
 use Rattle.fq_model.specs.Trace.{Trace}
+use Rattle.fq_model.specs.TraceText.{IsLawfulTrace}
 use Rattle.trace_runner.specs.Plan.{IsPlan}
 use Rattle.fq_laws.proofs.Faults.{no_fault}
 
-pub in_limits : (T : Trace) (O : RunOptions) → IsPlan T O → InLimits (run_config T O)
-in_limits T O p = record {
-  workers = p.options.workers;
-  tenants = (omega (arith, p.lawful.weighed, p.lawful.some_tenant), omega (arith, p.lawful.weighed, p.lawful.tenants.few));
-  weights = p.lawful.weights;
-  kinds = (p.lawful.some_kind, p.lawful.kinds.few);
-  pairs = subst (λ n. n * length T.kinds ≤ MOST_PAIRS) (sym p.lawful.weighed) p.lawful.pairs;
-  entries = (omega arith, omega (arith, p.few));
-  requests = (omega arith, omega (arith, p.lawful.few));
-  initial = p.options.initial;
-}
+module _ (T : Trace) (O : RunOptions) where
+  pub trace_limits : (entries : ℕ) → IsLawfulTrace T → AreInRange O → IsWithin LEAST_ENTRIES MOST_ENTRIES entries → InLimits (trace_config T O entries)
+  trace_limits entries lawful options within = record {
+    workers = options.workers;
+    tenants = (omega (arith, lawful.weighed, lawful.some_tenant), omega (arith, lawful.weighed, lawful.tenants.few));
+    weights = lawful.weights;
+    kinds = (lawful.some_kind, lawful.kinds.few);
+    pairs = subst (λ n. n * length T.kinds ≤ MOST_PAIRS) (sym lawful.weighed) lawful.pairs;
+    entries = within;
+    requests = (omega arith, omega (arith, lawful.few));
+    initial = options.initial;
+  }
 
--- a configuration of these numbers has no fault
-pub no_fault_here : (T : Trace) (O : RunOptions) (weights : List ℕ) (kinds entries requests : ℕ) (f : ConfigFault) → IsPlan T O → weights ≡ T.weights → kinds ≡ length T.kinds → entries ≡ max LEAST_ENTRIES (needed_entries T.rows O.refresh) → requests ≡ max 1 (length T.rows) →
-    config_fault (record { workers = O.workers; weights = weights; kinds = kinds; entries = entries; requests = requests; policy = O.policy; estimate = O.estimate; initial = O.initial }) ≡ Some f → ⊥
-no_fault_here T O weights kinds entries requests f p w k e r h =
-    let D : Config = record { workers = O.workers; weights = weights; kinds = kinds; entries = entries; requests = requests; policy = O.policy; estimate = O.estimate; initial = O.initial } in
-    let same : D ≡ run_config T O = rw (w, k, e, r) refl in
-    let n : None ≡ Some f = sym (no_fault (run_config T O) (in_limits T O p)) ∙ sym (ap config_fault same) ∙ h in cc
+  pub in_limits : IsPlan T O → InLimits (run_config T O)
+  in_limits p = trace_limits _ p.lawful p.options (omega arith, omega (arith, p.few))
+
+  -- a configuration of these numbers has no fault
+  pub no_fault_here : (weights : List ℕ) (kinds entries requests : ℕ) (f : ConfigFault) → InLimits (trace_config T O entries) → weights ≡ T.weights → kinds ≡ length T.kinds → requests ≡ max 1 (length T.rows) →
+      config_fault (record { workers = O.workers; weights = weights; kinds = kinds; entries = entries; requests = requests; policy = O.policy; estimate = O.estimate; initial = O.initial }) ≡ Some f → ⊥
+  no_fault_here weights kinds entries requests f p w k r h =
+      let D : Config = record { workers = O.workers; weights = weights; kinds = kinds; entries = entries; requests = requests; policy = O.policy; estimate = O.estimate; initial = O.initial } in
+      let same : D ≡ trace_config T O entries = rw (w, k, r) refl in
+      let n : None ≡ Some f = sym (no_fault (trace_config T O entries) p) ∙ sym (ap config_fault same) ∙ h in cc

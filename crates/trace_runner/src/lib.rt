@@ -6,7 +6,7 @@ mod agenda;
 pub mod fault;
 pub mod laws;
 pub mod needed;
-mod opening;
+pub mod opening;
 pub mod runner;
 mod staff;
 #[cfg(test)]

@@ -1,35 +1,34 @@
-//! What the scheduler of a simulation is opened with.
+//! What the scheduler of a trace is opened with.
 ghost use Rattle.std.specs.Prelude.{ℕ, ◌≡◌, ◌+◌, ◌≤◌, ◌<◌, length, IfOk};
-ghost use Rattle.fq_model.specs.Courses.{submitters};
-ghost use Rattle.fq_model.specs.Simulated.{needed_entries, run_config};
+ghost use Rattle.fq_model.specs.declared.limits.TheConstants.{LEAST_ENTRIES, MOST_ENTRIES};
+ghost use Rattle.fq_model.specs.Courses.{submitters, trace_config};
 ghost use Rattle.fq_model.specs.TraceText.{IsLawfulTrace};
-ghost use Rattle.fq_model.specs.Limits.{AreInRange};
+ghost use Rattle.fq_model.specs.Limits.{AreInRange, IsWithin};
 ghost use Rattle.trace_runner.specs.Plan.{row_at};
 
 use fq_model::config::{Checked, Config, Weights};
-use fq_model::limits::{GREATEST_SUBMITTER, LEAST_ENTRIES, MOST_ENTRIES};
+use fq_model::limits::GREATEST_SUBMITTER;
 use fq_model::trace::{RunOptions, TraceRow};
 use std::alloc::{AllocError, Global};
 use trace_reader::trace::Trace;
 
-/// The configuration of a simulation that needs so many entries: all requests may wait at once.
+/// The configuration of a trace whose history may have so many entries: all requests may wait at once.
 pub fn config_of(
     alloc: Global,
     trace: &Trace,
     options: RunOptions,
-    needed: u32,
+    entries: u32,
 ) -> Result<Checked, AllocError>
     requires lawful { IsLawfulTrace trace.now }
     requires options { AreInRange options }
-    requires needed { needed ≡ needed_entries trace.now.rows options.refresh }
-    requires few { needed ≤ MOST_ENTRIES }
-    ensures { IfOk result (λ c. c ≡ run_config trace.now options) }
+    requires entries { IsWithin LEAST_ENTRIES MOST_ENTRIES entries }
+    ensures { IfOk result (λ c. c ≡ trace_config trace.now options entries) }
 {
     let config = Config {
         workers: options.workers,
         weights: Weights::from_vec(trace.tenants().weights(alloc)?),
         kinds: trace.kinds().len(),
-        entries: needed.max(LEAST_ENTRIES),
+        entries,
         requests: trace.rows().len().max(1) as u32,
         policy: options.policy,
         estimate: options.estimate,

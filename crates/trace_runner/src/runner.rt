@@ -14,7 +14,7 @@ use crate::fault::SimFault;
 use crate::needed::needed;
 use crate::opening::{config_of, submitters};
 use crate::staff::Work;
-use fq_model::limits::MOST_ENTRIES;
+use fq_model::limits::{LEAST_ENTRIES, MOST_ENTRIES};
 use fq_model::trace::RunOptions;
 use rival_policies::chooser::Chooser;
 use sched_state::{Scheduler, Taken};
@@ -44,7 +44,8 @@ pub fn simulate<X: Chooser + Drop>(
     if needed > MOST_ENTRIES as u64 {
         return Err(SimFault::TooManyEntries(needed));
     }
-    let config = config_of(alloc, trace, options, needed as u32)?;
+    let entries = (needed as u32).max(LEAST_ENTRIES);
+    let config = config_of(alloc, trace, options, entries)?;
     let mut agenda = Agenda::open(alloc, options.workers, submitters(trace.rows()))?;
     let mut scheduler = Scheduler::open(alloc, config)?;
     'events: while let Some(event) = agenda.next(trace.rows()) {

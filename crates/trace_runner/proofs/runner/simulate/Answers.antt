@@ -1,6 +1,6 @@
-use Rattle.std.proofs.Common.{arith, ap, subst, ◌≤◌, ◌∙◌}
-use Rattle.fq_model.specs.declared.limits.TheConstants.{MOST_ENTRIES}
-use Rattle.fq_model.specs.Courses.{submitters}
+use Rattle.std.proofs.Common.{arith, ap, subst, ◌≡◌, ◌≤◌, ◌∙◌, max}
+use Rattle.fq_model.specs.declared.limits.TheConstants.{LEAST_ENTRIES, MOST_ENTRIES}
+use Rattle.fq_model.specs.Courses.{submitters, trace_config}
 use Rattle.fq_model.specs.Simulated.{needed_entries}
 use Rattle.sched_state.specs.Scheduler.{SchedulerView}
 use Rattle.trace_runner.specs.Agenda.{NothingNext, opened_agenda}
@@ -12,8 +12,9 @@ pub events-init : goal.events-init
 events-init g c =
     let few : needed_entries c.args.trace.now.rows c.args.options.refresh ≤ MOST_ENTRIES = omega (arith, c.needed-needed.ensures, c.if-needed.false) in
     let plan : IsPlan c.args.trace.now c.args.options = record { lawful = c.requires.lawful; options = c.requires.options; few = few } in
+    let entries : c.max-entries.result ≡ max LEAST_ENTRIES (needed_entries c.args.trace.now.rows c.args.options.refresh) = omega (arith, c.max-entries.ensures, c.needed-needed.ensures) in
     simulates_first c.args.trace.now c.args.options c.in_ok-scheduler.scheduler c.in_ok-agenda.agenda plan
-    (ap (λ (s : SchedulerView _). s.config) c.in_ok-scheduler.ensures ∙ c.in_ok-config.ensures)
+    (ap (λ (s : SchedulerView _). s.config) c.in_ok-scheduler.ensures ∙ (c.in_ok-config.ensures ∙ ap (λ n. trace_config c.args.trace.now c.args.options n) entries))
     (ap (λ (s : SchedulerView _). s.past) c.in_ok-scheduler.ensures)
     (c.in_ok-agenda.ensures.opened ∙ ap (opened_agenda c.args.options.workers) (c.submitters.ensures.count ∙ ap submitters c.rows.ensures))
 
