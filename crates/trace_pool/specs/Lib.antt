@@ -1,1 +1,3 @@
 pub mod Serving
+pub mod Places
+pub mod Parts

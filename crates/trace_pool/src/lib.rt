@@ -2,5 +2,9 @@
 //! count their costs up.
 #![tactic(auto)]
 
+mod dealing;
 pub mod fault;
+mod gate;
+mod hands;
+pub mod needed;
 pub mod serving;

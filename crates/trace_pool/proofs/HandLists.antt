@@ -1,0 +1,36 @@
+-- Tokens that become hands one by one.
+use Rattle.std.proofs.Common.{ℕ, suc, ◌+◌, ◌<◌, ◌≡◌, List, [], ◌∷◌, ◌++◌, length, get_or, take, drop, sym, ap, ◌∙◌, subst, refl, arith, append_assoc}
+use Rattle.std.proofs.lemmas.List.{length-append}
+use Rattle.fq_model.specs.declared.trace.TraceRow.{TraceRow}
+use Rattle.history_lock.specs.Passes.{LockView}
+use Rattle.desk.specs.declared.floor.Crew.{Crew}
+use Rattle.desk.specs.declared.tokens.Submitter.{Submitter}
+use Rattle.desk.specs.declared.tokens.Worker.{Worker}
+use Rattle.desk.specs.Opening.{AreSubmitters, AreWorkers, HasMade}
+use Rattle.worker_gate.specs.declared.pool.Hand.{Hand}
+use Rattle.worker_gate.specs.declared.pool.Hand.TheVariants.{Work}
+use Rattle.trace_pool.specs.Parts.{KnowsAll, IsCrewOf, IsWorkOf, AreHands, IsFeedOf}
+use Rattle.trace_pool.specs.Places.{HoldsFrom}
+use Rattle.trace_pool.proofs.Places.{holds_more}
+
+-- the first of a list and the others
+pub split_first : {A : Type 0} (xs : List A) (x : A) (rest : List A) → 0 < length xs → x ≡ get_or xs 0 x → rest ≡ take 0 xs ++ drop 1 xs → xs ≡ x ∷ rest
+split_first [] x rest some is others = absurd (omega (arith, some))
+split_first (y ∷ ys) x rest some is others = let same : rest ≡ ys = others in sym (ap (λ z. z ∷ rest) is ∙ ap (λ l. y ∷ l) same)
+
+module _ (lock : LockView Crew) where
+  -- the first submitter knows how many there are
+  pub knows_all : (n : ℕ) (t : Submitter) (ts : List Submitter) → (n ≡ 0 → HasMade (lock.frame.submitters + lock.frame.config.workers) (t ∷ ts)) → KnowsAll lock n t
+  knows_all n t ts made zeroth = (made zeroth).0
+
+  -- one worker more is given its work
+  pub works_more : (rows : List TraceRow) (hands hands2 before : List (Hand ℕ)) (t : Worker) (ts : List Worker) (hand : Hand ℕ) → IsCrewOf rows lock
+      → (given : List (Hand ℕ)) × (hands ≡ before ++ given) × HoldsFrom (IsWorkOf rows lock) 0 given × AreWorkers lock (length given) (t ∷ ts)
+      → hands2 ≡ hands ++ hand ∷ [] → hand ≡ Work (Rattle.std.proofs.Common.Some t)
+      → (given : List (Hand ℕ)) × (hands2 ≡ before ++ given) × HoldsFrom (IsWorkOf rows lock) 0 given × AreWorkers lock (length given) ts
+  works_more rows hands hands2 before t ts hand crew (given, is, works, tokens) more hand_is =
+      let own = tokens.0 in
+      let fits : IsWorkOf rows lock (length given) hand =
+          subst (IsWorkOf rows lock (length given)) (sym hand_is) (t, refl, subst (λ s. Rattle.desk.specs.Opening.IsNew lock (s + length given) t.pass) crew own.0, own.1) in
+      let longer : length (given ++ hand ∷ []) ≡ suc (length given) = omega (arith, length-append given (hand ∷ [])) in
+      (given ++ hand ∷ [], more ∙ (ap (λ l. l ++ hand ∷ []) is ∙ append_assoc before given (hand ∷ [])), holds_more (IsWorkOf rows lock) 0 (length given) given hand works (omega arith) fits, subst (λ n. AreWorkers lock n ts) (sym longer) tokens.1)

@@ -1,0 +1,3 @@
+pub mod Deals
+pub mod Places
+pub mod HandLists

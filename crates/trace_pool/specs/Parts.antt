@@ -1,0 +1,113 @@
+-- The parts of the submitters and workers of a trace, before and after they are done.
+use Rattle.std.specs.Prelude.{ℕ, ◌+◌, ◌≡◌, List, [], ◌∷◌, ◌++◌, map, length, Option, Some, None}
+use Rattle.fq_model.specs.declared.event.Cause.{Cause}
+use Rattle.fq_model.specs.declared.trace.TraceRow.{TraceRow}
+use Rattle.fq_model.specs.Courses.{submitters, worker_caller}
+use Rattle.fq_model.specs.PoolHistory.{requests_from}
+use Rattle.history_lock.specs.Passes.{LockView}
+use Rattle.desk.specs.declared.floor.Crew.{Crew}
+use Rattle.desk.specs.declared.tokens.Submitter.{Submitter}
+use Rattle.desk.specs.declared.tokens.Worker.{Worker}
+use Rattle.desk.specs.Opening.{IsNew}
+use Rattle.worker_gate.specs.declared.pool.Hand.{Hand}
+use Rattle.worker_gate.specs.declared.pool.Hand.TheVariants.{Feed, Work}
+use Rattle.worker_gate.specs.declared.rows.Row.{Row}
+use Rattle.worker_gate.specs.Feeding.{Feeds}
+use Rattle.worker_gate.specs.Rules.{work_cost}
+use Rattle.worker_gate.specs.Running.{Worked}
+use Rattle.pool_laws.specs.PoolEnd.{trace_course, row_asks}
+use Rattle.trace_pool.specs.Places.{HoldsFrom}
+
+-- these are the rows of submitter j, in order
+abbrev pub AreRowsOf : List TraceRow → ℕ → List (Row ℕ) → Type 0
+AreRowsOf rows j queue = map row_asks queue ≡ requests_from j 0 rows
+
+-- the lock's crew has the submitters that the rows name
+abbrev pub IsCrewOf : List TraceRow → LockView Crew → Type 0
+IsCrewOf rows lock = lock.frame.submitters ≡ submitters rows
+
+-- the first submitter knows how many callers there are
+abbrev pub KnowsAll : LockView Crew → ℕ → Submitter → Type 0
+KnowsAll lock j who = j ≡ 0 → who.pass.made + 1 ≡ lock.frame.submitters + lock.frame.config.workers
+
+-- the submitters' tokens that the hands hold, in order
+abbrev pub submitters_in : List (Hand ℕ) → List Submitter
+submitters_in [] = []
+submitters_in (Feed who queue total stopped ∷ hands) = who ∷ submitters_in hands
+submitters_in (Work slot ∷ hands) = submitters_in hands
+
+-- the worker's token of a slot, if it is there, before these
+abbrev pub with_worker : Option Worker → List Worker → List Worker
+with_worker None workers = workers
+with_worker (Some worker) workers = worker ∷ workers
+
+-- the workers' tokens that the hands hold, in order
+abbrev pub workers_in : List (Hand ℕ) → List Worker
+workers_in [] = []
+workers_in (Feed who queue total stopped ∷ hands) = workers_in hands
+workers_in (Work slot ∷ hands) = with_worker slot (workers_in hands)
+
+-- the hand holds a token
+abbrev pub HoldsToken : Hand ℕ → Type 0
+HoldsToken (Feed who queue total stopped) = Unit {0}
+HoldsToken (Work slot) = (worker : Worker) × (slot ≡ Some worker)
+
+module _ (rows : List TraceRow) (lock : LockView Crew) where
+  -- a hand that is to feed the rows of submitter j
+  abbrev pub IsFeedOf : ℕ → Hand ℕ → Type 0
+  IsFeedOf j (Feed who queue total stopped) = IsNew lock j who.pass × AreRowsOf rows j queue.items × (total ≡ length rows)
+      × KnowsAll lock j who
+  IsFeedOf j (Work slot) = ⊥
+
+  -- a hand that is to work as worker i
+  abbrev pub IsWorkOf : ℕ → Hand ℕ → Type 0
+  IsWorkOf i (Feed who queue total stopped) = ⊥
+  IsWorkOf i (Work slot) = (worker : Worker) × (slot ≡ Some worker) × IsNew lock (worker_caller rows i) worker.pass × (worker.worker ≡ i)
+
+  -- the hands of so many submitters, and then those of so many workers
+  pub record AreHands (feeds works : ℕ) (hands : List (Hand ℕ)) : Type 0 where
+    pub first : List (Hand ℕ)
+    pub second : List (Hand ℕ)
+    pub both : hands ≡ first ++ second
+    pub are_feeds : HoldsFrom IsFeedOf 0 first
+    pub are_works : HoldsFrom IsWorkOf 0 second
+    pub feed_count : length first ≡ feeds
+    pub work_count : length second ≡ works
+
+  module _ (refresh : ℕ) (Tells : ℕ → Type 0) where
+    -- submitter j has done its part, and this is its token
+    pub record HasFed (j : ℕ) (ended : Submitter) : Type 0 where
+      pub begun : Submitter
+      pub queue : List (Row ℕ)
+      pub stopped : Option (Row ℕ × Cause)
+      pub rest : List (Row ℕ)
+      pub new : IsNew lock j begun.pass
+      pub queue_is : AreRowsOf rows j queue
+      pub made : KnowsAll lock j ended
+      pub feeds : Feeds (λ n. n) (λ row. row.kind) lock Tells (length rows) queue begun ended stopped rest
+
+    -- worker i has done its part, and this is its token
+    pub record HasWorked (i : ℕ) (ended : Worker) : Type 0 where
+      pub begun : Worker
+      pub new : IsNew lock (worker_caller rows i) begun.pass
+      pub numbered : begun.worker ≡ i
+      pub worked : Worked lock (trace_course refresh rows) work_cost Tells begun ended
+
+    -- the same of hands
+    abbrev pub HasFedHand : ℕ → Hand ℕ → Type 0
+    HasFedHand j (Feed who queue total stopped) = HasFed j who
+    HasFedHand j (Work slot) = ⊥
+
+    abbrev pub HasWorkedHand : ℕ → Hand ℕ → Type 0
+    HasWorkedHand i (Feed who queue total stopped) = ⊥
+    HasWorkedHand i (Work slot) = (worker : Worker) × (slot ≡ Some worker) × HasWorked i worker
+
+    -- the submitters have done their parts, and the workers theirs
+    pub record AreDone (feeds works : ℕ) (hands : List (Hand ℕ)) : Type 0 where
+      pub first : List (Hand ℕ)
+      pub second : List (Hand ℕ)
+      pub both : hands ≡ first ++ second
+      pub have_fed : HoldsFrom HasFedHand 0 first
+      pub have_worked : HoldsFrom HasWorkedHand 0 second
+      pub feed_count : length first ≡ feeds
+      pub work_count : length second ≡ works

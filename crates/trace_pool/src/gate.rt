@@ -1,0 +1,47 @@
+//! The gate of a trace.
+ghost use Rattle.std.specs.Prelude.{◌≡◌, ◌≤◌};
+ghost use Rattle.vt_fixed.specs.declared.limits.TheConstants.{GREATEST_COST};
+ghost use Rattle.pool_laws.specs.PoolEnd.{trace_course};
+ghost use Rattle.trace_runner.specs.Plan.{AreCosts};
+
+use fq_model::trace::TraceRow;
+use std::marker::Model;
+use worker_gate::counters::Counters;
+use worker_gate::gate::{Gate, Slice};
+use worker_gate::steps::Steps;
+
+/// Counts the cost of the row that a job names up, by its step. A job is a row's number.
+#[derive(Drop)]
+pub struct TraceGate<'a> {
+    rows: &'a [TraceRow],
+    refresh: u64,
+    ghost costs: { AreCosts rows.now },
+    ghost low: { refresh ≤ GREATEST_COST },
+}
+
+impl<'a> TraceGate<'a> {
+    /// Counts by steps of `refresh` microseconds at least, or in one step where that is 0.
+    pub fn new(rows: &'a [TraceRow], refresh: u64) -> TraceGate<'a>
+        requires costs { AreCosts rows.now }
+        requires low { refresh ≤ GREATEST_COST }
+        ensures rows { result.rows.now ≡ rows.now }
+        ensures refresh { result.refresh ≡ refresh }
+    {
+        TraceGate { rows, refresh }
+    }
+}
+
+impl<'a> Gate<u64> for TraceGate<'a> {
+    ghost course = { λ gate label. trace_course gate.refresh gate.rows.now label };
+
+    fn slice(&self, job: &u64, k: u32, last: Counters) -> Slice {
+        let row = match usize::try_from(*job) {
+            Ok(number) => self.rows.get(number),
+            Err(_) => None,
+        };
+        match row {
+            Some(row) => Steps::new(self.refresh, row.cost).slice(k, last),
+            None => Slice::End(last),
+        }
+    }
+}

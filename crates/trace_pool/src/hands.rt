@@ -1,0 +1,112 @@
+//! Tokens as hands, and back.
+ghost use Rattle.std.specs.Prelude.{◌≡◌, ◌≤◌, ◌+◌, [], ◌++◌, length, All, vec_capacity};
+ghost use Rattle.fq_model.specs.declared.limits.TheConstants.{MOST_ROWS};
+ghost use Rattle.desk.specs.Opening.{AreSubmitters, AreWorkers, HasMade};
+ghost use Rattle.trace_pool.specs.Parts.{AreRowsOf, IsCrewOf, IsFeedOf, AreHands, HoldsToken, submitters_in, workers_in};
+ghost use Rattle.trace_pool.specs.Places.{HoldsFrom};
+
+use desk::{DeskOf, Floor, Submitter, Worker};
+use fq_model::trace::TraceRow;
+use rival_policies::chooser::Chooser;
+use std::collections::VecDeque;
+use worker_gate::pool::Hand;
+use worker_gate::rows::Row;
+
+/// Each submitter with its rows, and then each worker.
+pub fn hand_out<X: Chooser>(
+    desk: &DeskOf<Floor<u64, X>>,
+    rows: &[TraceRow],
+    queues: Vec<VecDeque<Row<u64>>>,
+    submitters: &mut Vec<Submitter>,
+    workers: &mut Vec<Worker>,
+    hands: &mut Vec<Hand<u64>>,
+)
+    requires rows { (length rows.now ≤ MOST_ROWS) × IsCrewOf rows.now desk.now.lock }
+    requires queues { HoldsFrom (λ j q. AreRowsOf rows.now j q.items) 0 queues.items
+        × (length queues.items ≡ length submitters.old.items) }
+    requires tokens { AreSubmitters desk.now.lock 0 submitters.old.items × AreWorkers desk.now.lock 0 workers.old.items
+        × HasMade (desk.now.lock.frame.submitters + desk.now.lock.frame.config.workers) submitters.old.items }
+    requires room { (hands.old.items ≡ [])
+        × (length submitters.old.items + length workers.old.items ≤ vec_capacity hands.old) }
+    ensures hands { AreHands rows.now desk.now.lock (length submitters.old.items) (length workers.old.items) hands.new.items }
+    ensures submitters { (submitters.new.items ≡ []) × (length submitters.old.items ≤ vec_capacity submitters.new) }
+    ensures workers { (workers.new.items ≡ []) × (length workers.old.items ≤ vec_capacity workers.new) }
+{
+    give_rows(desk, rows, queues, submitters, hands);
+    give_work(desk, rows, workers, hands);
+}
+
+fn give_rows<X: Chooser>(
+    desk: &DeskOf<Floor<u64, X>>,
+    rows: &[TraceRow],
+    mut queues: Vec<VecDeque<Row<u64>>>,
+    submitters: &mut Vec<Submitter>,
+    hands: &mut Vec<Hand<u64>>,
+)
+    requires rows { length rows.now ≤ MOST_ROWS }
+    requires queues { HoldsFrom (λ j q. AreRowsOf rows.now j q.items) 0 queues.items
+        × (length queues.items ≡ length submitters.old.items) }
+    requires tokens { AreSubmitters desk.now.lock 0 submitters.old.items
+        × HasMade (desk.now.lock.frame.submitters + desk.now.lock.frame.config.workers) submitters.old.items }
+    requires room { (hands.old.items ≡ []) × (length submitters.old.items ≤ vec_capacity hands.old) }
+    ensures hands { HoldsFrom (IsFeedOf rows.now desk.now.lock) 0 hands.new.items }
+    ensures count { length hands.new.items ≡ length submitters.old.items }
+    ensures room { vec_capacity hands.new ≡ vec_capacity hands.old }
+    ensures submitters { (submitters.new.items ≡ []) × (length submitters.old.items ≤ vec_capacity submitters.new) }
+{
+    let total = rows.len() as u32;
+    while !submitters.is_empty() {
+        hands.push_reserved(Hand::Feed {
+            who: submitters.remove(0),
+            rows: queues.remove(0),
+            total,
+            stopped: None,
+        });
+    }
+}
+
+fn give_work<X: Chooser>(
+    desk: &DeskOf<Floor<u64, X>>,
+    rows: &[TraceRow],
+    workers: &mut Vec<Worker>,
+    hands: &mut Vec<Hand<u64>>,
+)
+    requires rows { IsCrewOf rows.now desk.now.lock }
+    requires tokens { AreWorkers desk.now.lock 0 workers.old.items }
+    requires room { length hands.old.items + length workers.old.items ≤ vec_capacity hands.old }
+    requires feeds { HoldsFrom (IsFeedOf rows.now desk.now.lock) 0 hands.old.items }
+    ensures hands { AreHands rows.now desk.now.lock (length hands.old.items) (length workers.old.items) hands.new.items }
+    ensures workers { (workers.new.items ≡ []) × (length workers.old.items ≤ vec_capacity workers.new) }
+{
+    while !workers.is_empty() {
+        hands.push_reserved(Hand::Work(Some(workers.remove(0))));
+    }
+}
+
+/// Gives all tokens back, in their order.
+pub fn take_back(
+    hands: &mut Vec<Hand<u64>>,
+    submitters: &mut Vec<Submitter>,
+    workers: &mut Vec<Worker>,
+)
+    requires tokens { All HoldsToken hands.old.items }
+    requires submitters { (submitters.old.items ≡ [])
+        × (length (submitters_in hands.old.items) ≤ vec_capacity submitters.old) }
+    requires workers { (workers.old.items ≡ []) × (length (workers_in hands.old.items) ≤ vec_capacity workers.old) }
+    ensures hands { hands.new.items ≡ [] }
+    ensures submitters { submitters.new.items ≡ submitters_in hands.old.items }
+    ensures workers { workers.new.items ≡ workers_in hands.old.items }
+{
+    while !hands.is_empty() {
+        match hands.remove(0) {
+            Hand::Feed {
+                who,
+                rows: _,
+                total: _,
+                stopped: _,
+            } => submitters.push_reserved(who),
+            Hand::Work(Some(worker)) => workers.push_reserved(worker),
+            Hand::Work(None) => unreachable!(),
+        }
+    }
+}
