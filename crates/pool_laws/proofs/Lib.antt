@@ -3,4 +3,7 @@ pub mod Moments
 pub mod Parts
 pub mod Sums
 pub mod Balance
+pub mod Rows
+pub mod Runs
+pub mod Submitted
 pub mod Ends
