@@ -6,4 +6,7 @@ pub mod Balance
 pub mod Rows
 pub mod Runs
 pub mod Submitted
+pub mod Labels
+pub mod Fed
+pub mod Room
 pub mod Ends
