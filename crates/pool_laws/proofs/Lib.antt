@@ -9,4 +9,8 @@ pub mod Submitted
 pub mod Labels
 pub mod Fed
 pub mod Room
+pub mod Refused
+pub mod Closed
+pub mod Serving
+pub mod Served
 pub mod Ends

@@ -61,10 +61,10 @@ module _ (T : Trace) (O : RunOptions) (Tells : ℕ → Type 0) (H : History) whe
   whole_sum f p = sum_parts f H (submitters T.rows + O.workers) p.no_other
 
   -- and so is its sum over the history
-  submitters_sum : (f : Act → ℕ) → ((i : ℕ) → MakesNothing f i) → PoolParts T O Tells H → act_sum f (acts H) ≡ sum_below (own_sum f H) (submitters T.rows)
+  pub submitters_sum : (f : Act → ℕ) → ((i : ℕ) → MakesNothing f i) → PoolParts T O Tells H → act_sum f (acts H) ≡ sum_below (own_sum f H) (submitters T.rows)
   submitters_sum f nothing p = whole_sum f p ∙ sum_cut (own_sum f H) (submitters T.rows) O.workers (no_worker_sum f nothing p)
 
-  none_submitted : (g : Request → ℕ) (i : ℕ) → MakesNothing (submit_weight g) i
+  pub none_submitted : (g : Request → ℕ) (i : ℕ) → MakesNothing (submit_weight g) i
   none_submitted g i = record { takes = λ r estimate. refl; reports = λ r used. refl; dones = λ r cost. refl }
 
   -- what is made of the requests that are submitted is at most what is made of all rows
