@@ -1,5 +1,5 @@
 -- How many entries a legal history has, and what its Takes come to.
-use Rattle.std.proofs.Common.{◌≡◌, ◌≢◌, ◌<◌, ◌≤◌, ◌+◌, ◌*◌, ◌^◌, ◌==◌, ◌||◌, ◌&&◌, ℕ, zero, suc, Bool, true, false, not, cond, List, [], ◌∷◌, ◌++◌, map, length, refl, sym, ap, ◌∙◌, subst, arith, inl, inr, Option, Some, None}
+use Rattle.std.proofs.Common.{◌≡◌, ◌<◌, ◌≤◌, ◌+◌, ◌*◌, ◌^◌, ◌==◌, ℕ, suc, true, false, cond, [], ◌∷◌, ◌++◌, length, refl, sym, arith, Option, Some, None, if◌then◌else◌}
 use Rattle.std.proofs.lemmas.Bool.{eq-eqb, ne_eqb, or_parts, or_left, and_left, and_right, and_from, not_from_false, false≢true}
 use Rattle.fq_model.specs.declared.config.Config.{Config}
 use Rattle.fq_model.specs.declared.event.Act.{Act}
@@ -139,19 +139,16 @@ asked_within_history C (e ∷ newer) P r q l h = asked_stays C (newer ++ P) e r 
 
 -- ---- a history closes once
 
--- what is closed has no Submit after it, and no Close
-pub closes_once : (C : Config) (P : History) → IsLegal C P → count_acts is_close P ≤ 1
-unfolding is_closed
-closes_once C [] l = omega arith
-closes_once C (e ∷ P) l = at_close e.act l.3 (closes_once C P l.0)
-  where
-    none : has_act is_close P ≡ false → count_acts is_close P ≡ 0
-    none h = count_none P h
-      where
-        count_none : (Q : History) → has_act is_close Q ≡ false → count_acts is_close Q ≡ 0
-        count_none [] k = refl
-        count_none (x ∷ Q) k = let y = or_parts (is_close x.act) (has_act is_close Q) k in rw (y.0, count_none Q y.1) refl
+none_counted : (P : History) → has_act is_close P ≡ false → count_acts is_close P ≡ 0
+none_counted [] h = refl
+none_counted (e ∷ P) h = let x = or_parts (is_close e.act) (has_act is_close P) h in rw (x.0, none_counted P x.1) refl
 
-    at_close : (a : Act) → Fits C P e.moment a → count_acts is_close P ≤ 1 → (Rattle.std.proofs.Common.if◌then◌else◌ (is_close a) (suc (count_acts is_close P)) (count_acts is_close P)) ≤ 1
-    at_close Close f ih = rw (none f) (omega arith)
-    at_close _ f ih = ih
+close_at : (C : Config) (P : History) (m : ℕ) (a : Act) → Fits C P m a → count_acts is_close P ≤ 1 → (if is_close a then suc (count_acts is_close P) else count_acts is_close P) ≤ 1
+unfolding is_closed
+close_at C P m Close f ih = rw (none_counted P f) (omega arith)
+close_at C P m _ f ih = ih
+
+-- there is one Close at most
+pub closes_once : (C : Config) (P : History) → IsLegal C P → count_acts is_close P ≤ 1
+closes_once C [] l = omega arith
+closes_once C (e ∷ P) l = close_at C P e.moment e.act l.3 (closes_once C P l.0)

@@ -21,7 +21,7 @@ use Rattle.worker_gate.specs.Feeding.{Splits, is_last_submit}
 use Rattle.pool_laws.specs.PoolEnd.{row_asks}
 use Rattle.pool_laws.proofs.Balance.{closes_once}
 use Rattle.pool_laws.proofs.Callers.{has_owner}
-use Rattle.pool_laws.proofs.Fed.{no_worker_does}
+use Rattle.pool_laws.proofs.Absent.{no_worker_does}
 use Rattle.pool_laws.proofs.Parts.{Sees, PoolParts}
 use Rattle.pool_laws.proofs.Refused.{never_stopped}
 use Rattle.pool_laws.proofs.Rows.{from_sum, from_parts, rows_count}

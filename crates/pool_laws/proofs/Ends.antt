@@ -4,7 +4,7 @@ use Rattle.fq_model.specs.History.{history_of}
 use Rattle.pool_laws.specs.Laws.{PoolHistoryIs, PoolMomentsAre}
 use Rattle.pool_laws.proofs.Callers.{all_known}
 use Rattle.pool_laws.proofs.Closed.{is_fed, is_closed_once}
-use Rattle.pool_laws.proofs.Fed.{no_change}
+use Rattle.pool_laws.proofs.Absent.{no_change}
 use Rattle.pool_laws.proofs.Parts.{pool_parts, parts_told}
 use Rattle.pool_laws.proofs.Served.{is_served}
 use Rattle.pool_laws.proofs.Serving.{is_serving}

@@ -85,8 +85,9 @@ abbrev pub AllRunRows : Trace → RunOptions → History → List JobRun → Typ
 AllRunRows T O H [] = Unit {0}
 AllRunRows T O H (run ∷ runs) = RunRow T O H run × AllRunRows T O H runs
 
-told_so : (T : Trace) (refresh : ℕ) (o : Option TraceRow) (row : TraceRow) (label : ℕ) (run : JobRun) → slice_get T.rows label ≡ Some row → IsAsTold work_cost (trace_course refresh T.rows label) run → FollowsCourse work_cost (step_course (step_of refresh row.cost) row.cost) run
-told_so T refresh o row label run is h = rw is at h
+-- a label that names a row tells the row's course
+told_so : (T : Trace) (refresh : ℕ) (row : TraceRow) (label : ℕ) (run : JobRun) → slice_get T.rows label ≡ Some row → IsAsTold work_cost (trace_course refresh T.rows label) run → FollowsCourse work_cost (step_course (step_of refresh row.cost) row.cost) run
+told_so T refresh row label run is h = rw is at h
 
 module _ (T : Trace) (O : RunOptions) (Tells : ℕ → Type 0) (H : History) (p : PoolParts T O Tells H) where
   asked_in_all : (j : ℕ) (seen : History) (r : ℕ) (q : Request) → Sees H j seen → request_at seen r ≡ Some q → request_at H r ≡ Some q
@@ -102,7 +103,7 @@ module _ (T : Trace) (O : RunOptions) (Tells : ℕ → Type 0) (H : History) (p 
         asked_is = is;
         row = x.0;
         row_is = x.1;
-        follows = told_so T O.refresh None x.0 run.label run (ap (slice_get T.rows) (sym w.labelled.2) ∙ x.1) w.follows;
+        follows = told_so T O.refresh x.0 run.label run (ap (slice_get T.rows) (sym w.labelled.2) ∙ x.1) w.follows;
       }
 
   pub run_rows : (j : ℕ) (seen : List Entry) (runs : List JobRun) → Sees H j (history_of seen) → AreRuns (pool_config T O) (trace_course O.refresh T.rows) work_cost seen runs → AllRunRows T O H runs

@@ -7,7 +7,7 @@ pub mod Rows
 pub mod Runs
 pub mod Submitted
 pub mod Labels
-pub mod Fed
+pub mod Absent
 pub mod Room
 pub mod Refused
 pub mod Closed

@@ -27,7 +27,7 @@ use Rattle.worker_gate.specs.declared.rows.Row.{Row}
 use Rattle.worker_gate.specs.Feeding.{Splits, IsRefused, ClosesAt, is_last_submit}
 use Rattle.pool_laws.specs.PoolEnd.{row_asks}
 use Rattle.pool_laws.proofs.Callers.{has_own}
-use Rattle.pool_laws.proofs.Fed.{nobody_does}
+use Rattle.pool_laws.proofs.Absent.{nobody_does}
 use Rattle.pool_laws.proofs.Parts.{PoolParts}
 use Rattle.pool_laws.proofs.Room.{Front, front, reports_at_most}
 use Rattle.pool_laws.proofs.Submitted.{IsStopped, submits_lower}

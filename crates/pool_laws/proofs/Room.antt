@@ -1,9 +1,9 @@
 -- A pool has room for all Reports of its rows.
-use Rattle.std.proofs.Common.{◌≡◌, ◌<◌, ◌≤◌, ◌+◌, ◌*◌, ◌⊎◌, max, ℕ, zero, suc, Bool, true, false, List, [], ◌∷◌, ◌++◌, length, refl, sym, ap, ◌∙◌, subst, arith, inl, inr}
+use Rattle.std.proofs.Common.{◌≡◌, ◌<◌, ◌≤◌, ◌+◌, ℕ, List, ◌++◌, sym, ap, ◌∙◌, subst, arith, inl, inr, append_assoc}
 use Rattle.fq_model.specs.declared.event.Entry.{Entry}
 use Rattle.fq_model.specs.declared.trace.RunOptions.{RunOptions}
 use Rattle.fq_model.specs.Courses.{submitters, worker_caller, sum_over}
-use Rattle.fq_model.specs.History.{History, history_of, submits, count_acts, is_close}
+use Rattle.fq_model.specs.History.{History, history_of, submits, count_acts, is_close, has_act, is_change}
 use Rattle.fq_model.specs.Limits.{InLimits}
 use Rattle.fq_model.specs.PoolHistory.{pool_config, row_reports}
 use Rattle.fq_model.specs.Rules.{IsLegal}
@@ -11,12 +11,13 @@ use Rattle.fq_model.specs.Trace.{Trace}
 use Rattle.worker_gate.specs.Running.{LackedRoom}
 use Rattle.pool_laws.proofs.Balance.{Balanced, balanced, reports, legal_older, closes_once, taken_covered, asked_sum}
 use Rattle.pool_laws.proofs.Callers.{front_turns, who_is}
-use Rattle.pool_laws.proofs.Fed.{no_change, no_reports}
+use Rattle.pool_laws.proofs.Absent.{no_change, no_reports}
 use Rattle.pool_laws.proofs.Labels.{label_reports, number_reports, reports_of_rows, run_rows, runs_where_room, few_uses}
 use Rattle.pool_laws.proofs.Parts.{acts, Sees, PoolParts, WorkPart}
 use Rattle.pool_laws.proofs.Runs.{AllKept, all_kept_or_lacks, reports_low, runs_reports, runs_takes}
 use Rattle.pool_laws.proofs.Submitted.{submits_low, whole_sum}
 use Rattle.pool_laws.proofs.Sums.{act_sum, own_sum, sum_within, sums_rise, sums_rise_at, none_within, submits_are, submit_weight, take_weight, report_weight, one_each}
+use Rattle.fq_model.specs.Outcome.{own_entries}
 
 -- a history that the whole one begins with: how many entries it has, and that it has no more of each kind
 pub record Front (T : Trace) (O : RunOptions) (H P : History) : Type 0 where
@@ -34,7 +35,7 @@ module _ (T : Trace) (O : RunOptions) (Tells : ℕ → Type 0) (H : History) (li
       let same_reports : reports H ≡ reports (newer ++ P) = ap reports is in
       record {
         legal = legal;
-        balance = balanced (pool_config T O) P lim legal (none_within Rattle.fq_model.specs.History.is_change newer P (ap (Rattle.fq_model.specs.History.has_act Rattle.fq_model.specs.History.is_change) (sym is) ∙ no_change T O Tells H p));
+        balance = balanced (pool_config T O) P lim legal (none_within is_change newer P (ap (has_act is_change) (sym is) ∙ no_change T O Tells H p));
         fewer_submits = omega (arith, same, submits_are H, submits_are P, sum_within (submit_weight one_each) newer P);
         fewer_reports = omega (arith, same_reports, sum_within report_weight newer P);
         closes = closes_once (pool_config T O) P legal;
@@ -50,7 +51,7 @@ module _ (T : Trace) (O : RunOptions) (Tells : ℕ → Type 0) (H : History) (li
 
   own_reports_low : (j : ℕ) → own_sum report_weight H j ≤ taken j
   own_reports_low j = elim (who_is (submitters T.rows) O.workers j) [
-    | inl h ↦ omega (arith, no_reports (Rattle.fq_model.specs.Outcome.own_entries H j) (p.fed j h).feed.no_other)
+    | inl h ↦ omega (arith, no_reports (own_entries H j) (p.fed j h).feed.no_other)
     | inr other ↦ elim other [
       | inl x ↦ (let w = p.served x.0 x.1 in subst (λ n. own_sum report_weight H n ≤ taken n) (sym x.2) (served_low x.0 w))
       | inr h ↦ (let e : own_sum report_weight H j ≡ 0 = ap (λ P. act_sum report_weight (acts P)) (p.no_other j h) in omega (arith, e))
@@ -77,7 +78,7 @@ module _ (T : Trace) (O : RunOptions) (Tells : ℕ → Type 0) (H : History) (li
   never_lacks j seen s lacked few =
       let P : History = history_of lacked.0 in
       let x = front_turns lacked.0 seen lacked.1 in
-      let begins : H ≡ (s.newer ++ x.0) ++ P = s.begins ∙ (ap (λ Q. s.newer ++ Q) x.1 ∙ sym (Rattle.std.proofs.Common.append_assoc s.newer x.0 P)) in
+      let begins : H ≡ (s.newer ++ x.0) ++ P = s.begins ∙ (ap (λ Q. s.newer ++ Q) x.1 ∙ sym (append_assoc s.newer x.0 P)) in
       let f = front_of (s.newer ++ x.0) P begins in
       omega (arith, f.balance, f.fewer_submits, f.fewer_reports, f.closes, submits_low T O Tells H p, lacked.2)
 

@@ -1,11 +1,11 @@
 -- Each request of a pool is taken once, and done.
-use Rattle.std.proofs.Common.{◌≡◌, ◌<◌, ◌≤◌, ◌+◌, ◌==◌, ◌||◌, ◌&&◌, ◌^◌, ◌⊎◌, ℕ, zero, suc, Bool, true, false, not, List, [], ◌∷◌, ◌++◌, refl, sym, ap, ◌∙◌, subst, arith, inl, inr, Option, Some, None}
+use Rattle.std.proofs.Common.{◌≡◌, ◌<◌, ◌≤◌, ◌==◌, ◌^◌, ℕ, Bool, true, false, not, [], ◌∷◌, ◌++◌, refl, sym, ap, ◌∙◌, subst, arith, inl, inr, Option, Some, None, if◌then◌else◌}
 use Rattle.std.specs.Prelude.{nat_le, MatchBool}
 use Rattle.std.proofs.lemmas.Bool.{cases_Bool, eqb-true, or_cases, or_parts, both_ways, false≢true, and_from, not_from_false}
 use Rattle.std.proofs.lemmas.Bool.Decides.{nat_tests}
 use Rattle.fq_model.specs.declared.config.Config.{Config}
 use Rattle.fq_model.specs.declared.event.Act.{Act}
-use Rattle.fq_model.specs.declared.event.Act.TheVariants.{Submit, Workers}
+use Rattle.fq_model.specs.declared.event.Act.TheVariants.{Submit, Workers, Take}
 use Rattle.fq_model.specs.declared.event.Cause.{Cause}
 use Rattle.fq_model.specs.declared.event.Reply.{Reply}
 use Rattle.fq_model.specs.declared.event.Reply.TheVariants as answer
@@ -23,7 +23,7 @@ use Rattle.fq_laws.proofs.History.Once.{taken_once}
 use Rattle.worker_gate.specs.Running.{EndsWork, with_runs}
 use Rattle.pool_laws.proofs.Balance.{legal_older}
 use Rattle.pool_laws.proofs.Callers.{has_own, has_owner, who_is}
-use Rattle.pool_laws.proofs.Fed.{is_other, no_change}
+use Rattle.pool_laws.proofs.Absent.{is_other, no_change}
 use Rattle.pool_laws.proofs.Parts.{WorkPart, PoolParts}
 use Rattle.pool_laws.proofs.Runs.{taken_done}
 use Rattle.pool_laws.proofs.Sums.{any_act, counted, has_is, has_less, has_within, none_within}
@@ -43,11 +43,11 @@ pool_same C (e ∷ P) h = let x = or_parts (is_change e.act) (has_act is_change 
 abbrev IsOver : History → Type 0
 IsOver P = (waiting P ≡ 0) × (is_closed P ≡ true)
 
-over_closed : (P : History) (reply : Reply) (b : Bool) → is_closed P ≡ b → reply ≡ (Rattle.std.proofs.Common.if◌then◌else◌ b answer.Drained answer.Idle) → EndsWork reply → is_closed P ≡ true
+over_closed : (P : History) (reply : Reply) (b : Bool) → is_closed P ≡ b → reply ≡ (if b then answer.Drained else answer.Idle) → EndsWork reply → is_closed P ≡ true
 over_closed P reply true e is ends = e
 over_closed P reply false e is ends = absurd (subst EndsWork is ends)
 
-over_pooled : (C : Config) (P : History) (who m i : ℕ) (reply : Reply) (b : Bool) → (waiting P == 0) ≡ b → MatchBool b ((reply ≡ (Rattle.std.proofs.Common.if◌then◌else◌ (is_closed P) answer.Drained answer.Idle)) × (P ≡ P)) (RunsChosen C P who m i reply P) → EndsWork reply → IsOver P
+over_pooled : (C : Config) (P : History) (who m i : ℕ) (reply : Reply) (b : Bool) → (waiting P == 0) ≡ b → MatchBool b ((reply ≡ (if is_closed P then answer.Drained else answer.Idle)) × (P ≡ P)) (RunsChosen C P who m i reply P) → EndsWork reply → IsOver P
 over_pooled C P who m i reply true e h ends = (eqb-true (waiting P) 0 e, over_closed P reply (is_closed P) refl h.0 ends)
 over_pooled C P who m i reply false e h ends = absurd (subst EndsWork h.accepted.0 ends)
 
@@ -106,7 +106,7 @@ module _ (T : Trace) (O : RunOptions) (Tells : ℕ → Type 0) (H : History) (ra
       ap (has_act (is_take_of r)) w.sees.begins ∙ has_within (is_take_of r) w.sees.newer P taken
 
   take_other : (r : ℕ) (a : Act) → is_take_of r a ≡ true → is_other a ≡ true
-  take_other r (Rattle.fq_model.specs.declared.event.Act.TheVariants.Take worker request estimate) h = refl
+  take_other r (Take worker request estimate) h = refl
   take_other r _ h = absurd (false≢true h)
 
   -- whoever has taken a request has done it

@@ -15,7 +15,7 @@ use Rattle.worker_gate.specs.declared.counters.Counters.{Counters}
 use Rattle.worker_gate.specs.Rules.{work_cost}
 use Rattle.worker_gate.specs.Running.{Use, JobRun, with_uses, with_run, with_runs, uses_after, FollowsCourse}
 use Rattle.worker_gate.specs.Slices.{counters_after}
-use Rattle.worker_gate.specs.Stepping.{step_course, step_counters, CountsUp}
+use Rattle.worker_gate.specs.Stepping.{step_course, CountsUp, work_only}
 use Rattle.worker_gate.proofs.Stepping.{course_counters, steps_count_up}
 use Rattle.pool_laws.proofs.Labels.{AllRunRows, follows_few, run_rows}
 use Rattle.pool_laws.proofs.Parts.{PoolParts}
@@ -42,7 +42,7 @@ uses_reported course step i r (suc k) (u ∷ uses) older kept are at =
 -- the use that is reported after slice n is so many steps
 use_at : (step cost n : ℕ) → cost ≤ GREATEST_COST → CountsUp step cost → n < reports_below step cost → work_cost (counters_after (step_course step cost) n) ≡ suc n * step
 use_at step cost n high c h =
-    let is : counters_after (step_course step cost) n ≡ Rattle.worker_gate.specs.Stepping.work_only (suc n * step) = c.reported n h in
+    let is : counters_after (step_course step cost) n ≡ work_only (suc n * step) = c.reported n h in
     let low : min cost (suc n * step) ≡ suc n * step = ap (λ x. x.work) (sym (course_counters step cost n (omega arith)) ∙ is) in
     ap work_cost is ∙ omega (arith, low, high)
 
@@ -50,7 +50,7 @@ run_acts : (i : ℕ) (step cost : ℕ) (run : JobRun) (older : List Act) → cos
 run_acts i step cost run older high c f kept =
     let r : ℕ = run.request in
     let k : ℕ = reports_below step cost in
-    let whole : work_cost (Rattle.worker_gate.specs.Stepping.work_only cost) ≡ cost = omega (arith, high) in
+    let whole : work_cost (work_only cost) ≡ cost = omega (arith, high) in
     let paid : run.cost ≡ cost = f.cost_is ∙ (ap work_cost c.total_is ∙ whole) in
     let used : map (λ u. u.used) run.uses ≡ uses_after work_cost (step_course step cost) k = f.uses_are ∙ ap (uses_after work_cost (step_course step cost)) (follows_few step cost run f) in
     let reported : with_uses i r run.uses (Take i r run.estimate ∷ older) ≡ with_reports i r step k (Take i r run.estimate ∷ older) = uses_reported (step_course step cost) step i r k run.uses (Take i r run.estimate ∷ older) kept used (λ n h. use_at step cost n high c h) in

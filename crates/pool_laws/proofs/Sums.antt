@@ -1,6 +1,6 @@
 -- Sums over the acts of a history, and over its callers.
 use Rattle.std.proofs.Common.{◌≡◌, ◌≢◌, ◌<◌, ◌≤◌, ◌+◌, ◌||◌, ℕ, zero, suc, Bool, true, false, List, [], ◌∷◌, ◌++◌, reverse, refl, sym, ap, ◌∙◌, arith, inl, inr}
-use Rattle.std.proofs.lemmas.Bool.{cases_eq, cases_Bool, or_parts, or_from, false≢true, false_from_ne_true, both_ways, or_cases, or_left, or_right}
+use Rattle.std.proofs.lemmas.Bool.{cases_eq, cases_Bool, or_parts, or_from, false≢true, false_from_ne_true, both_ways, or_right, cases_lt}
 use Rattle.std.proofs.lemmas.List.{reverse-append}
 use Rattle.fq_model.specs.declared.event.Act.{Act}
 use Rattle.fq_model.specs.declared.event.Act.TheVariants.{Submit, Take, Report}
@@ -39,7 +39,7 @@ sum_parts f (e ∷ P) n none =
     omega (arith, older, more, sum_here f e P e.who refl)
   where
     below : (j : ℕ) → e.who ≡ j → j < n
-    below j by = elim (Rattle.std.proofs.lemmas.Bool.cases_lt j n) [ inl h ↦ h | inr h ↦ absurd (not_by e P j (none j h) by) ]
+    below j by = elim (cases_lt j n) [ inl h ↦ h | inr h ↦ absurd (not_by e P j (none j h) by) ]
 
 pub sum_within : (f : Act → ℕ) (newer P : History) → act_sum f (acts P) ≤ act_sum f (acts (newer ++ P))
 sum_within f [] P = omega arith
