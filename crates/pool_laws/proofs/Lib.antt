@@ -1,0 +1,16 @@
+pub mod Callers
+pub mod Moments
+pub mod Parts
+pub mod Sums
+pub mod Balance
+pub mod Rows
+pub mod Runs
+pub mod Submitted
+pub mod Labels
+pub mod Absent
+pub mod Room
+pub mod Refused
+pub mod Closed
+pub mod Serving
+pub mod Served
+pub mod Ends
