@@ -1,7 +1,7 @@
 //! How a desk ends.
 ghost use Rattle.std.specs.Prelude.{◌≡◌, ◌≢◌, IfOk, IfErr, IsOk};
 ghost use Rattle.history_lock.specs.Passes.{IsOf, HasNoneAbove};
-ghost use Rattle.desk.specs.Ending.{Each, HasJoined, AreOf, HasAll, AreAll, first_made};
+ghost use Rattle.desk.specs.Ending.{HoldsOfEach, HasJoined, AreOf, HasAll, AreAll, first_made};
 
 use crate::desk::DeskOf;
 use crate::floor::{Crew, Floor};
@@ -18,7 +18,7 @@ fn join_submitters<J: Job + Drop, X: Chooser>(
 )
     requires own { IsOf lock.now first.old }
     requires number { first.old.number ≡ 0 }
-    requires tokens { Each (λ t. IsOf lock.now t.pass) tokens.items }
+    requires tokens { HoldsOfEach (λ t. IsOf lock.now t.pass) tokens.items }
     ensures { HasJoined lock.now (λ t. t.pass) first.old tokens.items first.new }
 {
     while let Some(token) = tokens.pop() {
@@ -35,7 +35,7 @@ fn join_workers<J: Job + Drop, X: Chooser>(
 )
     requires own { IsOf lock.now first.old }
     requires number { first.old.number ≡ 0 }
-    requires tokens { Each (λ t. IsOf lock.now t.pass) tokens.items }
+    requires tokens { HoldsOfEach (λ t. IsOf lock.now t.pass) tokens.items }
     ensures { HasJoined lock.now (λ t. t.pass) first.old tokens.items first.new }
 {
     while let Some(token) = tokens.pop() {
