@@ -7,11 +7,13 @@ use Rattle.fq_model.specs.declared.event.Entry.{Entry}
 use Rattle.fq_model.specs.Outcome.{own_entries}
 use Rattle.history_lock.specs.Histories.{IsPrefix}
 use Rattle.history_lock.specs.Passes.{LockView, PassView, IsOf, HasEnded, AllEnded}
+use Rattle.history_lock.specs.Last.{WasLast}
 use Rattle.history_lock.proofs.Histories.{prefix_through}
 use Rattle.desk.specs.declared.floor.Crew.{Crew}
+use Rattle.desk.specs.Floors.{FloorView, crew_of}
 use Rattle.desk.specs.declared.tokens.Submitter.{Submitter}
 use Rattle.desk.specs.declared.tokens.Worker.{Worker}
-use Rattle.desk.specs.Ending.{HoldsOfEach, HoldsOfSome, IsFirst, IsIn, HasAll, AreAll, IsTaken, HasJoined}
+use Rattle.desk.specs.Ending.{HoldsOfEach, HoldsOfSome, IsFirst, IsIn, HasAll, AreAll, IsTaken, HasJoined, LastMoment}
 
 module _ {A : Type 0} where
   pub each_front : (Holds : A → Type 0) (xs ys : List A) → HoldsOfEach Holds (xs ++ ys) → HoldsOfEach Holds xs
@@ -94,3 +96,6 @@ module _ (lock : LockView Crew) (t : Submitter) (rest : List Submitter) (workers
 
   pub all_ended : t.pass.number ≡ 0 → AreAll (t ∷ rest) workers → AllEnded w.made w.ended
   all_ended zeroth all n low high = of_either n low zeroth (all n low (omega (arith, high, two.made, one.made)))
+
+  pub last_moment : (J : Type 0) (drawn served : ℕ) → WasLast (λ (f : FloorView J). f.scheduler.past) crew_of lock.frame w drawn served → LastMoment J lock (t ∷ rest) workers drawn served
+  last_moment J drawn served last = record { pass = w; taken = (v, one, two); last = last }

@@ -6,9 +6,11 @@ use Rattle.fq_model.specs.declared.event.Entry.{Entry}
 use Rattle.fq_model.specs.Outcome.{own_entries}
 use Rattle.history_lock.specs.Histories.{IsPrefix}
 use Rattle.history_lock.specs.Passes.{LockView, PassView, IsOf}
+use Rattle.history_lock.specs.Last.{WasLast}
 use Rattle.desk.specs.declared.floor.Crew.{Crew}
 use Rattle.desk.specs.declared.tokens.Submitter.{Submitter}
 use Rattle.desk.specs.declared.tokens.Worker.{Worker}
+use Rattle.desk.specs.Floors.{FloorView, crew_of}
 
 -- it holds of each
 abbrev pub HoldsOfEach : {A : Type 0} → (A → Type 0) → List A → Type 0
@@ -63,3 +65,17 @@ pub record HasJoined {A : Type 0} (lock : LockView Crew) (pass_of : A → PassVi
   pub more : List (ℕ × List Entry)
   pub ended : new.ended ≡ old.ended ++ more
   pub taken : HoldsOfEach (λ t. IsTaken new (pass_of t)) tokens
+
+-- the first submitter's pass, after it has taken in those of the other submitters and then those of the workers
+abbrev pub HasTakenIn : LockView Crew → List Submitter → List Worker → PassView Crew → Type 0
+HasTakenIn lock [] workers pass = ⊥
+HasTakenIn lock (token ∷ tokens) workers pass = (between : PassView Crew)
+    × HasJoined lock (λ (t : Submitter). t.pass) token.pass tokens between
+    × HasJoined lock (λ (t : Worker). t.pass) between workers pass
+
+-- The last moment of a desk's lock, when no call is under way: the pass that took in all that were handed in is one of its views,
+-- and so many turns were drawn and so many served, modulo 2^64. J is what contracts see of a job
+pub record LastMoment (J : Type 0) (lock : LockView Crew) (submitters : List Submitter) (workers : List Worker) (drawn served : ℕ) : Type 0 where
+  pub pass : PassView Crew
+  pub taken : HasTakenIn lock submitters workers pass
+  pub last : WasLast (λ (f : FloorView J). f.scheduler.past) crew_of lock.frame pass drawn served

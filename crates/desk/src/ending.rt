@@ -1,7 +1,7 @@
 //! How a desk ends.
-ghost use Rattle.std.specs.Prelude.{◌≡◌, ◌≢◌, IfOk, IfErr, IsOk};
+ghost use Rattle.std.specs.Prelude.{◌≡◌, ◌≢◌, ℕ, IfOk, IfErr, IsOk};
 ghost use Rattle.history_lock.specs.Passes.{IsOf, HasNoneAbove};
-ghost use Rattle.desk.specs.Ending.{HoldsOfEach, HasJoined, AreOf, HasAll, AreAll, first_made};
+ghost use Rattle.desk.specs.Ending.{HoldsOfEach, HasJoined, AreOf, HasAll, AreAll, LastMoment, first_made};
 
 use crate::desk::DeskOf;
 use crate::floor::{Crew, Floor};
@@ -47,7 +47,8 @@ fn join_workers<J: Job + Drop, X: Chooser>(
 
 impl<J: Job + Drop, X: Chooser + Drop> DeskOf<Floor<J, X>> {
     /// Ends the desk, and gives its scheduler where every turn that was drawn was served; else the scheduler is given up. So
-    /// it is given where all tokens of the desk are handed in. The first submitter is the one of number 0.
+    /// it is given where all tokens of the desk are handed in. The first submitter is the one of number 0. Both counts are
+    /// those of the lock's last moment, modulo 2^64.
     pub fn finish(
         self,
         mut submitters: Vec<Submitter>,
@@ -58,7 +59,10 @@ impl<J: Job + Drop, X: Chooser + Drop> DeskOf<Floor<J, X>> {
         ensures above { IfOk result (λ s. HasNoneAbove s.past (first_made submitters.items)) }
         ensures config { IfOk result (λ s. s.config ≡ self.lock.frame.config) }
         ensures settled { AreAll submitters.items workers.items → IsOk result }
-        ensures counts { IfErr result (λ u. u.drawn ≢ u.served) }
+        ensures exact { (drawn : ℕ) × (served : ℕ)
+            × LastMoment J self.lock submitters.items workers.items drawn served
+            × IfOk result (λ s. drawn ≡ served)
+            × IfErr result (λ u. (u.drawn ≡ drawn) × (u.served ≡ served) × (drawn ≢ served)) }
     {
         let DeskOf { lock } = self;
         let Submitter { pass: mut first } = submitters.remove(0);
