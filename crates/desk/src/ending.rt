@@ -64,7 +64,7 @@ impl<J: Job + Drop, X: Chooser + Drop> DeskOf<Floor<J, X>> {
             × IfOk result (λ s. drawn ≡ served)
             × IfErr result (λ u. (u.drawn ≡ drawn) × (u.served ≡ served) × (drawn ≢ served)) }
     {
-        let DeskOf { lock } = self;
+        let DeskOf { lock, bell: _ } = self;
         let Submitter { pass: mut first } = submitters.remove(0);
         join_submitters(&lock, &mut first, submitters);
         join_workers(&lock, &mut first, workers);

@@ -4,6 +4,7 @@ ghost use Rattle.fq_model.specs.Limits.{InLimits, is_outside};
 ghost use Rattle.desk.specs.declared.desk.TheConstants.{MOST_SUBMITTERS};
 ghost use Rattle.desk.specs.Opening.{IsSplit, IsFresh, AreSubmitters, AreWorkers, AreTokens, IsOutside};
 
+use crate::bell::Bell;
 use crate::desk::{DeskOf, MOST_SUBMITTERS};
 use crate::floor::{Crew, Floor};
 use crate::refusals::OpenFault;
@@ -117,6 +118,7 @@ impl<J: Job + Drop, X: Chooser + Drop> DeskOf<Floor<J, X>> {
         split_workers(&lock, &mut zero, &mut second, staff);
         let placed = first.insert(0, Submitter { pass: zero });
         let Ok(()) = placed else { unreachable!() };
-        Ok((DeskOf { lock }, first, second))
+        let bell = Bell::new();
+        Ok((DeskOf { lock, bell }, first, second))
     }
 }
