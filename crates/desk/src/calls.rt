@@ -33,7 +33,8 @@ impl<J: Job + Drop, X: Chooser> DeskOf<Floor<J, X>> {
         requires { IsOf self.now.lock who.old.pass }
         ensures stays { Stays self.now.lock who.old.pass who.new.pass }
         ensures answers { IsAnswered self.now.lock.frame who.old.pass
-            (call.Submit who.old.pass.number moment tenant kind declared (J.label_of job)) (submit_reply result) who.new.pass }
+            (call.Submit who.old.pass.number moment tenant kind declared (J.label_of job)) (submit_reply result)
+            who.new.pass }
         ensures job_back { IfErr result (λ r. r.job ≡ job) }
     {
         let ask = Ask::Submit {
@@ -133,8 +134,9 @@ impl<J: Job + Drop, X: Chooser> DeskOf<Floor<J, X>> {
     }
 
     /// Returns at once where there was news after this was noted, and sleeps until there is some where not. News is an
-    /// accepted submission, which wakes one sleeper, an accepted close and an accepted number of workers, which wake all.
-    /// It is for workers that were told Idle since they noted it, each of which asks again once it is awake.
+    /// accepted submission, which wakes one sleeper, and an accepted close or number of workers, which wake all. It is
+    /// for a worker that was told Idle since it noted it, and that asks again once it is awake; one that was told
+    /// Retired would keep a wake-up from those that may take.
     pub fn await_news<R: Wait>(&self, rt: &R, heard: Heard) {
         self.bell.wait(rt, heard);
     }

@@ -46,9 +46,9 @@ fn join_workers<J: Job + Drop, X: Chooser>(
 }
 
 impl<J: Job + Drop, X: Chooser + Drop> DeskOf<Floor<J, X>> {
-    /// Ends the desk, and gives its scheduler where every turn that was drawn was served; else the scheduler is given up. So
-    /// it is given where all tokens of the desk are handed in. The first submitter is the one of number 0. Both counts are
-    /// those of the lock's last moment, modulo 2^64.
+    /// Ends the desk, and gives its scheduler where every turn that was drawn was served; else the scheduler is given
+    /// up. So it is given where all tokens of the desk are handed in. The first submitter is the one of number 0. Both
+    /// counts are those of the lock's last moment, modulo 2^64.
     pub fn finish(
         self,
         mut submitters: Vec<Submitter>,

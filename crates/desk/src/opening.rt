@@ -91,8 +91,8 @@ fn split_workers<J: Job + Drop, X: Chooser>(
 }
 
 impl<J: Job + Drop, X: Chooser + Drop> DeskOf<Floor<J, X>> {
-    /// A desk with no past, for 1 to `MOST_SUBMITTERS` submitters, and its tokens: those of the submitters, and those of as
-    /// many workers as the configuration has. All memory of the desk is taken here.
+    /// A desk with no past, for 1 to `MOST_SUBMITTERS` submitters, and its tokens: those of the submitters, and those of
+    /// as many workers as the configuration has. All memory of the desk is taken here.
     pub fn open(
         alloc: Global,
         config: Checked,

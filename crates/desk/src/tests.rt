@@ -197,7 +197,8 @@ fn opened_for_two(
     }
 }
 
-// Submits 50 jobs, with numbers from 1,000 times the caller's own on, and notes in its bits which requests below 100 it is told.
+// Submits 50 jobs, with numbers from 1,000 times the caller's own on, and notes in its bits which requests below 100 it
+// is told.
 fn fifty<R: Wait>(rt: &R, desk: &PlainDesk, who: &mut Submitter) -> u128
     requires { IsOf desk.now.lock who.old.pass }
     ensures own { IsOf desk.now.lock who.new.pass }
