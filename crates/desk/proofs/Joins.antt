@@ -7,27 +7,29 @@ use Rattle.fq_model.specs.declared.event.Entry.{Entry}
 use Rattle.fq_model.specs.Outcome.{own_entries}
 use Rattle.history_lock.specs.Histories.{IsPrefix}
 use Rattle.history_lock.specs.Passes.{LockView, PassView, IsOf, HasEnded, AllEnded}
+use Rattle.history_lock.specs.Last.{WasLast}
 use Rattle.history_lock.proofs.Histories.{prefix_through}
 use Rattle.desk.specs.declared.floor.Crew.{Crew}
+use Rattle.desk.specs.Floors.{FloorView, crew_of}
 use Rattle.desk.specs.declared.tokens.Submitter.{Submitter}
 use Rattle.desk.specs.declared.tokens.Worker.{Worker}
-use Rattle.desk.specs.Ending.{Each, Some_of, IsFirst, IsIn, HasAll, AreAll, IsTaken, HasJoined}
+use Rattle.desk.specs.Ending.{HoldsOfEach, HoldsOfSome, IsFirst, IsIn, HasAll, AreAll, IsTaken, HasJoined, LastMoment}
 
 module _ {A : Type 0} where
-  pub each_front : (Holds : A → Type 0) (xs ys : List A) → Each Holds (xs ++ ys) → Each Holds xs
+  pub each_front : (Holds : A → Type 0) (xs ys : List A) → HoldsOfEach Holds (xs ++ ys) → HoldsOfEach Holds xs
   each_front Holds [] ys h = tt
   each_front Holds (x ∷ xs) ys h = (h.0, each_front Holds xs ys h.1)
 
-  pub each_last : (Holds : A → Type 0) (xs : List A) (y : A) → Each Holds (xs ++ y ∷ []) → Holds y
+  pub each_last : (Holds : A → Type 0) (xs : List A) (y : A) → HoldsOfEach Holds (xs ++ y ∷ []) → Holds y
   each_last Holds [] y h = h.0
   each_last Holds (x ∷ xs) y h = each_last Holds xs y h.1
 
-  each_so : (P Q : A → Type 0) → ((x : A) → P x → Q x) → (xs : List A) → Each P xs → Each Q xs
+  each_so : (P Q : A → Type 0) → ((x : A) → P x → Q x) → (xs : List A) → HoldsOfEach P xs → HoldsOfEach Q xs
   each_so P Q f [] h = tt
   each_so P Q f (x ∷ xs) h = (f x h.0, each_so P Q f xs h.1)
 
   -- of those of which all hold one thing and one holds the other, one holds both
-  found : (P Q : A → Type 0) (xs : List A) → Each P xs → Some_of Q xs → (x : A) × P x × Q x
+  found : (P Q : A → Type 0) (xs : List A) → HoldsOfEach P xs → HoldsOfSome Q xs → (x : A) × P x × Q x
   found P Q [] h s = absurd s
   found P Q (x ∷ xs) h (inl s) = (x, h.0, s)
   found P Q (x ∷ xs) h (inr s) = found P Q xs h.1 s
@@ -56,15 +58,15 @@ module _ {A : Type 0} where
     }
 
     -- what one pass had taken in, it still has after it took in others
-    pub still_taken : {B : Type 0} (of_other : B → PassView Crew) (v w : PassView Crew) (ys : List B) (xs : List A) → HasJoined lock of_other v ys w → Each (λ t. IsTaken v (pass_of t)) xs → Each (λ t. IsTaken w (pass_of t)) xs
+    pub still_taken : {B : Type 0} (of_other : B → PassView Crew) (v w : PassView Crew) (ys : List B) (xs : List A) → HasJoined lock of_other v ys w → HoldsOfEach (λ t. IsTaken v (pass_of t)) xs → HoldsOfEach (λ t. IsTaken w (pass_of t)) xs
     still_taken of_other v w ys xs j h = each_so (λ t. IsTaken v (pass_of t)) (λ t. IsTaken w (pass_of t)) (λ t k. taken_on v w (pass_of t) j.more j.seen j.ended k) xs h
 
-  all_in : (pass_of : A → PassView Crew) (w : PassView Crew) (past : List Entry) (xs : List A) → IsPrefix w.seen past → HasEnded past w.ended → Each (λ t. IsTaken w (pass_of t)) xs → Each (λ t. IsIn past (pass_of t)) xs
+  all_in : (pass_of : A → PassView Crew) (w : PassView Crew) (past : List Entry) (xs : List A) → IsPrefix w.seen past → HasEnded past w.ended → HoldsOfEach (λ t. IsTaken w (pass_of t)) xs → HoldsOfEach (λ t. IsIn past (pass_of t)) xs
   all_in pass_of w past xs seen ended h =
       each_so (λ t. IsTaken w (pass_of t)) (λ t. IsIn past (pass_of t)) (λ t k. (prefix_through (pass_of t).seen w.seen past k.0 seen, ended k.1.0 ((pass_of t).number, (pass_of t).mine) k.1.1)) xs h
 
   -- a number of one of those that were taken in was ended
-  number_ended : (pass_of : A → PassView Crew) (w : PassView Crew) (n : ℕ) (xs : List A) → Each (λ t. IsTaken w (pass_of t)) xs → Some_of (λ t. (pass_of t).number ≡ n) xs → (j : ℕ) × (mine : List Entry) × (get_elem? w.ended j ≡ some (n, mine))
+  number_ended : (pass_of : A → PassView Crew) (w : PassView Crew) (n : ℕ) (xs : List A) → HoldsOfEach (λ t. IsTaken w (pass_of t)) xs → HoldsOfSome (λ t. (pass_of t).number ≡ n) xs → (j : ℕ) × (mine : List Entry) × (get_elem? w.ended j ≡ some (n, mine))
   number_ended pass_of w n xs h s =
       let x = found (λ t. IsTaken w (pass_of t)) (λ t. (pass_of t).number ≡ n) xs h s in
       (x.1.1.0, (pass_of x.0).mine, subst (λ k. get_elem? w.ended x.1.1.0 ≡ some (k, (pass_of x.0).mine)) x.2 x.1.1.1)
@@ -75,7 +77,7 @@ first_and_rest [] t rest f e r = absurd f
 first_and_rest (u ∷ us) t rest f e r = let s : rest ≡ us = r in sym (ap (λ x. x ∷ rest) e ∙ ap (λ l. u ∷ l) s)
 
 module _ (lock : LockView Crew) (t : Submitter) (rest : List Submitter) (workers : List Worker) (v w : PassView Crew) (one : HasJoined lock (λ (x : Submitter). x.pass) t.pass rest v) (two : HasJoined lock (λ (x : Worker). x.pass) v workers w) where
-  rest_taken : Each (λ x. IsTaken w x.pass) rest
+  rest_taken : HoldsOfEach (λ x. IsTaken w x.pass) rest
   rest_taken = still_taken lock (λ (x : Submitter). x.pass) (λ (x : Worker). x.pass) v w workers rest two one.taken
 
   pub ends_in : (past : List Entry) → t.pass.number ≡ 0 → IsPrefix w.seen past → own_entries past 0 ≡ w.mine → HasEnded past w.ended → HasAll past (t ∷ rest) workers
@@ -87,10 +89,13 @@ module _ (lock : LockView Crew) (t : Submitter) (rest : List Submitter) (workers
     of_workers = all_in (λ (x : Worker). x.pass) w past workers seen ended two.taken;
   }
 
-  of_either : (n : ℕ) → 0 < n → t.pass.number ≡ 0 → Some_of (λ x. x.pass.number ≡ n) (t ∷ rest) ⊎ Some_of (λ x. x.pass.number ≡ n) workers → (j : ℕ) × (mine : List Entry) × (get_elem? w.ended j ≡ some (n, mine))
+  of_either : (n : ℕ) → 0 < n → t.pass.number ≡ 0 → HoldsOfSome (λ x. x.pass.number ≡ n) (t ∷ rest) ⊎ HoldsOfSome (λ x. x.pass.number ≡ n) workers → (j : ℕ) × (mine : List Entry) × (get_elem? w.ended j ≡ some (n, mine))
   of_either n low zeroth (inl (inl is)) = absurd (omega (arith, is, zeroth))
   of_either n low zeroth (inl (inr s)) = number_ended (λ (x : Submitter). x.pass) w n rest rest_taken s
   of_either n low zeroth (inr s) = number_ended (λ (x : Worker). x.pass) w n workers two.taken s
 
   pub all_ended : t.pass.number ≡ 0 → AreAll (t ∷ rest) workers → AllEnded w.made w.ended
   all_ended zeroth all n low high = of_either n low zeroth (all n low (omega (arith, high, two.made, one.made)))
+
+  pub last_moment : (J : Type 0) (drawn served : ℕ) → WasLast (λ (f : FloorView J). f.scheduler.past) crew_of lock.frame w drawn served → LastMoment J lock (t ∷ rest) workers drawn served
+  last_moment J drawn served last = record { pass = w; taken = (v, one, two); last = last }

@@ -6,19 +6,21 @@ use Rattle.fq_model.specs.declared.event.Entry.{Entry}
 use Rattle.fq_model.specs.Outcome.{own_entries}
 use Rattle.history_lock.specs.Histories.{IsPrefix}
 use Rattle.history_lock.specs.Passes.{LockView, PassView, IsOf}
+use Rattle.history_lock.specs.Last.{WasLast}
 use Rattle.desk.specs.declared.floor.Crew.{Crew}
 use Rattle.desk.specs.declared.tokens.Submitter.{Submitter}
 use Rattle.desk.specs.declared.tokens.Worker.{Worker}
+use Rattle.desk.specs.Floors.{FloorView, crew_of}
 
 -- it holds of each
-abbrev pub Each : {A : Type 0} → (A → Type 0) → List A → Type 0
-Each Holds [] = Unit {0}
-Each Holds (x ∷ xs) = Holds x × Each Holds xs
+abbrev pub HoldsOfEach : {A : Type 0} → (A → Type 0) → List A → Type 0
+HoldsOfEach Holds [] = Unit {0}
+HoldsOfEach Holds (x ∷ xs) = Holds x × HoldsOfEach Holds xs
 
 -- it holds of some
-abbrev pub Some_of : {A : Type 0} → (A → Type 0) → List A → Type 0
-Some_of Holds [] = ⊥
-Some_of Holds (x ∷ xs) = Holds x ⊎ Some_of Holds xs
+abbrev pub HoldsOfSome : {A : Type 0} → (A → Type 0) → List A → Type 0
+HoldsOfSome Holds [] = ⊥
+HoldsOfSome Holds (x ∷ xs) = Holds x ⊎ HoldsOfSome Holds xs
 
 abbrev pub IsFirst : List Submitter → Type 0
 IsFirst [] = ⊥
@@ -26,8 +28,8 @@ IsFirst (token ∷ tokens) = token.pass.number ≡ 0
 
 -- the tokens are of this lock, and the first submitter is the one of number 0
 pub record AreOf (lock : LockView Crew) (submitters : List Submitter) (workers : List Worker) : Type 0 where
-  pub submitters_own : Each (λ t. IsOf lock t.pass) submitters
-  pub workers_own : Each (λ t. IsOf lock t.pass) workers
+  pub submitters_own : HoldsOfEach (λ t. IsOf lock t.pass) submitters
+  pub workers_own : HoldsOfEach (λ t. IsOf lock t.pass) workers
   pub first : IsFirst submitters
 
 -- the past begins with all that the pass had seen, and has of its caller just its own entries
@@ -36,8 +38,8 @@ IsIn past pass = IsPrefix pass.seen past × (own_entries past pass.number ≡ pa
 
 -- the same of all that are handed in
 pub record HasAll (past : List Entry) (submitters : List Submitter) (workers : List Worker) : Type 0 where
-  pub of_submitters : Each (λ t. IsIn past t.pass) submitters
-  pub of_workers : Each (λ t. IsIn past t.pass) workers
+  pub of_submitters : HoldsOfEach (λ t. IsIn past t.pass) submitters
+  pub of_workers : HoldsOfEach (λ t. IsIn past t.pass) workers
 
 -- how many passes the first submitter's split off
 abbrev pub first_made : List Submitter → ℕ
@@ -46,7 +48,8 @@ first_made (token ∷ tokens) = token.pass.made
 
 -- each pass that was split off is handed in
 abbrev pub AreAll : List Submitter → List Worker → Type 0
-AreAll submitters workers = (number : ℕ) → 0 < number → number ≤ first_made submitters → Some_of (λ t. t.pass.number ≡ number) submitters ⊎ Some_of (λ t. t.pass.number ≡ number) workers
+AreAll submitters workers = (number : ℕ) → 0 < number → number ≤ first_made submitters
+    → HoldsOfSome (λ t. t.pass.number ≡ number) submitters ⊎ HoldsOfSome (λ t. t.pass.number ≡ number) workers
 
 -- a pass has taken this one in
 abbrev pub IsTaken : PassView Crew → PassView Crew → Type 0
@@ -61,4 +64,19 @@ pub record HasJoined {A : Type 0} (lock : LockView Crew) (pass_of : A → PassVi
   pub made : new.made ≡ old.made
   pub more : List (ℕ × List Entry)
   pub ended : new.ended ≡ old.ended ++ more
-  pub taken : Each (λ t. IsTaken new (pass_of t)) tokens
+  pub taken : HoldsOfEach (λ t. IsTaken new (pass_of t)) tokens
+
+-- the first submitter's pass, after it has taken in those of the other submitters and then those of the workers
+abbrev pub HasTakenIn : LockView Crew → List Submitter → List Worker → PassView Crew → Type 0
+HasTakenIn lock [] workers pass = ⊥
+HasTakenIn lock (token ∷ tokens) workers pass = (between : PassView Crew)
+    × HasJoined lock (λ (t : Submitter). t.pass) token.pass tokens between
+    × HasJoined lock (λ (t : Worker). t.pass) between workers pass
+
+-- The last moment of a desk's lock, when no call is under way: the pass that took in all that were handed in is one of its
+-- views, and so many turns were drawn and so many served, modulo 2^64. J is what contracts see of a job
+pub record LastMoment (J : Type 0) (lock : LockView Crew) (submitters : List Submitter) (workers : List Worker)
+    (drawn served : ℕ) : Type 0 where
+  pub pass : PassView Crew
+  pub taken : HasTakenIn lock submitters workers pass
+  pub last : WasLast (λ (f : FloorView J). f.scheduler.past) crew_of lock.frame pass drawn served

@@ -3,6 +3,7 @@ use Rattle.std.specs.Prelude.{ℕ, suc, ◌+◌, ◌≡◌, true, false, List, [
 use Rattle.fq_model.specs.declared.config.Config.{Config}
 use Rattle.fq_model.specs.Limits.{is_outside}
 use Rattle.history_lock.specs.Passes.{LockView, PassView, IsOf}
+use Rattle.desk.specs.declared.desk.TheConstants.{MOST_SUBMITTERS}
 use Rattle.desk.specs.declared.floor.Crew.{Crew}
 use Rattle.desk.specs.declared.refusals.OpenFault.{OpenFault}
 use Rattle.desk.specs.declared.refusals.OpenFault.TheVariants as fault
@@ -53,5 +54,5 @@ pub record AreTokens (config : Config) (submitters : ℕ) (lock : LockView Crew)
 
 -- the fault says how many submitters are too few or too many
 abbrev pub IsOutside : ℕ → OpenFault → Type 0
-IsOutside submitters (fault.Submitters n) = (n ≡ submitters) × (is_outside 1 64 submitters ≡ true)
-IsOutside submitters fault.NoMemory = is_outside 1 64 submitters ≡ false
+IsOutside submitters (fault.Submitters n) = (n ≡ submitters) × (is_outside 1 MOST_SUBMITTERS submitters ≡ true)
+IsOutside submitters fault.NoMemory = is_outside 1 MOST_SUBMITTERS submitters ≡ false

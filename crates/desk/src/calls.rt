@@ -6,6 +6,7 @@ ghost use Rattle.sched_state.specs.Replies.{submit_reply, change_reply, close_re
 ghost use Rattle.desk.specs.Tokens.{Stays, IsAnswered};
 ghost use Rattle.desk.specs.Replies.{took_reply, took_pass, took_worker, live_reply, done_reply, done_pass, SameRun, GoesOn};
 
+use crate::bell::Heard;
 use crate::desk::DeskOf;
 use crate::floor::Floor;
 use crate::refusals::{DoneRefusal, LiveRefusal, done_refusal, live_refusal};
@@ -32,7 +33,8 @@ impl<J: Job + Drop, X: Chooser> DeskOf<Floor<J, X>> {
         requires { IsOf self.now.lock who.old.pass }
         ensures stays { Stays self.now.lock who.old.pass who.new.pass }
         ensures answers { IsAnswered self.now.lock.frame who.old.pass
-            (call.Submit who.old.pass.number moment tenant kind declared (J.label_of job)) (submit_reply result) who.new.pass }
+            (call.Submit who.old.pass.number moment tenant kind declared (J.label_of job)) (submit_reply result)
+            who.new.pass }
         ensures job_back { IfErr result (λ r. r.job ≡ job) }
     {
         let ask = Ask::Submit {
@@ -43,7 +45,12 @@ impl<J: Job + Drop, X: Chooser> DeskOf<Floor<J, X>> {
             job,
         };
         match self.lock.turn(rt, &mut who.pass, ask) {
-            Told::Submitted(result) => result,
+            Told::Submitted(result) => {
+                if result.is_ok() {
+                    self.bell.ring_one();
+                }
+                result
+            }
             _ => unreachable!(),
         }
     }
@@ -61,7 +68,12 @@ impl<J: Job + Drop, X: Chooser> DeskOf<Floor<J, X>> {
             (call.Close who.old.pass.number moment) (close_reply result) who.new.pass }
     {
         match self.lock.turn(rt, &mut who.pass, Ask::Close { moment }) {
-            Told::Closed(result) => result,
+            Told::Closed(result) => {
+                if result.is_ok() {
+                    self.bell.ring_all();
+                }
+                result
+            }
             _ => unreachable!(),
         }
     }
@@ -106,9 +118,27 @@ impl<J: Job + Drop, X: Chooser> DeskOf<Floor<J, X>> {
     {
         let ask = Ask::Workers { moment, count };
         match self.lock.turn(rt, &mut who.pass, ask) {
-            Told::Changed(result) => result,
+            Told::Changed(result) => {
+                if result.is_ok() {
+                    self.bell.ring_all();
+                }
+                result
+            }
             _ => unreachable!(),
         }
+    }
+
+    /// What a worker notes before it asks for work, so that it misses nothing that comes after.
+    pub fn heard(&self) -> Heard {
+        self.bell.heard()
+    }
+
+    /// Returns at once where there was news after this was noted, and sleeps until there is some where not. News is an
+    /// accepted submission, which wakes one sleeper, and an accepted close or number of workers, which wake all. It is
+    /// for a worker that was told Idle since it noted it, and that asks again once it is awake; one that was told
+    /// Retired would keep a wake-up from those that may take.
+    pub fn await_news<R: Wait>(&self, rt: &R, heard: Heard) {
+        self.bell.wait(rt, heard);
     }
 
     /// A worker asks for work. It keeps its token unless it is to run a request.

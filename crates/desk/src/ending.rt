@@ -1,7 +1,7 @@
 //! How a desk ends.
-ghost use Rattle.std.specs.Prelude.{◌≡◌, ◌≢◌, IfOk, IfErr, IsOk};
+ghost use Rattle.std.specs.Prelude.{◌≡◌, ◌≢◌, ℕ, IfOk, IfErr, IsOk};
 ghost use Rattle.history_lock.specs.Passes.{IsOf, HasNoneAbove};
-ghost use Rattle.desk.specs.Ending.{Each, HasJoined, AreOf, HasAll, AreAll, first_made};
+ghost use Rattle.desk.specs.Ending.{HoldsOfEach, HasJoined, AreOf, HasAll, AreAll, LastMoment, first_made};
 
 use crate::desk::DeskOf;
 use crate::floor::{Crew, Floor};
@@ -18,7 +18,7 @@ fn join_submitters<J: Job + Drop, X: Chooser>(
 )
     requires own { IsOf lock.now first.old }
     requires number { first.old.number ≡ 0 }
-    requires tokens { Each (λ t. IsOf lock.now t.pass) tokens.items }
+    requires tokens { HoldsOfEach (λ t. IsOf lock.now t.pass) tokens.items }
     ensures { HasJoined lock.now (λ t. t.pass) first.old tokens.items first.new }
 {
     while let Some(token) = tokens.pop() {
@@ -35,7 +35,7 @@ fn join_workers<J: Job + Drop, X: Chooser>(
 )
     requires own { IsOf lock.now first.old }
     requires number { first.old.number ≡ 0 }
-    requires tokens { Each (λ t. IsOf lock.now t.pass) tokens.items }
+    requires tokens { HoldsOfEach (λ t. IsOf lock.now t.pass) tokens.items }
     ensures { HasJoined lock.now (λ t. t.pass) first.old tokens.items first.new }
 {
     while let Some(token) = tokens.pop() {
@@ -46,8 +46,9 @@ fn join_workers<J: Job + Drop, X: Chooser>(
 }
 
 impl<J: Job + Drop, X: Chooser + Drop> DeskOf<Floor<J, X>> {
-    /// Ends the desk, and gives its scheduler where every turn that was drawn was served; else the scheduler is given up. So
-    /// it is given where all tokens of the desk are handed in. The first submitter is the one of number 0.
+    /// Ends the desk, and gives its scheduler where every turn that was drawn was served; else the scheduler is given
+    /// up. So it is given where all tokens of the desk are handed in. The first submitter is the one of number 0. Both
+    /// counts are those of the lock's last moment, modulo 2^64.
     pub fn finish(
         self,
         mut submitters: Vec<Submitter>,
@@ -58,9 +59,12 @@ impl<J: Job + Drop, X: Chooser + Drop> DeskOf<Floor<J, X>> {
         ensures above { IfOk result (λ s. HasNoneAbove s.past (first_made submitters.items)) }
         ensures config { IfOk result (λ s. s.config ≡ self.lock.frame.config) }
         ensures settled { AreAll submitters.items workers.items → IsOk result }
-        ensures counts { IfErr result (λ u. u.drawn ≢ u.served) }
+        ensures exact { (drawn : ℕ) × (served : ℕ)
+            × LastMoment J self.lock submitters.items workers.items drawn served
+            × IfOk result (λ s. drawn ≡ served)
+            × IfErr result (λ u. (u.drawn ≡ drawn) × (u.served ≡ served) × (drawn ≢ served)) }
     {
-        let DeskOf { lock } = self;
+        let DeskOf { lock, bell: _ } = self;
         let Submitter { pass: mut first } = submitters.remove(0);
         join_submitters(&lock, &mut first, submitters);
         join_workers(&lock, &mut first, workers);

@@ -1,6 +1,7 @@
 //! The desk: one scheduler behind one lock, whose submitters and workers are threads that each hold a token.
 #![tactic(auto)]
 
+mod bell;
 mod calls;
 mod desk;
 mod ending;
@@ -11,6 +12,7 @@ mod refusals;
 mod tokens;
 mod told;
 
+pub use bell::Heard;
 pub use desk::{Desk, DeskOf, MOST_SUBMITTERS};
 pub use floor::{Crew, Floor};
 pub use refusals::{DoneRefusal, LiveRefusal, OpenFault};

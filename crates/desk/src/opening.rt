@@ -1,8 +1,10 @@
 //! How a desk is opened.
 ghost use Rattle.std.specs.Prelude.{◌≡◌, ◌≤◌, ◌+◌, ◌-◌, [], length, IfOk, IfErr, IfSome, false, vec_capacity};
 ghost use Rattle.fq_model.specs.Limits.{InLimits, is_outside};
+ghost use Rattle.desk.specs.declared.desk.TheConstants.{MOST_SUBMITTERS};
 ghost use Rattle.desk.specs.Opening.{IsSplit, IsFresh, AreSubmitters, AreWorkers, AreTokens, IsOutside};
 
+use crate::bell::Bell;
 use crate::desk::{DeskOf, MOST_SUBMITTERS};
 use crate::floor::{Crew, Floor};
 use crate::refusals::OpenFault;
@@ -53,7 +55,7 @@ fn split_submitters<J: Job + Drop, X: Chooser>(
 )
     requires zero { IsSplit lock.now 0 zero.old }
     requires some { 1 ≤ lock.now.frame.submitters }
-    requires few { lock.now.frame.submitters ≤ 64 }
+    requires few { lock.now.frame.submitters ≤ MOST_SUBMITTERS }
     requires room { (tokens.old.items ≡ []) × (lock.now.frame.submitters ≤ vec_capacity tokens.old) }
     requires submitters { submitters ≡ lock.now.frame.submitters }
     ensures zero { IsSplit lock.now (length tokens.new.items) zero.new }
@@ -75,7 +77,7 @@ fn split_workers<J: Job + Drop, X: Chooser>(
     workers: u32,
 )
     requires zero { IsSplit lock.now (lock.now.frame.submitters - 1) zero.old }
-    requires some { (1 ≤ lock.now.frame.submitters) × (lock.now.frame.submitters ≤ 64) }
+    requires some { (1 ≤ lock.now.frame.submitters) × (lock.now.frame.submitters ≤ MOST_SUBMITTERS) }
     requires workers { (workers ≡ lock.now.frame.config.workers) × (workers ≤ 64) }
     requires room { (tokens.old.items ≡ []) × (workers ≤ vec_capacity tokens.old) }
     ensures zero { IsSplit lock.now (lock.now.frame.submitters + workers - 1) zero.new }
@@ -89,15 +91,15 @@ fn split_workers<J: Job + Drop, X: Chooser>(
 }
 
 impl<J: Job + Drop, X: Chooser + Drop> DeskOf<Floor<J, X>> {
-    /// A desk with no past, for 1 to 64 submitters, and its tokens: those of the submitters, and those of as many workers as
-    /// the configuration has. All memory of the desk is taken here.
+    /// A desk with no past, for 1 to `MOST_SUBMITTERS` submitters, and its tokens: those of the submitters, and those of
+    /// as many workers as the configuration has. All memory of the desk is taken here.
     pub fn open(
         alloc: Global,
         config: Checked,
         submitters: u32,
     ) -> Result<(DeskOf<Floor<J, X>>, Vec<Submitter>, Vec<Worker>), OpenFault>
         ensures tokens { IfOk result (λ r. AreTokens config submitters r.0.lock r.1.items r.2.items) }
-        ensures within { IfOk result (λ r. is_outside 1 64 submitters ≡ false) }
+        ensures within { IfOk result (λ r. is_outside 1 MOST_SUBMITTERS submitters ≡ false) }
         ensures fault { IfErr result (IsOutside submitters) }
     {
         if submitters < 1 || submitters > MOST_SUBMITTERS {
@@ -116,6 +118,7 @@ impl<J: Job + Drop, X: Chooser + Drop> DeskOf<Floor<J, X>> {
         split_workers(&lock, &mut zero, &mut second, staff);
         let placed = first.insert(0, Submitter { pass: zero });
         let Ok(()) = placed else { unreachable!() };
-        Ok((DeskOf { lock }, first, second))
+        let bell = Bell::new();
+        Ok((DeskOf { lock, bell }, first, second))
     }
 }

@@ -2,14 +2,15 @@
 ghost use Rattle.std.specs.Prelude.{◌≡◌};
 ghost use Rattle.desk.specs.Replies.{live_cause, done_cause, IsLive, IsEnding};
 
+use crate::desk::MOST_SUBMITTERS;
 use fq_model::event::Cause;
 use fq_model::limits::GREATEST_COST;
 
 /// Why a desk is not opened.
 #[derive(Clone, Copy, Debug, PartialEq, Eq, thiserror::Error)]
 pub enum OpenFault {
-    /// So many submitters; there may be 1 to 64.
-    #[error("{0} submitters, and there may be 1 to 64")]
+    /// So many submitters; there may be 1 to `MOST_SUBMITTERS`.
+    #[error("{0} submitters, and there may be 1 to {MOST_SUBMITTERS}")]
     Submitters(u32),
     #[error("no memory for a desk")]
     NoMemory,

@@ -1,7 +1,7 @@
 use Rattle.std.proofs.Common.{rules, ◌≡◌, sym, ap, ◌∙◌, subst, [], ◌∷◌, ◌++◌, append_assoc, append-nil}
 use Rattle.history_lock.specs.Passes.{IsOf}
 use Rattle.desk.specs.declared.tokens.Submitter.{Submitter}
-use Rattle.desk.specs.Ending.{Each, HasJoined}
+use Rattle.desk.specs.Ending.{HoldsOfEach, HasJoined}
 use Rattle.desk.proofs.Joins.{each_front, each_last, none_joined, joined_more}
 use Rattle.desk.proofs.ending.join_submitters.Goals as goal
 
@@ -11,13 +11,13 @@ loop-token-init g c = (c.requires.tokens, ([], sym (append-nil _), none_joined c
 pub join-requires-clause-other_own : goal.join-requires-clause-other_own
 join-requires-clause-other_own g c =
     let popped : c.loop-token.tokens.items ≡ c.pop.new.self.items ++ c.in-Some.token ∷ [] = search rules in
-    each_last (λ (t : Submitter). IsOf c.args.lock.now t.pass) c.pop.new.self.items c.in-Some.token (subst (Each (λ (t : Submitter). IsOf c.args.lock.now t.pass)) popped c.loop-token.invariant.0)
+    each_last (λ (t : Submitter). IsOf c.args.lock.now t.pass) c.pop.new.self.items c.in-Some.token (subst (HoldsOfEach (λ (t : Submitter). IsOf c.args.lock.now t.pass)) popped c.loop-token.invariant.0)
 
 pub loop-token-preserved : goal.loop-token-preserved
 loop-token-preserved g c =
     let popped : c.loop-token.tokens.items ≡ c.pop.new.self.items ++ c.in-Some.token ∷ [] = search rules in
     let done = c.loop-token.invariant.1 in let s = c.join.ensures in (
-      each_front (λ (t : Submitter). IsOf c.args.lock.now t.pass) c.pop.new.self.items (c.in-Some.token ∷ []) (subst (Each (λ (t : Submitter). IsOf c.args.lock.now t.pass)) popped c.loop-token.invariant.0),
+      each_front (λ (t : Submitter). IsOf c.args.lock.now t.pass) c.pop.new.self.items (c.in-Some.token ∷ []) (subst (HoldsOfEach (λ (t : Submitter). IsOf c.args.lock.now t.pass)) popped c.loop-token.invariant.0),
       (
         c.in-Some.token ∷ done.0,
         done.1 ∙ (ap (λ l. l ++ done.0) popped ∙ append_assoc c.pop.new.self.items (c.in-Some.token ∷ []) done.0),

@@ -1,9 +1,10 @@
 use Rattle.std.proofs.Common.{◌≡◌, ◌∙◌, sym, ap, subst, List, ◌∷◌}
 use Rattle.std.proofs.lemmas.Bool.{false≢true}
+use Rattle.std.proofs.lemmas.Result.{err_from_is_err_and}
 use Rattle.fq_model.specs.declared.event.Entry.{Entry}
 use Rattle.history_lock.specs.Passes.{HasNoneAbove}
-use Rattle.desk.specs.Ending.{HasAll, AreAll, IsFirst, first_made}
-use Rattle.desk.proofs.Joins.{first_and_rest, ends_in, all_ended}
+use Rattle.desk.specs.Ending.{HasAll, AreAll, LastMoment, IsFirst, first_made}
+use Rattle.desk.proofs.Joins.{first_and_rest, ends_in, all_ended, last_moment}
 use Rattle.desk.proofs.ending.DeskOf+Floor+J+X.finish.Goals as goal
 
 pub returns-in_err-floor-clause-settled : goal.returns-in_err-floor-clause-settled
@@ -28,3 +29,18 @@ returns-clause-above g c =
     let made : c.join_workers.new.first.made ≡ first_made c.args.submitters.items = c.join_workers.ensures.made ∙ (c.join_submitters.ensures.made ∙ ap first_made (sym both)) in
     let past : c.in_ok-floor.floor.scheduler.past ≡ c.into_scheduler.result.past = ap (λ s. s.past) (sym c.into_scheduler.ensures) in
     subst (HasNoneAbove c.into_scheduler.result.past) made (subst (λ (l : List Entry). HasNoneAbove l c.join_workers.new.first.made) past h.above)
+
+pub returns-in_err-floor-clause-exact : goal.returns-in_err-floor-clause-exact
+returns-in_err-floor-clause-exact g c =
+    let p = err_from_is_err_and c.from_residual.result c.from_residual.ensures.1 in
+    let first = c.remove-first in let e = c.in_err-floor.ensures.exact in
+    let both : c.args.submitters.items ≡ first.result ∷ first.new.self.items = first_and_rest _ _ _ c.requires.first first.ensures.value first.ensures.by_index.2 in
+    let last = last_moment c.args.self.lock first.result first.new.self.items c.args.workers.items _ _ c.join_submitters.ensures c.join_workers.ensures _ e.0 e.1 e.2 in
+    (e.0, e.1, subst (λ l. LastMoment _ c.args.self.lock l c.args.workers.items e.0 e.1) (sym both) last, rw p.1 tt, rw (p.1, p.2) e.4)
+
+pub returns-clause-exact : goal.returns-clause-exact
+returns-clause-exact g c =
+    let first = c.remove-first in let e = c.in_ok-floor.ensures.exact in
+    let both : c.args.submitters.items ≡ first.result ∷ first.new.self.items = first_and_rest _ _ _ c.requires.first first.ensures.value first.ensures.by_index.2 in
+    let last = last_moment c.args.self.lock first.result first.new.self.items c.args.workers.items _ _ c.join_submitters.ensures c.join_workers.ensures _ e.0 e.1 e.2 in
+    (e.0, e.1, subst (λ l. LastMoment _ c.args.self.lock l c.args.workers.items e.0 e.1) (sym both) last, e.3, e.4)
