@@ -29,4 +29,5 @@ module _ {J : Type 0} where
 
     -- each hand has, in its place
     abbrev pub HandsDid : List (Hand J) → List (Hand J) → Type 0
-    HandsDid olds news = (i : ℕ) (d : Hand J) → i < length olds → HandDid (slice_index_or olds i d) (slice_index_or news i d)
+    HandsDid olds news = (length news ≡ length olds)
+        × ((i : ℕ) (d : Hand J) → i < length olds → HandDid (slice_index_or olds i d) (slice_index_or news i d))
