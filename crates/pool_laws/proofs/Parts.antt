@@ -80,7 +80,7 @@ module _ (T : Trace) (O : RunOptions) (lock : LockView Crew) (Tells : ℕ → Ty
       let number : f.ended.pass.number ≡ j = f.feeds.stays.number ∙ begins in
       let mine : f.ended.pass.mine ≡ f.feeds.more = added _ f.begun.pass.mine f.feeds.more f.feeds.mine f.new.mine in
       let in_past : own_entries past j ≡ f.feeds.more = subst (λ n. own_entries past n ≡ f.ended.pass.mine) number f.in_past.1 ∙ mine in
-      let in_seen : own_entries f.ended.pass.seen j ≡ f.feeds.more = subst (λ n. own_entries f.ended.pass.seen n ≡ f.ended.pass.mine) number f.own_seen ∙ mine in
+      let in_seen : own_entries f.ended.pass.seen j ≡ f.feeds.more = subst (λ n. own_entries f.ended.pass.seen n ≡ f.ended.pass.mine) number (sym f.ended.own) ∙ mine in
       let own : history_of f.feeds.more ≡ own_entries (history_of past) j = sym (own_turns past f.feeds.more j in_past) in
       record {
         seen = history_of f.ended.pass.seen;
@@ -104,7 +104,7 @@ module _ (T : Trace) (O : RunOptions) (lock : LockView Crew) (Tells : ℕ → Ty
       let number : w.ended.pass.number ≡ j = d.stays.number ∙ w.new.numbered in
       let worker : w.ended.worker ≡ i = d.worker ∙ w.numbered in
       let in_past : own_entries past j ≡ w.ended.pass.mine = subst (λ n. own_entries past n ≡ w.ended.pass.mine) number w.in_past.1 in
-      let in_seen : own_entries w.ended.pass.seen j ≡ w.ended.pass.mine = subst (λ n. own_entries w.ended.pass.seen n ≡ w.ended.pass.mine) number w.own_seen in
+      let in_seen : own_entries w.ended.pass.seen j ≡ w.ended.pass.mine = subst (λ n. own_entries w.ended.pass.seen n ≡ w.ended.pass.mine) number (sym w.ended.own) in
       let own : own_entries (history_of past) j ≡ history_of w.ended.pass.mine = own_turns past w.ended.pass.mine j in_past in
       let away = d.turned_away in
       record {

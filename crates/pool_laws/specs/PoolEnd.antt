@@ -32,8 +32,7 @@ abbrev pub row_asks : Row ℕ → Request
 row_asks row = request_of (λ n. n) (λ r. r.kind) row
 
 module _ (T : Trace) (O : RunOptions) (lock : LockView Crew) (Tells : ℕ → Type 0) (past : List Entry) where
-  -- submitter j, who began with nothing, has fed the rows of its number; it has seen its own entries, and the past has
-  -- them and no others of it
+  -- submitter j, who began with nothing, has fed the rows of its number, and its entries are in the past
   pub record FeedEnds (j : ℕ) : Type 0 where
     pub begun : Submitter
     pub ended : Submitter
@@ -43,18 +42,15 @@ module _ (T : Trace) (O : RunOptions) (lock : LockView Crew) (Tells : ℕ → Ty
     pub new : IsNew lock j begun.pass
     pub rows_are : map row_asks rows ≡ requests_from j 0 T.rows
     pub feeds : Feeds (λ n. n) (λ row. row.kind) lock Tells (length T.rows) rows begun ended stopped rest
-    pub own_seen : own_entries ended.pass.seen ended.pass.number ≡ ended.pass.mine
     pub in_past : IsIn past ended.pass
 
-  -- worker i, who began with nothing, has worked to the end; it has seen its own entries, and the past has them and no
-  -- others of it
+  -- worker i, who began with nothing, has worked to the end, and its entries are in the past
   pub record WorkEnds (i : ℕ) : Type 0 where
     pub begun : Worker
     pub ended : Worker
     pub new : IsNew lock (worker_caller T.rows i) begun.pass
     pub numbered : begun.worker ≡ i
     pub worked : Worked lock (trace_course O.refresh T.rows) work_cost Tells begun ended
-    pub own_seen : own_entries ended.pass.seen ended.pass.number ≡ ended.pass.mine
     pub in_past : IsIn past ended.pass
 
   -- The past of a desk that was opened for the trace is legal, each of its submitters and workers has done its part,

@@ -1,3 +1,5 @@
 pub mod Deals
 pub mod Places
 pub mod HandLists
+pub mod Done
+pub mod Tokens

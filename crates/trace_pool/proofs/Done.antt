@@ -1,0 +1,102 @@
+-- Hands that were given their parts, and have done them.
+use Rattle.std.proofs.Common.{ℕ, zero, suc, ◌+◌, ◌<◌, ◌≡◌, List, [], ◌∷◌, ◌++◌, length, slice_index_or, Option, Some, None, sym, ap, ◌∙◌, subst, refl, arith}
+use Rattle.fq_model.specs.declared.trace.TraceRow.{TraceRow}
+use Rattle.history_lock.specs.Passes.{LockView}
+use Rattle.desk.specs.declared.floor.Crew.{Crew}
+use Rattle.desk.specs.declared.tokens.Submitter.{Submitter}
+use Rattle.desk.specs.declared.tokens.Worker.{Worker}
+use Rattle.worker_gate.specs.declared.pool.Hand.{Hand}
+use Rattle.worker_gate.specs.declared.pool.Hand.TheVariants.{Feed, Work}
+use Rattle.worker_gate.specs.Feeding.{Feeds}
+use Rattle.worker_gate.specs.Hands.{HandDid, HandsDid}
+use Rattle.worker_gate.specs.Rules.{work_cost}
+use Rattle.pool_laws.specs.PoolEnd.{trace_course}
+use Rattle.trace_pool.specs.Parts.{KnowsAll, IsFeedOf, IsWorkOf, AreHands, HasFed, HasWorked, HasFedHand, HasWorkedHand, AreDone, submitters_in, workers_in, HoldsToken}
+use Rattle.trace_pool.specs.Places.{HoldsFrom}
+
+-- item by item
+module _ {A : Type 0} (Becomes : A → A → Type 0) where
+  abbrev pub EachBecomes : List A → List A → Type 0
+  EachBecomes [] [] = Unit {0}
+  EachBecomes (x ∷ xs) (y ∷ ys) = Becomes x y × EachBecomes xs ys
+  EachBecomes _ _ = ⊥
+
+  pub each_becomes : (xs ys : List A) → length ys ≡ length xs → ((i : ℕ) (d : A) → i < length xs → Becomes (slice_index_or xs i d) (slice_index_or ys i d)) → EachBecomes xs ys
+  each_becomes [] [] same did = tt
+  each_becomes [] (y ∷ ys) same did = absurd (omega (arith, same))
+  each_becomes (x ∷ xs) [] same did = absurd (omega (arith, same))
+  each_becomes (x ∷ xs) (y ∷ ys) same did = (did 0 x (omega arith), each_becomes xs ys (omega (arith, same)) (λ i d here. did (suc i) d (omega (arith, here))))
+
+  -- of two lists in a row
+  pub record InARow (first second news : List A) : Type 0 where
+    pub one : List A
+    pub two : List A
+    pub both : news ≡ one ++ two
+    pub becomes_one : EachBecomes first one
+    pub becomes_two : EachBecomes second two
+
+  pub in_a_row : (first second news : List A) → EachBecomes (first ++ second) news → InARow first second news
+  in_a_row [] second news did = record { one = []; two = news; both = refl; becomes_one = tt; becomes_two = did }
+  in_a_row (x ∷ xs) second [] did = absurd did
+  in_a_row (x ∷ xs) second (y ∷ ys) did =
+      let r = in_a_row xs second ys did.1 in
+      record { one = y ∷ r.one; two = r.two; both = ap (λ l. y ∷ l) r.both; becomes_one = (did.0, r.becomes_one); becomes_two = r.becomes_two }
+
+  -- what each is, each that it becomes is in another way
+  pub holds_of_new : (P Q : ℕ → A → Type 0) → ((n : ℕ) (x y : A) → P n x → Becomes x y → Q n y) → (n : ℕ) (xs ys : List A) → HoldsFrom P n xs → EachBecomes xs ys → HoldsFrom Q n ys
+  holds_of_new P Q f n [] [] h did = tt
+  holds_of_new P Q f n [] (y ∷ ys) h did = absurd did
+  holds_of_new P Q f n (x ∷ xs) [] h did = absurd did
+  holds_of_new P Q f n (x ∷ xs) (y ∷ ys) h did = (f n x y h.0 did.0, holds_of_new P Q f (suc n) xs ys h.1 did.1)
+
+  pub same_length : (xs ys : List A) → EachBecomes xs ys → length ys ≡ length xs
+  same_length [] [] did = refl
+  same_length [] (y ∷ ys) did = absurd did
+  same_length (x ∷ xs) [] did = absurd did
+  same_length (x ∷ xs) (y ∷ ys) did = ap suc (same_length xs ys did.1)
+
+module _ (rows : List TraceRow) (lock : LockView Crew) (refresh : ℕ) (Tells : ℕ → Type 0) where
+  abbrev Did : Hand ℕ → Hand ℕ → Type 0
+  Did old new = HandDid (λ (n : ℕ). n) lock (trace_course refresh rows) work_cost Tells old new
+
+  fed_hand : (j : ℕ) (old new : Hand ℕ) → IsFeedOf rows lock j old → Did old new → HasFedHand rows lock refresh Tells j new
+  fed_hand j (Feed who queue total stopped) new is did =
+      let feeds : Feeds (λ (n : ℕ). n) (λ row. row.kind) lock Tells (length rows) queue.items who did.0 did.2 did.1.items =
+          subst (λ n. Feeds (λ (n : ℕ). n) (λ row. row.kind) lock Tells n queue.items who did.0 did.2 did.1.items) is.2 did.4 in
+      let done : HasFed rows lock refresh Tells j did.0 = record {
+        begun = who;
+        queue = queue.items;
+        stopped = did.2;
+        rest = did.1.items;
+        new = is.0;
+        queue_is = is.1;
+        made = λ zeroth. ap (λ n. n + 1) feeds.stays.made ∙ is.3 zeroth;
+        feeds = feeds;
+      } in
+      subst (HasFedHand rows lock refresh Tells j) (sym did.3) done
+  fed_hand j (Work slot) new is did = absurd is
+
+  worked_hand : (i : ℕ) (old new : Hand ℕ) → IsWorkOf rows lock i old → Did old new → HasWorkedHand rows lock refresh Tells i new
+  worked_hand i (Feed who queue total stopped) new is did = absurd is
+  worked_hand i (Work slot) new is did =
+      let same : is.0 ≡ did.0 = (let both : Some is.0 ≡ Some did.0 = sym is.1 ∙ did.2 in cc) in
+      let done : HasWorked rows lock refresh Tells i did.1 = record {
+        begun = did.0;
+        new = subst (λ (t : Worker). Rattle.desk.specs.Opening.IsNew lock (Rattle.fq_model.specs.Courses.worker_caller rows i) t.pass) same is.2;
+        numbered = subst (λ (t : Worker). t.worker ≡ i) same is.3;
+        worked = did.4;
+      } in
+      subst (HasWorkedHand rows lock refresh Tells i) (sym did.3) (did.1, refl, done)
+
+  pub all_done : (feeds works : ℕ) (olds news : List (Hand ℕ)) → AreHands rows lock feeds works olds → HandsDid (λ (n : ℕ). n) lock (trace_course refresh rows) work_cost Tells olds news → AreDone rows lock refresh Tells feeds works news
+  all_done feeds works olds news a did =
+      let each : EachBecomes Did olds news = each_becomes Did olds news did.0 did.1 in
+      let r = in_a_row Did a.first a.second news (subst (λ l. EachBecomes Did l news) a.both each) in record {
+        first = r.one;
+        second = r.two;
+        both = r.both;
+        have_fed = holds_of_new Did (IsFeedOf rows lock) (HasFedHand rows lock refresh Tells) fed_hand 0 a.first r.one a.are_feeds r.becomes_one;
+        have_worked = holds_of_new Did (IsWorkOf rows lock) (HasWorkedHand rows lock refresh Tells) worked_hand 0 a.second r.two a.are_works r.becomes_two;
+        feed_count = same_length Did a.first r.one r.becomes_one ∙ a.feed_count;
+        work_count = same_length Did a.second r.two r.becomes_two ∙ a.work_count;
+      }

@@ -1,0 +1,127 @@
+-- The tokens of hands that have done their parts.
+use Rattle.std.proofs.Common.{ℕ, zero, suc, ◌+◌, ◌-◌, ◌<◌, ◌≤◌, ◌≡◌, ◌⊎◌, inl, inr, List, [], ◌∷◌, ◌++◌, length, Option, Some, None, All, sym, ap, ◌∙◌, subst, refl, arith, nat_lt, Bool, true, false}
+use Rattle.std.proofs.lemmas.Bool.{ltb-true, ltb-false}
+use Rattle.std.proofs.lemmas.List.Elements.{All-nil, All-cons}
+use Rattle.fq_model.specs.declared.trace.TraceRow.{TraceRow}
+use Rattle.fq_model.specs.Courses.{worker_caller}
+use Rattle.history_lock.specs.Passes.{LockView, IsOf}
+use Rattle.desk.specs.declared.floor.Crew.{Crew}
+use Rattle.desk.specs.declared.tokens.Submitter.{Submitter}
+use Rattle.desk.specs.declared.tokens.Worker.{Worker}
+use Rattle.desk.specs.Ending.{HoldsOfEach, HoldsOfSome, IsFirst, AreOf, AreAll, first_made}
+use Rattle.worker_gate.specs.declared.pool.Hand.{Hand}
+use Rattle.worker_gate.specs.declared.pool.Hand.TheVariants.{Feed, Work}
+use Rattle.trace_pool.specs.Parts.{IsCrewOf, KnowsAll, HasFed, HasWorked, HasFedHand, HasWorkedHand, AreDone, submitters_in, workers_in, HoldsToken}
+use Rattle.trace_pool.specs.Places.{HoldsFrom}
+
+-- ---- by places
+
+module _ {A : Type 0} (Holds : ℕ → A → Type 0) where
+  pub of_each : (Q : A → Type 0) → ((n : ℕ) (x : A) → Holds n x → Q x) → (n : ℕ) (xs : List A) → HoldsFrom Holds n xs → HoldsOfEach Q xs
+  of_each Q f n [] h = tt
+  of_each Q f n (x ∷ xs) h = (f n x h.0, of_each Q f (suc n) xs h.1)
+
+  pub of_some : (Q : A → Type 0) (k n m : ℕ) (xs : List A) → k < length xs → m ≡ n + k → ((x : A) → Holds m x → Q x) → HoldsFrom Holds n xs → HoldsOfSome Q xs
+  of_some Q k n m [] here is f h = absurd (omega (arith, here))
+  of_some Q zero n m (x ∷ xs) here is f h = let same : m ≡ n = omega (arith, is) in inl (f x (subst (λ j. Holds j x) (sym same) h.0))
+  of_some Q (suc k) n m (x ∷ xs) here is f h = inr (of_some Q k (suc n) m xs (omega (arith, here)) (omega (arith, is)) f h.1)
+
+  -- the one at a place, which is so as each is too
+  pub found_at : (Q : A → Type 0) (k n m : ℕ) (xs : List A) → k < length xs → m ≡ n + k → HoldsFrom Holds n xs → HoldsOfEach Q xs → (x : A) × Holds m x × Q x
+  found_at Q k n m [] here is h q = absurd (omega (arith, here))
+  found_at Q zero n m (x ∷ xs) here is h q = let same : m ≡ n = omega (arith, is) in (x, subst (λ j. Holds j x) (sym same) h.0, q.0)
+  found_at Q (suc k) n m (x ∷ xs) here is h q = found_at Q k (suc n) m xs (omega (arith, here)) (omega (arith, is)) h.1 q.1
+
+module _ (rows : List TraceRow) (lock : LockView Crew) (refresh : ℕ) (Tells : ℕ → Type 0) where
+  abbrev Fed : ℕ → Submitter → Type 0
+  Fed j t = HasFed rows lock refresh Tells j t
+
+  abbrev Served : ℕ → Worker → Type 0
+  Served i t = HasWorked rows lock refresh Tells i t
+
+  abbrev FedHand : ℕ → Hand ℕ → Type 0
+  FedHand j hand = HasFedHand rows lock refresh Tells j hand
+
+  abbrev ServedHand : ℕ → Hand ℕ → Type 0
+  ServedHand i hand = HasWorkedHand rows lock refresh Tells i hand
+
+  -- ---- the tokens of hands
+
+  no_submitters : (i : ℕ) (second : List (Hand ℕ)) → HoldsFrom ServedHand i second → submitters_in second ≡ []
+  no_submitters i [] h = refl
+  no_submitters i (Feed who queue total stopped ∷ hands) h = absurd h.0
+  no_submitters i (Work slot ∷ hands) h = no_submitters (suc i) hands h.1
+
+  pub fed_tokens : (j : ℕ) (first second : List (Hand ℕ)) → HoldsFrom FedHand j first → HoldsFrom ServedHand 0 second → HoldsFrom Fed j (submitters_in (first ++ second))
+  fed_tokens j [] second h w = subst (HoldsFrom Fed j) (sym (no_submitters 0 second w)) tt
+  fed_tokens j (Feed who queue total stopped ∷ hands) second h w = (h.0, fed_tokens (suc j) hands second h.1 w)
+  fed_tokens j (Work slot ∷ hands) second h w = absurd h.0
+
+  served_tokens : (i : ℕ) (second : List (Hand ℕ)) → HoldsFrom ServedHand i second → HoldsFrom Served i (workers_in second)
+  served_tokens i [] w = tt
+  served_tokens i (Feed who queue total stopped ∷ hands) w = absurd w.0
+  served_tokens i (Work None ∷ hands) w = let none : None ≡ Some w.0.0 = w.0.1 in absurd (cc)
+  served_tokens i (Work (Some worker) ∷ hands) w =
+      let same : worker ≡ w.0.0 = (let both : Some worker ≡ Some w.0.0 = w.0.1 in cc) in
+      (subst (Served i) (sym same) w.0.2, served_tokens (suc i) hands w.1)
+
+  pub worked_tokens : (j : ℕ) (first second : List (Hand ℕ)) → HoldsFrom FedHand j first → HoldsFrom ServedHand 0 second → HoldsFrom Served 0 (workers_in (first ++ second))
+  worked_tokens j [] second h w = served_tokens 0 second w
+  worked_tokens j (Feed who queue total stopped ∷ hands) second h w = worked_tokens (suc j) hands second h.1 w
+  worked_tokens j (Work slot ∷ hands) second h w = absurd h.0
+
+  pub submitter_count : (j : ℕ) (first second : List (Hand ℕ)) → HoldsFrom FedHand j first → HoldsFrom ServedHand 0 second → length (submitters_in (first ++ second)) ≡ length first
+  submitter_count j [] second h w = ap length (no_submitters 0 second w)
+  submitter_count j (Feed who queue total stopped ∷ hands) second h w = ap suc (submitter_count (suc j) hands second h.1 w)
+  submitter_count j (Work slot ∷ hands) second h w = absurd h.0
+
+  served_count : (i : ℕ) (second : List (Hand ℕ)) → HoldsFrom ServedHand i second → length (workers_in second) ≡ length second
+  served_count i [] w = refl
+  served_count i (Feed who queue total stopped ∷ hands) w = absurd w.0
+  served_count i (Work None ∷ hands) w = let none : None ≡ Some w.0.0 = w.0.1 in absurd (cc)
+  served_count i (Work (Some worker) ∷ hands) w = ap suc (served_count (suc i) hands w.1)
+
+  pub worker_count : (j : ℕ) (first second : List (Hand ℕ)) → HoldsFrom FedHand j first → HoldsFrom ServedHand 0 second → length (workers_in (first ++ second)) ≡ length second
+  worker_count j [] second h w = served_count 0 second w
+  worker_count j (Feed who queue total stopped ∷ hands) second h w = worker_count (suc j) hands second h.1 w
+  worker_count j (Work slot ∷ hands) second h w = absurd h.0
+
+  served_hold : (i : ℕ) (second : List (Hand ℕ)) → HoldsFrom ServedHand i second → All HoldsToken second
+  served_hold i [] w = All-nil HoldsToken
+  served_hold i (Feed who queue total stopped ∷ hands) w = absurd w.0
+  served_hold i (Work slot ∷ hands) w = All-cons HoldsToken (Work slot) hands (w.0.0, w.0.1) (served_hold (suc i) hands w.1)
+
+  pub hold_tokens : (j : ℕ) (first second : List (Hand ℕ)) → HoldsFrom FedHand j first → HoldsFrom ServedHand 0 second → All HoldsToken (first ++ second)
+  hold_tokens j [] second h w = served_hold 0 second w
+  hold_tokens j (Feed who queue total stopped ∷ hands) second h w = All-cons HoldsToken (Feed who queue total stopped) (hands ++ second) tt (hold_tokens (suc j) hands second h.1 w)
+  hold_tokens j (Work slot ∷ hands) second h w = absurd h.0
+
+  -- ---- all tokens
+
+  first_is : (tokens : List Submitter) → 0 < length tokens → HoldsFrom Fed 0 tokens → IsFirst tokens
+  first_is [] some h = absurd (omega (arith, some))
+  first_is (t ∷ ts) some h = h.0.feeds.stays.number ∙ h.0.new.numbered
+
+  pub are_of : (submitters : List Submitter) (workers : List Worker) → 0 < length submitters → HoldsFrom Fed 0 submitters → HoldsFrom Served 0 workers → AreOf lock submitters workers
+  are_of submitters workers some fed served = record {
+    submitters_own = of_each Fed (λ (t : Submitter). IsOf lock t.pass) (λ j t h. h.feeds.stays.own) 0 submitters fed;
+    workers_own = of_each Served (λ (t : Worker). IsOf lock t.pass) (λ i t h. h.worked.stays.own) 0 workers served;
+    first = first_is submitters some fed;
+  }
+
+  pub made_is : (tokens : List Submitter) → 0 < length tokens → HoldsFrom Fed 0 tokens → first_made tokens + 1 ≡ lock.frame.submitters + lock.frame.config.workers
+  made_is [] some h = absurd (omega (arith, some))
+  made_is (t ∷ ts) some h = h.0.made refl
+
+  pub are_all : (submitters : List Submitter) (workers : List Worker) → IsCrewOf rows lock → 0 < length submitters → length submitters ≡ lock.frame.submitters → length workers ≡ lock.frame.config.workers
+      → HoldsFrom Fed 0 submitters → HoldsFrom Served 0 workers → AreAll submitters workers
+  are_all submitters workers crew some counted staffed fed served number low high = go (nat_lt number (length submitters)) refl
+    where
+      go : (b : Bool) → nat_lt number (length submitters) ≡ b → HoldsOfSome (λ (t : Submitter). t.pass.number ≡ number) submitters ⊎ HoldsOfSome (λ (t : Worker). t.pass.number ≡ number) workers
+      go true e = inl (of_some Fed (λ (t : Submitter). t.pass.number ≡ number) number 0 number submitters (ltb-true number (length submitters) e) (omega arith) (λ t h. h.feeds.stays.number ∙ h.new.numbered) fed)
+      go false e =
+          let above : length submitters ≤ number = omega (arith, ltb-false number (length submitters) e) in
+          let i : ℕ = number - length submitters in
+          let within : i < length workers = omega (arith, above, high, staffed, counted, made_is submitters some fed) in
+          let same : worker_caller rows i ≡ number = omega (arith, crew, counted, above) in
+          inr (of_some Served (λ (t : Worker). t.pass.number ≡ number) i 0 i workers within (omega arith) (λ t h. h.worked.stays.number ∙ (h.new.numbered ∙ same)) served)
