@@ -1,3 +1,4 @@
 pub mod Slices
 pub mod Stepping
 pub mod Did
+pub mod Seen
