@@ -51,9 +51,6 @@ none_between n P rest mine low high =
 turned_none : (n : ℕ) (rest : List Entry) → own_entries rest n ≡ [] → own_entries (history_of rest) n ≡ []
 turned_none n rest none = own_turned rest n ∙ ap reverse none
 
-turned_length : (n : ℕ) (P : List Entry) → length (own_entries (history_of P) n) ≡ length (own_entries P n)
-turned_length n P = ap length (own_turned P n) ∙ length-reverse (own_entries P n)
-
 -- an entry of the caller is one of its own
 own_more : (n : ℕ) (e : Entry) (P : History) → e.who ≡ n → own_entries (e ∷ P) n ≡ e ∷ own_entries P n
 own_more n e P by = let yes : eqb e.who n ≡ true = eq-eqb e.who n by in ap (λ (b : Bool). cond b (e ∷ own_entries P n) (own_entries P n)) yes
@@ -68,15 +65,15 @@ own_fewer n e P = go (eqb e.who n)
 
 -- ---- moments
 
-module _ (Tells : ℕ → Type 0) (number before : ℕ) where
-  -- where the caller has no more than so many, nothing is said
-  told_none : (H : History) → length (own_entries H number) ≤ before → HasToldMomentsFrom Tells number before H
-  told_none [] few = tt
-  told_none (e ∷ P) few = (
-    told_none P (omega (arith, few, own_fewer number e P)),
-    λ by past. let more : length (own_entries (e ∷ P) number) ≡ suc (length (own_entries P number)) = ap length (own_more number e P by) in absurd (omega (arith, few, past, more)),
-  )
+-- before its first call nothing is said of a caller
+told_none : (Tells : ℕ → Type 0) (number before : ℕ) (H : History) → length H ≤ before → HasToldMomentsFrom Tells number before H
+told_none Tells number before [] few = tt
+told_none Tells number before (e ∷ P) few = (told_none Tells number before P (omega (arith, few)), λ by past. absurd (omega (arith, few, past)))
 
+pub moments_begin : (Tells : ℕ → Type 0) (number : ℕ) (seen : List Entry) → HasToldMomentsFrom Tells number (length seen) (history_of seen)
+moments_begin Tells number seen = told_none Tells number (length seen) (history_of seen) (omega (arith, length-reverse seen))
+
+module _ (Tells : ℕ → Type 0) (number before : ℕ) where
   -- others' entries change nothing
   told_others : (R H : History) → own_entries R number ≡ [] → HasToldMomentsFrom Tells number before H → HasToldMomentsFrom Tells number before (R ++ H)
   told_others [] H none told = told
@@ -87,35 +84,21 @@ module _ (Tells : ℕ → Type 0) (number before : ℕ) where
         λ by past. let more : length (own_entries (e ∷ R) number) ≡ suc (length (own_entries R number)) = ap length (own_more number e R by) in absurd (omega (arith, low, more)),
       )
 
-  -- at each history that begins with what was seen, and has of the caller just these own entries, moments are told
-  abbrev pub AreTold : List Entry → List Entry → Type 0
-  AreTold seen mine = (P : List Entry) → IsPrefix seen P → own_entries P number ≡ mine → HasToldMomentsFrom Tells number before (history_of P)
-
   told_extends : (c : Call) (H H2 : History) → Tells (named_moment c) → HasToldMomentsFrom Tells number before H → Extends (caller c) (named_moment c) H H2 → HasToldMomentsFrom Tells number before H2
   told_extends c H H2 tells told (inl same) = subst (HasToldMomentsFrom Tells number before) (sym same) told
   told_extends c H H2 tells told (inr (act, more)) = subst (HasToldMomentsFrom Tells number before) (sym more) (told, λ _ _. (named_moment c, tells, refl))
 
   -- it stays so where the history grows by others' entries
-  told_stays : (seen mine : List Entry) → own_entries seen number ≡ mine → HasToldMomentsFrom Tells number before (history_of seen) → AreTold seen mine
-  told_stays seen mine own told P (rest, is) own2 =
+  told_stays : (seen P mine : List Entry) → IsPrefix seen P → own_entries seen number ≡ mine → own_entries P number ≡ mine → HasToldMomentsFrom Tells number before (history_of seen) → HasToldMomentsFrom Tells number before (history_of P)
+  told_stays seen P mine (rest, is) own own2 told =
       let none : own_entries rest number ≡ [] = none_between number seen rest mine own (ap (λ l. own_entries l number) (sym is) ∙ own2) in
       let turned : history_of P ≡ history_of rest ++ history_of seen = ap history_of is ∙ reverse-append seen rest in
       subst (HasToldMomentsFrom Tells number before) (sym turned) (told_others (history_of rest) (history_of seen) (turned_none number rest none) told)
 
-  -- after a call at a moment that is told, moments are told in what was seen
-  pub moments_now : (crew : Crew) (old new : PassView Crew) (c : Call) (reply : Reply) → IsAnswered crew old c reply new → old.number ≡ number → Tells (named_moment c) → AreTold old.seen old.mine → HasToldMomentsFrom Tells number before (history_of new.seen)
-  moments_now crew old new c reply a is tells told =
-      let own : own_entries a.P number ≡ old.mine = ap (own_entries a.P) (sym is) ∙ a.own in
-      told_extends c (history_of a.P) (history_of new.seen) tells (told a.P a.begins own) (answer_extends crew.config (history_of a.P) c reply (history_of new.seen) a.answers)
-
-  -- and stay so
-  pub moments_on : (crew : Crew) (old new : PassView Crew) (c : Call) (reply : Reply) → IsAnswered crew old c reply new → old.number ≡ number → Tells (named_moment c) → AreTold old.seen old.mine → AreTold new.seen new.mine
-  moments_on crew old new c reply a is tells told =
-      let own : own_entries new.seen number ≡ new.mine = ap (own_entries new.seen) (sym is) ∙ own_after crew old new c reply a in
-      told_stays new.seen new.mine own (moments_now crew old new c reply a is tells told)
-
--- before its first call a caller has no more than its own entries
-pub moments_begin : (Tells : ℕ → Type 0) (number : ℕ) (seen mine : List Entry) → AreTold Tells number (length mine) seen mine
-moments_begin Tells number seen mine P begins own =
-    let size : length (own_entries (history_of P) number) ≡ length mine = turned_length number P ∙ ap length own in
-    told_none Tells number (length mine) (history_of P) (omega (arith, size))
+  -- a call at a moment that is told, by a caller whose own entries are all of its number in what it has seen
+  pub moments_on : (crew : Crew) (old new : PassView Crew) (c : Call) (reply : Reply) → IsAnswered crew old c reply new → old.number ≡ number → old.mine ≡ own_entries old.seen old.number → Tells (named_moment c) → HasToldMomentsFrom Tells number before (history_of old.seen) → HasToldMomentsFrom Tells number before (history_of new.seen)
+  moments_on crew old new c reply a is own tells told =
+      let low : own_entries old.seen number ≡ old.mine = ap (own_entries old.seen) (sym is) ∙ sym own in
+      let high : own_entries a.P number ≡ old.mine = ap (own_entries a.P) (sym is) ∙ a.own in
+      told_extends c (history_of a.P) (history_of new.seen) tells (told_stays old.seen a.P old.mine a.begins low high told)
+      (answer_extends crew.config (history_of a.P) c reply (history_of new.seen) a.answers)

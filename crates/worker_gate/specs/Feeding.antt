@@ -89,4 +89,4 @@ module _ {J : Type 0} where
       pub feed : IsFeed total old.pass.number (map request_of sent) (history_of more)
       pub closed : HasClosed total old.pass.number (history_of more) (history_of new.pass.seen)
       pub refused : IsRefused lock.frame.config Tells old.pass.number (history_of new.pass.seen) stopped
-      pub moments : HasToldMomentsFrom Tells old.pass.number (length old.pass.mine) (history_of new.pass.seen)
+      pub moments : HasToldMomentsFrom Tells old.pass.number (length old.pass.seen) (history_of new.pass.seen)

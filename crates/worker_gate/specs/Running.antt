@@ -115,5 +115,5 @@ pub record Worked (lock : LockView Crew) (course_of : ℕ → Option (List Count
   pub runs : List JobRun
   pub acts_are : acts_of new.pass.mine ≡ with_runs new.worker runs (acts_of old.pass.mine)
   pub runs_are : AreRuns lock.frame.config course_of cost_of new.pass.seen runs
-  pub moments : HasToldMomentsFrom Tells new.pass.number (length old.pass.mine) (history_of new.pass.seen)
+  pub moments : HasToldMomentsFrom Tells new.pass.number (length old.pass.seen) (history_of new.pass.seen)
   pub turned_away : IsTurnedAway lock.frame.config new
