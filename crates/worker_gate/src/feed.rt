@@ -85,27 +85,16 @@ pub(crate) fn feed_rows<J: Job + Drop, X: Chooser, K: Clock, R: Wait, N: KindFor
     if total == 0 && number == 0 {
         close_now(desk, rt, who, clock);
     }
-    while let Some(row) = rows.pop_front() {
-        let asked = kinds.kind_for(&row);
-        let Row {
-            tenant,
-            kind,
-            declared,
-            job,
-        } = row;
-        match desk.submit(rt, who, clock.now(), tenant, asked, declared, job) {
+    while let Some(mut row) = rows.pop_front() {
+        let kind = kinds.kind_for(&row);
+        match desk.submit(rt, who, clock.now(), row.tenant, kind, row.declared, row.job) {
             Ok(request) => {
                 if is_last(request, total) {
                     close_now(desk, rt, who, clock);
                 }
             }
             Err(Refused { job, cause }) => {
-                let row = Row {
-                    tenant,
-                    kind,
-                    declared,
-                    job,
-                };
+                row.job = job;
                 return Some((row, cause));
             }
         }
