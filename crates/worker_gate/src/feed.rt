@@ -87,7 +87,8 @@ pub(crate) fn feed_rows<J: Job + Drop, X: Chooser, K: Clock, R: Wait, N: KindFor
     }
     while let Some(mut row) = rows.pop_front() {
         let kind = kinds.kind_for(&row);
-        match desk.submit(rt, who, clock.now(), row.tenant, kind, row.declared, row.job) {
+        let moment = clock.now();
+        match desk.submit(rt, who, moment, row.tenant, kind, row.declared, row.job) {
             Ok(request) => {
                 if is_last(request, total) {
                     close_now(desk, rt, who, clock);

@@ -21,21 +21,21 @@ loop-row-preserved-then-is_last g c =
     let s = c.in-Ok.ensures in let z = c.close_now-then-is_last.ensures in let a = z.answers in
     row_closed g.J.Job.label_of (g.N.KindFor.kind_for c.args.kinds.now) c.args.desk.now.lock (g.K.Clock.tells c.args.clock.now) c.args.total c.args.rows.now.items c.args.who.now
     c.in-Some.row c.loop-row.rows.items c.pop_front.new.self.items c.loop-row.who c.submit.new.who c.loop-row.invariant c.in-Some.ensures.items s.stays
-    c.close_now-then-is_last.new.who c.now.result c.kind_for-kind.result c.in-Ok.request a.0 a.1 c.if-is_last.ensures c.now.ensures c.kind_for-kind.ensures s.answers z.stays a.2 a.3
+    c.close_now-then-is_last.new.who c.now-moment.result c.kind_for-kind.result c.in-Ok.request a.0 a.1 c.if-is_last.ensures c.now-moment.ensures c.kind_for-kind.ensures s.answers z.stays a.2 a.3
 
 pub loop-row-preserved : goal.loop-row-preserved
 loop-row-preserved g c =
     let s = c.in-Ok.ensures in
     row_submitted g.J.Job.label_of (g.N.KindFor.kind_for c.args.kinds.now) c.args.desk.now.lock (g.K.Clock.tells c.args.clock.now) c.args.total c.args.rows.now.items c.args.who.now
     c.in-Some.row c.loop-row.rows.items c.pop_front.new.self.items c.loop-row.who c.submit.new.who c.loop-row.invariant c.in-Some.ensures.items s.stays
-    c.now.result c.kind_for-kind.result c.in-Ok.request c.if-is_last.ensures c.now.ensures c.kind_for-kind.ensures s.answers
+    c.now-moment.result c.kind_for-kind.result c.in-Ok.request c.if-is_last.ensures c.now-moment.ensures c.kind_for-kind.ensures s.answers
 
 pub returns-in-Err : goal.returns-in-Err
 returns-in-Err g c =
     let s = c.in-Err.ensures in
     row_refused g.J.Job.label_of (g.N.KindFor.kind_for c.args.kinds.now) c.args.desk.now.lock (g.K.Clock.tells c.args.clock.now) c.args.total c.args.rows.now.items c.args.who.now
     c.in-Some.row c.loop-row.rows.items c.pop_front.new.self.items c.loop-row.who c.submit.new.who c.loop-row.invariant c.in-Some.ensures.items s.stays
-    c.now.result c.kind_for-kind.result c.in-Err.field-0.cause c.in-Err.field-0.job s.job_back c.now.ensures c.kind_for-kind.ensures s.answers
+    c.now-moment.result c.kind_for-kind.result c.in-Err.field-0.cause c.in-Err.field-0.job s.job_back c.now-moment.ensures c.kind_for-kind.ensures s.answers
 
 pub returns : goal.returns
 returns g c =
