@@ -1,3 +1,7 @@
 pub mod Slices
 pub mod Stepping
 pub mod Did
+pub mod Seen
+pub mod Feeding
+pub mod FeedingRows
+pub mod FeedingKinds

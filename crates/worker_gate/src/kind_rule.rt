@@ -51,4 +51,11 @@ impl<J, F: Kind<J>> KindRule<J, F> {
     {
         self.function.kind(job)
     }
+
+    // That each kind is one of so many is a fact for proofs: this does nothing when it runs.
+    pub(crate) fn answers_below(&self)
+        ensures { AnswersBelow (F.kind_of self.now.function) self.now.kinds }
+    {
+        let _ = &self.function;
+    }
 }

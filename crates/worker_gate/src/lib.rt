@@ -5,6 +5,8 @@
 pub mod cost_rule;
 pub mod counters;
 pub mod feed;
+#[cfg(test)]
+mod feed_tests;
 pub mod gate;
 pub mod kind_rule;
 pub mod laws;

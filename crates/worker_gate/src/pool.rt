@@ -83,8 +83,11 @@ pub fn pool<
 {
     let threads = hands.len();
     if threads > 0 {
-        thread::for_each_mut(rt, hands, threads, &|_, hand: &mut Hand<J>| {
-            run(desk, rt, hand, gate, clock, rule)
-        });
+        thread::for_each_mut(
+            rt,
+            hands,
+            threads,
+            &|_, hand: &mut Hand<J>| { run(desk, rt, hand, gate, clock, rule) },
+        );
     }
 }

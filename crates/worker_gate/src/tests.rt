@@ -85,7 +85,7 @@ fn compared_part_by_part(rt: HostRuntime) {
 }
 
 #[derive(Drop)]
-struct Parity;
+pub(crate) struct Parity;
 
 impl Kind<u64> for Parity {
     ghost use Rattle.std.specs.Prelude.{◌%◌};
