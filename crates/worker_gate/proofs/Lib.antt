@@ -2,3 +2,10 @@ pub mod Slices
 pub mod Stepping
 pub mod Did
 pub mod Seen
+pub mod ServingUses
+pub mod ServingCourses
+pub mod ServingAnswers
+pub mod ServingSteps
+pub mod ServingRuns
+pub mod ServingSlices
+pub mod ServingEnds
