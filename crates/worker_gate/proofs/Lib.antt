@@ -5,3 +5,10 @@ pub mod Seen
 pub mod Feeding
 pub mod FeedingRows
 pub mod FeedingKinds
+pub mod ServingUses
+pub mod ServingCourses
+pub mod ServingAnswers
+pub mod ServingSteps
+pub mod ServingRuns
+pub mod ServingSlices
+pub mod ServingEnds

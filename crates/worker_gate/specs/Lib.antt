@@ -4,5 +4,6 @@ pub mod Slices
 pub mod Stepping
 pub mod Moments
 pub mod Running
+pub mod Serving
 pub mod Feeding
 pub mod Hands

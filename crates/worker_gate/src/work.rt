@@ -1,19 +1,95 @@
 //! How a worker serves.
+ghost use Rattle.std.specs.Prelude.{Bool, ◌≤◌, [], ◌∷◌};
+ghost use Rattle.fq_model.specs.History.{history_of, last_use};
 ghost use Rattle.history_lock.specs.Passes.{IsOf};
 ghost use Rattle.worker_gate.specs.Running.{Worked};
+ghost use Rattle.worker_gate.specs.Serving.{IsAtStart, HasNamed, HasRunSlices, HasRun};
 
 use crate::cost_rule::{Cost, CostRule};
-use crate::gate::Gate;
-use desk::{DeskOf, Floor, Worker};
+use crate::counters::NO_COUNTERS;
+use crate::gate::{Gate, Slice};
+use desk::{DeskOf, Floor, LiveRefusal, Running, Took, Worker};
 use fq_io::Clock;
 use fq_model::job::Job;
+use fq_model::limits::{GREATEST_COST, MOST_SLICES};
 use rival_policies::chooser::Chooser;
 use std::sync::Wait;
+
+// Reports what the request has used so far, or lets it go where the history has no room for it.
+fn report_use<J: Job + Drop, X: Chooser, K: Clock, R: Wait>(
+    desk: &DeskOf<Floor<J, X>>,
+    rt: &R,
+    running: &mut Running,
+    clock: &K,
+    used: u64,
+)
+    requires own { IsOf desk.now.lock running.old.pass }
+    requires rising { last_use (history_of running.old.pass.mine) running.old.request ≤ used }
+    requires limit { used ≤ GREATEST_COST }
+    ensures { (is_kept : Bool) × HasNamed desk.now.lock (K.tells clock.now) running.old running.new
+        (record { used = used; is_kept = is_kept } ∷ []) used }
+{
+    if let Err(refusal) = desk.report(rt, running, clock.now(), used) {
+        let LiveRefusal::Full(_) = refusal else {
+            unreachable!()
+        };
+    }
+}
+
+// Runs the job's slices up to its end, and reports each use but the last. Gives the last one, the job's cost.
+fn run_slices<J: Job + Drop, X: Chooser, G: Gate<J>, K: Clock, F: Cost, R: Wait>(
+    desk: &DeskOf<Floor<J, X>>,
+    rt: &R,
+    running: &mut Running,
+    job: &J,
+    gate: &G,
+    clock: &K,
+    rule: &CostRule<F>,
+) -> u64
+    requires { IsAtStart desk.now.lock running.old }
+    ensures slices { HasRunSlices desk.now.lock (K.tells clock.now) (G.course gate.now) (F.cost_of rule.now)
+        (J.label_of job.now) running.old running.new result }
+    ensures limit { result ≤ GREATEST_COST }
+{
+    let mut last = NO_COUNTERS;
+    for k in 0..MOST_SLICES - 1 {
+        match gate.slice(job, k, last) {
+            Slice::More(counters) => {
+                report_use(desk, rt, running, clock, rule.cost(counters));
+                last = counters;
+            }
+            Slice::End(counters) => return rule.cost(counters),
+        }
+    }
+    match gate.slice(job, MOST_SLICES - 1, last) {
+        Slice::More(counters) | Slice::End(counters) => rule.cost(counters),
+    }
+}
+
+// Runs the job to its end.
+fn run_job<J: Job + Drop, X: Chooser, G: Gate<J>, K: Clock, F: Cost, R: Wait>(
+    desk: &DeskOf<Floor<J, X>>,
+    rt: &R,
+    mut running: Running,
+    job: &J,
+    gate: &G,
+    clock: &K,
+    rule: &CostRule<F>,
+) -> Worker
+    requires { IsAtStart desk.now.lock running }
+    ensures { HasRun desk.now.lock (K.tells clock.now) (G.course gate.now) (F.cost_of rule.now)
+        (J.label_of job.now) running result }
+{
+    let cost = run_slices(desk, rt, &mut running, job, gate, clock, rule);
+    let ended = desk.done(rt, running, clock.now(), cost);
+    let Ok(worker) = ended else { unreachable!() };
+    worker
+}
 
 /// Takes one job after another and runs each to its end, until nothing waits and nothing more will come, or the pool has
 /// no place for the worker. Each job's gate is asked for slice after slice; what a slice has used is reported, at the
 /// cost that the rule makes of it, and is let go where the history has no room for it. Slice 9,999 is the last, whatever
-/// the gate says. It asks the clock before each call.
+/// the gate says. It asks the clock before each call, and sleeps while nothing waits.
 pub fn work<J: Job + Drop, X: Chooser, G: Gate<J>, K: Clock, F: Cost, R: Wait>(
     desk: &DeskOf<Floor<J, X>>,
     rt: &R,
@@ -25,6 +101,19 @@ pub fn work<J: Job + Drop, X: Chooser, G: Gate<J>, K: Clock, F: Cost, R: Wait>(
     requires { IsOf desk.now.lock worker.pass }
     ensures { Worked desk.now.lock (G.course gate.now) (F.cost_of rule.now) (K.tells clock.now) worker result }
 {
-    for _ in rt.forever() {}
-    worker
+    let mut free = worker;
+    for _ in rt.forever() {
+        let heard = desk.heard();
+        match desk.take(rt, free, clock.now()) {
+            Took::Run(running, job) => {
+                free = run_job(desk, rt, running, &job, gate, clock, rule);
+            }
+            Took::Idle(back) => {
+                desk.await_news(rt, heard);
+                free = back;
+            }
+            Took::Drained(back) | Took::Retired(back, _) => return back,
+        }
+    }
+    free
 }

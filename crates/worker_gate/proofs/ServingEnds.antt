@@ -1,0 +1,31 @@
+-- The Take at which a worker is turned away.
+use Rattle.std.proofs.Common.{◌≡◌, ℕ, ◌⊎◌, List, Option, subst, inl, inr}
+use Rattle.fq_model.specs.declared.event.Call.TheVariants as call
+use Rattle.history_lock.specs.Passes.{LockView}
+use Rattle.desk.specs.declared.floor.Crew.{Crew}
+use Rattle.desk.specs.declared.tokens.Took.{Took}
+use Rattle.desk.specs.declared.tokens.Took.TheVariants as took
+use Rattle.desk.specs.declared.tokens.Worker.{Worker}
+use Rattle.desk.specs.Replies.{took_reply, took_pass, took_worker}
+use Rattle.desk.specs.Tokens.{Stays, IsAnswered}
+use Rattle.worker_gate.specs.declared.counters.Counters.{Counters}
+use Rattle.worker_gate.specs.Running.{Worked}
+use Rattle.worker_gate.specs.Serving.{Serves}
+use Rattle.worker_gate.proofs.ServingRuns.{worked}
+use Rattle.worker_gate.proofs.ServingSteps.{rest_step}
+
+module _ {J : Type 0} (label : J → ℕ) (lock : LockView Crew) (Tells : ℕ → Type 0) (course_of : ℕ → Option (List Counters)) (cost_of : Counters → ℕ) where
+  -- what a Take ensures
+  pub record HasTaken (old : Worker) (m : ℕ) (answer : Took J) : Type 0 where
+    pub stays : Stays lock old.pass (took_pass answer)
+    pub answers : IsAnswered lock.frame old.pass (call.Take old.pass.number m old.worker) (took_reply label answer) (took_pass answer)
+    pub worker : took_worker answer ≡ old.worker
+
+  pub turned_away : (start old back : Worker) (m : ℕ) (answer : Took J) → Serves lock Tells course_of cost_of start old → Tells m → HasTaken old m answer
+      → (answer ≡ took.Drained back) ⊎ ((workers : ℕ) × (answer ≡ took.Retired back workers)) → Worked lock course_of cost_of Tells start back
+  turned_away start old back m answer s tells h (inl is) =
+      let x : HasTaken old m (took.Drained back) = subst (HasTaken old m) is h in
+      worked lock Tells course_of cost_of start old back m _ s (rest_step lock Tells old back.pass m (took_reply label (took.Drained back)) x.stays tells tt x.answers) x.worker tt
+  turned_away start old back m answer s tells h (inr (workers, is)) =
+      let x : HasTaken old m (took.Retired back workers) = subst (HasTaken old m) is h in
+      worked lock Tells course_of cost_of start old back m _ s (rest_step lock Tells old back.pass m (took_reply label (took.Retired back workers)) x.stays tells tt x.answers) x.worker tt

@@ -1,0 +1,173 @@
+-- Calls of a worker one after another.
+use Rattle.std.proofs.Common.{◌≡◌, ℕ, ◌≤◌, List, [], ◌∷◌, ◌++◌, length, Option, Some, sym, ap, ◌∙◌, subst, refl, arith}
+use Rattle.std.proofs.lemmas.List.{reverse-append}
+use Rattle.fq_model.specs.declared.config.Config.{Config}
+use Rattle.fq_model.specs.declared.event.Act.{Act}
+use Rattle.fq_model.specs.declared.event.Act.TheVariants.{Take, Done}
+use Rattle.fq_model.specs.declared.event.Call.TheVariants as call
+use Rattle.fq_model.specs.declared.event.Entry.{Entry}
+use Rattle.fq_model.specs.declared.event.Reply.{Reply}
+use Rattle.fq_model.specs.History.{History, history_of, last_use, Request, request_at}
+use Rattle.fq_model.specs.Rules.{IsLegal, Answers}
+use Rattle.fq_laws.proofs.History.Requests.{asked_stays}
+use Rattle.history_lock.specs.Histories.{IsPrefix}
+use Rattle.history_lock.specs.Passes.{LockView, PassView, IsOf}
+use Rattle.history_lock.proofs.Histories.{prefix_through}
+use Rattle.desk.specs.declared.floor.Crew.{Crew}
+use Rattle.desk.specs.declared.tokens.Running.{Running}
+use Rattle.desk.specs.declared.tokens.Worker.{Worker}
+use Rattle.worker_gate.specs.declared.counters.Counters.{Counters}
+use Rattle.worker_gate.specs.Moments.{HasToldMomentsFrom}
+use Rattle.worker_gate.specs.Running.{Use, JobRun, with_uses, with_runs, acts_of, LackedRoom, AreKeptWhereRoom, HasLabel, IsAsTold, IsRun, AreRuns, EndsWork, Worked}
+use Rattle.worker_gate.specs.Serving.{run_of, Goes, HasNamed, HasRun, Serves}
+use Rattle.worker_gate.proofs.Seen.{prefix_same, moments_begin}
+use Rattle.worker_gate.proofs.ServingSteps.{Ended, Takes, Rests}
+
+-- ---- what holds of a history holds as it grows
+
+lacked_on : (C : Config) (seen seen2 : List Entry) → IsPrefix seen seen2 → LackedRoom C seen → LackedRoom C seen2
+lacked_on C seen seen2 on (P, begins, room) = (P, prefix_through P seen seen2 begins on, room)
+
+pub kept_on : (C : Config) (seen seen2 : List Entry) (uses : List Use) → IsPrefix seen seen2 → AreKeptWhereRoom C seen uses → AreKeptWhereRoom C seen2 uses
+kept_on C seen seen2 [] on kept = tt
+kept_on C seen seen2 (use_ ∷ uses) on kept = (λ no. lacked_on C seen seen2 on (kept.0 no), kept_on C seen seen2 uses on kept.1)
+
+-- what a request asked stays as a legal history grows
+asked_on : (C : Config) (R H : History) (r : ℕ) (asked : Request) → IsLegal C (R ++ H) → request_at H r ≡ Some asked → request_at (R ++ H) r ≡ Some asked
+asked_on C [] H r asked l is = is
+asked_on C (e ∷ R) H r asked l is = asked_stays C (R ++ H) e r asked l (asked_on C R H r asked l.0 is)
+
+label_on : (C : Config) (seen seen2 : List Entry) (r label : ℕ) → IsPrefix seen seen2 → IsLegal C (history_of seen2) → HasLabel (history_of seen) r label → HasLabel (history_of seen2) r label
+label_on C seen seen2 r label (rest, is) l (asked, at, same) =
+    let turned : history_of seen2 ≡ history_of rest ++ history_of seen = ap history_of is ∙ reverse-append seen rest in
+    let legal : IsLegal C (history_of rest ++ history_of seen) = subst (IsLegal C) turned l in
+    (asked, ap (λ H. request_at H r) turned ∙ asked_on C (history_of rest) (history_of seen) r asked legal at, same)
+
+module _ (C : Config) (course_of : ℕ → Option (List Counters)) (cost_of : Counters → ℕ) where
+  run_on : (seen seen2 : List Entry) (run : JobRun) → IsPrefix seen seen2 → IsLegal C (history_of seen2) → IsRun C course_of cost_of seen run → IsRun C course_of cost_of seen2 run
+  run_on seen seen2 run on l is = record {
+    labelled = label_on C seen seen2 run.request run.label on l is.labelled;
+    kept = kept_on C seen seen2 run.uses on is.kept;
+    follows = is.follows;
+  }
+
+  pub runs_on : (seen seen2 : List Entry) (runs : List JobRun) → IsPrefix seen seen2 → IsLegal C (history_of seen2) → AreRuns C course_of cost_of seen runs → AreRuns C course_of cost_of seen2 runs
+  runs_on seen seen2 [] on l are = tt
+  runs_on seen seen2 (run ∷ runs) on l are = (run_on seen seen2 run on l are.0, runs_on seen seen2 runs on l are.1)
+
+module _ (lock : LockView Crew) (Tells : ℕ → Type 0) where
+  pub goes_same : (pass : PassView Crew) → IsOf lock pass → Goes lock Tells pass pass
+  goes_same pass own = record { stays = record { own = own; number = refl; made = refl; ended = refl }; seen = prefix_same pass.seen; moments = λ before told. told }
+
+  pub goes_on : (a b c : PassView Crew) → Goes lock Tells a b → Goes lock Tells b c → Goes lock Tells a c
+  goes_on a b c x y = record {
+    stays = record { own = y.stays.own; number = y.stays.number ∙ x.stays.number; made = y.stays.made ∙ x.stays.made; ended = y.stays.ended ∙ x.stays.ended };
+    seen = prefix_through a.seen b.seen c.seen x.seen y.seen;
+    moments = λ before told. subst (λ n. HasToldMomentsFrom Tells n before (history_of c.seen)) x.stays.number
+        (y.moments before (subst (λ n. HasToldMomentsFrom Tells n before (history_of b.seen)) (sym x.stays.number) (x.moments before told)));
+  }
+
+  -- ---- the uses of a request
+
+  pub named_none : (running : Running) (most : ℕ) → IsOf lock running.pass → last_use (history_of running.pass.mine) running.request ≡ 0 → HasNamed lock Tells running running [] most
+  named_none running most own unused = record {
+    goes = goes_same running.pass own;
+    run = record { worker = refl; request = refl; estimate = refl };
+    acts_are = refl;
+    kept = tt;
+    rising = omega (arith, unused);
+  }
+
+  -- one more after others
+  more_uses : (i r : ℕ) (use_ : Use) (uses : List Use) (older : List Act) → with_uses i r (use_ ∷ []) (with_uses i r uses older) ≡ with_uses i r (use_ ∷ uses) older
+  more_uses i r use_ uses older = refl
+
+  pub named_more : (start old new : Running) (use_ : Use) (uses : List Use) (most : ℕ) → HasNamed lock Tells start old uses most → HasNamed lock Tells old new (use_ ∷ []) use_.used → HasNamed lock Tells start new (use_ ∷ uses) use_.used
+  named_more start old new use_ uses most x y =
+      let same : with_uses old.worker old.request (use_ ∷ []) (acts_of old.pass.mine) ≡ with_uses start.worker start.request (use_ ∷ []) (acts_of old.pass.mine) =
+      ap (λ i. with_uses i old.request (use_ ∷ []) (acts_of old.pass.mine)) x.run.worker ∙ ap (λ r. with_uses start.worker r (use_ ∷ []) (acts_of old.pass.mine)) x.run.request in record {
+        goes = goes_on start.pass old.pass new.pass x.goes y.goes;
+        run = record { worker = y.run.worker ∙ x.run.worker; request = y.run.request ∙ x.run.request; estimate = y.run.estimate ∙ x.run.estimate };
+        acts_are = y.acts_are ∙ (same ∙ (ap (with_uses start.worker start.request (use_ ∷ [])) x.acts_are ∙ more_uses start.worker start.request use_ uses (acts_of start.pass.mine)));
+        kept = (y.kept.0, kept_on lock.frame.config old.pass.seen new.pass.seen uses y.goes.seen x.kept);
+        rising = subst (λ r. last_use (history_of new.pass.mine) r ≤ use_.used) x.run.request y.rising;
+      }
+
+  -- the same uses, under a greater bound
+  pub named_up : (start new : Running) (uses : List Use) (most more : ℕ) → most ≤ more → HasNamed lock Tells start new uses most → HasNamed lock Tells start new uses more
+  named_up start new uses most more up x = record { goes = x.goes; run = x.run; acts_are = x.acts_are; kept = x.kept; rising = omega (arith, x.rising, up) }
+
+  module _ (course_of : ℕ → Option (List Counters)) (cost_of : Counters → ℕ) where
+    -- ---- a job
+
+    pub run_ends : (label cost : ℕ) (start old : Running) (new : Worker) (uses : List Use) (reply : Reply) → HasNamed lock Tells start old uses cost → IsAsTold cost_of (course_of label) (run_of start label uses cost)
+        → Ended lock Tells cost old new.pass reply → new.worker ≡ old.worker → HasRun lock Tells course_of cost_of label start new
+    run_ends label cost start old new uses reply x told y worker =
+        let same : Done old.worker old.request cost ≡ Done start.worker start.request cost = ap (λ i. Done i old.request cost) x.run.worker ∙ ap (λ r. Done start.worker r cost) x.run.request in record {
+          goes = goes_on start.pass old.pass new.pass x.goes y.goes;
+          worker = worker ∙ x.run.worker;
+          legal = y.legal;
+          uses = uses;
+          cost = cost;
+          acts_are = y.acts_are ∙ (ap (λ act. act ∷ acts_of old.pass.mine) same ∙ ap (λ acts. Done start.worker start.request cost ∷ acts) x.acts_are);
+          kept = kept_on lock.frame.config old.pass.seen new.pass.seen uses y.goes.seen x.kept;
+          follows = told;
+        }
+
+    -- ---- one job after another
+
+    pub serves_none : (worker : Worker) → IsOf lock worker.pass → Serves lock Tells course_of cost_of worker worker
+    serves_none worker own = record { goes = goes_same worker.pass own; worker = refl; runs = []; acts_are = refl; runs_are = tt }
+
+    -- a Take that gives no request adds nothing
+    pub serves_rest : (start old new : Worker) (m i : ℕ) (reply : Reply) → Serves lock Tells course_of cost_of start old → Rests lock Tells old.pass new.pass m i reply → new.worker ≡ old.worker → Serves lock Tells course_of cost_of start new
+    serves_rest start old new m i reply x y worker = record {
+      goes = goes_on start.pass old.pass new.pass x.goes y.goes;
+      worker = worker ∙ x.worker;
+      runs = x.runs;
+      acts_are = ap acts_of y.mine ∙ x.acts_are;
+      runs_are = runs_on lock.frame.config course_of cost_of old.pass.seen new.pass.seen x.runs y.goes.seen y.legal x.runs_are;
+    }
+
+    run_acts : (start old new : Worker) (running : Running) (label : ℕ) (s : Serves lock Tells course_of cost_of start old) → Takes lock Tells label old running → running.worker ≡ old.worker → (h : HasRun lock Tells course_of cost_of label running new)
+        → acts_of new.pass.mine ≡ with_runs start.worker (run_of running label h.uses h.cost ∷ s.runs) (acts_of start.pass.mine)
+    run_acts start old new running label s t worker h =
+        let run : JobRun = run_of running label h.uses h.cost in
+        let one : acts_of running.pass.mine ≡ Take start.worker running.request running.estimate ∷ with_runs start.worker s.runs (acts_of start.pass.mine) =
+        t.acts_are ∙ (ap (λ i. Take i running.request running.estimate ∷ acts_of old.pass.mine) s.worker ∙ ap (λ acts. Take start.worker running.request running.estimate ∷ acts) s.acts_are) in
+        let i_is : running.worker ≡ start.worker = worker ∙ s.worker in
+        h.acts_are ∙ (ap (λ i. Done i running.request h.cost ∷ with_uses i running.request h.uses (acts_of running.pass.mine)) i_is
+        ∙ ap (λ acts. Done start.worker running.request h.cost ∷ with_uses start.worker running.request h.uses acts) one)
+
+    -- a Take that gives one, and the run of it
+    pub serves_run : (start old new : Worker) (running : Running) (label : ℕ) → Serves lock Tells course_of cost_of start old → Takes lock Tells label old running → running.worker ≡ old.worker → HasRun lock Tells course_of cost_of label running new → Serves lock Tells course_of cost_of start new
+    serves_run start old new running label s t worker h =
+        let C : Config = lock.frame.config in
+        let later : Goes lock Tells old.pass new.pass = goes_on old.pass running.pass new.pass t.goes h.goes in
+        let run : JobRun = run_of running label h.uses h.cost in
+        let is : IsRun C course_of cost_of new.pass.seen run = record {
+          labelled = label_on C running.pass.seen new.pass.seen running.request label h.goes.seen h.legal t.labelled;
+          kept = h.kept;
+          follows = h.follows;
+        } in record {
+          goes = goes_on start.pass old.pass new.pass s.goes later;
+          worker = h.worker ∙ (worker ∙ s.worker);
+          runs = run ∷ s.runs;
+          acts_are = run_acts start old new running label s t worker h;
+          runs_are = (is, runs_on C course_of cost_of old.pass.seen new.pass.seen s.runs later.seen h.legal s.runs_are);
+        }
+
+    -- a worker that is turned away has done its part
+    pub worked : (start old new : Worker) (m : ℕ) (reply : Reply) → Serves lock Tells course_of cost_of start old → Rests lock Tells old.pass new.pass m old.worker reply → new.worker ≡ old.worker → EndsWork reply → Worked lock course_of cost_of Tells start new
+    worked start old new m reply s y worker ends =
+        let x : Serves lock Tells course_of cost_of start new = serves_rest start old new m old.worker reply s y worker in
+        let told : HasToldMomentsFrom Tells start.pass.number (length start.pass.seen) (history_of new.pass.seen) = x.goes.moments (length start.pass.seen) (moments_begin Tells start.pass.number start.pass.seen) in record {
+          stays = x.goes.stays;
+          worker = x.worker;
+          seen = x.goes.seen;
+          runs = x.runs;
+          acts_are = x.acts_are ∙ ap (λ i. with_runs i x.runs (acts_of start.pass.mine)) (sym x.worker);
+          runs_are = x.runs_are;
+          moments = subst (λ n. HasToldMomentsFrom Tells n (length start.pass.seen) (history_of new.pass.seen)) (sym x.goes.stays.number) told;
+          turned_away = (m, reply, ends, subst (λ i. Answers lock.frame.config (history_of new.pass.seen) (call.Take new.pass.number m i) reply (history_of new.pass.seen)) (sym worker) y.answers);
+        }

@@ -1,0 +1,66 @@
+-- How a worker serves, step by step.
+use Rattle.std.specs.Prelude.{◌≡◌, ℕ, ◌≤◌, List, ◌∷◌, Option}
+use Rattle.fq_model.specs.declared.event.Act.TheVariants.{Done}
+use Rattle.fq_model.specs.History.{history_of, last_use}
+use Rattle.fq_model.specs.Rules.{IsLegal}
+use Rattle.history_lock.specs.Histories.{IsPrefix}
+use Rattle.history_lock.specs.Passes.{LockView, PassView, IsOf}
+use Rattle.desk.specs.declared.floor.Crew.{Crew}
+use Rattle.desk.specs.declared.tokens.Running.{Running}
+use Rattle.desk.specs.declared.tokens.Worker.{Worker}
+use Rattle.desk.specs.Replies.{SameRun}
+use Rattle.desk.specs.Tokens.{Stays}
+use Rattle.worker_gate.specs.declared.counters.Counters.{Counters}
+use Rattle.worker_gate.specs.Moments.{HasToldMomentsFrom}
+use Rattle.worker_gate.specs.Running.{Use, JobRun, with_uses, with_runs, acts_of, AreKeptWhereRoom, IsAsTold, AreRuns}
+
+-- the request's course as its worker ran it
+abbrev pub run_of : Running → ℕ → List Use → ℕ → JobRun
+run_of running label uses cost =
+    record { request = running.request; estimate = running.estimate; label = label; uses = uses; cost = cost }
+
+-- the token is of this lock, and nothing was reported of its request
+pub record IsAtStart (lock : LockView Crew) (running : Running) : Type 0 where
+  pub own : IsOf lock running.pass
+  pub unused : last_use (history_of running.pass.mine) running.request ≡ 0
+
+module _ (lock : LockView Crew) (Tells : ℕ → Type 0) where
+  -- after calls of its caller a pass has seen what it had seen and more, and they were made at moments that are told
+  pub record Goes (old new : PassView Crew) : Type 0 where
+    pub stays : Stays lock old new
+    pub seen : IsPrefix old.seen new.seen
+    pub moments : (before : ℕ) → HasToldMomentsFrom Tells old.number before (history_of old.seen)
+        → HasToldMomentsFrom Tells old.number before (history_of new.seen)
+
+  -- these uses of the request were named, and the history has none above `most`
+  pub record HasNamed (old new : Running) (uses : List Use) (most : ℕ) : Type 0 where
+    pub goes : Goes old.pass new.pass
+    pub run : SameRun old new
+    pub acts_are : acts_of new.pass.mine ≡ with_uses old.worker old.request uses (acts_of old.pass.mine)
+    pub kept : AreKeptWhereRoom lock.frame.config new.pass.seen uses
+    pub rising : last_use (history_of new.pass.mine) old.request ≤ most
+
+  module _ (course_of : ℕ → Option (List Counters)) (cost_of : Counters → ℕ) where
+    -- the slices of a job of this label were run, and came to this cost
+    abbrev pub HasRunSlices : ℕ → Running → Running → ℕ → Type 0
+    HasRunSlices label old new cost =
+        (uses : List Use) × HasNamed old new uses cost × IsAsTold cost_of (course_of label) (run_of old label uses cost)
+
+    -- the job of this label was run to its end
+    pub record HasRun (label : ℕ) (old : Running) (new : Worker) : Type 0 where
+      pub goes : Goes old.pass new.pass
+      pub worker : new.worker ≡ old.worker
+      pub legal : IsLegal lock.frame.config (history_of new.pass.seen)
+      pub uses : List Use
+      pub cost : ℕ
+      pub acts_are : acts_of new.pass.mine ≡ Done old.worker old.request cost ∷ with_uses old.worker old.request uses (acts_of old.pass.mine)
+      pub kept : AreKeptWhereRoom lock.frame.config new.pass.seen uses
+      pub follows : IsAsTold cost_of (course_of label) (run_of old label uses cost)
+
+    -- so far the worker has run these jobs
+    pub record Serves (old new : Worker) : Type 0 where
+      pub goes : Goes old.pass new.pass
+      pub worker : new.worker ≡ old.worker
+      pub runs : List JobRun
+      pub acts_are : acts_of new.pass.mine ≡ with_runs old.worker runs (acts_of old.pass.mine)
+      pub runs_are : AreRuns lock.frame.config course_of cost_of new.pass.seen runs
