@@ -7,8 +7,14 @@ ghost use Rattle.fq_model.specs.TraceText.{IsLawfulTrace};
 ghost use Rattle.trace_pool.specs.Serving.{IsTooLong, too_long};
 ghost use Rattle.trace_pool.specs.declared.fault.PoolFault.TheVariants as faults;
 
+use crate::dealing::deal;
 use crate::fault::PoolFault;
+use crate::gate::TraceGate;
+use crate::hands::{hand_out, take_back};
+use crate::needed::needed;
+use desk::DeskOf;
 use fq_io::Clock;
+use fq_model::limits::{LEAST_ENTRIES, MOST_ENTRIES};
 use fq_model::trace::RunOptions;
 use rival_policies::chooser::Chooser;
 use sched_state::Scheduler;
@@ -16,6 +22,9 @@ use std::alloc::Global;
 use std::sync::Wait;
 use std::thread::Threads;
 use trace_reader::trace::Trace;
+use trace_runner::opening::{config_of, submitters};
+use worker_gate::cost_rule::{CostRule, WorkCost};
+use worker_gate::pool::pool;
 
 /// Serves a trace by a pool of threads, one for each submitter and one for each worker, and gives the scheduler that they
 /// shared. Rows come when their submitter comes to them: their moments are not used. The clock is asked by the threads
@@ -37,6 +46,26 @@ pub fn serve<X: Chooser + Drop + Send, K: Clock + Sync, R: Threads + Wait + Sync
     ensures fault { IfErr result (λ f. (f ≡ faults.NoMemory)
         ⊎ ((f ≡ too_long trace.now options) × IsTooLong trace.now options)) }
 {
-    for _ in rt.forever() {}
-    Err(PoolFault::NoMemory)
+    let entries = needed(trace, options.refresh);
+    if entries > MOST_ENTRIES as u64 {
+        return Err(PoolFault::TooManyEntries(entries));
+    }
+    let config = config_of(alloc, trace, options, (entries as u32).max(LEAST_ENTRIES))?;
+    let count = submitters(trace.rows());
+    let queues = deal(alloc, trace.rows(), count)?;
+    let mut hands = Vec::with_capacity(alloc, (count + options.workers) as usize)?;
+    let Ok((desk, mut submitters, mut workers)) = DeskOf::open(alloc, config, count) else {
+        hands.destroy_empty();
+        return Err(PoolFault::NoMemory);
+    };
+    hand_out(&desk, trace.rows(), queues, &mut submitters, &mut workers, &mut hands);
+    let gate = TraceGate::new(trace.rows(), options.refresh);
+    let rule = CostRule::new(WorkCost);
+    pool(rt, &desk, hands.as_mut_slice(), &gate, clock, &rule);
+    take_back(&mut hands, &mut submitters, &mut workers);
+    hands.destroy_empty();
+    let Ok(scheduler) = desk.finish(submitters, workers) else {
+        unreachable!()
+    };
+    Ok(scheduler)
 }

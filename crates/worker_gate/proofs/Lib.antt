@@ -1,10 +1,10 @@
+pub mod Feeding
+pub mod FeedingRows
+pub mod FeedingKinds
 pub mod Slices
 pub mod Stepping
 pub mod Did
 pub mod Seen
-pub mod Feeding
-pub mod FeedingRows
-pub mod FeedingKinds
 pub mod ServingUses
 pub mod ServingCourses
 pub mod ServingAnswers
