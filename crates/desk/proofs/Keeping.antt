@@ -1,5 +1,5 @@
 -- Every call keeps the past legal and staffed.
-use Rattle.std.proofs.Common.{◌≡◌, ℕ, ◌+◌, Bool, true, false, Option, sym, subst, ◌==◌}
+use Rattle.std.proofs.Common.{◌≡◌, ℕ, ◌+◌, Bool, true, false, Option, sym, ap, ◌∙◌, subst, ◌==◌}
 use Rattle.std.specs.Prelude.{MatchBool, nat_le}
 use Rattle.fq_model.specs.declared.config.Config.{Config}
 use Rattle.fq_model.specs.declared.event.Act.{Act}
@@ -16,6 +16,7 @@ use Rattle.desk.specs.declared.told.Ask.{Ask}
 use Rattle.desk.specs.declared.told.Ask.TheVariants as ask
 use Rattle.desk.specs.Staffed.{IsMadeBy, IsStaffed, MayAsk}
 use Rattle.desk.specs.Floors.{FloorView, crew_of, KeepsFloor}
+use Rattle.desk.specs.Ending.{IsGivenBack}
 use Rattle.desk.specs.Told.{call_of}
 
 -- an accepted call of this act, refused or not, keeps the history staffed
@@ -49,4 +50,14 @@ kept {J = J} label before after s seen who given asked reply view is may a k =
       limits = rw a.config_is k.limits;
       legal = subst (λ (C : Config). IsLegal C (history_of after.past)) (sym a.config_is) (answer_legal before.config (history_of before.past) (call_of label who asked) reply (history_of after.past) k.limits k.legal a.answers);
       staffed = staffed_on label crew (history_of before.past) who asked reply (history_of after.past) by k.staffed a.answers;
+    }
+
+-- what a floor keeps, a desk gives back
+pub given_back : {J : Type 0} (crew : Crew) (floor : FloorView J) (scheduler : SchedulerView J) → crew_of floor ≡ crew → scheduler ≡ floor.scheduler → KeepsFloor scheduler floor.submitters → IsGivenBack crew scheduler
+given_back crew floor scheduler is same k =
+    let config : floor.scheduler.config ≡ crew.config = ap (λ (c : Crew). c.config) is in
+    let own : scheduler.config ≡ crew.config = ap (λ s. s.config) same ∙ config in record {
+      config = own;
+      legal = subst (λ (C : Config). IsLegal C (history_of scheduler.past)) own k.legal;
+      staffed = subst (λ n. IsStaffed n (history_of scheduler.past)) (ap (λ (c : Crew). c.submitters) is) k.staffed;
     }

@@ -3,13 +3,17 @@ use Rattle.std.specs.Prelude.{ℕ, ◌<◌, ◌≤◌, ◌≡◌, ◌⊎◌, Lis
 use mathlib.Core.Option.{some}
 use lib.ListN.{get_elem?}
 use Rattle.fq_model.specs.declared.event.Entry.{Entry}
+use Rattle.fq_model.specs.History.{history_of}
 use Rattle.fq_model.specs.Outcome.{own_entries}
+use Rattle.fq_model.specs.Rules.{IsLegal}
 use Rattle.history_lock.specs.Histories.{IsPrefix}
 use Rattle.history_lock.specs.Passes.{LockView, PassView, IsOf}
 use Rattle.history_lock.specs.Last.{WasLast}
+use Rattle.sched_state.specs.Scheduler.{SchedulerView}
 use Rattle.desk.specs.declared.floor.Crew.{Crew}
 use Rattle.desk.specs.declared.tokens.Submitter.{Submitter}
 use Rattle.desk.specs.declared.tokens.Worker.{Worker}
+use Rattle.desk.specs.Staffed.{IsStaffed}
 use Rattle.desk.specs.Floors.{FloorView, crew_of}
 
 -- it holds of each
@@ -50,6 +54,13 @@ first_made (token ∷ tokens) = token.pass.made
 abbrev pub AreAll : List Submitter → List Worker → Type 0
 AreAll submitters workers = (number : ℕ) → 0 < number → number ≤ first_made submitters
     → HoldsOfSome (λ t. t.pass.number ≡ number) submitters ⊎ HoldsOfSome (λ t. t.pass.number ≡ number) workers
+
+-- the scheduler that a desk gives back: its configuration is that of the opening, and its past is one legal history
+-- whose entries are made by those who may make them
+pub record IsGivenBack {J : Type 0} (crew : Crew) (scheduler : SchedulerView J) : Type 0 where
+  pub config : scheduler.config ≡ crew.config
+  pub legal : IsLegal crew.config (history_of scheduler.past)
+  pub staffed : IsStaffed crew.submitters (history_of scheduler.past)
 
 -- a pass has taken this one in
 abbrev pub IsTaken : PassView Crew → PassView Crew → Type 0

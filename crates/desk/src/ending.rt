@@ -1,7 +1,7 @@
 //! How a desk ends.
 ghost use Rattle.std.specs.Prelude.{◌≡◌, ◌≢◌, ℕ, IfOk, IfErr, IsOk};
 ghost use Rattle.history_lock.specs.Passes.{IsOf, HasNoneAbove};
-ghost use Rattle.desk.specs.Ending.{HoldsOfEach, HasJoined, AreOf, HasAll, AreAll, LastMoment, first_made};
+ghost use Rattle.desk.specs.Ending.{HoldsOfEach, HasJoined, AreOf, HasAll, AreAll, LastMoment, first_made, IsGivenBack};
 
 use crate::desk::DeskOf;
 use crate::floor::{Crew, Floor};
@@ -57,7 +57,7 @@ impl<J: Job + Drop, X: Chooser + Drop> DeskOf<Floor<J, X>> {
         requires { AreOf self.lock submitters.items workers.items }
         ensures tokens { IfOk result (λ s. HasAll s.past submitters.items workers.items) }
         ensures above { IfOk result (λ s. HasNoneAbove s.past (first_made submitters.items)) }
-        ensures config { IfOk result (λ s. s.config ≡ self.lock.frame.config) }
+        ensures given_back { IfOk result (IsGivenBack self.lock.frame) }
         ensures settled { AreAll submitters.items workers.items → IsOk result }
         ensures exact { (drawn : ℕ) × (served : ℕ)
             × LastMoment J self.lock submitters.items workers.items drawn served

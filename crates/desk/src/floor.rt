@@ -1,7 +1,7 @@
 //! The machine in the lock.
 ghost use Rattle.std.specs.Prelude.{◌≡◌, IfOk};
 ghost use Rattle.fq_model.specs.Limits.{InLimits};
-ghost use Rattle.desk.specs.Floors.{opened};
+ghost use Rattle.desk.specs.Floors.{opened, KeepsFloor};
 
 use crate::told::{Ask, Told};
 use fq_model::config::Checked;
@@ -56,7 +56,8 @@ impl<J: Job + Drop, X: Chooser> Floor<J, X> {
 impl<J: Job, X: Chooser> Floor<J, X> {
     /// The scheduler.
     pub fn into_scheduler(self) -> Scheduler<J, X>
-        ensures { result ≡ self.scheduler }
+        ensures same { result ≡ self.scheduler }
+        ensures kept { KeepsFloor result self.submitters }
     {
         self.scheduler
     }

@@ -1,5 +1,7 @@
 -- Hands that were given their parts, and have done them.
-use Rattle.std.proofs.Common.{ℕ, zero, suc, ◌+◌, ◌<◌, ◌≡◌, List, [], ◌∷◌, ◌++◌, length, slice_index_or, Option, Some, None, sym, ap, ◌∙◌, subst, refl, arith}
+use Rattle.std.proofs.Common.{ℕ, zero, suc, ◌+◌, ◌<◌, ◌≡◌, List, [], ◌∷◌, ◌++◌, length, slice_index_or, take, drop, append-nil, Option, Some, None, All, sym, ap, ◌∙◌, subst, refl, arith}
+use Rattle.std.proofs.Math.Seq.{drop-length, take-length}
+use Rattle.std.proofs.lemmas.List.Elements.{All-nil, All-cons, All-append}
 use Rattle.fq_model.specs.declared.trace.TraceRow.{TraceRow}
 use Rattle.history_lock.specs.Passes.{LockView}
 use Rattle.desk.specs.declared.floor.Crew.{Crew}
@@ -8,7 +10,7 @@ use Rattle.desk.specs.declared.tokens.Worker.{Worker}
 use Rattle.worker_gate.specs.declared.pool.Hand.{Hand}
 use Rattle.worker_gate.specs.declared.pool.Hand.TheVariants.{Feed, Work}
 use Rattle.worker_gate.specs.Feeding.{Feeds}
-use Rattle.worker_gate.specs.Hands.{HandDid, HandsDid}
+use Rattle.worker_gate.specs.Hands.{IsHandOf, HandDid, HandsDid}
 use Rattle.worker_gate.specs.Rules.{work_cost}
 use Rattle.pool_laws.specs.PoolEnd.{trace_course}
 use Rattle.trace_pool.specs.Parts.{KnowsAll, IsFeedOf, IsWorkOf, AreHands, HasFed, HasWorked, HasFedHand, HasWorkedHand, AreDone, submitters_in, workers_in, HoldsToken}
@@ -100,3 +102,36 @@ module _ (rows : List TraceRow) (lock : LockView Crew) (refresh : ℕ) (Tells : 
         feed_count = same_length Did a.first r.one r.becomes_one ∙ a.feed_count;
         work_count = same_length Did a.second r.two r.becomes_two ∙ a.work_count;
       }
+
+-- a slice of a whole vector, written back
+pub written_back : {A : Type 0} (len : ℕ) (olds news : List A) → len ≡ length olds → length news ≡ length olds → take len (news ++ drop (length news) olds) ≡ news
+written_back len olds news is same =
+    let none : drop (length news) olds ≡ [] = ap (λ n. drop n olds) same ∙ drop-length olds in
+    ap (λ l. take len (news ++ l)) none ∙ (ap (take len) (append-nil news) ∙ (ap (λ n. take n news) (is ∙ sym same) ∙ take-length news))
+
+module _ (rows : List TraceRow) (lock : LockView Crew) where
+  feeds_of : (j : ℕ) (hands : List (Hand ℕ)) → HoldsFrom (IsFeedOf rows lock) j hands → All (IsHandOf lock) hands
+  feeds_of j [] h = All-nil (IsHandOf lock)
+  feeds_of j (Feed who queue total stopped ∷ hands) h = All-cons (IsHandOf lock) (Feed who queue total stopped) hands h.0.0.own (feeds_of (suc j) hands h.1)
+  feeds_of j (Work slot ∷ hands) h = absurd h.0
+
+  works_of : (i : ℕ) (hands : List (Hand ℕ)) → HoldsFrom (IsWorkOf rows lock) i hands → All (IsHandOf lock) hands
+  works_of i [] h = All-nil (IsHandOf lock)
+  works_of i (Feed who queue total stopped ∷ hands) h = absurd h.0
+  works_of i (Work slot ∷ hands) h = All-cons (IsHandOf lock) (Work slot) hands (h.0.0, h.0.1, h.0.2.own) (works_of (suc i) hands h.1)
+
+  -- all hands are of the desk
+  pub hands_of : (feeds works : ℕ) (hands : List (Hand ℕ)) → AreHands rows lock feeds works hands → All (IsHandOf lock) hands
+  hands_of feeds works hands a = subst (All (IsHandOf lock)) (sym a.both) (All-append (IsHandOf lock) a.first a.second (feeds_of 0 a.first a.are_feeds) (works_of 0 a.second a.are_works))
+
+  -- what a pool over the rows' gate leaves in the vector that it was given
+  pub back_done : (refresh : ℕ) (Tells : ℕ → Type 0) (feeds works len : ℕ) (olds given news : List (Hand ℕ)) (gate_refresh : ℕ) (gate_rows : List TraceRow) → AreHands rows lock feeds works olds → given ≡ olds → length given ≡ len
+      → gate_refresh ≡ refresh → gate_rows ≡ rows → HandsDid (λ (n : ℕ). n) lock (trace_course gate_refresh gate_rows) work_cost Tells given news
+      → AreDone rows lock refresh Tells feeds works (take len (news ++ drop (length news) olds))
+  back_done refresh Tells feeds works len olds given news gate_refresh gate_rows a same is steps its did =
+      let all : HandsDid (λ (n : ℕ). n) lock (trace_course refresh rows) work_cost Tells olds news =
+          subst (λ n. HandsDid (λ (n : ℕ). n) lock (trace_course n rows) work_cost Tells olds news) steps
+          (subst (λ r. HandsDid (λ (n : ℕ). n) lock (trace_course gate_refresh r) work_cost Tells olds news) its
+          (subst (λ l. HandsDid (λ (n : ℕ). n) lock (trace_course gate_refresh gate_rows) work_cost Tells l news) same did)) in
+      let whole : len ≡ length olds = sym is ∙ ap length same in
+      subst (AreDone rows lock refresh Tells feeds works) (sym (written_back len olds news whole all.0)) (all_done rows lock refresh Tells feeds works olds news a all)

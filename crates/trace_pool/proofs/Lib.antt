@@ -3,3 +3,4 @@ pub mod Places
 pub mod HandLists
 pub mod Done
 pub mod Tokens
+pub mod Ending

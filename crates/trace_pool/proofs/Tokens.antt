@@ -11,7 +11,7 @@ use Rattle.desk.specs.declared.tokens.Worker.{Worker}
 use Rattle.desk.specs.Ending.{HoldsOfEach, HoldsOfSome, IsFirst, AreOf, AreAll, first_made}
 use Rattle.worker_gate.specs.declared.pool.Hand.{Hand}
 use Rattle.worker_gate.specs.declared.pool.Hand.TheVariants.{Feed, Work}
-use Rattle.trace_pool.specs.Parts.{IsCrewOf, KnowsAll, HasFed, HasWorked, HasFedHand, HasWorkedHand, AreDone, submitters_in, workers_in, HoldsToken}
+use Rattle.trace_pool.specs.Parts.{IsCrewOf, KnowsAll, HasFed, HasWorked, HasFedHand, HasWorkedHand, AreDone, HaveDone, submitters_in, workers_in, HoldsToken}
 use Rattle.trace_pool.specs.Places.{HoldsFrom}
 
 -- ---- by places
@@ -96,32 +96,58 @@ module _ (rows : List TraceRow) (lock : LockView Crew) (refresh : ℕ) (Tells : 
   hold_tokens j (Feed who queue total stopped ∷ hands) second h w = All-cons HoldsToken (Feed who queue total stopped) (hands ++ second) tt (hold_tokens (suc j) hands second h.1 w)
   hold_tokens j (Work slot ∷ hands) second h w = absurd h.0
 
+  -- what is taken back of hands that have done their parts
+  pub have_done : {feeds works : ℕ} (hands : List (Hand ℕ)) (submitters : List Submitter) (workers : List Worker) → AreDone rows lock refresh Tells feeds works hands → feeds ≡ lock.frame.submitters → works ≡ lock.frame.config.workers → submitters ≡ submitters_in hands → workers ≡ workers_in hands
+      → HaveDone rows lock refresh Tells submitters workers
+  have_done {feeds} {works} hands submitters workers d all_feeds all_works first second =
+      let both : submitters ≡ submitters_in (d.first ++ d.second) = first ∙ ap submitters_in d.both in
+      let others : workers ≡ workers_in (d.first ++ d.second) = second ∙ ap workers_in d.both in record {
+        fed = subst (HoldsFrom Fed 0) (sym both) (fed_tokens 0 d.first d.second d.have_fed d.have_worked);
+        worked = subst (HoldsFrom Served 0) (sym others) (worked_tokens 0 d.first d.second d.have_fed d.have_worked);
+        submitter_count = ap length both ∙ (submitter_count 0 d.first d.second d.have_fed d.have_worked ∙ (d.feed_count ∙ all_feeds));
+        worker_count = ap length others ∙ (worker_count 0 d.first d.second d.have_fed d.have_worked ∙ (d.work_count ∙ all_works));
+      }
+
+  -- and how many tokens these are
+  pub counts_done : (feeds works : ℕ) (hands : List (Hand ℕ)) → AreDone rows lock refresh Tells feeds works hands → (length (submitters_in hands) ≡ feeds) × (length (workers_in hands) ≡ works) × All HoldsToken hands
+  counts_done feeds works hands d = (
+    ap (λ l. length (submitters_in l)) d.both ∙ (submitter_count 0 d.first d.second d.have_fed d.have_worked ∙ d.feed_count),
+    ap (λ l. length (workers_in l)) d.both ∙ (worker_count 0 d.first d.second d.have_fed d.have_worked ∙ d.work_count),
+    subst (All HoldsToken) (sym d.both) (hold_tokens 0 d.first d.second d.have_fed d.have_worked),
+  )
+
   -- ---- all tokens
 
   first_is : (tokens : List Submitter) → 0 < length tokens → HoldsFrom Fed 0 tokens → IsFirst tokens
   first_is [] some h = absurd (omega (arith, some))
   first_is (t ∷ ts) some h = h.0.feeds.stays.number ∙ h.0.new.numbered
 
-  pub are_of : (submitters : List Submitter) (workers : List Worker) → 0 < length submitters → HoldsFrom Fed 0 submitters → HoldsFrom Served 0 workers → AreOf lock submitters workers
-  are_of submitters workers some fed served = record {
-    submitters_own = of_each Fed (λ (t : Submitter). IsOf lock t.pass) (λ j t h. h.feeds.stays.own) 0 submitters fed;
-    workers_own = of_each Served (λ (t : Worker). IsOf lock t.pass) (λ i t h. h.worked.stays.own) 0 workers served;
-    first = first_is submitters some fed;
-  }
+  first_knows : (tokens : List Submitter) → 0 < length tokens → HoldsFrom Fed 0 tokens → first_made tokens + 1 ≡ lock.frame.submitters + lock.frame.config.workers
+  first_knows [] some h = absurd (omega (arith, some))
+  first_knows (t ∷ ts) some h = h.0.made refl
 
-  pub made_is : (tokens : List Submitter) → 0 < length tokens → HoldsFrom Fed 0 tokens → first_made tokens + 1 ≡ lock.frame.submitters + lock.frame.config.workers
-  made_is [] some h = absurd (omega (arith, some))
-  made_is (t ∷ ts) some h = h.0.made refl
+  module _ (submitters : List Submitter) (workers : List Worker) (h : HaveDone rows lock refresh Tells submitters workers) (some : 0 < lock.frame.submitters) where
+    some_token : 0 < length submitters
+    some_token = omega (arith, some, h.submitter_count)
 
-  pub are_all : (submitters : List Submitter) (workers : List Worker) → IsCrewOf rows lock → 0 < length submitters → length submitters ≡ lock.frame.submitters → length workers ≡ lock.frame.config.workers
-      → HoldsFrom Fed 0 submitters → HoldsFrom Served 0 workers → AreAll submitters workers
-  are_all submitters workers crew some counted staffed fed served number low high = go (nat_lt number (length submitters)) refl
-    where
-      go : (b : Bool) → nat_lt number (length submitters) ≡ b → HoldsOfSome (λ (t : Submitter). t.pass.number ≡ number) submitters ⊎ HoldsOfSome (λ (t : Worker). t.pass.number ≡ number) workers
-      go true e = inl (of_some Fed (λ (t : Submitter). t.pass.number ≡ number) number 0 number submitters (ltb-true number (length submitters) e) (omega arith) (λ t h. h.feeds.stays.number ∙ h.new.numbered) fed)
-      go false e =
-          let above : length submitters ≤ number = omega (arith, ltb-false number (length submitters) e) in
-          let i : ℕ = number - length submitters in
-          let within : i < length workers = omega (arith, above, high, staffed, counted, made_is submitters some fed) in
-          let same : worker_caller rows i ≡ number = omega (arith, crew, counted, above) in
-          inr (of_some Served (λ (t : Worker). t.pass.number ≡ number) i 0 i workers within (omega arith) (λ t h. h.worked.stays.number ∙ (h.new.numbered ∙ same)) served)
+    pub are_of : AreOf lock submitters workers
+    are_of = record {
+      submitters_own = of_each Fed (λ (t : Submitter). IsOf lock t.pass) (λ j t x. x.feeds.stays.own) 0 submitters h.fed;
+      workers_own = of_each Served (λ (t : Worker). IsOf lock t.pass) (λ i t x. x.worked.stays.own) 0 workers h.worked;
+      first = first_is submitters some_token h.fed;
+    }
+
+    pub made_is : first_made submitters + 1 ≡ lock.frame.submitters + lock.frame.config.workers
+    made_is = first_knows submitters some_token h.fed
+
+    pub are_all : IsCrewOf rows lock → AreAll submitters workers
+    are_all crew number low high = go (nat_lt number (length submitters)) refl
+      where
+        go : (b : Bool) → nat_lt number (length submitters) ≡ b → HoldsOfSome (λ (t : Submitter). t.pass.number ≡ number) submitters ⊎ HoldsOfSome (λ (t : Worker). t.pass.number ≡ number) workers
+        go true e = inl (of_some Fed (λ (t : Submitter). t.pass.number ≡ number) number 0 number submitters (ltb-true number (length submitters) e) (omega arith) (λ t x. x.feeds.stays.number ∙ x.new.numbered) h.fed)
+        go false e =
+            let above : length submitters ≤ number = omega (arith, ltb-false number (length submitters) e) in
+            let i : ℕ = number - length submitters in
+            let within : i < length workers = omega (arith, above, high, h.worker_count, h.submitter_count, made_is) in
+            let same : worker_caller rows i ≡ number = omega (arith, crew, h.submitter_count, above) in
+            inr (of_some Served (λ (t : Worker). t.pass.number ≡ number) i 0 i workers within (omega arith) (λ t x. x.worked.stays.number ∙ (x.new.numbered ∙ same)) h.worked)

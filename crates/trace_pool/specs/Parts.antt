@@ -111,3 +111,10 @@ module _ (rows : List TraceRow) (lock : LockView Crew) where
       pub have_worked : HoldsFrom HasWorkedHand 0 second
       pub feed_count : length first ≡ feeds
       pub work_count : length second ≡ works
+
+    -- all submitters and all workers have done their parts, and these are their tokens
+    pub record HaveDone (submitters : List Submitter) (workers : List Worker) : Type 0 where
+      pub fed : HoldsFrom HasFed 0 submitters
+      pub worked : HoldsFrom HasWorked 0 workers
+      pub submitter_count : length submitters ≡ lock.frame.submitters
+      pub worker_count : length workers ≡ lock.frame.config.workers

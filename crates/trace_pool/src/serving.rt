@@ -1,9 +1,15 @@
 //! A trace, served by a pool.
-ghost use Rattle.std.specs.Prelude.{◌≡◌, ◌⊎◌, Err, IfOk, IfErr};
+ghost use Rattle.std.specs.Prelude.{◌≡◌, ◌≤◌, ◌+◌, ◌⊎◌, [], length, vec_capacity, Err, IfOk, IfErr};
+ghost use Rattle.vt_fixed.specs.declared.limits.TheConstants.{GREATEST_COST};
+ghost use Rattle.fq_model.specs.declared.limits.TheConstants.{MOST_ROWS};
 ghost use Rattle.fq_model.specs.History.{history_of};
 ghost use Rattle.fq_model.specs.Limits.{AreInRange};
 ghost use Rattle.fq_model.specs.PoolHistory.{IsPoolHistory, HasToldMoments, pool_config};
 ghost use Rattle.fq_model.specs.TraceText.{IsLawfulTrace};
+ghost use Rattle.desk.specs.Opening.{AreTokens};
+ghost use Rattle.trace_runner.specs.Plan.{AreCosts};
+ghost use Rattle.trace_pool.specs.Parts.{IsCrewOf, AreRowsOf, HaveDone};
+ghost use Rattle.trace_pool.specs.Places.{HoldsFrom};
 ghost use Rattle.trace_pool.specs.Serving.{IsTooLong, too_long};
 ghost use Rattle.trace_pool.specs.declared.fault.PoolFault.TheVariants as faults;
 
@@ -12,19 +18,51 @@ use crate::fault::PoolFault;
 use crate::gate::TraceGate;
 use crate::hands::{hand_out, take_back};
 use crate::needed::needed;
-use desk::DeskOf;
+use desk::{DeskOf, Floor, Submitter, Worker};
 use fq_io::Clock;
 use fq_model::limits::{LEAST_ENTRIES, MOST_ENTRIES};
-use fq_model::trace::RunOptions;
+use fq_model::trace::{RunOptions, TraceRow};
 use rival_policies::chooser::Chooser;
 use sched_state::Scheduler;
 use std::alloc::Global;
+use std::collections::VecDeque;
 use std::sync::Wait;
 use std::thread::Threads;
 use trace_reader::trace::Trace;
 use trace_runner::opening::{config_of, submitters};
 use worker_gate::cost_rule::{CostRule, WorkCost};
-use worker_gate::pool::pool;
+use worker_gate::pool::{Hand, pool};
+use worker_gate::rows::Row;
+
+// The callers of all tokens serve the rows, each in a thread of its own, and the tokens come back.
+fn serve_rows<X: Chooser + Drop + Send, K: Clock + Sync, R: Threads + Wait + Sync>(
+    rt: &R,
+    desk: &DeskOf<Floor<u64, X>>,
+    rows: &[TraceRow],
+    refresh: u64,
+    clock: &K,
+    queues: Vec<VecDeque<Row<u64>>>,
+    mut hands: Vec<Hand<u64>>,
+    submitters: &mut Vec<Submitter>,
+    workers: &mut Vec<Worker>,
+)
+    requires rows { (length rows.now ≤ MOST_ROWS) × AreCosts rows.now × (refresh ≤ GREATEST_COST) }
+    requires crew { IsCrewOf rows.now desk.now.lock }
+    requires queues { HoldsFrom (λ j q. AreRowsOf rows.now j q.items) 0 queues.items
+        × (length queues.items ≡ length submitters.old.items) }
+    requires tokens { AreTokens desk.now.lock.frame.config desk.now.lock.frame.submitters desk.now.lock
+        submitters.old.items workers.old.items }
+    requires room { (hands.items ≡ [])
+        × (length submitters.old.items + length workers.old.items ≤ vec_capacity hands) }
+    ensures { HaveDone rows.now desk.now.lock refresh (K.tells clock.now) submitters.new.items workers.new.items }
+{
+    hand_out(desk, rows, queues, submitters, workers, &mut hands);
+    let gate = TraceGate::new(rows, refresh);
+    let rule = CostRule::new(WorkCost);
+    pool(rt, desk, hands.as_mut_slice(), &gate, clock, &rule);
+    take_back(&mut hands, submitters, workers);
+    hands.destroy_empty();
+}
 
 /// Serves a trace by a pool of threads, one for each submitter and one for each worker, and gives the scheduler that they
 /// shared. Rows come when their submitter comes to them: their moments are not used. The clock is asked by the threads
@@ -51,19 +89,25 @@ pub fn serve<X: Chooser + Drop + Send, K: Clock + Sync, R: Threads + Wait + Sync
         return Err(PoolFault::TooManyEntries(entries));
     }
     let config = config_of(alloc, trace, options, (entries as u32).max(LEAST_ENTRIES))?;
-    let count = submitters(trace.rows());
-    let queues = deal(alloc, trace.rows(), count)?;
-    let mut hands = Vec::with_capacity(alloc, (count + options.workers) as usize)?;
+    let rows = trace.rows();
+    let count = submitters(rows);
+    let queues = deal(alloc, rows, count)?;
+    let hands = Vec::with_capacity(alloc, (count + options.workers) as usize)?;
     let Ok((desk, mut submitters, mut workers)) = DeskOf::open(alloc, config, count) else {
         hands.destroy_empty();
         return Err(PoolFault::NoMemory);
     };
-    hand_out(&desk, trace.rows(), queues, &mut submitters, &mut workers, &mut hands);
-    let gate = TraceGate::new(trace.rows(), options.refresh);
-    let rule = CostRule::new(WorkCost);
-    pool(rt, &desk, hands.as_mut_slice(), &gate, clock, &rule);
-    take_back(&mut hands, &mut submitters, &mut workers);
-    hands.destroy_empty();
+    serve_rows(
+        rt,
+        &desk,
+        rows,
+        options.refresh,
+        clock,
+        queues,
+        hands,
+        &mut submitters,
+        &mut workers,
+    );
     let Ok(scheduler) = desk.finish(submitters, workers) else {
         unreachable!()
     };

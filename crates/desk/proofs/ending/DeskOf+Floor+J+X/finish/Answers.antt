@@ -5,6 +5,7 @@ use Rattle.fq_model.specs.declared.event.Entry.{Entry}
 use Rattle.history_lock.specs.Passes.{HasNoneAbove}
 use Rattle.desk.specs.Ending.{HasAll, AreAll, LastMoment, IsFirst, first_made}
 use Rattle.desk.proofs.Joins.{first_and_rest, ends_in, all_ended, last_moment}
+use Rattle.desk.proofs.Keeping.{given_back}
 use Rattle.desk.proofs.ending.DeskOf+Floor+J+X.finish.Goals as goal
 
 pub returns-in_err-floor-clause-settled : goal.returns-in_err-floor-clause-settled
@@ -17,7 +18,7 @@ pub returns-clause-tokens : goal.returns-clause-tokens
 returns-clause-tokens g c =
     let first = c.remove-first in let h = c.in_ok-floor.ensures in
     let both : c.args.submitters.items ≡ first.result ∷ first.new.self.items = first_and_rest _ _ _ c.requires.first first.ensures.value first.ensures.by_index.2 in
-    let past : c.in_ok-floor.floor.scheduler.past ≡ c.into_scheduler.result.past = ap (λ s. s.past) (sym c.into_scheduler.ensures) in
+    let past : c.in_ok-floor.floor.scheduler.past ≡ c.into_scheduler.result.past = ap (λ s. s.past) (sym c.into_scheduler.ensures.same) in
     subst (λ l. HasAll c.into_scheduler.result.past l c.args.workers.items) (sym both)
     (subst (λ l. HasAll l (first.result ∷ first.new.self.items) c.args.workers.items) past
     (ends_in c.args.self.lock first.result first.new.self.items c.args.workers.items _ _ c.join_submitters.ensures c.join_workers.ensures c.in_ok-floor.floor.scheduler.past (subst IsFirst both c.requires.first) h.seen h.mine h.ended))
@@ -27,7 +28,7 @@ returns-clause-above g c =
     let first = c.remove-first in let h = c.in_ok-floor.ensures in
     let both : c.args.submitters.items ≡ first.result ∷ first.new.self.items = first_and_rest _ _ _ c.requires.first first.ensures.value first.ensures.by_index.2 in
     let made : c.join_workers.new.first.made ≡ first_made c.args.submitters.items = c.join_workers.ensures.made ∙ (c.join_submitters.ensures.made ∙ ap first_made (sym both)) in
-    let past : c.in_ok-floor.floor.scheduler.past ≡ c.into_scheduler.result.past = ap (λ s. s.past) (sym c.into_scheduler.ensures) in
+    let past : c.in_ok-floor.floor.scheduler.past ≡ c.into_scheduler.result.past = ap (λ s. s.past) (sym c.into_scheduler.ensures.same) in
     subst (HasNoneAbove c.into_scheduler.result.past) made (subst (λ (l : List Entry). HasNoneAbove l c.join_workers.new.first.made) past h.above)
 
 pub returns-in_err-floor-clause-exact : goal.returns-in_err-floor-clause-exact
@@ -44,3 +45,6 @@ returns-clause-exact g c =
     let both : c.args.submitters.items ≡ first.result ∷ first.new.self.items = first_and_rest _ _ _ c.requires.first first.ensures.value first.ensures.by_index.2 in
     let last = last_moment c.args.self.lock first.result first.new.self.items c.args.workers.items _ _ c.join_submitters.ensures c.join_workers.ensures _ e.0 e.1 e.2 in
     (e.0, e.1, subst (λ l. LastMoment _ c.args.self.lock l c.args.workers.items e.0 e.1) (sym both) last, e.3, e.4)
+
+pub returns-clause-given_back : goal.returns-clause-given_back
+returns-clause-given_back g c = given_back c.args.self.lock.frame c.in_ok-floor.floor c.into_scheduler.result c.in_ok-floor.ensures.frame c.into_scheduler.ensures.same c.into_scheduler.ensures.kept
