@@ -1,10 +1,11 @@
 -- Calls of a worker one after another.
-use Rattle.std.proofs.Common.{◌≡◌, ℕ, ◌≤◌, List, [], ◌∷◌, ◌++◌, length, Option, Some, sym, ap, ◌∙◌, subst, refl, arith}
+use Rattle.std.proofs.Common.{◌<◌, ◌≡◌, ℕ, ◌≤◌, List, [], ◌∷◌, ◌++◌, length, Option, Some, sym, ap, ◌∙◌, subst, refl, arith}
 use Rattle.std.proofs.lemmas.List.{reverse-append}
 use Rattle.fq_model.specs.declared.config.Config.{Config}
 use Rattle.fq_model.specs.declared.event.Act.{Act}
 use Rattle.fq_model.specs.declared.event.Act.TheVariants.{Take, Done}
 use Rattle.fq_model.specs.declared.event.Call.TheVariants as call
+use Rattle.fq_model.specs.declared.limits.TheConstants.{MOST_SLICES}
 use Rattle.fq_model.specs.declared.event.Entry.{Entry}
 use Rattle.fq_model.specs.declared.event.Reply.{Reply}
 use Rattle.fq_model.specs.History.{History, history_of, last_use, Request, request_at}
@@ -48,6 +49,7 @@ module _ (C : Config) (course_of : ℕ → Option (List Counters)) (cost_of : Co
   run_on seen seen2 run on l is = record {
     labelled = label_on C seen seen2 run.request run.label on l is.labelled;
     kept = kept_on C seen seen2 run.uses on is.kept;
+    few = is.few;
     follows = is.follows;
   }
 
@@ -100,9 +102,9 @@ module _ (lock : LockView Crew) (Tells : ℕ → Type 0) where
   module _ (course_of : ℕ → Option (List Counters)) (cost_of : Counters → ℕ) where
     -- ---- a job
 
-    pub run_ends : (label cost : ℕ) (start old : Running) (new : Worker) (uses : List Use) (reply : Reply) → HasNamed lock Tells start old uses cost → IsAsTold cost_of (course_of label) (run_of start label uses cost)
+    pub run_ends : (label cost : ℕ) (start old : Running) (new : Worker) (uses : List Use) (reply : Reply) → length uses < MOST_SLICES → HasNamed lock Tells start old uses cost → IsAsTold cost_of (course_of label) (run_of start label uses cost)
         → Ended lock Tells cost old new.pass reply → new.worker ≡ old.worker → HasRun lock Tells course_of cost_of label start new
-    run_ends label cost start old new uses reply x told y worker =
+    run_ends label cost start old new uses reply few x told y worker =
         let same : Done old.worker old.request cost ≡ Done start.worker start.request cost = ap (λ i. Done i old.request cost) x.run.worker ∙ ap (λ r. Done start.worker r cost) x.run.request in record {
           goes = goes_on start.pass old.pass new.pass x.goes y.goes;
           worker = worker ∙ x.run.worker;
@@ -110,6 +112,7 @@ module _ (lock : LockView Crew) (Tells : ℕ → Type 0) where
           uses = uses;
           cost = cost;
           acts_are = y.acts_are ∙ (ap (λ act. act ∷ acts_of old.pass.mine) same ∙ ap (λ acts. Done start.worker start.request cost ∷ acts) x.acts_are);
+          few = few;
           kept = kept_on lock.frame.config old.pass.seen new.pass.seen uses y.goes.seen x.kept;
           follows = told;
         }
@@ -148,6 +151,7 @@ module _ (lock : LockView Crew) (Tells : ℕ → Type 0) where
         let is : IsRun C course_of cost_of new.pass.seen run = record {
           labelled = label_on C running.pass.seen new.pass.seen running.request label h.goes.seen h.legal t.labelled;
           kept = h.kept;
+          few = h.few;
           follows = h.follows;
         } in record {
           goes = goes_on start.pass old.pass new.pass s.goes later;

@@ -7,6 +7,7 @@ use Rattle.fq_model.specs.declared.event.Call.TheVariants as call
 use Rattle.fq_model.specs.declared.event.Entry.{Entry}
 use Rattle.fq_model.specs.declared.event.Reply.{Reply}
 use Rattle.fq_model.specs.declared.event.Reply.TheVariants as answer
+use Rattle.fq_model.specs.declared.limits.TheConstants.{MOST_SLICES}
 use Rattle.fq_model.specs.History.{History, history_of, Request, request_at}
 use Rattle.fq_model.specs.Rules.{Answers, needed_room}
 use Rattle.history_lock.specs.Histories.{IsPrefix}
@@ -85,9 +86,11 @@ AreKeptWhereRoom C seen (use_ ∷ uses) = (use_.is_kept ≡ false → LackedRoom
 abbrev pub HasLabel : History → ℕ → ℕ → Type 0
 HasLabel H request label = (asked : Request) × (request_at H request ≡ Some asked) × (asked.label ≡ label)
 
--- what is true of a run, by what its worker has seen; course_of gives the course of a label, where that is told
+-- what is true of a run, by what its worker has seen; course_of gives the course of a label, where that is told. Of the
+-- slices that a request may have, each but the last may be reported
 pub record IsRun (C : Config) (course_of : ℕ → Option (List Counters)) (cost_of : Counters → ℕ) (seen : List Entry) (run : JobRun) : Type 0 where
   pub labelled : HasLabel (history_of seen) run.request run.label
+  pub few : length run.uses < MOST_SLICES
   pub kept : AreKeptWhereRoom C seen run.uses
   pub follows : IsAsTold cost_of (course_of run.label) run
 

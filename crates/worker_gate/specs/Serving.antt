@@ -1,6 +1,7 @@
 -- How a worker serves, step by step.
-use Rattle.std.specs.Prelude.{◌≡◌, ℕ, ◌≤◌, List, ◌∷◌, Option}
+use Rattle.std.specs.Prelude.{◌≡◌, ℕ, ◌≤◌, ◌<◌, List, ◌∷◌, length, Option}
 use Rattle.fq_model.specs.declared.event.Act.TheVariants.{Done}
+use Rattle.fq_model.specs.declared.limits.TheConstants.{MOST_SLICES}
 use Rattle.fq_model.specs.History.{history_of, last_use}
 use Rattle.fq_model.specs.Rules.{IsLegal}
 use Rattle.history_lock.specs.Histories.{IsPrefix}
@@ -44,7 +45,8 @@ module _ (lock : LockView Crew) (Tells : ℕ → Type 0) where
     -- the slices of a job of this label were run, and came to this cost
     abbrev pub HasRunSlices : ℕ → Running → Running → ℕ → Type 0
     HasRunSlices label old new cost =
-        (uses : List Use) × HasNamed old new uses cost × IsAsTold cost_of (course_of label) (run_of old label uses cost)
+        (uses : List Use) × (length uses < MOST_SLICES) × HasNamed old new uses cost
+        × IsAsTold cost_of (course_of label) (run_of old label uses cost)
 
     -- the job of this label was run to its end
     pub record HasRun (label : ℕ) (old : Running) (new : Worker) : Type 0 where
@@ -54,6 +56,7 @@ module _ (lock : LockView Crew) (Tells : ℕ → Type 0) where
       pub uses : List Use
       pub cost : ℕ
       pub acts_are : acts_of new.pass.mine ≡ Done old.worker old.request cost ∷ with_uses old.worker old.request uses (acts_of old.pass.mine)
+      pub few : length uses < MOST_SLICES
       pub kept : AreKeptWhereRoom lock.frame.config new.pass.seen uses
       pub follows : IsAsTold cost_of (course_of label) (run_of old label uses cost)
 

@@ -16,3 +16,5 @@ pub mod steps;
 #[cfg(test)]
 mod tests;
 pub mod work;
+#[cfg(test)]
+mod work_tests;

@@ -1,5 +1,5 @@
-use Rattle.std.proofs.Common.{refl}
-use Rattle.worker_gate.proofs.ServingSlices.{along_first, along_next, along_most, along_rising}
+use Rattle.std.proofs.Common.{refl, arith}
+use Rattle.worker_gate.proofs.ServingSlices.{along_first, along_next, along_end, along_most, along_rising}
 use Rattle.worker_gate.proofs.work.run_slices.Goals as goal
 
 pub loop-k-init : goal.loop-k-init
@@ -19,3 +19,8 @@ pub returns-clause-slices : goal.returns-clause-slices
 returns-clause-slices g c =
     along_most c.args.desk.now.lock (g.K.Clock.tells c.args.clock.now) (g.G.Gate.course c.args.gate.now) (g.F.Cost.cost_of c.args.rule.now) (g.J.Job.label_of c.args.job.now) c.args.running.now
     c.loop-k.running c.loop-k.k 9999 c.cost-in-More-slice.result c.loop-k.last c.in-More-slice.counters c.slice-2.result refl c.loop-k-test.false c.loop-k.auto.k-end c.loop-k.invariant c.cost-in-More-slice.ensures.rises c.slice-2.ensures.rises c.slice-2.ensures.follows c.in-More-slice.is c.cost-in-More-slice.ensures.answer
+
+pub returns-in-End-clause-slices : goal.returns-in-End-clause-slices
+returns-in-End-clause-slices g c =
+    along_end c.args.desk.now.lock (g.K.Clock.tells c.args.clock.now) (g.G.Gate.course c.args.gate.now) (g.F.Cost.cost_of c.args.rule.now) (g.J.Job.label_of c.args.job.now) c.args.running.now
+    c.loop-k.running c.loop-k.k c.cost-in-End.result c.loop-k.last c.in-End.counters c.loop-k.invariant c.cost-in-End.ensures.rises c.in-End.ensures.rises (omega (arith, c.loop-k-test.true)) c.in-End.ensures.follows c.cost-in-End.ensures.answer
