@@ -1,11 +1,10 @@
 -- Hands that were given their parts, and have done them.
-use Rattle.std.proofs.Common.{ℕ, zero, suc, ◌+◌, ◌<◌, ◌≡◌, List, [], ◌∷◌, ◌++◌, length, slice_index_or, take, drop, append-nil, Option, Some, None, All, sym, ap, ◌∙◌, subst, refl, arith}
+use Rattle.std.proofs.Common.{ℕ, suc, ◌+◌, ◌<◌, ◌≡◌, List, [], ◌∷◌, ◌++◌, length, slice_index_or, take, drop, append-nil, Some, All, sym, ap, ◌∙◌, subst, refl, arith}
 use Rattle.std.proofs.Math.Seq.{drop-length, take-length}
 use Rattle.std.proofs.lemmas.List.Elements.{All-nil, All-cons, All-append}
 use Rattle.fq_model.specs.declared.trace.TraceRow.{TraceRow}
 use Rattle.history_lock.specs.Passes.{LockView}
 use Rattle.desk.specs.declared.floor.Crew.{Crew}
-use Rattle.desk.specs.declared.tokens.Submitter.{Submitter}
 use Rattle.desk.specs.declared.tokens.Worker.{Worker}
 use Rattle.worker_gate.specs.declared.pool.Hand.{Hand}
 use Rattle.worker_gate.specs.declared.pool.Hand.TheVariants.{Feed, Work}
@@ -13,7 +12,7 @@ use Rattle.worker_gate.specs.Feeding.{Feeds}
 use Rattle.worker_gate.specs.Hands.{IsHandOf, HandDid, HandsDid}
 use Rattle.worker_gate.specs.Rules.{work_cost}
 use Rattle.pool_laws.specs.PoolEnd.{trace_course}
-use Rattle.trace_pool.specs.Parts.{KnowsAll, IsFeedOf, IsWorkOf, AreHands, HasFed, HasWorked, HasFedHand, HasWorkedHand, AreDone, submitters_in, workers_in, HoldsToken}
+use Rattle.trace_pool.specs.Parts.{IsFeedOf, IsWorkOf, AreHands, HasFed, HasWorked, HasFedHand, HasWorkedHand, AreDone}
 use Rattle.trace_pool.specs.Places.{HoldsFrom}
 
 -- item by item
@@ -64,7 +63,7 @@ module _ (rows : List TraceRow) (lock : LockView Crew) (refresh : ℕ) (Tells : 
   fed_hand : (j : ℕ) (old new : Hand ℕ) → IsFeedOf rows lock j old → Did old new → HasFedHand rows lock refresh Tells j new
   fed_hand j (Feed who queue total stopped) new is did =
       let feeds : Feeds (λ (n : ℕ). n) (λ row. row.kind) lock Tells (length rows) queue.items who did.0 did.2 did.1.items =
-          subst (λ n. Feeds (λ (n : ℕ). n) (λ row. row.kind) lock Tells n queue.items who did.0 did.2 did.1.items) is.2 did.4 in
+      subst (λ n. Feeds (λ (n : ℕ). n) (λ row. row.kind) lock Tells n queue.items who did.0 did.2 did.1.items) is.2 did.4 in
       let done : HasFed rows lock refresh Tells j did.0 = record {
         begun = who;
         queue = queue.items;
@@ -130,8 +129,8 @@ module _ (rows : List TraceRow) (lock : LockView Crew) where
       → AreDone rows lock refresh Tells feeds works (take len (news ++ drop (length news) olds))
   back_done refresh Tells feeds works len olds given news gate_refresh gate_rows a same is steps its did =
       let all : HandsDid (λ (n : ℕ). n) lock (trace_course refresh rows) work_cost Tells olds news =
-          subst (λ n. HandsDid (λ (n : ℕ). n) lock (trace_course n rows) work_cost Tells olds news) steps
-          (subst (λ r. HandsDid (λ (n : ℕ). n) lock (trace_course gate_refresh r) work_cost Tells olds news) its
-          (subst (λ l. HandsDid (λ (n : ℕ). n) lock (trace_course gate_refresh gate_rows) work_cost Tells l news) same did)) in
+      subst (λ n. HandsDid (λ (n : ℕ). n) lock (trace_course n rows) work_cost Tells olds news) steps
+      (subst (λ r. HandsDid (λ (n : ℕ). n) lock (trace_course gate_refresh r) work_cost Tells olds news) its
+      (subst (λ l. HandsDid (λ (n : ℕ). n) lock (trace_course gate_refresh gate_rows) work_cost Tells l news) same did)) in
       let whole : len ≡ length olds = sym is ∙ ap length same in
       subst (AreDone rows lock refresh Tells feeds works) (sym (written_back len olds news whole all.0)) (all_done rows lock refresh Tells feeds works olds news a all)

@@ -1,10 +1,10 @@
 -- The end of a pool, as its tokens and the past tell it.
-use Rattle.std.proofs.Common.{ℕ, ◌+◌, ◌<◌, ◌≤◌, ◌≡◌, List, [], ◌∷◌, length, sym, ap, ◌∙◌, subst, arith, max}
+use Rattle.std.proofs.Common.{ℕ, ◌<◌, ◌≤◌, ◌≡◌, List, [], ◌∷◌, length, ap, ◌∙◌, arith}
 use Rattle.fq_model.specs.declared.config.Config.{Config}
 use Rattle.fq_model.specs.declared.event.Entry.{Entry}
 use Rattle.fq_model.specs.declared.trace.RunOptions.{RunOptions}
 use Rattle.fq_model.specs.declared.trace.TraceRow.{TraceRow}
-use Rattle.fq_model.specs.Courses.{submitters, worker_caller}
+use Rattle.fq_model.specs.Courses.{submitters}
 use Rattle.fq_model.specs.History.{history_of}
 use Rattle.fq_model.specs.Limits.{AreInRange}
 use Rattle.fq_model.specs.PoolHistory.{IsPoolHistory, HasToldMoments, needed_pool_entries, pool_config}

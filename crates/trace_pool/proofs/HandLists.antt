@@ -9,7 +9,7 @@ use Rattle.desk.specs.declared.tokens.Worker.{Worker}
 use Rattle.desk.specs.Opening.{AreSubmitters, AreWorkers, HasMade}
 use Rattle.worker_gate.specs.declared.pool.Hand.{Hand}
 use Rattle.worker_gate.specs.declared.pool.Hand.TheVariants.{Work}
-use Rattle.trace_pool.specs.Parts.{KnowsAll, IsCrewOf, IsWorkOf, AreHands, IsFeedOf}
+use Rattle.trace_pool.specs.Parts.{KnowsAll, IsCrewOf, IsWorkOf}
 use Rattle.trace_pool.specs.Places.{HoldsFrom}
 use Rattle.trace_pool.proofs.Places.{holds_more}
 
@@ -31,6 +31,6 @@ module _ (lock : LockView Crew) where
   works_more rows hands hands2 before t ts hand crew (given, is, works, tokens) more hand_is =
       let own = tokens.0 in
       let fits : IsWorkOf rows lock (length given) hand =
-          subst (IsWorkOf rows lock (length given)) (sym hand_is) (t, refl, subst (λ s. Rattle.desk.specs.Opening.IsNew lock (s + length given) t.pass) crew own.0, own.1) in
+      subst (IsWorkOf rows lock (length given)) (sym hand_is) (t, refl, subst (λ s. Rattle.desk.specs.Opening.IsNew lock (s + length given) t.pass) crew own.0, own.1) in
       let longer : length (given ++ hand ∷ []) ≡ suc (length given) = omega (arith, length-append given (hand ∷ [])) in
       (given ++ hand ∷ [], more ∙ (ap (λ l. l ++ hand ∷ []) is ∙ append_assoc before given (hand ∷ [])), holds_more (IsWorkOf rows lock) 0 (length given) given hand works (omega arith) fits, subst (λ n. AreWorkers lock n ts) (sym longer) tokens.1)

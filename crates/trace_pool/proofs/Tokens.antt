@@ -1,5 +1,5 @@
 -- The tokens of hands that have done their parts.
-use Rattle.std.proofs.Common.{ℕ, zero, suc, ◌+◌, ◌-◌, ◌<◌, ◌≤◌, ◌≡◌, ◌⊎◌, inl, inr, List, [], ◌∷◌, ◌++◌, length, Option, Some, None, All, sym, ap, ◌∙◌, subst, refl, arith, nat_lt, Bool, true, false}
+use Rattle.std.proofs.Common.{ℕ, zero, suc, ◌+◌, ◌-◌, ◌<◌, ◌≤◌, ◌≡◌, ◌⊎◌, inl, inr, List, [], ◌∷◌, ◌++◌, length, Some, None, All, sym, ap, ◌∙◌, subst, refl, arith, nat_lt, Bool, true, false}
 use Rattle.std.proofs.lemmas.Bool.{ltb-true, ltb-false}
 use Rattle.std.proofs.lemmas.List.Elements.{All-nil, All-cons}
 use Rattle.fq_model.specs.declared.trace.TraceRow.{TraceRow}
@@ -11,7 +11,7 @@ use Rattle.desk.specs.declared.tokens.Worker.{Worker}
 use Rattle.desk.specs.Ending.{HoldsOfEach, HoldsOfSome, IsFirst, AreOf, AreAll, first_made}
 use Rattle.worker_gate.specs.declared.pool.Hand.{Hand}
 use Rattle.worker_gate.specs.declared.pool.Hand.TheVariants.{Feed, Work}
-use Rattle.trace_pool.specs.Parts.{IsCrewOf, KnowsAll, HasFed, HasWorked, HasFedHand, HasWorkedHand, AreDone, HaveDone, submitters_in, workers_in, HoldsToken}
+use Rattle.trace_pool.specs.Parts.{IsCrewOf, HasFed, HasWorked, HasFedHand, HasWorkedHand, AreDone, HaveDone, submitters_in, workers_in, HoldsToken}
 use Rattle.trace_pool.specs.Places.{HoldsFrom}
 
 -- ---- by places

@@ -25,11 +25,7 @@ pub fn deal(
     Ok(queues)
 }
 
-fn rows_of(
-    alloc: Global,
-    rows: &[TraceRow],
-    number: u32,
-) -> Result<VecDeque<Row<u64>>, AllocError>
+fn rows_of(alloc: Global, rows: &[TraceRow], number: u32) -> Result<VecDeque<Row<u64>>, AllocError>
     ensures { IfOk result (λ q. AreRowsOf rows.now number q.items) }
 {
     let mut queue = VecDeque::new(alloc);

@@ -1,4 +1,4 @@
-use Rattle.std.proofs.Common.{rules, ℕ, suc, arith, ◌≡◌, ◌+◌, ◌<◌, ◌∙◌, sym, ap, subst, length, List, ◌∷◌, refl}
+use Rattle.std.proofs.Common.{rules, suc, arith, ◌≡◌, ◌+◌, ◌<◌, ◌∙◌, sym, ap, subst, length, ◌∷◌, refl}
 use Rattle.desk.specs.Opening.{AreSubmitters, HasMade}
 use Rattle.trace_pool.specs.Parts.{AreRowsOf, IsFeedOf}
 use Rattle.trace_pool.specs.Places.{HoldsFrom}

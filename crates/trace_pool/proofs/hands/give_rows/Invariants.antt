@@ -1,4 +1,4 @@
-use Rattle.std.proofs.Common.{ℕ, ◌+◌, ◌≡◌, ◌≤◌, length}
+use Rattle.std.proofs.Common.{◌+◌, ◌≡◌, ◌≤◌, length}
 use Rattle.std.specs.Prelude.{vec_capacity}
 use Rattle.desk.specs.Opening.{AreSubmitters, HasMade}
 use Rattle.trace_pool.specs.Parts.{AreRowsOf, IsFeedOf}

@@ -12,7 +12,7 @@ loop-hands-preserved g c =
     let some : 0 < length c.loop-hands.workers.items = search rules in
     let firsts = split_first c.loop-hands.workers.items c.remove.result c.remove.new.self.items some c.remove.ensures.value c.remove.ensures.by_index.2 in
     let works : (given : List (Hand ℕ)) × (c.loop-hands.hands.items ≡ c.args.hands.now.items ++ given) × HoldsFrom (IsWorkOf rows lock) 0 given × AreWorkers lock (length given) (c.remove.result ∷ c.remove.new.self.items) =
-        subst (λ l. (given : List (Hand ℕ)) × (c.loop-hands.hands.items ≡ c.args.hands.now.items ++ given) × HoldsFrom (IsWorkOf rows lock) 0 given × AreWorkers lock (length given) l) firsts was.works in
+    subst (λ l. (given : List (Hand ℕ)) × (c.loop-hands.hands.items ≡ c.args.hands.now.items ++ given) × HoldsFrom (IsWorkOf rows lock) 0 given × AreWorkers lock (length given) l) firsts was.works in
     let one : length c.loop-hands.workers.items ≡ suc (length c.remove.new.self.items) = ap length firsts in record {
       works = works_more lock rows c.loop-hands.hands.items c.push_reserved.new.self.items c.args.hands.now.items c.remove.result c.remove.new.self.items _ c.requires.rows works c.push_reserved.ensures.items refl;
       all = omega (arith, c.push_reserved.ensures.len, one, was.all);

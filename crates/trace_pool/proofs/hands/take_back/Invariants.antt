@@ -1,4 +1,4 @@
-use Rattle.std.proofs.Common.{◌+◌, ◌≡◌, ◌≤◌, length, ◌++◌, All}
+use Rattle.std.proofs.Common.{◌≡◌, ◌++◌, All}
 use Rattle.std.specs.Prelude.{vec_capacity}
 use Rattle.trace_pool.specs.Parts.{HoldsToken, submitters_in, workers_in}
 use Rattle.trace_pool.proofs.hands.take_back.Given as goal

@@ -1,13 +1,13 @@
-use Rattle.std.proofs.Common.{rules, ◌≡◌, ◌≤◌, ◌<◌, ◌∙◌, sym, ap, subst, arith, max}
+use Rattle.std.proofs.Common.{◌≡◌, ◌≤◌, ◌∙◌, ap, subst, arith, max}
 use Rattle.std.proofs.lemmas.Bool.{false≢true}
 use Rattle.fq_model.specs.declared.limits.TheConstants.{MOST_ENTRIES, LEAST_ENTRIES}
-use Rattle.fq_model.specs.Courses.{trace_config, submitters}
+use Rattle.fq_model.specs.Courses.{trace_config}
 use Rattle.fq_model.specs.History.{history_of}
 use Rattle.fq_model.specs.Rules.{IsLegal}
 use Rattle.fq_model.specs.PoolHistory.{needed_pool_entries, pool_config}
-use Rattle.trace_pool.specs.Parts.{IsCrewOf, HaveDone}
+use Rattle.trace_pool.specs.Parts.{HaveDone}
 use Rattle.trace_pool.proofs.Tokens.{are_of, are_all}
-use Rattle.trace_pool.proofs.Ending.{some_submitter, crew_is, crew_some, served_so}
+use Rattle.trace_pool.proofs.Ending.{crew_is, crew_some, served_so}
 use Rattle.trace_pool.proofs.serving.serve.Goals as goal
 
 pub finish-requires : goal.finish-requires
