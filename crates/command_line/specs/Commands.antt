@@ -1,18 +1,33 @@
 -- The commands that there are.
-use Rattle.std.specs.Prelude.{◌≤◌, List, [], ◌∷◌}
+use Rattle.std.specs.Prelude.{ℕ, ◌≤◌, List, [], ◌∷◌}
 use Rattle.fq_model.specs.declared.command.Command.{Command}
 use Rattle.fq_model.specs.declared.command.Command.TheVariants as commands
+use Rattle.fq_model.specs.declared.command.HistoryPrint.{HistoryPrint}
 use Rattle.fq_model.specs.declared.limits.TheConstants.{MOST_TENANTS, MOST_ROWS, GREATEST_SLOT}
+use Rattle.fq_model.specs.declared.trace.RunOptions.{RunOptions}
 use Rattle.fq_model.specs.Limits.{IsWithin, AreInRange}
 use Rattle.fq_model.specs.Options.{CommandRow}
-use Rattle.fq_model.specs.Command.{script_row, run_row, gen_row}
+use Rattle.fq_model.specs.Command.{script_row, run_row, live_row, gen_row}
 
 -- the table by which the program's words are read
 abbrev pub built_commands : List (CommandRow Command)
-built_commands = script_row ∷ run_row ∷ gen_row ∷ []
+built_commands = script_row ∷ run_row ∷ live_row ∷ gen_row ∷ []
 
 -- the numbers that a command is asked with are within their limits; a seed may be any number
 abbrev pub IsInRange : Command → Type 0
 IsInRange (commands.Run options slot print) = AreInRange options × (slot ≤ GREATEST_SLOT)
+IsInRange (commands.Live options slot print watch) = AreInRange options × (slot ≤ GREATEST_SLOT)
 IsInRange (commands.Gen seed tenants requests print) = IsWithin 1 MOST_TENANTS tenants × (requests ≤ MOST_ROWS)
 IsInRange _ = Unit {0}
+
+-- what `run` and `live` are asked alike: with what a trace is run, by which slot it is reported, and what is printed
+abbrev pub HistoryParts : Type 0
+HistoryParts = RunOptions × ℕ × HistoryPrint
+
+-- the command `run` of these
+abbrev pub run_by : HistoryParts → Command
+run_by (options, slot, print) = commands.Run options slot print
+
+-- the command `live` of these, which reads no status on the way
+abbrev pub live_by : HistoryParts → Command
+live_by (options, slot, print) = commands.Live options slot print 0

@@ -1,9 +1,9 @@
 //! The commands.
-ghost use Rattle.std.specs.Prelude.{◌≡◌, IfSome, map, unwrap_or, slice_index_or};
+ghost use Rattle.std.specs.Prelude.{◌≡◌, IfSome, map, option_map, unwrap_or, slice_index_or};
 ghost use Rattle.std.specs.String.{string_bytes};
 ghost use Rattle.fq_model.specs.Options.{command_of, command_by};
-ghost use Rattle.fq_model.specs.Command.{script_row, run_row, gen_row};
-ghost use Rattle.command_line.specs.Commands.{built_commands, IsInRange};
+ghost use Rattle.fq_model.specs.Command.{script_row, run_row, live_row, gen_row};
+ghost use Rattle.command_line.specs.Commands.{built_commands, IsInRange, run_by, live_by};
 
 use crate::options::{Value, values_in};
 use crate::table::{
@@ -24,6 +24,7 @@ pub fn command(words: &[String]) -> Option<Command>
     match word.as_str() {
         "script" => script_command(words),
         "run" => run_command(words),
+        "live" => live_command(words),
         "gen" => gen_command(words),
         _ => None,
     }
@@ -44,6 +45,34 @@ fn run_command(words: &[String]) -> Option<Command>
     ensures asked { result ≡ command_by (map string_bytes words.now) run_row }
     ensures range { IfSome result IsInRange }
 {
+    let (options, slot, print) = history_parts(words)?;
+    Some(Command::Run {
+        options,
+        slot,
+        print,
+    })
+}
+
+// `live`, by the words after it. There is no option yet that asks for lines of status.
+fn live_command(words: &[String]) -> Option<Command>
+    ensures asked { result ≡ command_by (map string_bytes words.now) live_row }
+    ensures range { IfSome result IsInRange }
+{
+    let (options, slot, print) = history_parts(words)?;
+    Some(Command::Live {
+        options,
+        slot,
+        print,
+        watch: 0,
+    })
+}
+
+// What `run` and `live` are asked alike, by the words after their own: the options, the slot, and what is printed.
+fn history_parts(words: &[String]) -> Option<(RunOptions, u64, HistoryPrint)>
+    ensures run { option_map run_by result ≡ command_by (map string_bytes words.now) run_row }
+    ensures live { option_map live_by result ≡ command_by (map string_bytes words.now) live_row }
+    ensures range { IfSome result (λ parts. IsInRange (run_by parts)) }
+{
     let [workers, policy, estimate, initial, refresh, slot, print] = values_in::<7>(
         &RUN_OPTIONS,
         words,
@@ -55,11 +84,11 @@ fn run_command(words: &[String]) -> Option<Command>
         initial: initial.unwrap_or(0),
         refresh: refresh.unwrap_or(0),
     };
-    Some(Command::Run {
+    Some((
         options,
-        slot: slot.unwrap_or(0),
-        print: choice(&HISTORY_PRINTS, print, HistoryPrint::Both),
-    })
+        slot.unwrap_or(0),
+        choice(&HISTORY_PRINTS, print, HistoryPrint::Both),
+    ))
 }
 
 // `gen`, by the words after it.

@@ -84,6 +84,15 @@ fn run(options: RunOptions, slot: u64, print: HistoryPrint) -> Command {
     }
 }
 
+fn live(options: RunOptions, slot: u64, print: HistoryPrint) -> Command {
+    Command::Live {
+        options,
+        slot,
+        print,
+        watch: 0,
+    }
+}
+
 fn generate(seed: u64, tenants: u32, requests: u32, print: GenPrint) -> Command {
     Command::Gen {
         seed,
@@ -94,7 +103,7 @@ fn generate(seed: u64, tenants: u32, requests: u32, print: GenPrint) -> Command 
 }
 
 #[test]
-fn run_and_gen_are_read(rt: HostRuntime) -> Result<(), Fail> {
+fn the_others_are_read(rt: HostRuntime) -> Result<(), Fail> {
     let plain = RunOptions {
         workers: 4,
         policy: Policy::TwoDfq,
@@ -138,7 +147,13 @@ fn run_and_gen_are_read(rt: HostRuntime) -> Result<(), Fail> {
         ("run --slot 1000000000000001", None),
         ("run --workers 0", None),
         ("run --workers 65", None),
-        ("live", None),
+        ("live", Some(live(plain, 0, HistoryPrint::Both))),
+        (
+            "live --print=journal --refresh 0 --initial=1 --estimate declared --policy wf2q --workers=64 --slot 5 --",
+            Some(live(asked, 5, HistoryPrint::Journal)),
+        ),
+        ("live --watch 1", None),
+        ("live --workers 65", None),
         (
             "gen --requests 262144 --tenants=4096 --seed 18446744073709551615",
             Some(generate(u64::MAX, 4096, 262144, GenPrint::Trace)),

@@ -7,16 +7,15 @@ use Rattle.fq_io.specs.Sources.{GaveAll}
 use Rattle.fq_io.proofs.Clean.{stays_zero, never_full}
 use Rattle.fq_model.specs.declared.command.Command.{Command}
 use Rattle.fq_model.specs.declared.command.Command.TheVariants as commands
-use Rattle.fq_model.specs.Lines as lines
-use Rattle.twodfq_main.specs.Commands.{asked, Outputs}
+use Rattle.twodfq_main.specs.Commands.{Outputs}
 use Rattle.twodfq_main.specs.Program.{Move, Device, Fails, ReadsInput, Ends, IsRun, status_of}
-use Rattle.twodfq_main.specs.Laws.{NeverFailsReading, NeverFailsWriting, AreOutputsShorter, IsCleanSink, IsCleanSource}
+use Rattle.twodfq_main.specs.Laws.{NeverFailsReading, NeverFailsWriting, AreOutputsShorter, IsCleanSink}
 use Rattle.twodfq_main.proofs.Runs.{run_means}
 use Rattle.twodfq_main.specs.declared.stop.Stop.{Stop}
 use Rattle.twodfq_main.specs.declared.stop.Stop.TheVariants.{Words, TooLong, Fault, Reading, Writing, NoMemory, TooManyEntries, TooManyCells}
 
-pub no_reading : NeverFailsReading
-no_reading words source sink errs status run clean four =
+pub no_reading : (Told : ℕ → Type 0) → NeverFailsReading Told
+no_reading Told ask source sink errs status run clean four =
     let rose : Rose source.before.faults source.after.faults = (run_means run).reading four in
     stays_zero (rw (clean.0, clean.1) at rose)
 
@@ -32,39 +31,41 @@ told_input : (input read : List ℕ) (left : Option (List ℕ)) → GaveAll (Som
 told_input input read None gave = absurd gave
 told_input input read (Some ys) gave = gave.0
 
-told_outputs : (command : Command) (source : Move) (input read text : List ℕ) → source.before.bytes ≡ Some input → ReadsInput command source read → Outputs command read text → Outputs command input text
-told_outputs (commands.Gen seed tenants requests print) source input read text told reads out = out
-told_outputs (commands.Script print) source input read text told reads out =
-    subst (λ xs. Outputs (commands.Script print) xs text) (told_input input read source.after.bytes (rw told at reads)) out
-told_outputs (commands.Run options slot print) source input read text told reads out =
-    subst (λ xs. Outputs (commands.Run options slot print) xs text) (told_input input read source.after.bytes (rw told at reads)) out
-told_outputs _ source input read text told reads out = absurd out
+told_outputs : (Told : ℕ → Type 0) (command : Command) (source : Move) (input read text : List ℕ) → source.before.bytes ≡ Some input → ReadsInput command source read → Outputs Told command read text → Outputs Told command input text
+told_outputs Told (commands.Gen seed tenants requests print) source input read text told reads out = out
+told_outputs Told (commands.Script print) source input read text told reads out =
+    subst (λ xs. Outputs Told (commands.Script print) xs text) (told_input input read source.after.bytes (rw told at reads)) out
+told_outputs Told (commands.Run options slot print) source input read text told reads out =
+    subst (λ xs. Outputs Told (commands.Run options slot print) xs text) (told_input input read source.after.bytes (rw told at reads)) out
+told_outputs Told (commands.Live options slot print watch) source input read text told reads out =
+    subst (λ xs. Outputs Told (commands.Live options slot print watch) xs text) (told_input input read source.after.bytes (rw told at reads)) out
+told_outputs Told _ source input read text told reads out = absurd out
 
-by_end : (words : lines.Words) (ask : Option Command) (source sink : Move) (end : Result (Unit {0}) Stop) (room : ℕ) (input : List ℕ) → asked words ≡ ask
-    → Ends ask source sink end → source.before.bytes ≡ Some input → IsCleanSink room sink → AreOutputsShorter room words input → status_of end ≢ 5
-by_end words None source sink end room input is ends told clean short five = omega (arith, rw ends.0 at five)
-by_end words (Some command) source sink (Ok done) room input is ends told clean short five = omega (arith, five)
-by_end words (Some command) source sink (Err Words) room input is ends told clean short five = ends
-by_end words (Some command) source sink (Err TooLong) room input is ends told clean short five = omega (arith, five)
-by_end words (Some command) source sink (Err (Fault message)) room input is ends told clean short five = omega (arith, five)
-by_end words (Some command) source sink (Err Reading) room input is ends told clean short five = omega (arith, five)
-by_end words (Some command) source sink (Err NoMemory) room input is ends told clean short five = omega (arith, five)
-by_end words (Some command) source sink (Err (TooManyEntries message)) room input is ends told clean short five = omega (arith, five)
-by_end words (Some command) source sink (Err (TooManyCells message)) room input is ends told clean short five = omega (arith, five)
-by_end words (Some command) source sink (Err Writing) room input is ends told clean short five =
-    let out = told_outputs command source input ends.answered.input ends.text told ends.answered.read ends.answered.output in
-    part_fits room sink ends.text clean (short command ends.text is out) ends.wrote.0 ends.wrote.1
+by_end : (Told : ℕ → Type 0) (ask : Option Command) (source sink : Move) (end : Result (Unit {0}) Stop) (room : ℕ) (input : List ℕ)
+    → Ends Told ask source sink end → source.before.bytes ≡ Some input → IsCleanSink room sink → AreOutputsShorter room Told ask input → status_of end ≢ 5
+by_end Told None source sink end room input ends told clean short five = omega (arith, rw ends.0 at five)
+by_end Told (Some command) source sink (Ok done) room input ends told clean short five = omega (arith, five)
+by_end Told (Some command) source sink (Err Words) room input ends told clean short five = ends
+by_end Told (Some command) source sink (Err TooLong) room input ends told clean short five = omega (arith, five)
+by_end Told (Some command) source sink (Err (Fault message)) room input ends told clean short five = omega (arith, five)
+by_end Told (Some command) source sink (Err Reading) room input ends told clean short five = omega (arith, five)
+by_end Told (Some command) source sink (Err NoMemory) room input ends told clean short five = omega (arith, five)
+by_end Told (Some command) source sink (Err (TooManyEntries message)) room input ends told clean short five = omega (arith, five)
+by_end Told (Some command) source sink (Err (TooManyCells message)) room input ends told clean short five = omega (arith, five)
+by_end Told (Some command) source sink (Err Writing) room input ends told clean short five =
+    let out = told_outputs Told command source input ends.answered.input ends.text told ends.answered.read ends.answered.output in
+    part_fits room sink ends.text clean (short command ends.text refl out) ends.wrote.0 ends.wrote.1
 
-pub no_writing : NeverFailsWriting
-no_writing words source sink errs status room input run told clean short five =
-    by_end words (asked words) source sink run.end room input refl run.ends told clean short (sym run.status_is ∙ five)
+pub no_writing : (Told : ℕ → Type 0) → NeverFailsWriting Told
+no_writing Told ask source sink errs status room input run told clean short five =
+    by_end Told ask source sink run.end room input run.ends told clean short (sym run.status_is ∙ five)
 
 -- the same of a clean sink before and after
-pub never_writes : (old new : CleanMemory) {words : lines.Words} {left : Option (List ℕ)} {left_faults faults : ℕ} {input : List ℕ} {errs : Move} {status : ℕ}
+pub never_writes : (old new : CleanMemory) {Told : ℕ → Type 0} {ask : Option Command} {left : Option (List ℕ)} {left_faults faults : ℕ} {input : List ℕ} {errs : Move} {status : ℕ}
     → old.written ≡ [] → old.faults ≡ 0 → Some new.room ≡ Some old.room → IsClean new.room new.written new.faults
-    → IsRun words (record { before = record { bytes = Some input; faults = faults }; after = record { bytes = left; faults = left_faults } })
+    → IsRun Told ask (record { before = record { bytes = Some input; faults = faults }; after = record { bytes = left; faults = left_faults } })
     (record { before = record { bytes = Some old.written; faults = old.faults }; after = record { bytes = Some new.written; faults = new.faults } }) errs status
-    → AreOutputsShorter old.room words input → status ≢ 5
-never_writes old new {words} {left} {left_faults} {faults} {input} {errs} {status} written none room clean run short five =
+    → AreOutputsShorter old.room Told ask input → status ≢ 5
+never_writes old new {Told} {ask} {left} {left_faults} {faults} {input} {errs} {status} written none room clean run short five =
     let same : new.room ≡ old.room = cc in
-    no_writing words _ _ errs status old.room input run refl (record { fresh = rw (written, none) refl; written = new.written; told = refl; clean = rw same at clean }) short five
+    no_writing Told ask _ _ errs status old.room input run refl (record { fresh = rw (written, none) refl; written = new.written; told = refl; clean = rw same at clean }) short five

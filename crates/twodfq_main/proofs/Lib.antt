@@ -3,3 +3,5 @@ pub mod Runs
 pub mod Wants
 pub mod CleanRuns
 pub mod Reports
+pub mod Pools
+pub mod Asked

@@ -1,8 +1,7 @@
 -- Reports of histories, and of simulated ones.
-use Rattle.std.proofs.Common.{ℕ, ◌<◌, ◌≤◌, ◌≡◌, ◌∙◌, sym, ap, subst, refl, arith, ◌⊎◌, inl, inr, nat_lt, Bool, true, false, List, length, Result, Ok, Err, is_ok}
+use Rattle.std.proofs.Common.{ℕ, ◌<◌, ◌≤◌, ◌≡◌, ◌∙◌, sym, ap, subst, refl, arith, nat_lt, Bool, true, false, List, length, Result, Ok, Err, is_ok}
 use Rattle.std.specs.Prelude.{MatchResult}
 use Rattle.std.proofs.lemmas.Bool.{ltb-true, ltb-false}
-use Rattle.std.specs.String.{string_bytes}
 use Rattle.fluid_reference.proofs.Lists.{list_length}
 use Rattle.fq_model.specs.declared.command.Command.TheVariants.{Run}
 use Rattle.fq_model.specs.declared.command.HistoryPrint.{HistoryPrint}
@@ -26,9 +25,8 @@ use Rattle.fq_model.specs.TraceGrammar.{trace_of}
 use Rattle.lag_report.specs.Reports.{requests_of}
 use Rattle.lag_report.proofs.TenantLines.{rows_count_submits}
 use Rattle.trace_reader.proofs.Generated.{generated_short}
-use Rattle.trace_runner.specs.Plan.{IsTooLong, too_long}
-use Rattle.twodfq_main.specs.Commands.{IsRunOutput, IsGeneratedOutput, trace_entries}
-use Rattle.twodfq_main.specs.Histories.{HasManyCells, IsReportBy, IsHistoryOutput, IsSimulatedOutput, Simulates, entries_message}
+use Rattle.twodfq_main.specs.Commands.{IsRunOutput, IsGeneratedOutput, trace_entries, Untold}
+use Rattle.twodfq_main.specs.Histories.{IsReportBy, IsHistoryOutput, IsSimulatedOutput, Simulates, entries_message}
 use Rattle.twodfq_main.specs.Program.{IsOutputStop}
 use Rattle.twodfq_main.specs.Stops.{IsCellsStop, IsSimulationStop}
 use Rattle.twodfq_main.specs.declared.stop.Stop.{Stop}
@@ -48,13 +46,13 @@ summed slot C past tenants kinds r text legal x is = record {
       ∙ ap (λ n. lag_summary_text n (lag_report C (history_of past) (slot_for C (history_of past) slot))) (rows_count_submits C (history_of past) (slot_for C (history_of past) slot) legal);
 }
 
--- a simulation that ended has few enough entries
-pub few_entries : {A : Type 0} (T : Trace) (O : RunOptions) (s : A) → (IsTooLong T O → Ok s ≡ Err (too_long T O)) → needed_entries T.rows O.refresh ≤ MOST_ENTRIES
-few_entries T O s over = go (nat_lt MOST_ENTRIES (needed_entries T.rows O.refresh)) refl
+-- what ended, and would have failed with too many entries, has few enough
+pub few_entries : {A F : Type 0} (needed : ℕ) (s : A) (fault : F) → (MOST_ENTRIES < needed → Ok s ≡ Err fault) → needed ≤ MOST_ENTRIES
+few_entries needed s fault over = go (nat_lt MOST_ENTRIES needed) refl
   where
-    go : (b : Bool) → nat_lt MOST_ENTRIES (needed_entries T.rows O.refresh) ≡ b → needed_entries T.rows O.refresh ≤ MOST_ENTRIES
-    go true e = let clash : Ok s ≡ Err (too_long T O) = over (ltb-true MOST_ENTRIES (needed_entries T.rows O.refresh) e) in absurd (cc)
-    go false e = omega (arith, ltb-false MOST_ENTRIES (needed_entries T.rows O.refresh) e)
+    go : (b : Bool) → nat_lt MOST_ENTRIES needed ≡ b → needed ≤ MOST_ENTRIES
+    go true e = let clash : Ok s ≡ Err fault = over (ltb-true MOST_ENTRIES needed e) in absurd (cc)
+    go false e = omega (arith, ltb-false MOST_ENTRIES needed e)
 
 -- what is asked for of the history of a scheduler that simulated a trace is asked for of the trace
 pub of_trace : {A : Type 0} (bytes : A → List ℕ) (T : Trace) (O : RunOptions) (slot : ℕ) (print : HistoryPrint) (C : Config) (past : List Entry) (answer : Result A Stop) → C ≡ run_config T O → Simulates T O past
@@ -75,7 +73,7 @@ of_trace bytes T O slot print C past (Err (TooManyEntries message)) config s x =
 -- and of the input, where that is read as the trace
 pub of_input : {A : Type 0} (bytes : A → List ℕ) (O : RunOptions) (slot : ℕ) (print : HistoryPrint) (input : List ℕ) (T : Trace) (answer : Result A Stop) → trace_of input ≡ Ok T
     → MatchResult answer (λ a. IsSimulatedOutput T O slot print (bytes a)) (IsSimulationStop T O slot print)
-    → MatchResult answer (λ a. IsRunOutput O slot print input (bytes a)) (IsOutputStop (Run O slot print) input)
+    → MatchResult answer (λ a. IsRunOutput O slot print input (bytes a)) (IsOutputStop Untold (Run O slot print) input)
 of_input bytes O slot print input T (Ok text) read x = record { trace = T; read = read; output = x }
 of_input bytes O slot print input T (Err (TooManyEntries message)) read x =
     record {

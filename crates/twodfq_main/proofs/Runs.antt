@@ -1,5 +1,5 @@
 -- What each end of the program says of its status.
-use Rattle.std.proofs.Common.{ℕ, ◌<◌, ◌≤◌, ◌≡◌, ◌≢◌, ◌↔◌, ◌∙◌, sym, ap, subst, refl, arith, Bool, true, false, List, length, Option, Some, None, Result, Ok, Err, ◌⊎◌, inl, inr, is_some}
+use Rattle.std.proofs.Common.{ℕ, ◌≤◌, ◌≡◌, ◌≢◌, ◌∙◌, sym, ap, subst, refl, arith, Bool, true, false, if◌then◌else◌, List, Option, Some, None, Result, Ok, Err, ◌⊎◌, inl, inr}
 use Rattle.std.specs.Prelude.{IfSome, IsSomeAnd}
 use Rattle.std.proofs.lemmas.Bool.{false≢true}
 use Rattle.std.specs.String.{string_bytes}
@@ -11,28 +11,26 @@ use Rattle.fq_model.specs.declared.fault.TraceKind.{TraceKind}
 use Rattle.fq_model.specs.declared.limits.TheConstants.{MOST_ENTRIES}
 use Rattle.fq_model.specs.declared.trace.RunOptions.{RunOptions}
 use Rattle.fq_model.specs.History.{history_of}
-use Rattle.fq_model.specs.Lines as lines
 use Rattle.fq_model.specs.Simulated.{run_config}
 use Rattle.fq_model.specs.Trace.{Trace}
 use Rattle.fq_model.specs.TraceGrammar.{trace_of}
 use Rattle.fq_model.specs.TraceText.{IsLawfulTrace}
-use Rattle.fq_model.specs.Options.{command_of}
-use Rattle.command_line.specs.Commands.{built_commands}
 use Rattle.trace_reader.proofs.Lawful.{lawful}
 use Rattle.trace_runner.proofs.Only.{one_simulated}
-use Rattle.twodfq_main.specs.Commands.{asked, if_served, is_input, entries_needed, trace_entries, Outputs, TellsFault, TellsCells, IsRunOutput, RunsManyCells}
-use Rattle.twodfq_main.specs.Histories.{HasManyCells, IsSimulatedOutput, SimulatesManyCells}
-use Rattle.twodfq_main.specs.Program.{Move, Fails, FailsReading, ReadsInput, ReadsTooMuch, Ends, EndsCommand, IsRun, IsAnswered, greatest_input, status_of}
-use Rattle.twodfq_main.specs.Causes.{IsRefused, IsRead, IsOver, IsTaken, MakesTooMuch, StatusMeans, input_of}
+use Rattle.twodfq_main.specs.Commands.{if_one_of, is_input, trace_entries, pool_entries, Outputs, TellsFault, TellsCells, IsRunOutput, RunsManyCells, IsLiveOutput, LiveAlwaysMakesManyCells}
+use Rattle.twodfq_main.specs.Histories.{HasManyCells, IsSimulatedOutput, SimulatesManyCells, PoolAlwaysMakesManyCells}
+use Rattle.twodfq_main.specs.Program.{Move, Fails, Later, TellsEnd, FailsReading, ReadsInput, ReadsTooMuch, Ends, EndsCommand, IsRun, IsAnswered, greatest_input, status_of}
+use Rattle.twodfq_main.specs.Causes.{IsRefused, IsRead, IsOver, IsAlwaysOver, IsTaken, MakesTooMuch, AlwaysMakesTooMuch, StatusMeans, input_of}
 use Rattle.twodfq_main.specs.declared.stop.Stop.{Stop}
 use Rattle.twodfq_main.specs.declared.stop.Stop.TheVariants.{Words, TooLong, Fault, Reading, Writing, NoMemory, TooManyEntries, TooManyCells}
 
 -- what has an output is what the command reads
-outputs_input : (command : Command) (input text : List ℕ) → Outputs command input text → is_input command input ≡ true
-outputs_input (commands.Script print) input text x = rw (x.read) refl
-outputs_input (commands.Run options slot print) input text x = rw (x.read) refl
-outputs_input (commands.Gen seed tenants requests print) input text x = refl
-outputs_input _ input text x = absurd (x)
+outputs_input : (Told : ℕ → Type 0) (command : Command) (input text : List ℕ) → Outputs Told command input text → is_input command input ≡ true
+outputs_input Told (commands.Script print) input text x = rw (x.read) refl
+outputs_input Told (commands.Run options slot print) input text x = rw (x.read) refl
+outputs_input Told (commands.Live options slot print watch) input text x = rw (x.read) refl
+outputs_input Told (commands.Gen seed tenants requests print) input text x = refl
+outputs_input Told _ input text x = absurd (x)
 
 -- a trace that has an output has no report with too many cells, since it has one simulated history
 one_report : (T : Trace) (O : RunOptions) (slot : ℕ) (print : HistoryPrint) (text : List ℕ) → IsLawfulTrace T
@@ -50,27 +48,39 @@ one_run O slot print input text x m =
     let same : m.trace ≡ x.trace = (let ok : trace_result m.trace ≡ Ok x.trace = sym m.read ∙ x.read in cc) in
     one_report x.trace O slot print text (lawful input x.trace x.read) x.output (subst (λ T. SimulatesManyCells T O slot print) same m.many)
 
+-- a history of a pool that has an output has no report with too many cells, so not each one has
+one_live : (Told : ℕ → Type 0) (O : RunOptions) (slot : ℕ) (print : HistoryPrint) (input text : List ℕ) → IsLiveOutput Told O slot print input text → LiveAlwaysMakesManyCells Told O slot print input → ⊥
+one_live Told O slot print input text x m =
+    let same : m.trace ≡ x.trace = (let ok : trace_result m.trace ≡ Ok x.trace = sym m.read ∙ x.read in cc) in
+    let many : PoolAlwaysMakesManyCells Told x.trace O slot print = subst (λ T. PoolAlwaysMakesManyCells Told T O slot print) same m.many in
+    x.output.output.few (many x.output.past x.output.serves)
+
 -- and not too much is made of it
-outputs_few : (command : Command) (input text : List ℕ) → Outputs command input text → MakesTooMuch command input → ⊥
-outputs_few (commands.Script print) input text x (inl many) = omega (arith, many)
-outputs_few (commands.Script print) input text x (inr many) = many
-outputs_few (commands.Run options slot print) input text x (inl many) =
+outputs_few : (Told : ℕ → Type 0) (command : Command) (input text : List ℕ) → Outputs Told command input text → AlwaysMakesTooMuch Told command input → ⊥
+outputs_few Told (commands.Script print) input text x (inl many) = omega (arith, many)
+outputs_few Told (commands.Script print) input text x (inr many) = many
+outputs_few Told (commands.Run options slot print) input text x (inl many) =
     let few : trace_entries options (trace_of input) ≤ MOST_ENTRIES = rw (x.read) x.output.simulates.few in omega (arith, few, many)
-outputs_few (commands.Run options slot print) input text x (inr many) = one_run options slot print input text x many
-outputs_few (commands.Gen seed tenants requests print) input text x (inl many) = omega (arith, many)
-outputs_few (commands.Gen seed tenants requests print) input text x (inr many) = many
-outputs_few _ input text x many = absurd (x)
+outputs_few Told (commands.Run options slot print) input text x (inr many) = one_run options slot print input text x many
+outputs_few Told (commands.Live options slot print watch) input text x (inl many) =
+    let few : pool_entries options (trace_of input) ≤ MOST_ENTRIES = rw (x.read) x.output.serves.few in omega (arith, few, many)
+outputs_few Told (commands.Live options slot print watch) input text x (inr many) = one_live Told options slot print input text x many
+outputs_few Told (commands.Gen seed tenants requests print) input text x (inl many) = omega (arith, many)
+outputs_few Told (commands.Gen seed tenants requests print) input text x (inr many) = many
+outputs_few Told _ input text x many = absurd (x)
 
 -- what has a fault is not
 faulty_input : (command : Command) (input message : List ℕ) → TellsFault command input message → is_input command input ≡ false
 faulty_input (commands.Script print) input message x = rw (x.first) refl
 faulty_input (commands.Run options slot print) input message x = rw (x.first) refl
+faulty_input (commands.Live options slot print watch) input message x = rw (x.first) refl
 faulty_input _ input message x = absurd (x)
 
--- of whose report too many cells are told is read, and too much would be made of it
-oversized_input : (command : Command) (input message : List ℕ) → TellsCells command input message → (is_input command input ≡ true) × MakesTooMuch command input
-oversized_input (commands.Run options slot print) input message x = (rw (x.run.read) refl, inr x.run)
-oversized_input _ input message x = absurd (x)
+-- of whose report too many cells are told is read, and too much may be made of it
+oversized_input : (Told : ℕ → Type 0) (command : Command) (input message : List ℕ) → TellsCells Told command input message → (is_input command input ≡ true) × MakesTooMuch Told command input
+oversized_input Told (commands.Run options slot print) input message x = (rw (x.run.read) refl, inr x.run)
+oversized_input Told (commands.Live options slot print watch) input message x = (rw (x.live.read) refl, inr x.live)
+oversized_input Told _ input message x = absurd (x)
 
 -- ---- inputs that are known
 
@@ -123,40 +133,40 @@ both : (So Not : List ℕ → Type 0) (o : Option (List ℕ)) → ((xs : List �
 both So Not None clash s m = m
 both So Not (Some xs) clash s m = clash xs s m
 
--- an input that was answered is read, and is not over
-record Answered (command : Command) (input : List ℕ) : Type 0 where
+-- an input that was answered is read, and is not always over
+record Answered (Told : ℕ → Type 0) (command : Command) (input : List ℕ) : Type 0 where
   read : IsRead command input
-  few : ¬ MakesTooMuch command input
+  few : ¬ AlwaysMakesTooMuch Told command input
 
-answered : (command : Command) (source : Move) (text : List ℕ) (x : IsAnswered command source text) → Answered command x.input
-answered command source text x = record { read = (outputs_input command x.input text x.output, x.within); few = outputs_few command x.input text x.output }
+answered : (Told : ℕ → Type 0) (command : Command) (source : Move) (text : List ℕ) (x : IsAnswered Told command source text) → Answered Told command x.input
+answered Told command source text x = record { read = (outputs_input Told command x.input text x.output, x.within); few = outputs_few Told command x.input text x.output }
 
--- what the status of each end says, where the words ask for a command
-record Means (command : Command) (source sink : Move) (status : ℕ) : Type 0 where
+-- what the status of each end says, where a command is asked for
+record Means (Told : ℕ → Type 0) (command : Command) (source sink : Move) (status : ℕ) : Type 0 where
   line : status ≡ 2 → ⊥
   refused : status ≡ 3 → IfSome (input_of command source.before.bytes) (IsRefused command)
   reading : status ≡ 4 → Fails source
   writing : status ≡ 5 → Fails sink
-  over : status ≡ 7 → IfSome (input_of command source.before.bytes) (IsOver command)
+  over : status ≡ 7 → IfSome (input_of command source.before.bytes) (IsOver Told command)
   refuses : IsSomeAnd (input_of command source.before.bytes) (IsRefused command) → ¬ Fails source → (status ≡ 3) ⊎ (status ≡ 6)
-  overflows : IsSomeAnd (input_of command source.before.bytes) (IsOver command) → ¬ Fails source → (status ≡ 7) ⊎ (status ≡ 6)
-  complete : IsSomeAnd (input_of command source.before.bytes) (IsTaken command) → ¬ Fails source → ¬ Fails sink → (status ≡ 0) ⊎ (status ≡ 6)
+  overflows : IsSomeAnd (input_of command source.before.bytes) (IsAlwaysOver Told command) → ¬ Fails source → (status ≡ 7) ⊎ (status ≡ 6)
+  complete : IsSomeAnd (input_of command source.before.bytes) (IsTaken Told command) → ¬ Fails source → ¬ Fails sink → (status ≡ 0) ⊎ (status ≡ 6)
 
 -- 0 and 5: the input was answered
-means_answered : (command : Command) (source sink : Move) (text : List ℕ) (status : ℕ) → IsAnswered command source text → (status ≡ 0) ⊎ ((status ≡ 5) × Fails sink) → Means command source sink status
-means_answered command source sink text status x end = record {
+means_answered : (Told : ℕ → Type 0) (command : Command) (source sink : Move) (text : List ℕ) (status : ℕ) → IsAnswered Told command source text → (status ≡ 0) ⊎ ((status ≡ 5) × Fails sink) → Means Told command source sink status
+means_answered Told command source sink text status x end = record {
   line = λ h. by_end 2 h (omega arith) (omega arith);
   refused = λ h. absurd (by_end 3 h (omega arith) (omega arith));
   reading = λ h. absurd (by_end 4 h (omega arith) (omega arith));
   writing = λ h. failed h end;
   over = λ h. absurd (by_end 7 h (omega arith) (omega arith));
   refuses = λ m _. absurd (unknown (IsRefused command) (input_of command source.before.bytes) x.input t (λ r. refused_not_read command x.input r a.read) m);
-  overflows = λ m _. absurd (unknown (IsOver command) (input_of command source.before.bytes) x.input t (λ o. a.few o.1) m);
+  overflows = λ m _. absurd (unknown (IsAlwaysOver Told command) (input_of command source.before.bytes) x.input t (λ o. a.few o.1) m);
   complete = λ _ _ calm. inl (done calm end);
 }
   where
-    a : Answered command x.input
-    a = answered command source text x
+    a : Answered Told command x.input
+    a = answered Told command source text x
 
     t : IfSome (input_of command source.before.bytes) (λ xs. xs ≡ x.input)
     t = told command source x.input x.read
@@ -173,34 +183,34 @@ means_answered command source sink text status x end = record {
     done calm (inr f) = absurd (calm f.1)
 
 -- 3: the input is refused
-means_refused : (command : Command) (source sink : Move) → IfSome (input_of command source.before.bytes) (IsRefused command) → Means command source sink 3
-means_refused command source sink r = record {
+means_refused : (Told : ℕ → Type 0) (command : Command) (source sink : Move) → IfSome (input_of command source.before.bytes) (IsRefused command) → Means Told command source sink 3
+means_refused Told command source sink r = record {
   line = λ h. omega (arith, h);
   refused = λ _. r;
   reading = λ h. absurd (omega (arith, h));
   writing = λ h. absurd (omega (arith, h));
   over = λ h. absurd (omega (arith, h));
   refuses = λ _ _. inl refl;
-  overflows = λ m _. absurd (both (IsRefused command) (IsOver command) (input_of command source.before.bytes) (λ xs s o. refused_not_read command xs s o.0) r m);
-  complete = λ m _ _. absurd (both (IsRefused command) (IsTaken command) (input_of command source.before.bytes) (λ xs s o. refused_not_read command xs s o.0) r m);
+  overflows = λ m _. absurd (both (IsRefused command) (IsAlwaysOver Told command) (input_of command source.before.bytes) (λ xs s o. refused_not_read command xs s o.0) r m);
+  complete = λ m _ _. absurd (both (IsRefused command) (IsTaken Told command) (input_of command source.before.bytes) (λ xs s o. refused_not_read command xs s o.0) r m);
 }
 
 -- 7: too much would be made of it
-means_over : (command : Command) (source sink : Move) → IfSome (input_of command source.before.bytes) (IsOver command) → Means command source sink 7
-means_over command source sink o = record {
+means_over : (Told : ℕ → Type 0) (command : Command) (source sink : Move) → IfSome (input_of command source.before.bytes) (IsOver Told command) → Means Told command source sink 7
+means_over Told command source sink o = record {
   line = λ h. omega (arith, h);
   refused = λ h. absurd (omega (arith, h));
   reading = λ h. absurd (omega (arith, h));
   writing = λ h. absurd (omega (arith, h));
   over = λ _. o;
-  refuses = λ m _. absurd (both (IsOver command) (IsRefused command) (input_of command source.before.bytes) (λ xs s r. refused_not_read command xs r s.0) o m);
+  refuses = λ m _. absurd (both (IsOver Told command) (IsRefused command) (input_of command source.before.bytes) (λ xs s r. refused_not_read command xs r s.0) o m);
   overflows = λ _ _. inl refl;
-  complete = λ m _ _. absurd (both (IsOver command) (IsTaken command) (input_of command source.before.bytes) (λ xs s k. k.1 s.1) o m);
+  complete = λ m _ _. absurd (both (IsOver Told command) (IsTaken Told command) (input_of command source.before.bytes) (λ xs s k. k.1 s.1) o m);
 }
 
 -- 4: reading failed
-means_reading : (command : Command) (source sink : Move) → Fails source → Means command source sink 4
-means_reading command source sink f = record {
+means_reading : (Told : ℕ → Type 0) (command : Command) (source sink : Move) → Fails source → Means Told command source sink 4
+means_reading Told command source sink f = record {
   line = λ h. omega (arith, h);
   refused = λ h. absurd (omega (arith, h));
   reading = λ _. f;
@@ -212,8 +222,8 @@ means_reading command source sink f = record {
 }
 
 -- 6: memory ran out
-means_no_memory : (command : Command) (source sink : Move) → Means command source sink 6
-means_no_memory command source sink = record {
+means_no_memory : (Told : ℕ → Type 0) (command : Command) (source sink : Move) → Means Told command source sink 6
+means_no_memory Told command source sink = record {
   line = λ h. omega (arith, h);
   refused = λ h. absurd (omega (arith, h));
   reading = λ h. absurd (omega (arith, h));
@@ -224,53 +234,68 @@ means_no_memory command source sink = record {
   complete = λ _ _ _. inr refl;
 }
 
-means : (command : Command) (source sink : Move) (end : Result (Unit {0}) Stop) → EndsCommand command source sink end → Means command source sink (status_of end)
-means command source sink (Ok done) x = means_answered command source sink x.text 0 x.answered (inl refl)
-means command source sink (Err Words) x = absurd x
-means command source sink (Err TooLong) x = means_refused command source sink (too_long_input command source x.0)
-means command source sink (Err (Fault message)) x =
+means : (Told : ℕ → Type 0) (command : Command) (source sink : Move) (end : Result (Unit {0}) Stop) → EndsCommand Told command source sink end → Means Told command source sink (status_of end)
+means Told command source sink (Ok done) x = means_answered Told command source sink x.text 0 x.answered (inl refl)
+means Told command source sink (Err Words) x = absurd x
+means Told command source sink (Err TooLong) x = means_refused Told command source sink (too_long_input command source x.0)
+means Told command source sink (Err (Fault message)) x =
     let f = x.0 in
-    means_refused command source sink (known (IsRefused command) (input_of command source.before.bytes) f.input (told command source f.input f.read) (inl (faulty_input command f.input (string_bytes message) f.fault)))
-means command source sink (Err Reading) x = means_reading command source sink (fails_reading command source x.0)
-means command source sink (Err Writing) x = means_answered command source sink x.text 5 x.answered (inr (refl, x.wrote.0))
-means command source sink (Err NoMemory) x = means_no_memory command source sink
-means command source sink (Err (TooManyEntries message)) x =
+    means_refused Told command source sink (known (IsRefused command) (input_of command source.before.bytes) f.input (told command source f.input f.read) (inl (faulty_input command f.input (string_bytes message) f.fault)))
+means Told command source sink (Err Reading) x = means_reading Told command source sink (fails_reading command source x.0)
+means Told command source sink (Err Writing) x = means_answered Told command source sink x.text 5 x.answered (inr (refl, x.wrote.0))
+means Told command source sink (Err NoMemory) x = means_no_memory Told command source sink
+means Told command source sink (Err (TooManyEntries message)) x =
     let e = x.0 in
-    means_over command source sink (known (IsOver command) (input_of command source.before.bytes) e.input (told command source e.input e.read) ((e.entries.read, e.within), inl e.entries.too_many))
-means command source sink (Err (TooManyCells message)) x =
+    means_over Told command source sink (known (IsOver Told command) (input_of command source.before.bytes) e.input (told command source e.input e.read) ((e.entries.read, e.within), inl e.entries.too_many))
+means Told command source sink (Err (TooManyCells message)) x =
     let e = x.0 in
-    let c = oversized_input command e.input (string_bytes message) e.cells in
-    means_over command source sink (known (IsOver command) (input_of command source.before.bytes) e.input (told command source e.input e.read) ((c.0, e.within), c.1))
+    let c = oversized_input Told command e.input (string_bytes message) e.cells in
+    means_over Told command source sink (known (IsOver Told command) (input_of command source.before.bytes) e.input (told command source e.input e.read) ((c.0, e.within), c.1))
 
--- the same by what the words ask for
-ends_mean : (words : lines.Words) (ask : Option Command) (source sink : Move) (end : Result (Unit {0}) Stop) → asked words ≡ ask → Ends ask source sink end → StatusMeans words source sink (status_of end)
-ends_mean words None source sink end is x = rw x.0 (record {
-  line = (λ _ some. false≢true (ap is_some (sym is) ∙ some), λ _. refl);
+-- the same by what is asked
+ends_mean : (Told : ℕ → Type 0) (ask : Option Command) (source sink : Move) (end : Result (Unit {0}) Stop) → Ends Told ask source sink end → StatusMeans Told ask source sink (status_of end)
+ends_mean Told None source sink end x = rw x.0 (record {
+  line = (λ _ some. false≢true some, λ _. refl);
   refused = λ h. absurd (omega (arith, h));
   reading = λ h. absurd (omega (arith, h));
   writing = λ h. absurd (omega (arith, h));
   over = λ h. absurd (omega (arith, h));
-  refuses = rw is (λ m _. absurd m);
-  overflows = rw is (λ m _. absurd m);
-  complete = rw is (λ m _ _. absurd m);
+  refuses = λ m _. absurd m;
+  overflows = λ m _. absurd m;
+  complete = λ m _ _. absurd m;
 })
-ends_mean words (Some command) source sink end is x =
-    let m = means command source sink end x in
+ends_mean Told (Some command) source sink end x =
+    let m = means Told command source sink end x in
     record {
-      line = (λ two. absurd (m.line two), λ none. absurd (none (ap is_some is)));
-      refused = rw is m.refused;
+      line = (λ two. absurd (m.line two), λ none. absurd (none refl));
+      refused = m.refused;
       reading = m.reading;
       writing = m.writing;
-      over = rw is m.over;
-      refuses = rw is m.refuses;
-      overflows = rw is m.overflows;
-      complete = rw is m.complete;
+      over = m.over;
+      refuses = m.refuses;
+      overflows = m.overflows;
+      complete = m.complete;
     }
 
--- what the words ask for ends as that command does
-pub ends_asked : (words : lines.Words) (command : Command) (source sink : Move) (end : Result (Unit {0}) Stop) → command_of built_commands words ≡ Some command
-    → if_served (Some command) ≡ Some command → EndsCommand command source sink end → Ends (asked words) source sink end
-ends_asked words command source sink end is served x = subst (λ ask. Ends ask source sink end) (sym (ap if_served is ∙ served)) x
+-- a command that is one of these ends as it does
+pub ends_asked : (Told : ℕ → Type 0) (of_these : Command → Bool) (ask : Option Command) (command : Command) (source sink : Move) (end : Result (Unit {0}) Stop) → ask ≡ Some command
+    → of_these command ≡ true → EndsCommand Told command source sink end → Ends Told (if_one_of of_these ask) source sink end
+ends_asked Told of_these ask command source sink end is one x =
+    let found : if_one_of of_these ask ≡ Some command = ap (if_one_of of_these) is ∙ ap (λ b. if b then Some command else None) one in
+    subst (λ found. Ends Told found source sink end) (sym found) x
 
-pub run_means : {words : lines.Words} {source sink errs : Move} {status : ℕ} → IsRun words source sink errs status → StatusMeans words source sink status
-run_means {words} {source} {sink} r = rw (r.status_is) (ends_mean words (asked words) source sink r.end refl r.ends)
+-- what was found to be asked ended so, and that was told
+pub run_is : {Told : ℕ → Type 0} {found ask : Option Command} {source sink errs : Move} {status : ℕ} (of_these : Command → Bool) (end : Result (Unit {0}) Stop) → found ≡ ask → Ends Told (if_one_of of_these found) source sink end
+    → status ≡ status_of end → TellsEnd errs end → Later source → Later sink → Later errs → IsRun Told (if_one_of of_these ask) source sink errs status
+run_is {Told} {found} {ask} {source} {sink} of_these end is ends status says source_later sink_later errs_later = record {
+  end = end;
+  ends = subst (λ (o : Option Command). Ends Told (if_one_of of_these o) source sink end) is ends;
+  status_is = status;
+  told = says;
+  source_later = source_later;
+  sink_later = sink_later;
+  errs_later = errs_later;
+}
+
+pub run_means : {Told : ℕ → Type 0} {ask : Option Command} {source sink errs : Move} {status : ℕ} → IsRun Told ask source sink errs status → StatusMeans Told ask source sink status
+run_means {Told} {ask} {source} {sink} r = rw (r.status_is) (ends_mean Told ask source sink r.end r.ends)

@@ -7,6 +7,6 @@ use Rattle.twodfq_main.specs.Program.{IsOutputStop}
 use Rattle.twodfq_main.specs.declared.stop.Stop.{Stop}
 use Rattle.twodfq_main.specs.declared.stop.Stop.TheVariants.{NoMemory}
 
-pub wants_memory : {A : Type 0} (P : A → Type 0) (command : Command) (input : List ℕ) (r : Result A Stop) → IsErr r × IsErrAnd r (λ stop. stop ≡ NoMemory) → MatchResult r P (IsOutputStop command input)
-wants_memory P command input (Ok x) h = absurd (false≢true h.0)
-wants_memory P command input (Err stop) h = rw h.1 tt
+pub wants_memory : {A : Type 0} (P : A → Type 0) (Told : ℕ → Type 0) (command : Command) (input : List ℕ) (r : Result A Stop) → IsErr r × IsErrAnd r (λ stop. stop ≡ NoMemory) → MatchResult r P (IsOutputStop Told command input)
+wants_memory P Told command input (Ok x) h = absurd (false≢true h.0)
+wants_memory P Told command input (Err stop) h = rw h.1 tt

@@ -1,7 +1,7 @@
 -- What the program is asked by its words, what it writes for an input, and what is told of an input's first fault.
-use Rattle.std.specs.Prelude.{ℕ, ◌<◌, ◌≡◌, Bool, true, false, List, ◌++◌, Option, Some, None, is_ok, Result, Err, Ok, codes}
+use Rattle.std.specs.Prelude.{ℕ, ◌<◌, ◌≡◌, Bool, true, false, ◌||◌, if◌then◌else◌, List, Option, Some, None, is_ok, Result, Err, Ok}
 use Rattle.fq_model.specs.declared.command.Command.{Command}
-use Rattle.fq_model.specs.declared.command.Command.TheVariants.{Script, Run, Gen}
+use Rattle.fq_model.specs.declared.command.Command.TheVariants.{Script, Run, Live, Gen}
 use Rattle.fq_model.specs.declared.command.ScriptPrint.{ScriptPrint}
 use Rattle.fq_model.specs.declared.command.HistoryPrint.{HistoryPrint}
 use Rattle.fq_model.specs.declared.command.HistoryPrint.TheVariants.{Summary}
@@ -18,6 +18,7 @@ use Rattle.fq_model.specs.Outcome.{Outcome}
 use Rattle.fq_model.specs.Command.{default_run_options}
 use Rattle.fq_model.specs.Document.{config_of}
 use Rattle.fq_model.specs.Generator.{generated_trace}
+use Rattle.fq_model.specs.PoolHistory.{needed_pool_entries}
 use Rattle.fq_model.specs.Script as scripts
 use Rattle.fq_model.specs.Simulated.{needed_entries}
 use Rattle.fq_model.specs.Texts.{replies_text}
@@ -30,18 +31,37 @@ use Rattle.fq_model.specs.Output.{script_output_text}
 use Rattle.fq_model.specs.Options.{command_of}
 use Rattle.fq_model.specs.Lines.{Words}
 use Rattle.command_line.specs.Commands.{built_commands}
-use Rattle.twodfq_main.specs.Histories.{message_line, entries_message, cells_message, IsSimulatedOutput, SimulatesManyCells, simulated_cells}
+use Rattle.twodfq_main.specs.Histories.{message_line, entries_message, cells_message, IsSimulatedOutput, SimulatesManyCells, simulated_cells, IsPoolOutput, PoolMakesManyCells, PoolAlwaysMakesManyCells, pool_cells}
 
--- a command, if it is one that the program serves: those that wait for nobody
-abbrev pub if_served : Option Command → Option Command
-if_served (Some (Script print)) = Some (Script print)
-if_served (Some (Run options slot print)) = Some (Run options slot print)
-if_served (Some (Gen seed tenants requests print)) = Some (Gen seed tenants requests print)
-if_served _ = None
+-- the commands that wait for nobody
+abbrev pub is_plain : Command → Bool
+is_plain (Script print) = true
+is_plain (Run options slot print) = true
+is_plain (Gen seed tenants requests print) = true
+is_plain _ = false
 
--- what the words, without the program's name, ask for, if they are a line of the table of commands
-abbrev pub asked : Words → Option Command
-asked words = if_served (command_of built_commands words)
+-- those that wait for threads
+abbrev pub is_live : Command → Bool
+is_live (Live options slot print watch) = true
+is_live _ = false
+
+-- those that the program serves
+abbrev pub is_served : Command → Bool
+is_served command = is_plain command || is_live command
+
+-- a command, if it is one of these
+abbrev pub if_one_of : (Command → Bool) → Option Command → Option Command
+if_one_of of_these None = None
+if_one_of of_these (Some command) = if of_these command then Some command else None
+
+-- what the words, without the program's name, ask of a part of the program that serves these commands: a command, if
+-- they are a line of the table of commands for one of these
+abbrev pub asked : (Command → Bool) → Words → Option Command
+asked of_these words = if_one_of of_these (command_of built_commands words)
+
+-- what a clock tells that is not asked
+abbrev pub Untold : ℕ → Type 0
+Untold moment = ⊥
 
 -- Scripts.
 
@@ -94,6 +114,40 @@ pub record TellsRunCells (options : RunOptions) (slot : ℕ) (print : HistoryPri
   pub run : RunsManyCells options slot print input
   pub told : message ≡ cells_message (simulated_cells run.many)
 
+-- Traces that a pool of threads serves, at moments that its clock tells.
+
+-- the input is a trace, and the text is what is asked for of one history that its pool makes
+pub record IsLiveOutput (Told : ℕ → Type 0) (options : RunOptions) (slot : ℕ) (print : HistoryPrint)
+    (input text : List ℕ) : Type 0 where
+  pub trace : Trace
+  pub read : trace_of input ≡ Ok trace
+  pub output : IsPoolOutput Told trace options slot print text
+
+-- how many entries the history of a pool that serves what was read needs
+abbrev pub pool_entries : RunOptions → Result Trace (ℕ × TraceKind) → ℕ
+pool_entries options (Ok trace) = needed_pool_entries trace.rows options.refresh
+pool_entries options (Err fault) = 0
+
+-- the input is a trace, and the report of one history that its pool may make would have more cells than it may
+pub record LiveMakesManyCells (Told : ℕ → Type 0) (options : RunOptions) (slot : ℕ) (print : HistoryPrint)
+    (input : List ℕ) : Type 0 where
+  pub trace : Trace
+  pub read : trace_of input ≡ Ok trace
+  pub many : PoolMakesManyCells Told trace options slot print
+
+-- so it is, and the message tells how many
+pub record TellsLiveCells (Told : ℕ → Type 0) (options : RunOptions) (slot : ℕ) (print : HistoryPrint)
+    (input message : List ℕ) : Type 0 where
+  pub live : LiveMakesManyCells Told options slot print input
+  pub told : message ≡ cells_message (pool_cells live.many)
+
+-- the input is a trace, and the report of each history that its pool may make would have more cells than it may
+pub record LiveAlwaysMakesManyCells (Told : ℕ → Type 0) (options : RunOptions) (slot : ℕ) (print : HistoryPrint)
+    (input : List ℕ) : Type 0 where
+  pub trace : Trace
+  pub read : trace_of input ≡ Ok trace
+  pub many : PoolAlwaysMakesManyCells Told trace options slot print
+
 -- Generated traces.
 
 -- the text is the generated trace, or the summary of its simulated history under the default options, by the automatic
@@ -102,37 +156,48 @@ abbrev pub IsGeneratedOutput : GenPrint → Trace → List ℕ → Type 0
 IsGeneratedOutput gen.Trace T text = text ≡ trace_text T
 IsGeneratedOutput gen.Summary T text = IsSimulatedOutput T default_run_options 0 Summary text
 
--- By command. One that reads no input has the empty one.
+-- By command. One that reads no input has the empty one, and one that asks no clock makes nothing of what is told.
 
 -- how many entries the history that the command makes would have, where that is known from its input
 abbrev pub entries_needed : Command → List ℕ → ℕ
 entries_needed (Run options slot print) input = trace_entries options (trace_of input)
+entries_needed (Live options slot print watch) input = pool_entries options (trace_of input)
 entries_needed _ input = 0
 
--- the report of the history that the command makes would have more cells than it may
-abbrev pub MakesManyCells : Command → List ℕ → Type 0
-MakesManyCells (Run options slot print) input = RunsManyCells options slot print input
-MakesManyCells _ input = ⊥
+-- the report of a history that the command may make would have more cells than it may
+abbrev pub MakesManyCells : (ℕ → Type 0) → Command → List ℕ → Type 0
+MakesManyCells Told (Run options slot print) input = RunsManyCells options slot print input
+MakesManyCells Told (Live options slot print watch) input = LiveMakesManyCells Told options slot print input
+MakesManyCells Told _ input = ⊥
+
+-- the report of each history that the command may make would have more cells than it may
+abbrev pub AlwaysMakesManyCells : (ℕ → Type 0) → Command → List ℕ → Type 0
+AlwaysMakesManyCells Told (Run options slot print) input = RunsManyCells options slot print input
+AlwaysMakesManyCells Told (Live options slot print watch) input = LiveAlwaysMakesManyCells Told options slot print input
+AlwaysMakesManyCells Told _ input = ⊥
 
 -- the input is what the command reads
 abbrev pub is_input : Command → List ℕ → Bool
 is_input (Script print) input = is_ok (scripts.script_of input)
 is_input (Run options slot print) input = is_ok (trace_of input)
+is_input (Live options slot print watch) input = is_ok (trace_of input)
 is_input (Gen seed tenants requests print) input = true
 is_input _ input = false
 
 -- what the command writes for an input
-abbrev pub Outputs : Command → List ℕ → List ℕ → Type 0
-Outputs (Script print) input text = IsServed print input text
-Outputs (Run options slot print) input text = IsRunOutput options slot print input text
-Outputs (Gen seed tenants requests print) input text =
+abbrev pub Outputs : (ℕ → Type 0) → Command → List ℕ → List ℕ → Type 0
+Outputs Told (Script print) input text = IsServed print input text
+Outputs Told (Run options slot print) input text = IsRunOutput options slot print input text
+Outputs Told (Live options slot print watch) input text = IsLiveOutput Told options slot print input text
+Outputs Told (Gen seed tenants requests print) input text =
     IsGeneratedOutput print (generated_trace seed tenants requests) text
-Outputs _ input text = ⊥
+Outputs Told _ input text = ⊥
 
 -- the message names the first fault of the input
 abbrev pub TellsFault : Command → List ℕ → List ℕ → Type 0
 TellsFault (Script print) input message = TellsScriptFault input message
 TellsFault (Run options slot print) input message = TellsTraceFault input message
+TellsFault (Live options slot print watch) input message = TellsTraceFault input message
 TellsFault _ input message = ⊥
 
 -- the history that the command would make has more entries than there may be, and the message tells how many
@@ -142,6 +207,7 @@ pub record TellsEntries (command : Command) (input message : List ℕ) : Type 0 
   pub told : message ≡ entries_message (entries_needed command input)
 
 -- the report of the history that the command makes would have more cells than it may, and the message tells how many
-abbrev pub TellsCells : Command → List ℕ → List ℕ → Type 0
-TellsCells (Run options slot print) input message = TellsRunCells options slot print input message
-TellsCells _ input message = ⊥
+abbrev pub TellsCells : (ℕ → Type 0) → Command → List ℕ → List ℕ → Type 0
+TellsCells Told (Run options slot print) input message = TellsRunCells options slot print input message
+TellsCells Told (Live options slot print watch) input message = TellsLiveCells Told options slot print input message
+TellsCells Told _ input message = ⊥

@@ -1,4 +1,4 @@
--- What is written of histories: of any that is finished, and of the simulated history of a trace.
+-- What is written of histories: of any that is finished, of a trace's simulated history, and of one that a pool makes.
 use Rattle.std.specs.Prelude.{ℕ, ◌<◌, ◌≤◌, ◌≡◌, Bool, true, false, List, ◌++◌, codes}
 use Rattle.std.specs.Fmt.{decimal}
 use Rattle.fq_model.specs.declared.command.HistoryPrint.{HistoryPrint}
@@ -9,6 +9,7 @@ use Rattle.fq_model.specs.declared.limits.TheConstants.{MOST_CELLS, MOST_ENTRIES
 use Rattle.fq_model.specs.declared.trace.RunOptions.{RunOptions}
 use Rattle.fq_model.specs.History.{History, history_of}
 use Rattle.fq_model.specs.Output.{history_output}
+use Rattle.fq_model.specs.PoolHistory.{needed_pool_entries, pool_config, IsPoolHistory, HasToldMoments}
 use Rattle.fq_model.specs.Report.{LagReport, lag_report, slot_for, cells_of}
 use Rattle.fq_model.specs.Simulated.{needed_entries, run_config, IsSimulated}
 use Rattle.fq_model.specs.Trace.{Trace}
@@ -77,3 +78,37 @@ simulated_cells {T} {O} {slot} {print} x = cells_of (run_config T O) (history_of
 abbrev pub entries_message : ℕ → List ℕ
 entries_message needed =
     message_line (codes "the history would have " ++ decimal needed ++ codes " entries, more than 4194304")
+
+-- Histories of a pool.
+
+-- these, in order of time, are the entries of a history of a pool that serves the trace under these options, at moments
+-- that its clock tells; and it has no more entries than there may be
+pub record PoolServes (Told : ℕ → Type 0) (T : Trace) (O : RunOptions) (past : List Entry) : Type 0 where
+  pub few : needed_pool_entries T.rows O.refresh ≤ MOST_ENTRIES
+  pub history : IsPoolHistory T O (history_of past)
+  pub moments : HasToldMoments Told (history_of past)
+
+-- the text is what is asked for of one such history
+pub record IsPoolOutput (Told : ℕ → Type 0) (T : Trace) (O : RunOptions) (slot : ℕ) (print : HistoryPrint)
+    (text : List ℕ) : Type 0 where
+  pub past : List Entry
+  pub serves : PoolServes Told T O past
+  pub output : IsHistoryOutput print slot (pool_config T O) T.tenants T.kinds past text
+
+-- the report of one such history would have more cells than it may
+pub record PoolMakesManyCells (Told : ℕ → Type 0) (T : Trace) (O : RunOptions) (slot : ℕ) (print : HistoryPrint)
+    : Type 0 where
+  pub past : List Entry
+  pub serves : PoolServes Told T O past
+  pub many : HasManyCells print slot (pool_config T O) (history_of past)
+
+-- how many
+abbrev pub pool_cells :
+    {Told : ℕ → Type 0} {T : Trace} {O : RunOptions} {slot : ℕ} {print : HistoryPrint}
+    → PoolMakesManyCells Told T O slot print → ℕ
+pool_cells {Told} {T} {O} {slot} {print} x = cells_of (pool_config T O) (history_of x.past) slot
+
+-- the report of each such history would have more cells than it may
+abbrev pub PoolAlwaysMakesManyCells : (ℕ → Type 0) → Trace → RunOptions → ℕ → HistoryPrint → Type 0
+PoolAlwaysMakesManyCells Told T O slot print =
+    (past : List Entry) → PoolServes Told T O past → HasManyCells print slot (pool_config T O) (history_of past)

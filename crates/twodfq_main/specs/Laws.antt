@@ -2,8 +2,7 @@
 use Rattle.std.specs.Prelude.{ℕ, ◌<◌, ◌≡◌, ◌≢◌, List, [], length, Option, Some}
 use Rattle.fq_io.specs.Clean.{IsClean}
 use Rattle.fq_model.specs.declared.command.Command.{Command}
-use Rattle.fq_model.specs.Lines.{Words}
-use Rattle.twodfq_main.specs.Commands.{asked, Outputs}
+use Rattle.twodfq_main.specs.Commands.{Outputs}
 use Rattle.twodfq_main.specs.Program.{Move, IsRun}
 
 -- a clean source was read: its faults are 0 before and after
@@ -17,17 +16,20 @@ pub record IsCleanSink (room : ℕ) (sink : Move) : Type 0 where
   pub told : sink.after.bytes ≡ Some written
   pub clean : IsClean room written sink.after.faults
 
--- what is written for this input, if the words ask for something, is shorter than this
-abbrev pub AreOutputsShorter : ℕ → Words → List ℕ → Type 0
-AreOutputsShorter room words input =
-    (command : Command) (text : List ℕ) → asked words ≡ Some command → Outputs command input text → length text < room
+-- what may be written for this input, where a command is asked for, is shorter than this
+abbrev pub AreOutputsShorter : ℕ → (ℕ → Type 0) → Option Command → List ℕ → Type 0
+AreOutputsShorter room Told ask input =
+    (command : Command) (text : List ℕ) → ask ≡ Some command → Outputs Told command input text → length text < room
 
--- over a clean source the program never ends with 4
-abbrev pub NeverFailsReading : Type 0
-NeverFailsReading = (words : Words) (source sink errs : Move) (status : ℕ) → IsRun words source sink errs status → IsCleanSource source → status ≢ 4
+-- over a clean source the program never ends with 4, whatever it is asked
+abbrev pub NeverFailsReading : (ℕ → Type 0) → Type 0
+NeverFailsReading Told =
+    (ask : Option Command) (source sink errs : Move) (status : ℕ)
+    → IsRun Told ask source sink errs status → IsCleanSource source → status ≢ 4
 
 -- over a fresh clean sink that has more room than the output has bytes it never ends with 5, where the input is told
-abbrev pub NeverFailsWriting : Type 0
-NeverFailsWriting =
-    (words : Words) (source sink errs : Move) (status room : ℕ) (input : List ℕ) → IsRun words source sink errs status
-    → source.before.bytes ≡ Some input → IsCleanSink room sink → AreOutputsShorter room words input → status ≢ 5
+abbrev pub NeverFailsWriting : (ℕ → Type 0) → Type 0
+NeverFailsWriting Told =
+    (ask : Option Command) (source sink errs : Move) (status room : ℕ) (input : List ℕ)
+    → IsRun Told ask source sink errs status → source.before.bytes ≡ Some input → IsCleanSink room sink
+    → AreOutputsShorter room Told ask input → status ≢ 5

@@ -1,4 +1,4 @@
--- What the program does with its words, its input, its output and its messages.
+-- What the program does with its input, its output and its messages, by what it is asked and what its clock may tell.
 use Rattle.std.specs.Prelude.{ℕ, ◌+◌, ◌≤◌, ◌≡◌, List, [], length, Option, Some, None, Result, Ok, Err, codes, ◌⊎◌}
 use Rattle.std.specs.String.{string_bytes}
 use Rattle.std.specs.Io.KnownBytes.{Appends}
@@ -7,8 +7,7 @@ use Rattle.fq_io.specs.Sources.{GaveAll, TookAtMost, TookTooMany}
 use Rattle.fq_io.specs.Sinks.{AppendsPart}
 use Rattle.fq_model.specs.declared.command.Command.{Command}
 use Rattle.fq_model.specs.declared.command.Command.TheVariants.{Gen}
-use Rattle.fq_model.specs.Lines as lines
-use Rattle.twodfq_main.specs.Commands.{asked, Outputs, TellsFault, TellsEntries, TellsCells}
+use Rattle.twodfq_main.specs.Commands.{Outputs, TellsFault, TellsEntries, TellsCells}
 use Rattle.twodfq_main.specs.declared.stop.Stop.{Stop}
 use Rattle.twodfq_main.specs.declared.stop.Stop.TheVariants.{Words, TooLong, Fault, Reading, Writing, NoMemory, TooManyEntries, TooManyCells}
 
@@ -89,11 +88,11 @@ ReadsSome _ source = ReadsAtMost source (greatest_input + 1)
 -- How a command ends.
 
 -- the input was read whole, and this is the command's output for it
-pub record IsAnswered (command : Command) (source : Move) (text : List ℕ) : Type 0 where
+pub record IsAnswered (Told : ℕ → Type 0) (command : Command) (source : Move) (text : List ℕ) : Type 0 where
   pub input : List ℕ
   pub read : ReadsInput command source input
   pub within : length input ≤ greatest_input
-  pub output : Outputs command input text
+  pub output : Outputs Told command input text
 
 -- the input was read whole, and this message names its first fault
 pub record IsFaulty (command : Command) (source : Move) (message : List ℕ) : Type 0 where
@@ -110,43 +109,44 @@ pub record IsOverfull (command : Command) (source : Move) (message : List ℕ) :
   pub entries : TellsEntries command input message
 
 -- the input was read whole, and this message tells how many cells the report of its history would have: too many
-pub record IsOversized (command : Command) (source : Move) (message : List ℕ) : Type 0 where
+pub record IsOversized (Told : ℕ → Type 0) (command : Command) (source : Move) (message : List ℕ) : Type 0 where
   pub input : List ℕ
   pub read : ReadsInput command source input
   pub within : length input ≤ greatest_input
-  pub cells : TellsCells command input message
+  pub cells : TellsCells Told command input message
 
 -- all of the output was written
-pub record Succeeds (command : Command) (source sink : Move) : Type 0 where
+pub record Succeeds (Told : ℕ → Type 0) (command : Command) (source sink : Move) : Type 0 where
   pub text : List ℕ
-  pub answered : IsAnswered command source text
+  pub answered : IsAnswered Told command source text
   pub wrote : Writes sink text
 
 -- writing failed: the sink's faults rose, and a front part of the output was written
-pub record FailsWriting (command : Command) (source sink : Move) : Type 0 where
+pub record FailsWriting (Told : ℕ → Type 0) (command : Command) (source sink : Move) : Type 0 where
   pub text : List ℕ
-  pub answered : IsAnswered command source text
+  pub answered : IsAnswered Told command source text
   pub wrote : WritesPart sink text
 
 -- when each end of a command comes, and what it leaves of the source and the sink. Want of memory may come at any step
 -- before writing.
-abbrev pub EndsCommand : Command → Move → Move → Result (Unit {0}) Stop → Type 0
-EndsCommand command source sink (Ok done) = Succeeds command source sink
-EndsCommand command source sink (Err Words) = ⊥
-EndsCommand command source sink (Err Reading) = FailsReading command source × Stays sink
-EndsCommand command source sink (Err TooLong) = ReadsTooMuch command source × Stays sink
-EndsCommand command source sink (Err (Fault message)) = IsFaulty command source (string_bytes message) × Stays sink
-EndsCommand command source sink (Err (TooManyEntries message)) =
+abbrev pub EndsCommand : (ℕ → Type 0) → Command → Move → Move → Result (Unit {0}) Stop → Type 0
+EndsCommand Told command source sink (Ok done) = Succeeds Told command source sink
+EndsCommand Told command source sink (Err Words) = ⊥
+EndsCommand Told command source sink (Err Reading) = FailsReading command source × Stays sink
+EndsCommand Told command source sink (Err TooLong) = ReadsTooMuch command source × Stays sink
+EndsCommand Told command source sink (Err (Fault message)) =
+    IsFaulty command source (string_bytes message) × Stays sink
+EndsCommand Told command source sink (Err (TooManyEntries message)) =
     IsOverfull command source (string_bytes message) × Stays sink
-EndsCommand command source sink (Err (TooManyCells message)) =
-    IsOversized command source (string_bytes message) × Stays sink
-EndsCommand command source sink (Err Writing) = FailsWriting command source sink
-EndsCommand command source sink (Err NoMemory) = ReadsSome command source × Stays sink
+EndsCommand Told command source sink (Err (TooManyCells message)) =
+    IsOversized Told command source (string_bytes message) × Stays sink
+EndsCommand Told command source sink (Err Writing) = FailsWriting Told command source sink
+EndsCommand Told command source sink (Err NoMemory) = ReadsSome command source × Stays sink
 
--- the same by what the words ask for: where that is nothing, neither source nor sink is called
-abbrev pub Ends : Option Command → Move → Move → Result (Unit {0}) Stop → Type 0
-Ends (Some command) source sink end = EndsCommand command source sink end
-Ends None source sink end = (end ≡ Err Words) × Stays source × Stays sink
+-- the same by what is asked: where that is nothing, neither source nor sink is called
+abbrev pub Ends : (ℕ → Type 0) → Option Command → Move → Move → Result (Unit {0}) Stop → Type 0
+Ends Told (Some command) source sink end = EndsCommand Told command source sink end
+Ends Told None source sink end = (end ≡ Err Words) × Stays source × Stays sink
 
 -- the status of an end
 abbrev pub status_of : Result (Unit {0}) Stop → ℕ
@@ -172,17 +172,18 @@ message_of (TooManyEntries message) = string_bytes message
 message_of (TooManyCells message) = string_bytes message
 
 -- the message was written, or a front part of it where that failed; a fault of the messages changes nothing else
-abbrev pub Tells : Move → List ℕ → Type 0
-Tells errs message = Writes errs message ⊎ WritesPart errs message
+abbrev pub Says : Move → List ℕ → Type 0
+Says errs message = Writes errs message ⊎ WritesPart errs message
 
 abbrev pub TellsEnd : Move → Result (Unit {0}) Stop → Type 0
 TellsEnd errs (Ok done) = Stays errs
-TellsEnd errs (Err stop) = Tells errs (message_of stop)
+TellsEnd errs (Err stop) = Says errs (message_of stop)
 
--- the whole of a call: it ends in some way, with that status and that message
-pub record IsRun (words : lines.Words) (source sink errs : Move) (status : ℕ) : Type 0 where
+-- the whole of a call that is asked this, over a clock that may tell this: it ends in some way, with that status and
+-- that message
+pub record IsRun (Told : ℕ → Type 0) (ask : Option Command) (source sink errs : Move) (status : ℕ) : Type 0 where
   pub end : Result (Unit {0}) Stop
-  pub ends : Ends (asked words) source sink end
+  pub ends : Ends Told ask source sink end
   pub status_is : status ≡ status_of end
   pub told : TellsEnd errs end
   pub source_later : Later source
@@ -190,9 +191,9 @@ pub record IsRun (words : lines.Words) (source sink errs : Move) (status : ℕ) 
   pub errs_later : Later errs
 
 -- why a command has no output for an input
-abbrev pub IsOutputStop : Command → List ℕ → Stop → Type 0
-IsOutputStop command input (Fault message) = TellsFault command input (string_bytes message)
-IsOutputStop command input (TooManyEntries message) = TellsEntries command input (string_bytes message)
-IsOutputStop command input (TooManyCells message) = TellsCells command input (string_bytes message)
-IsOutputStop command input NoMemory = Unit {0}
-IsOutputStop command input _ = ⊥
+abbrev pub IsOutputStop : (ℕ → Type 0) → Command → List ℕ → Stop → Type 0
+IsOutputStop Told command input (Fault message) = TellsFault command input (string_bytes message)
+IsOutputStop Told command input (TooManyEntries message) = TellsEntries command input (string_bytes message)
+IsOutputStop Told command input (TooManyCells message) = TellsCells Told command input (string_bytes message)
+IsOutputStop Told command input NoMemory = Unit {0}
+IsOutputStop Told command input _ = ⊥

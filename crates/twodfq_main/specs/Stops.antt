@@ -9,6 +9,7 @@ use Rattle.fq_model.specs.declared.limits.TheConstants.{MOST_ENTRIES}
 use Rattle.fq_model.specs.declared.trace.RunOptions.{RunOptions}
 use Rattle.fq_model.specs.FaultTexts.{script_fault_text, trace_fault_text, placed_text}
 use Rattle.fq_model.specs.History.{History}
+use Rattle.fq_model.specs.PoolHistory.{needed_pool_entries}
 use Rattle.fq_model.specs.Report.{cells_of}
 use Rattle.fq_model.specs.Simulated.{needed_entries}
 use Rattle.fq_model.specs.Trace.{Trace}
@@ -16,7 +17,7 @@ use Rattle.journal_text.specs.declared.fault.ScriptFault.{ScriptFault}
 use Rattle.journal_text.specs.declared.fault.ScriptFault.TheVariants as script
 use Rattle.trace_reader.specs.declared.fault.TraceFault.{TraceFault}
 use Rattle.trace_reader.specs.declared.fault.TraceFault.TheVariants as trace
-use Rattle.twodfq_main.specs.Histories.{HasManyCells, SimulatesManyCells, simulated_cells, message_line, entries_message, cells_message}
+use Rattle.twodfq_main.specs.Histories.{HasManyCells, SimulatesManyCells, simulated_cells, PoolMakesManyCells, pool_cells, message_line, entries_message, cells_message}
 use Rattle.twodfq_main.specs.declared.stop.Stop.{Stop}
 use Rattle.twodfq_main.specs.declared.stop.Stop.TheVariants.{TooLong, Fault, Reading, NoMemory, TooManyEntries, TooManyCells}
 
@@ -67,3 +68,14 @@ IsSimulationStop T O slot print (TooManyCells message) =
     (many : SimulatesManyCells T O slot print) × (string_bytes message ≡ cells_message (simulated_cells many))
 IsSimulationStop T O slot print NoMemory = Unit {0}
 IsSimulationStop T O slot print _ = ⊥
+
+-- where the history of a pool that serves a trace is not written: one that would have too many entries, or whose report
+-- would have too many cells
+abbrev pub IsPoolStop : (ℕ → Type 0) → Trace → RunOptions → ℕ → HistoryPrint → Stop → Type 0
+IsPoolStop Told T O slot print (TooManyEntries message) =
+    (MOST_ENTRIES < needed_pool_entries T.rows O.refresh)
+    × (string_bytes message ≡ entries_message (needed_pool_entries T.rows O.refresh))
+IsPoolStop Told T O slot print (TooManyCells message) =
+    (many : PoolMakesManyCells Told T O slot print) × (string_bytes message ≡ cells_message (pool_cells many))
+IsPoolStop Told T O slot print NoMemory = Unit {0}
+IsPoolStop Told T O slot print _ = ⊥

@@ -1,6 +1,7 @@
 //! The program over memory that never fails.
 ghost use Rattle.std.specs.Prelude.{◌≡◌, ◌≢◌, [], map};
 ghost use Rattle.std.specs.String.{string_bytes};
+ghost use Rattle.twodfq_main.specs.Commands.{asked, is_plain, Untold};
 ghost use Rattle.twodfq_main.specs.Laws.{AreOutputsShorter};
 
 use crate::program::plain;
@@ -19,7 +20,7 @@ fn clean_run(
 ) -> u8
     requires written { sink.old.written ≡ [] }
     requires faults { sink.old.faults ≡ 0 }
-    requires room { AreOutputsShorter sink.old.room (map string_bytes words.now) source.old }
+    requires room { AreOutputsShorter sink.old.room Untold (asked is_plain (map string_bytes words.now)) source.old }
     ensures reads { result ≢ 4 }
     ensures writes { result ≢ 5 }
 {

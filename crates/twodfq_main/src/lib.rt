@@ -5,6 +5,9 @@
 mod clean_tests;
 mod generation;
 pub mod laws;
+#[cfg(test)]
+mod live_tests;
+mod pooling;
 pub mod program;
 mod reporting;
 mod script;

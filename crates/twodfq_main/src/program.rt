@@ -1,14 +1,17 @@
 //! The program, over any source, sinks and clock.
-ghost use Rattle.std.specs.Prelude.{◌≡◌, ◌≤◌, map, Err};
+ghost use Rattle.std.specs.Prelude.{ℕ, ◌≡◌, ◌≤◌, map, is_some, Err, IfSome};
 ghost use Rattle.std.specs.String.{string_bytes};
-ghost use Rattle.fq_model.specs.declared.command.Command.TheVariants.{Script, Run, Gen};
+ghost use Rattle.command_line.specs.Commands.{IsInRange};
+ghost use Rattle.fq_model.specs.declared.command.Command.TheVariants.{Script, Run, Live, Gen};
 ghost use Rattle.fq_model.specs.declared.limits.TheConstants.{GREATEST_SLOT, MOST_TENANTS, MOST_ROWS};
 ghost use Rattle.fq_model.specs.Limits.{IsWithin, AreInRange};
-ghost use Rattle.twodfq_main.specs.Commands.{asked};
-ghost use Rattle.twodfq_main.specs.Program.{Ends, EndsCommand, Move, Stays, IsRun, Tells, moved, status_of, message_of};
+ghost use Rattle.twodfq_main.specs.Commands.{asked, if_one_of, is_plain, is_live, is_served, Untold};
+ghost use Rattle.twodfq_main.specs.Program.{Ends, EndsCommand, Move, Stays, IsRun, Says, TellsEnd};
+ghost use Rattle.twodfq_main.specs.Program.{moved, status_of, message_of};
 ghost use Rattle.twodfq_main.specs.Causes.{StatusMeans};
 
 use crate::generation::generated_text;
+use crate::pooling::live_text;
 use crate::script::served_text;
 use crate::simulation::run_text;
 use crate::stop::Stop;
@@ -23,27 +26,42 @@ use std::thread::Threads;
 /// The greatest length of an input, in bytes.
 pub const GREATEST_INPUT: u64 = 67108864;
 
-/// The program: does what the words say, without the program's name before them. The clock is not asked yet.
+/// The program: does what the words say, without the program's name before them, as `live` or `plain` would.
 /// The answer is the exit status: 0, or 2 to 7.
 pub fn twodfq<T: Wait + Threads + Sync, R: Source, W: Sink, E: Sink, K: Clock + Sync>(
-    _rt: &T,
+    rt: &T,
     alloc: Global,
     words: &[String],
     source: &mut R,
     sink: &mut W,
     errs: &mut E,
-    _clock: &K,
+    clock: &K,
 ) -> u8
-    ensures run { IsRun (map string_bytes words.now) (moved R.left R.faults source.old source.new)
-        (moved W.written W.faults sink.old sink.new) (moved E.written E.faults errs.old errs.new) result }
-    ensures status { StatusMeans (map string_bytes words.now) (moved R.left R.faults source.old source.new)
-        (moved W.written W.faults sink.old sink.new) result }
+    ensures run { IsRun (K.tells clock.now) (asked is_served (map string_bytes words.now))
+        (moved R.left R.faults source.old source.new) (moved W.written W.faults sink.old sink.new)
+        (moved E.written E.faults errs.old errs.new) result }
+    ensures status { StatusMeans (K.tells clock.now) (asked is_served (map string_bytes words.now))
+        (moved R.left R.faults source.old source.new) (moved W.written W.faults sink.old sink.new) result }
     ensures sink_room { W.room sink.new ≡ W.room sink.old }
 {
-    plain(alloc, words, source, sink, errs)
+    let ask = command(words);
+    if waits(ask) {
+        let end = live_end(rt, alloc, ask, source, sink, clock);
+        return told(errs, end);
+    }
+    let end = plain_end(alloc, ask, source, sink);
+    told(errs, end)
 }
 
-/// The program's commands that wait for nobody. It always returns; the answer is the exit status.
+// Whether a command is asked for that waits for threads.
+fn waits(ask: Option<Command>) -> bool
+    ensures { result ≡ is_some (if_one_of is_live ask) }
+{
+    matches!(ask, Some(Command::Live { .. }))
+}
+
+/// The program's commands that wait for nobody; words for another are no command line here. It always returns; the
+/// answer is the exit status.
 pub fn plain<R: Source, W: Sink, E: Sink>(
     alloc: Global,
     words: &[String],
@@ -51,28 +69,51 @@ pub fn plain<R: Source, W: Sink, E: Sink>(
     sink: &mut W,
     errs: &mut E,
 ) -> u8
-    ensures run { IsRun (map string_bytes words.now) (moved R.left R.faults source.old source.new)
-        (moved W.written W.faults sink.old sink.new) (moved E.written E.faults errs.old errs.new) result }
-    ensures status { StatusMeans (map string_bytes words.now) (moved R.left R.faults source.old source.new)
-        (moved W.written W.faults sink.old sink.new) result }
+    ensures run { IsRun Untold (asked is_plain (map string_bytes words.now))
+        (moved R.left R.faults source.old source.new) (moved W.written W.faults sink.old sink.new)
+        (moved E.written E.faults errs.old errs.new) result }
+    ensures status { StatusMeans Untold (asked is_plain (map string_bytes words.now))
+        (moved R.left R.faults source.old source.new) (moved W.written W.faults sink.old sink.new) result }
     ensures sink_room { W.room sink.new ≡ W.room sink.old }
 {
-    told_run(alloc, words, source, sink, errs)
+    let end = plain_end(alloc, command(words), source, sink);
+    told(errs, end)
 }
 
-// Runs, and tells why it stopped.
-fn told_run<R: Source, W: Sink, E: Sink>(
+/// The command `live`, which serves a trace by a pool of threads; words for another are no command line here. The
+/// answer is the exit status.
+///
+/// What it prints is what is asked for of one history that the pool's calls formed. It is legal. It holds each
+/// submitter's rows once and in their order; each request is taken once and done at its row's cost, by a worker for
+/// which it was the policy's choice. And each entry stands at a moment that the clock told, or at that of the entry
+/// before it where this is later.
+pub fn live<T: Wait + Threads + Sync, R: Source, W: Sink, E: Sink, K: Clock + Sync>(
+    rt: &T,
     alloc: Global,
     words: &[String],
     source: &mut R,
     sink: &mut W,
     errs: &mut E,
+    clock: &K,
 ) -> u8
-    ensures run { IsRun (map string_bytes words.now) (moved R.left R.faults source.old source.new)
-        (moved W.written W.faults sink.old sink.new) (moved E.written E.faults errs.old errs.new) result }
+    ensures run { IsRun (K.tells clock.now) (asked is_live (map string_bytes words.now))
+        (moved R.left R.faults source.old source.new) (moved W.written W.faults sink.old sink.new)
+        (moved E.written E.faults errs.old errs.new) result }
+    ensures status { StatusMeans (K.tells clock.now) (asked is_live (map string_bytes words.now))
+        (moved R.left R.faults source.old source.new) (moved W.written W.faults sink.old sink.new) result }
     ensures sink_room { W.room sink.new ≡ W.room sink.old }
 {
-    match run(alloc, words, source, sink) {
+    let end = live_end(rt, alloc, command(words), source, sink, clock);
+    told(errs, end)
+}
+
+// Says why a command stopped, if it did, and gives the status of its end.
+fn told<E: Sink>(errs: &mut E, end: Result<(), Stop>) -> u8
+    ensures status { result ≡ status_of end }
+    ensures told { TellsEnd (moved E.written E.faults errs.old errs.new) end }
+    ensures later { E.faults errs.old ≤ E.faults errs.new }
+{
+    match end {
         Ok(()) => 0,
         Err(stop) => tell(errs, stop),
     }
@@ -81,27 +122,28 @@ fn told_run<R: Source, W: Sink, E: Sink>(
 /// Writes the message of a stop, and gives its status. A fault of `errs` changes nothing else.
 pub fn tell<E: Sink>(errs: &mut E, stop: Stop) -> u8
     ensures status { result ≡ status_of (Err stop) }
-    ensures told { Tells (moved E.written E.faults errs.old errs.new) (message_of stop) }
+    ensures told { Says (moved E.written E.faults errs.old errs.new) (message_of stop) }
     ensures later { E.faults errs.old ≤ E.faults errs.new }
 {
     let _ = write_all(errs, stop.message().as_bytes());
     stop.status()
 }
 
-// Does what the words ask for, or says why not.
-fn run<R: Source, W: Sink>(
+// Does what is asked, if it waits for nobody, or says why not.
+fn plain_end<R: Source, W: Sink>(
     alloc: Global,
-    words: &[String],
+    ask: Option<Command>,
     source: &mut R,
     sink: &mut W,
 ) -> Result<(), Stop>
-    ensures ends { Ends (asked (map string_bytes words.now)) (moved R.left R.faults source.old source.new)
+    requires range { IfSome ask IsInRange }
+    ensures ends { Ends Untold (if_one_of is_plain ask) (moved R.left R.faults source.old source.new)
         (moved W.written W.faults sink.old sink.new) result }
     ensures source_later { R.faults source.old ≤ R.faults source.new }
     ensures sink_later { W.faults sink.old ≤ W.faults sink.new }
     ensures sink_room { W.room sink.new ≡ W.room sink.old }
 {
-    match command(words) {
+    match ask {
         Some(Command::Script { print }) => run_script(alloc, print, source, sink),
         Some(
             Command::Run {
@@ -126,6 +168,35 @@ fn run<R: Source, W: Sink>(
     }
 }
 
+// Does what is asked, if it is `live`, or says why not.
+fn live_end<T: Wait + Threads + Sync, R: Source, W: Sink, K: Clock + Sync>(
+    rt: &T,
+    alloc: Global,
+    ask: Option<Command>,
+    source: &mut R,
+    sink: &mut W,
+    clock: &K,
+) -> Result<(), Stop>
+    requires range { IfSome ask IsInRange }
+    ensures ends { Ends (K.tells clock.now) (if_one_of is_live ask) (moved R.left R.faults source.old source.new)
+        (moved W.written W.faults sink.old sink.new) result }
+    ensures source_later { R.faults source.old ≤ R.faults source.new }
+    ensures sink_later { W.faults sink.old ≤ W.faults sink.new }
+    ensures sink_room { W.room sink.new ≡ W.room sink.old }
+{
+    match ask {
+        Some(
+            Command::Live {
+                options,
+                slot,
+                print,
+                ..
+            },
+        ) => run_live(rt, alloc, options, slot, print, source, sink, clock),
+        _ => Err(Stop::Words),
+    }
+}
+
 // Reads a script, makes its calls and writes what they leave, or says why not.
 fn run_script<R: Source, W: Sink>(
     alloc: Global,
@@ -133,7 +204,7 @@ fn run_script<R: Source, W: Sink>(
     source: &mut R,
     sink: &mut W,
 ) -> Result<(), Stop>
-    ensures ends { EndsCommand (Script print) (moved R.left R.faults source.old source.new)
+    ensures ends { EndsCommand Untold (Script print) (moved R.left R.faults source.old source.new)
         (moved W.written W.faults sink.old sink.new) result }
     ensures source_later { R.faults source.old ≤ R.faults source.new }
     ensures sink_later { W.faults sink.old ≤ W.faults sink.new }
@@ -156,7 +227,7 @@ fn run_trace<R: Source, W: Sink>(
 ) -> Result<(), Stop>
     requires options { AreInRange options }
     requires slot { slot ≤ GREATEST_SLOT }
-    ensures ends { EndsCommand (Run options slot print) (moved R.left R.faults source.old source.new)
+    ensures ends { EndsCommand Untold (Run options slot print) (moved R.left R.faults source.old source.new)
         (moved W.written W.faults sink.old sink.new) result }
     ensures source_later { R.faults source.old ≤ R.faults source.new }
     ensures sink_later { W.faults sink.old ≤ W.faults sink.new }
@@ -164,6 +235,31 @@ fn run_trace<R: Source, W: Sink>(
 {
     let input = read_all(alloc, source, GREATEST_INPUT)?;
     let text = run_text(alloc, options, slot, print, input.as_slice())?;
+    write_all(sink, text.as_slice())?;
+    Ok(())
+}
+
+// Reads a trace, serves it by a pool of threads and writes what is asked for of the pool's history, or says why not.
+fn run_live<T: Wait + Threads + Sync, R: Source, W: Sink, K: Clock + Sync>(
+    rt: &T,
+    alloc: Global,
+    options: RunOptions,
+    slot: u64,
+    print: HistoryPrint,
+    source: &mut R,
+    sink: &mut W,
+    clock: &K,
+) -> Result<(), Stop>
+    requires options { AreInRange options }
+    requires slot { slot ≤ GREATEST_SLOT }
+    ensures ends { (watch : ℕ) → EndsCommand (K.tells clock.now) (Live options slot print watch)
+        (moved R.left R.faults source.old source.new) (moved W.written W.faults sink.old sink.new) result }
+    ensures source_later { R.faults source.old ≤ R.faults source.new }
+    ensures sink_later { W.faults sink.old ≤ W.faults sink.new }
+    ensures sink_room { W.room sink.new ≡ W.room sink.old }
+{
+    let input = read_all(alloc, source, GREATEST_INPUT)?;
+    let text = live_text(rt, alloc, options, slot, print, input.as_slice(), clock)?;
     write_all(sink, text.as_slice())?;
     Ok(())
 }
@@ -180,7 +276,8 @@ fn run_generator<W: Sink>(
     requires tenants { IsWithin 1 MOST_TENANTS tenants }
     requires requests { requests ≤ MOST_ROWS }
     ensures ends { (source : Move) → Stays source →
-        EndsCommand (Gen seed tenants requests print) source (moved W.written W.faults sink.old sink.new) result }
+        EndsCommand Untold (Gen seed tenants requests print) source
+        (moved W.written W.faults sink.old sink.new) result }
     ensures sink_later { W.faults sink.old ≤ W.faults sink.new }
     ensures sink_room { W.room sink.new ≡ W.room sink.old }
 {

@@ -6,7 +6,7 @@ ghost use Rattle.fq_model.specs.JournalText.{journal_text};
 ghost use Rattle.fq_model.specs.Output.{script_output_text};
 ghost use Rattle.fq_model.specs.Texts.{replies_text};
 ghost use Rattle.tenant_table.specs.Names.{names_of};
-ghost use Rattle.twodfq_main.specs.Commands.{IsServed};
+ghost use Rattle.twodfq_main.specs.Commands.{IsServed, Untold};
 ghost use Rattle.twodfq_main.specs.Histories.{message_line};
 ghost use Rattle.twodfq_main.specs.Program.{IsOutputStop};
 ghost use Rattle.twodfq_main.specs.Stops.{IsFaultStop};
@@ -26,7 +26,8 @@ use tenant_table::tenants::Tenants;
 
 /// What is asked for of a script: the replies to its calls, the journal that they leave, or both.
 pub fn served_text(alloc: Global, what: ScriptPrint, input: &[u8]) -> Result<Vec<u8>, Stop>
-    ensures { MatchResult result (λ text. IsServed what input.now text.items) (IsOutputStop (Script what) input.now) }
+    ensures { MatchResult result (λ text. IsServed what input.now text.items)
+        (IsOutputStop Untold (Script what) input.now) }
 {
     let script = match read_script(alloc, input) {
         Ok(script) => script,

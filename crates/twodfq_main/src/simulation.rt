@@ -5,7 +5,7 @@ ghost use Rattle.fq_model.specs.declared.limits.TheConstants.{GREATEST_SLOT};
 ghost use Rattle.fq_model.specs.FaultTexts.{placed_text, trace_fault_text};
 ghost use Rattle.fq_model.specs.Limits.{AreInRange};
 ghost use Rattle.fq_model.specs.TraceText.{IsLawfulTrace};
-ghost use Rattle.twodfq_main.specs.Commands.{IsRunOutput};
+ghost use Rattle.twodfq_main.specs.Commands.{IsRunOutput, Untold};
 ghost use Rattle.twodfq_main.specs.Histories.{IsSimulatedOutput, entries_message, message_line};
 ghost use Rattle.twodfq_main.specs.Program.{IsOutputStop};
 ghost use Rattle.twodfq_main.specs.Stops.{IsTraceFaultStop, IsEntriesStop, IsSimulationStop};
@@ -36,7 +36,7 @@ pub fn run_text(
     requires options { AreInRange options }
     requires slot { slot ≤ GREATEST_SLOT }
     ensures { MatchResult result (λ text. IsRunOutput options slot what input.now text.items)
-        (IsOutputStop (Run options slot what) input.now) }
+        (IsOutputStop Untold (Run options slot what) input.now) }
 {
     match read(alloc, input) {
         Ok(trace) => simulated_text(alloc, &trace, options, slot, what),
@@ -75,8 +75,8 @@ pub fn simulated_text(
     }
 }
 
-// Where an input is no trace, a message that names its first fault.
-fn fault_stop(alloc: Global, fault: TraceFault) -> Stop
+/// Where an input is no trace, a message that names its first fault.
+pub fn fault_stop(alloc: Global, fault: TraceFault) -> Stop
     ensures { IsTraceFaultStop fault result }
 {
     match fault {
@@ -97,8 +97,8 @@ fn fault_message(alloc: Global, line: u64, kind: TraceKind) -> Result<String, No
     Ok(message)
 }
 
-// Where a history would have more entries than there may be, a message that tells how many.
-fn entries_stop(alloc: Global, needed: u64) -> Stop
+/// Where a history would have more entries than there may be, a message that tells how many.
+pub fn entries_stop(alloc: Global, needed: u64) -> Stop
     ensures { IsEntriesStop needed result }
 {
     match entries_message(alloc, needed) {

@@ -87,6 +87,7 @@ fn names_the_first_fault(rt: HostRuntime) -> Result<(), Fail> {
     Ok(())
 }
 
+// As do those for `live`, where only what waits for nobody is served.
 #[test]
 fn words_of_no_command_leave_the_input(rt: HostRuntime) -> Result<(), Fail> {
     let wanted = Wanted {
@@ -96,7 +97,8 @@ fn words_of_no_command_leave_the_input(rt: HostRuntime) -> Result<(), Fail> {
     };
     let none: [&str; 0] = [];
     let help = ["script", "--help"];
-    for words in [none.as_slice(), help.as_slice()] {
+    let live = ["live"];
+    for words in [none.as_slice(), help.as_slice(), live.as_slice()] {
         let mut source = source_of(rt.alloc(), SERVED)?;
         check(
             &rt,

@@ -16,6 +16,11 @@ returns-in-run-clause-asked c =
     let named = command_named built_commands c.args.words.now c.in_ok-word.word.now c.in_ok-word.words.now _ c.in_ok-word.ensures.cases.0 (sym c.as_str.ensures.value ∙ c.in-run.is) in
     c.run_command.ensures.asked ∙ sym named
 
+pub returns-in-live-clause-asked : goal.returns-in-live-clause-asked
+returns-in-live-clause-asked c =
+    let named = command_named built_commands c.args.words.now c.in_ok-word.word.now c.in_ok-word.words.now _ c.in_ok-word.ensures.cases.0 (sym c.as_str.ensures.value ∙ c.in-live.is) in
+    c.live_command.ensures.asked ∙ sym named
+
 pub returns-in-gen-clause-asked : goal.returns-in-gen-clause-asked
 returns-in-gen-clause-asked c =
     let named = command_named built_commands c.args.words.now c.in_ok-word.word.now c.in_ok-word.words.now _ c.in_ok-word.ensures.cases.0 (sym c.as_str.ensures.value ∙ c.in-gen.is) in
@@ -27,5 +32,6 @@ returns-in_default-clause-asked c =
     let value = c.as_str.ensures.value in
     let script = rw value at c.in_default.not-script in
     let run = rw value at c.in_default.not-run in
+    let live = rw value at c.in_default.not-live in
     let gen = rw value at c.in_default.not-gen in
-    sym (rw (other_word _ _ script, other_word _ _ run, other_word _ _ gen) at first)
+    sym (rw (other_word _ _ script, other_word _ _ run, other_word _ _ live, other_word _ _ gen) at first)

@@ -1,6 +1,3 @@
-use Rattle.fq_model.specs.declared.command.HistoryPrint.TheVariants.{Summary}
-use Rattle.fq_model.specs.Command.{default_run_options}
-use Rattle.trace_reader.proofs.Generated.{generated_short}
 use Rattle.twodfq_main.proofs.Reports.{generated_summary}
 use Rattle.twodfq_main.proofs.generation.generated_text.Goals as goal
 

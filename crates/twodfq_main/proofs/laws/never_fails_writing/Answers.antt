@@ -1,5 +1,9 @@
+use Rattle.twodfq_main.specs.Commands.{Untold}
 use Rattle.twodfq_main.proofs.CleanRuns.{no_writing}
 use Rattle.twodfq_main.proofs.laws.never_fails_writing.Goals as goal
 
-pub returns : goal.returns
-returns c = no_writing
+pub returns-clause-plain : goal.returns-clause-plain
+returns-clause-plain g c = no_writing Untold
+
+pub returns-clause-live : goal.returns-clause-live
+returns-clause-live g c = no_writing _

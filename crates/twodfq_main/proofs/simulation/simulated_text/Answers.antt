@@ -1,3 +1,5 @@
+use Rattle.fq_model.specs.Simulated.{needed_entries}
+use Rattle.trace_runner.specs.Plan.{too_long}
 use Rattle.trace_runner.proofs.Finished.{none_unfinished}
 use Rattle.twodfq_main.proofs.Reports.{few_entries, of_trace}
 use Rattle.twodfq_main.proofs.simulation.simulated_text.Goals as goal
@@ -7,6 +9,6 @@ history_text-requires-clause-done c = none_unfinished c.args.trace.now c.args.op
 
 pub returns-in-Ok : goal.returns-in-Ok
 returns-in-Ok c =
-    let few = few_entries c.args.trace.now c.args.options c.in-Ok.scheduler c.in-Ok.ensures.too_many in
+    let few = few_entries (needed_entries c.args.trace.now.rows c.args.options.refresh) c.in-Ok.scheduler (too_long c.args.trace.now c.args.options) c.in-Ok.ensures.too_many in
     of_trace (λ v. v.items) c.args.trace.now c.args.options c.args.slot c.args.what c.in-Ok.scheduler.config c.in-Ok.scheduler.past c.history_text.result
     c.in-Ok.ensures.config (record { few = few; simulated = c.in-Ok.ensures.simulated }) (rw (c.tenants.ensures.names, c.kinds.ensures) at c.history_text.ensures)

@@ -1,0 +1,84 @@
+//! `live`: what is asked for of one history of a pool of threads that serves a trace.
+ghost use Rattle.std.specs.Prelude.{ℕ, ◌≤◌, MatchResult};
+ghost use Rattle.fq_model.specs.declared.command.Command.TheVariants.{Live};
+ghost use Rattle.fq_model.specs.declared.limits.TheConstants.{GREATEST_SLOT};
+ghost use Rattle.fq_model.specs.Limits.{AreInRange};
+ghost use Rattle.fq_model.specs.TraceText.{IsLawfulTrace};
+ghost use Rattle.twodfq_main.specs.Commands.{IsLiveOutput};
+ghost use Rattle.twodfq_main.specs.Histories.{IsPoolOutput};
+ghost use Rattle.twodfq_main.specs.Program.{IsOutputStop};
+ghost use Rattle.twodfq_main.specs.Stops.{IsPoolStop};
+
+use crate::reporting::history_text;
+use crate::simulation::{entries_stop, fault_stop};
+use crate::stop::Stop;
+use fq_io::Clock;
+use fq_model::command::HistoryPrint;
+use fq_model::trace::RunOptions;
+use rival_policies::plain::PlainChooser;
+use sched_state::Scheduler;
+use std::alloc::Global;
+use std::sync::Wait;
+use std::thread::Threads;
+use trace_pool::fault::PoolFault;
+use trace_pool::serving::serve;
+use trace_reader::reading::read;
+use trace_reader::trace::Trace;
+
+/// What is asked for of one history of a pool that serves a trace, which has to be read. The clock is asked by the
+/// pool's threads alone.
+pub fn live_text<T: Wait + Threads + Sync, K: Clock + Sync>(
+    rt: &T,
+    alloc: Global,
+    options: RunOptions,
+    slot: u64,
+    what: HistoryPrint,
+    input: &[u8],
+    clock: &K,
+) -> Result<Vec<u8>, Stop>
+    requires options { AreInRange options }
+    requires slot { slot ≤ GREATEST_SLOT }
+    ensures { (watch : ℕ) → MatchResult result
+        (λ text. IsLiveOutput (K.tells clock.now) options slot what input.now text.items)
+        (IsOutputStop (K.tells clock.now) (Live options slot what watch) input.now) }
+{
+    match read(alloc, input) {
+        Ok(trace) => pool_text(rt, alloc, &trace, options, slot, what, clock),
+        Err(fault) => Err(fault_stop(alloc, fault)),
+    }
+}
+
+// What is asked for of one history of a pool that serves a trace.
+fn pool_text<T: Wait + Threads + Sync, K: Clock + Sync>(
+    rt: &T,
+    alloc: Global,
+    trace: &Trace,
+    options: RunOptions,
+    slot: u64,
+    what: HistoryPrint,
+    clock: &K,
+) -> Result<Vec<u8>, Stop>
+    requires lawful { IsLawfulTrace trace.now }
+    requires options { AreInRange options }
+    requires slot { slot ≤ GREATEST_SLOT }
+    ensures { MatchResult result (λ text. IsPoolOutput (K.tells clock.now) trace.now options slot what text.items)
+        (IsPoolStop (K.tells clock.now) trace.now options slot what) }
+{
+    let served: Result<Scheduler<u64, PlainChooser>, PoolFault> = serve(
+        rt, alloc, trace, options, clock,
+    );
+    match served {
+        Ok(scheduler) => {
+            history_text(
+                alloc,
+                what,
+                slot,
+                &scheduler,
+                trace.tenants(),
+                trace.kinds(),
+            )
+        }
+        Err(PoolFault::TooManyEntries(needed)) => Err(entries_stop(alloc, needed)),
+        Err(PoolFault::NoMemory) => Err(Stop::NoMemory),
+    }
+}
