@@ -15,7 +15,7 @@ use Rattle.fq_model.specs.Rules.{IsLegal}
 use Rattle.fq_model.specs.Trace.{Trace}
 use Rattle.worker_gate.specs.declared.counters.Counters.{Counters}
 use Rattle.worker_gate.specs.Rules.{work_cost}
-use Rattle.worker_gate.specs.Running.{Use, JobRun, AreRuns, IsRun, IsAsTold, FollowsCourse, uses_after}
+use Rattle.worker_gate.specs.Running.{Use, JobRun, AreRuns, IsRun, IsAsTold, FollowsCourse, uses_after, with_runs}
 use Rattle.worker_gate.specs.Stepping.{step_course}
 use Rattle.worker_gate.proofs.Stepping.{course_length}
 use Rattle.pool_laws.specs.PoolEnd.{trace_course}
@@ -93,8 +93,8 @@ module _ (T : Trace) (O : RunOptions) (Tells : ℕ → Type 0) (H : History) (p 
   asked_in_all : (j : ℕ) (seen : History) (r : ℕ) (q : Request) → Sees H j seen → request_at seen r ≡ Some q → request_at H r ≡ Some q
   asked_in_all j seen r q s h = subst (λ P. request_at P r ≡ Some q) (sym s.begins) (asked_within_history (pool_config T O) s.newer seen r q (subst (IsLegal (pool_config T O)) s.begins p.legal) h)
 
-  run_row : (j : ℕ) (seen : List Entry) (run : JobRun) → Sees H j (history_of seen) → IsRun (pool_config T O) (trace_course O.refresh T.rows) work_cost seen run → RunRow T O H run
-  run_row j seen run s w =
+  run_row : (j i : ℕ) (seen : List Entry) (older : List Act) (run : JobRun) → Sees H j (history_of seen) → IsRun (pool_config T O) j i (trace_course O.refresh T.rows) work_cost seen older run → RunRow T O H run
+  run_row j i seen older run s w =
       let q : Request = w.labelled.0 in
       let is : request_at H run.request ≡ Some q = asked_in_all j (history_of seen) run.request q s w.labelled.1 in
       let x = row_named T O Tells H p run.request q is in
@@ -106,13 +106,13 @@ module _ (T : Trace) (O : RunOptions) (Tells : ℕ → Type 0) (H : History) (p 
         follows = told_so T O.refresh x.0 run.label run (ap (slice_get T.rows) (sym w.labelled.2) ∙ x.1) w.follows;
       }
 
-  pub run_rows : (j : ℕ) (seen : List Entry) (runs : List JobRun) → Sees H j (history_of seen) → AreRuns (pool_config T O) (trace_course O.refresh T.rows) work_cost seen runs → AllRunRows T O H runs
-  run_rows j seen [] s w = tt
-  run_rows j seen (run ∷ runs) s w = (run_row j seen run s w.0, run_rows j seen runs s w.1)
+  pub run_rows : (j i : ℕ) (seen : List Entry) (runs : List JobRun) → Sees H j (history_of seen) → AreRuns (pool_config T O) j i (trace_course O.refresh T.rows) work_cost seen [] runs → AllRunRows T O H runs
+  run_rows j i seen [] s w = tt
+  run_rows j i seen (run ∷ runs) s w = (run_row j i seen (with_runs i runs []) run s w.0, run_rows j i seen runs s w.1)
 
-pub runs_where_room : (C : Config) (course_of : ℕ → Option (List Counters)) (cost_of : Counters → ℕ) (seen : List Entry) (runs : List JobRun) → AreRuns C course_of cost_of seen runs → AllWhereRoom C seen runs
-runs_where_room C course_of cost_of seen [] w = tt
-runs_where_room C course_of cost_of seen (run ∷ runs) w = (w.0.kept, runs_where_room C course_of cost_of seen runs w.1)
+pub runs_where_room : (C : Config) (number i : ℕ) (course_of : ℕ → Option (List Counters)) (cost_of : Counters → ℕ) (seen : List Entry) (runs : List JobRun) → AreRuns C number i course_of cost_of seen [] runs → AllWhereRoom C number i seen runs
+runs_where_room C number i course_of cost_of seen [] w = tt
+runs_where_room C number i course_of cost_of seen (run ∷ runs) w = (w.0.kept, runs_where_room C number i course_of cost_of seen runs w.1)
 
 -- ---- how many uses a run names
 

@@ -1,5 +1,6 @@
 -- The parts of submitters and workers at the end of a pool, over the history with the newest entry first.
 use Rattle.std.proofs.Common.{◌≡◌, ◌<◌, ◌≤◌, ℕ, List, [], ◌++◌, length, map, sym, ap, ◌∙◌, subst, inl, inr, Option}
+use Rattle.fq_model.specs.declared.config.Config.{Config}
 use Rattle.fq_model.specs.declared.event.Act.{Act}
 use Rattle.fq_model.specs.declared.event.Call.TheVariants as call
 use Rattle.fq_model.specs.declared.event.Cause.{Cause}
@@ -19,7 +20,7 @@ use Rattle.worker_gate.specs.declared.rows.Row.{Row}
 use Rattle.worker_gate.specs.Feeding.{IsFeed, HasClosed, Splits, IsRefused}
 use Rattle.worker_gate.specs.Moments.{HasToldMomentsFrom}
 use Rattle.worker_gate.specs.Rules.{work_cost}
-use Rattle.worker_gate.specs.Running.{JobRun, AreRuns, with_runs, EndsWork}
+use Rattle.worker_gate.specs.Running.{JobRun, AreRuns, with_runs, acts_of, EndsWork}
 use Rattle.pool_laws.specs.PoolEnd.{FeedEnds, WorkEnds, PoolEnds, row_asks, trace_course}
 use Rattle.pool_laws.proofs.Callers.{own_turns, front_turns, none_newer, who_is}
 use Rattle.pool_laws.proofs.Moments.{told_beyond, told_of_nobody, told_of_all}
@@ -55,7 +56,7 @@ pub record WorkPart (T : Trace) (O : RunOptions) (Tells : ℕ → Type 0) (H : H
   pub sees : Sees H (worker_caller T.rows i) (history_of seen)
   pub runs : List JobRun
   pub acts_are : acts (own_entries H (worker_caller T.rows i)) ≡ with_runs i runs []
-  pub runs_are : AreRuns (pool_config T O) (trace_course O.refresh T.rows) work_cost seen runs
+  pub runs_are : AreRuns (pool_config T O) (worker_caller T.rows i) i (trace_course O.refresh T.rows) work_cost seen [] runs
   pub number : ℕ
   pub moment : ℕ
   pub reply : Reply
@@ -72,6 +73,22 @@ sees past seen mine j front in_seen in_past =
 -- what was added to nothing
 added : (mine old more : List Entry) → mine ≡ old ++ more → old ≡ [] → mine ≡ more
 added mine old more is none = is ∙ ap (λ l. l ++ more) none
+
+-- ---- runs
+
+module _ (T : Trace) (O : RunOptions) where
+  -- they are the same where the configuration, the caller and the worker are equal
+  runs_same : (C C2 : Config) (n n2 i i2 : ℕ) (seen : List Entry) (older : List Act) (runs : List JobRun) → C ≡ C2 → n ≡ n2 → i ≡ i2
+      → AreRuns C n i (trace_course O.refresh T.rows) work_cost seen older runs → AreRuns C2 n2 i2 (trace_course O.refresh T.rows) work_cost seen older runs
+  runs_same C C2 n n2 i i2 seen older runs config number worker are =
+      subst (λ w. AreRuns C2 n2 w (trace_course O.refresh T.rows) work_cost seen older runs) worker
+      (subst (λ m. AreRuns C2 m i (trace_course O.refresh T.rows) work_cost seen older runs) number
+      (subst (λ D. AreRuns D n i (trace_course O.refresh T.rows) work_cost seen older runs) config are))
+
+  -- onto nothing, where the worker began with nothing
+  runs_begun : (C : Config) (n i : ℕ) (seen mine : List Entry) (runs : List JobRun) → mine ≡ []
+      → AreRuns C n i (trace_course O.refresh T.rows) work_cost seen (acts_of mine) runs → AreRuns C n i (trace_course O.refresh T.rows) work_cost seen [] runs
+  runs_begun C n i seen mine runs none are = subst (λ l. AreRuns C n i (trace_course O.refresh T.rows) work_cost seen (acts_of l) runs) none are
 
 module _ (T : Trace) (O : RunOptions) (lock : LockView Crew) (Tells : ℕ → Type 0) (past : List Entry) where
   pub feed_part : (j : ℕ) → lock.frame.config ≡ pool_config T O → FeedEnds T O lock Tells past j → FeedPart T O Tells (history_of past) j
@@ -112,7 +129,8 @@ module _ (T : Trace) (O : RunOptions) (lock : LockView Crew) (Tells : ℕ → Ty
         sees = sees past w.ended.pass.seen w.ended.pass.mine j w.in_past.0 in_seen in_past;
         runs = d.runs;
         acts_are = ap acts own ∙ (d.acts_are ∙ (ap (λ n. with_runs n d.runs (acts (history_of w.begun.pass.mine))) worker ∙ ap (λ l. with_runs i d.runs (acts (history_of l))) w.new.mine));
-        runs_are = subst (λ C. AreRuns C (trace_course O.refresh T.rows) work_cost w.ended.pass.seen d.runs) config d.runs_are;
+        runs_are = runs_begun T O (pool_config T O) j i w.ended.pass.seen w.begun.pass.mine d.runs w.new.mine
+            (runs_same T O lock.frame.config (pool_config T O) w.ended.pass.number j w.ended.worker i w.ended.pass.seen (acts_of w.begun.pass.mine) d.runs config number worker d.runs_are);
         number = w.ended.pass.number;
         moment = away.0;
         reply = away.1;

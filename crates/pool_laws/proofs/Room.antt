@@ -8,13 +8,12 @@ use Rattle.fq_model.specs.Limits.{InLimits}
 use Rattle.fq_model.specs.PoolHistory.{pool_config, row_reports}
 use Rattle.fq_model.specs.Rules.{IsLegal}
 use Rattle.fq_model.specs.Trace.{Trace}
-use Rattle.worker_gate.specs.Running.{LackedRoom}
 use Rattle.pool_laws.proofs.Balance.{Balanced, balanced, reports, legal_older, closes_once, taken_covered, asked_sum}
 use Rattle.pool_laws.proofs.Callers.{front_turns, who_is}
 use Rattle.pool_laws.proofs.Absent.{no_change, no_reports}
 use Rattle.pool_laws.proofs.Labels.{label_reports, number_reports, reports_of_rows, run_rows, runs_where_room, few_uses}
 use Rattle.pool_laws.proofs.Parts.{acts, Sees, PoolParts, WorkPart}
-use Rattle.pool_laws.proofs.Runs.{AllKept, all_kept_or_lacks, reports_low, runs_reports, runs_takes}
+use Rattle.pool_laws.proofs.Runs.{AllKept, WasFull, all_kept_or_full, reports_low, runs_reports, runs_takes}
 use Rattle.pool_laws.proofs.Submitted.{submits_low, whole_sum}
 use Rattle.pool_laws.proofs.Sums.{act_sum, own_sum, sum_within, sums_rise, sums_rise_at, none_within, submits_are, submit_weight, take_weight, report_weight, one_each}
 use Rattle.fq_model.specs.Outcome.{own_entries}
@@ -60,7 +59,7 @@ module _ (T : Trace) (O : RunOptions) (Tells : ℕ → Type 0) (H : History) (li
     where
       served_low : (i : ℕ) → WorkPart T O Tells H i → own_sum report_weight H (worker_caller T.rows i) ≤ taken (worker_caller T.rows i)
       served_low i w =
-          let low : runs_reports i w.runs ≤ runs_takes (number_reports T O H) i w.runs = reports_low (number_reports T O H) i w.runs (few_uses T O H w.runs (run_rows T O Tells H p (worker_caller T.rows i) w.seen w.runs w.sees w.runs_are)) in
+          let low : runs_reports i w.runs ≤ runs_takes (number_reports T O H) i w.runs = reports_low (number_reports T O H) i w.runs (few_uses T O H w.runs (run_rows T O Tells H p (worker_caller T.rows i) i w.seen w.runs w.sees w.runs_are)) in
           omega (arith, low, ap (act_sum report_weight) w.acts_are, ap (act_sum (take_weight (number_reports T O H))) w.acts_are)
 
   taken_low : act_sum (take_weight (number_reports T O H)) (acts H) ≤ sum_over (row_reports O.refresh) T.rows
@@ -74,22 +73,22 @@ module _ (T : Trace) (O : RunOptions) (Tells : ℕ → Type 0) (H : History) (li
   fewer_reports j b less = omega (arith, taken_low, whole_sum T O Tells H report_weight p, whole_sum T O Tells H (take_weight (number_reports T O H)) p, sums_rise_at (own_sum report_weight H) taken (submitters T.rows + O.workers) j b (λ k c. own_reports_low k) less)
 
   -- where one is missing there was room for it
-  never_lacks : (j : ℕ) (seen : List Entry) → Sees H j (history_of seen) → LackedRoom (pool_config T O) seen → reports H < sum_over (row_reports O.refresh) T.rows → ⊥
-  never_lacks j seen s lacked few =
-      let P : History = history_of lacked.0 in
-      let x = front_turns lacked.0 seen lacked.1 in
+  never_full : (j : ℕ) (seen : List Entry) → Sees H j (history_of seen) → WasFull (pool_config T O) seen → reports H < sum_over (row_reports O.refresh) T.rows → ⊥
+  never_full j seen s full few =
+      let P : History = history_of full.0 in
+      let x = front_turns full.0 seen full.1 in
       let begins : H ≡ (s.newer ++ x.0) ++ P = s.begins ∙ (ap (λ Q. s.newer ++ Q) x.1 ∙ sym (append_assoc s.newer x.0 P)) in
       let f = front_of (s.newer ++ x.0) P begins in
-      omega (arith, f.balance, f.fewer_submits, f.fewer_reports, f.closes, submits_low T O Tells H p, lacked.2)
+      omega (arith, f.balance, f.fewer_submits, f.fewer_reports, f.closes, submits_low T O Tells H p, full.2)
 
   -- so each use is kept
   pub all_kept : (i : ℕ) → i < O.workers → (w : WorkPart T O Tells H i) → AllKept w.runs
   all_kept i b w =
       let j : ℕ = worker_caller T.rows i in
-      let few = few_uses T O H w.runs (run_rows T O Tells H p j w.seen w.runs w.sees w.runs_are) in
-      elim (all_kept_or_lacks (pool_config T O) w.seen (number_reports T O H) i w.runs few (runs_where_room (pool_config T O) _ _ w.seen w.runs w.runs_are)) [
+      let few = few_uses T O H w.runs (run_rows T O Tells H p j i w.seen w.runs w.sees w.runs_are) in
+      elim (all_kept_or_full (pool_config T O) j w.seen (number_reports T O H) i w.runs few (runs_where_room (pool_config T O) j i _ _ w.seen w.runs w.runs_are)) [
         | inl all ↦ all
-        | inr lacks ↦ (let less : runs_reports i w.runs < runs_takes (number_reports T O H) i w.runs = lacks.1 in
+        | inr full ↦ (let less : runs_reports i w.runs < runs_takes (number_reports T O H) i w.runs = full.1 in
             let own : own_sum report_weight H j < taken j = omega (arith, less, ap (act_sum report_weight) w.acts_are, ap (act_sum (take_weight (number_reports T O H))) w.acts_are) in
-            absurd (never_lacks j w.seen w.sees lacks.0 (fewer_reports j (omega arith) own)))
+            absurd (never_full j w.seen w.sees full.0 (fewer_reports j (omega arith) own)))
       ]

@@ -5,7 +5,9 @@ use Rattle.fq_model.specs.declared.config.Config.{Config}
 use Rattle.fq_model.specs.declared.event.Act.{Act}
 use Rattle.fq_model.specs.declared.event.Act.TheVariants.{Take, Report, Done}
 use Rattle.fq_model.specs.declared.event.Entry.{Entry}
-use Rattle.fq_model.specs.History.{is_take_of, is_done_of}
+use Rattle.fq_model.specs.History.{history_of, is_take_of, is_done_of}
+use Rattle.fq_model.specs.Rules.{needed_room}
+use Rattle.history_lock.specs.Histories.{IsPrefix}
 use Rattle.worker_gate.specs.Running.{Use, JobRun, with_uses, with_runs, AreKeptWhereRoom, LackedRoom}
 use Rattle.pool_laws.proofs.Sums.{act_sum, any_act, take_weight, report_weight}
 
@@ -76,9 +78,10 @@ abbrev pub AllKept : List JobRun → Type 0
 AllKept [] = Unit {0}
 AllKept (run ∷ runs) = AreKept run.uses × AllKept runs
 
-abbrev pub AllWhereRoom : Config → List Entry → List JobRun → Type 0
-AllWhereRoom C seen [] = Unit {0}
-AllWhereRoom C seen (run ∷ runs) = AreKeptWhereRoom C seen run.uses × AllWhereRoom C seen runs
+abbrev pub AllWhereRoom : Config → ℕ → ℕ → List Entry → List JobRun → Type 0
+AllWhereRoom C number i seen [] = Unit {0}
+AllWhereRoom C number i seen (run ∷ runs) =
+    AreKeptWhereRoom C number i run.request seen (Take i run.request run.estimate ∷ with_runs i runs []) run.uses × AllWhereRoom C number i seen runs
 
 abbrev kept : List Use → ℕ
 kept [] = 0
@@ -105,18 +108,25 @@ uses_takes h i r (u ∷ uses) older = elim (cases_Bool u.is_kept) [
   | inr e ↦ rw e (uses_takes h i r uses older)
 ]
 
--- the uses are kept, or there was no room, and fewer are kept than there are
-abbrev KeptOrLacks : Config → List Entry → List Use → Type 0
-KeptOrLacks C seen uses = AreKept uses ⊎ (LackedRoom C seen × (kept uses < length uses))
+-- at some moment of what was seen there was no room for a Report
+abbrev pub WasFull : Config → List Entry → Type 0
+WasFull C seen = (P : List Entry) × IsPrefix P seen × (C.entries < needed_room (history_of P) 2)
 
-kept_or_lacks : (C : Config) (seen : List Entry) (uses : List Use) → AreKeptWhereRoom C seen uses → KeptOrLacks C seen uses
-kept_or_lacks C seen [] h = inl tt
-kept_or_lacks C seen (u ∷ uses) h = elim (cases_Bool u.is_kept) [
-  | inl e ↦ elim (kept_or_lacks C seen uses h.1) [
+was_full : (C : Config) (number : ℕ) (seen : List Entry) (made : List Act) → LackedRoom C number seen made → WasFull C seen
+was_full C number seen made (P, begins, at, room) = (P, begins, room)
+
+-- the uses are kept, or there was no room, and fewer are kept than there are
+abbrev KeptOrFull : Config → List Entry → List Use → Type 0
+KeptOrFull C seen uses = AreKept uses ⊎ (WasFull C seen × (kept uses < length uses))
+
+kept_or_full : (C : Config) (number i r : ℕ) (seen : List Entry) (older : List Act) (uses : List Use) → AreKeptWhereRoom C number i r seen older uses → KeptOrFull C seen uses
+kept_or_full C number i r seen older [] h = inl tt
+kept_or_full C number i r seen older (u ∷ uses) h = elim (cases_Bool u.is_kept) [
+  | inl e ↦ elim (kept_or_full C number i r seen older uses h.1) [
     | inl k ↦ inl (e, k)
     | inr k ↦ (let less : kept (u ∷ uses) < length (u ∷ uses) = (let l : kept uses < length uses = k.1 in rw e (omega (arith, l))) in inr (k.0, less))
   ]
-  | inr e ↦ (let less : kept (u ∷ uses) < length (u ∷ uses) = rw e (omega (arith, kept_low uses)) in inr (h.0 e, less))
+  | inr e ↦ (let less : kept (u ∷ uses) < length (u ∷ uses) = rw e (omega (arith, kept_low uses)) in inr (was_full C number seen (with_uses i r uses older) (h.0 e), less))
 ]
 
 -- each run names at most so many uses as are made of its request
@@ -142,10 +152,10 @@ reports_low h i [] few = omega arith
 reports_low h i (run ∷ runs) few = omega (arith, reports_at i run runs, takes_at h i run runs, kept_low run.uses, few.0, reports_low h i runs few.1)
 
 -- and where one is not kept, they are fewer
-pub all_kept_or_lacks : (C : Config) (seen : List Entry) (h : ℕ → ℕ) (i : ℕ) (runs : List JobRun) → FewUses h runs → AllWhereRoom C seen runs → AllKept runs ⊎ (LackedRoom C seen × (runs_reports i runs < runs_takes h i runs))
-all_kept_or_lacks C seen h i [] few k = inl tt
-all_kept_or_lacks C seen h i (run ∷ runs) few k = elim (kept_or_lacks C seen run.uses k.0) [
-  | inl all ↦ elim (all_kept_or_lacks C seen h i runs few.1 k.1) [
+pub all_kept_or_full : (C : Config) (number : ℕ) (seen : List Entry) (h : ℕ → ℕ) (i : ℕ) (runs : List JobRun) → FewUses h runs → AllWhereRoom C number i seen runs → AllKept runs ⊎ (WasFull C seen × (runs_reports i runs < runs_takes h i runs))
+all_kept_or_full C number seen h i [] few k = inl tt
+all_kept_or_full C number seen h i (run ∷ runs) few k = elim (kept_or_full C number i run.request seen (Take i run.request run.estimate ∷ with_runs i runs []) run.uses k.0) [
+  | inl all ↦ elim (all_kept_or_full C number seen h i runs few.1 k.1) [
     | inl more ↦ inl (all, more)
     | inr lacks ↦ (let less : runs_reports i (run ∷ runs) < runs_takes h i (run ∷ runs) = omega (arith, lacks.1, reports_at i run runs, takes_at h i run runs, kept_low run.uses, few.0) in inr (lacks.0, less))
   ]

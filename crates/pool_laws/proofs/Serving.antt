@@ -79,7 +79,7 @@ module _ (T : Trace) (O : RunOptions) (H : History) where
 pub is_serving : (T : Trace) (O : RunOptions) (Tells : ℕ → Type 0) (H : History) → IsLawfulTrace T → AreInRange O → InLimits (pool_config T O) → PoolParts T O Tells H → (i : ℕ) → i < O.workers → IsServing T O.refresh H i (own_entries H (worker_caller T.rows i))
 is_serving T O Tells H law range lim p i h =
     let w = p.served i h in
-    let x : AllRunRows T O H w.runs = run_rows T O Tells H p (worker_caller T.rows i) w.seen w.runs w.sees w.runs_are in
+    let x : AllRunRows T O H w.runs = run_rows T O Tells H p (worker_caller T.rows i) i w.seen w.runs w.sees w.runs_are in
     record {
       requests = served_runs T O H w.runs x;
       acts_are = w.acts_are ∙ runs_acts T O H i w.runs x law range.refresh (all_kept T O Tells H lim p i h w);

@@ -26,12 +26,18 @@ use Rattle.worker_gate.proofs.ServingSteps.{Ended, Takes, Rests}
 
 -- ---- what holds of a history holds as it grows
 
-lacked_on : (C : Config) (seen seen2 : List Entry) → IsPrefix seen seen2 → LackedRoom C seen → LackedRoom C seen2
-lacked_on C seen seen2 on (P, begins, room) = (P, prefix_through P seen seen2 begins on, room)
+lacked_on : (C : Config) (number : ℕ) (seen seen2 : List Entry) (acts : List Act) → IsPrefix seen seen2 → LackedRoom C number seen acts → LackedRoom C number seen2 acts
+lacked_on C number seen seen2 acts on (P, begins, at, room) = (P, prefix_through P seen seen2 begins on, at, room)
 
-pub kept_on : (C : Config) (seen seen2 : List Entry) (uses : List Use) → IsPrefix seen seen2 → AreKeptWhereRoom C seen uses → AreKeptWhereRoom C seen2 uses
-kept_on C seen seen2 [] on kept = tt
-kept_on C seen seen2 (use_ ∷ uses) on kept = (λ no. lacked_on C seen seen2 on (kept.0 no), kept_on C seen seen2 uses on kept.1)
+pub kept_on : (C : Config) (number i r : ℕ) (seen seen2 : List Entry) (older : List Act) (uses : List Use) → IsPrefix seen seen2 → AreKeptWhereRoom C number i r seen older uses → AreKeptWhereRoom C number i r seen2 older uses
+kept_on C number i r seen seen2 older [] on kept = tt
+kept_on C number i r seen seen2 older (use_ ∷ uses) on kept =
+    (λ no. lacked_on C number seen seen2 (with_uses i r uses older) on (kept.0 no), kept_on C number i r seen seen2 older uses on kept.1)
+
+-- the same where the caller, the worker and the acts are equal
+kept_same : (C : Config) (n n2 i i2 r : ℕ) (seen : List Entry) (older older2 : List Act) (uses : List Use) → n ≡ n2 → i ≡ i2 → older ≡ older2 → AreKeptWhereRoom C n i r seen older uses → AreKeptWhereRoom C n2 i2 r seen older2 uses
+kept_same C n n2 i i2 r seen older older2 uses number worker acts kept =
+    subst (λ l. AreKeptWhereRoom C n2 i2 r seen l uses) acts (subst (λ w. AreKeptWhereRoom C n2 w r seen older uses) worker (subst (λ m. AreKeptWhereRoom C m i r seen older uses) number kept))
 
 -- what a request asked stays as a legal history grows
 asked_on : (C : Config) (R H : History) (r : ℕ) (asked : Request) → IsLegal C (R ++ H) → request_at H r ≡ Some asked → request_at (R ++ H) r ≡ Some asked
@@ -44,18 +50,18 @@ label_on C seen seen2 r label (rest, is) l (asked, at, same) =
     let legal : IsLegal C (history_of rest ++ history_of seen) = subst (IsLegal C) turned l in
     (asked, ap (λ H. request_at H r) turned ∙ asked_on C (history_of rest) (history_of seen) r asked legal at, same)
 
-module _ (C : Config) (course_of : ℕ → Option (List Counters)) (cost_of : Counters → ℕ) where
-  run_on : (seen seen2 : List Entry) (run : JobRun) → IsPrefix seen seen2 → IsLegal C (history_of seen2) → IsRun C course_of cost_of seen run → IsRun C course_of cost_of seen2 run
-  run_on seen seen2 run on l is = record {
+module _ (C : Config) (number i : ℕ) (course_of : ℕ → Option (List Counters)) (cost_of : Counters → ℕ) where
+  run_on : (seen seen2 : List Entry) (older : List Act) (run : JobRun) → IsPrefix seen seen2 → IsLegal C (history_of seen2) → IsRun C number i course_of cost_of seen older run → IsRun C number i course_of cost_of seen2 older run
+  run_on seen seen2 older run on l is = record {
     labelled = label_on C seen seen2 run.request run.label on l is.labelled;
-    kept = kept_on C seen seen2 run.uses on is.kept;
+    kept = kept_on C number i run.request seen seen2 (Take i run.request run.estimate ∷ older) run.uses on is.kept;
     few = is.few;
     follows = is.follows;
   }
 
-  pub runs_on : (seen seen2 : List Entry) (runs : List JobRun) → IsPrefix seen seen2 → IsLegal C (history_of seen2) → AreRuns C course_of cost_of seen runs → AreRuns C course_of cost_of seen2 runs
-  runs_on seen seen2 [] on l are = tt
-  runs_on seen seen2 (run ∷ runs) on l are = (run_on seen seen2 run on l are.0, runs_on seen seen2 runs on l are.1)
+  pub runs_on : (seen seen2 : List Entry) (older : List Act) (runs : List JobRun) → IsPrefix seen seen2 → IsLegal C (history_of seen2) → AreRuns C number i course_of cost_of seen older runs → AreRuns C number i course_of cost_of seen2 older runs
+  runs_on seen seen2 older [] on l are = tt
+  runs_on seen seen2 older (run ∷ runs) on l are = (run_on seen seen2 (with_runs i runs older) run on l are.0, runs_on seen seen2 older runs on l are.1)
 
 module _ (lock : LockView Crew) (Tells : ℕ → Type 0) where
   pub goes_same : (pass : PassView Crew) → IsOf lock pass → Goes lock Tells pass pass
@@ -84,6 +90,12 @@ module _ (lock : LockView Crew) (Tells : ℕ → Type 0) where
   more_uses : (i r : ℕ) (use_ : Use) (uses : List Use) (older : List Act) → with_uses i r (use_ ∷ []) (with_uses i r uses older) ≡ with_uses i r (use_ ∷ uses) older
   more_uses i r use_ uses older = refl
 
+  -- there was no room when the acts were those that older uses left
+  lacked_more : (start old : Running) (seen : List Entry) (uses : List Use) (most : ℕ) → HasNamed lock Tells start old uses most → LackedRoom lock.frame.config old.pass.number seen (acts_of old.pass.mine)
+      → LackedRoom lock.frame.config start.pass.number seen (with_uses start.worker start.request uses (acts_of start.pass.mine))
+  lacked_more start old seen uses most x lacked =
+      subst (LackedRoom lock.frame.config start.pass.number seen) x.acts_are (subst (λ n. LackedRoom lock.frame.config n seen (acts_of old.pass.mine)) x.goes.stays.number lacked)
+
   pub named_more : (start old new : Running) (use_ : Use) (uses : List Use) (most : ℕ) → HasNamed lock Tells start old uses most → HasNamed lock Tells old new (use_ ∷ []) use_.used → HasNamed lock Tells start new (use_ ∷ uses) use_.used
   named_more start old new use_ uses most x y =
       let same : with_uses old.worker old.request (use_ ∷ []) (acts_of old.pass.mine) ≡ with_uses start.worker start.request (use_ ∷ []) (acts_of old.pass.mine) =
@@ -91,7 +103,10 @@ module _ (lock : LockView Crew) (Tells : ℕ → Type 0) where
         goes = goes_on start.pass old.pass new.pass x.goes y.goes;
         run = record { worker = y.run.worker ∙ x.run.worker; request = y.run.request ∙ x.run.request; estimate = y.run.estimate ∙ x.run.estimate };
         acts_are = y.acts_are ∙ (same ∙ (ap (with_uses start.worker start.request (use_ ∷ [])) x.acts_are ∙ more_uses start.worker start.request use_ uses (acts_of start.pass.mine)));
-        kept = (y.kept.0, kept_on lock.frame.config old.pass.seen new.pass.seen uses y.goes.seen x.kept);
+        kept = (
+          λ no. lacked_more start old new.pass.seen uses most x (y.kept.0 no),
+          kept_on lock.frame.config start.pass.number start.worker start.request old.pass.seen new.pass.seen (acts_of start.pass.mine) uses y.goes.seen x.kept,
+        );
         rising = subst (λ r. last_use (history_of new.pass.mine) r ≤ use_.used) x.run.request y.rising;
       }
 
@@ -113,7 +128,7 @@ module _ (lock : LockView Crew) (Tells : ℕ → Type 0) where
           cost = cost;
           acts_are = y.acts_are ∙ (ap (λ act. act ∷ acts_of old.pass.mine) same ∙ ap (λ acts. Done start.worker start.request cost ∷ acts) x.acts_are);
           few = few;
-          kept = kept_on lock.frame.config old.pass.seen new.pass.seen uses y.goes.seen x.kept;
+          kept = kept_on lock.frame.config start.pass.number start.worker start.request old.pass.seen new.pass.seen (acts_of start.pass.mine) uses y.goes.seen x.kept;
           follows = told;
         }
 
@@ -129,18 +144,21 @@ module _ (lock : LockView Crew) (Tells : ℕ → Type 0) where
       worker = worker ∙ x.worker;
       runs = x.runs;
       acts_are = ap acts_of y.mine ∙ x.acts_are;
-      runs_are = runs_on lock.frame.config course_of cost_of old.pass.seen new.pass.seen x.runs y.goes.seen y.legal x.runs_are;
+      runs_are = runs_on lock.frame.config start.pass.number start.worker course_of cost_of old.pass.seen new.pass.seen (acts_of start.pass.mine) x.runs y.goes.seen y.legal x.runs_are;
     }
+
+    -- what a worker has made when it is given one more
+    taken_acts : (start old : Worker) (running : Running) (label : ℕ) (s : Serves lock Tells course_of cost_of start old) → Takes lock Tells label old running
+        → acts_of running.pass.mine ≡ Take start.worker running.request running.estimate ∷ with_runs start.worker s.runs (acts_of start.pass.mine)
+    taken_acts start old running label s t =
+        t.acts_are ∙ (ap (λ i. Take i running.request running.estimate ∷ acts_of old.pass.mine) s.worker ∙ ap (λ acts. Take start.worker running.request running.estimate ∷ acts) s.acts_are)
 
     run_acts : (start old new : Worker) (running : Running) (label : ℕ) (s : Serves lock Tells course_of cost_of start old) → Takes lock Tells label old running → running.worker ≡ old.worker → (h : HasRun lock Tells course_of cost_of label running new)
         → acts_of new.pass.mine ≡ with_runs start.worker (run_of running label h.uses h.cost ∷ s.runs) (acts_of start.pass.mine)
     run_acts start old new running label s t worker h =
-        let run : JobRun = run_of running label h.uses h.cost in
-        let one : acts_of running.pass.mine ≡ Take start.worker running.request running.estimate ∷ with_runs start.worker s.runs (acts_of start.pass.mine) =
-        t.acts_are ∙ (ap (λ i. Take i running.request running.estimate ∷ acts_of old.pass.mine) s.worker ∙ ap (λ acts. Take start.worker running.request running.estimate ∷ acts) s.acts_are) in
         let i_is : running.worker ≡ start.worker = worker ∙ s.worker in
         h.acts_are ∙ (ap (λ i. Done i running.request h.cost ∷ with_uses i running.request h.uses (acts_of running.pass.mine)) i_is
-        ∙ ap (λ acts. Done start.worker running.request h.cost ∷ with_uses start.worker running.request h.uses acts) one)
+        ∙ ap (λ acts. Done start.worker running.request h.cost ∷ with_uses start.worker running.request h.uses acts) (taken_acts start old running label s t))
 
     -- a Take that gives one, and the run of it
     pub serves_run : (start old new : Worker) (running : Running) (label : ℕ) → Serves lock Tells course_of cost_of start old → Takes lock Tells label old running → running.worker ≡ old.worker → HasRun lock Tells course_of cost_of label running new → Serves lock Tells course_of cost_of start new
@@ -148,9 +166,11 @@ module _ (lock : LockView Crew) (Tells : ℕ → Type 0) where
         let C : Config = lock.frame.config in
         let later : Goes lock Tells old.pass new.pass = goes_on old.pass running.pass new.pass t.goes h.goes in
         let run : JobRun = run_of running label h.uses h.cost in
-        let is : IsRun C course_of cost_of new.pass.seen run = record {
+        let older : List Act = with_runs start.worker s.runs (acts_of start.pass.mine) in
+        let is : IsRun C start.pass.number start.worker course_of cost_of new.pass.seen older run = record {
           labelled = label_on C running.pass.seen new.pass.seen running.request label h.goes.seen h.legal t.labelled;
-          kept = h.kept;
+          kept = kept_same C running.pass.number start.pass.number running.worker start.worker running.request new.pass.seen (acts_of running.pass.mine) (Take start.worker running.request running.estimate ∷ older) h.uses
+              (t.goes.stays.number ∙ s.goes.stays.number) (worker ∙ s.worker) (taken_acts start old running label s t) h.kept;
           few = h.few;
           follows = h.follows;
         } in record {
@@ -158,12 +178,13 @@ module _ (lock : LockView Crew) (Tells : ℕ → Type 0) where
           worker = h.worker ∙ (worker ∙ s.worker);
           runs = run ∷ s.runs;
           acts_are = run_acts start old new running label s t worker h;
-          runs_are = (is, runs_on C course_of cost_of old.pass.seen new.pass.seen s.runs later.seen h.legal s.runs_are);
+          runs_are = (is, runs_on C start.pass.number start.worker course_of cost_of old.pass.seen new.pass.seen (acts_of start.pass.mine) s.runs later.seen h.legal s.runs_are);
         }
 
     -- a worker that is turned away has done its part
     pub worked : (start old new : Worker) (m : ℕ) (reply : Reply) → Serves lock Tells course_of cost_of start old → Rests lock Tells old.pass new.pass m old.worker reply → new.worker ≡ old.worker → EndsWork reply → Worked lock course_of cost_of Tells start new
     worked start old new m reply s y worker ends =
+        let C : Config = lock.frame.config in
         let x : Serves lock Tells course_of cost_of start new = serves_rest start old new m old.worker reply s y worker in
         let told : HasToldMomentsFrom Tells start.pass.number (length start.pass.seen) (history_of new.pass.seen) = x.goes.moments (length start.pass.seen) (moments_begin Tells start.pass.number start.pass.seen) in record {
           stays = x.goes.stays;
@@ -171,7 +192,8 @@ module _ (lock : LockView Crew) (Tells : ℕ → Type 0) where
           seen = x.goes.seen;
           runs = x.runs;
           acts_are = x.acts_are ∙ ap (λ i. with_runs i x.runs (acts_of start.pass.mine)) (sym x.worker);
-          runs_are = x.runs_are;
+          runs_are = subst (λ i. AreRuns C new.pass.number i course_of cost_of new.pass.seen (acts_of start.pass.mine) x.runs) (sym x.worker)
+              (subst (λ n. AreRuns C n start.worker course_of cost_of new.pass.seen (acts_of start.pass.mine) x.runs) (sym x.goes.stays.number) x.runs_are);
           moments = subst (λ n. HasToldMomentsFrom Tells n (length start.pass.seen) (history_of new.pass.seen)) (sym x.goes.stays.number) told;
           turned_away = (m, reply, ends, subst (λ i. Answers lock.frame.config (history_of new.pass.seen) (call.Take new.pass.number m i) reply (history_of new.pass.seen)) (sym worker) y.answers);
         }

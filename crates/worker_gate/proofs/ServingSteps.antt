@@ -122,7 +122,7 @@ module _ (lock : LockView Crew) (Tells : ℕ → Type 0) where
           goes = goes;
           run = run;
           acts_are = ap acts_of mine;
-          kept = (λ _. (a.P, answered_on lock.frame old.pass new.pass _ reply a, room), tt);
+          kept = (λ _. (a.P, answered_on lock.frame old.pass new.pass _ reply a, ap acts_of a.own, room), tt);
           rising = subst (λ l. last_use (history_of l) old.request ≤ used) (sym mine) low;
         };
       }

@@ -9,6 +9,7 @@ use Rattle.fq_model.specs.declared.event.Reply.{Reply}
 use Rattle.fq_model.specs.declared.event.Reply.TheVariants as answer
 use Rattle.fq_model.specs.declared.limits.TheConstants.{MOST_SLICES}
 use Rattle.fq_model.specs.History.{History, history_of, Request, request_at}
+use Rattle.fq_model.specs.Outcome.{own_entries}
 use Rattle.fq_model.specs.Rules.{Answers, needed_room}
 use Rattle.history_lock.specs.Histories.{IsPrefix}
 use Rattle.history_lock.specs.Passes.{LockView}
@@ -73,30 +74,41 @@ abbrev pub IsAsTold : (Counters → ℕ) → Option (List Counters) → JobRun �
 IsAsTold cost_of None run = Unit {0}
 IsAsTold cost_of (Some course) run = FollowsCourse cost_of course run
 
--- at some moment of what was seen there was no room for a Report
-abbrev pub LackedRoom : Config → List Entry → Type 0
-LackedRoom C seen = (P : List Entry) × IsPrefix P seen × (C.entries < needed_room (history_of P) 2)
+-- At some moment of what was seen there was no room for a Report, and the caller of this number had made these acts,
+-- the newest first, and no others
+abbrev pub LackedRoom : Config → ℕ → List Entry → List Act → Type 0
+LackedRoom C number seen made =
+    (P : List Entry) × IsPrefix P seen × (acts_of (own_entries P number) ≡ made)
+    × (C.entries < needed_room (history_of P) 2)
 
--- a use is kept, or there was no room for its Report
-abbrev pub AreKeptWhereRoom : Config → List Entry → List Use → Type 0
-AreKeptWhereRoom C seen [] = Unit {0}
-AreKeptWhereRoom C seen (use_ ∷ uses) = (use_.is_kept ≡ false → LackedRoom C seen) × AreKeptWhereRoom C seen uses
+-- Each use is kept, or there was no room for its Report while the worker had made just what it makes before that use:
+-- the older acts, and the Reports of the uses before it that are kept
+abbrev pub AreKeptWhereRoom : Config → ℕ → ℕ → ℕ → List Entry → List Act → List Use → Type 0
+AreKeptWhereRoom C number i request seen older [] = Unit {0}
+AreKeptWhereRoom C number i request seen older (use_ ∷ uses) =
+    (use_.is_kept ≡ false → LackedRoom C number seen (with_uses i request uses older))
+    × AreKeptWhereRoom C number i request seen older uses
 
 -- the label is that of the request
 abbrev pub HasLabel : History → ℕ → ℕ → Type 0
 HasLabel H request label = (asked : Request) × (request_at H request ≡ Some asked) × (asked.label ≡ label)
 
--- what is true of a run, by what its worker has seen; course_of gives the course of a label, where that is told. Of the
--- slices that a request may have, each but the last may be reported
-pub record IsRun (C : Config) (course_of : ℕ → Option (List Counters)) (cost_of : Counters → ℕ) (seen : List Entry) (run : JobRun) : Type 0 where
-  pub labelled : HasLabel (history_of seen) run.request run.label
-  pub few : length run.uses < MOST_SLICES
-  pub kept : AreKeptWhereRoom C seen run.uses
-  pub follows : IsAsTold cost_of (course_of run.label) run
+-- The worker is worker i, calls by this number, and has seen so much; course_of gives the course of a label, where that
+-- is told
+module _ (C : Config) (number i : ℕ)
+    (course_of : ℕ → Option (List Counters)) (cost_of : Counters → ℕ) (seen : List Entry) where
+  -- What is true of a run that its worker makes onto older acts. Of the slices that a request may have, each but the
+  -- last may be reported
+  pub record IsRun (older : List Act) (run : JobRun) : Type 0 where
+    pub labelled : HasLabel (history_of seen) run.request run.label
+    pub few : length run.uses < MOST_SLICES
+    pub kept : AreKeptWhereRoom C number i run.request seen (Take i run.request run.estimate ∷ older) run.uses
+    pub follows : IsAsTold cost_of (course_of run.label) run
 
-abbrev pub AreRuns : Config → (ℕ → Option (List Counters)) → (Counters → ℕ) → List Entry → List JobRun → Type 0
-AreRuns C course_of cost_of seen [] = Unit {0}
-AreRuns C course_of cost_of seen (run ∷ runs) = IsRun C course_of cost_of seen run × AreRuns C course_of cost_of seen runs
+  -- it is true of each, the newest first: a run is made onto the older acts and those of the runs before it
+  abbrev pub AreRuns : List Act → List JobRun → Type 0
+  AreRuns older [] = Unit {0}
+  AreRuns older (run ∷ runs) = IsRun (with_runs i runs older) run × AreRuns older runs
 
 -- nothing waits and nothing more will come, or the pool has no place for the worker now
 abbrev pub EndsWork : Reply → Type 0
@@ -117,6 +129,7 @@ pub record Worked (lock : LockView Crew) (course_of : ℕ → Option (List Count
   pub seen : IsPrefix old.pass.seen new.pass.seen
   pub runs : List JobRun
   pub acts_are : acts_of new.pass.mine ≡ with_runs new.worker runs (acts_of old.pass.mine)
-  pub runs_are : AreRuns lock.frame.config course_of cost_of new.pass.seen runs
+  pub runs_are :
+      AreRuns lock.frame.config new.pass.number new.worker course_of cost_of new.pass.seen (acts_of old.pass.mine) runs
   pub moments : HasToldMomentsFrom Tells new.pass.number (length old.pass.seen) (history_of new.pass.seen)
   pub turned_away : IsTurnedAway lock.frame.config new

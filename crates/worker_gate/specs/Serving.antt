@@ -38,7 +38,9 @@ module _ (lock : LockView Crew) (Tells : ℕ → Type 0) where
     pub goes : Goes old.pass new.pass
     pub run : SameRun old new
     pub acts_are : acts_of new.pass.mine ≡ with_uses old.worker old.request uses (acts_of old.pass.mine)
-    pub kept : AreKeptWhereRoom lock.frame.config new.pass.seen uses
+    pub kept :
+        AreKeptWhereRoom lock.frame.config old.pass.number old.worker old.request
+        new.pass.seen (acts_of old.pass.mine) uses
     pub rising : last_use (history_of new.pass.mine) old.request ≤ most
 
   module _ (course_of : ℕ → Option (List Counters)) (cost_of : Counters → ℕ) where
@@ -57,7 +59,9 @@ module _ (lock : LockView Crew) (Tells : ℕ → Type 0) where
       pub cost : ℕ
       pub acts_are : acts_of new.pass.mine ≡ Done old.worker old.request cost ∷ with_uses old.worker old.request uses (acts_of old.pass.mine)
       pub few : length uses < MOST_SLICES
-      pub kept : AreKeptWhereRoom lock.frame.config new.pass.seen uses
+      pub kept :
+          AreKeptWhereRoom lock.frame.config old.pass.number old.worker old.request
+          new.pass.seen (acts_of old.pass.mine) uses
       pub follows : IsAsTold cost_of (course_of label) (run_of old label uses cost)
 
     -- so far the worker has run these jobs
@@ -66,4 +70,6 @@ module _ (lock : LockView Crew) (Tells : ℕ → Type 0) where
       pub worker : new.worker ≡ old.worker
       pub runs : List JobRun
       pub acts_are : acts_of new.pass.mine ≡ with_runs old.worker runs (acts_of old.pass.mine)
-      pub runs_are : AreRuns lock.frame.config course_of cost_of new.pass.seen runs
+      pub runs_are :
+          AreRuns lock.frame.config old.pass.number old.worker course_of cost_of
+          new.pass.seen (acts_of old.pass.mine) runs
