@@ -8,6 +8,7 @@ use fq_model::event::{Act, Cause};
 use rival_policies::plain::PlainChooser;
 use sched_state::{AlreadyClosed, Refused, Scheduler};
 use std::alloc::Global;
+use std::process::Abort;
 use std::sync::Wait;
 use std::test::Fail;
 use std::thread::join_mut;
@@ -49,6 +50,30 @@ fn small(alloc: Global, requests: u32) -> Result<Checked, Fail>
     Ok(config.check()?)
 }
 
+// Ends a desk of one submitter and one worker, and gives its scheduler.
+fn ended(
+    rt: &impl Abort,
+    alloc: Global,
+    desk: PlainDesk,
+    who: Submitter,
+    worker: Worker,
+) -> Result<Scheduler<u64, PlainChooser>, Fail>
+    requires submitter { IsOf desk.lock who.pass × (who.pass.number ≡ 0) }
+    requires worker { IsOf desk.lock worker.pass }
+{
+    let mut submitters = Vec::new(alloc);
+    let kept = submitters.push(who);
+    let Ok(()) = kept else {
+        panic!(rt; "no memory for a token")
+    };
+    let mut workers = Vec::new(alloc);
+    let kept = workers.push(worker);
+    let Ok(()) = kept else {
+        panic!(rt; "no memory for a token")
+    };
+    Ok(desk.finish(submitters, workers)?)
+}
+
 // The label of a submission.
 fn label(act: Act) -> u64 {
     match act {
@@ -80,8 +105,8 @@ fn a_job_from_its_submission_to_the_end(rt: HostRuntime) -> Result<(), Fail> {
         panic!(rt; "a cost below the last use")
     };
     assert_eq!(rt; cause, DoneRefusal::Falling { last: 7, given: 6 });
-    let ended = desk.done(&rt, running, 50, 7);
-    let Ok(worker) = ended else {
+    let done = desk.done(&rt, running, 50, 7);
+    let Ok(worker) = done else {
         panic!(rt; "a cost that is not below it")
     };
     let took = desk.take(&rt, worker, 50);
@@ -99,19 +124,31 @@ fn a_job_from_its_submission_to_the_end(rt: HostRuntime) -> Result<(), Fail> {
     let Took::Drained(worker) = took else {
         panic!(rt; "nothing will come")
     };
-    let mut submitters = Vec::new(rt.alloc());
-    let kept = submitters.push(who);
-    let Ok(()) = kept else {
-        panic!(rt; "no memory for a token")
-    };
-    let mut workers = Vec::new(rt.alloc());
-    let kept = workers.push(worker);
-    let Ok(()) = kept else {
-        panic!(rt; "no memory for a token")
-    };
-    let scheduler: Scheduler<u64, PlainChooser> = desk.finish(submitters, workers)?;
+    let scheduler = ended(&rt, rt.alloc(), desk, who, worker)?;
     let callers = scheduler.past().iter().map(|e| e.who);
     assert!(rt; callers.eq([0u32, 1, 1, 1, 0]));
+    Ok(())
+}
+
+#[test]
+fn moments_below_the_last_and_above_the_greatest(rt: HostRuntime) -> Result<(), Fail> {
+    let config = small(rt.alloc(), 10)?;
+    let Some((desk, mut who, worker)) = opened(rt.alloc(), config) else {
+        panic!(rt; "no memory for a desk")
+    };
+    assert_eq!(rt; desk.submit(&rt, &mut who, 50, 0, 0, 5, 7), Ok(0));
+    assert_eq!(rt; desk.submit(&rt, &mut who, 40, 0, 0, 5, 8), Ok(1));
+    let took = desk.take(&rt, worker, u64::MAX);
+    let Took::Run(running, _job) = took else {
+        panic!(rt; "a request waits")
+    };
+    let done = desk.done(&rt, running, 0, 5);
+    let Ok(worker) = done else {
+        panic!(rt; "a cost as it was declared")
+    };
+    let scheduler = ended(&rt, rt.alloc(), desk, who, worker)?;
+    let moments = scheduler.past().iter().map(|e| e.moment);
+    assert!(rt; moments.eq([50u64, 50, 1000000000000000, 1000000000000000]));
     Ok(())
 }
 
@@ -155,21 +192,11 @@ fn a_worker_that_sleeps_until_a_request_comes(rt: HostRuntime) -> Result<(), Fai
         panic!(rt; "a request came")
     };
     assert_eq!(rt; (job, running.request()), (7, 0));
-    let ended = desk.done(&rt, running, 50, 5);
-    let Ok(worker) = ended else {
+    let done = desk.done(&rt, running, 50, 5);
+    let Ok(worker) = done else {
         panic!(rt; "a cost as it was declared")
     };
-    let mut submitters = Vec::new(rt.alloc());
-    let kept = submitters.push(who);
-    let Ok(()) = kept else {
-        panic!(rt; "no memory for a token")
-    };
-    let mut workers = Vec::new(rt.alloc());
-    let kept = workers.push(worker);
-    let Ok(()) = kept else {
-        panic!(rt; "no memory for a token")
-    };
-    let scheduler: Scheduler<u64, PlainChooser> = desk.finish(submitters, workers)?;
+    let scheduler = ended(&rt, rt.alloc(), desk, who, worker)?;
     assert!(rt; scheduler.past().iter().map(|e| e.who).eq([0u32, 1, 1]));
     Ok(())
 }

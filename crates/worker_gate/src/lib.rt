@@ -11,6 +11,8 @@ pub mod gate;
 pub mod kind_rule;
 pub mod laws;
 pub mod pool;
+#[cfg(test)]
+mod pool_tests;
 pub mod rows;
 pub mod steps;
 #[cfg(test)]
