@@ -1,5 +1,6 @@
 //! Two submitters and two workers that meet at one desk, each in a thread of its own.
 ghost use Rattle.std.specs.Prelude.{◌≡◌, IfOk, IfSome, None};
+ghost use Rattle.std.specs.Thread.{IsSync};
 ghost use Rattle.history_lock.specs.Passes.{IsOf};
 ghost use Rattle.worker_gate.specs.Hands.{AreHandsOf, HandsDid};
 ghost use Rattle.worker_gate.specs.Rules.{work_cost};
@@ -162,6 +163,20 @@ fn step_aside<R: Wait>(
     !matches!(aside, Aside::Close) || desk.close(rt, who, 50).is_ok()
 }
 
+// The hands of a pool do their parts.
+fn serve<R: Threads + Wait + Sync>(
+    rt: &R,
+    desk: &PlainDesk,
+    gate: &Meeting,
+    hands: &mut [Hand<u64>],
+)
+    requires { AreHandsOf desk.now.lock hands.old }
+    ensures { HandsDid (λ job. job) desk.now.lock (λ _. None) work_cost (λ m. m ≡ 50) hands.old hands.new }
+{
+    let clock = FixedClock::new(50);
+    pool(rt, desk, hands, gate, &clock, &CostRule::new(WorkCost));
+}
+
 // The hands of a pool do their parts, and submitter 1 does its own meanwhile.
 fn side_by_side<R: Threads + Wait + Sync>(
     rt: &R,
@@ -178,12 +193,14 @@ fn side_by_side<R: Threads + Wait + Sync>(
     ensures who { IsOf desk.now.lock who.new.pass }
     ensures hands { HandsDid (λ job. job) desk.now.lock (λ _. None) work_cost (λ m. m ≡ 50) hands.old hands.new }
 {
-    let clock = FixedClock::new(50);
-    let rule = CostRule::new(WorkCost);
     let (accepted, ()) = join_mut(
         rt,
         &mut || step_aside(rt, alloc, desk, who, total, aside),
-        &mut || pool(rt, desk, hands, gate, &clock, &rule),
+        &mut ||
+            requires { IsSync R.row × AreHandsOf desk.now.lock hands.now }
+            ensures { HandsDid (λ job. job) desk.entry.now.lock (λ _. None) work_cost (λ m. m ≡ 50) hands.entry.now
+                hands.exit.now }
+        { serve(rt, desk, gate, hands) },
     );
     accepted
 }
@@ -297,7 +314,7 @@ fn submitted(act: Act) -> Option<u64> {
     }
 }
 
-// One letter for each kind of act.
+// One letter for each kind of act. Callers 0 and 1 are the submitters, and callers 2 and 3 the workers.
 fn letter(act: Act) -> char {
     match act {
         Act::Submit { .. } => 's',
