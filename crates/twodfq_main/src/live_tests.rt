@@ -77,13 +77,13 @@ fn pool_serves_a_trace(rt: HostRuntime) -> Result<(), Fail> {
     let journal = str::from_utf8(written.bytes())?;
     assert_eq!(rt; journal.starts_with(HEAD), true);
     assert_eq!(rt; journal.lines().count(), 16);
-    let (mut of_8, mut of_2) = (0, 0);
+    let (mut of_8, mut of_2): (u32, u32) = (0, 0);
     for line in journal.lines().skip(6) {
         let (moment, cost) = told(line);
         assert_eq!(rt; moment, Some("7"), "at {line}");
         match cost {
-            Some("8") => of_8 += 1,
-            Some("2") => of_2 += 1,
+            Some("8") => of_8 = of_8.saturating_add(1),
+            Some("2") => of_2 = of_2.saturating_add(1),
             other => assert_eq!(rt; other, None, "at {line}"),
         }
     }
