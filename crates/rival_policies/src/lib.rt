@@ -7,4 +7,4 @@ pub mod plain;
 mod scan;
 #[cfg(test)]
 mod tests;
-mod turn;
+pub mod turn;

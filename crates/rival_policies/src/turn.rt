@@ -65,7 +65,8 @@ impl Turn {
         )
     }
 
-    fn eligible_key(self, keys: Keys) -> i128
+    /// The virtual time from which on the head is eligible, in steps. It may be below 0.
+    pub fn eligible_key(self, keys: Keys) -> i128
         ensures { result ≡ eligible_key self keys }
     {
         eligible_key(self.policy, keys, self.worker, self.workers)
