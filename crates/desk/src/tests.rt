@@ -3,9 +3,9 @@ ghost use Rattle.history_lock.specs.Passes.{IsOf};
 ghost use Rattle.desk.specs.Replies.{took_pass};
 
 use crate::{Desk, DoneRefusal, LiveRefusal, Submitter, Took, Worker};
+use eligible_index::index::IndexChooser;
 use fq_model::config::{Checked, Config, Estimator, Policy, Weights};
 use fq_model::event::{Act, Cause};
-use rival_policies::plain::PlainChooser;
 use sched_state::{AlreadyClosed, Refused, Scheduler};
 use std::alloc::Global;
 use std::process::Abort;
@@ -13,15 +13,15 @@ use std::sync::Wait;
 use std::test::Fail;
 use std::thread::join_mut;
 
-type PlainDesk = Desk<u64, PlainChooser>;
+type IndexDesk = Desk<u64, IndexChooser>;
 
 // A desk of one submitter and one worker, with its tokens.
-fn opened(alloc: Global, config: Checked) -> Option<(PlainDesk, Submitter, Worker)>
+fn opened(alloc: Global, config: Checked) -> Option<(IndexDesk, Submitter, Worker)>
     requires { config.workers ≡ 1 }
     ensures submitter { IfSome result (λ r. IsOf r.0.lock r.1.pass × (r.1.pass.number ≡ 0)) }
     ensures worker { IfSome result (λ r. IsOf r.0.lock r.2.pass) }
 {
-    match PlainDesk::open(alloc, config, 1) {
+    match IndexDesk::open(alloc, config, 1) {
         Err(_) => None,
         Ok((desk, mut submitters, mut workers)) => {
             let who = submitters.pop().unwrap();
@@ -54,10 +54,10 @@ fn small(alloc: Global, requests: u32) -> Result<Checked, Fail>
 fn ended(
     rt: &impl Abort,
     alloc: Global,
-    desk: PlainDesk,
+    desk: IndexDesk,
     who: Submitter,
     worker: Worker,
-) -> Result<Scheduler<u64, PlainChooser>, Fail>
+) -> Result<Scheduler<u64, IndexChooser>, Fail>
     requires submitter { IsOf desk.lock who.pass × (who.pass.number ≡ 0) }
     requires worker { IsOf desk.lock worker.pass }
 {
@@ -153,7 +153,7 @@ fn moments_below_the_last_and_above_the_greatest(rt: HostRuntime) -> Result<(), 
 }
 
 // A worker asks until it is told something else than Idle, and sleeps between.
-fn taken<R: Wait>(rt: &R, desk: &PlainDesk, place: &mut Option<Worker>) -> Option<Took<u64>>
+fn taken<R: Wait>(rt: &R, desk: &IndexDesk, place: &mut Option<Worker>) -> Option<Took<u64>>
     requires { IfSome place.old (λ w. IsOf desk.now.lock w.pass) }
     ensures { IfSome result (λ t. IsOf desk.now.lock (took_pass t)) }
 {
@@ -205,13 +205,13 @@ fn a_worker_that_sleeps_until_a_request_comes(rt: HostRuntime) -> Result<(), Fai
 fn opened_for_two(
     alloc: Global,
     config: Checked,
-) -> Option<(PlainDesk, Submitter, Submitter, Worker)>
+) -> Option<(IndexDesk, Submitter, Submitter, Worker)>
     requires { config.workers ≡ 1 }
     ensures first { IfSome result (λ r. IsOf r.0.lock r.1.pass × (r.1.pass.number ≡ 0)) }
     ensures second { IfSome result (λ r. IsOf r.0.lock r.2.pass × (r.2.pass.number ≡ 1)) }
     ensures worker { IfSome result (λ r. IsOf r.0.lock r.3.pass) }
 {
-    match PlainDesk::open(alloc, config, 2) {
+    match IndexDesk::open(alloc, config, 2) {
         Err(_) => None,
         Ok((desk, mut submitters, mut workers)) => {
             let second = submitters.pop().unwrap();
@@ -226,7 +226,7 @@ fn opened_for_two(
 
 // Submits 50 jobs, with numbers from 1,000 times the caller's own on, and notes in its bits which requests below 100 it
 // is told.
-fn fifty<R: Wait>(rt: &R, desk: &PlainDesk, who: &mut Submitter) -> u128
+fn fifty<R: Wait>(rt: &R, desk: &IndexDesk, who: &mut Submitter) -> u128
     requires { IsOf desk.now.lock who.old.pass }
     ensures own { IsOf desk.now.lock who.new.pass }
     ensures number { who.new.pass.number ≡ who.old.pass.number }
@@ -272,7 +272,7 @@ fn two_submitters_in_two_threads(rt: HostRuntime) -> Result<(), Fail> {
     let Ok(()) = kept else {
         panic!(rt; "no memory for a token")
     };
-    let scheduler: Scheduler<u64, PlainChooser> = desk.finish(submitters, workers)?;
+    let scheduler: Scheduler<u64, IndexChooser> = desk.finish(submitters, workers)?;
     assert_eq!(rt; scheduler.past().len(), 100);
     let of = |who: u32| scheduler
         .past()

@@ -1,7 +1,7 @@
 -- The first of exact trees is the choice.
-use Rattle.std.proofs.Common.{ℕ, ◌≡◌, ◌≢◌, ◌<◌, Option, Some, None, List, arith, refl, sym, ap, ◌∙◌, subst, inl, inr, ◌⊎◌, ℤ, pos, ◌<ℤ◌}
+use Rattle.std.proofs.Common.{ℕ, ◌≡◌, ◌≢◌, Option, List, arith, refl, ap, subst, inl, inr}
 use Rattle.std.proofs.lemmas.Int.{ints}
-use Rattle.fq_model.specs.Keys.{HeadKeys, Turn, IsEligible, IsFirst, FinishBefore, EligibleBefore, Every, IsChoice, NoneIsEligible}
+use Rattle.fq_model.specs.Keys.{HeadKeys, Turn, IsEligible, FinishBefore, EligibleBefore, IsChoice, NoneIsEligible}
 use Rattle.rival_policies.specs.Tables.{Table, Has, NoneHas, RequestsDiffer}
 use Rattle.winner_tree.specs.declared.key.Key.{Key}
 use Rattle.winner_tree.specs.Order.{key_of, HasKey, HasNoKey, Precedes}
@@ -23,12 +23,14 @@ eligible_first at k l t u differ (inr (same, _)) = absurd (differ (ap (λ (x : K
 module _ (at : Turn) (table : Table) (differ : RequestsDiffer table) (later eligible : List (Option Key)) (exact : AreExact at table later eligible) where
   choice_of_eligible : (t : ℕ) (key : Key) → tree.IsFirst eligible t key → (k : HeadKeys) × IsChoice at (Has table) t k
   choice_of_eligible t key first =
-      let found : (k : HeadKeys) × (Has table t k × (IsEligible at k × (key ≡ finish_key k))) = (exact.in_eligible t key).0 first.found in
-      (found.0, inl (record {
-        has = found.1.0;
-        passes = found.1.1.0;
-        first = λ u l ne has now. finishes_first found.0 l t u (differ t found.0 found.1.0 u l ne has) (subst (λ x. Precedes x t (finish_key l) u) found.1.1.1 (first.before u (finish_key l) ne ((exact.in_eligible u (finish_key l)).1 (l, (has, (now, refl))))));
-      }))
+      let found : (k : HeadKeys) × (Has table t k × (IsEligible at k × (key ≡ finish_key k))) = (exact.in_eligible t key).0 first.found in (
+        found.0,
+        inl (record {
+          has = found.1.0;
+          passes = found.1.1.0;
+          first = λ u l ne has now. finishes_first found.0 l t u (differ t found.0 found.1.0 u l ne has) (subst (λ x. Precedes x t (finish_key l) u) found.1.1.1 (first.before u (finish_key l) ne ((exact.in_eligible u (finish_key l)).1 (l, (has, (now, refl))))));
+        }),
+      )
 
   module _ (none : HasNoKey eligible) where
     none_eligible : NoneIsEligible at (Has table)
@@ -39,12 +41,17 @@ module _ (at : Turn) (table : Table) (differ : RequestsDiffer table) (later elig
 
     choice_of_later : (t : ℕ) (key : Key) → tree.IsFirst later t key → (k : HeadKeys) × IsChoice at (Has table) t k
     choice_of_later t key first =
-        let found : (k : HeadKeys) × (Has table t k × (¬ IsEligible at k × (key ≡ later_key at k))) = (exact.in_later t key).0 first.found in
-        (found.0, inr (none_eligible, record {
-          has = found.1.0;
-          passes = tt;
-          first = λ u l ne has _. eligible_first at found.0 l t u (differ t found.0 found.1.0 u l ne has) (subst (λ x. Precedes x t (later_key at l) u) found.1.1.1 (first.before u (later_key at l) ne (stands_later u l has)));
-        }))
+        let found : (k : HeadKeys) × (Has table t k × (¬ IsEligible at k × (key ≡ later_key at k))) = (exact.in_later t key).0 first.found in (
+          found.0,
+          inr (
+            none_eligible,
+            record {
+              has = found.1.0;
+              passes = tt;
+              first = λ u l ne has _. eligible_first at found.0 l t u (differ t found.0 found.1.0 u l ne has) (subst (λ x. Precedes x t (later_key at l) u) found.1.1.1 (first.before u (later_key at l) ne (stands_later u l has)));
+            },
+          ),
+        )
 
     none_has : HasNoKey later → NoneHas table
     none_has empty u l has = none_not_some (key_of later u) (later_key at l) (empty u) (stands_later u l has)

@@ -1,5 +1,5 @@
 -- Writing one value to every place of a list.
-use Rattle.std.proofs.Common.{ℕ, ◌+◌, ◌≡◌, ◌<◌, ◌≤◌, List, [], ◌++◌, ◌∷◌, length, replicate, set, take, arith, refl, sym, ap, ◌∙◌}
+use Rattle.std.proofs.Common.{ℕ, ◌+◌, ◌≡◌, ◌<◌, List, [], ◌++◌, ◌∷◌, length, replicate, set, take, arith, refl, sym, ap, ◌∙◌}
 use Rattle.std.proofs.lemmas.List.{length-set, take_more_set, replicate_more, take_all}
 
 module _ {A : Type 0} (value : A) where

@@ -1,17 +1,17 @@
 -- What an index keeps through a change, and through a choice.
-use Rattle.std.proofs.Common.{ℕ, ◌+◌, ◌≡◌, ◌≢◌, ◌<◌, ◌≤◌, Bool, true, false, List, [], ◌++◌, Option, Some, None, IfSome, length, replicate, get_or, set, take, drop, arith, refl, sym, ap, ◌∙◌, subst, inl, inr, ◌⊎◌, ℤ, ◌≤ℤ◌}
+use Rattle.std.proofs.Common.{ℕ, ◌≡◌, ◌≢◌, ◌<◌, ◌≤◌, true, false, List, ◌++◌, Option, Some, None, IfSome, length, replicate, get_or, set, take, drop, arith, refl, sym, ap, ◌∙◌, subst, inl, inr, ◌⊎◌, ℤ, ◌≤ℤ◌}
 use Rattle.std.proofs.lemmas.Bool.{cases_eq, cases_lt}
 use Rattle.std.proofs.lemmas.Int.{ints}
 use Rattle.std.proofs.lemmas.List.{get_or-set_same, get_or-set_other, length-set, get_or-replicate, get_or_past, length-replicate, take_at}
 use Rattle.std.proofs.lemmas.Option.{slice_get-get_or, slice_get_within, get_or_from_slice_get}
 use Rattle.fq_model.specs.declared.config.Policy.{Policy}
-use Rattle.fq_model.specs.Keys.{HeadKeys, Turn, IsEligible}
+use Rattle.fq_model.specs.Keys.{HeadKeys, Turn}
 use Rattle.rival_policies.specs.Tables.{Table, Has, RequestsDiffer, IsNewTo}
 use Rattle.winner_tree.specs.declared.key.Key.{Key}
 use Rattle.winner_tree.specs.Order.{key_of, HasNoKey}
 use Rattle.winner_tree.proofs.Least.{none_not_some}
 use Rattle.eligible_index.specs.Noted.{IsNoted}
-use Rattle.eligible_index.specs.Trees.{TreesView, Stands, StandsIn, Follow, HaveNoKey, AreSized, with_noted, cleared}
+use Rattle.eligible_index.specs.Trees.{TreesView, Stands, Follow, HaveNoKey, with_noted, cleared}
 use Rattle.eligible_index.specs.Index.{KeepsIndex, trees_of, AreNoted, AreCleared}
 
 -- what was written back whole

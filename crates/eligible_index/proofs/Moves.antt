@@ -1,10 +1,10 @@
 -- Moving heads that have become eligible from the first tree to the second.
-use Rattle.std.proofs.Common.{ℕ, zero, suc, ◌+◌, ◌≡◌, ◌≢◌, ◌<◌, ◌≤◌, List, [], ◌∷◌, Option, Some, None, length, get_or, set, arith, refl, sym, ap, ◌∙◌, subst, inl, inr, ◌⊎◌, ◌↔◌, Bool, true, false, IsTrue, ℤ, pos, ◌<ℤ◌, ◌≤ℤ◌}
+use Rattle.std.proofs.Common.{ℕ, zero, suc, ◌≡◌, ◌≢◌, ◌<◌, List, [], ◌∷◌, Option, Some, None, length, get_or, set, arith, refl, sym, ap, ◌∙◌, subst, inl, inr, ◌⊎◌, ◌↔◌, Bool, false, IsTrue, ℤ, pos, ◌<ℤ◌, ◌≤ℤ◌}
 use Rattle.std.proofs.lemmas.Bool.{cases_eq}
 use Rattle.std.proofs.lemmas.Int.{ints, by_lt_z}
 use Rattle.std.proofs.lemmas.List.{length-set}
 use Rattle.std.proofs.lemmas.Option.{slice_get-get_or, slice_get_within, get_or_from_slice_get}
-use Rattle.fq_model.specs.Keys.{HeadKeys, Turn, finish, eligible_key, IsEligible}
+use Rattle.fq_model.specs.Keys.{HeadKeys, Turn, eligible_key, IsEligible}
 use Rattle.fq_model.specs.declared.config.Policy.TheVariants.{Wfq}
 use Rattle.rival_policies.specs.Tables.{Table, Has}
 use Rattle.rival_policies.proofs.Comparing.{not_so}

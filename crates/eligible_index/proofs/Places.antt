@@ -1,8 +1,8 @@
 -- Where tenants stand, as their keys are written one after another.
-use Rattle.std.proofs.Common.{ℕ, ◌+◌, ◌≡◌, ◌≢◌, ◌<◌, ◌≤◌, Bool, true, false, List, Option, Some, None, Contains, length, get_or, set, arith, refl, sym, ap, ◌∙◌, subst, inl, inr, ◌⊎◌}
+use Rattle.std.proofs.Common.{ℕ, ◌+◌, ◌≡◌, ◌≢◌, ◌<◌, ◌≤◌, Bool, false, List, Option, None, Contains, length, get_or, set, arith, sym, ap, ◌∙◌, subst, inl, inr, ◌⊎◌}
 use Rattle.std.proofs.lemmas.Bool.{cases_eq, cases_Bool, false≢true}
-use Rattle.std.proofs.lemmas.List.{get_or-set_same, get_or-set_other, get_or_default, length-set}
-use Rattle.fq_model.specs.Keys.{HeadKeys, Turn}
+use Rattle.std.proofs.lemmas.List.{get_or-set_same, get_or-set_other, get_or_default}
+use Rattle.fq_model.specs.Keys.{Turn}
 use Rattle.rival_policies.specs.Tables.{Table}
 use Rattle.winner_tree.specs.declared.key.Key.{Key}
 use Rattle.winner_tree.specs.Order.{key_of}

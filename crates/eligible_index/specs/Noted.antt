@@ -1,5 +1,5 @@
 -- Numbers that are noted, each once.
-use Rattle.std.specs.Prelude.{ℕ, zero, suc, ◌≡◌, ◌<◌, ◌≤◌, Bool, true, false, List, [], ◌∷◌, All, Contains, length, slice_index_or, slice_set, replicate}
+use Rattle.std.specs.Prelude.{ℕ, zero, suc, ◌≡◌, ◌<◌, ◌≤◌, Bool, true, false, List, [], ◌∷◌, All, Contains, length, slice_index_or}
 
 -- the flags say that n is noted
 abbrev pub IsNoted : List Bool → ℕ → Type 0

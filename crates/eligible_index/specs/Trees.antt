@@ -1,5 +1,5 @@
 -- What the two trees of a worker hold.
-use Rattle.std.specs.Prelude.{ℕ, ◌≡◌, ◌≢◌, ◌<◌, ◌⊎◌, ◌↔◌, ℤ, Bool, true, false, List, Option, Some, None, Contains, length, replicate, slice_index_or, slice_set, pos}
+use Rattle.std.specs.Prelude.{ℕ, ◌≡◌, ◌≢◌, ◌<◌, ◌⊎◌, ◌↔◌, Bool, true, false, List, Option, Some, None, Contains, length, replicate, slice_index_or, slice_set, pos}
 use Rattle.fq_model.specs.declared.config.Policy.TheVariants.{Wfq}
 use Rattle.fq_model.specs.Keys.{HeadKeys, Turn, finish, eligible_key, IsEligible}
 use Rattle.rival_policies.specs.Tables.{Table, Has}

@@ -21,7 +21,7 @@ pub struct IndexChooser {
     workers: u32,
     table: Vec<Option<Keys>>,
     latest: i128,
-    // By worker, as many as there can be.
+    // As many as there can be workers.
     trees: Vec<WorkerTrees>,
 }
 

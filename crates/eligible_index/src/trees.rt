@@ -69,7 +69,13 @@ impl WorkerTrees {
         ensures follow { Follow at table.now self.new }
         ensures exact { AreExact at table.now self.new.later self.new.eligible }
     {
-        renew(at, table, self.noted.numbers(), &mut self.later, &mut self.eligible);
+        renew(
+            at,
+            table,
+            self.noted.numbers(),
+            &mut self.later,
+            &mut self.eligible,
+        );
         self.noted.clear();
         move_over(at, &mut self.later, &mut self.eligible);
     }
@@ -101,13 +107,7 @@ impl WorkerTrees {
 }
 
 // Puts the heads of these tenants to where the table says.
-fn renew(
-    at: Turn,
-    table: &[Option<Keys>],
-    tenants: &[u32],
-    later: &mut Tree,
-    eligible: &mut Tree,
-)
+fn renew(at: Turn, table: &[Option<Keys>], tenants: &[u32], later: &mut Tree, eligible: &mut Tree)
     requires known { All (λ t. t < length table.now) tenants.now }
     requires sized { (length later.old ≡ length table.now) × (length eligible.old ≡ length table.now) }
     requires others { StandBut at table.now tenants.now later.old eligible.old }

@@ -28,7 +28,8 @@ pub fn hand_out<X: Chooser>(
         × HasMade (desk.now.lock.frame.submitters + desk.now.lock.frame.config.workers) submitters.old.items }
     requires room { (hands.old.items ≡ [])
         × (length submitters.old.items + length workers.old.items ≤ vec_capacity hands.old) }
-    ensures hands { AreHands rows.now desk.now.lock (length submitters.old.items) (length workers.old.items) hands.new.items }
+    ensures hands { AreHands rows.now desk.now.lock (length submitters.old.items) (length workers.old.items)
+        hands.new.items }
     ensures submitters { (submitters.new.items ≡ []) × (length submitters.old.items ≤ vec_capacity submitters.new) }
     ensures workers { (workers.new.items ≡ []) × (length workers.old.items ≤ vec_capacity workers.new) }
 {
@@ -75,7 +76,8 @@ fn give_work<X: Chooser>(
     requires tokens { AreWorkers desk.now.lock 0 workers.old.items }
     requires room { length hands.old.items + length workers.old.items ≤ vec_capacity hands.old }
     requires feeds { HoldsFrom (IsFeedOf rows.now desk.now.lock) 0 hands.old.items }
-    ensures hands { AreHands rows.now desk.now.lock (length hands.old.items) (length workers.old.items) hands.new.items }
+    ensures hands { AreHands rows.now desk.now.lock (length hands.old.items) (length workers.old.items)
+        hands.new.items }
     ensures workers { (workers.new.items ≡ []) × (length workers.old.items ≤ vec_capacity workers.new) }
 {
     while !workers.is_empty() {

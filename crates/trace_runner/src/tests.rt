@@ -4,12 +4,14 @@ ghost use Rattle.std.specs.Prelude.{◌<◌};
 use crate::fault::SimFault;
 use crate::needed::needed;
 use crate::runner::simulate;
+use eligible_index::index::IndexChooser;
 use fq_model::config::{Estimator, Policy};
 use fq_model::event::{Act, Entry};
 use fq_model::trace::RunOptions;
 use rival_policies::plain::PlainChooser;
 use sched_state::Scheduler;
 use std::test::Fail;
+use trace_reader::generating::generate;
 use trace_reader::reading::read;
 
 fn submit(who: u32, moment: u64, request: u32, tenant: u32, kind: u32, declared: u64) -> Entry {
@@ -156,5 +158,22 @@ fn a_history_may_be_too_long(rt: HostRuntime) -> Result<(), Fail> {
         options,
     );
     assert_eq!(rt; outcome.err(), Some(SimFault::TooManyEntries(5000003)));
+    Ok(())
+}
+
+// Which chooser serves is not seen in a history.
+#[test]
+fn trees_choose_as_the_scan(rt: HostRuntime) -> Result<(), Fail> {
+    let trace = generate(rt.alloc(), 7, 64, 20000)?;
+    let policies = [Policy::Wfq, Policy::Wf2q, Policy::Msf2q, Policy::TwoDfq];
+    for policy in policies {
+        let options = RunOptions {
+            policy,
+            ..DEFAULTS
+        };
+        let plain: Scheduler<u64, PlainChooser> = simulate(rt.alloc(), &trace, options)?;
+        let index: Scheduler<u64, IndexChooser> = simulate(rt.alloc(), &trace, options)?;
+        assert_eq!(rt; index.past(), plain.past());
+    }
     Ok(())
 }

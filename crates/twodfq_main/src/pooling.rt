@@ -12,10 +12,10 @@ ghost use Rattle.twodfq_main.specs.Stops.{IsPoolStop};
 use crate::reporting::history_text;
 use crate::simulation::{entries_stop, fault_stop};
 use crate::stop::Stop;
+use eligible_index::index::IndexChooser;
 use fq_io::Clock;
 use fq_model::command::HistoryPrint;
 use fq_model::trace::RunOptions;
-use rival_policies::plain::PlainChooser;
 use sched_state::Scheduler;
 use std::alloc::Global;
 use std::sync::Wait;
@@ -64,7 +64,7 @@ fn pool_text<T: Wait + Threads + Sync, K: Clock + Sync>(
     ensures { MatchResult result (λ text. IsPoolOutput (K.tells clock.now) trace.now options slot what text.items)
         (IsPoolStop (K.tells clock.now) trace.now options slot what) }
 {
-    let served: Result<Scheduler<u64, PlainChooser>, PoolFault> = serve(
+    let served: Result<Scheduler<u64, IndexChooser>, PoolFault> = serve(
         rt, alloc, trace, options, clock,
     );
     match served {

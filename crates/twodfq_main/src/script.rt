@@ -13,6 +13,7 @@ ghost use Rattle.twodfq_main.specs.Stops.{IsFaultStop};
 
 use crate::serve::{Served, serve};
 use crate::stop::Stop;
+use eligible_index::index::IndexChooser;
 use fq_model::command::ScriptPrint;
 use fq_model::fault::ScriptKind;
 use journal_text::calls::read_script;
@@ -34,7 +35,7 @@ pub fn served_text(alloc: Global, what: ScriptPrint, input: &[u8]) -> Result<Vec
         Err(fault) => return Err(fault_stop(alloc, fault)),
     };
     let (config, tenants, kinds, calls) = script.into_parts();
-    let served = serve(alloc, config, calls.as_slice())?;
+    let served: Served<IndexChooser> = serve(alloc, config, calls.as_slice())?;
     let text = printed(alloc, what, &served, &tenants, &kinds)?;
     Ok(text)
 }
@@ -43,7 +44,7 @@ pub fn served_text(alloc: Global, what: ScriptPrint, input: &[u8]) -> Result<Vec
 fn printed(
     alloc: Global,
     what: ScriptPrint,
-    served: &Served,
+    served: &Served<IndexChooser>,
     tenants: &Tenants,
     kinds: &Kinds,
 ) -> Result<Vec<u8>, NoMemory>

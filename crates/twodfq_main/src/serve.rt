@@ -6,19 +6,23 @@ ghost use Rattle.sched_state.specs.Replies.{AnswersCall, submit_reply, take_repl
 
 use fq_model::config::Checked;
 use fq_model::event::{Call, Cause, Reply};
-use rival_policies::plain::PlainChooser;
+use rival_policies::chooser::Chooser;
 use sched_state::{AlreadyClosed, NoMemory, Refused, Scheduler, Taken};
 use std::alloc::Global;
 
 /// The replies to the calls of a script, and the scheduler after them.
 #[derive(Drop)]
-pub struct Served {
+pub struct Served<X: Chooser> {
     pub replies: Vec<Reply>,
-    pub scheduler: Scheduler<u64, PlainChooser>,
+    pub scheduler: Scheduler<u64, X>,
 }
 
 /// Makes the calls in order on a scheduler that is opened for them.
-pub fn serve(alloc: Global, config: Checked, calls: &[Call]) -> Result<Served, NoMemory>
+pub fn serve<X: Chooser + Drop>(
+    alloc: Global,
+    config: Checked,
+    calls: &[Call],
+) -> Result<Served<X>, NoMemory>
     ensures outcome { IfOk result (λ s. Outcome config calls.now s.replies.items (history_of s.scheduler.past)) }
     ensures same { IfOk result (λ s. s.scheduler.config ≡ config) }
 {
@@ -31,7 +35,7 @@ pub fn serve(alloc: Global, config: Checked, calls: &[Call]) -> Result<Served, N
 }
 
 /// What the scheduler answers to a call, whose label is the job of what is submitted.
-pub fn answer(scheduler: &mut Scheduler<u64, PlainChooser>, call: Call) -> Reply
+pub fn answer<X: Chooser>(scheduler: &mut Scheduler<u64, X>, call: Call) -> Reply
     ensures { AnswersCall scheduler.old call result scheduler.new }
 {
     match call {

@@ -12,10 +12,10 @@ ghost use Rattle.twodfq_main.specs.Stops.{IsTraceFaultStop, IsEntriesStop, IsSim
 
 use crate::reporting::history_text;
 use crate::stop::Stop;
+use eligible_index::index::IndexChooser;
 use fq_model::command::HistoryPrint;
 use fq_model::fault::TraceKind;
 use fq_model::trace::RunOptions;
-use rival_policies::plain::PlainChooser;
 use sched_state::Scheduler;
 use std::alloc::{AllocError, Global};
 use trace_reader::fault::{NoMemory, TraceFault};
@@ -58,7 +58,7 @@ pub fn simulated_text(
     ensures { MatchResult result (λ text. IsSimulatedOutput trace.now options slot what text.items)
         (IsSimulationStop trace.now options slot what) }
 {
-    let simulated: Result<Scheduler<u64, PlainChooser>, SimFault> = simulate(alloc, trace, options);
+    let simulated: Result<Scheduler<u64, IndexChooser>, SimFault> = simulate(alloc, trace, options);
     match simulated {
         Ok(scheduler) => {
             history_text(

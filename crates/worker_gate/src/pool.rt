@@ -39,7 +39,8 @@ fn run<J: Job + Drop, X: Chooser, G: Gate<J>, K: Clock, F: Cost, R: Wait>(
     rule: &CostRule<F>,
 )
     requires { IsHandOf desk.now.lock hand.old }
-    ensures { HandDid J.label_of desk.now.lock (G.course gate.now) (F.cost_of rule.now) (K.tells clock.now) hand.old hand.new }
+    ensures { HandDid J.label_of desk.now.lock (G.course gate.now) (F.cost_of rule.now) (K.tells clock.now)
+        hand.old hand.new }
 {
     match hand {
         Hand::Feed {

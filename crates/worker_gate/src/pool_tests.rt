@@ -12,10 +12,10 @@ use crate::gate::{Gate, Slice};
 use crate::pool::{Hand, pool};
 use crate::rows::{Fed, Row};
 use desk::{Desk, Submitter, Worker};
+use eligible_index::index::IndexChooser;
 use fq_io::FixedClock;
 use fq_model::config::{Checked, Config, Estimator, Policy, Weights};
 use fq_model::event::{Act, Cause};
-use rival_policies::plain::PlainChooser;
 use sched_state::Scheduler;
 use std::alloc::Global;
 use std::collections::VecDeque;
@@ -27,7 +27,7 @@ use std::test::Fail;
 use std::thread;
 use std::thread::{Threads, join_mut};
 
-type PlainDesk = Desk<u64, PlainChooser>;
+type IndexDesk = Desk<u64, IndexChooser>;
 
 // Job 0 ends once job 1 has begun, or is marked where that takes too many turns. Each other job ends at once.
 #[derive(Drop)]
@@ -90,13 +90,13 @@ fn two_workers(alloc: Global) -> Result<Checked, Fail>
 fn opened(
     alloc: Global,
     config: Checked,
-) -> Option<(PlainDesk, Submitter, Submitter, Worker, Worker)>
+) -> Option<(IndexDesk, Submitter, Submitter, Worker, Worker)>
     requires { config.workers ≡ 2 }
     ensures zero { IfSome result (λ r. IsOf r.0.lock r.1.pass × (r.1.pass.number ≡ 0)) }
     ensures one { IfSome result (λ r. IsOf r.0.lock r.2.pass) }
     ensures workers { IfSome result (λ r. IsOf r.0.lock r.3.pass × IsOf r.0.lock r.4.pass) }
 {
-    match PlainDesk::open(alloc, config, 2) {
+    match IndexDesk::open(alloc, config, 2) {
         Err(_) => None,
         Ok((desk, mut submitters, mut workers)) => {
             let one = submitters.pop().unwrap();
@@ -138,7 +138,7 @@ enum Aside {
 fn step_aside<R: Wait>(
     rt: &R,
     alloc: Global,
-    desk: &PlainDesk,
+    desk: &IndexDesk,
     who: &mut Submitter,
     total: u32,
     aside: Aside,
@@ -166,7 +166,7 @@ fn step_aside<R: Wait>(
 // The hands of a pool do their parts.
 fn serve<R: Threads + Wait + Sync>(
     rt: &R,
-    desk: &PlainDesk,
+    desk: &IndexDesk,
     gate: &Meeting,
     hands: &mut [Hand<u64>],
 )
@@ -181,7 +181,7 @@ fn serve<R: Threads + Wait + Sync>(
 fn side_by_side<R: Threads + Wait + Sync>(
     rt: &R,
     alloc: Global,
-    desk: &PlainDesk,
+    desk: &IndexDesk,
     who: &mut Submitter,
     total: u32,
     aside: Aside,
@@ -209,12 +209,12 @@ fn side_by_side<R: Threads + Wait + Sync>(
 fn ended(
     rt: &impl Abort,
     alloc: Global,
-    desk: PlainDesk,
+    desk: IndexDesk,
     zero: Submitter,
     one: Submitter,
     first: Worker,
     second: Worker,
-) -> Result<Scheduler<u64, PlainChooser>, Fail>
+) -> Result<Scheduler<u64, IndexChooser>, Fail>
     requires zero { IsOf desk.lock zero.pass × (zero.pass.number ≡ 0) }
     requires one { IsOf desk.lock one.pass }
     requires workers { IsOf desk.lock first.pass × IsOf desk.lock second.pass }
@@ -243,7 +243,7 @@ fn ended(
 // The scheduler of a desk, which row of submitter 0 was refused, and which rows of it were left.
 #[derive(Drop)]
 struct End {
-    scheduler: Scheduler<u64, PlainChooser>,
+    scheduler: Scheduler<u64, IndexChooser>,
     stopped: Option<(Row<u64>, Cause)>,
     rest: VecDeque<Row<u64>>,
 }

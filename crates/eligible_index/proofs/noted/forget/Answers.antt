@@ -1,4 +1,4 @@
-use Rattle.std.proofs.Common.{refl, ap, sym, ◌∙◌, length, false, replicate, ℕ, get_or}
+use Rattle.std.proofs.Common.{refl, ap, ◌∙◌, false, replicate}
 use Rattle.std.proofs.lemmas.List.{length-set, get_or_default}
 use Rattle.eligible_index.proofs.Notes.{after_first, after_next, after_last}
 use Rattle.eligible_index.proofs.noted.forget.Goals as goal

@@ -1,4 +1,4 @@
-use Rattle.std.proofs.Common.{ap, ◌∙◌, sym, subst, refl, length, get_or, Option, Some, None}
+use Rattle.std.proofs.Common.{◌∙◌, subst, None}
 use Rattle.std.proofs.lemmas.List.{length-set, get_or_read, get_or_default}
 use Rattle.eligible_index.specs.Trees.{Stands}
 use Rattle.eligible_index.proofs.Places.{stand_next}

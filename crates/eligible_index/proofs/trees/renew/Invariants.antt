@@ -1,4 +1,3 @@
-use Rattle.std.proofs.Common.{◌≡◌, length}
 use Rattle.eligible_index.specs.Trees.{SameSizes}
 use Rattle.eligible_index.proofs.Places.{StandTo}
 use Rattle.eligible_index.proofs.trees.renew.Given as goal

@@ -1,4 +1,4 @@
-use Rattle.std.proofs.Common.{ℕ, ◌<◌, ◌≡◌, ℤ, ◌≤ℤ◌, List, Option, Some, None, IfSome, IfNone, MatchOption, ap, sym, subst, ◌∙◌, arith, refl, get_or, length, set}
+use Rattle.std.proofs.Common.{ℕ, ◌<◌, ◌≡◌, ℤ, ◌≤ℤ◌, List, Option, Some, None, IfSome, IfNone, MatchOption, sym, subst, arith, refl, length, set}
 use Rattle.std.proofs.lemmas.List.{get_or_read, get_or-set_same}
 use Rattle.fq_model.specs.declared.config.Policy.{Policy}
 use Rattle.fq_model.specs.Keys.{HeadKeys, Turn, IsChoice}

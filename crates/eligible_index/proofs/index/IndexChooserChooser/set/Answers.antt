@@ -1,4 +1,4 @@
-use Rattle.std.proofs.Common.{◌∙◌, sym, subst, ap, IfSome, length, List}
+use Rattle.std.proofs.Common.{sym, subst, IfSome, List}
 use Rattle.rival_policies.specs.Tables.{IsNewTo}
 use Rattle.eligible_index.specs.Trees.{TreesView}
 use Rattle.eligible_index.specs.Index.{IndexView, AreNoted}

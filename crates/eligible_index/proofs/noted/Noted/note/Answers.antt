@@ -1,4 +1,4 @@
-use Rattle.std.proofs.Common.{ℕ, ◌<◌, ◌≡◌, Bool, List, false, get_or, length, arith, sym, subst, ◌∙◌}
+use Rattle.std.proofs.Common.{ℕ, ◌<◌, ◌≡◌, Bool, List, false, get_or, length, sym, subst, ◌∙◌}
 use Rattle.std.proofs.lemmas.List.{get_or_read}
 use Rattle.eligible_index.proofs.Notes.{room_for, keeps_more}
 use Rattle.eligible_index.proofs.noted.Noted.note.Goals as goal

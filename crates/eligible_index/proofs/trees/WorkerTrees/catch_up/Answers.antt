@@ -1,6 +1,5 @@
-use Rattle.std.proofs.Common.{ℕ, ◌≡◌, ◌<◌, ℤ, sym, subst, ap, ◌∙◌, length}
+use Rattle.std.proofs.Common.{sym, subst, ap, ◌∙◌, length}
 use Rattle.std.proofs.lemmas.List.{length-replicate}
-use Rattle.fq_model.specs.Keys.{Turn}
 use Rattle.eligible_index.specs.Trees.{Follow, AllStand, AreExact}
 use Rattle.eligible_index.proofs.Places.{stand_but, all_follow}
 use Rattle.eligible_index.proofs.trees.WorkerTrees.catch_up.Goals as goal
