@@ -5,3 +5,4 @@ pub mod Moves
 pub mod Rows
 pub mod Kept
 pub mod Choices
+pub mod Marks

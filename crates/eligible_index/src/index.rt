@@ -64,6 +64,9 @@ impl Chooser for IndexChooser {
     }
 
     fn set(&mut self, tenant: u32, keys: Option<Keys>) {
+        if self.table[tenant as usize] == keys {
+            return;
+        }
         self.table[tenant as usize] = keys;
         note_for_all(&mut self.trees, tenant);
     }

@@ -7,6 +7,7 @@
 
 pub mod index;
 mod keys;
+mod marked;
 mod noted;
 #[cfg(test)]
 mod tests;

@@ -3,6 +3,7 @@ ghost use Rattle.std.specs.Prelude.{◌≡◌, ◌<◌, ◌≤◌, All, IfOk, Ma
 ghost use Rattle.eligible_index.specs.Trees.{empty_trees, cleared, with_noted, Follow, AreExact, StandBut, AllStand, SameSizes, IsMovedOver, IsFirstIn, HaveNoKey};
 
 use crate::keys::{by_finish, is_due, keys_in_trees};
+use crate::marked::Marked;
 use crate::noted::Noted;
 use rival_policies::chooser::NoMemory;
 use rival_policies::turn::Turn;
@@ -15,8 +16,8 @@ use winner_tree::Tree;
 /// changed since the worker chose.
 #[derive(Drop)]
 pub struct WorkerTrees {
-    later: Tree,
-    eligible: Tree,
+    later: Marked,
+    eligible: Marked,
     noted: Noted,
 }
 
@@ -39,8 +40,8 @@ impl WorkerTrees {
         ensures { IfOk result (λ w. w ≡ empty_trees tenants) }
     {
         Ok(WorkerTrees {
-            later: open_tree(alloc, tenants)?,
-            eligible: open_tree(alloc, tenants)?,
+            later: Marked::open(alloc, tenants)?,
+            eligible: Marked::open(alloc, tenants)?,
             noted: Noted::open(alloc, tenants)?,
         })
     }
@@ -95,19 +96,19 @@ impl WorkerTrees {
     pub fn later(&self) -> &Tree
         ensures { result.now ≡ self.now.later }
     {
-        &self.later
+        self.later.tree()
     }
 
     /// The eligible heads, by finish, then by number.
     pub fn eligible(&self) -> &Tree
         ensures { result.now ≡ self.now.eligible }
     {
-        &self.eligible
+        self.eligible.tree()
     }
 }
 
 // Puts the heads of these tenants to where the table says.
-fn renew(at: Turn, table: &[Option<Keys>], tenants: &[u32], later: &mut Tree, eligible: &mut Tree)
+fn renew(at: Turn, table: &[Option<Keys>], tenants: &[u32], later: &mut Marked, eligible: &mut Marked)
     requires known { All (λ t. t < length table.now) tenants.now }
     requires sized { (length later.old ≡ length table.now) × (length eligible.old ≡ length table.now) }
     requires others { StandBut at table.now tenants.now later.old eligible.old }
@@ -122,7 +123,7 @@ fn renew(at: Turn, table: &[Option<Keys>], tenants: &[u32], later: &mut Tree, el
 }
 
 // Moves the heads that have become eligible over to the second tree.
-fn move_over(at: Turn, later: &mut Tree, eligible: &mut Tree)
+fn move_over(at: Turn, later: &mut Marked, eligible: &mut Marked)
     requires { length eligible.old ≡ length later.old }
     ensures same { SameSizes later.old eligible.old later.new eligible.new }
     ensures moved { IsMovedOver at later.old eligible.old later.new eligible.new }
@@ -137,20 +138,11 @@ fn move_over(at: Turn, later: &mut Tree, eligible: &mut Tree)
 }
 
 // Takes all keys out of a tree of so many leaves.
-fn clear(tree: &mut Tree, leaves: u32)
+fn clear(tree: &mut Marked, leaves: u32)
     requires { length tree.old ≡ leaves }
     ensures { tree.new ≡ replicate leaves None }
 {
     for leaf in 0..leaves {
         tree.set(leaf, None);
     }
-}
-
-// A tree with so many leaves, none of which has a key.
-fn open_tree(alloc: Global, leaves: u32) -> Result<Tree, NoMemory>
-    requires some { 1 ≤ leaves }
-    requires few { leaves ≤ 4096 }
-    ensures { IfOk result (λ t. t ≡ replicate leaves None) }
-{
-    Tree::open(alloc, leaves).map_err(|_| NoMemory)
 }
