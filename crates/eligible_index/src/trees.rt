@@ -108,7 +108,13 @@ impl WorkerTrees {
 }
 
 // Puts the heads of these tenants to where the table says.
-fn renew(at: Turn, table: &[Option<Keys>], tenants: &[u32], later: &mut Marked, eligible: &mut Marked)
+fn renew(
+    at: Turn,
+    table: &[Option<Keys>],
+    tenants: &[u32],
+    later: &mut Marked,
+    eligible: &mut Marked,
+)
     requires known { All (λ t. t < length table.now) tenants.now }
     requires sized { (length later.old ≡ length table.now) × (length eligible.old ≡ length table.now) }
     requires others { StandBut at table.now tenants.now later.old eligible.old }

@@ -167,10 +167,7 @@ fn trees_choose_as_the_scan(rt: HostRuntime) -> Result<(), Fail> {
     let trace = generate(rt.alloc(), 7, 64, 20000)?;
     let policies = [Policy::Wfq, Policy::Wf2q, Policy::Msf2q, Policy::TwoDfq];
     for policy in policies {
-        let options = RunOptions {
-            policy,
-            ..DEFAULTS
-        };
+        let options = RunOptions { policy, ..DEFAULTS };
         let plain: Scheduler<u64, PlainChooser> = simulate(rt.alloc(), &trace, options)?;
         let index: Scheduler<u64, IndexChooser> = simulate(rt.alloc(), &trace, options)?;
         assert_eq!(rt; index.past(), plain.past());

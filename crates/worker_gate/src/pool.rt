@@ -61,8 +61,8 @@ fn run<J: Job + Drop, X: Chooser, G: Gate<J>, K: Clock, F: Cost, R: Wait>(
     }
 }
 
-/// Each hand does its part in a thread of its own, and has its token back at the end. Where a thread cannot be started
-/// the caller does that part itself, one hand after another; so the submitters are to stand before the workers.
+/// Each hand does its part in a thread of its own, and has its token back at the end. Where threads cannot be started
+/// the caller does those parts itself, in the order of the hands; so the submitters are to stand before the workers.
 pub fn pool<
     J: Job + Drop + Send,
     X: Chooser + Send,
@@ -84,11 +84,14 @@ pub fn pool<
 {
     let threads = hands.len();
     if threads > 0 {
+        // Of the parts for which no thread can be started the last one is done first.
+        hands.reverse();
         thread::for_each_mut(
             rt,
             hands,
             threads,
             &|_, hand: &mut Hand<J>| { run(desk, rt, hand, gate, clock, rule) },
         );
+        hands.reverse();
     }
 }
