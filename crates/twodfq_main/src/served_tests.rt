@@ -1,5 +1,11 @@
 //! Worked scripts, with the replies that they get.
+use crate::serve::{Served, serve};
 use crate::tests::{SERVED, SERVED_REPLIES, Wanted, check, sink, source_of};
+use journal_text::calls::read_script;
+use journal_text::replies::replies_text;
+use rival_policies::chooser::Chooser;
+use rival_policies::plain::PlainChooser;
+use shared_order::chooser::SharedChooser;
 use std::alloc::Global;
 use std::process::Abort;
 use std::test::Fail;
@@ -10,6 +16,24 @@ const HEAD: &str =
 // The input is served, with these replies.
 fn answers(rt: &impl Abort, alloc: Global, input: &str, replies: &str) -> Result<(), Fail> {
     prints(rt, alloc, &["script"], input, replies)
+}
+
+// The input is served, with these replies, whichever chooser serves.
+fn each_answers(rt: &impl Abort, alloc: Global, input: &str, replies: &str) -> Result<(), Fail> {
+    answers(rt, alloc, input, replies)?;
+    let plain = replies_by::<PlainChooser>(alloc, input)?;
+    assert_eq!(rt; plain.as_slice(), replies.as_bytes());
+    let shared = replies_by::<SharedChooser>(alloc, input)?;
+    assert_eq!(rt; shared.as_slice(), replies.as_bytes());
+    Ok(())
+}
+
+// The replies to the calls of a script by a scheduler over this chooser.
+fn replies_by<X: Chooser + Drop>(alloc: Global, input: &str) -> Result<Vec<u8>, Fail> {
+    let script = read_script(alloc, input.as_bytes())?;
+    let (config, _tenants, _kinds, calls) = script.into_parts();
+    let served: Served<X> = serve(alloc, config, calls.as_slice())?;
+    Ok(replies_text(alloc, served.replies.as_slice())?)
 }
 
 // The input is served, and this is written.
@@ -72,7 +96,7 @@ fn staggers_workers_and_falls_back(rt: HostRuntime) -> Result<(), Fail> {
         take 10 0 0\ndone 10 1 0 1\ntake 10 1 0\ndone 10 2 0 1\ntake 10 2 0\ndone 10 3 0 1\n\
         take 10 3 0\ndone 10 4 0 1\ntake 10 4 0\ndone 10 5 0 1\n";
     let late = format!(in rt.alloc(); "{start}take 10 5 0\ndone 11 5 1 8\ntake 11 5 1\n")?;
-    answers(
+    each_answers(
         &rt,
         rt.alloc(),
         late.as_str(),
@@ -82,7 +106,7 @@ fn staggers_workers_and_falls_back(rt: HostRuntime) -> Result<(), Fail> {
         run 7 1 16\nok\nrun 1 8 2\n",
     )?;
     let fallback = format!(in rt.alloc(); "{start}take 10 5 0\ndone 10 5 0 1\ntake 10 5 0\n")?;
-    answers(
+    each_answers(
         &rt,
         rt.alloc(),
         fallback.as_str(),
@@ -99,7 +123,7 @@ fn gives_back_what_was_not_used(rt: HostRuntime) -> Result<(), Fail> {
     let input = "script 1\nconfig 1 2dfq pessimistic 990 100 10\ntenant a 1\ntenant b 2\nkind get\n\
         submit 0 0 0 0 1 1\nsubmit 0 0 0 0 1 2\ntake 10 0 0\nsubmit 1 0 1 0 1 3\ndone 10 3 0 3\n\
         take 10 3 0\ndone 10 993 0 990\nsubmit 1 993 1 0 1 4\ntake 10 993 0\n";
-    answers(
+    each_answers(
         &rt,
         rt.alloc(),
         input,
@@ -131,7 +155,7 @@ fn serves_under_each_policy(rt: HostRuntime) -> Result<(), Fail> {
         ("msf2q", BY_IDLE_TIME),
     ] {
         let input = format!(in rt.alloc(); "script 1\nconfig 1 {policy} {AFTER_A_REST}")?;
-        answers(&rt, rt.alloc(), input.as_str(), replies)?;
+        each_answers(&rt, rt.alloc(), input.as_str(), replies)?;
     }
     Ok(())
 }
