@@ -135,7 +135,7 @@ impl Block {
 fn longest_of(heads: &[Head]) -> i128
     ensures { result ≡ greatest_length heads.now }
 {
-    let mut longest = 0;
+    let mut longest: i128 = 0;
     for head in heads {
         longest = longest.max(head.len);
     }

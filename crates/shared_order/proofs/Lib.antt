@@ -1,0 +1,4 @@
+pub mod Lengths
+pub mod Sorting
+pub mod InBlock
+pub mod Places
