@@ -20,6 +20,9 @@ precedes_true a b h = grind (arith, ints)
 pub precedes_false : (a b : HeadView) → precedes a b ≡ false → ¬ HeadBefore a b
 precedes_false a b h = λ p. grind (arith, ints)
 
+pub precedes_back : (a b : HeadView) → HeadBefore a b → precedes a b ≡ true
+precedes_back a b h = grind (arith, ints)
+
 pub precedes_is : (a b : HeadView) (r : Bool) → AndBack (IsTrue r) (HeadBefore a b) → r ≡ precedes a b
 precedes_is a b true h = let p = h.0 refl in grind (arith, ints)
 precedes_is a b false h = elim (cases_Bool (precedes a b)) [
@@ -45,11 +48,11 @@ place P Q xs at le h = record {
 -- a sorted list is parted by where a head would stand
 pub parted : (h : HeadView) (xs : List HeadView) → IsSorted xs → IsPartitionedBy (λ y. precedes y h) xs
 parted h xs s i j d le lt e =
-    let b = precedes_true _ _ e in
+    let b = precedes_true (get_or xs j d) h e in
     elim (cases_order i j) [
       | inl same ↦ subst (λ i. precedes (get_or xs i d) h ≡ true) (sym same) e
       | inr o ↦ elim o [
-        | inl less ↦ ?
+        | inl less ↦ precedes_back (get_or xs i d) h (before_goes_on (get_or xs i d) (get_or xs j d) h (s i j d less lt) b)
         | inr more ↦ absurd (omega arith)
       ]
     ]
