@@ -2,5 +2,6 @@
 #![tactic(auto)]
 
 pub mod block;
+mod blocks;
 pub mod head;
 pub mod order;
