@@ -2,3 +2,4 @@ pub mod Lengths
 pub mod Sorting
 pub mod InBlock
 pub mod Places
+pub mod InRow

@@ -128,7 +128,7 @@ fn empty_blocks(alloc: Global, blocks: usize) -> Result<Vec<Block>, AllocError>
     ensures room { IfOk result (λ v. blocks ≤ vec_capacity v) }
 {
     let mut spare = Vec::with_capacity(alloc, blocks)?;
-    for _block in 0..blocks {
+    for _ in 0..blocks {
         spare.push_reserved(Block::open(alloc)?);
     }
     Ok(spare)
