@@ -1,5 +1,5 @@
 -- Heads in blocks.
-use Rattle.std.specs.Prelude.{ℕ, suc, ◌≡◌, ◌+◌, ◌<◌, ◌≤◌, List, [], ◌∷◌, ◌++◌, length, take, drop, slice_set, slice_index_or, ℤ}
+use Rattle.std.specs.Prelude.{ℕ, suc, ◌≡◌, ◌+◌, ◌-◌, ◌*◌, ◌<◌, ◌≤◌, List, [], ◌∷◌, ◌++◌, length, take, drop, slice_set, slice_index_or, ℤ}
 use Rattle.std.specs.List.{All, flat_map}
 use Rattle.shared_order.specs.declared.block.TheConstants.{BLOCK, HALF}
 use Rattle.shared_order.specs.Heads.{HeadView, HeadBefore, IsSorted, Gains, greatest_length}
@@ -45,6 +45,35 @@ with_joined blocks at = take at blocks ++ (block_at blocks at ++ block_at blocks
 pub record BlocksView : Type 0 where
   pub used : List (List HeadView)
   pub spare : ℕ
+
+abbrev pub block_count : BlocksView → ℕ
+block_count row = length row.used + row.spare
+
+-- how many heads always fit into so many blocks: two neighbours have more than half a block, so all but one have half of
+-- that on average
+abbrev pub room_in : ℕ → ℕ
+room_in blocks = 8 * (blocks - 1)
+
+-- the heads of the blocks before this one come before the head, and those of the blocks after it come after the head
+pub record IsBlockOf (head : HeadView) (blocks : List (List HeadView)) (at : ℕ) : Type 0 where
+  pub known : at < length blocks
+  pub before : All (λ other. HeadBefore other head) (all_heads (take at blocks))
+  pub after : All (HeadBefore head) (all_heads (drop (suc at) blocks))
+
+-- a block and the next one have at most half a block of heads together
+pub record AreSmall (blocks : List (List HeadView)) (at : ℕ) : Type 0 where
+  pub known : suc at < length blocks
+  pub small : length (block_at blocks at) + length (block_at blocks (suc at)) ≤ HALF
+
+-- with one head more in this block the blocks were as an order keeps them
+pub record IsThinned (blocks : List (List HeadView)) (at : ℕ) : Type 0 where
+  pub known : at < length blocks
+  pub sorted : IsSorted (all_heads blocks)
+  pub filled_before : NoneIsEmpty (take at blocks)
+  pub filled_after : NoneIsEmpty (drop (suc at) blocks)
+  pub fuller : List HeadView
+  pub one_more : length fuller ≡ suc (length (block_at blocks at))
+  pub dense : IsDense (take at blocks ++ fuller ∷ drop (suc at) blocks)
 
 -- what contracts see of an order: its heads, and how many it has room for
 pub record OrderView : Type 0 where
