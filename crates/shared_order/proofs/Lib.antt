@@ -3,3 +3,4 @@ pub mod Sorting
 pub mod InBlock
 pub mod Places
 pub mod InRow
+pub mod Rows
