@@ -4,3 +4,5 @@ pub mod InBlock
 pub mod Places
 pub mod InRow
 pub mod Rows
+pub mod Dense
+pub mod Settling

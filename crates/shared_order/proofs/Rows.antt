@@ -59,3 +59,11 @@ before_from h bs at b l e s n =
     let whole : IsSorted (all_heads (take at bs) ++ (block_at bs at ++ all_heads (drop (suc at) bs))) = rw (← heads_parts bs at l) s in
     before_list h (all_heads (take at bs)) (block_at bs at ++ all_heads (drop (suc at) bs)) whole
         (λ a. n (subst (All (HeadBefore h)) (sym e) (All-left (HeadBefore h) (block_at bs at) (all_heads (drop (suc at) bs)) a)))
+
+-- a block that was read in its row
+pub read_block : (bs us : List (List HeadView)) (at : ℕ) (r hs : List HeadView) → us ≡ bs → r ≡ get_or us at r → hs ≡ r → at < length bs → hs ≡ block_at bs at
+read_block bs us at r hs u e h l = h ∙ block_is bs at r l (e ∙ ap (λ x. get_or x at r) u)
+
+pub none_left : (xs : List HeadView) → length xs ≡ 0 → xs ≡ []
+none_left [] e = refl
+none_left (x ∷ xs) e = absurd (omega (arith, e))
