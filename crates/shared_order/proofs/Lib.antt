@@ -6,3 +6,4 @@ pub mod InRow
 pub mod Rows
 pub mod Dense
 pub mod Settling
+pub mod Splitting
