@@ -7,3 +7,4 @@ pub mod Rows
 pub mod Dense
 pub mod Settling
 pub mod Splitting
+pub mod Changes
