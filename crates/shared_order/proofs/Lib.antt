@@ -8,3 +8,4 @@ pub mod Dense
 pub mod Settling
 pub mod Splitting
 pub mod Changes
+pub mod Gaining

@@ -5,3 +5,5 @@ pub mod block;
 mod blocks;
 pub mod head;
 pub mod order;
+#[cfg(test)]
+mod order_tests;
