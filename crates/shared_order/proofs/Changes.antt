@@ -1,11 +1,11 @@
 -- What a head more or less leaves of an order.
-use Rattle.std.proofs.Common.{ℕ, zero, suc, ◌≡◌, ◌≢◌, ◌+◌, ◌-◌, ◌*◌, ◌<◌, ◌≤◌, ◌⊎◌, inl, inr, List, [], ◌∷◌, ◌++◌, length, get_or, set, take, drop, arith, refl, sym, ◌∙◌, ap, subst, length-append, append_assoc}
+use Rattle.std.proofs.Common.{ℕ, zero, suc, ◌≡◌, ◌<◌, inl, inr, List, [], ◌∷◌, ◌++◌, length, get_or, set, take, drop, arith, refl, sym, ◌∙◌, ap, subst, length-append, append_assoc}
 use Rattle.std.specs.List.{All, Contains}
-use Rattle.std.proofs.lemmas.List.{length-set, get_or-set_same, take-set, drop-set-lt, take-append-drop}
+use Rattle.std.proofs.lemmas.List.{length-set, take-set, drop-set-lt}
 use Rattle.std.proofs.lemmas.List.Elements.{All-nil, All-append, All-cons, All-take, All-drop, All-contains, Contains-append_cases}
 use Rattle.shared_order.specs.Heads.{HeadView, HeadBefore, IsSorted, Gains}
-use Rattle.shared_order.specs.Blocks.{all_heads, block_at, NoneIsEmpty, IsDense, IsBlockOf, IsThinned, HeadJoins, HeadLeaves, KeepsOrder}
-use Rattle.shared_order.proofs.Sorting.{sorted-split, sorted-join, sorted-nil, sorted-cons, sorted-between, sorted-without, All-left, All-right, not_itself}
+use Rattle.shared_order.specs.Blocks.{all_heads, block_at, IsDense, IsBlockOf, IsThinned, HeadJoins, HeadLeaves, KeepsOrder}
+use Rattle.shared_order.proofs.Sorting.{sorted-split, sorted-join, sorted-nil, sorted-cons, sorted-without, All-left, All-right, not_itself}
 use Rattle.shared_order.proofs.Dense.{dense-grown}
 use Rattle.shared_order.proofs.Rows.{heads-append, heads_parts, parts}
 

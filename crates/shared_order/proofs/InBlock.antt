@@ -1,17 +1,16 @@
 -- What the calls of a block leave.
-use Rattle.std.proofs.Common.{ℕ, zero, suc, ◌≡◌, ◌≢◌, ◌+◌, ◌-◌, ◌<◌, ◌≤◌, ◌≤ℤ◌, ℤ, List, [], ◌∷◌, ◌++◌, length, get_or, take, drop, ◌⊎◌, inl, inr, arith, refl, sym, ◌∙◌, ap, subst, length-append, append_assoc, Some, slice_get, length-take, length-drop}
-use Rattle.std.specs.List.{All, AllPairs, Contains}
+use Rattle.std.proofs.Common.{ℕ, suc, ◌≡◌, ◌≢◌, ◌+◌, ◌-◌, ◌<◌, ◌≤◌, ℤ, List, ◌∷◌, ◌++◌, length, take, drop, arith, sym, ◌∙◌, ap, subst, length-append, length-drop}
+use Rattle.std.specs.List.{All, Contains}
 use Rattle.std.specs.Int.{int_max}
-use Rattle.std.proofs.lemmas.Int.{ints, clamps}
 use Rattle.std.proofs.lemmas.List.{take-append-drop, take_all}
 use Rattle.shared_order.specs.Heads.{HeadView, HeadBefore, IsSorted, IsPlaceOf, Gains, greatest_length}
 use Rattle.shared_order.specs.Blocks.{KeepsBlock}
-use Rattle.shared_order.proofs.Lengths.{greatest-append, greatest-gains, greatest_low}
+use Rattle.shared_order.proofs.Lengths.{greatest-append, greatest-gains}
 use Rattle.std.specs.List.{insert, remove}
 use Rattle.std.proofs.lemmas.List.Edits.{length-insert, length-remove}
 use Rattle.std.proofs.lemmas.List.Elements.{All-drop}
 use Rattle.shared_order.proofs.Places.{found_at, around}
-use Rattle.shared_order.proofs.Sorting.{sorted-split, sorted-join, sorted-between, sorted-without, All-both, other_way}
+use Rattle.shared_order.proofs.Sorting.{sorted-split, sorted-between, sorted-without, All-both, other_way}
 
 pub absorbed : (xs ys zs : List HeadView) (m n capacity : ℕ) (k l r : ℤ) → zs ≡ xs ++ ys → KeepsBlock xs m k → KeepsBlock ys n l → IsSorted (xs ++ ys) → length xs + length ys ≤ 32 → m ≤ capacity → r ≡ int_max k l → KeepsBlock zs capacity r
 absorbed xs ys zs m n capacity k l r e p q s fit more h = record {

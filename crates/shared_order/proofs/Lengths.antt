@@ -1,5 +1,5 @@
 -- The greatest length of a head.
-use Rattle.std.proofs.Common.{◌≡◌, ◌≤ℤ◌, ℤ, pos, List, [], ◌∷◌, ◌++◌, arith, refl, sym, ◌∙◌, ap}
+use Rattle.std.proofs.Common.{◌≡◌, ◌≤ℤ◌, pos, List, [], ◌∷◌, ◌++◌, arith}
 use Rattle.std.specs.Int.{int_max}
 use Rattle.std.proofs.lemmas.Int.{ints, clamps}
 use Rattle.shared_order.specs.Heads.{HeadView, greatest_length}

@@ -1,12 +1,11 @@
 -- Where a head stands in a sorted list, or is to stand.
-use Rattle.std.proofs.Common.{ℕ, zero, suc, Bool, true, false, ◌≡◌, ◌≢◌, ◌+◌, ◌-◌, ◌<◌, ◌≤◌, ℤ, List, [], ◌∷◌, ◌++◌, length, get_or, take, drop, ◌⊎◌, inl, inr, ◌||◌, ◌&&◌, int_lt, int_eq, nat_lt, arith, refl, sym, ◌∙◌, ap, subst, length-take, length-drop}
+use Rattle.std.proofs.Common.{ℕ, suc, Bool, true, false, ◌≡◌, ◌+◌, ◌<◌, ◌≤◌, List, ◌∷◌, ◌++◌, length, get_or, take, drop, inl, inr, ◌||◌, ◌&&◌, int_lt, int_eq, nat_lt, arith, refl, sym, ◌∙◌, ap, subst, length-take, length-drop}
 use Rattle.std.specs.Bool.{IsTrue}
-use Rattle.std.specs.List.{All, AllWithin, Contains}
+use Rattle.std.specs.List.{All, Contains}
 use Rattle.std.specs.List.Sorted.{IsPartitionedBy, IsPartitionPoint}
-use Rattle.std.proofs.lemmas.Int.{ints, by_lt_z}
+use Rattle.std.proofs.lemmas.Int.{ints}
 use Rattle.std.proofs.lemmas.Bool.{cases_order, cases_Bool}
 use Rattle.std.proofs.lemmas.List.{get_or-take, get_or-drop, take-append-drop}
-use Rattle.std.proofs.lemmas.List.Elements.{All-nil, All-cons, All-head, All-tail, All-append, All-weaker, All-take, All-drop}
 use Rattle.shared_order.specs.Heads.{HeadView, HeadBefore, IsSorted, IsPlaceOf}
 use Rattle.std.proofs.Math.Seq.{drop-cons}
 use Rattle.shared_order.proofs.Sorting.{before_goes_on, not_itself, AndBack}

@@ -1,14 +1,14 @@
 -- Blocks in a row: their heads, and where a head stands to them.
-use Rattle.std.proofs.Common.{ℕ, zero, suc, ◌≡◌, ◌≢◌, ◌+◌, ◌-◌, ◌<◌, ◌≤◌, List, [], ◌∷◌, ◌++◌, length, get_or, set, take, drop, ◌⊎◌, inl, inr, arith, refl, sym, ◌∙◌, ap, subst, append_assoc, length-append}
-use Rattle.std.specs.List.{All, Contains, flat_map}
+use Rattle.std.proofs.Common.{ℕ, suc, ◌≡◌, ◌<◌, List, [], ◌∷◌, ◌++◌, length, get_or, take, drop, arith, refl, sym, ◌∙◌, ap, subst}
+use Rattle.std.specs.List.{All}
 use Rattle.std.proofs.lemmas.Int.{ints}
 use Rattle.std.proofs.lemmas.List.{take-append-drop, get_or_default}
 use Rattle.std.proofs.lemmas.List.Concat.{flat_map-append}
-use Rattle.std.proofs.lemmas.List.Elements.{All-nil, All-cons, All-head, All-tail, All-append, All-weaker, All-take, All-drop, All-get_or}
+use Rattle.std.proofs.lemmas.List.Elements.{All-nil, All-head, All-append, All-weaker}
 use Rattle.std.proofs.Math.Seq.{drop-cons}
-use Rattle.shared_order.specs.Heads.{HeadView, HeadBefore, IsSorted, Gains}
-use Rattle.shared_order.specs.Blocks.{all_heads, block_at, NoneIsEmpty, IsBlockOf}
-use Rattle.shared_order.proofs.Sorting.{before_goes_on, sorted-split, sorted-join, sorted-head, before_all, All-left, All-right, AllBefore}
+use Rattle.shared_order.specs.Heads.{HeadView, HeadBefore, IsSorted}
+use Rattle.shared_order.specs.Blocks.{all_heads, block_at, NoneIsEmpty}
+use Rattle.shared_order.proofs.Sorting.{before_goes_on, sorted-split, sorted-head, before_all, All-left, All-right}
 
 pub heads-append : (bs cs : List (List HeadView)) → all_heads (bs ++ cs) ≡ all_heads bs ++ all_heads cs
 heads-append bs cs = flat_map-append (λ b. b) bs cs

@@ -1,14 +1,14 @@
 -- What settling leaves of blocks of which one lost a head.
-use Rattle.std.proofs.Common.{ℕ, zero, suc, ◌≡◌, ◌≢◌, ◌+◌, ◌-◌, ◌*◌, ◌<◌, ◌≤◌, List, [], ◌∷◌, ◌++◌, length, get_or, take, drop, arith, ◌⊎◌, inl, inr, refl, sym, ◌∙◌, ap, subst, length-append, append_assoc, add-one, length-take, length-drop}
-use Rattle.std.specs.List.{All, remove}
-use Rattle.std.proofs.lemmas.List.{drop_all, take_more}
+use Rattle.std.proofs.Common.{ℕ, zero, suc, ◌≡◌, ◌+◌, ◌<◌, List, [], ◌∷◌, ◌++◌, length, take, drop, arith, ◌⊎◌, inl, inr, refl, sym, ◌∙◌, ap, subst, length-append, append_assoc, add-one, length-take, length-drop}
+use Rattle.std.specs.List.{remove}
+use Rattle.std.proofs.lemmas.List.{take_more}
 use Rattle.std.proofs.lemmas.List.Elements.{All-append, All-cons, All-same, All-take, All-drop}
 use Rattle.std.proofs.lemmas.Bool.{cases_lt}
 use Rattle.std.proofs.Math.Seq.{drop-cons}
 use Rattle.shared_order.specs.Heads.{HeadView, IsSorted}
-use Rattle.shared_order.specs.Blocks.{all_heads, block_at, NoneIsEmpty, IsDense, IsThinned, AreSmall, IsSmallPair, KeepsOrder, with_joined}
+use Rattle.shared_order.specs.Blocks.{all_heads, block_at, NoneIsEmpty, IsDense, IsThinned, IsSmallPair, KeepsOrder, with_joined}
 use Rattle.shared_order.proofs.Sorting.{sorted-split}
-use Rattle.shared_order.proofs.Dense.{dense-grown, dense-joined, dense-closed, dense-thinned, meets_last, meets_first, MeetsLast, MeetsFirst}
+use Rattle.shared_order.proofs.Dense.{dense-joined, dense-closed, dense-thinned, meets_last, meets_first, MeetsLast}
 use Rattle.shared_order.proofs.Rows.{heads-append, heads_parts, parts}
 
 -- ---- a block that has no heads now

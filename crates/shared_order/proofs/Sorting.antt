@@ -1,10 +1,10 @@
 -- Lists of heads in order, and what a head more or less leaves of them.
-use Rattle.std.proofs.Common.{ℕ, zero, suc, ◌≡◌, ◌≢◌, ◌+◌, ◌<◌, ◌≤◌, List, [], ◌∷◌, ◌++◌, length, get_or, ◌⊎◌, inl, inr, arith, refl, sym, ◌∙◌, ap, subst, length-append, append_assoc, Some, slice_get}
-use Rattle.std.specs.List.{All, AllPairs, Contains}
+use Rattle.std.proofs.Common.{ℕ, zero, suc, ◌≡◌, ◌≢◌, ◌<◌, List, [], ◌∷◌, ◌++◌, length, get_or, inl, inr, arith, sym, subst, Some, slice_get}
+use Rattle.std.specs.List.{All}
 use Rattle.std.proofs.lemmas.Int.{ints, by_lt_z}
 use Rattle.std.proofs.lemmas.Bool.{cases_order}
 use Rattle.std.proofs.lemmas.List.Elements.{All-nil, All-cons, All-head, All-tail, All-append, All-weaker}
-use Rattle.shared_order.specs.Heads.{HeadView, HeadBefore, IsSorted, Gains}
+use Rattle.shared_order.specs.Heads.{HeadView, HeadBefore, IsSorted}
 
 -- ---- the order of heads
 

@@ -1,11 +1,10 @@
 -- What a split leaves.
-use Rattle.std.proofs.Common.{ℕ, zero, suc, Bool, true, false, ◌≡◌, ◌≢◌, ◌+◌, ◌-◌, ◌*◌, ◌<◌, ◌≤◌, List, [], ◌∷◌, ◌++◌, length, get_or, take, drop, arith, refl, sym, ◌∙◌, ap, subst, length-append, append_assoc, length-take, length-drop}
+use Rattle.std.proofs.Common.{ℕ, zero, suc, ◌≡◌, ◌+◌, ◌-◌, ◌*◌, ◌<◌, List, [], ◌∷◌, ◌++◌, length, get_or, take, drop, arith, refl, sym, ◌∙◌, ap, append_assoc, length-take, length-drop}
 use Rattle.std.specs.List.{All}
 use Rattle.std.proofs.lemmas.List.{take-append-drop}
-use Rattle.std.proofs.lemmas.List.Elements.{All-nil, All-append, All-cons, All-same, All-take, All-drop}
-use Rattle.shared_order.specs.Heads.{HeadView, HeadBefore, IsSorted}
-use Rattle.shared_order.specs.Blocks.{all_heads, block_at, room_in, NoneIsEmpty, IsDense, IsBlockOf, KeepsOrder, with_halves}
-use Rattle.shared_order.proofs.Sorting.{sorted-split}
+use Rattle.std.proofs.lemmas.List.Elements.{All-append, All-cons, All-take, All-drop}
+use Rattle.shared_order.specs.Heads.{HeadView, HeadBefore}
+use Rattle.shared_order.specs.Blocks.{all_heads, block_at, IsDense, IsBlockOf, KeepsOrder, with_halves}
 use Rattle.shared_order.proofs.Dense.{dense-halved, dense-count}
 use Rattle.shared_order.proofs.Rows.{heads-append, heads_parts, parts, before_from, block_is}
 

@@ -1,5 +1,5 @@
-use Rattle.std.proofs.Common.{arith, ◌≡◌, ℤ, take, ◌+◌, get_or}
-use Rattle.std.proofs.lemmas.Int.{ints, clamps, to_z-of_z}
+use Rattle.std.proofs.Common.{arith, take}
+use Rattle.std.proofs.lemmas.Int.{to_z-of_z}
 use Rattle.std.proofs.lemmas.List.{take_more}
 use Rattle.shared_order.proofs.Lengths.{greatest-push}
 use Rattle.shared_order.proofs.block.longest_of.Goals as goal

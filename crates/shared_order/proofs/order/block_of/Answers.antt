@@ -1,4 +1,4 @@
-use Rattle.std.proofs.Common.{rules, arith, ◌≡◌, ◌+◌, ◌-◌, ◌/◌, ◌<◌, suc, ap, subst, drop, length}
+use Rattle.std.proofs.Common.{arith, ◌≡◌, ◌+◌, ◌-◌, ◌/◌, ◌<◌, suc, subst, drop, length}
 use Rattle.std.specs.List.{All}
 use Rattle.shared_order.specs.Heads.{HeadBefore}
 use Rattle.shared_order.specs.Blocks.{all_heads}

@@ -1,4 +1,4 @@
-use Rattle.std.proofs.Common.{arith, subst, add-one, ◌∙◌}
+use Rattle.std.proofs.Common.{arith, subst, add-one}
 use Rattle.shared_order.specs.Heads.{Gains}
 use Rattle.shared_order.proofs.Changes.{gains_length}
 use Rattle.shared_order.proofs.Gaining.{numbers_below, numbers_gain}

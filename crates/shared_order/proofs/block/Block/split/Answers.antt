@@ -1,5 +1,4 @@
-use Rattle.std.proofs.Common.{rules, arith, ◌≡◌, ◌-◌, [], length, take, drop, ◌∙◌, ap, length-drop, length-take}
-use Rattle.std.proofs.lemmas.Int.{to_z-of_z}
+use Rattle.std.proofs.Common.{rules, arith, ◌≡◌, ◌-◌, [], length, drop, ◌∙◌, ap, length-drop, length-take}
 use Rattle.std.specs.Result.{IsOk}
 use Rattle.shared_order.proofs.InBlock.{halved, rest_from}
 use Rattle.shared_order.proofs.block.Block.split.Goals as goal

@@ -1,4 +1,4 @@
-use Rattle.std.proofs.Common.{◌≢◌, ◌≡◌, sym, ◌∙◌, ap, subst}
+use Rattle.std.proofs.Common.{◌≢◌, sym, ◌∙◌, ap, subst}
 use Rattle.std.specs.List.{All}
 use Rattle.shared_order.specs.Heads.{Gains}
 use Rattle.shared_order.specs.Blocks.{all_heads}

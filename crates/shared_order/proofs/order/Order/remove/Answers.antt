@@ -1,7 +1,6 @@
-use Rattle.std.proofs.Common.{◌≡◌, sym, ◌∙◌, ap, subst}
+use Rattle.std.proofs.Common.{sym, ap, subst}
 use Rattle.std.specs.List.{Contains}
-use Rattle.shared_order.specs.Heads.{Gains}
-use Rattle.shared_order.specs.Blocks.{all_heads, IsBlockOf}
+use Rattle.shared_order.specs.Blocks.{IsBlockOf}
 use Rattle.shared_order.proofs.Changes.{in_block, leaves_thin, leaves_gains}
 use Rattle.shared_order.proofs.order.Order.remove.Goals as goal
 
