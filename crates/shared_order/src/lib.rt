@@ -1,0 +1,6 @@
+//! One order of heads for all workers.
+#![tactic(auto)]
+
+pub mod block;
+pub mod head;
+pub mod order;
