@@ -34,6 +34,13 @@ key_of policy s (negsuc m) i n lt low = absurd (omega (arith, ints, low))
 pub key_by_its_finish : KeyIsByFinish
 key_by_its_finish at k lt low = key_of at.policy k.start k.len at.worker at.workers lt low
 
+back_to : (F L : ℤ) → F ≡ (F -ℤ L) +ℤ L
+back_to F L = omega (arith, ints)
+
+-- the finish less the length and the stagger
+pub key_by_parts : (at : Turn) (F L : ℤ) → at.worker < at.workers → pos 0 ≤ℤ L → ((F -ℤ L) -ℤ stagger at.policy L at.worker at.workers) ≡ key_by_finish at F L
+key_by_parts at F L lt low = key_of at.policy (F -ℤ L) L at.worker at.workers lt low ∙ ap (λ z. z -ℤ pos (reach at.policy (unsigned_abs L) at.worker at.workers)) (sym (back_to F L))
+
 -- ---- products
 
 -- a whole number is at most a quotient where its product is at most the number divided

@@ -4,3 +4,4 @@
 pub mod block;
 pub mod head;
 pub mod order;
+pub mod search;
