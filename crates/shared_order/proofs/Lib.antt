@@ -1,2 +1,6 @@
+pub mod Lengths
+pub mod Sorting
+pub mod InBlock
+pub mod Places
 pub mod Pieces
 pub mod Searching

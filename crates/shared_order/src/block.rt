@@ -86,7 +86,7 @@ impl Block {
         ensures gains { Gains self.old head self.new }
         ensures sorted { IsSorted self.new }
     {
-        let at = self.heads.partition_point(|other| other.is_before(&head));
+        let at = place_of(&self.heads, &head);
         let _ = self.heads.insert(at, head);
         self.longest = self.longest.max(head.len);
     }
@@ -97,7 +97,7 @@ impl Block {
         ensures gains { Gains self.new head self.old }
         ensures sorted { IsSorted self.new }
     {
-        let at = self.heads.partition_point(|other| other.is_before(&head));
+        let at = place_of(&self.heads, &head);
         self.heads.remove(at);
         if head.len == self.longest {
             self.longest = longest_of(&self.heads);
@@ -131,11 +131,21 @@ impl Block {
     }
 }
 
+/// How many of these heads come before this one.
+fn place_of(heads: &[Head], head: &Head) -> usize
+    requires { IsSorted heads.now }
+    ensures within { result ≤ length heads.now }
+    ensures before { All (λ h. HeadBefore h head.now) (take result heads.now) }
+    ensures rest { All (λ h. ¬ HeadBefore h head.now) (drop result heads.now) }
+{
+    heads.partition_point(|other| other.is_before(head))
+}
+
 /// The greatest length of these heads, 0 where there is none.
 fn longest_of(heads: &[Head]) -> i128
     ensures { result ≡ greatest_length heads.now }
 {
-    let mut longest = 0;
+    let mut longest: i128 = 0;
     for head in heads {
         longest = longest.max(head.len);
     }
