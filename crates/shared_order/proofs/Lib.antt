@@ -4,3 +4,5 @@ pub mod InBlock
 pub mod Places
 pub mod Pieces
 pub mod Searching
+pub mod Mirroring
+pub mod Choosing

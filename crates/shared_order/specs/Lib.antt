@@ -1,3 +1,4 @@
 pub mod Heads
 pub mod Blocks
 pub mod Search
+pub mod Mirrors

@@ -2,6 +2,7 @@
 #![tactic(auto)]
 
 pub mod block;
+pub mod chooser;
 pub mod head;
 pub mod order;
 pub mod search;

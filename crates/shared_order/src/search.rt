@@ -5,6 +5,7 @@ ghost use Rattle.order_laws.specs.Reach.{key_by_finish, Reaches, IsInReach};
 ghost use Rattle.shared_order.specs.Heads.{IsSorted};
 ghost use Rattle.shared_order.specs.Blocks.{all_heads};
 ghost use Rattle.shared_order.specs.Search.{AreInRange, IsReached, IsSooner, IsFirstThat, IsLeast, TakesSoonest};
+ghost use Rattle.shared_order.specs.Mirrors.{IsChosen};
 
 use crate::block::Block;
 use crate::head::Head;
@@ -12,6 +13,20 @@ use fq_model::config::Policy;
 use fq_model::limits::{GREATEST_LENGTH, GREATEST_START};
 use rival_policies::turn::Turn;
 use vt_fixed::part;
+
+/// The head that is chosen: the first eligible one, or, where none is eligible, the one that becomes eligible soonest.
+pub fn choice(turn: Turn, blocks: &[Block]) -> Option<Head>
+    requires begun { pos 0 ≤ℤ turn.virtual_time }
+    requires sorted { IsSorted (all_heads blocks.now) }
+    requires in_range { AreInRange (all_heads blocks.now) }
+    ensures chosen { IfSome result (IsChosen turn (all_heads blocks.now)) }
+    ensures none { IfNone result (all_heads blocks.now ≡ []) }
+{
+    match first_eligible(turn, blocks) {
+        Some(head) => Some(head),
+        None => soonest(turn, blocks),
+    }
+}
 
 /// The eligible head that comes first in the order.
 ///
