@@ -6,3 +6,4 @@ pub mod Pieces
 pub mod Searching
 pub mod Mirroring
 pub mod Choosing
+pub mod InRow

@@ -175,11 +175,11 @@ taken_out table heads new t None m within is e = subst (Mirrors (slice_set table
 taken_out table heads new t (Some k) m within is g = out_some table heads new t k m within is g
 
 -- there is room for a head of the tenant now
-pub has_room : (table : Table) (heads : List HeadView) (t : ℕ) (keys : Option HeadKeys) → Mirrors (slice_set table t None) heads → t < length table → IfSome keys (λ k. length heads < length table)
-has_room table heads t None m within = tt
-has_room table heads t (Some k) m within =
+pub has_room : (table : Table) (heads : List HeadView) (t : ℕ) (keys : Option HeadKeys) (room : ℕ) → Mirrors (slice_set table t None) heads → t < length table → length table ≤ room → IfSome keys (λ k. length heads < room)
+has_room table heads t None room m within enough = tt
+has_room table heads t (Some k) room m within enough =
     let less = count_less (slice_set table t None) t k (omega (arith, within, length-set table t None)) (none_there table t within) in
-    omega (arith, m.counted, less, length-set table t None)
+    omega (arith, m.counted, less, length-set table t None, enough)
 
 -- and the requests of the others are not its own
 pub new_to_heads : (table : Table) (heads : List HeadView) (t : ℕ) (keys : Option HeadKeys) → Mirrors (slice_set table t None) heads → t < length table → IfSome keys (IsNewTo table t) → IfSome keys (λ k. All (λ (h : HeadView). h.request ≢ k.request) heads)
@@ -252,10 +252,10 @@ opened_mirrors n = record {
   in_range = All-nil (λ (h : HeadView). (pos 0 ≤ℤ h.len) × (h.len ≤ℤ GREATEST_LENGTH));
 }
 
-pub opened_keeps : (n : ℕ) (table : Table) (order : OrderView) → table ≡ replicate n None → order ≡ record { heads = []; most = n } → KeepsChooser table order (pos 0)
-opened_keeps n table order is_table is_order = subst (λ (t : Table). KeepsChooser t order (pos 0)) (sym is_table) (subst (λ (o : OrderView). KeepsChooser (opened_table n) o (pos 0)) (sym is_order) (record {
+pub opened_keeps : (n : ℕ) (table : Table) (order : OrderView) → table ≡ replicate n None → order.heads ≡ [] → n ≤ order.room → KeepsChooser table order (pos 0)
+opened_keeps n table order is_table no_heads room = subst (λ (t : Table). KeepsChooser t order (pos 0)) (sym is_table) (record {
   differ = opened_differ n;
-  mirrors = opened_mirrors n;
-  room = sym (length-replicate n None);
+  mirrors = subst (Mirrors (opened_table n)) (sym no_heads) (opened_mirrors n);
+  room = simp length-replicate room;
   begun = omega (arith, ints);
-}))
+})

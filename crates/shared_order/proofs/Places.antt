@@ -7,8 +7,9 @@ use Rattle.std.proofs.lemmas.Int.{ints, by_lt_z}
 use Rattle.std.proofs.lemmas.Bool.{cases_order, cases_Bool}
 use Rattle.std.proofs.lemmas.List.{get_or-take, get_or-drop, take-append-drop}
 use Rattle.std.proofs.lemmas.List.Elements.{All-nil, All-cons, All-head, All-tail, All-append, All-weaker, All-take, All-drop}
-use Rattle.shared_order.specs.Heads.{HeadView, HeadBefore, IsSorted, Gains}
-use Rattle.shared_order.proofs.Sorting.{before_goes_on, AndBack}
+use Rattle.shared_order.specs.Heads.{HeadView, HeadBefore, IsSorted, IsPlaceOf}
+use Rattle.std.proofs.Math.Seq.{drop-cons}
+use Rattle.shared_order.proofs.Sorting.{before_goes_on, not_itself, AndBack}
 
 -- the test of the order
 abbrev pub precedes : HeadView → HeadView → Bool
@@ -56,3 +57,30 @@ parted h xs s i j d le lt e =
         | inr more ↦ absurd (omega arith)
       ]
     ]
+
+-- a head that stands in the list stands there
+pub found : (h : HeadView) (xs : List HeadView) (at : ℕ) → IsSorted xs → IsPlaceOf h xs at → Contains xs h → (at < length xs) × (get_or xs at h ≡ h)
+found h xs at s p (k, l, e) =
+    let n = length-take at xs in
+    let m = length-drop at xs in
+    elim (cases_order k at) [
+      | inl same ↦ (omega arith, subst (λ i. get_or xs i h ≡ h) same e)
+      | inr o ↦ elim o [
+        | inl less ↦
+            let b = p.before k h (omega arith) in
+            let c : HeadBefore (get_or xs k h) h = subst (λ y. HeadBefore y h) (get_or-take at xs k h less) b in
+            absurd (not_itself h (subst (λ y. HeadBefore y h) e c))
+        | inr more ↦
+            let b = s at k h more l in
+            let c : HeadBefore (get_or xs at h) h = subst (HeadBefore (get_or xs at h)) e b in
+            let d : HeadBefore (get_or (drop at xs) 0 h) h = subst (λ y. HeadBefore y h) (sym (get_or-drop at xs 0 h ∙ ap (λ i. get_or xs i h) (omega arith))) c in
+            absurd (p.rest 0 h (omega arith) d)
+      ]
+    ]
+
+-- what is around a place
+pub around : (h : HeadView) (xs : List HeadView) (at : ℕ) → at < length xs → get_or xs at h ≡ h → xs ≡ take at xs ++ h ∷ drop (suc at) xs
+around h xs at l e = sym (take-append-drop at xs) ∙ ap (λ t. take at xs ++ t) (drop-cons xs at h l ∙ ap (λ y. y ∷ drop (suc at) xs) e)
+
+pub found_at : (xs ds ns : List HeadView) (h : HeadView) (at : ℕ) → ds ≡ xs → xs ≡ ns → IsSorted xs → IsPlaceOf h ds at → Contains ns h → (at < length xs) × (get_or xs at h ≡ h)
+found_at xs ds ns h at d n s place there = found h xs at s (subst (λ l. IsPlaceOf h l at) d place) (subst (λ l. Contains l h) (sym n) there)

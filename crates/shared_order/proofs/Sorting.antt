@@ -14,6 +14,9 @@ before_goes_on a b c p q = grind (arith, ints)
 pub not_both_before : (a b : HeadView) → HeadBefore a b → ¬ HeadBefore b a
 not_both_before a b p = λ q. grind (arith, ints)
 
+pub not_itself : (a : HeadView) → ¬ HeadBefore a a
+not_itself a = λ p. grind (arith, ints)
+
 -- ---- All over two lists
 
 pub All-left : {X : Type 0} (P : X → Type 0) (xs ys : List X) → All P (xs ++ ys) → All P xs
@@ -89,3 +92,28 @@ after_first P h f (x ∷ xs) s e t =
     let there : HeadBefore h f → HeadBefore h x = λ b. subst (λ y. HeadBefore h y) (sym same) b in
     let back : HeadBefore h x → HeadBefore h f = λ b. subst (λ y. HeadBefore h y) same b in
     (λ p. both.0 (there (t.0 p)), λ a. t.1 (back (both.1 a)))
+
+-- ---- a head more, a head less
+
+pub All-both : {X : Type 0} (P Q R : X → Type 0) (xs : List X) → ((x : X) → P x → Q x → R x) → All P xs → All Q xs → All R xs
+All-both P Q R xs f p q = λ k d l. f (get_or xs k d) (p k d l) (q k d l)
+
+pub other_way : (y h : HeadView) → ¬ HeadBefore y h → y.request ≢ h.request → HeadBefore h y
+other_way y h n ne = by_lt_z h.finish y.finish (λ l. inl l) (λ l. by_lt_z y.finish h.finish (λ m. absurd (n (inl m))) (λ m.
+    let e : h.finish ≡ y.finish = omega (arith, ints) in
+    elim (cases_order h.request y.request) [
+      | inl same ↦ absurd (ne (sym same))
+      | inr o ↦ elim o [ inl less ↦ inr (e, less) | inr more ↦ absurd (n (inr (sym e, more))) ]
+    ]))
+
+pub sorted-between : (front back : List HeadView) (h : HeadView) → IsSorted (front ++ back) → All (λ y. HeadBefore y h) front → All (HeadBefore h) back → IsSorted (front ++ h ∷ back)
+sorted-between front back h s p q =
+    let parts = sorted-split front back s in
+    sorted-join front (h ∷ back) parts.first (sorted-cons h back q parts.second)
+        (All-both (λ y. HeadBefore y h) (λ y. All (HeadBefore y) back) (λ y. All (HeadBefore y) (h ∷ back)) front (λ y a b. All-cons (HeadBefore y) h back a b) p parts.across)
+
+pub sorted-without : (front back : List HeadView) (h : HeadView) → IsSorted (front ++ h ∷ back) → IsSorted (front ++ back)
+sorted-without front back h s =
+    let parts = sorted-split front (h ∷ back) s in
+    sorted-join front back parts.first (sorted-tail h back parts.second)
+        (All-weaker (λ y. All (HeadBefore y) (h ∷ back)) (λ y. All (HeadBefore y) back) (λ y a. All-tail (HeadBefore y) h back a) front parts.across)

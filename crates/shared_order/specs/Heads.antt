@@ -1,6 +1,6 @@
 -- Heads, and lists of them in order.
-use Rattle.std.specs.Prelude.{ℕ, ◌≡◌, ◌<◌, List, [], ◌∷◌, ◌++◌, ℤ, pos, ◌<ℤ◌, ◌⊎◌}
-use Rattle.std.specs.List.{AllPairs}
+use Rattle.std.specs.Prelude.{ℕ, ◌≡◌, ◌<◌, ◌≤◌, length, take, drop, List, [], ◌∷◌, ◌++◌, ℤ, pos, ◌<ℤ◌, ◌⊎◌}
+use Rattle.std.specs.List.{All, AllPairs}
 use Rattle.std.specs.Int.{int_max}
 use Rattle.fq_model.specs.Keys.{HeadKeys, finish}
 
@@ -34,3 +34,9 @@ pub record Gains (old : List HeadView) (head : HeadView) (new : List HeadView) :
   pub back : List HeadView
   pub before : old ≡ front ++ back
   pub after : new ≡ front ++ head ∷ back
+
+-- so many heads of the list come before this one, and they are its first
+pub record IsPlaceOf (head : HeadView) (heads : List HeadView) (place : ℕ) : Type 0 where
+  pub within : place ≤ length heads
+  pub before : All (λ other. HeadBefore other head) (take place heads)
+  pub rest : All (λ other. ¬ HeadBefore other head) (drop place heads)

@@ -1,5 +1,5 @@
 -- An order of the heads whose keys a table has, and the choice over it.
-use Rattle.std.specs.Prelude.{ℕ, ◌≡◌, ◌≢◌, ◌⊎◌, List, Option, is_some, length, ℤ, pos, ◌-ℤ◌, ◌≤ℤ◌}
+use Rattle.std.specs.Prelude.{ℕ, ◌≡◌, ◌≢◌, ◌⊎◌, List, Option, is_some, length, ◌≤◌, ℤ, pos, ◌-ℤ◌, ◌≤ℤ◌}
 use Rattle.std.specs.List.{All, AllPairs, Contains, count_by}
 use Rattle.fq_model.specs.Keys.{HeadKeys, Turn}
 use Rattle.rival_policies.specs.Tables.{Table, Has, RequestsDiffer}
@@ -23,7 +23,7 @@ pub record Mirrors (table : Table) (heads : List HeadView) : Type 0 where
 pub record KeepsChooser (table : Table) (order : OrderView) (latest : ℤ) : Type 0 where
   pub differ : RequestsDiffer table
   pub mirrors : Mirrors table order.heads
-  pub room : order.most ≡ length table
+  pub room : length table ≤ order.room
   pub begun : pos 0 ≤ℤ latest
 
 -- the head is the first eligible one, or, where none is eligible, the one that becomes eligible soonest

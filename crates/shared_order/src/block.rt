@@ -1,7 +1,8 @@
 //! A block of heads.
 ghost use Rattle.std.specs.Prelude.{◌≡◌, ◌≢◌, ◌≤◌, ◌<◌, ◌+◌, ◌++◌, ◌↔◌, [], IfOk, IfSome, IsTrue, length, take, drop, slice_get};
+ghost use Rattle.std.specs.Int.{int_max};
 ghost use Rattle.std.specs.List.{All, Contains};
-ghost use Rattle.shared_order.specs.Heads.{HeadBefore, IsSorted, Gains, greatest_length};
+ghost use Rattle.shared_order.specs.Heads.{HeadBefore, IsSorted, IsPlaceOf, Gains, greatest_length};
 
 use crate::head::Head;
 use std::alloc::{AllocError, Global};
@@ -99,9 +100,7 @@ impl Block {
     {
         let at = place_of(&self.heads, &head);
         self.heads.remove(at);
-        if head.len == self.longest {
-            self.longest = longest_of(&self.heads);
-        }
+        self.longest = longest_without(&self.heads, head.len, self.longest);
     }
 
     /// Moves the second half of a full block into an empty one.
@@ -134,9 +133,7 @@ impl Block {
 /// How many of these heads come before this one.
 fn place_of(heads: &[Head], head: &Head) -> usize
     requires { IsSorted heads.now }
-    ensures within { result ≤ length heads.now }
-    ensures before { All (λ h. HeadBefore h head.now) (take result heads.now) }
-    ensures rest { All (λ h. ¬ HeadBefore h head.now) (drop result heads.now) }
+    ensures { IsPlaceOf head.now heads.now result }
 {
     heads.partition_point(|other| other.is_before(head))
 }
@@ -150,4 +147,16 @@ fn longest_of(heads: &[Head]) -> i128
         longest = longest.max(head.len);
     }
     longest
+}
+
+/// The greatest length of these heads, where it was `longest` with one more of this length.
+fn longest_without(heads: &[Head], len: i128, longest: i128) -> i128
+    requires { longest ≡ int_max (greatest_length heads.now) len }
+    ensures { result ≡ greatest_length heads.now }
+{
+    if len == longest {
+        longest_of(heads)
+    } else {
+        longest
+    }
 }

@@ -94,7 +94,7 @@ fn take_out(order: &mut Order, tenant: u32, keys: &Option<Keys>)
     requires { IfSome keys.now (λ k. Contains order.old.heads (head_of tenant k)) }
     ensures heads { MatchOption keys.now (order.new.heads ≡ order.old.heads)
         (λ k. Gains order.new.heads (head_of tenant k) order.old.heads) }
-    ensures most { order.new.most ≡ order.old.most }
+    ensures room { order.new.room ≡ order.old.room }
 {
     if let Some(keys) = keys {
         order.remove(Head::of(tenant, *keys));
@@ -103,11 +103,11 @@ fn take_out(order: &mut Order, tenant: u32, keys: &Option<Keys>)
 
 // Puts in the head of a tenant that has these keys, if it has any.
 fn put_in(order: &mut Order, tenant: u32, keys: &Option<Keys>)
-    requires room { IfSome keys.now (λ k. length order.old.heads < order.old.most) }
+    requires room { IfSome keys.now (λ k. length order.old.heads < order.old.room) }
     requires new_request { IfSome keys.now (λ k. All (λ h. h.request ≢ k.request) order.old.heads) }
     ensures heads { MatchOption keys.now (order.new.heads ≡ order.old.heads)
         (λ k. Gains order.old.heads (head_of tenant k) order.new.heads) }
-    ensures most { order.new.most ≡ order.old.most }
+    ensures room { order.new.room ≡ order.old.room }
     ensures in_range { IfSome keys.now (λ k. IsInRange k.start k.len) }
 {
     if let Some(keys) = keys {

@@ -2,6 +2,7 @@
 #![tactic(auto)]
 
 pub mod block;
+mod blocks;
 pub mod chooser;
 pub mod head;
 pub mod order;

@@ -1,46 +1,40 @@
 //! The order of all heads.
-ghost use Rattle.std.specs.Prelude.{◌≡◌, ◌≢◌, ◌≤◌, ◌<◌, [], IfOk, length};
+ghost use Rattle.std.specs.Prelude.{◌≡◌, ◌≢◌, ◌≤◌, ◌<◌, ◌+◌, ◌↔◌, [], IfOk, IsTrue, length};
 ghost use Rattle.std.specs.List.{All, Contains};
 ghost use Rattle.shared_order.specs.Heads.{IsSorted, Gains};
-ghost use Rattle.shared_order.specs.Blocks.{all_heads, NoneIsEmpty};
+ghost use Rattle.shared_order.specs.Blocks.{all_heads, block_at, block_count, room_in, NoneIsEmpty, IsBlockOf, AreSmall, IsThinned, KeepsOrder};
 
 use crate::block::{BLOCK, Block, HALF};
+use crate::blocks::Blocks;
 use crate::head::Head;
 use std::alloc::{AllocError, Global};
 use std::marker::Model;
 
-/// Heads by finish, then by number, in blocks. Contracts see them as one list, and how many there may be. No call
+/// Heads by finish, then by number, in blocks. Contracts see them as one list, and how many there is room for. No call
 /// after `open` takes memory.
 #[derive(Drop)]
 pub struct Order {
-    used: Vec<Block>,
-    spare: Vec<Block>,
-    most: u32,
+    blocks: Blocks,
 }
 
 impl Model for Order {
-    ghost use Rattle.shared_order.specs.Blocks.{OrderView, all_heads, KeepsOrder};
+    ghost use Rattle.shared_order.specs.Blocks.{OrderView, all_heads, block_count, room_in, KeepsOrder};
 
     ghost Value = { OrderView };
 
-    ghost view = { λ o. record { heads = all_heads o.used.items; most = o.most } };
+    ghost view = { λ o. record { heads = all_heads o.blocks.used; room = room_in (block_count o.blocks) } };
 
-    ghost invariant = { λ o. KeepsOrder o.used.items o.most };
+    ghost invariant = { λ o. KeepsOrder o.blocks.used };
 }
 
 impl Order {
-    /// An order that has no heads, and room for so many.
+    /// An order that has no heads, and room for so many at least.
     pub fn open(alloc: Global, most: u32) -> Result<Order, AllocError>
-        requires { most ≤ 4096 }
-        ensures { IfOk result (λ o. o ≡ record { heads = []; most = most }) }
+        ensures none { IfOk result (λ o. o.heads ≡ []) }
+        ensures room { IfOk result (λ o. most ≤ o.room) }
     {
-        let blocks = 2 * most as usize / (HALF + 1) + 2;
-        let used = Vec::with_capacity(alloc, blocks)?;
-        let mut spare = Vec::with_capacity(alloc, blocks)?;
-        for _ in 0..blocks {
-            spare.push_reserved(Block::open(alloc)?);
-        }
-        Ok(Order { used, spare, most })
+        let blocks = Blocks::open(alloc, most as usize / (HALF / 2) + 2)?;
+        Ok(Order { blocks })
     }
 
     /// The blocks in a row: each has heads, and they come before those of all later blocks.
@@ -50,65 +44,103 @@ impl Order {
         ensures filled { NoneIsEmpty result.now }
         ensures sorted { IsSorted self.now.heads }
     {
-        &self.used
+        self.blocks.used()
     }
 
     /// Puts in a head of a request that has none here.
     pub fn insert(&mut self, head: Head)
-        requires room { length self.old.heads < self.old.most }
+        requires room { length self.old.heads < self.old.room }
         requires new_request { All (λ h. h.request ≢ head.request) self.old.heads }
         ensures gains { Gains self.old.heads head self.new.heads }
-        ensures most { self.new.most ≡ self.old.most }
+        ensures room { self.new.room ≡ self.old.room }
     {
-        if self.used.is_empty() {
-            let block = self.spare.take_last();
-            self.used.push_reserved(block);
+        if self.blocks.used().is_empty() {
+            self.blocks.begin(head);
+            return;
         }
-        let at = block_for(&self.used, &head);
-        if self.used[at].heads().len() == BLOCK {
-            let mut next = self.spare.take_last();
-            self.used[at].split(&mut next);
-            let _ = self.used.insert(at + 1, next);
-            let at = block_for(&self.used, &head);
-            self.used[at].insert(head);
-        } else {
-            self.used[at].insert(head);
-        }
+        let at = room_at(&mut self.blocks, &head);
+        self.blocks.insert(at, head);
     }
 
     /// Takes out a head that stands here.
     pub fn remove(&mut self, head: Head)
         requires { Contains self.old.heads head }
         ensures gains { Gains self.new.heads head self.old.heads }
-        ensures most { self.new.most ≡ self.old.most }
+        ensures room { self.new.room ≡ self.old.room }
     {
-        let at = block_for(&self.used, &head);
-        self.used[at].remove(head);
-        if self.used[at].heads().is_empty() {
-            let block = self.used.remove(at);
-            self.spare.push_reserved(block);
-        } else if self.are_small(at) {
-            self.join(at);
-        } else if at > 0 && self.are_small(at - 1) {
-            self.join(at - 1);
-        }
-    }
-
-    fn are_small(&self, at: usize) -> bool {
-        at + 1 < self.used.len()
-            && self.used[at].heads().len() + self.used[at + 1].heads().len() <= HALF
-    }
-
-    fn join(&mut self, at: usize) {
-        let mut next = self.used.remove(at + 1);
-        self.used[at].absorb(&mut next);
-        self.spare.push_reserved(next);
+        let at = block_of(self.blocks.used(), &head);
+        self.blocks.remove(at, head);
+        settle(&mut self.blocks, at);
     }
 }
 
-/// Where the block stands that this head belongs to: the last that begins with it or a head before it, or the first.
-fn block_for(blocks: &[Block], head: &Head) -> usize {
-    blocks
-        .partition_point(|block| !block.is_after(head))
-        .saturating_sub(1)
+/// The block that a head belongs to, with room for it: where it is full it is split.
+fn room_at(blocks: &mut Blocks, head: &Head) -> usize
+    requires some { 0 < length blocks.old.used }
+    requires kept { KeepsOrder blocks.old.used }
+    requires room { length (all_heads blocks.old.used) < room_in (block_count blocks.old) }
+    ensures heads { all_heads blocks.new.used ≡ all_heads blocks.old.used }
+    ensures kept { KeepsOrder blocks.new.used }
+    ensures place { IsBlockOf head.now blocks.new.used result }
+    ensures room { length (block_at blocks.new.used result) < BLOCK }
+    ensures count { block_count blocks.new ≡ block_count blocks.old }
+{
+    let at = block_of(blocks.used(), head);
+    if blocks.used()[at].heads().len() < BLOCK {
+        return at;
+    }
+    blocks.split(at);
+    if blocks.used()[at + 1].is_after(head) {
+        at
+    } else {
+        at + 1
+    }
+}
+
+/// Joins the block that has lost a head with a neighbour where both are small now, or takes it out of use where it was
+/// its last head.
+fn settle(blocks: &mut Blocks, at: usize)
+    requires { IsThinned blocks.old.used at }
+    ensures heads { all_heads blocks.new.used ≡ all_heads blocks.old.used }
+    ensures kept { KeepsOrder blocks.new.used }
+    ensures count { block_count blocks.new ≡ block_count blocks.old }
+{
+    if blocks.used()[at].heads().is_empty() {
+        blocks.close(at);
+    } else if are_small(blocks.used(), at) {
+        blocks.join(at);
+    } else if at > 0 && are_small(blocks.used(), at - 1) {
+        blocks.join(at - 1);
+    }
+}
+
+/// Whether a block and the next one, if there is one, have at most half a block of heads together.
+fn are_small(blocks: &[Block], at: usize) -> bool
+    requires { at < length blocks.now }
+    ensures { IsTrue result ↔ AreSmall blocks.now at }
+{
+    if blocks.len() - at < 2 {
+        return false;
+    }
+    blocks[at].heads().len() + blocks[at + 1].heads().len() <= HALF
+}
+
+/// Where the block stands that a head belongs to: the last one that does not wholly come after it, or else the first.
+fn block_of(blocks: &[Block], head: &Head) -> usize
+    requires some { 0 < length blocks.now }
+    requires filled { NoneIsEmpty blocks.now }
+    requires sorted { IsSorted (all_heads blocks.now) }
+    ensures { IsBlockOf head.now blocks.now result }
+{
+    let mut low = 0;
+    let mut high = blocks.len();
+    'halve: while high - low > 1 {
+        let middle = low + (high - low) / 2;
+        if blocks[middle].is_after(head) {
+            high = middle;
+        } else {
+            low = middle;
+        }
+    }
+    low
 }

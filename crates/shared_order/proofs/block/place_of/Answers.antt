@@ -11,7 +11,7 @@ returns c =
     let point = IsPartitionPoint-from_clause (λ y. precedes y c.args.head.now) _ _ c.partition_point.ensures.partitioned part (λ a r q k. (precedes_is a.0.now c.args.head.now r (search rules), search rules)) in
     let at = place (λ y. precedes y c.args.head.now ≡ true) (λ y. precedes y c.args.head.now ≡ false) _ _ c.partition_point.ensures.bound point in
     record {
-      within = search rules;
+      within = c.partition_point.ensures.bound;
       before = All-weaker _ (λ h. HeadBefore h c.args.head.now) (λ y p. precedes_true y c.args.head.now p) _ at.front;
       rest = All-weaker _ (λ h. ¬ HeadBefore h c.args.head.now) (λ y p. precedes_false y c.args.head.now p) _ at.back;
     }

@@ -1,4 +1,4 @@
-use Rattle.std.proofs.Common.{◌≡◌, ◌<◌, ◌∙◌, sym, subst, ap, arith, length, IfSome, None, slice_set, length-set}
+use Rattle.std.proofs.Common.{◌<◌, ◌≤◌, sym, subst, ap, arith, length, IfSome, None, slice_set, length-set}
 use Rattle.rival_policies.specs.Tables.{ChooserView, Table, IsNewTo}
 use Rattle.shared_order.specs.Mirrors.{Mirrors}
 use Rattle.shared_order.proofs.Mirroring.{taken_out, has_room, new_to_heads, taken_in, differ_set}
@@ -12,8 +12,8 @@ between c = taken_out c.self.inside.table.items c.self.inside.order.heads c.take
 pub put_in-requires-clause-room : goal.put_in-requires-clause-room
 put_in-requires-clause-room c =
     let within : c.args.tenant < length c.self.inside.table.items = omega (arith, c.requires.tenant, ap (λ (x : ChooserView). x.setting.tenants) c.self.view_is) in
-    let most : c.take_out.new.order.most ≡ length c.self.inside.table.items = c.take_out.ensures.most ∙ c.self.invariant.room in
-    rw most (has_room c.self.inside.table.items c.take_out.new.order.heads c.args.tenant c.args.keys (between (goal.at.put_in-requires-clause-room c).After-take_out) within)
+    let room : length c.self.inside.table.items ≤ c.take_out.new.order.room = omega (arith, c.take_out.ensures.room, c.self.invariant.room) in
+    has_room c.self.inside.table.items c.take_out.new.order.heads c.args.tenant c.args.keys c.take_out.new.order.room (between (goal.at.put_in-requires-clause-room c).After-take_out) within room
 
 pub put_in-requires-clause-new_request : goal.put_in-requires-clause-new_request
 put_in-requires-clause-new_request c =
@@ -29,6 +29,6 @@ invariant_of-self c =
     record {
       differ = differ_set table c.args.tenant c.args.keys within c.self.invariant.differ new;
       mirrors = taken_in table c.take_out.new.order.heads c.put_in.new.order.heads c.args.tenant c.args.keys (between (goal.at.invariant_of-self c).After-take_out) within c.put_in.ensures.in_range c.put_in.ensures.heads;
-      room = c.put_in.ensures.most ∙ (c.take_out.ensures.most ∙ (c.self.invariant.room ∙ sym (length-set table c.args.tenant c.args.keys)));
+      room = omega (arith, c.put_in.ensures.room, c.take_out.ensures.room, c.self.invariant.room, length-set table c.args.tenant c.args.keys);
       begun = c.self.invariant.begun;
     }
