@@ -2,3 +2,4 @@ pub mod Heads
 pub mod Blocks
 pub mod Search
 pub mod Mirrors
+pub mod Tests

@@ -7,3 +7,5 @@ pub mod chooser;
 pub mod head;
 pub mod order;
 pub mod search;
+#[cfg(test)]
+mod tests;
