@@ -7,3 +7,6 @@ pub mod Searching
 pub mod Mirroring
 pub mod Choosing
 pub mod InRow
+pub mod Rows
+pub mod Dense
+pub mod Settling

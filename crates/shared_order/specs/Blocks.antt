@@ -1,5 +1,5 @@
 -- Heads in blocks.
-use Rattle.std.specs.Prelude.{ℕ, suc, ◌≡◌, ◌+◌, ◌-◌, ◌*◌, ◌<◌, ◌≤◌, List, [], ◌∷◌, ◌++◌, length, take, drop, slice_set, slice_index_or, ℤ}
+use Rattle.std.specs.Prelude.{ℕ, suc, ◌≡◌, ◌+◌, ◌-◌, ◌*◌, ◌<◌, ◌≤◌, List, [], ◌∷◌, ◌++◌, length, take, drop, slice_set, slice_index_or, ℤ, ◌⊎◌}
 use Rattle.std.specs.List.{All, flat_map}
 use Rattle.shared_order.specs.declared.block.TheConstants.{BLOCK, HALF}
 use Rattle.shared_order.specs.Heads.{HeadView, HeadBefore, IsSorted, Gains, greatest_length}
@@ -64,6 +64,11 @@ pub record IsBlockOf (head : HeadView) (blocks : List (List HeadView)) (at : ℕ
 pub record AreSmall (blocks : List (List HeadView)) (at : ℕ) : Type 0 where
   pub known : suc at < length blocks
   pub small : length (block_at blocks at) + length (block_at blocks (suc at)) ≤ HALF
+
+-- such a pair of a block and a neighbour
+pub record IsSmallPair (blocks : List (List HeadView)) (at first : ℕ) : Type 0 where
+  pub small : AreSmall blocks first
+  pub among : (first ≡ at) ⊎ (suc first ≡ at)
 
 -- with one head more in this block the blocks were as an order keeps them
 pub record IsThinned (blocks : List (List HeadView)) (at : ℕ) : Type 0 where

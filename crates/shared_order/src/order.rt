@@ -1,8 +1,8 @@
 //! The order of all heads.
-ghost use Rattle.std.specs.Prelude.{◌≡◌, ◌≢◌, ◌≤◌, ◌<◌, ◌+◌, ◌↔◌, [], IfOk, IsTrue, length};
+ghost use Rattle.std.specs.Prelude.{◌≡◌, ◌≢◌, ◌≤◌, ◌<◌, ◌+◌, ◌↔◌, [], IfOk, IsTrue, MatchOption, ℕ, length};
 ghost use Rattle.std.specs.List.{All, Contains};
 ghost use Rattle.shared_order.specs.Heads.{IsSorted, Gains};
-ghost use Rattle.shared_order.specs.Blocks.{all_heads, block_at, block_count, room_in, NoneIsEmpty, IsBlockOf, AreSmall, IsThinned, KeepsOrder};
+ghost use Rattle.shared_order.specs.Blocks.{all_heads, block_at, block_count, room_in, NoneIsEmpty, IsBlockOf, AreSmall, IsSmallPair, IsThinned, KeepsOrder};
 
 use crate::block::{BLOCK, Block, HALF};
 use crate::blocks::Blocks;
@@ -107,11 +107,23 @@ fn settle(blocks: &mut Blocks, at: usize)
 {
     if blocks.used()[at].heads().is_empty() {
         blocks.close(at);
-    } else if are_small(blocks.used(), at) {
-        blocks.join(at);
-    } else if at > 0 && are_small(blocks.used(), at - 1) {
-        blocks.join(at - 1);
+    } else if let Some(first) = small_pair(blocks.used(), at) {
+        blocks.join(first);
     }
+}
+
+/// Of a block and its neighbours two that have at most half a block of heads together: the first of them.
+fn small_pair(blocks: &[Block], at: usize) -> Option<usize>
+    requires { at < length blocks.now }
+    ensures { MatchOption result ((first : ℕ) → ¬ IsSmallPair blocks.now at first) (IsSmallPair blocks.now at) }
+{
+    if are_small(blocks, at) {
+        return Some(at);
+    }
+    if at > 0 && are_small(blocks, at - 1) {
+        return Some(at - 1);
+    }
+    None
 }
 
 /// Whether a block and the next one, if there is one, have at most half a block of heads together.
