@@ -10,3 +10,4 @@ pub mod InRow
 pub mod Rows
 pub mod Dense
 pub mod Settling
+pub mod ByTenant

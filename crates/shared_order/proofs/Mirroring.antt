@@ -38,10 +38,10 @@ get_replicate (suc n) zero v x h = let e : Some v ≡ Some x = h in cc
 get_replicate (suc n) (suc i) v x h = get_replicate n i v x h
 
 -- the keys of t in a table into which they were written
-has_same : (table : Table) (t : ℕ) (keys : Option HeadKeys) (k : HeadKeys) → t < length table → Has (slice_set table t keys) t k → keys ≡ Some k
+pub has_same : (table : Table) (t : ℕ) (keys : Option HeadKeys) (k : HeadKeys) → t < length table → Has (slice_set table t keys) t k → keys ≡ Some k
 has_same table t keys k within has = let e : Some keys ≡ Some (Some k) = sym (get_set_same table t keys within) ∙ has in cc
 
-has_other : (table : Table) (t u : ℕ) (keys : Option HeadKeys) (k : HeadKeys) → u ≢ t → Has (slice_set table t keys) u k → Has table u k
+pub has_other : (table : Table) (t u : ℕ) (keys : Option HeadKeys) (k : HeadKeys) → u ≢ t → Has (slice_set table t keys) u k → Has table u k
 has_other table t u keys k ne has = sym (get_set_other table t u keys ne) ∙ has
 
 other_has : (table : Table) (t u : ℕ) (keys : Option HeadKeys) (k : HeadKeys) → u ≢ t → Has table u k → Has (slice_set table t keys) u k
