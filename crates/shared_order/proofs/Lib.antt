@@ -11,3 +11,5 @@ pub mod Rows
 pub mod Dense
 pub mod Settling
 pub mod ByTenant
+pub mod Splitting
+pub mod Changes

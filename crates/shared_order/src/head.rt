@@ -10,9 +10,9 @@ use tag_rules::parts::Keys;
 /// and its number. Its start is its finish less its length; starts and lengths are in the range of `Keys`.
 #[derive(Clone, Copy, Debug, PartialEq, Eq)]
 pub struct Head {
-    pub tenant: u32,
     pub finish: i128,
     pub len: i128,
+    pub tenant: u32,
     pub request: u32,
 }
 
@@ -37,9 +37,9 @@ impl Head {
         ensures in_range { IsInRange keys.start keys.len }
     {
         Head {
-            tenant,
             finish: keys.finish(),
             len: keys.len,
+            tenant,
             request: keys.request,
         }
     }
