@@ -14,8 +14,8 @@ pub by_tenant_set : (table : Table) (t : ℕ) (k : HeadKeys) → IsByTenant tabl
 by_tenant_set table t k by is = λ u l has. elim (cases_eq u t) [
   | inl at_t ↦ elim (cases_lt t (length table)) [
     | inl within ↦ (let same : Some k ≡ Some l = has_same table t (Some k) l within (subst (λ v. Has (slice_set table t (Some k)) v l) at_t has) in
-      let e : k ≡ l = cc in
-      sym (ap (λ (x : HeadKeys). x.request) e) ∙ (is ∙ sym at_t))
+        let e : k ≡ l = cc in
+        sym (ap (λ (x : HeadKeys). x.request) e) ∙ (is ∙ sym at_t))
     | inr past ↦ by u l (subst (λ (x : Table). Has x u l) (set_past table t (Some k) past) has)
   ]
   | inr ne ↦ by u l (has_other table t u (Some k) l ne has)

@@ -50,15 +50,15 @@ by_finish at table heads h lt m sorted f =
       has = has_keys table heads h m there;
       passes = is_eligible at h lt (low table heads h m there) f.passes;
       first = λ u k ne has eligible.
-        let other : Contains heads (head_of u k) = m.held u k has in
-        let reached : IsReached at (head_of u k) = is_reached at u k lt (low table heads (head_of u k) m other) eligible in
-        elim (among f.front h f.back (head_of u k) (subst (λ (xs : List HeadView). Contains xs (head_of u k)) f.stands other)) [
-          | inl beside ↦ elim (Contains-append_cases f.front f.back (head_of u k) beside) [
-            | inl earlier ↦ absurd (All-contains (λ (x : HeadView). ¬ IsReached at x) f.front (head_of u k) f.none_earlier earlier reached)
-            | inr later ↦ finishes_before h u k (All-contains (HeadBefore h) f.back (head_of u k) after later)
-          ]
-          | inr e ↦ absurd (ne (sym (ap (λ (x : HeadView). x.tenant) e)))
-        ];
+          let other : Contains heads (head_of u k) = m.held u k has in
+          let reached : IsReached at (head_of u k) = is_reached at u k lt (low table heads (head_of u k) m other) eligible in
+          elim (among f.front h f.back (head_of u k) (subst (λ (xs : List HeadView). Contains xs (head_of u k)) f.stands other)) [
+            | inl beside ↦ elim (Contains-append_cases f.front f.back (head_of u k) beside) [
+              | inl earlier ↦ absurd (All-contains (λ (x : HeadView). ¬ IsReached at x) f.front (head_of u k) f.none_earlier earlier reached)
+              | inr later ↦ finishes_before h u k (All-contains (HeadBefore h) f.back (head_of u k) after later)
+            ]
+            | inr e ↦ absurd (ne (sym (ap (λ (x : HeadView). x.tenant) e)))
+          ];
     }
 
 by_key : (at : Turn) (table : Table) (heads : List HeadView) (h : HeadView) → at.worker < at.workers → Mirrors table heads → IsLeast (IsSooner at) heads h → IsFirst Every (EligibleBefore at) (Has table) h.tenant (keys_of h)
@@ -68,23 +68,23 @@ by_key at table heads h lt m l =
       has = has_keys table heads h m there;
       passes = tt;
       first = λ u k ne has every.
-        let other : Contains heads (head_of u k) = m.held u k has in
-        let sooner = λ (s : IsSooner at h (head_of u k)). eligible_before at h u k lt (low table heads h m there) (low table heads (head_of u k) m other) s in
-        elim (among l.front h l.back (head_of u k) (subst (λ (xs : List HeadView). Contains xs (head_of u k)) l.stands other)) [
-          | inl beside ↦ elim (Contains-append_cases l.front l.back (head_of u k) beside) [
-            | inl earlier ↦ sooner (All-contains (IsSooner at h) l.front (head_of u k) l.before_front earlier)
-            | inr later ↦ sooner (All-contains (IsSooner at h) l.back (head_of u k) l.before_back later)
-          ]
-          | inr e ↦ absurd (ne (sym (ap (λ (x : HeadView). x.tenant) e)))
-        ];
+          let other : Contains heads (head_of u k) = m.held u k has in
+          let sooner = λ (s : IsSooner at h (head_of u k)). eligible_before at h u k lt (low table heads h m there) (low table heads (head_of u k) m other) s in
+          elim (among l.front h l.back (head_of u k) (subst (λ (xs : List HeadView). Contains xs (head_of u k)) l.stands other)) [
+            | inl beside ↦ elim (Contains-append_cases l.front l.back (head_of u k) beside) [
+              | inl earlier ↦ sooner (All-contains (IsSooner at h) l.front (head_of u k) l.before_front earlier)
+              | inr later ↦ sooner (All-contains (IsSooner at h) l.back (head_of u k) l.before_back later)
+            ]
+            | inr e ↦ absurd (ne (sym (ap (λ (x : HeadView). x.tenant) e)))
+          ];
     }
 
 pub chosen : (at : Turn) (table : Table) (heads : List HeadView) (h : HeadView) → at.worker < at.workers → Mirrors table heads → IsSorted heads → IsChosen at heads h → IsChoice at (Has table) h.tenant (keys_of h)
 chosen at table heads h lt m sorted (inl first) = inl (by_finish at table heads h lt m sorted first)
 chosen at table heads h lt m sorted (inr least) = inr (
   λ u k has eligible.
-    let other : Contains heads (head_of u k) = m.held u k has in
-    All-contains (λ (x : HeadView). ¬ IsReached at x) heads (head_of u k) least.0 other (is_reached at u k lt (low table heads (head_of u k) m other) eligible),
+      let other : Contains heads (head_of u k) = m.held u k has in
+      All-contains (λ (x : HeadView). ¬ IsReached at x) heads (head_of u k) least.0 other (is_reached at u k lt (low table heads (head_of u k) m other) eligible),
   by_key at table heads h lt m least.1,
 )
 

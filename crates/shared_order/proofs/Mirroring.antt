@@ -53,11 +53,11 @@ differ_set table t keys within differ new = λ a k has_a. λ b l ne has_b. elim 
   | inl at_a ↦ elim (cases_eq b t) [
     | inl at_b ↦ absurd (ne (at_b ∙ sym at_a))
     | inr off_b ↦ (let is : keys ≡ Some k = has_same table t keys k within (subst (λ u. Has (slice_set table t keys) u k) at_a has_a) in
-      subst (λ o. IfSome o (IsNewTo table t)) is new b l off_b (has_other table t b keys l off_b has_b))
+        subst (λ o. IfSome o (IsNewTo table t)) is new b l off_b (has_other table t b keys l off_b has_b))
   ]
   | inr off_a ↦ elim (cases_eq b t) [
     | inl at_b ↦ (let is : keys ≡ Some l = has_same table t keys l within (subst (λ u. Has (slice_set table t keys) u l) at_b has_b) in
-      λ e. subst (λ o. IfSome o (IsNewTo table t)) is new a k off_a (has_other table t a keys k off_a has_a) (sym e))
+        λ e. subst (λ o. IfSome o (IsNewTo table t)) is new a k off_a (has_other table t a keys k off_a has_a) (sym e))
     | inr off_b ↦ differ a k (has_other table t a keys k off_a has_a) b l ne (has_other table t b keys l off_b has_b)
   ]
 ]
@@ -84,8 +84,7 @@ pairs_without [] h back p = (pairs_tail h back p, pairs_head h back p)
 pairs_without (x ∷ front) h back p =
     let rest = pairs_without front h back (pairs_tail x (front ++ h ∷ back) p) in
     let of_x : All (Apart x) (front ++ h ∷ back) = pairs_head x (front ++ h ∷ back) p in
-    let of_h : All (Apart x) (h ∷ back) = all_back (Apart x) front (h ∷ back) of_x in
-    (
+    let of_h : All (Apart x) (h ∷ back) = all_back (Apart x) front (h ∷ back) of_x in (
       AllPairs-cons Apart x (front ++ back) (All-append (Apart x) front back (all_front (Apart x) front (h ∷ back) of_x) (All-tail (Apart x) h back of_h)) rest.0,
       All-cons (Apart h) x (front ++ back) (λ e. All-head (Apart x) h back of_h (sym e)) rest.1,
     )
@@ -211,8 +210,8 @@ in_some table heads new t k m within r g =
       known = subst (All Known) (sym g.after) (one_in Known g.front h g.back (subst (All Known) g.before known_others) known_h);
       held = λ u l has. subst (λ (xs : List HeadView). Contains xs (head_of u l)) (sym g.after) (elim (cases_eq u t) [
         | inl e ↦ (let is : Some k ≡ Some l = has_same table t (Some k) l within (subst (λ v. Has after v l) e has) in
-          let same : k ≡ l = cc in
-          subst (λ (x : HeadView). Contains (g.front ++ h ∷ g.back) x) (ap (head_of t) same ∙ ap (λ v. head_of v l) (sym e)) (holds_middle g.front h g.back))
+            let same : k ≡ l = cc in
+            subst (λ (x : HeadView). Contains (g.front ++ h ∷ g.back) x) (ap (head_of t) same ∙ ap (λ v. head_of v l) (sym e)) (holds_middle g.front h g.back))
         | inr ne ↦ still g.front h g.back (head_of u l) (subst (λ (xs : List HeadView). Contains xs (head_of u l)) g.before (m.held u l (other_has table t u None l ne (has_other table t u (Some k) l ne has))))
       ]);
       apart = subst (AllPairs Apart) (sym g.after) (pairs_with g.front h g.back (subst (AllPairs Apart) g.before m.apart) (subst (All (Apart h)) g.before others));

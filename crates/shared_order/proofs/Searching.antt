@@ -134,8 +134,7 @@ least_there Before heads h l = subst (λ xs. Contains xs h) (sym l.stands) (hold
 pub stays : (at : Turn) (best : Candidate) (heads : List HeadView) → All (λ h. best.key ≤ℤ key_of at h) heads → TakesSoonest at (Some best) heads (Some best)
 stays at best heads no_less = λ earlier sorted is.
     let l : IsLeast (IsSooner at) earlier best.head = is.0 in
-    let after : All (HeadBefore best.head) heads = across_pairs HeadBefore earlier heads best.head sorted (least_there (IsSooner at) earlier best.head l) in
-    (
+    let after : All (HeadBefore best.head) heads = across_pairs HeadBefore earlier heads best.head sorted (least_there (IsSooner at) earlier best.head l) in (
       record {
         front = l.front;
         back = l.back ++ heads;
@@ -154,8 +153,7 @@ pub taken : (at : Turn) (best : Candidate) (next : Candidate) → next.key ≡ k
 taken at best next key_is less = λ earlier sorted is.
     let l : IsLeast (IsSooner at) earlier best.head = is.0 in
     let lesser : key_of at next.head <ℤ key_of at best.head = subst (λ z. z <ℤ key_of at best.head) key_is (subst (λ z. next.key <ℤ z) is.1 less) in
-    let over = λ (x : HeadView). λ (s : IsSooner at best.head x). before_too at next.head best.head x lesser s in
-    (
+    let over = λ (x : HeadView). λ (s : IsSooner at best.head x). before_too at next.head best.head x lesser s in (
       record {
         front = earlier;
         back = [];
@@ -198,8 +196,8 @@ pub passed_over : (at : Turn) (best : Candidate) (heads : List HeadView) (first 
 passed_over at best heads first bound r is bound_is le = λ earlier sorted older.
     let in_order : IsSorted heads = back_pairs HeadBefore earlier heads sorted in
     let no_less : All (λ h. best.key ≤ℤ key_of at h) heads = λ k d within.
-        let b = bounds heads first in_order r is k d within in
-        le_trans best.key (key_by_finish at first.finish (greatest_length heads)) (key_of at (get_or heads k d)) (subst (λ z. best.key ≤ℤ z) bound_is le) (key_bounded at first.finish (greatest_length heads) (get_or heads k d).finish (get_or heads k d).len b) in
+    let b = bounds heads first in_order r is k d within in
+    le_trans best.key (key_by_finish at first.finish (greatest_length heads)) (key_of at (get_or heads k d)) (subst (λ z. best.key ≤ℤ z) bound_is le) (key_bounded at first.finish (greatest_length heads) (get_or heads k d).finish (get_or heads k d).len b) in
     stays at best heads no_less earlier sorted older
   where
     le_trans : (x y z : ℤ) → x ≤ℤ y → y ≤ℤ z → x ≤ℤ z

@@ -46,4 +46,6 @@ IsSoonest at heads (Some best) = IsLeast (IsSooner at) heads best.head × (best.
 
 -- the soonest of these and of earlier ones, where they stand in order
 abbrev pub TakesSoonest : Turn → Option Candidate → List HeadView → Option Candidate → Type 0
-TakesSoonest at older heads newer = (earlier : List HeadView) → IsSorted (earlier ++ heads) → IsSoonest at earlier older → IsSoonest at (earlier ++ heads) newer
+TakesSoonest at older heads newer =
+    (earlier : List HeadView) → IsSorted (earlier ++ heads) → IsSoonest at earlier older
+    → IsSoonest at (earlier ++ heads) newer

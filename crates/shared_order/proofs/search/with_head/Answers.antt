@@ -27,6 +27,6 @@ returns-in_default c =
     let key_is : c.key-key.result ≡ key_of c.args.turn c.args.head = key_read c.args.turn i.finish i.len c.key-key.result c.head.invariant c.key-key.ensures ∙ ap (key_of c.args.turn) c.head.view_is in
     elim c.in_default.branch [
       | in_default-via-in-Some+else-best-key w ↦ (let best_fits : FitsSigned w128 w.in-Some.best.key = search rules in
-        subst (λ o. TakesSoonest c.args.turn o (c.args.head ∷ []) (Some (record { head = c.args.head; key = to_z w128 (of_z w128 c.key-key.result) }))) (sym w.in-Some.is) (taken c.args.turn w.in-Some.best (record { head = c.args.head; key = to_z w128 (of_z w128 c.key-key.result) }) (read ∙ key_is) (rw read (is_more w.in-Some.best.key c.key-key.result best_fits key_fits w.if-best-key.false))))
+          subst (λ o. TakesSoonest c.args.turn o (c.args.head ∷ []) (Some (record { head = c.args.head; key = to_z w128 (of_z w128 c.key-key.result) }))) (sym w.in-Some.is) (taken c.args.turn w.in-Some.best (record { head = c.args.head; key = to_z w128 (of_z w128 c.key-key.result) }) (read ∙ key_is) (rw read (is_more w.in-Some.best.key c.key-key.result best_fits key_fits w.if-best-key.false))))
       | in_default-via-in_default w ↦ subst (λ o. TakesSoonest c.args.turn o (c.args.head ∷ []) (Some (record { head = c.args.head; key = to_z w128 (of_z w128 c.key-key.result) }))) (sym w.in_default.is) (begun c.args.turn (record { head = c.args.head; key = to_z w128 (of_z w128 c.key-key.result) }) (read ∙ key_is))
     ]
