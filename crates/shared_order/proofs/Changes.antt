@@ -71,9 +71,9 @@ joins_sorted bs cs at h p s j =
     let after : All (λ y. All (HeadBefore y) back) c = gains_all (λ y. All (HeadBefore y) back) b c h j.gains two.across p.after in
     let rest = sorted-join c back j.sorted two.second after in
     let across : All (λ x. All (HeadBefore x) (c ++ back)) front = λ k d l.
-        let x = get_or front k d in
-        let a = one.across k d l in
-        All-append (HeadBefore x) c back (gains_all (HeadBefore x) b c h j.gains (All-left (HeadBefore x) b back a) (p.before k d l)) (All-right (HeadBefore x) b back a) in
+    let x = get_or front k d in
+    let a = one.across k d l in
+    All-append (HeadBefore x) c back (gains_all (HeadBefore x) b c h j.gains (All-left (HeadBefore x) b back a) (p.before k d l)) (All-right (HeadBefore x) b back a) in
     rw (ap all_heads j.others ∙ set_heads bs at c p.known) (sorted-join front (c ++ back) one.first rest across)
 
 pub joins_keep : (bs cs : List (List HeadView)) (at : ℕ) (h : HeadView) → IsBlockOf h bs at → KeepsOrder bs → HeadJoins bs at h cs → KeepsOrder cs

@@ -13,3 +13,4 @@ pub mod Settling
 pub mod ByTenant
 pub mod Splitting
 pub mod Changes
+pub mod Gaining

@@ -58,7 +58,7 @@ pub before_from : (h : HeadView) (bs : List (List HeadView)) (at : ℕ) (b : Lis
 before_from h bs at b l e s n =
     let whole : IsSorted (all_heads (take at bs) ++ (block_at bs at ++ all_heads (drop (suc at) bs))) = rw (← heads_parts bs at l) s in
     before_list h (all_heads (take at bs)) (block_at bs at ++ all_heads (drop (suc at) bs)) whole
-        (λ a. n (subst (All (HeadBefore h)) (sym e) (All-left (HeadBefore h) (block_at bs at) (all_heads (drop (suc at) bs)) a)))
+    (λ a. n (subst (All (HeadBefore h)) (sym e) (All-left (HeadBefore h) (block_at bs at) (all_heads (drop (suc at) bs)) a)))
 
 -- a block that was read in its row
 pub read_block : (bs us : List (List HeadView)) (at : ℕ) (r hs : List HeadView) → us ≡ bs → r ≡ get_or us at r → hs ≡ r → at < length bs → hs ≡ block_at bs at

@@ -34,8 +34,8 @@ joined_heads bs at l =
     let c = block_at bs (suc at) in
     let q = drop (suc (suc at)) bs in
     heads-append (take at bs) ((b ++ c) ∷ q)
-        ∙ ap (λ t. all_heads (take at bs) ++ t) (append_assoc b c (all_heads q) ∙ ap (λ r. b ++ all_heads r) (sym (next_parts bs at l)))
-        ∙ sym (heads_parts bs at (omega arith))
+    ∙ ap (λ t. all_heads (take at bs) ++ t) (append_assoc b c (all_heads q) ∙ ap (λ r. b ++ all_heads r) (sym (next_parts bs at l)))
+    ∙ sym (heads_parts bs at (omega arith))
 
 pub neighbours_sorted : (bs : List (List HeadView)) (at : ℕ) → suc at < length bs → IsSorted (all_heads bs) → IsSorted (block_at bs at ++ block_at bs (suc at))
 neighbours_sorted bs at l s =
@@ -59,7 +59,7 @@ joined_filled bs k l f =
     let c = block_at bs (suc k) in
     let n = f k [] (omega arith) in
     All-append IsFilled (take k bs) ((b ++ c) ∷ drop (suc (suc k)) bs) (All-take IsFilled k bs f)
-        (All-cons IsFilled (b ++ c) (drop (suc (suc k)) bs) (omega (arith, length-append b c)) (All-drop IsFilled (suc (suc k)) bs f))
+    (All-cons IsFilled (b ++ c) (drop (suc (suc k)) bs) (omega (arith, length-append b c)) (All-drop IsFilled (suc (suc k)) bs f))
 
 -- with the next one
 joined_dense : (bs : List (List HeadView)) (at : ℕ) → IsThinned bs at → suc at < length bs → NoneIsEmpty bs → IsDense (with_joined bs at)

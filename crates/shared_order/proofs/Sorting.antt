@@ -71,8 +71,8 @@ sorted-join [] ys s t a = t
 sorted-join (x ∷ xs) ys s t a =
     let P : HeadView → Type 0 = λ x. All (HeadBefore x) ys in
     sorted-cons x (xs ++ ys)
-        (All-append (HeadBefore x) xs ys (sorted-head x xs s) (All-head P x xs a))
-        (sorted-join xs ys (sorted-tail x xs s) t (All-tail P x xs a))
+    (All-append (HeadBefore x) xs ys (sorted-head x xs s) (All-head P x xs a))
+    (sorted-join xs ys (sorted-tail x xs s) t (All-tail P x xs a))
 
 -- the first of a sorted list tells where another head stands to all of them
 pub before_first : (h x : HeadView) (xs : List HeadView) → IsSorted (x ∷ xs) → HeadBefore h x → All (HeadBefore h) (x ∷ xs)
@@ -110,10 +110,10 @@ pub sorted-between : (front back : List HeadView) (h : HeadView) → IsSorted (f
 sorted-between front back h s p q =
     let parts = sorted-split front back s in
     sorted-join front (h ∷ back) parts.first (sorted-cons h back q parts.second)
-        (All-both (λ y. HeadBefore y h) (λ y. All (HeadBefore y) back) (λ y. All (HeadBefore y) (h ∷ back)) front (λ y a b. All-cons (HeadBefore y) h back a b) p parts.across)
+    (All-both (λ y. HeadBefore y h) (λ y. All (HeadBefore y) back) (λ y. All (HeadBefore y) (h ∷ back)) front (λ y a b. All-cons (HeadBefore y) h back a b) p parts.across)
 
 pub sorted-without : (front back : List HeadView) (h : HeadView) → IsSorted (front ++ h ∷ back) → IsSorted (front ++ back)
 sorted-without front back h s =
     let parts = sorted-split front (h ∷ back) s in
     sorted-join front back parts.first (sorted-tail h back parts.second)
-        (All-weaker (λ y. All (HeadBefore y) (h ∷ back)) (λ y. All (HeadBefore y) back) (λ y a. All-tail (HeadBefore y) h back a) front parts.across)
+    (All-weaker (λ y. All (HeadBefore y) (h ∷ back)) (λ y. All (HeadBefore y) back) (λ y a. All-tail (HeadBefore y) h back a) front parts.across)

@@ -65,8 +65,8 @@ halves_heads bs at l =
     let d = second_half bs at in
     let q = all_heads (drop (suc at) bs) in
     heads-append (take at bs) (c ∷ d ∷ drop (suc at) bs)
-        ∙ ap (λ t. all_heads (take at bs) ++ t) (sym (append_assoc c d q) ∙ ap (λ b. b ++ q) (take-append-drop 16 (block_at bs at)))
-        ∙ sym (heads_parts bs at l)
+    ∙ ap (λ t. all_heads (take at bs) ++ t) (sym (append_assoc c d q) ∙ ap (λ b. b ++ q) (take-append-drop 16 (block_at bs at)))
+    ∙ sym (heads_parts bs at l)
 
 abbrev IsFilled : List HeadView → Type 0
 IsFilled b = 0 < length b

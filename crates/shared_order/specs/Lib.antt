@@ -3,3 +3,4 @@ pub mod Blocks
 pub mod Search
 pub mod Mirrors
 pub mod Tests
+pub mod Samples
