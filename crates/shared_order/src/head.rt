@@ -1,5 +1,6 @@
 //! Heads as they stand in the order.
 ghost use Rattle.std.specs.Prelude.{◌≡◌, ◌↔◌, IsTrue};
+ghost use Rattle.tag_rules.specs.Keys.{IsInRange};
 ghost use Rattle.shared_order.specs.Heads.{head_of, HeadBefore};
 
 use std::marker::Model;
@@ -32,7 +33,8 @@ impl Model for Head {
 impl Head {
     /// The head of a tenant that has these keys.
     pub fn of(tenant: u32, keys: Keys) -> Head
-        ensures { result ≡ head_of tenant keys }
+        ensures head { result ≡ head_of tenant keys }
+        ensures in_range { IsInRange keys.start keys.len }
     {
         Head {
             finish: keys.finish(),

@@ -3,7 +3,11 @@
 
 pub mod block;
 mod blocks;
+pub mod chooser;
 pub mod head;
 pub mod order;
 #[cfg(test)]
 mod order_tests;
+pub mod search;
+#[cfg(test)]
+mod tests;
