@@ -6,7 +6,7 @@ use Rattle.std.proofs.lemmas.List.Elements.{All-nil, All-append, All-cons, All-t
 use Rattle.shared_order.specs.Heads.{HeadView, HeadBefore, IsSorted, Gains}
 use Rattle.shared_order.specs.Blocks.{all_heads, block_at, IsDense, IsBlockOf, IsThinned, HeadJoins, HeadLeaves, KeepsOrder}
 use Rattle.shared_order.proofs.Sorting.{sorted-split, sorted-join, sorted-nil, sorted-cons, sorted-without, All-left, All-right, not_itself}
-use Rattle.shared_order.proofs.Dense.{dense-grown}
+use Rattle.shared_order.proofs.Dense.{IsFilled, dense-grown}
 use Rattle.shared_order.proofs.Rows.{heads-append, heads_parts, parts}
 
 -- a head stands in its block
@@ -84,7 +84,7 @@ joins_keep bs cs at h p k j =
     let d : IsDense (take at bs ++ block_at bs at ∷ drop (suc at) bs) = rw (← parts bs at p.known) (k.dense) in
     record {
       sorted = joins_sorted bs cs at h p k.sorted j;
-      filled = rw e (All-append (λ b. 0 < length b) (take at bs) (c ∷ drop (suc at) bs) (All-take (λ b. 0 < length b) at bs k.filled) (All-cons (λ b. 0 < length b) c (drop (suc at) bs) (omega (arith, n)) (All-drop (λ b. 0 < length b) (suc at) bs k.filled)));
+      filled = rw e (All-append IsFilled (take at bs) (c ∷ drop (suc at) bs) (All-take IsFilled at bs k.filled) (All-cons IsFilled c (drop (suc at) bs) (omega (arith, n)) (All-drop IsFilled (suc at) bs k.filled)));
       dense = rw e (dense-grown (take at bs) (block_at bs at) c (drop (suc at) bs) (omega (arith, n)) d);
     }
 
@@ -93,18 +93,6 @@ pub block_requests : (P : HeadView → Type 0) (bs : List (List HeadView)) (at :
 block_requests P bs at l a =
     let whole : All P (all_heads (take at bs) ++ (block_at bs at ++ all_heads (drop (suc at) bs))) = subst (All P) (heads_parts bs at l) a in
     All-left P (block_at bs at) (all_heads (drop (suc at) bs)) (All-right P (all_heads (take at bs)) (block_at bs at ++ all_heads (drop (suc at) bs)) whole)
-
--- ---- a first head
-
-pub first_gains : (bs cs : List (List HeadView)) (h : HeadView) → bs ≡ [] → cs ≡ (h ∷ []) ∷ [] → Gains (all_heads bs) h (all_heads cs)
-first_gains bs cs h e f = record { front = []; back = []; before = ap all_heads e; after = ap all_heads f }
-
-pub first_keeps : (cs : List (List HeadView)) (h : HeadView) → cs ≡ (h ∷ []) ∷ [] → KeepsOrder cs
-first_keeps cs h f = rw f (record {
-  sorted = sorted-cons h [] (All-nil (HeadBefore h)) sorted-nil;
-  filled = All-cons (λ b. 0 < length b) (h ∷ []) [] (omega arith) (All-nil (λ b. 0 < length b));
-  dense = tt;
-})
 
 -- ---- a head less
 
@@ -116,9 +104,6 @@ leaves_gains bs cs at h l j =
 pub leaves_count : (bs cs : List (List HeadView)) (at : ℕ) (h : HeadView) → HeadLeaves bs at h cs → length cs ≡ length bs
 leaves_count bs cs at h j = ap length j.others ∙ length-set bs at (block_at cs at)
 
-pub joins_count : (bs cs : List (List HeadView)) (at : ℕ) (h : HeadView) → HeadJoins bs at h cs → length cs ≡ length bs
-joins_count bs cs at h j = ap length j.others ∙ length-set bs at (block_at cs at)
-
 pub leaves_thin : (bs cs : List (List HeadView)) (at : ℕ) (h : HeadView) → at < length bs → KeepsOrder bs → HeadLeaves bs at h cs → IsThinned cs at
 leaves_thin bs cs at h l k j =
     let c = block_at cs at in
@@ -129,8 +114,8 @@ leaves_thin bs cs at h l k j =
     record {
       known = omega (arith, leaves_count bs cs at h j);
       sorted = rw g.before (sorted-without g.front g.back h s);
-      filled_before = rw front (All-take (λ b. 0 < length b) at bs k.filled);
-      filled_after = rw back (All-drop (λ b. 0 < length b) (suc at) bs k.filled);
+      filled_before = rw front (All-take IsFilled at bs k.filled);
+      filled_after = rw back (All-drop IsFilled (suc at) bs k.filled);
       fuller = block_at bs at;
       one_more = gains_length c (block_at bs at) h j.gains;
       dense = rw (front, back, ← parts bs at l) (k.dense);

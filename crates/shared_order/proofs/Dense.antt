@@ -4,7 +4,7 @@ use Rattle.std.proofs.lemmas.List.Elements.{All-head, All-tail}
 use Rattle.shared_order.specs.Heads.{HeadView}
 use Rattle.shared_order.specs.Blocks.{all_heads, block_at, NoneIsEmpty, IsDense}
 
-abbrev IsFilled : List HeadView → Type 0
+abbrev pub IsFilled : List HeadView → Type 0
 IsFilled b = 0 < length b
 
 -- a block may get longer

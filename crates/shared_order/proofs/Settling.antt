@@ -8,7 +8,7 @@ use Rattle.std.proofs.Math.Seq.{drop-cons}
 use Rattle.shared_order.specs.Heads.{HeadView, IsSorted}
 use Rattle.shared_order.specs.Blocks.{all_heads, block_at, NoneIsEmpty, IsDense, IsThinned, IsSmallPair, KeepsOrder, with_joined}
 use Rattle.shared_order.proofs.Sorting.{sorted-split}
-use Rattle.shared_order.proofs.Dense.{dense-joined, dense-closed, dense-thinned, meets_last, meets_first, MeetsLast}
+use Rattle.shared_order.proofs.Dense.{IsFilled, dense-joined, dense-closed, dense-thinned, meets_last, meets_first, MeetsLast}
 use Rattle.shared_order.proofs.Rows.{heads-append, heads_parts, parts}
 
 -- ---- a block that has no heads now
@@ -45,9 +45,6 @@ neighbours_sorted bs at l s =
     let e : all_heads bs ≡ all_heads (take at bs) ++ ((b ++ c) ++ q) = sym (joined_heads bs at l) ∙ heads-append (take at bs) ((b ++ c) ∷ drop (suc (suc at)) bs) in
     let whole : IsSorted (all_heads (take at bs) ++ ((b ++ c) ++ q)) = rw (← e) s in
     (sorted-split (b ++ c) q (sorted-split (all_heads (take at bs)) ((b ++ c) ++ q) whole).second).first
-
-abbrev pub IsFilled : List HeadView → Type 0
-IsFilled b = 0 < length b
 
 -- the block has heads still
 all_filled : (bs : List (List HeadView)) (at : ℕ) → IsThinned bs at → 0 < length (block_at bs at) → NoneIsEmpty bs
@@ -115,6 +112,6 @@ quiet_keeps bs at t l none = record {
       (meets_first bs (suc at) (block_at bs at) (λ m. not_small bs at at none (inl refl) m)) t.dense);
 }
 
--- how many blocks there are then
+-- there is one block less then
 pub joined_count : (bs : List (List HeadView)) (k : ℕ) → suc k < length bs → suc (length (with_joined bs k)) ≡ length bs
 joined_count bs k l = omega (arith, length-append (take k bs) ((block_at bs k ++ block_at bs (suc k)) ∷ drop (suc (suc k)) bs), length-take k bs, length-drop (suc (suc k)) bs)

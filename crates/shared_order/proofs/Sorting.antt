@@ -11,9 +11,6 @@ use Rattle.shared_order.specs.Heads.{HeadView, HeadBefore, IsSorted}
 pub before_goes_on : (a b c : HeadView) → HeadBefore a b → HeadBefore b c → HeadBefore a c
 before_goes_on a b c p q = grind (arith, ints)
 
-pub not_both_before : (a b : HeadView) → HeadBefore a b → ¬ HeadBefore b a
-not_both_before a b p = λ q. grind (arith, ints)
-
 pub not_itself : (a : HeadView) → ¬ HeadBefore a a
 not_itself a = λ p. grind (arith, ints)
 

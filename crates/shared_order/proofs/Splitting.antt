@@ -5,7 +5,7 @@ use Rattle.std.proofs.lemmas.List.{take-append-drop}
 use Rattle.std.proofs.lemmas.List.Elements.{All-append, All-cons, All-take, All-drop}
 use Rattle.shared_order.specs.Heads.{HeadView, HeadBefore}
 use Rattle.shared_order.specs.Blocks.{all_heads, block_at, IsDense, IsBlockOf, KeepsOrder, with_halves}
-use Rattle.shared_order.proofs.Dense.{dense-halved, dense-count}
+use Rattle.shared_order.proofs.Dense.{IsFilled, dense-halved, dense-count}
 use Rattle.shared_order.proofs.Rows.{heads-append, heads_parts, parts, before_from, block_is}
 
 -- a block is left where an order has room
@@ -15,10 +15,10 @@ spare_left (b ∷ bs) spare d l r = omega (arith, dense-count b bs d)
 
 -- ---- the two halves in their row
 
-abbrev first_half : List (List HeadView) → ℕ → List HeadView
+abbrev pub first_half : List (List HeadView) → ℕ → List HeadView
 first_half bs at = take 16 (block_at bs at)
 
-abbrev second_half : List (List HeadView) → ℕ → List HeadView
+abbrev pub second_half : List (List HeadView) → ℕ → List HeadView
 second_half bs at = drop 16 (block_at bs at)
 
 halves_front : (bs : List (List HeadView)) (at : ℕ) → at < length bs → take at (with_halves bs at) ≡ take at bs
@@ -66,9 +66,6 @@ halves_heads bs at l =
     heads-append (take at bs) (c ∷ d ∷ drop (suc at) bs)
     ∙ ap (λ t. all_heads (take at bs) ++ t) (sym (append_assoc c d q) ∙ ap (λ b. b ++ q) (take-append-drop 16 (block_at bs at)))
     ∙ sym (heads_parts bs at l)
-
-abbrev IsFilled : List HeadView → Type 0
-IsFilled b = 0 < length b
 
 pub halves_keep : (bs : List (List HeadView)) (at : ℕ) → at < length bs → length (block_at bs at) ≡ 32 → KeepsOrder bs → KeepsOrder (with_halves bs at)
 halves_keep bs at l full k =

@@ -103,3 +103,9 @@ pub record KeepsOrder (blocks : List (List HeadView)) : Type 0 where
   pub sorted : IsSorted (all_heads blocks)
   pub filled : NoneIsEmpty blocks
   pub dense : IsDense blocks
+
+-- the same heads stand in as many blocks, which are as an order keeps them
+pub record IsRearranged (old new : BlocksView) : Type 0 where
+  pub heads : all_heads new.used ≡ all_heads old.used
+  pub kept : KeepsOrder new.used
+  pub count : block_count new ≡ block_count old

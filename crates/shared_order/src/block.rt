@@ -88,6 +88,7 @@ impl Block {
         ensures sorted { IsSorted self.new }
     {
         let at = place_of(&self.heads, &head);
+        // The room was taken when the block was opened.
         let _ = self.heads.insert(at, head);
         self.longest = self.longest.max(head.len);
     }
@@ -110,6 +111,7 @@ impl Block {
         ensures first { self.new ≡ take HALF self.old }
         ensures second { next.new ≡ drop HALF self.old }
     {
+        // Each block has room for `BLOCK` heads, so neither this nor `absorb` takes memory.
         let _ = next.heads.extend_from_slice(&self.heads[HALF..]);
         next.longest = longest_of(&next.heads);
         self.heads.truncate(HALF);

@@ -92,6 +92,7 @@ impl Blocks {
         let mut next = self.spare.take_last();
         let block = &mut self.used[at];
         block.split(&mut next);
+        // The row has room for all blocks.
         let _ = self.used.insert(at + 1, next);
     }
 

@@ -1,8 +1,12 @@
 //! The order of all heads.
+//!
+//! Its blocks are as the leaves of a B-tree (Bayer and McCreight, 1972): a full one is split, and two neighbours that
+//! have become small are joined. With at most some hundreds of them no nodes are needed above: the block of a head is
+//! found by halving their row.
 ghost use Rattle.std.specs.Prelude.{◌≡◌, ◌≢◌, ◌≤◌, ◌<◌, ◌+◌, ◌↔◌, [], IfOk, IsTrue, MatchOption, ℕ, length};
 ghost use Rattle.std.specs.List.{All, Contains};
 ghost use Rattle.shared_order.specs.Heads.{IsSorted, Gains};
-ghost use Rattle.shared_order.specs.Blocks.{all_heads, block_at, block_count, room_in, NoneIsEmpty, IsBlockOf, AreSmall, IsSmallPair, IsThinned, KeepsOrder};
+ghost use Rattle.shared_order.specs.Blocks.{all_heads, block_at, block_count, room_in, NoneIsEmpty, IsBlockOf, AreSmall, IsSmallPair, IsThinned, IsRearranged, KeepsOrder};
 
 use crate::block::{BLOCK, Block, HALF};
 use crate::blocks::Blocks;
@@ -79,11 +83,9 @@ fn room_at(blocks: &mut Blocks, head: &Head) -> usize
     requires some { 0 < length blocks.old.used }
     requires kept { KeepsOrder blocks.old.used }
     requires room { length (all_heads blocks.old.used) < room_in (block_count blocks.old) }
-    ensures heads { all_heads blocks.new.used ≡ all_heads blocks.old.used }
-    ensures kept { KeepsOrder blocks.new.used }
+    ensures rearranged { IsRearranged blocks.old blocks.new }
     ensures place { IsBlockOf head.now blocks.new.used result }
     ensures room { length (block_at blocks.new.used result) < BLOCK }
-    ensures count { block_count blocks.new ≡ block_count blocks.old }
 {
     let at = block_of(blocks.used(), head);
     if blocks.used()[at].heads().len() < BLOCK {
@@ -101,9 +103,7 @@ fn room_at(blocks: &mut Blocks, head: &Head) -> usize
 /// its last head.
 fn settle(blocks: &mut Blocks, at: usize)
     requires { IsThinned blocks.old.used at }
-    ensures heads { all_heads blocks.new.used ≡ all_heads blocks.old.used }
-    ensures kept { KeepsOrder blocks.new.used }
-    ensures count { block_count blocks.new ≡ block_count blocks.old }
+    ensures { IsRearranged blocks.old blocks.new }
 {
     if blocks.used()[at].heads().is_empty() {
         blocks.close(at);
