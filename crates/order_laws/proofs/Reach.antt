@@ -1,5 +1,5 @@
 -- Eligibility and eligible keys by finish and length.
-use Rattle.std.proofs.Common.{ℕ, zero, suc, ◌+◌, ◌*◌, ◌/◌, ◌<◌, ◌≤◌, ◌≡◌, ◌^◌, ◌⊎◌, ◌↔◌, arith, refl, sym, ◌∙◌, ap, subst, inl, inr, ℤ, pos, negsuc, unsigned_abs, ◌+ℤ◌, ◌-ℤ◌, ◌*ℤ◌, ◌≤ℤ◌}
+use Rattle.std.proofs.Common.{ℕ, zero, suc, ◌+◌, ◌*◌, ◌/◌, ◌<◌, ◌≤◌, ◌≡◌, ◌⊎◌, ◌↔◌, arith, refl, sym, ◌∙◌, ap, subst, inl, inr, ℤ, pos, negsuc, unsigned_abs, ◌+ℤ◌, ◌-ℤ◌, ◌*ℤ◌, ◌≤ℤ◌}
 use Rattle.std.proofs.lemmas.Int.{ints}
 use Rattle.std.proofs.lemmas.Nat.{mul-le, le-div}
 use Rattle.std.proofs.Math.Nat.{mul-add-div, div-mul-le_self, div-zero}
@@ -7,9 +7,9 @@ use Rattle.vt_fixed.specs.Rounding.{part_of}
 use Rattle.vt_fixed.proofs.Bounds.{div_mono}
 use Rattle.fq_model.specs.declared.config.Policy.{Policy}
 use Rattle.fq_model.specs.declared.config.Policy.TheVariants.{Wfq, Wf2q, Msf2q, TwoDfq}
-use Rattle.fq_model.specs.Keys.{HeadKeys, Turn, stagger, eligible_key, IsEligible, finish}
-use Rattle.order_laws.specs.Reach.{reach, key_by_finish, Reaches, IsInReach}
-use Rattle.order_laws.specs.Laws.{KeyIsFinishLess, KeyIsByFinish, EligibleIsInReach, Bounds, KeyIsBounded, ReachIsBounded, ProductsFit}
+use Rattle.fq_model.specs.Keys.{Turn, stagger, eligible_key, finish}
+use Rattle.order_laws.specs.Reach.{reach, key_by_finish, Reaches}
+use Rattle.order_laws.specs.Laws.{KeyIsFinishLess, KeyIsByFinish, EligibleIsInReach, KeyIsBounded, ReachIsBounded, ProductsFit}
 
 -- ---- the start is not needed
 

@@ -1,5 +1,5 @@
 -- Heads whose eligibility is worked by hand.
-use Rattle.std.specs.Prelude.{ℕ, ℤ, pos, ◌-ℤ◌}
+use Rattle.std.specs.Prelude.{ℕ, pos}
 use Rattle.fq_model.specs.declared.config.Policy.{Policy}
 use Rattle.fq_model.specs.Keys.{HeadKeys, Turn}
 
