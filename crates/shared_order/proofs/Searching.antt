@@ -17,7 +17,7 @@ use Rattle.order_laws.specs.Laws.{Bounds}
 use Rattle.order_laws.proofs.Reach.{key_bounded, reach_bounded}
 use Rattle.shared_order.specs.Heads.{HeadView, HeadBefore, IsSorted, greatest_length}
 use Rattle.shared_order.specs.Blocks.{all_heads}
-use Rattle.shared_order.specs.Search.{AreInRange, IsReached, key_of, IsSooner, IsFirstThat, IsLeast, IsSoonest, TakesSoonest}
+use Rattle.shared_order.specs.Search.{AreInRange, AreInLimits, IsReached, key_of, IsSooner, IsFirstThat, IsLeast, IsSoonest, TakesSoonest}
 use Rattle.shared_order.specs.declared.search.Candidate.{Candidate}
 use Rattle.shared_order.proofs.Pieces.{front_pairs, back_pairs, across_pairs, all_front, all_middle, holds_middle, blocks_more, blocks_cut, so_far_pairs}
 
@@ -68,6 +68,23 @@ longest_read z heads is r =
     let low : pos 0 ≤ℤ z = subst (λ x. pos 0 ≤ℤ x) (sym is) (longest_low heads) in
     let high : z ≤ℤ GREATEST_LENGTH = subst (λ x. x ≤ℤ GREATEST_LENGTH) (sym is) (longest_high heads r) in
     record { low = low; high = high; same = reads_length z low high }
+
+-- what a test and a key ask of a head that was read, and of the first finish and the greatest length of a block
+pub head_limits : (finish len : ℤ) → IsInRange (finish -ℤ len) len → AreInLimits (to_z w128 (of_z w128 finish)) (to_z w128 (of_z w128 len))
+head_limits finish len r = rw (reads_finish finish len r, reads_length len r.len_low r.len_high) (record {
+  finish_low = omega (arith, ints, r.start_low, r.len_low);
+  finish_high = omega (arith, ints, r.start_high, r.len_high);
+  len_low = r.len_low;
+  len_high = r.len_high;
+})
+
+pub bound_limits : (finish len z : ℤ) (heads : List HeadView) → IsInRange (finish -ℤ len) len → LongestRead z heads → AreInLimits (to_z w128 (of_z w128 finish)) (to_z w128 (of_z w128 z))
+bound_limits finish len z heads r longest = rw (reads_finish finish len r, longest.same) (record {
+  finish_low = omega (arith, ints, r.start_low, r.len_low);
+  finish_high = omega (arith, ints, r.start_high, r.len_high);
+  len_low = longest.low;
+  len_high = longest.high;
+})
 
 first_least : (heads : List HeadView) (first : HeadView) → IsSorted heads → slice_get heads 0 ≡ Some first → All (λ (h : HeadView). first.finish ≤ℤ h.finish) heads
 first_least [] first sorted is = absurd (let none : None ≡ Some first = is in cc)

@@ -1,7 +1,8 @@
 -- What is looked for among heads in order.
-use Rattle.std.specs.Prelude.{◌≡◌, List, [], ◌∷◌, ◌++◌, Option, Some, None, ℤ, pos, ◌<ℤ◌, ◌≤ℤ◌, ◌⊎◌}
+use Rattle.std.specs.Prelude.{◌≡◌, List, [], ◌∷◌, ◌++◌, Option, Some, None, ℤ, pos, ◌+ℤ◌, ◌<ℤ◌, ◌≤ℤ◌, ◌⊎◌}
 use Rattle.std.specs.List.{All}
 use Rattle.vt_fixed.specs.declared.limits.TheConstants.{GREATEST_LENGTH}
+use Rattle.fq_model.specs.declared.limits.TheConstants.{GREATEST_START}
 use Rattle.fq_model.specs.Keys.{Turn}
 use Rattle.order_laws.specs.Reach.{key_by_finish, IsInReach}
 use Rattle.shared_order.specs.Heads.{HeadView, HeadBefore, IsSorted}
@@ -10,6 +11,18 @@ use Rattle.shared_order.specs.declared.search.Candidate.{Candidate}
 -- each length is in its limits
 abbrev pub AreInRange : List HeadView → Type 0
 AreInRange heads = All (λ h. (pos 0 ≤ℤ h.len) × (h.len ≤ℤ GREATEST_LENGTH)) heads
+
+-- heads as they stand in an order
+pub record AreInOrder (heads : List HeadView) : Type 0 where
+  pub sorted : IsSorted heads
+  pub in_range : AreInRange heads
+
+-- a finish and a length, of one head or of two, in their limits
+pub record AreInLimits (finish len : ℤ) : Type 0 where
+  pub finish_low : pos 0 ≤ℤ finish
+  pub finish_high : finish ≤ℤ (GREATEST_START +ℤ GREATEST_LENGTH)
+  pub len_low : pos 0 ≤ℤ len
+  pub len_high : len ≤ℤ GREATEST_LENGTH
 
 -- the head is eligible
 abbrev pub IsReached : Turn → HeadView → Type 0

@@ -2,9 +2,8 @@
 ghost use Rattle.std.specs.Prelude.{◌≡◌, ◌↔◌, ℤ, pos, ◌+ℤ◌, ◌≤ℤ◌, [], ◌∷◌, false, IsTrue, IfSome, IfNone};
 ghost use Rattle.std.specs.List.{All};
 ghost use Rattle.order_laws.specs.Reach.{key_by_finish, Reaches, IsInReach};
-ghost use Rattle.shared_order.specs.Heads.{IsSorted};
 ghost use Rattle.shared_order.specs.Blocks.{all_heads};
-ghost use Rattle.shared_order.specs.Search.{AreInRange, IsReached, IsSooner, IsFirstThat, IsLeast, TakesSoonest};
+ghost use Rattle.shared_order.specs.Search.{AreInRange, AreInOrder, AreInLimits, IsReached, IsSooner, IsFirstThat, IsLeast, TakesSoonest};
 ghost use Rattle.shared_order.specs.Mirrors.{IsChosen};
 
 use crate::block::Block;
@@ -17,8 +16,7 @@ use vt_fixed::part;
 /// The head that is chosen: the first eligible one, or, where none is eligible, the one that becomes eligible soonest.
 pub fn choice(turn: Turn, blocks: &[Block]) -> Option<Head>
     requires begun { pos 0 ≤ℤ turn.virtual_time }
-    requires sorted { IsSorted (all_heads blocks.now) }
-    requires in_range { AreInRange (all_heads blocks.now) }
+    requires in_order { AreInOrder (all_heads blocks.now) }
     ensures chosen { IfSome result (IsChosen turn (all_heads blocks.now)) }
     ensures none { IfNone result (all_heads blocks.now ≡ []) }
 {
@@ -34,8 +32,7 @@ pub fn choice(turn: Turn, blocks: &[Block]) -> Option<Head>
 /// head of the block is, and the block is passed over.
 pub fn first_eligible(turn: Turn, blocks: &[Block]) -> Option<Head>
     requires begun { pos 0 ≤ℤ turn.virtual_time }
-    requires sorted { IsSorted (all_heads blocks.now) }
-    requires in_range { AreInRange (all_heads blocks.now) }
+    requires in_order { AreInOrder (all_heads blocks.now) }
     ensures first { IfSome result (IsFirstThat (IsReached turn) (all_heads blocks.now)) }
     ensures none { IfNone result (All (λ h. ¬ IsReached turn h) (all_heads blocks.now)) }
 {
@@ -55,8 +52,7 @@ pub fn first_eligible(turn: Turn, blocks: &[Block]) -> Option<Head>
 /// A block is passed over where a head that finishes with the first and is as long as the longest in it would become
 /// eligible no sooner than the soonest head of the blocks before it.
 pub fn soonest(turn: Turn, blocks: &[Block]) -> Option<Head>
-    requires sorted { IsSorted (all_heads blocks.now) }
-    requires in_range { AreInRange (all_heads blocks.now) }
+    requires { AreInOrder (all_heads blocks.now) }
     ensures soonest { IfSome result (IsLeast (IsSooner turn) (all_heads blocks.now)) }
     ensures none { IfNone result (all_heads blocks.now ≡ []) }
 {
@@ -67,7 +63,7 @@ pub fn soonest(turn: Turn, blocks: &[Block]) -> Option<Head>
     best.map(|candidate| candidate.head)
 }
 
-/// A head and its eligible key, in steps.
+// A head and its eligible key, in steps.
 #[derive(Clone, Copy, Debug, PartialEq, Eq)]
 struct Candidate {
     head: Head,
@@ -77,8 +73,7 @@ struct Candidate {
 // Whether a head of the block may be eligible.
 fn may_reach(turn: Turn, block: &Block) -> bool
     requires begun { pos 0 ≤ℤ turn.virtual_time }
-    requires sorted { IsSorted block.now }
-    requires in_range { AreInRange block.now }
+    requires in_order { AreInOrder block.now }
     ensures { result ≡ false → All (λ h. ¬ IsReached turn h) block.now }
 {
     match block.first() {
@@ -149,12 +144,9 @@ fn with_head(turn: Turn, best: Option<Candidate>, head: Head) -> Option<Candidat
     }
 }
 
-/// The virtual time from which on a head with this finish and this length is eligible, in steps.
+// The virtual time from which on a head with this finish and this length is eligible, in steps.
 fn key(turn: Turn, finish: i128, len: i128) -> i128
-    requires finish_low { pos 0 ≤ℤ finish }
-    requires finish_high { finish ≤ℤ (GREATEST_START +ℤ GREATEST_LENGTH) }
-    requires len_low { pos 0 ≤ℤ len }
-    requires len_high { len ≤ℤ GREATEST_LENGTH }
+    requires { AreInLimits finish len }
     ensures { result ≡ key_by_finish turn finish len }
 {
     match turn.policy {
@@ -163,13 +155,11 @@ fn key(turn: Turn, finish: i128, len: i128) -> i128
     }
 }
 
-/// Whether a head with this finish and this length is eligible. Virtual time is 0 at least, so that no product leaves
-/// the range of its type.
+// Whether a head with this finish and this length is eligible. Virtual time is 0 at least, so that no product leaves
+// the range of its type.
 fn is_in_reach(turn: Turn, finish: i128, len: i128) -> bool
     requires begun { pos 0 ≤ℤ turn.virtual_time }
-    requires finish_high { finish ≤ℤ (GREATEST_START +ℤ GREATEST_LENGTH) }
-    requires len_low { pos 0 ≤ℤ len }
-    requires len_high { len ≤ℤ GREATEST_LENGTH }
+    requires in_limits { AreInLimits finish len }
     ensures { IsTrue result ↔ IsInReach turn finish len }
 {
     finish <= turn.virtual_time || reaches(turn, (finish - turn.virtual_time) as u128, len as u128)

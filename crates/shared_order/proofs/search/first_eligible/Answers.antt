@@ -15,11 +15,11 @@ use Rattle.shared_order.proofs.search.first_eligible.Goals.{then-may_reach+else-
 pub loop-block-init : goal.loop-block-init
 loop-block-init c = All-nil (λ h. ¬ IsReached c.args.turn h)
 
-pub may_reach-requires-clause-sorted : goal.may_reach-requires-clause-sorted
-may_reach-requires-clause-sorted c = block_pairs HeadBefore c.args.blocks.now c.loop-block.block-index c.block-item.result c.loop-block-test.true c.block-item.is c.requires.sorted
-
-pub may_reach-requires-clause-in_range : goal.may_reach-requires-clause-in_range
-may_reach-requires-clause-in_range c = block_all (λ (h : HeadView). (pos 0 ≤ℤ h.len) × (h.len ≤ℤ GREATEST_LENGTH)) c.args.blocks.now c.loop-block.block-index c.block-item.result c.loop-block-test.true c.block-item.is c.requires.in_range
+pub may_reach-requires-clause-in_order : goal.may_reach-requires-clause-in_order
+may_reach-requires-clause-in_order c = record {
+  sorted = block_pairs HeadBefore c.args.blocks.now c.loop-block.block-index c.block-item.result c.loop-block-test.true c.block-item.is c.requires.in_order.sorted;
+  in_range = block_all (λ (h : HeadView). (pos 0 ≤ℤ h.len) × (h.len ≤ℤ GREATEST_LENGTH)) c.args.blocks.now c.loop-block.block-index c.block-item.result c.loop-block-test.true c.block-item.is c.requires.in_order.in_range;
+}
 
 pub returns-then-is_some-clause-first : goal.returns-then-is_some-clause-first
 returns-then-is_some-clause-first c = IfSome_then c.first_in-found.result c.first_in-found.ensures.first (λ h f. first_in_block (IsReached c.args.turn) c.args.blocks.now c.loop-block.block-index c.block-item.result h c.loop-block-test.true c.block-item.is c.loop-block.invariant (subst (λ heads. IsFirstThat (IsReached c.args.turn) heads h) c.heads.ensures.heads f))

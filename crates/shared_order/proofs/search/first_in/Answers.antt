@@ -3,11 +3,14 @@ use Rattle.std.specs.List.{All}
 use Rattle.std.proofs.lemmas.List.{take_all}
 use Rattle.std.proofs.lemmas.List.Elements.{All-nil, All-more}
 use Rattle.shared_order.specs.Search.{IsReached}
-use Rattle.shared_order.proofs.Searching.{first_at, reach_read, not_so}
+use Rattle.shared_order.proofs.Searching.{head_limits, first_at, reach_read, not_so}
 use Rattle.shared_order.proofs.search.first_in.Goals as goal
 
 pub loop-head-init : goal.loop-head-init
 loop-head-init c = All-nil (λ h. ¬ IsReached c.args.turn h)
+
+pub is_in_reach-requires-clause-in_limits : goal.is_in_reach-requires-clause-in_limits
+is_in_reach-requires-clause-in_limits c = head_limits c.head.inside.finish c.head.inside.len c.head.invariant
 
 pub returns-then-is_in_reach-clause-first : goal.returns-then-is_in_reach-clause-first
 returns-then-is_in_reach-clause-first c =

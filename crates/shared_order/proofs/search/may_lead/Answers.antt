@@ -3,21 +3,16 @@ use mir.Syntax.{w128}
 use Rattle.order_laws.specs.Reach.{key_by_finish}
 use Rattle.shared_order.specs.Heads.{HeadView, greatest_length}
 use Rattle.shared_order.specs.Search.{TakesSoonest}
-use Rattle.shared_order.proofs.Searching.{reads_finish, longest_read, not_less, passed_over, nothing_there}
+use Rattle.shared_order.proofs.Searching.{reads_finish, longest_read, bound_limits, not_less, passed_over, nothing_there}
 use Rattle.shared_order.proofs.search.may_lead.Goals as goal
 
 pub returns-in_default : goal.returns-in_default
 returns-in_default c = λ _. nothing_there c.args.turn c.args.best.now c.args.block.now (sym c.first.ensures ∙ c.in_default.is)
 
-pub key-requires-clause-len_low : goal.key-requires-clause-len_low
-key-requires-clause-len_low c =
-    let longest = longest_read c.longest.result c.args.block.now c.longest.ensures c.requires in
-    rw longest.same longest.low
-
-pub key-requires-clause-len_high : goal.key-requires-clause-len_high
-key-requires-clause-len_high c =
-    let longest = longest_read c.longest.result c.args.block.now c.longest.ensures c.requires in
-    rw longest.same longest.high
+pub key-requires : goal.key-requires
+key-requires c =
+    let i = c.first-2.inside in
+    bound_limits i.finish i.len c.longest.result c.args.block.now c.first-2.invariant (longest_read c.longest.result c.args.block.now c.longest.ensures c.requires)
 
 pub returns-in-Some-best : goal.returns-in-Some-best
 returns-in-Some-best c =

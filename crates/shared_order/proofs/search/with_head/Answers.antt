@@ -5,9 +5,12 @@ use Rattle.std.specs.List.{All}
 use Rattle.std.proofs.lemmas.List.Elements.{All-nil, All-cons}
 use Rattle.shared_order.specs.Heads.{HeadView}
 use Rattle.shared_order.specs.Search.{key_of, TakesSoonest}
-use Rattle.shared_order.proofs.Searching.{key_read, is_le, is_more, stays, taken, begun}
+use Rattle.shared_order.proofs.Searching.{head_limits, key_read, is_le, is_more, stays, taken, begun}
 use Rattle.shared_order.proofs.search.with_head.Goals as goal
 use Rattle.shared_order.proofs.search.with_head.Goals.{in_default-via-in-Some+else-best-key, in_default-via-in_default}
+
+pub key-key-requires : goal.key-key-requires
+key-key-requires c = head_limits c.head.inside.finish c.head.inside.len c.head.invariant
 
 pub returns-in-Some : goal.returns-in-Some
 returns-in-Some c =

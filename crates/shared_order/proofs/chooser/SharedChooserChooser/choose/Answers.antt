@@ -5,9 +5,13 @@ use Rattle.fq_model.specs.Keys.{Turn, IsChoice}
 use Rattle.rival_policies.specs.Tables.{ChooserView, Has}
 use Rattle.shared_order.specs.Heads.{HeadView}
 use Rattle.shared_order.specs.Blocks.{all_heads}
+use Rattle.shared_order.specs.Search.{AreInOrder}
 use Rattle.shared_order.specs.Mirrors.{keys_of, IsChosen}
 use Rattle.shared_order.proofs.Choosing.{chosen}
 use Rattle.shared_order.proofs.chooser.SharedChooserChooser.choose.Goals as goal
+
+pub choice-requires-clause-in_order : goal.choice-requires-clause-in_order
+choice-requires-clause-in_order c = subst AreInOrder (sym c.blocks-2.ensures.heads) (record { sorted = c.blocks-2.ensures.sorted; in_range = c.self.invariant.mirrors.in_range })
 
 pub returns-clause-chosen : goal.returns-clause-chosen
 returns-clause-chosen c =
