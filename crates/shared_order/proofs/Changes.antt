@@ -2,10 +2,10 @@
 use Rattle.std.proofs.Common.{ℕ, zero, suc, ◌≡◌, ◌<◌, inl, inr, List, [], ◌∷◌, ◌++◌, length, get_or, set, take, drop, arith, refl, sym, ◌∙◌, ap, subst, length-append, append_assoc}
 use Rattle.std.specs.List.{All, Contains}
 use Rattle.std.proofs.lemmas.List.{length-set, take-set, drop-set-lt}
-use Rattle.std.proofs.lemmas.List.Elements.{All-nil, All-append, All-cons, All-take, All-drop, All-contains, Contains-append_cases}
+use Rattle.std.proofs.lemmas.List.Elements.{All-append, All-cons, All-take, All-drop, All-contains, Contains-append_cases}
 use Rattle.shared_order.specs.Heads.{HeadView, HeadBefore, IsSorted, Gains}
 use Rattle.shared_order.specs.Blocks.{all_heads, block_at, IsDense, IsBlockOf, IsThinned, HeadJoins, HeadLeaves, KeepsOrder}
-use Rattle.shared_order.proofs.Sorting.{sorted-split, sorted-join, sorted-nil, sorted-cons, sorted-without, All-left, All-right, not_itself}
+use Rattle.shared_order.proofs.Sorting.{sorted-split, sorted-join, sorted-without, All-left, All-right, not_itself}
 use Rattle.shared_order.proofs.Dense.{IsFilled, dense-grown}
 use Rattle.shared_order.proofs.Rows.{heads-append, heads_parts, parts}
 
