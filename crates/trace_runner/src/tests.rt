@@ -10,6 +10,7 @@ use fq_model::event::{Act, Entry};
 use fq_model::trace::RunOptions;
 use rival_policies::plain::PlainChooser;
 use sched_state::Scheduler;
+use shared_order::chooser::SharedChooser;
 use std::test::Fail;
 use trace_reader::generating::generate;
 use trace_reader::reading::read;
@@ -163,7 +164,7 @@ fn a_history_may_be_too_long(rt: HostRuntime) -> Result<(), Fail> {
 
 // Which chooser serves is not seen in a history.
 #[test]
-fn trees_choose_as_the_scan(rt: HostRuntime) -> Result<(), Fail> {
+fn choosers_choose_alike(rt: HostRuntime) -> Result<(), Fail> {
     let trace = generate(rt.alloc(), 7, 64, 20000)?;
     let policies = [Policy::Wfq, Policy::Wf2q, Policy::Msf2q, Policy::TwoDfq];
     for policy in policies {
@@ -171,6 +172,8 @@ fn trees_choose_as_the_scan(rt: HostRuntime) -> Result<(), Fail> {
         let plain: Scheduler<u64, PlainChooser> = simulate(rt.alloc(), &trace, options)?;
         let index: Scheduler<u64, IndexChooser> = simulate(rt.alloc(), &trace, options)?;
         assert_eq!(rt; index.past(), plain.past());
+        let shared: Scheduler<u64, SharedChooser> = simulate(rt.alloc(), &trace, options)?;
+        assert_eq!(rt; shared.past(), plain.past());
     }
     Ok(())
 }

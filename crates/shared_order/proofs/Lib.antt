@@ -1,0 +1,16 @@
+pub mod Lengths
+pub mod Sorting
+pub mod InBlock
+pub mod Places
+pub mod Pieces
+pub mod Searching
+pub mod Mirroring
+pub mod Choosing
+pub mod InRow
+pub mod Rows
+pub mod Dense
+pub mod Settling
+pub mod ByTenant
+pub mod Splitting
+pub mod Changes
+pub mod Gaining

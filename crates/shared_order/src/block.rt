@@ -1,0 +1,164 @@
+//! A block of heads.
+ghost use Rattle.std.specs.Prelude.{◌≡◌, ◌≢◌, ◌≤◌, ◌<◌, ◌+◌, ◌++◌, ◌↔◌, [], IfOk, IfSome, IsTrue, length, take, drop, slice_get};
+ghost use Rattle.std.specs.Int.{int_max};
+ghost use Rattle.std.specs.List.{All, Contains};
+ghost use Rattle.shared_order.specs.Heads.{HeadBefore, IsSorted, IsPlaceOf, Gains, greatest_length};
+
+use crate::head::Head;
+use std::alloc::{AllocError, Global};
+use std::marker::Model;
+
+/// The most heads of a block.
+pub const BLOCK: usize = 32;
+
+/// Half of a block: what each part has after a split.
+pub const HALF: usize = 16;
+
+/// Heads in order, at most `BLOCK`. Contracts see them as a list.
+#[derive(Drop)]
+pub struct Block {
+    heads: Vec<Head>,
+    longest: i128,
+}
+
+impl Model for Block {
+    ghost use Rattle.std.specs.Prelude.{List, vec_capacity};
+    ghost use Rattle.shared_order.specs.Heads.{HeadView};
+
+    ghost Value = { List HeadView };
+
+    ghost use Rattle.shared_order.specs.Blocks.{KeepsBlock};
+
+    ghost view = { λ b. b.heads.items };
+
+    ghost invariant = { λ b. KeepsBlock b.heads.items (vec_capacity b.heads) b.longest };
+}
+
+impl Block {
+    /// A block that has no heads, and room for `BLOCK` of them.
+    pub fn open(alloc: Global) -> Result<Block, AllocError>
+        ensures { IfOk result (λ b. b ≡ []) }
+    {
+        let heads = Vec::with_capacity(alloc, BLOCK)?;
+        Ok(Block { heads, longest: 0 })
+    }
+
+    /// The heads, by finish, then by number.
+    #[inline]
+    pub fn heads(&self) -> &[Head]
+        ensures heads { result.now ≡ self.now }
+        ensures sorted { IsSorted self.now }
+        ensures few { length self.now ≤ BLOCK }
+    {
+        &self.heads
+    }
+
+    /// The greatest length of a head, in steps; 0 where there is none.
+    #[inline]
+    pub fn longest(&self) -> i128
+        ensures { result ≡ greatest_length self.now }
+    {
+        self.longest
+    }
+
+    /// The head that comes before all others.
+    #[inline]
+    pub fn first(&self) -> Option<Head>
+        ensures { result ≡ slice_get self.now 0 }
+    {
+        self.heads.first().copied()
+    }
+
+    /// Whether all heads come after this one.
+    #[inline]
+    pub fn is_after(&self, head: &Head) -> bool
+        ensures { IsTrue result ↔ All (HeadBefore head.now) self.now }
+    {
+        match self.heads.first() {
+            Some(first) => head.is_before(first),
+            None => true,
+        }
+    }
+
+    /// Puts in a head of a request that has none here.
+    pub fn insert(&mut self, head: Head)
+        requires room { length self.old < BLOCK }
+        requires new_request { All (λ h. h.request ≢ head.request) self.old }
+        ensures gains { Gains self.old head self.new }
+        ensures sorted { IsSorted self.new }
+    {
+        let at = place_of(&self.heads, &head);
+        // The room was taken when the block was opened.
+        let _ = self.heads.insert(at, head);
+        self.longest = self.longest.max(head.len);
+    }
+
+    /// Takes out a head that stands here.
+    pub fn remove(&mut self, head: Head)
+        requires { Contains self.old head }
+        ensures gains { Gains self.new head self.old }
+        ensures sorted { IsSorted self.new }
+    {
+        let at = place_of(&self.heads, &head);
+        self.heads.remove(at);
+        self.longest = longest_without(&self.heads, head.len, self.longest);
+    }
+
+    /// Moves the second half of a full block into an empty one.
+    pub fn split(&mut self, next: &mut Block)
+        requires full { length self.old ≡ BLOCK }
+        requires empty { next.old ≡ [] }
+        ensures first { self.new ≡ take HALF self.old }
+        ensures second { next.new ≡ drop HALF self.old }
+    {
+        // Each block has room for `BLOCK` heads, so neither this nor `absorb` takes memory.
+        let _ = next.heads.extend_from_slice(&self.heads[HALF..]);
+        next.longest = longest_of(&next.heads);
+        self.heads.truncate(HALF);
+        self.longest = longest_of(&self.heads);
+    }
+
+    /// Moves all heads of the block that comes next to the end of this one.
+    pub fn absorb(&mut self, next: &mut Block)
+        requires room { length self.old + length next.old ≤ BLOCK }
+        requires in_order { IsSorted (self.old ++ next.old) }
+        ensures all { self.new ≡ self.old ++ next.old }
+        ensures rest { next.new ≡ [] }
+    {
+        let _ = self.heads.extend_from_slice(&next.heads);
+        self.longest = self.longest.max(next.longest);
+        next.heads.clear();
+        next.longest = 0;
+    }
+}
+
+/// How many of these heads come before this one.
+fn place_of(heads: &[Head], head: &Head) -> usize
+    requires { IsSorted heads.now }
+    ensures { IsPlaceOf head.now heads.now result }
+{
+    heads.partition_point(|other| other.is_before(head))
+}
+
+/// The greatest length of these heads, 0 where there is none.
+fn longest_of(heads: &[Head]) -> i128
+    ensures { result ≡ greatest_length heads.now }
+{
+    let mut longest: i128 = 0;
+    for head in heads {
+        longest = longest.max(head.len);
+    }
+    longest
+}
+
+/// The greatest length of these heads, where it was `longest` with one more of this length.
+fn longest_without(heads: &[Head], len: i128, longest: i128) -> i128
+    requires { longest ≡ int_max (greatest_length heads.now) len }
+    ensures { result ≡ greatest_length heads.now }
+{
+    if len == longest {
+        longest_of(heads)
+    } else {
+        longest
+    }
+}
