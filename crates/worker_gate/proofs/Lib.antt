@@ -12,4 +12,3 @@ pub mod ServingSteps
 pub mod ServingRuns
 pub mod ServingSlices
 pub mod ServingEnds
-pub mod Turned
