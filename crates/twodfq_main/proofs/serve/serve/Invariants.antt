@@ -5,7 +5,7 @@ use Rattle.fq_model.specs.Outcome.{Outcome}
 use Rattle.twodfq_main.proofs.serve.serve.Given as goal
 
 abbrev pub invariant-loop-call : goal.invariant-loop-call
-invariant-loop-call l = record {
+invariant-loop-call g l = record {
   outcome : Outcome l.fn.config (take l.call-index l.calls) l.replies.items (history_of l.scheduler.past);
   config_is : l.scheduler.config ≡ l.fn.config;
   counted : vec_len l.replies ≡ l.call-index;
