@@ -1,5 +1,6 @@
 //! Traces whose simulated histories were made by hand.
 ghost use Rattle.std.specs.Prelude.{◌<◌};
+ghost use Rattle.fq_model.specs.TraceText.{IsLawfulTrace};
 
 use crate::fault::SimFault;
 use crate::needed::needed;
@@ -8,12 +9,15 @@ use eligible_index::index::IndexChooser;
 use fq_model::config::{Estimator, Policy};
 use fq_model::event::{Act, Entry};
 use fq_model::trace::RunOptions;
+use rival_policies::chooser::Chooser;
 use rival_policies::plain::PlainChooser;
 use sched_state::Scheduler;
 use shared_order::chooser::SharedChooser;
+use std::alloc::Global;
 use std::test::Fail;
 use trace_reader::generating::generate;
 use trace_reader::reading::read;
+use trace_reader::trace::Trace;
 
 fn submit(who: u32, moment: u64, request: u32, tenant: u32, kind: u32, declared: u64) -> Entry {
     let act = Act::Submit {
@@ -162,18 +166,30 @@ fn a_history_may_be_too_long(rt: HostRuntime) -> Result<(), Fail> {
     Ok(())
 }
 
+// The simulated history of a trace under a policy, by a scheduler over this chooser.
+fn past_by<X: Chooser + Drop>(
+    alloc: Global,
+    trace: &Trace,
+    policy: Policy,
+) -> Result<Vec<Entry>, Fail>
+    requires { IsLawfulTrace trace.now }
+{
+    let options = RunOptions { policy, ..DEFAULTS };
+    let scheduler: Scheduler<u64, X> = simulate(alloc, trace, options)?;
+    Ok(Vec::from_slice(alloc, scheduler.past())?)
+}
+
 // Which chooser serves is not seen in a history.
 #[test]
 fn choosers_choose_alike(rt: HostRuntime) -> Result<(), Fail> {
     let trace = generate(rt.alloc(), 7, 64, 20000)?;
     let policies = [Policy::Wfq, Policy::Wf2q, Policy::Msf2q, Policy::TwoDfq];
     for policy in policies {
-        let options = RunOptions { policy, ..DEFAULTS };
-        let plain: Scheduler<u64, PlainChooser> = simulate(rt.alloc(), &trace, options)?;
-        let index: Scheduler<u64, IndexChooser> = simulate(rt.alloc(), &trace, options)?;
-        assert_eq!(rt; index.past(), plain.past());
-        let shared: Scheduler<u64, SharedChooser> = simulate(rt.alloc(), &trace, options)?;
-        assert_eq!(rt; shared.past(), plain.past());
+        let plain = past_by::<PlainChooser>(rt.alloc(), &trace, policy)?;
+        let index = past_by::<IndexChooser>(rt.alloc(), &trace, policy)?;
+        assert_eq!(rt; index.as_slice(), plain.as_slice());
+        let shared = past_by::<SharedChooser>(rt.alloc(), &trace, policy)?;
+        assert_eq!(rt; shared.as_slice(), plain.as_slice());
     }
     Ok(())
 }
