@@ -8,7 +8,7 @@ use Rattle.fq_model.specs.declared.config.Estimator.{Estimator}
 use Rattle.fq_model.specs.declared.config.Estimator.TheVariants as estimator
 use Rattle.fq_model.specs.declared.config.ConfigFault.{ConfigFault}
 use Rattle.fq_model.specs.declared.config.ConfigFault.TheVariants as fault
-use Rattle.fq_model.specs.Limits.{config_fault}
+use Rattle.fq_model.specs.Limits.{InLimits, config_fault}
 use Rattle.twodfq_c.specs.declared.opening.Opening.{Opening}
 use Rattle.twodfq_c.specs.declared.opening.Refusal.{Refusal}
 use Rattle.twodfq_c.specs.declared.opening.Refusal.TheVariants as refusal
@@ -68,10 +68,11 @@ WhyNotOpened old o weights refusal.AlreadyOpen = IsSome old
 WhyNotOpened old o weights (refusal.Config why) = (c : Config) × IsConfigOf o weights c × (config_fault c ≡ Some why)
 WhyNotOpened old o weights why = WhyNoConfig o why
 
--- a scheduler of this configuration, with no entries
+-- a scheduler of this configuration, whose numbers are in their limits, with no entries
 pub record HoldsOpened (o : Opening) (weights : List ℕ) (new : Held) : Type 0 where
   pub config : Config
   pub config_is : IsConfigOf o weights config
+  pub in_limits : InLimits config
   pub held : new ≡ Some (record { config = config; past = []; jobs = map.empty })
 
 -- where none was held, such a scheduler; or what was held, for a cause

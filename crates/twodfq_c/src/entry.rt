@@ -4,8 +4,8 @@ ghost use Rattle.twodfq_c.specs.Entries.{plain_entry, plain_act, run_by, no_entr
 
 use fq_model::event::{Act, Entry};
 
-/// An entry of a history: its kind, who made the call, the moment in microseconds, and the numbers that come with it, 0 where
-/// none does.
+/// An entry of a history: its kind, who made the call, the moment in microseconds, and the numbers that come with it, 0
+/// where none does.
 ///
 /// | kind | entry | request | tenant | request_kind | worker | amount | label |
 /// |---|---|---|---|---|---|---|---|

@@ -71,11 +71,11 @@ impl Handle {
         ensures entry { ReadsHeld self.old.slot.held index result }
         ensures unchanged { self.new.slot.held ≡ self.old.slot.held }
     {
-        let Some(served) = self.take(alloc) else {
+        let Some(held) = self.take(alloc) else {
             return PlainEntry::missing();
         };
-        let entry = entry_of(&served, index);
-        *self = Handle::holding(served);
+        let entry = entry_of(&held, index);
+        *self = Handle::holding(held);
         entry
     }
 }

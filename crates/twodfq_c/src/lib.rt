@@ -15,6 +15,8 @@ mod loose;
 mod opening;
 mod reply;
 mod slot;
+#[cfg(test)]
+mod tests;
 
 pub use entry::PlainEntry;
 use fq_model::event::Call;
@@ -23,8 +25,8 @@ pub use opening::Opening;
 pub use reply::PlainReply;
 use std::alloc::Global;
 
-/// Opens a scheduler in a handle that holds none; `weights` has one number a tenant. All the memory that the scheduler will
-/// use is taken here. Gives 0, or a status above it: nothing has changed then.
+/// Opens a scheduler in a handle that holds none; `weights` has one number a tenant. All the memory that the scheduler
+/// will use is taken here. Gives 0, or a status above it: nothing has changed then.
 #[unsafe(no_mangle)]
 pub extern "C" fn twodfq_open(
     handle: &mut Handle,

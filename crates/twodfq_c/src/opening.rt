@@ -1,7 +1,8 @@
 //! Opening a scheduler from plain numbers.
 ghost use Rattle.std.specs.Prelude.{◌≡◌, ◌≤◌, IfOk, IfErr, IfSome, IfNone};
 ghost use Rattle.twodfq_c.specs.declared.opening.Refusal.TheVariants as refusal;
-ghost use Rattle.twodfq_c.specs.Opening.{OpensWith, IsConfigOf, WhyNoConfig, status, fault_status, policy_number, estimator_number};
+ghost use Rattle.twodfq_c.specs.Opening.{OpensWith, IsConfigOf, WhyNoConfig};
+ghost use Rattle.twodfq_c.specs.Opening.{status, fault_status, policy_number, estimator_number};
 
 use crate::handle::Handle;
 use fq_model::config::{Config, ConfigFault, Estimator, Policy, Weights};
