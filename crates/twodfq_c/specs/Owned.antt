@@ -3,6 +3,7 @@ use Rattle.std.specs.Prelude.{Option, Some, None}
 use Rattle.std_heap.specs.contracts.GlobalAllocator.TheImpl as heap_impl
 use Rattle.std.specs.Box.Ownership.{box_owns}
 use Rattle.sched_state.specs.contracts.scheduler.Scheduler.{the_row}
+use Rattle.rival_policies.specs.declared.chooser.Chooser.{Ghosts}
 use Rattle.shared_order.specs.contracts.chooser.SharedChooser as chooser
 use Rattle.shared_order.specs.contracts.chooser.SharedChooserChooser.TheImpl as choosing
 use Rattle.fq_model.specs.contracts.job.U64Job.TheImpl as job
@@ -12,9 +13,16 @@ use denote.Builtin.{u64}
 use denote.RattleType.{RattleType}
 use denote.RawPtr.{Ptr}
 
+-- the chooser, and what contracts see of it
+abbrev pub chooser_row : RattleType
+chooser_row = chooser.the_row
+
+abbrev pub chooser_seen : Ghosts chooser_row.Denot
+chooser_seen = choosing.ghosts
+
 -- a scheduler whose jobs are their labels
 abbrev pub served : RattleType
-served = the_row u64 chooser.the_row job.ghosts choosing.ghosts
+served = the_row u64 chooser_row job.ghosts chooser_seen
 
 -- the right to free a block of the C heap
 abbrev pub freed : Ty → Ptr → Fml

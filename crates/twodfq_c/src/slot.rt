@@ -9,7 +9,8 @@ use shared_order::chooser::SharedChooser;
 use std::alloc::Global;
 use std::marker::{Model, Send};
 
-/// What a handle holds: jobs are their labels. Its chooser is named here, and for contracts in `specs/Owned.antt`.
+/// What a handle holds: jobs are their labels. The chooser is named here alone, beside its names for contracts in
+/// `specs/Owned.antt` and for `Send`.
 pub(crate) type Served = Scheduler<u64, SharedChooser>;
 
 /// What stands at the pointer, as C sees it.
