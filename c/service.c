@@ -23,7 +23,7 @@ static uint64_t microseconds(void) {
 
 static void want(const char *what, bool is_so) {
     if (is_so) return;
-    fprintf(stderr, "service: %s\n", what);
+    fprintf(stderr, "service: not so: %s\n", what);
     abort();
 }
 
@@ -104,5 +104,5 @@ int main(void) {
 
     twodfq_free(&scheduler);
     for (uint32_t job = 0; job < JOBS; job++) want("each job is run once", runs[job] == 1);
-    printf("%d jobs by %d workers, each run once; a worker slept %s\n", JOBS, WORKERS, sleeps ? "now and then" : "never");
+    printf("service: %d jobs by %d workers, each run once; a worker slept %s\n", JOBS, WORKERS, sleeps ? "now and then" : "never");
 }
