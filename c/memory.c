@@ -1,0 +1,119 @@
+// What memory the scheduler takes, by a heap that counts: all at the opening, each block given back, and a status, with nothing
+// lost, where any of the blocks is wanting. It defines the functions of the heap itself, in place of heap.c.
+#include <stdio.h>
+#include <stdlib.h>
+
+#include "twodfq.h"
+
+typedef struct {
+    bool ok;
+    void *at;
+} tried;
+
+static char nothing;
+static long taken, held, failing = -1; // blocks asked for, blocks not given back, and which request fails
+static long calls;                     // of all three
+
+static bool fails(void) {
+    calls++;
+    return taken++ == failing;
+}
+
+tried rattle_alloc(size_t size, size_t align) {
+    void *at = fails() ? NULL : malloc(size ? size : align);
+    held += at != NULL;
+    return at ? (tried){ true, at } : (tried){ false, &nothing };
+}
+
+tried rattle_realloc(void *at, size_t kept, size_t size, size_t align) {
+    (void)kept;
+    void *moved = fails() ? NULL : realloc(at, size ? size : align);
+    return moved ? (tried){ true, moved } : (tried){ false, &nothing };
+}
+
+void rattle_dealloc(void *at) {
+    calls++;
+    held--;
+    free(at);
+}
+
+static void want(const char *what, bool is_so) {
+    if (is_so) return;
+    fprintf(stderr, "memory: not so: %s\n", what);
+    exit(1);
+}
+
+enum { MOST_TENANTS = 4096, WORKERS = 8, ROUNDS = 20000 };
+
+static uint32_t weights[MOST_TENANTS];
+
+static twodfq_opening opening_for(uint32_t tenants, uint32_t estimate) {
+    return (twodfq_opening){
+        .workers = WORKERS,
+        .kinds = 2,
+        .entries = 4 * ROUNDS + 3 * tenants + 3, // a weight, the workers and the close beside the requests
+        .requests = 2 * tenants,
+        .policy = TWODFQ_2DFQ,
+        .estimate = estimate,
+        .initial = 1000,
+    };
+}
+
+// Some of every call, with a backlog in each tenant, until nothing waits.
+static void serve(twodfq *scheduler, uint32_t tenants) {
+    for (uint32_t i = 0; i < tenants; i++)
+        want("a request comes", twodfq_submit(scheduler, 0, i, i, i % 2, 10, i).kind == TWODFQ_REQUEST);
+    for (uint32_t i = 0; i < ROUNDS; i++) {
+        uint32_t worker = i % WORKERS, moment = tenants + i;
+        want("a request comes", twodfq_submit(scheduler, 0, moment, i * 7 % tenants, i % 2, 10, i).kind == TWODFQ_REQUEST);
+        want("a worker runs one", twodfq_take(scheduler, 1, moment, worker).kind == TWODFQ_RUN);
+        if (i % 2) want("it reports", twodfq_report(scheduler, 1, moment, worker, i % 5).kind == TWODFQ_ACCEPTED);
+        want("it is done", twodfq_done(scheduler, 1, moment, worker, 5 + i % 100).kind == TWODFQ_ACCEPTED);
+    }
+    want("a weight changes", twodfq_weight(scheduler, 0, 0, 3, 1000).kind == TWODFQ_ACCEPTED);
+    want("the workers change", twodfq_workers(scheduler, 0, 0, 1).kind == TWODFQ_ACCEPTED);
+    want("one is retired", twodfq_take(scheduler, 1, 0, 1).kind == TWODFQ_RETIRED);
+    want("it closes", twodfq_close(scheduler, 0, 0).kind == TWODFQ_ACCEPTED);
+    want("an entry is read", twodfq_entry(scheduler, 5).kind == TWODFQ_ENTRY_SUBMIT);
+    uint32_t kind;
+    while ((kind = twodfq_take(scheduler, 1, 0, 0).kind) == TWODFQ_RUN)
+        want("it is done", twodfq_done(scheduler, 1, 0, 0, 1).kind == TWODFQ_ACCEPTED);
+    want("nothing is left", kind == TWODFQ_DRAINED);
+}
+
+// How many blocks the opening takes; no call after it asks the heap for anything, and all blocks come back at the end.
+static long count_blocks(uint32_t tenants, uint32_t estimate) {
+    twodfq scheduler = TWODFQ_NONE;
+    twodfq_opening opening = opening_for(tenants, estimate);
+    taken = 0;
+    failing = -1;
+    want("a scheduler opens", twodfq_open(&scheduler, &opening, weights, tenants) == TWODFQ_OPENED);
+    long blocks = taken, before = calls;
+    serve(&scheduler, tenants);
+    want("no call asks the heap", calls == before);
+    twodfq_free(&scheduler);
+    twodfq_free(&scheduler);
+    want("all blocks come back", held == 0);
+    return blocks;
+}
+
+static void fail_each(long blocks, uint32_t tenants, uint32_t estimate) {
+    twodfq scheduler = TWODFQ_NONE;
+    twodfq_opening opening = opening_for(tenants, estimate);
+    for (failing = 0; failing < blocks; failing++) {
+        taken = 0;
+        want("memory is wanting", twodfq_open(&scheduler, &opening, weights, tenants) == TWODFQ_OPEN_NO_MEMORY);
+        want("all blocks come back", held == 0);
+        want("no scheduler is held", twodfq_take(&scheduler, 0, 0, 0).kind == TWODFQ_NO_SCHEDULER);
+    }
+}
+
+int main(void) {
+    for (uint32_t tenant = 0; tenant < MOST_TENANTS; tenant++) weights[tenant] = 1 + tenant % 1000;
+    for (uint32_t estimate = TWODFQ_DECLARED; estimate <= TWODFQ_PESSIMISTIC; estimate++) {
+        long few = count_blocks(64, estimate), many = count_blocks(MOST_TENANTS, estimate);
+        fail_each(few, 64, estimate);
+        printf("memory: estimate %u, %ld blocks at the opening for 64 tenants, each failed in turn; %ld for %d; none after it\n",
+            estimate, few, many, MOST_TENANTS);
+    }
+}

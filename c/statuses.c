@@ -1,0 +1,93 @@
+// What a handle that holds no scheduler answers, and each status of an opening but want of memory (memory.c): every number that
+// has limits is given just outside them, and at them.
+#include <stdio.h>
+#include <stdlib.h>
+
+#include "twodfq.h"
+
+enum { MOST_TENANTS = 4096 };
+
+static uint32_t weights[MOST_TENANTS + 1];
+static int count;
+
+static void want(const char *what, uint32_t given, uint32_t wanted) {
+    count++;
+    if (given == wanted) return;
+    fprintf(stderr, "statuses: %s gives %u, and %u is wanted\n", what, given, wanted);
+    exit(1);
+}
+
+static twodfq_opening plain(void) {
+    return (twodfq_opening){
+        .workers = 1,
+        .kinds = 1,
+        .entries = 4,
+        .requests = 1,
+        .policy = TWODFQ_WFQ,
+        .estimate = TWODFQ_DECLARED,
+        .initial = 1,
+    };
+}
+
+static void opens(const char *what, twodfq_opening opening, size_t tenants, uint32_t wanted) {
+    twodfq scheduler = TWODFQ_NONE;
+    want(what, twodfq_open(&scheduler, &opening, weights, tenants), wanted);
+    want(what, twodfq_close(&scheduler, 0, 0).kind, wanted == TWODFQ_OPENED ? TWODFQ_ACCEPTED : TWODFQ_NO_SCHEDULER);
+    twodfq_free(&scheduler);
+}
+
+// One number of an opening, from its least to its greatest.
+#define LIMITS(number, least, most, status)                                       \
+    do {                                                                          \
+        twodfq_opening opening = plain();                                         \
+        opens(#number, (opening.number = (most), opening), 1, TWODFQ_OPENED);     \
+        opens(#number, (opening.number = (least)-1, opening), 1, status);         \
+        opens(#number, (opening.number = (most) + 1, opening), 1, status);        \
+    } while (0)
+
+static void no_scheduler(twodfq *handle) {
+    want("submit", twodfq_submit(handle, 0, 0, 0, 0, 1, 0).kind, TWODFQ_NO_SCHEDULER);
+    want("take", twodfq_take(handle, 0, 0, 0).kind, TWODFQ_NO_SCHEDULER);
+    want("report", twodfq_report(handle, 0, 0, 0, 0).kind, TWODFQ_NO_SCHEDULER);
+    want("done", twodfq_done(handle, 0, 0, 0, 0).kind, TWODFQ_NO_SCHEDULER);
+    want("close", twodfq_close(handle, 0, 0).kind, TWODFQ_NO_SCHEDULER);
+    want("weight", twodfq_weight(handle, 0, 0, 0, 1).kind, TWODFQ_NO_SCHEDULER);
+    want("workers", twodfq_workers(handle, 0, 0, 1).kind, TWODFQ_NO_SCHEDULER);
+    want("entry", twodfq_entry(handle, 0).kind, TWODFQ_ENTRY_NONE);
+    twodfq_free(handle);
+}
+
+int main(void) {
+    for (uint32_t tenant = 0; tenant <= MOST_TENANTS; tenant++) weights[tenant] = 1 + tenant % 1000;
+
+    LIMITS(workers, 1, 64, TWODFQ_OPEN_WORKERS);
+    LIMITS(kinds, 1, 64, TWODFQ_OPEN_KINDS);
+    LIMITS(entries, 4, 4194304, TWODFQ_OPEN_ENTRIES);
+    LIMITS(requests, 1, 262144, TWODFQ_OPEN_REQUESTS);
+    LIMITS(initial, 1, 1000000000, TWODFQ_OPEN_INITIAL);
+    twodfq_opening opening = plain();
+    opens("tenants", opening, MOST_TENANTS, TWODFQ_OPENED);
+    opens("tenants", opening, MOST_TENANTS + 1, TWODFQ_OPEN_TENANTS);
+    opens("tenants", opening, 0, TWODFQ_OPEN_TENANTS);
+    opens("pairs", (opening.kinds = 16, opening), MOST_TENANTS, TWODFQ_OPENED);
+    opens("pairs", (opening.kinds = 17, opening), MOST_TENANTS, TWODFQ_OPEN_PAIRS);
+    opening = plain();
+    opens("policy", (opening.policy = TWODFQ_2DFQ + 1, opening), 1, TWODFQ_OPEN_POLICY);
+    opening = plain();
+    opens("estimate", (opening.estimate = TWODFQ_PESSIMISTIC + 1, opening), 1, TWODFQ_OPEN_ESTIMATE);
+    opening = plain();
+    opens("weight", opening, 1000, TWODFQ_OPENED);
+    weights[1] = 1001;
+    opens("weight", opening, 2, TWODFQ_OPEN_WEIGHT);
+    weights[1] = 0;
+    opens("weight", opening, 2, TWODFQ_OPEN_WEIGHT);
+
+    twodfq scheduler = TWODFQ_NONE;
+    no_scheduler(&scheduler);
+    want("open", twodfq_open(&scheduler, &opening, weights, 1), TWODFQ_OPENED);
+    want("open again", twodfq_open(&scheduler, &opening, weights, 1), TWODFQ_OPEN_ALREADY);
+    want("what was held", twodfq_submit(&scheduler, 0, 0, 0, 0, 1, 0).kind, TWODFQ_REQUEST);
+    twodfq_free(&scheduler);
+    no_scheduler(&scheduler);
+    printf("statuses: %d answers at and beyond the limits, and of a handle that holds none\n", count);
+}

@@ -1,0 +1,161 @@
+/* A request scheduler that shares workers fairly among tenants (Two-Dimensional Fair Queuing, Mace and others, 2016).
+
+   Every function is proved to keep its promise, told at each, for all numbers that it may be given. What no proof can see
+   is the caller's to keep:
+   - a handle begins as TWODFQ_NONE, nobody else writes its fields, and of a handle that is copied one is used alone;
+   - pointers are valid: to a handle, an opening, and as many weights as are said (with none, to anything but null);
+   - one call at a time is made on a handle: where threads share it, each call is made under one lock, the caller's own. A
+     handle may pass from one thread to another;
+   - no call is made from a signal handler, or in a child that a process with threads forked.
+
+   Moments and costs are in microseconds. A moment is the caller's clock, and may be any number: a call takes effect at its
+   moment, but not before the last accepted one, and at 10^15 at most. `who` is a number that the caller gives itself; it is
+   written down and not looked at. Tenants, kinds, workers and requests are numbered from 0. */
+#ifndef TWODFQ_H
+#define TWODFQ_H
+
+#include <stdbool.h>
+#include <stddef.h>
+#include <stdint.h>
+
+#ifdef __cplusplus
+extern "C" {
+#endif
+
+/* A scheduler, or none. */
+typedef struct {
+    void *hidden;
+    bool is_open;
+} twodfq;
+#define TWODFQ_NONE { NULL, false }
+
+/* Which waiting request a worker takes. */
+enum {
+    TWODFQ_WFQ,   /* the least finish tag */
+    TWODFQ_WF2Q,  /* the least finish tag of those that have started in virtual time */
+    TWODFQ_MSF2Q, /* as WF2Q, with starts by the virtual time that passed while a tenant was idle */
+    TWODFQ_2DFQ   /* as WF2Q, with starts that differ from worker to worker */
+};
+
+/* What a request is thought to cost before it is done. */
+enum {
+    TWODFQ_DECLARED,   /* what its submit names */
+    TWODFQ_RECENT,     /* the mean of the last eight costs of its tenant and kind */
+    TWODFQ_PESSIMISTIC /* the greatest of the costs of its tenant and kind, which decay */
+};
+
+typedef struct {
+    uint32_t workers;  /* 1 to 64 */
+    uint32_t kinds;    /* 1 to 64; tenants times kinds is at most 65,536 */
+    uint32_t entries;  /* how many entries the history may have: 4 to 4,194,304 */
+    uint32_t requests; /* how many requests may wait at once: 1 to 262,144 */
+    uint32_t policy;   /* TWODFQ_WFQ to TWODFQ_2DFQ */
+    uint32_t estimate; /* TWODFQ_DECLARED to TWODFQ_PESSIMISTIC */
+    uint64_t initial;  /* the estimate before any completion: 1 to 1,000,000,000 */
+} twodfq_opening;
+
+/* What twodfq_open gives. From TWODFQ_OPEN_WORKERS on it is the first number out of its limits, in this order. */
+enum {
+    TWODFQ_OPENED,
+    TWODFQ_OPEN_ALREADY,   /* the handle holds a scheduler */
+    TWODFQ_OPEN_POLICY,    /* no policy has the number */
+    TWODFQ_OPEN_ESTIMATE,  /* no estimator has the number */
+    TWODFQ_OPEN_NO_MEMORY,
+    TWODFQ_OPEN_WORKERS = 16,
+    TWODFQ_OPEN_TENANTS,   /* 1 to 4,096 */
+    TWODFQ_OPEN_WEIGHT,    /* each 1 to 1,000 */
+    TWODFQ_OPEN_KINDS,
+    TWODFQ_OPEN_PAIRS,     /* too many tenants times kinds */
+    TWODFQ_OPEN_ENTRIES,
+    TWODFQ_OPEN_REQUESTS,
+    TWODFQ_OPEN_INITIAL
+};
+
+/* Opens a scheduler in a handle that holds none, with one weight a tenant; the weights are copied. It is the only call that takes
+   memory, and takes all that the scheduler will use. Where it does not give TWODFQ_OPENED, what the handle holds is unchanged. */
+uint32_t twodfq_open(twodfq *handle, const twodfq_opening *opening, const uint32_t *weights, size_t tenants);
+
+/* What a call is answered. The refusals name the first cause that is so, in the order told at the call. TWODFQ_NO_SCHEDULER is what
+   each call on a handle that holds none is answered. */
+enum {
+    TWODFQ_REQUEST,     /* submitted: request has this number */
+    TWODFQ_RUN,         /* the worker runs request from now on; first: its estimate, second: its label */
+    TWODFQ_ACCEPTED,
+    TWODFQ_IDLE,        /* nothing waits; more may come */
+    TWODFQ_DRAINED,     /* nothing waits, and nothing more will come */
+    TWODFQ_RETIRED,     /* the worker is not among those that there are now; first: how many. It may ask again */
+    TWODFQ_REFUSED_CLOSED = 16, /* the history is closed */
+    TWODFQ_REFUSED_TENANT,      /* there is none of this number; first: the number */
+    TWODFQ_REFUSED_KIND,        /* there is none of this number; first: the number */
+    TWODFQ_REFUSED_COST,        /* above 1,000,000,000, or declared as 0; first: the cost given */
+    TWODFQ_REFUSED_SLOTS,       /* as many requests wait as may; first: how many may */
+    TWODFQ_REFUSED_FULL,        /* no room for the call and what must follow it; first: how many entries there may be */
+    TWODFQ_REFUSED_WORKER,      /* there is none of this number; first: the number */
+    TWODFQ_REFUSED_BUSY,        /* the worker runs request */
+    TWODFQ_REFUSED_NOT_RUNNING, /* the worker runs nothing */
+    TWODFQ_REFUSED_FALLING,     /* less than was reported; first: what was reported, second: what is given */
+    TWODFQ_REFUSED_WEIGHT,      /* not 1 to 1,000; first: the weight given */
+    TWODFQ_REFUSED_WORKERS,     /* none, or more than at the opening; first: the number given */
+    TWODFQ_NO_SCHEDULER = 255
+};
+
+/* Numbers that a kind does not use are 0. */
+typedef struct {
+    uint32_t kind, request;
+    uint64_t first, second;
+} twodfq_reply;
+
+/* A request comes; it gets the next number. declared: the cost that its submitter names. label: any number, which comes back with
+   TWODFQ_RUN. Refused: CLOSED, TENANT, KIND, COST, SLOTS, FULL. */
+twodfq_reply twodfq_submit(twodfq *handle, uint32_t who, uint64_t moment, uint32_t tenant, uint32_t kind, uint64_t declared,
+    uint64_t label);
+
+/* A worker asks for work: RUN, IDLE, DRAINED or RETIRED. Refused: WORKER, BUSY. */
+twodfq_reply twodfq_take(twodfq *handle, uint32_t who, uint64_t moment, uint32_t worker);
+
+/* What the worker's request has used so far; it runs on. Refused: WORKER, NOT_RUNNING, COST, FALLING, FULL. */
+twodfq_reply twodfq_report(twodfq *handle, uint32_t who, uint64_t moment, uint32_t worker, uint64_t used);
+
+/* The worker's request has ended, and this is its measured cost. Refused: WORKER, NOT_RUNNING, COST, FALLING. */
+twodfq_reply twodfq_done(twodfq *handle, uint32_t who, uint64_t moment, uint32_t worker, uint64_t cost);
+
+/* Nothing more is submitted; workers that sleep have to be woken to learn it. Refused: CLOSED. */
+twodfq_reply twodfq_close(twodfq *handle, uint32_t who, uint64_t moment);
+
+/* The tenant has this weight from now on. Refused: TENANT, WEIGHT, FULL. */
+twodfq_reply twodfq_weight(twodfq *handle, uint32_t who, uint64_t moment, uint32_t tenant, uint32_t weight);
+
+/* There are so many workers from now on, those with lower numbers; at most as many as at the opening. Refused: WORKERS, FULL. */
+twodfq_reply twodfq_workers(twodfq *handle, uint32_t who, uint64_t moment, uint32_t count);
+
+/* An entry of the history, which has one for each call that was answered REQUEST, RUN or ACCEPTED. */
+enum {
+    TWODFQ_ENTRY_SUBMIT,  /* request, tenant, request_kind, amount: the declared cost, label */
+    TWODFQ_ENTRY_TAKE,    /* request, worker, amount: the estimate */
+    TWODFQ_ENTRY_REPORT,  /* request, worker, amount: the use */
+    TWODFQ_ENTRY_DONE,    /* request, worker, amount: the cost */
+    TWODFQ_ENTRY_CLOSE,
+    TWODFQ_ENTRY_WEIGHT,  /* tenant, amount: the weight */
+    TWODFQ_ENTRY_WORKERS, /* amount: how many */
+    TWODFQ_ENTRY_NONE = 255
+};
+
+/* Numbers that a kind does not use are 0. moment: when the call took effect. */
+typedef struct {
+    uint32_t kind, who;
+    uint64_t moment;
+    uint32_t request, tenant, request_kind, worker;
+    uint64_t amount, label;
+} twodfq_line;
+
+/* The entry with this index, in order of time; the first has 0. NONE where there is no such entry, or no scheduler. */
+twodfq_line twodfq_entry(twodfq *handle, uint64_t index);
+
+/* Gives the scheduler's memory back. The handle holds none from here on; once more does nothing. */
+void twodfq_free(twodfq *handle);
+
+#ifdef __cplusplus
+}
+#endif
+
+#endif

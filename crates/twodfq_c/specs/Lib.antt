@@ -1,0 +1,6 @@
+pub mod Owned
+pub mod Held
+pub mod Replies
+pub mod Answering
+pub mod Entries
+pub mod Opening

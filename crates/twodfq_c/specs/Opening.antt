@@ -1,0 +1,87 @@
+-- Opening a scheduler from plain numbers.
+use Rattle.std.specs.Prelude.{◌≡◌, ◌≤◌, ℕ, List, [], Some, None, IsSome, Result, Ok, Err}
+use Rattle.std.specs.FinMap as map
+use Rattle.fq_model.specs.declared.config.Config.{Config}
+use Rattle.fq_model.specs.declared.config.Policy.{Policy}
+use Rattle.fq_model.specs.declared.config.Policy.TheVariants as policy
+use Rattle.fq_model.specs.declared.config.Estimator.{Estimator}
+use Rattle.fq_model.specs.declared.config.Estimator.TheVariants as estimator
+use Rattle.fq_model.specs.declared.config.ConfigFault.{ConfigFault}
+use Rattle.fq_model.specs.declared.config.ConfigFault.TheVariants as fault
+use Rattle.fq_model.specs.Limits.{InLimits, config_fault}
+use Rattle.twodfq_c.specs.declared.opening.Opening.{Opening}
+use Rattle.twodfq_c.specs.declared.opening.Refusal.{Refusal}
+use Rattle.twodfq_c.specs.declared.opening.Refusal.TheVariants as refusal
+use Rattle.twodfq_c.specs.Held.{Held}
+
+abbrev pub policy_number : Policy → ℕ
+policy_number policy.Wfq = 0
+policy_number policy.Wf2q = 1
+policy_number policy.Msf2q = 2
+policy_number policy.TwoDfq = 3
+
+abbrev pub estimator_number : Estimator → ℕ
+estimator_number estimator.Declared = 0
+estimator_number estimator.Recent = 1
+estimator_number estimator.Pessimistic = 2
+
+abbrev pub fault_status : ConfigFault → ℕ
+fault_status (fault.Workers workers) = 16
+fault_status (fault.Tenants tenants) = 17
+fault_status (fault.Weight tenant) = 18
+fault_status (fault.Kinds kinds) = 19
+fault_status (fault.Pairs pairs) = 20
+fault_status (fault.Entries entries) = 21
+fault_status (fault.Requests requests) = 22
+fault_status (fault.Initial initial) = 23
+
+abbrev pub status : Result (Unit {0}) Refusal → ℕ
+status (Ok opened) = 0
+status (Err refusal.AlreadyOpen) = 1
+status (Err refusal.Policy) = 2
+status (Err refusal.Estimator) = 3
+status (Err refusal.NoMemory) = 4
+status (Err (refusal.Config why)) = fault_status why
+
+-- the configuration of these numbers and these weights
+pub record IsConfigOf (o : Opening) (weights : List ℕ) (c : Config) : Type 0 where
+  pub workers : c.workers ≡ o.workers
+  pub weights_are : c.weights ≡ weights
+  pub kinds : c.kinds ≡ o.kinds
+  pub entries : c.entries ≡ o.entries
+  pub requests : c.requests ≡ o.requests
+  pub policy_is : policy_number c.policy ≡ o.policy
+  pub estimate_is : estimator_number c.estimate ≡ o.estimate
+  pub initial : c.initial ≡ o.initial
+
+-- why the numbers make no configuration: no policy or no estimator has the number, or memory was wanting
+abbrev pub WhyNoConfig : Opening → Refusal → Type 0
+WhyNoConfig o refusal.AlreadyOpen = ⊥
+WhyNoConfig o refusal.Policy = 4 ≤ o.policy
+WhyNoConfig o refusal.Estimator = 3 ≤ o.estimate
+WhyNoConfig o refusal.NoMemory = Unit {0}
+WhyNoConfig o (refusal.Config why) = ⊥
+
+-- why no scheduler was opened: one is there, the configuration's first fault, or what is said above
+abbrev pub WhyNotOpened : Held → Opening → List ℕ → Refusal → Type 0
+WhyNotOpened old o weights refusal.AlreadyOpen = IsSome old
+WhyNotOpened old o weights (refusal.Config why) = (c : Config) × IsConfigOf o weights c × (config_fault c ≡ Some why)
+WhyNotOpened old o weights why = WhyNoConfig o why
+
+-- a scheduler of this configuration, whose numbers are in their limits, with no entries
+pub record HoldsOpened (o : Opening) (weights : List ℕ) (new : Held) : Type 0 where
+  pub config : Config
+  pub config_is : IsConfigOf o weights config
+  pub in_limits : InLimits config
+  pub held : new ≡ Some (record { config = config; past = []; jobs = map.empty })
+
+-- where none was held, such a scheduler; or what was held, for a cause
+abbrev pub OpensWith : Held → Opening → List ℕ → Result (Unit {0}) Refusal → Held → Type 0
+OpensWith old o weights (Ok opened) new = (old ≡ None) × HoldsOpened o weights new
+OpensWith old o weights (Err why) new = (new ≡ old) × WhyNotOpened old o weights why
+
+-- so, and the status says which
+pub record Opens (old : Held) (o : Opening) (weights : List ℕ) (given : ℕ) (new : Held) : Type 0 where
+  pub outcome : Result (Unit {0}) Refusal
+  pub told : given ≡ status outcome
+  pub opens : OpensWith old o weights outcome new

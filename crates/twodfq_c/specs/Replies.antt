@@ -1,0 +1,42 @@
+-- Replies in plain numbers.
+use Rattle.std.specs.Prelude.{ℕ}
+use Rattle.fq_model.specs.declared.event.Cause.{Cause}
+use Rattle.fq_model.specs.declared.event.Cause.TheVariants as cause
+use Rattle.fq_model.specs.declared.event.Reply.{Reply}
+use Rattle.fq_model.specs.declared.event.Reply.TheVariants as answer
+use Rattle.twodfq_c.specs.declared.reply.PlainReply.{PlainReply}
+
+-- one that names a request
+abbrev pub requested : ℕ → ℕ → ℕ → ℕ → PlainReply
+requested kind request first second = record { kind = kind; request = request; first = first; second = second }
+
+-- one that names none
+abbrev pub numbered : ℕ → ℕ → ℕ → PlainReply
+numbered kind first second = requested kind 0 first second
+
+-- that of a handle which holds no scheduler
+abbrev pub no_scheduler : PlainReply
+no_scheduler = numbered 255 0 0
+
+abbrev pub plain_cause : Cause → PlainReply
+plain_cause cause.Closed = numbered 16 0 0
+plain_cause (cause.Tenant tenant) = numbered 17 tenant 0
+plain_cause (cause.Kind kind) = numbered 18 kind 0
+plain_cause (cause.Cost cost) = numbered 19 cost 0
+plain_cause (cause.Slots slots) = numbered 20 slots 0
+plain_cause (cause.Full entries) = numbered 21 entries 0
+plain_cause (cause.Worker worker) = numbered 22 worker 0
+plain_cause (cause.Busy request) = requested 23 request 0 0
+plain_cause cause.NotRunning = numbered 24 0 0
+plain_cause (cause.Falling last given) = numbered 25 last given
+plain_cause (cause.Weight weight) = numbered 26 weight 0
+plain_cause (cause.Workers workers) = numbered 27 workers 0
+
+abbrev pub plain_reply : Reply → PlainReply
+plain_reply (answer.Request request) = requested 0 request 0 0
+plain_reply (answer.Run request estimate label) = requested 1 request estimate label
+plain_reply answer.Accepted = numbered 2 0 0
+plain_reply answer.Idle = numbered 3 0 0
+plain_reply answer.Drained = numbered 4 0 0
+plain_reply (answer.Retired workers) = numbered 5 workers 0
+plain_reply (answer.Refused why) = plain_cause why

@@ -1,0 +1,159 @@
+//! Opening a scheduler from plain numbers.
+ghost use Rattle.std.specs.Prelude.{◌≡◌, ◌≤◌, IfOk, IfErr, IfSome, IfNone};
+ghost use Rattle.twodfq_c.specs.declared.opening.Refusal.TheVariants as refusal;
+ghost use Rattle.twodfq_c.specs.Opening.{OpensWith, IsConfigOf, WhyNoConfig};
+ghost use Rattle.twodfq_c.specs.Opening.{status, fault_status, policy_number, estimator_number};
+
+use crate::handle::Handle;
+use fq_model::config::{Config, ConfigFault, Estimator, Policy, Weights};
+use sched_state::{NoMemory, Scheduler};
+use std::alloc::{AllocError, Global};
+
+/// A configuration without its weights. `policy` is 0 for wfq, 1 for wf2q, 2 for msf2q, 3 for 2dfq; `estimate` is 0 for
+/// declared, 1 for recent, 2 for pessimistic. The other numbers have the limits of `fq_model`'s `Config`.
+#[repr(C)]
+#[derive(Clone, Copy, Debug, PartialEq, Eq)]
+pub struct Opening {
+    pub workers: u32,
+    pub kinds: u32,
+    pub entries: u32,
+    pub requests: u32,
+    pub policy: u32,
+    pub estimate: u32,
+    pub initial: u64,
+}
+
+/// Why no scheduler was opened.
+#[derive(Clone, Copy, Debug, PartialEq, Eq)]
+pub(crate) enum Refusal {
+    /// The handle holds one already.
+    AlreadyOpen,
+    /// No policy has the number.
+    Policy,
+    /// No estimator has the number.
+    Estimator,
+    /// There was not enough memory.
+    NoMemory,
+    /// A number is out of its limits.
+    Config(ConfigFault),
+}
+
+impl From<AllocError> for Refusal {
+    ghost from_gives = { λ _ why. why ≡ refusal.NoMemory };
+
+    fn from(_fault: AllocError) -> Refusal {
+        Refusal::NoMemory
+    }
+}
+
+impl From<NoMemory> for Refusal {
+    ghost from_gives = { λ _ why. why ≡ refusal.NoMemory };
+
+    fn from(_fault: NoMemory) -> Refusal {
+        Refusal::NoMemory
+    }
+}
+
+/// Opens a scheduler in a handle that holds none.
+pub(crate) fn open(
+    handle: &mut Handle,
+    alloc: Global,
+    opening: &Opening,
+    weights: &[u32],
+) -> Result<(), Refusal>
+    ensures { OpensWith handle.old.slot.held opening.now weights.now result handle.new.slot.held }
+{
+    if handle.is_open {
+        return Err(Refusal::AlreadyOpen);
+    }
+    let config = opening.config(alloc, weights)?;
+    let checked = match config.check() {
+        Ok(checked) => checked,
+        Err(fault) => return Err(Refusal::Config(fault)),
+    };
+    let scheduler = Scheduler::open(alloc, checked)?;
+    let Ok(served) = Box::new(alloc, scheduler) else {
+        return Err(Refusal::NoMemory);
+    };
+    *handle = Handle::holding(served);
+    Ok(())
+}
+
+/// 0 where a scheduler was opened, and else the number of the refusal.
+pub(crate) fn status(outcome: Result<(), Refusal>) -> u32
+    ensures { result ≡ status outcome }
+{
+    match outcome {
+        Ok(()) => 0,
+        Err(Refusal::AlreadyOpen) => 1,
+        Err(Refusal::Policy) => 2,
+        Err(Refusal::Estimator) => 3,
+        Err(Refusal::NoMemory) => 4,
+        Err(Refusal::Config(fault)) => fault_status(fault),
+    }
+}
+
+fn fault_status(fault: ConfigFault) -> u32
+    ensures { result ≡ fault_status fault }
+{
+    match fault {
+        ConfigFault::Workers(_) => 16,
+        ConfigFault::Tenants(_) => 17,
+        ConfigFault::Weight(_) => 18,
+        ConfigFault::Kinds(_) => 19,
+        ConfigFault::Pairs(_) => 20,
+        ConfigFault::Entries(_) => 21,
+        ConfigFault::Requests(_) => 22,
+        ConfigFault::Initial(_) => 23,
+    }
+}
+
+impl Opening {
+    // The configuration, whose limits nobody has looked at.
+    fn config(&self, alloc: Global, weights: &[u32]) -> Result<Config, Refusal>
+        ensures config { IfOk result (IsConfigOf self.now weights.now) }
+        ensures why { IfErr result (WhyNoConfig self.now) }
+    {
+        let Some(policy) = policy_of(self.policy) else {
+            return Err(Refusal::Policy);
+        };
+        let Some(estimate) = estimator_of(self.estimate) else {
+            return Err(Refusal::Estimator);
+        };
+        Ok(Config {
+            workers: self.workers,
+            weights: Weights::from_vec(Vec::from_slice(alloc, weights)?),
+            kinds: self.kinds,
+            entries: self.entries,
+            requests: self.requests,
+            policy,
+            estimate,
+            initial: self.initial,
+        })
+    }
+}
+
+fn policy_of(number: u32) -> Option<Policy>
+    ensures some { IfSome result (λ policy. policy_number policy ≡ number) }
+    ensures none { IfNone result (4 ≤ number) }
+{
+    match number {
+        0 => Some(Policy::Wfq),
+        1 => Some(Policy::Wf2q),
+        2 => Some(Policy::Msf2q),
+        3 => Some(Policy::TwoDfq),
+        _ => None,
+    }
+}
+
+fn estimator_of(number: u32) -> Option<Estimator>
+    ensures some { IfSome result (λ estimator. estimator_number estimator ≡ number) }
+    ensures none { IfNone result (3 ≤ number) }
+{
+    match number {
+        0 => Some(Estimator::Declared),
+        1 => Some(Estimator::Recent),
+        2 => Some(Estimator::Pessimistic),
+        _ => None,
+    }
+}

@@ -1,0 +1,107 @@
+//! Replies in plain numbers.
+ghost use Rattle.std.specs.Prelude.{◌≡◌};
+ghost use Rattle.twodfq_c.specs.Replies.{plain_reply, plain_cause, numbered, no_scheduler};
+
+use fq_model::event::{Cause, Reply};
+
+/// A reply to a call: its kind, and the numbers that come with it, 0 where none does.
+///
+/// | kind | reply | request | first | second |
+/// |---|---|---|---|---|
+/// | 0 | submitted | its number | | |
+/// | 1 | run | its number | estimate, in microseconds | label |
+/// | 2, 3, 4 | accepted, idle, drained | | | |
+/// | 5 | retired | | workers now | |
+/// | 16 | refused: closed | | | |
+/// | 17, 18 | refused: no such tenant, kind | | the number given | |
+/// | 19 | refused: cost out of its range | | the cost given | |
+/// | 20, 21 | refused: as many wait, the history has as many entries, as may be | | how many may be | |
+/// | 22 | refused: no such worker | | the number given | |
+/// | 23 | refused: the worker runs a request | that one | | |
+/// | 24 | refused: the worker runs nothing | | | |
+/// | 25 | refused: less than reported before | | reported | given |
+/// | 26, 27 | refused: weight, number of workers out of its range | | the number given | |
+/// | 255 | the handle holds no scheduler | | | |
+#[repr(C)]
+#[derive(Clone, Copy, Debug, PartialEq, Eq)]
+pub struct PlainReply {
+    pub kind: u32,
+    pub request: u32,
+    pub first: u64,
+    pub second: u64,
+}
+
+impl PlainReply {
+    /// What a handle that holds no scheduler answers.
+    pub(crate) fn no_scheduler() -> PlainReply
+        ensures { result ≡ no_scheduler }
+    {
+        numbered(255, 0, 0)
+    }
+
+    /// The reply in numbers.
+    pub(crate) fn of(reply: Reply) -> PlainReply
+        ensures { result ≡ plain_reply reply }
+    {
+        match reply {
+            Reply::Request(request) => PlainReply {
+                kind: 0,
+                request,
+                first: 0,
+                second: 0,
+            },
+            Reply::Run {
+                request,
+                estimate,
+                label,
+            } => PlainReply {
+                kind: 1,
+                request,
+                first: estimate,
+                second: label,
+            },
+            Reply::Accepted => numbered(2, 0, 0),
+            Reply::Idle => numbered(3, 0, 0),
+            Reply::Drained => numbered(4, 0, 0),
+            Reply::Retired(workers) => numbered(5, workers as u64, 0),
+            Reply::Refused(cause) => refused(cause),
+        }
+    }
+}
+
+// The refusal for this cause.
+fn refused(cause: Cause) -> PlainReply
+    ensures { result ≡ plain_cause cause }
+{
+    match cause {
+        Cause::Closed => numbered(16, 0, 0),
+        Cause::Tenant(tenant) => numbered(17, tenant as u64, 0),
+        Cause::Kind(kind) => numbered(18, kind as u64, 0),
+        Cause::Cost(cost) => numbered(19, cost, 0),
+        Cause::Slots(slots) => numbered(20, slots as u64, 0),
+        Cause::Full(entries) => numbered(21, entries as u64, 0),
+        Cause::Worker(worker) => numbered(22, worker as u64, 0),
+        Cause::Busy(request) => PlainReply {
+            kind: 23,
+            request,
+            first: 0,
+            second: 0,
+        },
+        Cause::NotRunning => numbered(24, 0, 0),
+        Cause::Falling { last, given } => numbered(25, last, given),
+        Cause::Weight(weight) => numbered(26, weight as u64, 0),
+        Cause::Workers(workers) => numbered(27, workers as u64, 0),
+    }
+}
+
+// A reply that names no request.
+fn numbered(kind: u32, first: u64, second: u64) -> PlainReply
+    ensures { result ≡ numbered kind first second }
+{
+    PlainReply {
+        kind,
+        request: 0,
+        first,
+        second,
+    }
+}

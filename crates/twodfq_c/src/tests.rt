@@ -1,0 +1,56 @@
+use crate::{
+    Handle, Opening, twodfq_close, twodfq_done, twodfq_entry, twodfq_free, twodfq_open,
+    twodfq_report, twodfq_submit, twodfq_take, twodfq_weight, twodfq_workers,
+};
+use std::test::Fail;
+
+// Two workers, one kind, policy 2dfq, costs as declared.
+const OPENING: Opening = Opening {
+    workers: 2,
+    kinds: 1,
+    entries: 100,
+    requests: 10,
+    policy: 3,
+    estimate: 0,
+    initial: 1000,
+};
+
+#[test]
+fn a_request_from_its_submit_to_its_entry(rt: HostRuntime) -> Result<(), Fail> {
+    let mut handle = Handle::empty();
+    assert_eq!(rt; twodfq_open(&mut handle, rt.alloc(), &OPENING, &[1, 1]), 0);
+    let submitted = twodfq_submit(&mut handle, rt.alloc(), 5, 3, 1, 0, 10, 77);
+    assert_eq!(rt; (submitted.kind, submitted.request), (0, 0));
+    let run = twodfq_take(&mut handle, rt.alloc(), 9, 4, 0);
+    assert_eq!(rt; (run.kind, run.request), (1, 0));
+    assert_eq!(rt; (run.first, run.second), (10, 77));
+    assert_eq!(rt; twodfq_report(&mut handle, rt.alloc(), 9, 5, 0, 6).kind, 2);
+    let falling = twodfq_done(&mut handle, rt.alloc(), 9, 6, 0, 4);
+    assert_eq!(rt; falling.kind, 25);
+    assert_eq!(rt; (falling.first, falling.second), (6, 4));
+    assert_eq!(rt; twodfq_done(&mut handle, rt.alloc(), 9, 6, 0, 8).kind, 2);
+    let done = twodfq_entry(&mut handle, rt.alloc(), 3);
+    assert_eq!(rt; (done.kind, done.who), (3, 9));
+    assert_eq!(rt; (done.moment, done.amount), (6, 8));
+    assert_eq!(rt; twodfq_entry(&mut handle, rt.alloc(), 4).kind, 255);
+    twodfq_free(&mut handle, rt.alloc());
+    assert_eq!(rt; twodfq_take(&mut handle, rt.alloc(), 9, 7, 0).kind, 255);
+    Ok(())
+}
+
+#[test]
+fn changes_and_the_end(rt: HostRuntime) -> Result<(), Fail> {
+    let mut handle = Handle::empty();
+    assert_eq!(rt; twodfq_open(&mut handle, rt.alloc(), &OPENING, &[1, 0]), 18);
+    assert_eq!(rt; twodfq_open(&mut handle, rt.alloc(), &OPENING, &[1, 1]), 0);
+    assert_eq!(rt; twodfq_open(&mut handle, rt.alloc(), &OPENING, &[1, 1]), 1);
+    assert_eq!(rt; twodfq_weight(&mut handle, rt.alloc(), 0, 0, 1, 7).kind, 2);
+    assert_eq!(rt; twodfq_workers(&mut handle, rt.alloc(), 0, 0, 1).kind, 2);
+    let retired = twodfq_take(&mut handle, rt.alloc(), 9, 0, 1);
+    assert_eq!(rt; retired.kind, 5);
+    assert_eq!(rt; retired.first, 1);
+    assert_eq!(rt; twodfq_take(&mut handle, rt.alloc(), 9, 0, 0).kind, 3);
+    assert_eq!(rt; twodfq_close(&mut handle, rt.alloc(), 0, 0).kind, 2);
+    assert_eq!(rt; twodfq_take(&mut handle, rt.alloc(), 9, 0, 0).kind, 4);
+    Ok(())
+}

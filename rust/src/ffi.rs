@@ -1,0 +1,95 @@
+//! The library for C, as its header has it, and its numbers as Rust's types.
+use std::ffi::c_void;
+
+use crate::{Act, Entry, Refusal};
+
+#[repr(C)]
+#[derive(Debug)]
+pub(crate) struct Handle {
+    pub(crate) hidden: *mut c_void,
+    pub(crate) is_open: bool,
+}
+
+#[repr(C)]
+pub(crate) struct Opening {
+    pub(crate) workers: u32,
+    pub(crate) kinds: u32,
+    pub(crate) entries: u32,
+    pub(crate) requests: u32,
+    pub(crate) policy: u32,
+    pub(crate) estimate: u32,
+    pub(crate) initial: u64,
+}
+
+#[repr(C)]
+pub(crate) struct Reply {
+    pub(crate) kind: u32,
+    pub(crate) request: u32,
+    pub(crate) first: u64,
+    pub(crate) second: u64,
+}
+
+#[repr(C)]
+pub(crate) struct Line {
+    kind: u32,
+    who: u32,
+    moment: u64,
+    request: u32,
+    tenant: u32,
+    request_kind: u32,
+    worker: u32,
+    amount: u64,
+    label: u64,
+}
+
+/// Kinds of a reply to a take.
+pub(crate) const IDLE: u32 = 3;
+pub(crate) const DRAINED: u32 = 4;
+pub(crate) const RETIRED: u32 = 5;
+
+extern "C" {
+    pub(crate) fn twodfq_open(handle: *mut Handle, opening: *const Opening, weights: *const u32, tenants: usize)
+        -> u32;
+    pub(crate) fn twodfq_submit(
+        handle: *mut Handle,
+        who: u32,
+        moment: u64,
+        tenant: u32,
+        kind: u32,
+        declared: u64,
+        label: u64,
+    ) -> Reply;
+    pub(crate) fn twodfq_take(handle: *mut Handle, who: u32, moment: u64, worker: u32) -> Reply;
+    pub(crate) fn twodfq_report(handle: *mut Handle, who: u32, moment: u64, worker: u32, used: u64) -> Reply;
+    pub(crate) fn twodfq_done(handle: *mut Handle, who: u32, moment: u64, worker: u32, cost: u64) -> Reply;
+    pub(crate) fn twodfq_close(handle: *mut Handle, who: u32, moment: u64) -> Reply;
+    pub(crate) fn twodfq_weight(handle: *mut Handle, who: u32, moment: u64, tenant: u32, weight: u32) -> Reply;
+    pub(crate) fn twodfq_workers(handle: *mut Handle, who: u32, moment: u64, count: u32) -> Reply;
+    pub(crate) fn twodfq_entry(handle: *mut Handle, index: u64) -> Line;
+    pub(crate) fn twodfq_free(handle: *mut Handle);
+}
+
+impl Reply {
+    /// The reply, where it is not a refusal.
+    pub(crate) fn accepted(self) -> Result<Reply, Refusal> {
+        Refusal::of_reply(&self).map_or(Ok(self), Err)
+    }
+}
+
+impl Line {
+    /// The entry, where there is one.
+    pub(crate) fn entry(self) -> Option<Entry> {
+        let Line { request, tenant, worker, amount, label, .. } = self;
+        let act = match self.kind {
+            0 => Act::Submit { request, tenant, kind: self.request_kind, declared: amount, label },
+            1 => Act::Take { worker, request, estimate: amount },
+            2 => Act::Report { worker, request, used: amount },
+            3 => Act::Done { worker, request, cost: amount },
+            4 => Act::Close,
+            5 => Act::Weight { tenant, weight: amount as u32 },
+            6 => Act::Workers { count: amount as u32 },
+            _ => return None,
+        };
+        Some(Entry { who: self.who, moment: self.moment, act })
+    }
+}

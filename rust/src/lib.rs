@@ -1,0 +1,210 @@
+//! A request scheduler that shares workers fairly among tenants (Two-Dimensional Fair Queuing, Mace and others, 2016), for
+//! Rust: safe calls over the library for C (`c/twodfq.h`), whose contracts are proved. What is here is not proved.
+//!
+//! A [`Scheduler`] goes from thread to thread and is not shared: threads keep it in a `Mutex`, and those with nothing to do
+//! wait at a `Condvar`.
+//!
+//! Moments and costs are in microseconds. A moment is the caller's clock: a call takes effect at its moment, but not before
+//! the last accepted one. `who` is a number that the caller gives itself, which is written down and not looked at. Tenants,
+//! kinds, workers and requests are numbered from 0.
+//!
+//! ```
+//! use twodfq::{Config, Estimator, Policy, Scheduler, Submit, Taken};
+//!
+//! let config = Config {
+//!     workers: 1,
+//!     weights: &[1, 2],
+//!     kinds: 1,
+//!     entries: 100,
+//!     requests: 10,
+//!     policy: Policy::TwoDfq,
+//!     estimate: Estimator::Declared,
+//!     initial: 1000,
+//! };
+//! let mut scheduler = Scheduler::open(&config).unwrap();
+//! scheduler.submit(0, 0, Submit { tenant: 1, kind: 0, declared: 5, label: 42 }).unwrap();
+//! let taken = scheduler.take(1, 3, 0);
+//! assert_eq!(taken, Ok(Taken::Run { request: 0, estimate: 5, label: 42 }));
+//! scheduler.done(1, 8, 0, 5).unwrap(); // after the job is run: its measured cost
+//! ```
+
+mod ffi;
+mod refusal;
+
+use std::ptr;
+
+pub use refusal::{OpenFault, Refusal};
+
+/// Which waiting request a worker takes.
+#[derive(Clone, Copy, Debug, PartialEq, Eq)]
+pub enum Policy {
+    /// The least finish tag.
+    Wfq,
+    /// The least finish tag of those that have started in virtual time.
+    Wf2q,
+    /// As `Wf2q`, with starts by the virtual time that passed while a tenant was idle.
+    Msf2q,
+    /// As `Wf2q`, with starts that differ from worker to worker.
+    TwoDfq,
+}
+
+/// What a request is thought to cost before it is done.
+#[derive(Clone, Copy, Debug, PartialEq, Eq)]
+pub enum Estimator {
+    /// What its submit names.
+    Declared,
+    /// The mean of the last eight costs of its tenant and kind.
+    Recent,
+    /// The greatest of the costs of its tenant and kind, which decay.
+    Pessimistic,
+}
+
+/// What a scheduler is opened with.
+#[derive(Clone, Copy, Debug)]
+pub struct Config<'a> {
+    /// 1 to 64.
+    pub workers: u32,
+    /// One weight a tenant, each 1 to 1,000; 1 to 4,096 tenants.
+    pub weights: &'a [u32],
+    /// 1 to 64; tenants times kinds is at most 65,536.
+    pub kinds: u32,
+    /// How many entries the history may have: 4 to 4,194,304. A request takes three, and each report one.
+    pub entries: u32,
+    /// How many requests may wait at once: 1 to 262,144.
+    pub requests: u32,
+    pub policy: Policy,
+    pub estimate: Estimator,
+    /// The estimate before any completion: 1 to 1,000,000,000.
+    pub initial: u64,
+}
+
+/// A request that comes.
+#[derive(Clone, Copy, Debug, PartialEq, Eq)]
+pub struct Submit {
+    pub tenant: u32,
+    pub kind: u32,
+    /// The cost that its submitter names.
+    pub declared: u64,
+    /// Any number, which comes back with [`Taken::Run`].
+    pub label: u64,
+}
+
+/// What a worker that asks for work is given.
+#[derive(Clone, Copy, Debug, PartialEq, Eq)]
+pub enum Taken {
+    /// The worker runs this request from now on.
+    Run { request: u32, estimate: u64, label: u64 },
+    /// Nothing waits; more may come.
+    Idle,
+    /// Nothing waits, and nothing more will come.
+    Drained,
+    /// There are only so many workers now; this one may ask again.
+    Retired { workers: u32 },
+}
+
+/// What an accepted call did.
+#[derive(Clone, Copy, Debug, PartialEq, Eq)]
+pub enum Act {
+    Submit { request: u32, tenant: u32, kind: u32, declared: u64, label: u64 },
+    Take { worker: u32, request: u32, estimate: u64 },
+    Report { worker: u32, request: u32, used: u64 },
+    Done { worker: u32, request: u32, cost: u64 },
+    Close,
+    Weight { tenant: u32, weight: u32 },
+    Workers { count: u32 },
+}
+
+/// An entry of the history: who made the call, when it took effect, and what it did.
+#[derive(Clone, Copy, Debug, PartialEq, Eq)]
+pub struct Entry {
+    pub who: u32,
+    pub moment: u64,
+    pub act: Act,
+}
+
+/// A scheduler. No call but [`Scheduler::open`] takes memory.
+#[derive(Debug)]
+pub struct Scheduler {
+    handle: ffi::Handle,
+}
+
+// It owns plain data on the heap, and `&mut` gives it to one call at a time. That a handle may be sent is proved.
+unsafe impl Send for Scheduler {}
+
+impl Scheduler {
+    /// Takes all the memory that the scheduler will use.
+    pub fn open(config: &Config) -> Result<Scheduler, OpenFault> {
+        let opening = ffi::Opening {
+            workers: config.workers,
+            kinds: config.kinds,
+            entries: config.entries,
+            requests: config.requests,
+            policy: config.policy as u32,
+            estimate: config.estimate as u32,
+            initial: config.initial,
+        };
+        let mut scheduler = Scheduler { handle: ffi::Handle { hidden: ptr::null_mut(), is_open: false } };
+        let weights = config.weights;
+        let status = unsafe { ffi::twodfq_open(&mut scheduler.handle, &opening, weights.as_ptr(), weights.len()) };
+        OpenFault::of_status(status).map_or(Ok(scheduler), Err)
+    }
+
+    /// A request comes; it gets the next number.
+    pub fn submit(&mut self, who: u32, moment: u64, request: Submit) -> Result<u32, Refusal> {
+        let Submit { tenant, kind, declared, label } = request;
+        let reply = unsafe { ffi::twodfq_submit(&mut self.handle, who, moment, tenant, kind, declared, label) };
+        Ok(reply.accepted()?.request)
+    }
+
+    /// A worker asks for work.
+    pub fn take(&mut self, who: u32, moment: u64, worker: u32) -> Result<Taken, Refusal> {
+        let reply = unsafe { ffi::twodfq_take(&mut self.handle, who, moment, worker) }.accepted()?;
+        Ok(match reply.kind {
+            ffi::IDLE => Taken::Idle,
+            ffi::DRAINED => Taken::Drained,
+            ffi::RETIRED => Taken::Retired { workers: reply.first as u32 },
+            _ => Taken::Run { request: reply.request, estimate: reply.first, label: reply.second },
+        })
+    }
+
+    /// What the worker's request has used so far; it runs on.
+    pub fn report(&mut self, who: u32, moment: u64, worker: u32, used: u64) -> Result<(), Refusal> {
+        unsafe { ffi::twodfq_report(&mut self.handle, who, moment, worker, used) }.accepted().map(drop)
+    }
+
+    /// The worker's request has ended, and this is its measured cost.
+    pub fn done(&mut self, who: u32, moment: u64, worker: u32, cost: u64) -> Result<(), Refusal> {
+        unsafe { ffi::twodfq_done(&mut self.handle, who, moment, worker, cost) }.accepted().map(drop)
+    }
+
+    /// Nothing more is submitted; workers that wait have to be woken to learn it.
+    pub fn close(&mut self, who: u32, moment: u64) -> Result<(), Refusal> {
+        unsafe { ffi::twodfq_close(&mut self.handle, who, moment) }.accepted().map(drop)
+    }
+
+    /// The tenant has this weight from now on, 1 to 1,000.
+    pub fn weight(&mut self, who: u32, moment: u64, tenant: u32, weight: u32) -> Result<(), Refusal> {
+        unsafe { ffi::twodfq_weight(&mut self.handle, who, moment, tenant, weight) }.accepted().map(drop)
+    }
+
+    /// There are so many workers from now on, those with lower numbers; 1 to as many as at the opening.
+    pub fn workers(&mut self, who: u32, moment: u64, count: u32) -> Result<(), Refusal> {
+        unsafe { ffi::twodfq_workers(&mut self.handle, who, moment, count) }.accepted().map(drop)
+    }
+
+    /// The entry of the history with this index, in order of time, the first with 0.
+    pub fn entry(&mut self, index: u64) -> Option<Entry> {
+        unsafe { ffi::twodfq_entry(&mut self.handle, index) }.entry()
+    }
+
+    /// The entries of the history, in order of time.
+    pub fn entries(&mut self) -> impl Iterator<Item = Entry> + '_ {
+        (0..).map_while(|index| self.entry(index))
+    }
+}
+
+impl Drop for Scheduler {
+    fn drop(&mut self) {
+        unsafe { ffi::twodfq_free(&mut self.handle) }
+    }
+}
