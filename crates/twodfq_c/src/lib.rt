@@ -1,5 +1,5 @@
 //! The scheduler for programs in C: functions over a handle that the caller keeps, one call at a time for each handle.
-//! Each answers as the scheduler does, and takes and gives numbers alone, since C knows no enums and no boxes.
+//! Each answers as the scheduler does, and takes and gives numbers alone: no enum and no box may cross to C.
 #![tactic(auto)]
 
 ghost use Rattle.std.specs.Prelude.{◌≡◌, None};
