@@ -1,7 +1,6 @@
 // Times calls of the scheduler, bare and each under a mutex that nobody else wants: a first request of every tenant, then submits,
 // takes, reports and dones drawn with a seed, with about as many waiting at the end as at the start. The calls are drawn before
 // the clock starts. Run it pinned to one processor.
-#define _GNU_SOURCE
 #include <pthread.h>
 #include <stdio.h>
 #include <stdlib.h>
