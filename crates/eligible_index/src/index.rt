@@ -13,8 +13,8 @@ use std::marker::Model;
 use tag_rules::parts::Keys;
 use winner_tree::Tree;
 
-/// Keeps the keys by tenant, and two trees a worker. A change of a tenant's keys costs a mark a worker; a choice costs
-/// the paths of the tenants that were marked since the worker's last choice, or that have become eligible since.
+/// Keeps the keys by tenant, and two trees a worker. A change of a tenant's keys costs a note a worker; a choice costs
+/// the paths of the tenants that were noted since the worker's last choice, or that have become eligible since.
 #[derive(Drop)]
 pub struct IndexChooser {
     policy: Policy,
@@ -99,7 +99,7 @@ impl Chooser for IndexChooser {
 
 impl IndexChooser {
     /// The worker's tree of heads that are not eligible for it, by eligible key, then by finish, then by number. It is
-    /// right for the worker's last choice, as long as no keys have been set since and the workers are as many.
+    /// right for the worker's last choice, as long as no keys have changed since and the workers are as many.
     pub fn later(&self, worker: u32) -> &Tree
         requires { worker < self.now.chooser.setting.most_workers }
         ensures { result.now ≡ (trees_of self.now.trees worker).later }

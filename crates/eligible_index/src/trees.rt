@@ -12,8 +12,8 @@ use std::marker::Model;
 use tag_rules::parts::Keys;
 use winner_tree::Tree;
 
-/// The trees of one worker, whose leaves are the tenants, and the tenants that are noted: whose heads' keys have
-/// changed since the worker chose.
+/// The trees of one worker, whose leaves are the tenants, and the tenants that are noted: those whose keys have changed
+/// since the worker last chose.
 #[derive(Drop)]
 pub struct WorkerTrees {
     later: Marked,

@@ -7,7 +7,7 @@ ghost use Rattle.order_laws.specs.Reach.{key_by_finish, IsInReach};
 ghost use Rattle.order_laws.specs.Examples.{second_of, head};
 
 /// A head starts at 7, is 3 long and finishes at 10. The second of two workers may begin half of 3 earlier, rounded
-/// down: at 6. Of 10 that is three halves of 3, rounded down. At 6 twice the 4 steps that are left to the finish are
+/// down: at 6. That is 10 less three halves of 3, rounded once. At 6 twice the 4 steps that are left to the finish are
 /// within three times 3, at 5 twice 5 are not.
 pub fn rounded_once()
     ensures key { eligible_key (second_of TwoDfq 2 0) (head 7 3) ≡ pos 6 }

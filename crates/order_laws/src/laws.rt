@@ -27,7 +27,8 @@ pub fn reach_is_bounded()
     ensures { ReachIsBounded }
 {}
 
-/// No product of such a comparison leaves the range of 128 bits, where virtual time is 0 at least.
+/// No product of such a comparison leaves the range of 128 bits, where virtual time is 0 at least and the head does not
+/// finish before it.
 pub fn products_fit()
     ensures { ProductsFit }
 {}

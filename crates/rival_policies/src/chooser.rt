@@ -51,7 +51,7 @@ pub trait Chooser: Sized {
 
     /// The tenant whose head a worker takes at virtual time `v`, in steps, which is no earlier than at the choices
     /// before: of the heads that are eligible for the worker the first by finish, or, where none is eligible, the
-    /// first by eligible key; of equal ones that of the lesser request.
+    /// first by eligible key, then by finish; of equal ones that of the lesser request.
     fn choose(&mut self, worker: u32, v: i128) -> Option<u32>
         requires worker { worker < (seen self.old).setting.workers }
         requires not_back { (seen self.old).latest ≤ℤ v }

@@ -41,7 +41,7 @@ impl Model for Turn {
 }
 
 impl Turn {
-    /// Whether the head may be chosen before each one that may not.
+    /// Whether the head is eligible for the worker: it may be chosen before every head that is not.
     pub fn is_eligible(self, keys: Keys) -> bool
         ensures { IsTrue result ↔ IsEligible self keys }
     {

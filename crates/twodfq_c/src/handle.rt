@@ -3,11 +3,11 @@ ghost use Rattle.std.specs.Prelude.{◌≡◌, Some, None, is_some, option_map};
 ghost use Rattle.twodfq_c.specs.Answering.{AnswersHeld};
 ghost use Rattle.twodfq_c.specs.Entries.{ReadsHeld};
 
-use crate::answering::answer;
 use crate::entry::PlainEntry;
 use crate::reply::PlainReply;
 use crate::slot::{Served, Slot};
 use fq_model::event::Call;
+use sched_state::answer;
 use std::alloc::Global;
 use std::marker::Send;
 

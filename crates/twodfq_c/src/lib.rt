@@ -8,7 +8,6 @@ ghost use Rattle.twodfq_c.specs.Answering.{AnswersHeld};
 ghost use Rattle.twodfq_c.specs.Opening.{Opens};
 ghost use Rattle.twodfq_c.specs.Entries.{ReadsHeld};
 
-mod answering;
 mod entry;
 mod handle;
 mod loose;

@@ -1,10 +1,11 @@
-//! Answers calls on a scheduler.
+//! Any call on a scheduler, and its reply.
 ghost use Rattle.std.specs.Prelude.{◌≡◌};
 ghost use Rattle.sched_state.specs.Replies.{AnswersCall, submit_reply, take_reply, change_reply, close_reply};
 
+use crate::replies::{AlreadyClosed, Refused, Taken};
+use crate::scheduler::Scheduler;
 use fq_model::event::{Call, Cause, Reply};
 use rival_policies::chooser::Chooser;
-use sched_state::{AlreadyClosed, Refused, Scheduler, Taken};
 
 /// What the scheduler answers to a call, whose label is the job of what is submitted.
 pub fn answer<X: Chooser>(scheduler: &mut Scheduler<u64, X>, call: Call) -> Reply
