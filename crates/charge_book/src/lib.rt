@@ -4,5 +4,3 @@
 pub mod book;
 pub mod refusal;
 pub mod row;
-#[cfg(test)]
-mod tests;

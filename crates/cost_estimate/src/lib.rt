@@ -7,5 +7,3 @@ pub mod estimate;
 pub mod pairs;
 pub mod pessimistic;
 pub mod recent;
-#[cfg(test)]
-mod tests;

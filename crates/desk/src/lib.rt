@@ -18,6 +18,3 @@ pub use floor::{Crew, Floor};
 pub use refusals::{DoneRefusal, LiveRefusal, OpenFault};
 pub use tokens::{Running, Submitter, Took, Worker};
 pub use told::{Ask, Told};
-
-#[cfg(test)]
-mod tests;

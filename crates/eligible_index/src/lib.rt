@@ -9,6 +9,4 @@ pub mod index;
 mod keys;
 mod marked;
 mod noted;
-#[cfg(test)]
-mod tests;
 mod trees;

@@ -8,5 +8,3 @@ pub mod setting;
 pub mod sharing;
 pub mod slots;
 pub mod table;
-#[cfg(test)]
-mod tests;

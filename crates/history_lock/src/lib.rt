@@ -17,6 +17,3 @@ mod table;
 pub use lock::{HistoryLock, NoMemory, Unsettled};
 pub use machine::Machine;
 pub use pass::Pass;
-
-#[cfg(test)]
-mod tests;

@@ -10,4 +10,3 @@ pub mod Ends
 pub mod Counts
 pub mod TenantLines
 pub mod Refusals
-pub mod Worked

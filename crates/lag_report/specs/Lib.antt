@@ -4,4 +4,3 @@ pub mod Courses
 pub mod Work
 pub mod Ranked
 pub mod Laws
-pub mod Worked

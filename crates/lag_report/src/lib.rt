@@ -11,6 +11,4 @@ pub mod printing;
 mod reading;
 pub mod reporting;
 mod samples;
-#[cfg(test)]
-mod tests;
 mod work;

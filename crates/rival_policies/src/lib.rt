@@ -5,6 +5,4 @@ pub mod chooser;
 mod pass;
 pub mod plain;
 mod scan;
-#[cfg(test)]
-mod tests;
 pub mod turn;

@@ -11,6 +11,3 @@ mod tracker;
 pub use answering::answer;
 pub use replies::{AlreadyClosed, NoMemory, Refused, Taken};
 pub use scheduler::Scheduler;
-
-#[cfg(test)]
-mod tests;

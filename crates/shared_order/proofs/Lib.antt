@@ -10,7 +10,5 @@ pub mod InRow
 pub mod Rows
 pub mod Dense
 pub mod Settling
-pub mod ByTenant
 pub mod Splitting
 pub mod Changes
-pub mod Gaining

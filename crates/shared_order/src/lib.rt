@@ -6,8 +6,4 @@ mod blocks;
 pub mod chooser;
 pub mod head;
 pub mod order;
-#[cfg(test)]
-mod order_tests;
 pub mod search;
-#[cfg(test)]
-mod tests;

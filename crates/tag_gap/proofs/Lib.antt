@@ -6,4 +6,3 @@ pub mod FoundLemmas
 pub mod ReadingLemmas
 pub mod EntryLemmas
 pub mod GapLemmas
-mod TestPasts

@@ -9,5 +9,3 @@ pub mod gaps;
 pub mod lengths;
 pub mod reading;
 pub mod strays;
-#[cfg(test)]
-mod tests;

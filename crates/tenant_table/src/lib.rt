@@ -6,5 +6,3 @@ pub mod kinds;
 pub mod laws;
 pub mod name;
 pub mod tenants;
-#[cfg(test)]
-mod tests;

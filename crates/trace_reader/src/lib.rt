@@ -9,6 +9,4 @@ pub mod laws;
 pub mod messages;
 pub mod printing;
 pub mod reading;
-#[cfg(test)]
-mod tests;
 pub mod trace;

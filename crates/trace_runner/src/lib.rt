@@ -9,5 +9,3 @@ pub mod needed;
 pub mod opening;
 pub mod runner;
 mod staff;
-#[cfg(test)]
-mod tests;

@@ -3,7 +3,5 @@
 
 pub mod clock;
 pub mod idles;
-#[cfg(test)]
-mod tests;
 pub mod times;
 pub mod weights;

@@ -4,5 +4,3 @@
 pub mod gifts;
 pub mod laws;
 pub mod levels;
-#[cfg(test)]
-mod tests;

@@ -1,6 +1,0 @@
-use Rattle.std.proofs.Common.{◌≡◌}
-use Rattle.history_lock.specs.Passes.{IsOf}
-use Rattle.history_lock.proofs.tests.turns.Given as goal
-
-abbrev pub invariant-loop-call : goal.invariant-loop-call
-invariant-loop-call g l = IsOf l.fn.lock l.pass × (l.pass.number ≡ l.fn.pass.number)

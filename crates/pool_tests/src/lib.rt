@@ -1,0 +1,15 @@
+//! Tests of the lock, the desk and the pool, with threads.
+#![tactic(auto)]
+
+#[cfg(test)]
+mod desk_tests;
+#[cfg(test)]
+mod feed_tests;
+#[cfg(test)]
+mod hand_tests;
+#[cfg(test)]
+mod lock_tests;
+#[cfg(test)]
+mod rule_tests;
+#[cfg(test)]
+mod work_tests;

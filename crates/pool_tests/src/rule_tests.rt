@@ -1,0 +1,108 @@
+use worker_gate::cost_rule::{CostRule, WorkCost};
+use worker_gate::counters::{Counters, NO_COUNTERS};
+use worker_gate::gate::{Gate, Slice};
+use worker_gate::kind_rule::{Kind, KindRule};
+use worker_gate::steps::Steps;
+
+fn work(work: u64) -> Counters {
+    Counters {
+        work,
+        items: 0,
+        bytes: 0,
+    }
+}
+
+// Job 0 is worked on by steps; of the others nothing is told, and they never end.
+#[derive(Drop)]
+struct FirstBySteps {
+    steps: Steps,
+}
+
+impl Gate<u64> for FirstBySteps {
+    ghost use Rattle.std.specs.Prelude.{◌==◌, if◌then◌else◌, Some, None};
+
+    ghost course = { λ gate label. if label == 0 then Some gate.steps else None };
+
+    fn slice(&self, job: &u64, k: u32, last: Counters) -> Slice {
+        if *job == 0 {
+            self.steps.slice(k, last)
+        } else {
+            Slice::More(Counters {
+                items: last.items.saturating_add(1),
+                ..last
+            })
+        }
+    }
+}
+
+#[test]
+fn gate_by_steps(rt: HostRuntime) {
+    let gate = FirstBySteps {
+        steps: Steps::new(3, 7),
+    };
+    assert_eq!(rt; gate.slice(&0, 0, NO_COUNTERS), Slice::More(work(3)));
+    assert_eq!(rt; gate.slice(&0, 1, work(3)), Slice::More(work(6)));
+    assert_eq!(rt; gate.slice(&0, 2, work(6)), Slice::End(work(7)));
+    assert_eq!(rt; gate.slice(&0, 0, work(5)), Slice::More(work(5)));
+    let one = Counters {
+        work: 0,
+        items: 1,
+        bytes: 0,
+    };
+    assert_eq!(rt; gate.slice(&1, 9999, NO_COUNTERS), Slice::More(one));
+}
+
+#[test]
+fn steps_of_a_cost(rt: HostRuntime) {
+    // Without refresh, or with more than the cost, it is one slice.
+    assert_eq!(rt; Steps::new(0, 7).slice(0, NO_COUNTERS), Slice::End(work(7)));
+    assert_eq!(rt; Steps::new(8, 7).slice(0, NO_COUNTERS), Slice::End(work(7)));
+    assert_eq!(rt; Steps::new(3, 6).count(), 2);
+    // 10,000 slices of 1 are too few for one more, which takes steps of 2.
+    assert_eq!(rt; Steps::new(1, 10000).count(), 10000);
+    assert_eq!(rt; Steps::new(1, 10001).count(), 5001);
+    let greatest = Steps::new(1, 1000000000);
+    assert_eq!(rt;
+        greatest.slice(9998, NO_COUNTERS),
+        Slice::More(work(999900000))
+    );
+    assert_eq!(rt;
+        greatest.slice(9999, work(999900000)),
+        Slice::End(work(1000000000))
+    );
+}
+
+#[test]
+fn compared_part_by_part(rt: HostRuntime) {
+    let other = Counters {
+        work: 1,
+        items: 2,
+        bytes: 3,
+    };
+    assert!(rt; work(1).is_at_most(other));
+    assert!(rt; !work(2).is_at_most(other));
+    assert!(rt; !other.is_at_most(work(2)));
+}
+
+#[derive(Drop)]
+pub(crate) struct Parity;
+
+impl Kind<u64> for Parity {
+    ghost use Rattle.std.specs.Prelude.{◌%◌};
+
+    ghost kind_of = { λ _ job. job % 2 };
+
+    fn kind(&self, job: &u64) -> u32 {
+        (*job % 2) as u32
+    }
+}
+
+#[test]
+fn rules_of_costs_and_kinds(rt: HostRuntime) {
+    let costs = CostRule::new(WorkCost);
+    assert_eq!(rt; costs.cost(work(999999999)), 999999999);
+    assert_eq!(rt; costs.cost(work(u64::MAX)), 1000000000);
+    let kinds = KindRule::new(Parity, 2);
+    assert_eq!(rt; kinds.kind(&4), 0);
+    assert_eq!(rt; kinds.kind(&5), 1);
+}

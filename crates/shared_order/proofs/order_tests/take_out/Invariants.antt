@@ -1,8 +1,0 @@
-use Rattle.shared_order.specs.Samples.{HasNumbers}
-use Rattle.shared_order.proofs.order_tests.take_out.Given as goal
-
-abbrev pub invariant-loop-number : goal.invariant-loop-number
-invariant-loop-number l = record {
-  there : HasNumbers l.order.heads l.number l.to;
-  later : HasNumbers l.fn.order.heads l.to 70 → HasNumbers l.order.heads l.to 70;
-}

@@ -1,0 +1,15 @@
+//! Tests of traces, names, the fluid reference and lag reports, as callers use them.
+#![tactic(auto)]
+
+#[cfg(test)]
+mod level_tests;
+#[cfg(test)]
+mod name_tests;
+#[cfg(test)]
+mod report_tests;
+#[cfg(test)]
+mod samples;
+#[cfg(test)]
+mod slot_tests;
+#[cfg(test)]
+mod trace_tests;
