@@ -1,5 +1,6 @@
 pub mod Histories
 pub mod Commands
+pub mod Serving
 pub mod Program
 pub mod Causes
 pub mod Stops

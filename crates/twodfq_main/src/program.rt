@@ -16,6 +16,7 @@ use crate::script::served_text;
 use crate::simulation::run_text;
 use crate::stop::Stop;
 use command_line::command::command;
+use eligible_index::index::IndexChooser;
 use fq_io::{Clock, Sink, Source, read_all, write_all};
 use fq_model::command::{Command, GenPrint, HistoryPrint, ScriptPrint};
 use fq_model::trace::RunOptions;
@@ -211,7 +212,7 @@ fn run_script<R: Source, W: Sink>(
     ensures sink_room { W.room sink.new ≡ W.room sink.old }
 {
     let input = read_all(alloc, source, GREATEST_INPUT)?;
-    let text = served_text(alloc, print, input.as_slice())?;
+    let text = served_text::<IndexChooser>(alloc, print, input.as_slice())?;
     write_all(sink, text.as_slice())?;
     Ok(())
 }

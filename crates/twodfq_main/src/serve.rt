@@ -1,34 +1,48 @@
-//! A script's calls, made on a scheduler.
-ghost use Rattle.std.specs.Prelude.{◌≡◌, IfOk};
-ghost use Rattle.fq_model.specs.History.{history_of};
-ghost use Rattle.fq_model.specs.Outcome.{Outcome};
+//! The calls of a script, answered as they are read.
+ghost use Rattle.std.specs.Prelude.{◌≡◌, IfOk, IfErr};
+ghost use Rattle.fq_model.specs.Script.{call_of_words};
+ghost use Rattle.journal_text.specs.Body.{said_below};
+ghost use Rattle.journal_text.specs.Reading.{IsFirstFault};
+ghost use Rattle.twodfq_main.specs.Serving.{IsBodyAnswered};
 
 use fq_model::config::Checked;
-use fq_model::event::{Call, Reply};
+use fq_model::event::Call;
+use journal_text::body::Body;
+use journal_text::fault::ScriptFault;
+use journal_text::replies::reply_line;
 use rival_policies::chooser::Chooser;
-use sched_state::{NoMemory, Scheduler, answer};
+use sched_state::{Scheduler, answer};
 use std::alloc::Global;
 
-/// The replies to the calls of a script, and the scheduler after them.
+/// A scheduler that has answered the calls of a script, and the text of its replies, or none.
 #[derive(Drop)]
 pub struct Served<X: Chooser> {
-    pub replies: Vec<Reply>,
+    pub text: Vec<u8>,
     pub scheduler: Scheduler<u64, X>,
 }
 
-/// Makes the calls in order on a scheduler that is opened for them.
-pub fn serve<X: Chooser + Drop>(
+/// Opens a scheduler, and makes the calls of a script's body on it as they are read. Their replies are kept as text if
+/// they are told. Where a line is no call, nothing is left of the calls before it.
+pub fn serve<'a, X: Chooser + Drop>(
     alloc: Global,
     config: Checked,
-    calls: &[Call],
-) -> Result<Served<X>, NoMemory>
-    ensures outcome { IfOk result (λ s. Outcome config calls.now s.replies.items (history_of s.scheduler.past)) }
+    mut body: Body<'a, Call>,
+    tells: bool,
+) -> Result<Served<X>, ScriptFault>
+    ensures served { IfOk result (λ s. IsBodyAnswered config (said_below call_of_words body) tells
+        s.text.items s.scheduler.past) }
     ensures same { IfOk result (λ s. s.scheduler.config ≡ config) }
+    ensures fault { IfErr result (λ f. IsFirstFault f (said_below call_of_words body)) }
 {
-    let mut replies = Vec::with_capacity(alloc, calls.len())?;
-    let mut scheduler = Scheduler::open(alloc, config)?;
-    for call in calls {
-        replies.push_reserved(answer(&mut scheduler, *call));
+    let Ok(mut scheduler) = Scheduler::open(alloc, config) else {
+        return Err(ScriptFault::NoMemory);
+    };
+    let mut text = Vec::new(alloc);
+    while let Some(call) = body.read_next()? {
+        let reply = answer(&mut scheduler, call);
+        if tells {
+            reply_line(reply, &mut text)?;
+        }
     }
-    Ok(Served { replies, scheduler })
+    Ok(Served { text, scheduler })
 }

@@ -1,14 +1,13 @@
 //! Worked scripts, with the replies that they get.
-use crate::serve::{Served, serve};
-use crate::tests::{SERVED, SERVED_REPLIES, Wanted, check, sink, source_of};
-use journal_text::calls::read_script;
-use journal_text::replies::replies_text;
-use rival_policies::chooser::Chooser;
+use crate::samples::{REPLIES, SCRIPT};
+use crate::worked_tests::{Wanted, check, sink, source_of};
+use fq_model::command::ScriptPrint;
 use rival_policies::plain::PlainChooser;
 use shared_order::chooser::SharedChooser;
 use std::alloc::Global;
 use std::process::Abort;
 use std::test::Fail;
+use twodfq_main::script::served_text;
 
 const HEAD: &str =
     "script 1\nconfig 1 2dfq declared 1000 100 10\ntenant a 1\ntenant b 1\nkind get\n";
@@ -21,19 +20,11 @@ fn answers(rt: &impl Abort, alloc: Global, input: &str, replies: &str) -> Result
 // The input is served, with these replies, whichever chooser serves.
 fn each_answers(rt: &impl Abort, alloc: Global, input: &str, replies: &str) -> Result<(), Fail> {
     answers(rt, alloc, input, replies)?;
-    let plain = replies_by::<PlainChooser>(alloc, input)?;
+    let plain = served_text::<PlainChooser>(alloc, ScriptPrint::Replies, input.as_bytes())?;
     assert_eq!(rt; plain.as_slice(), replies.as_bytes());
-    let shared = replies_by::<SharedChooser>(alloc, input)?;
+    let shared = served_text::<SharedChooser>(alloc, ScriptPrint::Replies, input.as_bytes())?;
     assert_eq!(rt; shared.as_slice(), replies.as_bytes());
     Ok(())
-}
-
-// The replies to the calls of a script by a scheduler over this chooser.
-fn replies_by<X: Chooser + Drop>(alloc: Global, input: &str) -> Result<Vec<u8>, Fail> {
-    let script = read_script(alloc, input.as_bytes())?;
-    let (config, _tenants, _kinds, calls) = script.into_parts();
-    let served: Served<X> = serve(alloc, config, calls.as_slice())?;
-    Ok(replies_text(alloc, served.replies.as_slice())?)
 }
 
 // The input is served, and this is written.
@@ -61,7 +52,7 @@ fn prints(
 
 #[test]
 fn serves_one_tenant(rt: HostRuntime) -> Result<(), Fail> {
-    answers(&rt, rt.alloc(), SERVED, SERVED_REPLIES)
+    answers(&rt, rt.alloc(), SCRIPT, REPLIES)
 }
 
 #[test]

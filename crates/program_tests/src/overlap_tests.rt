@@ -1,6 +1,6 @@
 //! A trace that a pool of threads serves, at least two of them at once.
-use crate::program::twodfq;
-use crate::tests::{sink, source_of};
+use twodfq_main::program::twodfq;
+use crate::worked_tests::{sink, source_of};
 use fq_io::Clock;
 use std::sync::atomic::{AtomicU64, Ordering};
 use std::test::Fail;

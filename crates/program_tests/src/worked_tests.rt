@@ -1,16 +1,10 @@
 //! Worked examples of the program, from the bytes that come in to the bytes that go out.
-use crate::program::{plain, twodfq};
+use twodfq_main::program::{plain, twodfq};
+use crate::samples::{REPLIES, SCRIPT};
 use fq_io::{FixedClock, MemSink, MemSource, read_all};
 use std::alloc::Global;
 use std::process::Abort;
 use std::test::Fail;
-
-// A request of one tenant, served until the scheduler is drained, and one that comes after the close.
-pub const SERVED: &str =
-    "script 1\nconfig 1 2dfq declared 1000 100 10\ntenant a 1\ntenant b 1\nkind get\n\
-    submit 0 0 0 0 5 7\ntake 9 0 0\ndone 9 5 0 5\ntake 9 5 0\nclose 0 5\ntake 9 5 0\nsubmit 0 5 0 0 5 8\n";
-
-pub const SERVED_REPLIES: &str = "request 0\nrun 0 5 7\nok\nidle\nok\ndrained\nrefused closed\n";
 
 // What a call is to leave.
 #[derive(Clone, Copy)]
@@ -99,7 +93,7 @@ fn words_of_no_command_leave_the_input(rt: HostRuntime) -> Result<(), Fail> {
     let help = ["script", "--help"];
     let live = ["live"];
     for words in [none.as_slice(), help.as_slice(), live.as_slice()] {
-        let mut source = source_of(rt.alloc(), SERVED)?;
+        let mut source = source_of(rt.alloc(), SCRIPT)?;
         check(
             &rt,
             rt.alloc(),
@@ -109,7 +103,7 @@ fn words_of_no_command_leave_the_input(rt: HostRuntime) -> Result<(), Fail> {
             &wanted,
         )?;
         let rest = read_all(rt.alloc(), &mut source, 1000)?;
-        assert_eq!(rt; rest.as_slice(), SERVED.as_bytes());
+        assert_eq!(rt; rest.as_slice(), SCRIPT.as_bytes());
     }
     Ok(())
 }
@@ -127,13 +121,13 @@ fn devices_fail(rt: HostRuntime) -> Result<(), Fail> {
         &rt,
         rt.alloc(),
         &["script"],
-        &mut source_of(rt.alloc(), SERVED)?,
+        &mut source_of(rt.alloc(), SCRIPT)?,
         &mut short,
         &writing,
     )?;
 
     // The first read fails.
-    let bytes = SERVED.as_bytes().to_vec(rt.alloc())?;
+    let bytes = SCRIPT.as_bytes().to_vec(rt.alloc())?;
     let mut broken = MemSource::new(bytes, 4096, [0].to_vec(rt.alloc())?);
     let reading = Wanted {
         status: 4,
@@ -153,7 +147,7 @@ fn devices_fail(rt: HostRuntime) -> Result<(), Fail> {
 #[test]
 fn serves_with_a_clock(rt: HostRuntime) -> Result<(), Fail> {
     let words = [String::from_str(rt.alloc(), "script")?];
-    let mut source = source_of(rt.alloc(), SERVED)?;
+    let mut source = source_of(rt.alloc(), SCRIPT)?;
     let mut written = sink(rt.alloc())?;
     let mut told = sink(rt.alloc())?;
     let clock = FixedClock::new(7);
@@ -167,7 +161,7 @@ fn serves_with_a_clock(rt: HostRuntime) -> Result<(), Fail> {
         &clock,
     );
     assert_eq!(rt; status, 0);
-    assert_eq!(rt; written.bytes(), SERVED_REPLIES.as_bytes());
+    assert_eq!(rt; written.bytes(), REPLIES.as_bytes());
     assert_eq!(rt; told.bytes(), b"".as_slice());
     Ok(())
 }

@@ -10,6 +10,9 @@ pub const SCRIPT: &str =
     "script 1\nconfig 1 2dfq declared 1000 100 10\ntenant a 1\ntenant b 1\nkind get\n\
     submit 0 0 0 0 5 7\ntake 9 0 0\ndone 9 5 0 5\ntake 9 5 0\nclose 0 5\ntake 9 5 0\nsubmit 0 5 0 0 5 8\n";
 
+/// The replies to it.
+pub const REPLIES: &str = "request 0\nrun 0 5 7\nok\nidle\nok\ndrained\nrefused closed\n";
+
 /// Three requests of two tenants, sent by two submitters. 89 bytes.
 pub const TRACE: &str =
     "tenant,a,1\ntenant,b,1\nrequest,0,0,a,scan,8,8\nrequest,0,0,b,get,2,2\nrequest,0,1,b,get,2,2\n";

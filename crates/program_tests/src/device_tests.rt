@@ -1,10 +1,8 @@
 //! Devices that fail at any one of their calls.
-use crate::samples::{NEVER, RUN, SCRIPT, TRACE, expect_stop, run, sink_failing, source_failing};
+use crate::samples::{NEVER, REPLIES, RUN, SCRIPT, TRACE, expect_stop, run, sink_failing, source_failing};
 use std::alloc::Global;
 use std::process::Abort;
 use std::test::Fail;
-
-const REPLIES: &str = "request 0\nrun 0 5 7\nok\nidle\nok\ndrained\nrefused closed\n";
 
 const SIMULATED: &str =
     "journal 1\nconfig 2 2dfq declared 1000 10 3\ntenant a 1\ntenant b 1\nkind scan\nkind get\n\

@@ -4,8 +4,8 @@ ghost use Rattle.std.specs.String.{string_bytes};
 ghost use Rattle.twodfq_main.specs.Commands.{asked, is_plain, Untold};
 ghost use Rattle.twodfq_main.specs.Laws.{AreOutputsShorter};
 
-use crate::program::plain;
-use crate::tests::{SERVED, SERVED_REPLIES};
+use twodfq_main::program::plain;
+use crate::samples::{REPLIES, SCRIPT};
 use fq_io::{CleanSink, CleanSource};
 use std::alloc::Global;
 use std::test::Fail;
@@ -32,11 +32,11 @@ fn clean_run(
 #[test]
 fn memory_never_fails(rt: HostRuntime) -> Result<(), Fail> {
     let words = [String::from_str(rt.alloc(), "script")?];
-    let mut source = CleanSource::new(SERVED.as_bytes().to_vec(rt.alloc())?);
+    let mut source = CleanSource::new(SCRIPT.as_bytes().to_vec(rt.alloc())?);
     let mut sink = CleanSink::with_room(rt.alloc(), 1000)?;
     let mut errs = CleanSink::with_room(rt.alloc(), 1000)?;
     let status = plain(rt.alloc(), &words, &mut source, &mut sink, &mut errs);
     assert_eq!(rt; status, 0);
-    assert_eq!(rt; sink.bytes(), SERVED_REPLIES.as_bytes());
+    assert_eq!(rt; sink.bytes(), REPLIES.as_bytes());
     Ok(())
 }
