@@ -68,7 +68,7 @@ module _ {J : Type 0} where
   last_once slots at (x ∷ xs) l p (inr h) = last_once slots (slot_at slots x).next xs l p.2 h
 
   -- a chain stays where its slots stay
-  pub linked_stays : (slots after : List (Slot J)) (at : Option ℕ) (ns : List ℕ) → length after ≡ length slots → ((i : ℕ) → StandsIn i ns → (slot_at after i).next ≡ (slot_at slots i).next) → AreLinked slots at ns → AreLinked after at ns
+  pub linked_stays : (slots after : List (Slot J)) (at : Option ℕ) (ns : List ℕ) → length slots ≤ length after → ((i : ℕ) → StandsIn i ns → (slot_at after i).next ≡ (slot_at slots i).next) → AreLinked slots at ns → AreLinked after at ns
   linked_stays slots after at [] size same p = p
   linked_stays slots after at (n ∷ ns) size same p =
       let rest : AreLinked after (slot_at slots n).next ns = linked_stays slots after (slot_at slots n).next ns size (λ i h. same i (inr h)) p.2 in

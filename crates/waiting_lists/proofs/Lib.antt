@@ -4,3 +4,4 @@ pub mod Pushes
 pub mod Pops
 pub mod Counts
 pub mod Opens
+pub mod Grows

@@ -80,7 +80,7 @@ module _ {J : Type 0} where
     other_listed u ne lt =
         let l : AreListOf slots (get_or ends u None) (k.numbers u) = k.listed u lt in
         subst (λ e. AreListOf after e (k.numbers u)) (sym (m.others u ne)) (record {
-          linked = linked_stays slots after (first_of (get_or ends u None)) (k.numbers u) m.size (λ i h. ap (λ (s : Slot J). s.next) (other_stays u i ne lt h)) l.linked;
+          linked = linked_stays slots after (first_of (get_or ends u None)) (k.numbers u) (omega (arith, m.size)) (λ i h. ap (λ (s : Slot J). s.next) (other_stays u i ne lt h)) l.linked;
           occupied = λ i h. subst (λ (s : Slot J). IsSome s.item) (sym (other_stays u i ne lt h)) (l.occupied i h);
           last = l.last;
         })

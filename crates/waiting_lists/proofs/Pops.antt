@@ -61,9 +61,6 @@ module _ {J : Type 0} (slots : List (Slot J)) (ends : List (Option Ends)) (free 
     head_is = first_item.1 ∙ ap (λ (l : List (Item J)). slice_get l 0) (sym list_items)
 
     module _ (now : Option Ends) (first : first_of now ≡ (slot_at slots e.first).next) (last : IfSome now (λ n. n.last ≡ e.last)) where
-      freed : List (Slot J)
-      freed = set slots e.first (record { item = None; next = free })
-
       same : (i : ℕ) → i ≢ e.first → slot_at (set slots e.first (record { item = None; next = free })) i ≡ slot_at slots i
       same i ne = slot_at_other slots e.first i (record { item = None; next = free }) ne
 
@@ -99,14 +96,14 @@ module _ {J : Type 0} (slots : List (Slot J)) (ends : List (Option Ends)) (free 
               | inr s ↦ updated_other k.owner e.first (length ends) i (free_apart i s) ∙ k.owned (length ends) i (omega arith) s
             ];
             listed = subst (λ o. AreListOf after o rest) (sym (get_or-set_same ends t now None lt)) (record {
-              linked = subst (λ o. AreLinked after o rest) (sym first) (linked_stays slots after (slot_at slots e.first).next rest size (λ i h. ap (λ (s : Slot J). s.next) (same i (rest_apart i h))) rest_linked.2);
+              linked = subst (λ o. AreLinked after o rest) (sym first) (linked_stays slots after (slot_at slots e.first).next rest (omega (arith, size)) (λ i h. ap (λ (s : Slot J). s.next) (same i (rest_apart i h))) rest_linked.2);
               occupied = λ i h. subst (λ (s : Slot J). IsSome s.item) (sym (same i (rest_apart i h))) ((k.listed t lt).occupied i (subst (StandsIn i) (sym rest_is) (inr h)));
               last = last_of now first last old_last.0 (sym rest_is ∙ old_last.1);
             });
             spare = (
               refl,
               omega (arith, size, first_bound),
-              subst (λ o. AreLinked after o (k.numbers (length ends))) (sym (ap (λ (s : Slot J). s.next) (slot_at_same slots e.first (record { item = None; next = free }) first_bound))) (linked_stays slots after free (k.numbers (length ends)) size (λ i h. ap (λ (s : Slot J). s.next) (same i (free_apart i h))) k.spare),
+              subst (λ o. AreLinked after o (k.numbers (length ends))) (sym (ap (λ (s : Slot J). s.next) (slot_at_same slots e.first (record { item = None; next = free }) first_bound))) (linked_stays slots after free (k.numbers (length ends)) (omega (arith, size)) (λ i h. ap (λ (s : Slot J). s.next) (same i (free_apart i h))) k.spare),
             );
             conserved = omega (arith, ap (λ (l : List ℕ). length l) rest_is);
           }

@@ -23,6 +23,14 @@ module _ {J : Type 0} where
   pub full_lists : (slots : List (Slot J)) (ends : List (Option Ends)) (k : Keeps slots ends None) → count_of (lists_of slots ends) ≡ length slots
   full_lists slots ends k = omega (arith, k.total, ap (λ (l : List ℕ). length l) (none_linked slots (k.numbers (length ends)) k.spare))
 
+  no_links : (slots : List (Slot J)) (at : Option ℕ) (ns : List ℕ) → AreLinked slots at ns → length ns ≡ 0 → at ≡ None
+  no_links slots at [] p e = p
+  no_links slots at (n ∷ ns) p e = absurd (omega (arith, e))
+
+  -- all are in lists: none is free
+  pub full_free : (slots : List (Slot J)) (ends : List (Option Ends)) (free : Option ℕ) (k : Keeps slots ends free) → count_of (lists_of slots ends) ≡ length slots → free ≡ None
+  full_free slots ends free k full = no_links slots free (k.numbers (length ends)) k.spare (omega (arith, k.total, full))
+
   module _ (slots : List (Slot J)) (ends : List (Option Ends)) (slot : ℕ) (k : Keeps slots ends (Some slot)) where
     rest : List ℕ
     rest = (first_free slots slot (k.numbers (length ends)) k.spare).0
@@ -45,9 +53,6 @@ module _ {J : Type 0} where
 
     rest_apart : (i : ℕ) → StandsIn i rest → i ≢ slot
     rest_apart i h e = first_once slots (Some slot) slot rest rest_linked (subst (λ v. StandsIn v rest) e h)
-
-    pub has_room : count_of (lists_of slots ends) < length slots
-    has_room = omega (arith, k.total, ap (λ (l : List ℕ). length l) rest_is)
 
     module _ (t : ℕ) (lt : t < length ends) where
       list_owner : (i : ℕ) → StandsIn i (k.numbers t) → k.owner i ≡ t
@@ -84,7 +89,7 @@ module _ {J : Type 0} where
             occupied = push_occupied;
             last = (k.numbers t, ap (λ v. k.numbers t ++ v ∷ []) (sym last));
           });
-          spare = linked_stays slots after (slot_at slots slot).next rest size (λ i h. ap (λ (s : Slot J). s.next) (same i (rest_apart i h) (λ e. omega (arith, lt, e, rest_owner i h)))) rest_linked.2;
+          spare = linked_stays slots after (slot_at slots slot).next rest (omega (arith, size)) (λ i h. ap (λ (s : Slot J). s.next) (same i (rest_apart i h) (λ e. omega (arith, lt, e, rest_owner i h)))) rest_linked.2;
           conserved = omega (arith, length_push (k.numbers t) slot, ap (λ (l : List ℕ). length l) rest_is);
         }
 
@@ -99,9 +104,6 @@ module _ {J : Type 0} where
 
       -- the two writes
       module _ (item : Item J) where
-        placed_slots : List (Slot J)
-        placed_slots = set slots slot (record { item = Some item; next = None })
-
         -- what `append` has done
         pub record HasPushed (after : List (Slot J)) (new : Ends) : Type 0 where
           pub size : length after ≡ length slots

@@ -1,5 +1,5 @@
 -- How slots are linked to lists.
-use Rattle.std.specs.Prelude.{ℕ, zero, suc, ◌≡◌, ◌+◌, ◌<◌, ◌≤◌, List, [], ◌∷◌, ◌++◌, Option, Some, None, length, map, sum_by, slice_index_or, IfSome, IsSome, MatchOption, slice_set, drop, ◌⊎◌, ◌^◌}
+use Rattle.std.specs.Prelude.{ℕ, zero, suc, ◌≡◌, ◌+◌, ◌<◌, ◌≤◌, List, [], ◌∷◌, ◌++◌, Option, Some, None, length, map, sum_by, slice_index_or, IfSome, IsSome, MatchOption, slice_set, drop, ◌⊎◌}
 use Rattle.waiting_lists.specs.declared.item.Item.{Item}
 use Rattle.waiting_lists.specs.declared.links.Slot.{Slot}
 use Rattle.waiting_lists.specs.declared.links.Ends.{Ends}
@@ -74,8 +74,16 @@ module _ {J : Type 0} where
     pub short : (tenant : ℕ) → tenant < length ends → length (numbers tenant) ≤ length slots
     pub total : count_of (lists_of slots ends) + length (numbers (length ends)) ≡ length slots
 
-  -- that, and the number of items
-  pub record KeepsCount (slots : List (Slot J)) (ends : List (Option Ends)) (free : Option ℕ) (len : ℕ) : Type 0 where
+  -- that, the number of items, and memory for as many slots as there may be
+  pub record KeepsCount (slots : List (Slot J)) (ends : List (Option Ends)) (free : Option ℕ) (len room capacity : ℕ) : Type 0 where
     pub links : Keeps slots ends free
     pub counted : len ≡ count_of (lists_of slots ends)
-    pub in_range : length slots < 2 ^ 32
+    pub within : length slots ≤ room
+    pub reserved : room ≤ capacity
+
+  -- A slot is free after it, or there may be no more; the lists are as before, whichever ends they have.
+  pub record IsMadeFree (slots : List (Slot J)) (free : Option ℕ) (room : ℕ) (slots2 : List (Slot J)) (free2 : Option ℕ) : Type 0 where
+    pub keeps : (ends : List (Option Ends)) → Keeps slots ends free → Keeps slots2 ends free2
+    pub same : (ends : List (Option Ends)) → Keeps slots ends free → lists_of slots2 ends ≡ lists_of slots ends
+    pub within : length slots2 ≤ room
+    pub full : free2 ≡ None → length slots2 ≡ room

@@ -3,7 +3,7 @@ use Rattle.std.specs.Prelude.{ℕ, List, [], length, sum_by, slice_index_or, sli
 use Rattle.std.specs.Coded.{Coded, code_by, coded×, coded_ℕ, coded_list}
 use Rattle.waiting_lists.specs.declared.item.Item.{Item}
 
--- one list of items a tenant, and how many slots all of them have
+-- one list of items a tenant, and how many slots there may be for all of them
 pub record ListsView (J : Type 0) : Type 0 where
   pub lists : List (List (Item J))
   pub slots : ℕ

@@ -1,6 +1,6 @@
 //! Slots, and how they are linked to lists.
-ghost use Rattle.std.specs.Prelude.{◌≡◌, ◌<◌, ◌++◌, [], ◌∷◌, drop, length, None, Some, OnOk, OnErr, IfErr, IfSome, MatchOption, slice_get, slice_set, slice_index_or, if◌then◌else◌, nat_lt};
-ghost use Rattle.waiting_lists.specs.Linked.{lists_of, count_of, Keeps, IsAppended, IsTakenOff, IsLinkedBehind};
+ghost use Rattle.std.specs.Prelude.{◌≡◌, ◌<◌, ◌≤◌, ◌++◌, [], ◌∷◌, drop, length, None, Some, OnOk, OnErr, IfErr, IfSome, MatchOption, slice_get, slice_set, slice_index_or, vec_capacity};
+ghost use Rattle.waiting_lists.specs.Linked.{lists_of, count_of, Keeps, IsMadeFree, IsAppended, IsTakenOff, IsLinkedBehind};
 
 use crate::item::Item;
 use std::mem;
@@ -19,11 +19,21 @@ pub struct Ends {
     pub last: u32,
 }
 
-/// The link to a slot in a row of so many, or none past the last.
-pub fn link_to(slot: u32, slots: u32) -> Option<u32>
-    ensures { result ≡ (if nat_lt slot slots then Some slot else None) }
+/// Where no slot is free and there may be one more, adds an empty one, which is then the free one.
+pub fn make_free<J: Drop>(slots: &mut Vec<Slot<J>>, free: &mut Option<u32>, room: u32)
+    requires within { length slots.old.items ≤ room }
+    requires reserved { room ≤ vec_capacity slots.old }
+    ensures made { IsMadeFree slots.old.items free.old room slots.new.items free.new }
+    ensures capacity { vec_capacity slots.new ≡ vec_capacity slots.old }
 {
-    if slot < slots { Some(slot) } else { None }
+    let count = slots.len() as u32;
+    if free.is_none() && count < room {
+        slots.push_reserved(Slot {
+            item: None,
+            next: None,
+        });
+        *free = Some(count);
+    }
 }
 
 /// Puts an item into the first free slot, and that slot at the end of a tenant's list. Where none is free the item

@@ -3,7 +3,7 @@ ghost use Rattle.std.specs.Prelude.{◌≡◌, ◌<◌, ◌≤◌, ◌++◌, [],
 ghost use Rattle.waiting_lists.specs.Lists.{ListsView, list_of, waiting, with_list};
 
 use crate::item::Item;
-use crate::links::{Ends, Slot, append, link_to, take_first};
+use crate::links::{Ends, Slot, append, make_free, take_first};
 use std::alloc::{AllocError, Global};
 use std::marker::Model;
 
@@ -18,10 +18,14 @@ impl From<AllocError> for NoMemory {
     }
 }
 
-/// One list of waiting items a tenant, in the order in which they came. All share a fixed number of slots.
+/// One list of waiting items a tenant, in the order in which they came. All share a fixed number of slots. Memory for
+/// them is set aside at opening, and used only for as many as ever had items at once.
 #[derive(Drop)]
 pub struct Lists<J> {
+    // those that were needed so far, with memory for all
     slots: Vec<Slot<J>>,
+    // how many there may be
+    room: u32,
     // the ends of each tenant's list that has an item
     ends: Vec<Option<Ends>>,
     // the first of the slots that hold no item, linked among themselves
@@ -30,7 +34,7 @@ pub struct Lists<J> {
 }
 
 impl<J> Model for Lists<J> {
-    ghost use Rattle.std.specs.Prelude.{length};
+    ghost use Rattle.std.specs.Prelude.{vec_capacity};
     ghost use Rattle.waiting_lists.specs.Lists.{ListsView, lists_code};
 
     ghost Value = { ListsView J };
@@ -39,9 +43,9 @@ impl<J> Model for Lists<J> {
 
     ghost use Rattle.waiting_lists.specs.Linked.{lists_of, KeepsCount};
 
-    ghost view = { λ l. record { lists = lists_of l.slots.items l.ends.items; slots = length l.slots.items } };
+    ghost view = { λ l. record { lists = lists_of l.slots.items l.ends.items; slots = l.room } };
 
-    ghost invariant = { λ l. KeepsCount l.slots.items l.ends.items l.free l.len };
+    ghost invariant = { λ l. KeepsCount l.slots.items l.ends.items l.free l.len l.room (vec_capacity l.slots) };
 }
 
 impl<J: Drop> Lists<J> {
@@ -50,20 +54,16 @@ impl<J: Drop> Lists<J> {
         ensures { IfOk result (λ l. l ≡ record { lists = replicate tenants []; slots = slots }) }
     {
         let ends = empty_ends(alloc, tenants)?;
-        let mut places = Vec::with_capacity(alloc, slots as usize)?;
-        for slot in 0..slots {
-            let next = link_to(slot + 1, slots);
-            places.push_reserved(Slot { item: None, next });
-        }
         Ok(Lists {
-            slots: places,
+            slots: Vec::with_capacity(alloc, slots as usize)?,
+            room: slots,
             ends,
-            free: link_to(0, slots),
+            free: None,
             len: 0,
         })
     }
 
-    /// Appends an item to a tenant's list. Where no slot is free the item comes back.
+    /// Appends an item to a tenant's list. Where every slot has an item the item comes back.
     pub fn push(&mut self, tenant: u32, item: Item<J>) -> Result<(), Item<J>>
         requires { tenant < length self.old.lists }
         ensures room { OnOk result (waiting self.old < self.old.slots) }
@@ -72,6 +72,7 @@ impl<J: Drop> Lists<J> {
         ensures back { IfErr result (λ i. i ≡ item) }
         ensures unchanged { OnErr result (self.new ≡ self.old) }
     {
+        make_free(&mut self.slots, &mut self.free, self.room);
         append(
             &mut self.slots,
             &mut self.ends,

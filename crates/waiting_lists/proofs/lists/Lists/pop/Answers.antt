@@ -7,20 +7,20 @@ pub invariant_of-self : goal.invariant_of-self
 invariant_of-self g c =
     let s = c.self.inside in
     let f = c.take_first.new in
-    let known : c.args.tenant < length s.ends.items = known_tenant s.slots.items s.ends.items c.args.self.now c.args.tenant c.self.view_is c.requires in
+    let known : c.args.tenant < length s.ends.items = known_tenant s.slots.items s.ends.items s.room c.args.self.now c.args.tenant c.self.view_is c.requires in
     let rest : lists_of f.slots f.ends ≡ set (lists_of s.slots.items s.ends.items) c.args.tenant (drop 1 (get_or (lists_of s.slots.items s.ends.items) c.args.tenant [])) = rw (c.deref_mut.ensures.value, c.deref_mut-2.ensures.value) at c.take_first.ensures.rest in
     let none : slice_get (get_or (lists_of s.slots.items s.ends.items) c.args.tenant []) 0 ≡ None = rw (c.deref_mut.ensures.value, c.deref_mut-2.ensures.value) at (sym c.take_first.ensures.first ∙ c.in_err-item.was) in
     let size : length f.slots ≡ length s.slots.items = search rules in
-    kept_back s.slots.len s.ends.len f.slots s.slots.items f.ends s.ends.items f.free s.len (search rules) (search rules)
-    (counted_none s.slots.items f.slots s.ends.items f.ends s.free f.free s.len c.args.tenant c.self.invariant c.take_first.ensures.keeps size known rest none)
+    kept_back s.slots.len s.ends.len f.slots s.slots.items f.ends s.ends.items f.free s.len s.room _ (search rules) (search rules)
+    (counted_none s.slots.items f.slots s.ends.items f.ends s.free f.free s.len s.room _ c.args.tenant c.self.invariant c.take_first.ensures.keeps size known rest none)
 
 pub invariant_of-self-2 : goal.invariant_of-self-2
 invariant_of-self-2 g c =
     let s = c.self.inside in
     let f = c.take_first.new in
-    let known : c.args.tenant < length s.ends.items = known_tenant s.slots.items s.ends.items c.args.self.now c.args.tenant c.self.view_is c.requires in
+    let known : c.args.tenant < length s.ends.items = known_tenant s.slots.items s.ends.items s.room c.args.self.now c.args.tenant c.self.view_is c.requires in
     let rest : lists_of f.slots f.ends ≡ set (lists_of s.slots.items s.ends.items) c.args.tenant (drop 1 (get_or (lists_of s.slots.items s.ends.items) c.args.tenant [])) = rw (c.deref_mut.ensures.value, c.deref_mut-2.ensures.value) at c.take_first.ensures.rest in
     let some : slice_get (get_or (lists_of s.slots.items s.ends.items) c.args.tenant []) 0 ≡ Some c.in_ok-item.item = rw (c.deref_mut.ensures.value, c.deref_mut-2.ensures.value) at (sym c.take_first.ensures.first ∙ c.in_ok-item.was) in
     let size : length f.slots ≡ length s.slots.items = search rules in
-    kept_back s.slots.len s.ends.len f.slots s.slots.items f.ends s.ends.items f.free (s.len - 1) (search rules) (search rules)
-    (counted_pop s.slots.items f.slots s.ends.items f.ends s.free f.free s.len c.args.tenant c.self.invariant c.take_first.ensures.keeps size known rest c.in_ok-item.item some)
+    kept_back s.slots.len s.ends.len f.slots s.slots.items f.ends s.ends.items f.free (s.len - 1) s.room _ (search rules) (search rules)
+    (counted_pop s.slots.items f.slots s.ends.items f.ends s.free f.free s.len s.room _ c.args.tenant c.self.invariant c.take_first.ensures.keeps size known rest c.in_ok-item.item some)
