@@ -18,6 +18,8 @@ mod index_tests;
 #[cfg(test)]
 mod key_tests;
 #[cfg(test)]
+mod list_tests;
+#[cfg(test)]
 mod order_tests;
 #[cfg(test)]
 mod policy_tests;
