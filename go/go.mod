@@ -1,0 +1,3 @@
+module twodfq
+
+go 1.19
