@@ -2,6 +2,7 @@ mod Heads
 mod Kept
 mod FirstLine
 mod Names
-mod DocumentLimits
+mod HeadLimits
+mod Bodies
 mod Telling
 mod Histories

@@ -1,10 +1,12 @@
 -- What the reader returns, against what a text says.
-use Rattle.std.specs.Prelude.{ℕ, ◌*◌, ◌<◌, ◌≡◌, nat_lt, Bool, ◌||◌, List, ◌∷◌, length, map, Result, Ok, Err}
+use Rattle.std.specs.Prelude.{ℕ, ◌*◌, ◌<◌, ◌≡◌, nat_lt, Bool, not, ◌&&◌, ◌||◌, if◌then◌else◌, codes, List, ◌∷◌, length, map, Result, Ok, Err}
 use Rattle.std.specs.Borrow.{Bor}
 use Rattle.fq_model.specs.declared.fault.ScriptKind.{ScriptKind}
 use Rattle.fq_model.specs.declared.config.Config.{Config}
 use Rattle.fq_model.specs.declared.limits.TheConstants.{MOST_TENANTS, MOST_KINDS, MOST_PAIRS}
-use Rattle.fq_model.specs.Document.{Settings, Document}
+use Rattle.fq_model.specs.Document.{Settings, Document, with_tenant, with_kind, config_line}
+use Rattle.fq_model.specs.declared.fault.ScriptKind.TheVariants.{Word}
+use Rattle.fq_model.specs.Reading.{begins_with, is_empty}
 use Rattle.fq_model.specs.Lines.{Words, lines_of}
 use Rattle.tenant_table.specs.Names.{names_of, weights_of}
 use Rattle.journal_text.specs.declared.fault.LineError.{LineError}
@@ -58,6 +60,21 @@ document_in config tenants kinds body = record {
   kinds = kinds;
   body = body;
 }
+
+-- the document is that of a config line alone
+abbrev pub IsOfConfigLine : {A : Type 0} → Document A → Type 0
+IsOfConfigLine {A} d = (words : Words) × (config_line {A = A} words ≡ Ok d)
+
+-- below this head, a line of these words is the first of the body
+abbrev pub ends_before : {A : Type 0} → Document A → Words → Bool
+ends_before d words = not (is_empty d.kinds) && not (begins_with words (codes "kind"))
+
+-- the head with one line more, below its config line
+abbrev pub with_head_line : {A : Type 0} → Document A → Words → Result (Document A) ScriptKind
+with_head_line d words =
+    if begins_with words (codes "tenant") && is_empty d.kinds then with_tenant d words
+    else if begins_with words (codes "kind") && not (is_empty d.tenants) then with_kind d words
+    else Err Word
 
 -- more tenants, kinds or pairs of both than there may be
 abbrev pub are_too_many : ℕ → ℕ → Bool

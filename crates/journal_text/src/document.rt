@@ -44,6 +44,13 @@ impl<A: Drop> Document<A> {
         }
     }
 
+    /// The same with this body, in place of the one that it has. Takes no memory.
+    pub fn with_body(self, body: Vec<A>) -> Document<A>
+        ensures { result ≡ record self { body = body.items } }
+    {
+        Document { body, ..self }
+    }
+
     /// What the scheduler is opened with.
     pub fn config(&self) -> &Checked
         ensures { result.now ≡ config_of self.now }

@@ -77,3 +77,13 @@ impl<T: Drop> From<AllocFailed<T>> for LineError {
         LineError::Memory
     }
 }
+
+impl<T: Drop> From<AllocFailed<T>> for ScriptFault {
+    ghost use Rattle.journal_text.specs.declared.fault.ScriptFault.TheVariants.{NoMemory};
+
+    ghost from_gives = { λ _ e. e ≡ NoMemory };
+
+    fn from(_e: AllocFailed<T>) -> ScriptFault {
+        ScriptFault::NoMemory
+    }
+}

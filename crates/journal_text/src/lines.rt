@@ -1,9 +1,9 @@
 //! Lines of a text, and words of a line.
-ghost use Rattle.std.specs.Prelude.{◌≡◌, ◌==◌, [], MatchOption, IfOk, position};
+ghost use Rattle.std.specs.Prelude.{◌≡◌, ◌==◌, [], MatchOption, OnOk, position};
 ghost use Rattle.fq_model.specs.Lines.{words_of};
 ghost use Rattle.journal_text.specs.Reading.{IsFirstLine, words_in};
 
-use std::alloc::{AllocError, Global};
+use std::alloc::AllocError;
 
 /// The first line of a text, and the text below it.
 pub fn next_line(text: &[u8]) -> Option<(&[u8], &[u8])>
@@ -24,9 +24,11 @@ fn line_end(text: &[u8]) -> Option<usize>
     text.iter().position(|b| *b == b'\n')
 }
 
-/// The words of a line.
-pub fn words(alloc: Global, line: &[u8]) -> Result<Vec<&[u8]>, AllocError>
-    ensures { IfOk result (λ v. words_in v.items ≡ words_of line.now) }
+/// Splits a line into its words, in place of those that were there. Takes memory only where `words` had
+/// no room for so many.
+pub fn split_words<'a>(line: &'a [u8], words: &mut Vec<&'a [u8]>) -> Result<(), AllocError>
+    ensures { OnOk result (words_in words.new.items ≡ words_of line.now) }
 {
-    line.split(|b| *b == b' ').collect(alloc)
+    words.clear();
+    words.extend(line.split(|b| *b == b' '))
 }

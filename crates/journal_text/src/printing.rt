@@ -19,7 +19,6 @@ use tenant_table::tenants::Tenants;
 
 /// The journal of a scheduler's entries, in order of time, as a text: its configuration, the names of its
 /// tenants and kinds by number, and a line for each entry.
-#[tactic(auto, unfolding(fq_model::specs::JournalText::journal_text))]
 pub fn print(
     alloc: Global,
     past: &[Entry],
@@ -30,10 +29,28 @@ pub fn print(
     ensures { IfOk result (λ text. text.items
         ≡ journal_text config.now (names_of tenants.now) kinds.now past.now) }
 {
-    let mut text = Vec::from_slice(alloc, header(version_for(past)).as_bytes())?;
-    add_head(alloc, config, tenants, kinds, &mut text)?;
-    add_entries(past, &mut text)?;
+    let mut text = Vec::new(alloc);
+    add_journal(alloc, past, config, tenants, kinds, &mut text)?;
     Ok(text)
+}
+
+/// Appends that journal to a text. Where memory runs out, a part of it may stand there.
+#[tactic(auto, unfolding(fq_model::specs::JournalText::journal_text))]
+pub fn add_journal(
+    alloc: Global,
+    past: &[Entry],
+    config: &Checked,
+    tenants: &Tenants,
+    kinds: &Kinds,
+    text: &mut Vec<u8>,
+) -> Result<(), NoMemory>
+    ensures { OnOk result (text.new.items
+        ≡ text.old.items ++ journal_text config.now (names_of tenants.now) kinds.now past.now) }
+{
+    text.extend_from_slice(header(version_for(past)).as_bytes())?;
+    add_head(alloc, config, tenants, kinds, text)?;
+    add_entries(past, text)?;
+    Ok(())
 }
 
 fn header(version: Version) -> &'static str

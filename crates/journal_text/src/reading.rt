@@ -1,17 +1,18 @@
 //! The reader of documents.
 ghost use Rattle.std.specs.Prelude.{◌≡◌, None, Ok, IfOk, IfErr};
 ghost use Rattle.fq_model.specs.Lines.{words_of, lines_of};
-ghost use Rattle.fq_model.specs.Document.{new_among, with_tenant, with_kind, with_body, with_line, with_lines, opened, config_line, below_header, config_of, document_of};
+ghost use Rattle.fq_model.specs.Document.{new_among, with_tenant, with_kind, with_lines, opened, config_line, below_header, config_of, document_of};
 ghost use Rattle.fq_model.specs.Limits.{config_fault};
 ghost use Rattle.fq_model.specs.Names.{number_among};
 ghost use Rattle.tenant_table.specs.Names.{names_of};
-ghost use Rattle.journal_text.specs.Reading.{Gives, IsFirstFault, words_in, are_too_many};
+ghost use Rattle.journal_text.specs.Reading.{Gives, IsFirstFault, words_in, are_too_many, ends_before, with_head_line, IsOfConfigLine};
+ghost use Rattle.journal_text.specs.Body.{IsOpened};
 
-use crate::body::Line;
+use crate::body::{Body, Line};
 use crate::document::Document;
 use crate::fault::{LineError, ScriptFault};
 use crate::head::{Settings, read_settings};
-use crate::lines::{next_line, words};
+use crate::lines::{next_line, split_words};
 use crate::words::{begins_with, expect_count, name_at, small_at};
 use fq_model::config::{Config, Weights};
 use fq_model::fault::ScriptKind;
@@ -112,35 +113,24 @@ impl<A: Line> Draft<A> {
         Ok(())
     }
 
-    #[tactic(auto, unfolding(fq_model::specs::Document::with_body))]
-    fn add_body(&mut self, version: Version, words: &[&[u8]]) -> Result<(), LineError>
-        ensures { Gives (λ _. self.new) result (with_body (A.reader version) self.old (words_in words.now)) }
+    // Whether the body begins with a line of these words.
+    fn ends_before(&self, words: &[&[u8]]) -> bool
+        ensures { result ≡ ends_before self.now (words_in words.now) }
     {
-        self.body.push(A::read(version, words)?)?;
-        Ok(())
+        !self.kinds.is_empty() && !begins_with(words, b"kind")
     }
 
-    #[tactic(auto, unfolding(fq_model::specs::Document::with_line))]
-    fn add_words(&mut self, version: Version, words: &[&[u8]]) -> Result<(), LineError>
-        ensures { Gives (λ _. self.new) result (with_line (A.reader version) self.old (words_in words.now)) }
+    // Adds a line of the head, below the config line.
+    fn add_words(&mut self, words: &[&[u8]]) -> Result<(), LineError>
+        ensures { Gives (λ _. self.new) result (with_head_line self.old (words_in words.now)) }
     {
         if begins_with(words, b"tenant") && self.kinds.is_empty() {
             self.add_tenant(words)
-        } else if begins_with(words, b"kind") && !self.tenants.is_empty() && self.body.is_empty() {
+        } else if begins_with(words, b"kind") && !self.tenants.is_empty() {
             self.add_kind(words)
-        } else if self.kinds.is_empty() {
-            Err(LineError::Fault(ScriptKind::Word))
         } else {
-            self.add_body(version, words)
+            Err(LineError::Fault(ScriptKind::Word))
         }
-    }
-
-    // Adds a line below the config line.
-    fn add_line(&mut self, alloc: Global, version: Version, line: &[u8]) -> Result<(), LineError>
-        ensures { Gives (λ _. self.new) result (with_line (A.reader version) self.old (words_of line.now)) }
-    {
-        let words = words(alloc, line)?;
-        self.add_words(version, words.as_slice())
     }
 }
 
@@ -183,27 +173,36 @@ fn config_words<A: Line>(alloc: Global, words: &[&[u8]]) -> Result<Draft<A>, Lin
     Ok(Draft::opened(alloc, read_settings(words)?))
 }
 
-fn config_line<A: Line>(alloc: Global, line: &[u8]) -> Result<Draft<A>, LineError>
+fn config_line<'a, A: Line>(
+    alloc: Global,
+    line: &'a [u8],
+    words: &mut Vec<&'a [u8]>,
+) -> Result<Draft<A>, LineError>
     ensures { Gives (λ d. d) result (config_line (words_of line.now)) }
 {
-    let words = words(alloc, line)?;
+    split_words(line, words)?;
     config_words(alloc, words.as_slice())
 }
 
-// Adds the lines below the config line, which are a text of their own.
-fn with_lines<A: Line>(
-    alloc: Global,
+// Adds the lines below the config line, which are a text of their own, up to the body.
+fn with_lines<'a, A: Line>(
     version: Version,
     mut draft: Draft<A>,
-    text: &[u8],
-) -> Result<Draft<A>, ScriptFault>
-    ensures ok { IfOk result (λ d. with_lines (A.reader version) 3 draft (lines_of text.now) ≡ Ok d) }
+    text: &'a [u8],
+    mut words: Vec<&'a [u8]>,
+) -> Result<(Draft<A>, Body<'a, A>), ScriptFault>
+    requires { IsOfConfigLine draft }
+    ensures ok { IfOk result (λ r. IsOpened (with_lines (A.reader version) 3 draft (lines_of text.now)) A.reader r.0 r.1) }
     ensures fault { IfErr result (λ f. IsFirstFault f (with_lines (A.reader version) 3 draft (lines_of text.now))) }
 {
     let mut rest = text;
     let mut place: u64 = 3;
     while let Some((line, below)) = next_line(rest) {
-        if let Err(e) = draft.add_line(alloc, version, line) {
+        split_words(line, &mut words)?;
+        if draft.ends_before(words.as_slice()) {
+            return Ok((draft, Body::new(version, place, rest, words)));
+        }
+        if let Err(e) = draft.add_words(words.as_slice()) {
             return Err(e.at(place));
         }
         rest = below;
@@ -215,15 +214,15 @@ fn with_lines<A: Line>(
             kind: ScriptKind::Missing,
         });
     }
-    Ok(draft)
+    Ok((draft, Body::new(version, place, rest, words)))
 }
 
-fn below_header<A: Line>(
+fn below_header<'a, A: Line>(
     alloc: Global,
     version: Version,
-    text: &[u8],
-) -> Result<Draft<A>, ScriptFault>
-    ensures ok { IfOk result (λ d. below_header (A.reader version) (lines_of text.now) ≡ Ok d) }
+    text: &'a [u8],
+) -> Result<(Draft<A>, Body<'a, A>), ScriptFault>
+    ensures ok { IfOk result (λ r. IsOpened (below_header (A.reader version) (lines_of text.now)) A.reader r.0 r.1) }
     ensures fault { IfErr result (λ f. IsFirstFault f (below_header (A.reader version) (lines_of text.now))) }
 {
     let Some((line, below)) = next_line(text) else {
@@ -232,15 +231,19 @@ fn below_header<A: Line>(
             kind: ScriptKind::Missing,
         });
     };
-    match config_line(alloc, line) {
-        Ok(draft) => with_lines(alloc, version, draft, below),
+    let mut words = Vec::new(alloc);
+    match config_line(alloc, line, &mut words) {
+        Ok(draft) => with_lines(version, draft, below, words),
         Err(e) => Err(e.at(2)),
     }
 }
 
 #[tactic(auto, unfolding(fq_model::specs::Document::document_of))]
-fn read_draft<A: Line>(alloc: Global, bytes: &[u8]) -> Result<Draft<A>, ScriptFault>
-    ensures ok { IfOk result (λ d. document_of A.title A.reader bytes.now ≡ Ok d) }
+fn read_draft<'a, A: Line>(
+    alloc: Global,
+    bytes: &'a [u8],
+) -> Result<(Draft<A>, Body<'a, A>), ScriptFault>
+    ensures ok { IfOk result (λ r. IsOpened (document_of A.title A.reader bytes.now) A.reader r.0 r.1) }
     ensures fault { IfErr result (λ f. IsFirstFault f (document_of A.title A.reader bytes.now)) }
 {
     if let Some((line, below)) = next_line(bytes) {
@@ -254,11 +257,33 @@ fn read_draft<A: Line>(alloc: Global, bytes: &[u8]) -> Result<Draft<A>, ScriptFa
     })
 }
 
+/// A document whose head is read, and whose body is left to be read line by line.
+#[derive(Drop)]
+pub struct Opened<'a, A: Line> {
+    /// The document as if it had no body.
+    pub head: Document<A>,
+    pub body: Body<'a, A>,
+}
+
+/// Reads the head of a document, or names the first fault if it is there or right below. An answer that
+/// memory ran out says nothing of the text.
+pub fn open_document<'a, A: Line>(
+    alloc: Global,
+    bytes: &'a [u8],
+) -> Result<Opened<'a, A>, ScriptFault>
+    ensures ok { IfOk result (λ o. IsOpened (document_of A.title A.reader bytes.now) A.reader o.head o.body) }
+    ensures fault { IfErr result (λ f. IsFirstFault f (document_of A.title A.reader bytes.now)) }
+{
+    let (draft, body) = read_draft(alloc, bytes)?;
+    let head = draft.finish(alloc)?;
+    Ok(Opened { head, body })
+}
+
 /// Reads a document, or names its first fault. An answer that memory ran out says nothing of the text.
 pub fn read_document<A: Line>(alloc: Global, bytes: &[u8]) -> Result<Document<A>, ScriptFault>
     ensures ok { IfOk result (λ d. document_of A.title A.reader bytes.now ≡ Ok d) }
     ensures fault { IfErr result (λ f. IsFirstFault f (document_of A.title A.reader bytes.now)) }
 {
-    let draft = read_draft(alloc, bytes)?;
-    Ok(draft.finish(alloc)?)
+    let Opened { head, body } = open_document(alloc, bytes)?;
+    Ok(head.with_body(body.read_all(alloc)?))
 }

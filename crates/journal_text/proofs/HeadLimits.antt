@@ -1,4 +1,4 @@
--- A document's configuration is within its limits.
+-- What holds of a head while it is read: the configuration of one with a kind is within its limits.
 use Rattle.std.proofs.Common.{ℕ, zero, suc, ◌+◌, ◌*◌, ◌<◌, ◌≤◌, ◌≡◌, ◌==◌, Bool, true, false, not, ◌||◌, ◌&&◌, nat_lt, if◌then◌else◌, ◌⊎◌, inl, inr, List, [], ◌∷◌, ◌++◌, length, All, Option, Some, None, Result, Ok, Err, refl, subst, arith, length-append}
 use borrow.Author.Tests.{ltb-false}
 use Rattle.std.specs.Prelude.{codes}
@@ -9,10 +9,10 @@ use Rattle.vt_fixed.specs.declared.limits.TheConstants.{GREATEST_COST, GREATEST_
 use Rattle.fq_model.specs.declared.limits.TheConstants.{MOST_TENANTS, MOST_KINDS, MOST_PAIRS, LEAST_ENTRIES, MOST_ENTRIES, MOST_REQUESTS}
 use Rattle.fq_model.specs.declared.fault.ScriptKind.{ScriptKind}
 use Rattle.fq_model.specs.declared.fault.ScriptKind.TheVariants.{TooMany}
-use Rattle.fq_model.specs.Document.{Settings, Document, LineReader, config_of, settings_of, new_among, not_too_many, with_tenant, with_kind, with_body, with_line, with_lines, opened, config_line, below_header, version_of, below_version, document_of_lines, document_of}
-use Rattle.fq_model.specs.declared.version.Version.{Version}
-use Rattle.fq_model.specs.Reading.{◌>>=◌, begins_with, at_line, is_empty}
-use Rattle.fq_model.specs.Lines.{Words, number_at, ranged_at, policy_at, estimator_at, with_count, name_at, lines_of, words_of}
+use Rattle.fq_model.specs.Document.{Settings, Document, config_of, settings_of, new_among, not_too_many, with_tenant, with_kind, opened, config_line}
+use Rattle.fq_model.specs.Reading.{◌>>=◌, begins_with, is_empty}
+use Rattle.fq_model.specs.Lines.{Words, number_at, ranged_at, policy_at, estimator_at, with_count, name_at}
+use Rattle.journal_text.specs.Reading.{with_head_line}
 
 -- what a first step gave, where both steps gave something
 pub bind_ok : {A B F : Type 0} (r : Result A F) (f : A → Result B F) (y : B) → (r >>= f) ≡ Ok y → (x : A) × (r ≡ Ok x) × (f x ≡ Ok y)
@@ -58,8 +58,9 @@ settings_of-within line s h =
       requests = ranged_at-within words.0 6 1 MOST_REQUESTS requests.0 requests.1;
     })
 
--- what holds of a document that is being read
+-- what holds of a head that is being read
 pub record IsKept {A : Type 0} (s : Document A) : Type 0 where
+  pub bodyless : s.body ≡ []
   pub settings : SettingsAreWithin s.settings
   pub same : length s.weights ≡ length s.tenants
   pub weights : All IsWeight s.weights
@@ -104,6 +105,7 @@ with_tenant-kept s u line none kept h =
     let more : Document _ = record s { tenants = s.tenants ++ new.0 ∷ []; weights = s.weights ++ weight.0 ∷ [] } in
     let is_few = not_too_many-few more u new.2 in
     subst IsKept is_few.same (record {
+      bodyless = kept.bodyless;
       settings = kept.settings;
       same = omega (arith, kept.same, length-append s.tenants (new.0 ∷ []), length-append s.weights (weight.0 ∷ []));
       weights = All-append IsWeight s.weights (weight.0 ∷ []) kept.weights (all_one weight.0 (ranged_at-within words.0 2 1 GREATEST_WEIGHT weight.0 weight.1));
@@ -122,6 +124,7 @@ with_kind-kept s u line some kept h =
     let more : Document _ = record s { kinds = s.kinds ++ new.0 ∷ [] } in
     let is_few = not_too_many-few more u new.2 in
     subst IsKept is_few.same (record {
+      bodyless = kept.bodyless;
       settings = kept.settings;
       same = kept.same;
       weights = kept.weights;
@@ -129,22 +132,6 @@ with_kind-kept s u line some kept h =
       kinds = is_few.kinds;
       pairs = is_few.pairs;
       order = λ _. some;
-    })
-
-pub with_body-kept : {A : Type 0} (reader : LineReader A) (s u : Document A) (line : Words) → IsKept s → with_body reader s line ≡ Ok u → IsKept u
-unfolding with_body
-with_body-kept reader s u line kept h =
-    let said = bind_ok (reader line) _ u h in
-    let more : Document _ = record s { body = s.body ++ said.0 ∷ [] } in
-    let same : more ≡ u = Ok-injective said.2 in
-    subst IsKept same (record {
-      settings = kept.settings;
-      same = kept.same;
-      weights = kept.weights;
-      tenants = kept.tenants;
-      kinds = kept.kinds;
-      pairs = kept.pairs;
-      order = kept.order;
     })
 
 which : {A : Type 0} (t : Bool) (x y r : A) → (if t then x else y) ≡ r → ((t ≡ true) × (x ≡ r)) ⊎ ((t ≡ false) × (y ≡ r))
@@ -163,47 +150,25 @@ not_true : (a : Bool) → not a ≡ true → a ≡ false
 not_true true h = absurd (cc)
 not_true false h = refl
 
-some_if : (n : ℕ) → (n == 0) ≡ false → 0 < n
+pub some_if : (n : ℕ) → (n == 0) ≡ false → 0 < n
 some_if n h = omega (arith, eqb-false n 0 h)
 
 none_if : (n : ℕ) → (n == 0) ≡ true → n ≡ 0
 none_if n h = eqb-true n 0 h
 
-pub with_line-kept : {A : Type 0} (reader : LineReader A) (s u : Document A) (line : Words) → IsKept s → with_line reader s line ≡ Ok u → IsKept u
-unfolding with_line
-with_line-kept reader s u line kept h =
+pub with_head_line-kept : {A : Type 0} (s u : Document A) (line : Words) → IsKept s → with_head_line s line ≡ Ok u → IsKept u
+with_head_line-kept s u line kept h =
     elim (which (begins_with line (codes "tenant") && is_empty s.kinds) _ _ (Ok u) h) [
       | inl a ↦ with_tenant-kept s u line (none_if (length s.kinds) (right_of (begins_with line (codes "tenant")) _ a.0)) kept a.1
-      | inr a ↦ elim (which (begins_with line (codes "kind") && (not (is_empty s.tenants) && is_empty s.body)) _ _ (Ok u) a.1) [
-        | inl b ↦ with_kind-kept s u line (some_if (length s.tenants) (not_true _ (left_of (not (is_empty s.tenants)) (is_empty s.body) (right_of (begins_with line (codes "kind")) _ b.0)))) kept b.1
-        | inr b ↦ elim (which (is_empty s.kinds) _ _ (Ok u) b.1) [
-          | inl c ↦ absurd (cc)
-          | inr c ↦ with_body-kept reader s u line kept c.1
-        ]
+      | inr a ↦ elim (which (begins_with line (codes "kind") && not (is_empty s.tenants)) _ _ (Ok u) a.1) [
+        | inl b ↦ with_kind-kept s u line (some_if (length s.tenants) (not_true _ (right_of (begins_with line (codes "kind")) _ b.0))) kept b.1
+        | inr b ↦ absurd (cc)
       ]
     ]
 
-at_line-ok : {A : Type 0} (place : ℕ) (r : Result A ScriptKind) (x : A) → at_line place r ≡ Ok x → r ≡ Ok x
-at_line-ok place (Ok y) x h = cc
-at_line-ok place (Err k) x h = absurd (cc)
-
--- a document that was read has a kind, and so a tenant
-pub record IsWhole {A : Type 0} (s : Document A) : Type 0 where
-  pub kept : IsKept s
-  pub some : 0 < length s.kinds
-
-pub with_lines-whole : {A : Type 0} (reader : LineReader A) (lines : List (List ℕ)) (place : ℕ) (s u : Document A) → IsKept s → with_lines reader place s lines ≡ Ok u → IsWhole u
-with_lines-whole reader [] place s u kept h =
-    elim (which (is_empty s.kinds) _ _ (Ok u) h) [
-      | inl a ↦ absurd (cc)
-      | inr a ↦ subst IsWhole (Ok-injective a.1) (record { kept = kept; some = some_if (length s.kinds) a.0 })
-    ]
-with_lines-whole reader (line ∷ lines) place s u kept h =
-    let more = bind_ok (at_line place (with_line reader s (words_of line))) _ u h in
-    with_lines-whole reader lines (place + 1) more.0 u (with_line-kept reader s more.0 (words_of line) kept (at_line-ok place _ more.0 more.1)) more.2
-
 opened-kept : {A : Type 0} (settings : Settings) → SettingsAreWithin settings → IsKept {A = A} (opened settings)
 opened-kept settings within = record {
+  bodyless = refl;
   settings = within;
   same = refl;
   weights = λ k d lt. absurd (omega arith);
@@ -213,7 +178,7 @@ opened-kept settings within = record {
   order = λ some. absurd (omega arith);
 }
 
-config_line-kept : {A : Type 0} (line : Words) (s : Document A) → config_line line ≡ Ok s → IsKept s
+pub config_line-kept : {A : Type 0} (line : Words) (s : Document A) → config_line line ≡ Ok s → IsKept s
 unfolding config_line
 config_line-kept line s h =
     elim (which (begins_with line (codes "config")) _ _ (Ok s) h) [
@@ -224,32 +189,15 @@ config_line-kept line s h =
       | inr a ↦ absurd (cc)
     ]
 
-below_header-whole : {A : Type 0} (reader : LineReader A) (lines : List (List ℕ)) (s : Document A) → below_header reader lines ≡ Ok s → IsWhole s
-below_header-whole reader [] s h = absurd (cc)
-below_header-whole reader (line ∷ lines) s h =
-    let start = bind_ok (at_line 2 (config_line (words_of line))) _ s h in
-    with_lines-whole reader lines 3 start.0 s (config_line-kept (words_of line) start.0 (at_line-ok 2 _ start.0 start.1)) start.2
-
-below_version-whole : {A : Type 0} (reader : Version → LineReader A) (version : Option Version) (lines : List (List ℕ)) (s : Document A) → below_version reader version lines ≡ Ok s → IsWhole s
-below_version-whole reader None lines s h = absurd (cc)
-below_version-whole reader (Some version) lines s h = below_header-whole (reader version) lines s h
-
-document_of_lines-whole : {A : Type 0} (title : List ℕ) (reader : Version → LineReader A) (lines : List (List ℕ)) (s : Document A) → document_of_lines title reader lines ≡ Ok s → IsWhole s
-document_of_lines-whole title reader [] s h = absurd (cc)
-document_of_lines-whole title reader (line ∷ lines) s h = below_version-whole reader (version_of title line) lines s h
-
--- the configuration of every document is one that a scheduler can be opened with
-pub config_of-in_limits : {A : Type 0} (title : List ℕ) (reader : Version → LineReader A) (bytes : List ℕ) (s : Document A) → document_of title reader bytes ≡ Ok s → InLimits (config_of s)
-unfolding document_of
-config_of-in_limits title reader bytes s h =
-    let whole = document_of_lines-whole title reader (lines_of bytes) s h in
-    let kept = whole.kept in
-    let some : 0 < length s.tenants = kept.order whole.some in
+-- the configuration of a head with a kind is one that a scheduler can be opened with
+pub config_of-in_limits : {A : Type 0} (s : Document A) → IsKept s → 0 < length s.kinds → InLimits (config_of s)
+config_of-in_limits s kept some =
+    let named : 0 < length s.tenants = kept.order some in
     record {
       workers = kept.settings.workers;
-      tenants = (omega (arith, some, kept.same), omega (arith, kept.tenants, kept.same));
+      tenants = (omega (arith, named, kept.same), omega (arith, kept.tenants, kept.same));
       weights = kept.weights;
-      kinds = (omega (arith, whole.some), kept.kinds);
+      kinds = (omega (arith, some), kept.kinds);
       pairs = rw kept.same kept.pairs;
       entries = kept.settings.entries;
       requests = kept.settings.requests;

@@ -1,0 +1,170 @@
+-- Below a head with kinds, the lines of a text are the lines of its body.
+use Rattle.std.proofs.Common.{ℕ, ◌+◌, ◌<◌, ◌≡◌, ◌==◌, Bool, true, false, not, ◌&&◌, if◌then◌else◌, List, [], ◌∷◌, ◌++◌, length, Result, Ok, Err, None, refl, sym, ap, subst, ◌∙◌, append_assoc, arith, length-append}
+use Rattle.std.proofs.lemmas.List.{append-nil}
+use Rattle.std.proofs.lemmas.Bool.{eqb-true}
+use Rattle.std.specs.Prelude.{codes}
+use Rattle.fq_laws.proofs.Faults.{no_fault}
+use Rattle.fq_model.specs.declared.fault.ScriptKind.{ScriptKind}
+use Rattle.fq_model.specs.declared.version.Version.{Version}
+use Rattle.fq_model.specs.Document.{Document, LineReader, config_of, with_tenant, with_kind, with_body, with_line, with_lines}
+use Rattle.fq_model.specs.Lines.{Words, words_of, lines_of}
+use Rattle.fq_model.specs.Reading.{◌>>=◌, at_line, begins_with, is_empty}
+use Rattle.journal_text.specs.Body.{below_at, with_first, body_of, with_body_lines, IsOpened}
+use Rattle.journal_text.specs.Reading.{ends_before, with_head_line, Fails, IsFirstFault, fault_at}
+use Rattle.journal_text.specs.declared.fault.LineError.{LineError}
+use Rattle.journal_text.specs.declared.fault.LineError.TheVariants as errors
+use Rattle.journal_text.proofs.HeadLimits.{IsKept, config_of-in_limits, some_if}
+
+-- what was said before, and what is said later
+abbrev pub with_more : {A F : Type 0} → List A → Result (List A) F → Result (List A) F
+with_more said later = later >>= λ more. Ok (said ++ more)
+
+-- the document, with what a line of its body says
+abbrev added : {A : Type 0} → Document A → A → Document A
+added d said = record d { body = d.body ++ said ∷ [] }
+
+-- the document, with what is said below
+abbrev extended : {A : Type 0} → Document A → Result (List A) (ℕ × ScriptKind) → Result (Document A) (ℕ × ScriptKind)
+extended d later = later >>= λ more. Ok (record d { body = d.body ++ more })
+
+regrouped : {A : Type 0} (d : Document A) (said : A) (later : Result (List A) (ℕ × ScriptKind)) → extended (added d said) later ≡ extended d (with_first said later)
+regrouped d said (Ok more) = ap (λ body. Ok (record d { body = body })) (append_assoc d.body (said ∷ []) more)
+regrouped d said (Err e) = refl
+
+-- one line of the body, and those below it
+one_more : {A : Type 0} (reader : LineReader A) (place : ℕ) (lines : List (List ℕ)) (d : Document A) (read : Result A ScriptKind)
+    → ((said : A) → with_lines reader (place + 1) (added d said) lines ≡ extended (added d said) (body_of reader (place + 1) lines))
+    → (at_line place (read >>= λ said. Ok (added d said)) >>= λ more. with_lines reader (place + 1) more lines)
+    ≡ extended d (at_line place read >>= λ said. with_first said (body_of reader (place + 1) lines))
+one_more reader place lines d (Ok said) later = later said ∙ regrouped d said (body_of reader (place + 1) lines)
+one_more reader place lines d (Err kind) later = refl
+
+-- a line that stands nowhere in the head
+past_head : {X : Type 0} (tenant kind none : Bool) (x y z w : X) → none ≡ false → kind ≡ false
+    → (if tenant && none then x else (if kind then y else (if none then z else w))) ≡ w
+past_head tenant kind true x y z w some past = absurd (cc)
+past_head tenant true false x y z w some past = absurd (cc)
+past_head true false false x y z w some past = refl
+past_head false false false x y z w some past = refl
+
+-- a line that goes to the body
+in_body : {A : Type 0} (reader : LineReader A) (d : Document A) (words : Words) → is_empty d.kinds ≡ false
+    → (begins_with words (codes "kind") && (not (is_empty d.tenants) && is_empty d.body)) ≡ false
+    → with_line reader d words ≡ (reader words >>= λ said. Ok (added d said))
+unfolding with_line with_body
+in_body reader d words some past = past_head (begins_with words (codes "tenant")) _ (is_empty d.kinds) _ _ _ _ some past
+
+none_left : {A : Type 0} (reader : LineReader A) (place : ℕ) (d : Document A) → is_empty d.kinds ≡ false → with_lines reader place d [] ≡ extended d (body_of reader place [])
+none_left reader place d some = rw (some, append-nil d.body) refl
+
+some_is : (n : ℕ) → 0 < n → (n == 0) ≡ false
+some_is n some = go (n == 0) refl
+  where
+    go : (t : Bool) → (n == 0) ≡ t → t ≡ false
+    go true e = absurd (omega (arith, eqb-true n 0 e))
+    go false e = refl
+
+is_empty-push : {A : Type 0} (xs : List A) (x : A) → is_empty (xs ++ x ∷ []) ≡ false
+is_empty-push xs x = some_is (length (xs ++ x ∷ [])) (omega (arith, length-append xs (x ∷ [])))
+
+no_kind : (k t b : Bool) → b ≡ false → (k && (t && b)) ≡ false
+no_kind true true b h = h
+no_kind true false b h = refl
+no_kind false t b h = refl
+
+-- where something stands in the body, each line goes to it
+with_lines-more : {A : Type 0} (reader : LineReader A) (lines : List (List ℕ)) (place : ℕ) (d : Document A) → is_empty d.kinds ≡ false → is_empty d.body ≡ false
+    → with_lines reader place d lines ≡ extended d (body_of reader place lines)
+with_lines-more reader [] place d some more = none_left reader place d some
+with_lines-more reader (line ∷ lines) place d some more =
+    rw (in_body reader d (words_of line) some (no_kind (begins_with (words_of line) (codes "kind")) (not (is_empty d.tenants)) (is_empty d.body) more))
+      (one_more reader place lines d (reader (words_of line)) (λ said. with_lines-more reader lines (place + 1) (added d said) some (is_empty-push d.body said)))
+
+-- none of the head's lines is left
+abbrev pub StartsBody : {A : Type 0} → Document A → List (List ℕ) → Type 0
+StartsBody d [] = Unit {0}
+StartsBody d (line ∷ lines) = ends_before d (words_of line) ≡ true
+
+past_kinds : (n k t b : Bool) → (n && not k) ≡ true → (k && (t && b)) ≡ false
+past_kinds true true t b h = absurd (cc)
+past_kinds true false t b h = refl
+past_kinds false k t b h = absurd (cc)
+
+pub with_lines-body : {A : Type 0} (reader : LineReader A) (lines : List (List ℕ)) (place : ℕ) (d : Document A) → is_empty d.kinds ≡ false → StartsBody d lines
+    → with_lines reader place d lines ≡ extended d (body_of reader place lines)
+with_lines-body reader [] place d some starts = none_left reader place d some
+with_lines-body reader (line ∷ lines) place d some starts =
+    rw (in_body reader d (words_of line) some (past_kinds (not (is_empty d.kinds)) (begins_with (words_of line) (codes "kind")) (not (is_empty d.tenants)) (is_empty d.body) starts))
+      (one_more reader place lines d (reader (words_of line)) (λ said. with_lines-more reader lines (place + 1) (added d said) some (is_empty-push d.body said)))
+
+-- the body of a document that had none
+extended-bodyless : {A : Type 0} (d : Document A) (said : Result (List A) (ℕ × ScriptKind)) → d.body ≡ [] → extended d said ≡ with_body_lines d said
+extended-bodyless d (Ok more) none = ap (λ body. Ok (record d { body = body ++ more })) none
+extended-bodyless d (Err e) none = refl
+
+-- a head was read up to the body
+opened_at : {A : Type 0} (reader : Version → LineReader A) (version : Version) (text : Result (Document A) (ℕ × ScriptKind)) (place : ℕ) (d : Document A) (rest : List ℕ)
+    → with_lines (reader version) place d (lines_of rest) ≡ text → IsKept d → is_empty d.kinds ≡ false → StartsBody d (lines_of rest)
+    → IsOpened text reader d (below_at version place rest)
+opened_at reader version text place d rest same kept some starts = record {
+  means = sym same ∙ (with_lines-body (reader version) (lines_of rest) place d some starts ∙ extended-bodyless d _ kept.bodyless);
+  bodyless = kept.bodyless;
+  fits = no_fault (config_of d) (config_of-in_limits d kept (some_if (length d.kinds) some));
+}
+
+some_kinds : (none kind : Bool) → (not none && not kind) ≡ true → none ≡ false
+some_kinds true kind ends = absurd (cc)
+some_kinds false kind ends = refl
+
+-- a head was read up to the first line of the body
+pub opened_before : {A : Type 0} (reader : Version → LineReader A) (version : Version) (text : Result (Document A) (ℕ × ScriptKind)) (place : ℕ) (d : Document A) (line rest below : List ℕ)
+    → with_lines (reader version) place d (lines_of rest) ≡ text → IsKept d → lines_of rest ≡ line ∷ lines_of below → ends_before d (words_of line) ≡ true
+    → IsOpened text reader d (below_at version place rest)
+opened_before reader version text place d line rest below same kept first ends =
+    opened_at reader version text place d rest same kept (some_kinds (is_empty d.kinds) (begins_with (words_of line) (codes "kind")) ends) (rw first ends)
+
+-- a head was read up to the end of the text
+pub opened_at_end : {A : Type 0} (reader : Version → LineReader A) (version : Version) (text : Result (Document A) (ℕ × ScriptKind)) (place : ℕ) (d : Document A) (rest : List ℕ)
+    → with_lines (reader version) place d (lines_of rest) ≡ text → IsKept d → is_empty d.kinds ≡ false → rest ≡ []
+    → IsOpened text reader d (below_at version place rest)
+opened_at_end reader version text place d rest same kept some end = opened_at reader version text place d rest same kept some (rw end tt)
+
+same_head : {X : Type 0} (tenant kind none unnamed bodyless : Bool) (x y z w : X) → bodyless ≡ true → (not none && not kind) ≡ false → (none ≡ false → unnamed ≡ false)
+    → (if tenant && none then x else (if kind && (not unnamed && bodyless) then y else (if none then z else w)))
+    ≡ (if tenant && none then x else (if kind && not unnamed then y else z))
+same_head tenant kind none unnamed false x y z w empty goes_on order = absurd (cc)
+same_head true kind true unnamed true x y z w empty goes_on order = refl
+same_head false false true unnamed true x y z w empty goes_on order = refl
+same_head false true true true true x y z w empty goes_on order = refl
+same_head false true true false true x y z w empty goes_on order = refl
+same_head tenant false false unnamed true x y z w empty goes_on order = absurd (cc)
+same_head tenant true false true true x y z w empty goes_on order = absurd (cc (order refl))
+same_head true true false false true x y z w empty goes_on order = refl
+same_head false true false false true x y z w empty goes_on order = refl
+
+-- a line of the head
+in_head : {A : Type 0} (reader : LineReader A) (d : Document A) (words : Words) → IsKept d → ends_before d words ≡ false → with_line reader d words ≡ with_head_line d words
+unfolding with_line
+in_head reader d words kept goes_on =
+    same_head (begins_with words (codes "tenant")) (begins_with words (codes "kind")) (is_empty d.kinds) (is_empty d.tenants) (is_empty d.body) _ _ _ _
+        (ap is_empty kept.bodyless) goes_on (λ none. some_is (length d.tenants) (kept.order (some_if (length d.kinds) none)))
+
+-- a line of the head, and those below it
+next_in_head : {A : Type 0} (reader : LineReader A) (place : ℕ) (d : Document A) (line rest below : List ℕ)
+    → IsKept d → lines_of rest ≡ line ∷ lines_of below → ends_before d (words_of line) ≡ false
+    → with_lines reader place d (lines_of rest) ≡ (at_line place (with_head_line d (words_of line)) >>= λ more. with_lines reader (place + 1) more (lines_of below))
+next_in_head reader place d line rest below kept first goes_on =
+    rw first (ap (λ read. at_line place read >>= λ more. with_lines reader (place + 1) more (lines_of below)) (in_head reader d (words_of line) kept goes_on))
+
+pub added_to_head : {A : Type 0} (reader : LineReader A) (text : Result (Document A) (ℕ × ScriptKind)) (place : ℕ) (d u : Document A) (line rest below : List ℕ)
+    → with_lines reader place d (lines_of rest) ≡ text → IsKept d → lines_of rest ≡ line ∷ lines_of below → ends_before d (words_of line) ≡ false
+    → with_head_line d (words_of line) ≡ Ok u → with_lines reader (place + 1) u (lines_of below) ≡ text
+added_to_head reader text place d u line rest below same kept first goes_on read =
+    sym (next_in_head reader place d line rest below kept first goes_on ∙ ap (λ r. at_line place r >>= λ more. with_lines reader (place + 1) more (lines_of below)) read) ∙ same
+
+pub fault_in_head : {A : Type 0} (reader : LineReader A) (text : Result (Document A) (ℕ × ScriptKind)) (place : ℕ) (d : Document A) (line rest below : List ℕ) (e : LineError)
+    → with_lines reader place d (lines_of rest) ≡ text → IsKept d → lines_of rest ≡ line ∷ lines_of below → ends_before d (words_of line) ≡ false
+    → Fails e (with_head_line d (words_of line)) → IsFirstFault (fault_at place e) text
+fault_in_head reader text place d line rest below (errors.Fault kind) same kept first goes_on fails =
+    sym same ∙ (next_in_head reader place d line rest below kept first goes_on ∙ ap (λ r. at_line place r >>= λ more. with_lines reader (place + 1) more (lines_of below)) fails)
+fault_in_head reader text place d line rest below errors.Memory same kept first goes_on fails = tt

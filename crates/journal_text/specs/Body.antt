@@ -1,0 +1,61 @@
+-- The body of a document, which is read one line at a time below its head.
+use Rattle.std.specs.Prelude.{ℕ, ◌+◌, ◌<◌, ◌≡◌, List, [], ◌∷◌, length, Option, Some, None, Result, Ok, Err}
+use Rattle.fq_model.specs.declared.fault.ScriptKind.{ScriptKind}
+use Rattle.fq_model.specs.declared.version.Version.{Version}
+use Rattle.fq_model.specs.Document.{Document, LineReader, config_of}
+use Rattle.fq_model.specs.Limits.{config_fault}
+use Rattle.fq_model.specs.Lines.{lines_of, words_of}
+use Rattle.fq_model.specs.Reading.{◌>>=◌, at_line}
+use Rattle.journal_text.specs.declared.fault.ScriptFault.{ScriptFault}
+use Rattle.journal_text.specs.Reading.{IsFirstFault}
+
+-- what is left of a body: the version of its text, its lines, and the place of the first of them in the text
+pub record Below : Type 0 where
+  pub version : Version
+  pub place : ℕ
+  pub lines : List (List ℕ)
+
+-- the body that this text is, in a document of this version, its first line being line `place` of the document
+abbrev pub below_at : Version → ℕ → List ℕ → Below
+below_at version place text = record { version = version; place = place; lines = lines_of text }
+
+-- this is said before what is said later
+abbrev pub with_first : {A F : Type 0} → A → Result (List A) F → Result (List A) F
+with_first said later = later >>= λ more. Ok (said ∷ more)
+
+-- what the lines of a body say, in order, or their first fault; the first of them is line `place` of the text
+abbrev pub body_of : {A : Type 0} → LineReader A → ℕ → List (List ℕ) → Result (List A) (ℕ × ScriptKind)
+body_of reader place [] = Ok []
+body_of reader place (line ∷ lines) =
+    at_line place (reader (words_of line)) >>= λ said. with_first said (body_of reader (place + 1) lines)
+
+-- what is left of a body says this
+abbrev pub said_below : {A : Type 0} → (Version → LineReader A) → Below → Result (List A) (ℕ × ScriptKind)
+said_below reader below = body_of (reader below.version) below.place below.lines
+
+-- the document with this head, if its body is sound
+abbrev pub with_body_lines : {A : Type 0} → Document A → Result (List A) (ℕ × ScriptKind) → Result (Document A) (ℕ × ScriptKind)
+with_body_lines head said = said >>= λ body. Ok (record head { body = body })
+
+-- a text says this head, with what stands below it for its body; a scheduler can be opened with the head alone
+pub record IsOpened {A : Type 0} (text : Result (Document A) (ℕ × ScriptKind)) (reader : Version → LineReader A) (head : Document A) (below : Below) : Type 0 where
+  pub means : text ≡ with_body_lines head (said_below reader below)
+  pub bodyless : head.body ≡ []
+  pub fits : config_fault (config_of head) ≡ None
+
+-- the first line of a body says this, and was taken off
+pub record SaysFirst {A : Type 0} (reader : Version → LineReader A) (old : Below) (said : A) (new : Below) : Type 0 where
+  pub means : said_below reader old ≡ with_first said (said_below reader new)
+  pub shorter : length new.lines < length old.lines
+
+-- a line of a body was not read, and is still there
+pub record IsStuck {A : Type 0} (reader : Version → LineReader A) (old : Below) (fault : ScriptFault) (new : Below) : Type 0 where
+  pub first : IsFirstFault fault (said_below reader old)
+  pub some : 0 < length old.lines
+  pub same : new ≡ old
+
+-- what reading the next line of a body returns: what the line says, nothing where no line is left, or the body's first fault
+abbrev pub ReadsNext : {A : Type 0} → (Version → LineReader A) → Below → Result (Option A) ScriptFault → Below → Type 0
+ReadsNext reader old (Ok (Some said)) new = SaysFirst reader old said new
+ReadsNext reader old (Ok None) new = (old.lines ≡ []) × (new ≡ old)
+ReadsNext reader old (Err fault) new = IsStuck reader old fault new
