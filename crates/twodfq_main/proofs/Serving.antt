@@ -8,10 +8,10 @@ use Rattle.fq_model.specs.declared.event.Reply.{Reply}
 use Rattle.fq_model.specs.declared.fault.ScriptKind.{ScriptKind}
 use Rattle.fq_model.specs.History.{history_of}
 use Rattle.fq_model.specs.Outcome.{Outcome}
-use Rattle.fq_model.specs.Reading.{◌>>=◌}
 use Rattle.fq_model.specs.Rules.{Answers}
 use Rattle.fq_model.specs.Texts.{reply_line, replies_text}
 use Rattle.fq_laws.proofs.Outcome.{outcome_snoc}
+use Rattle.journal_text.proofs.Bodies.{with_more}
 use Rattle.journal_text.specs.Body.{with_first}
 use Rattle.journal_text.specs.Reading.{IsFirstFault}
 use Rattle.journal_text.specs.declared.fault.ScriptFault.{ScriptFault}
@@ -22,21 +22,17 @@ use Rattle.twodfq_main.specs.Serving.{told_text, AreAnswered, IsBodyAnswered}
 abbrev pub Said : Type 0
 Said = Result (List Call) (ℕ × ScriptKind)
 
--- these calls are said before what is said later
-abbrev pub with_calls : List Call → Said → Said
-with_calls calls later = later >>= λ more. Ok (calls ++ more)
-
 -- of what a body said, these calls were answered, and this is left
 pub record IsPartAnswered (C : Config) (tells : Bool) (said left : Said) (text : List ℕ) (past : List Entry) : Type 0 where
   pub calls : List Call
-  pub means : said ≡ with_calls calls left
+  pub means : said ≡ with_more calls left
   pub answered : AreAnswered C tells calls text past
 
-with_none : (later : Said) → with_calls [] later ≡ later
+with_none : (later : Said) → with_more [] later ≡ later
 with_none (Ok more) = refl
 with_none (Err fault) = refl
 
-with_one_more : (calls : List Call) (call : Call) (later : Said) → with_calls calls (with_first call later) ≡ with_calls (calls ++ call ∷ []) later
+with_one_more : (calls : List Call) (call : Call) (later : Said) → with_more calls (with_first call later) ≡ with_more (calls ++ call ∷ []) later
 with_one_more calls call (Ok more) = ap Ok (sym (append_assoc calls (call ∷ []) more))
 with_one_more calls call (Err fault) = refl
 
@@ -66,7 +62,7 @@ one_more_answered C D tells said old new call reply text text2 past past2 same p
     let there : Answers C (history_of past) call reply (history_of past2) = subst (λ (x : Config). Answers x (history_of past) call reply (history_of past2)) same answers in
     record {
       calls = p.calls ++ call ∷ [];
-      means = p.means ∙ (ap (with_calls p.calls) first ∙ with_one_more p.calls call new);
+      means = p.means ∙ (ap (with_more p.calls) first ∙ with_one_more p.calls call new);
       answered = record {
         replies = p.answered.replies ++ reply ∷ [];
         outcome = outcome_snoc C [] (history_of past) (history_of past2) p.calls p.answered.replies call reply p.answered.outcome there;
@@ -78,11 +74,11 @@ one_more_answered C D tells said old new call reply text text2 past past2 same p
 pub all_answered : (C : Config) (tells : Bool) (said left : Said) (text : List ℕ) (past : List Entry) → IsPartAnswered C tells said left text past → left ≡ Ok [] → IsBodyAnswered C said tells text past
 all_answered C tells said left text past p none = record {
   calls = p.calls;
-  read = p.means ∙ (ap (with_calls p.calls) none ∙ ap Ok (append-nil p.calls));
+  read = p.means ∙ (ap (with_more p.calls) none ∙ ap Ok (append-nil p.calls));
   answered = p.answered;
 }
 
 -- the first fault of what is left is that of all
-pub fault_of_all : (calls : List Call) (said left : Said) (fault : ScriptFault) → said ≡ with_calls calls left → IsFirstFault fault left → IsFirstFault fault said
-fault_of_all calls said left (At line kind) means first = means ∙ ap (with_calls calls) first
+pub fault_of_all : (calls : List Call) (said left : Said) (fault : ScriptFault) → said ≡ with_more calls left → IsFirstFault fault left → IsFirstFault fault said
+fault_of_all calls said left (At line kind) means first = means ∙ ap (with_more calls) first
 fault_of_all calls said left NoMemory means first = tt

@@ -40,8 +40,8 @@ pub fn serve<'a, X: Chooser + Drop>(
     let mut text = Vec::new(alloc);
     while let Some(call) = body.read_next()? {
         let reply = answer(&mut scheduler, call);
-        if tells {
-            reply_line(reply, &mut text)?;
+        if tells && reply_line(reply, &mut text).is_err() {
+            return Err(ScriptFault::NoMemory);
         }
     }
     Ok(Served { text, scheduler })

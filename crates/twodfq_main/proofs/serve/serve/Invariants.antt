@@ -1,13 +1,14 @@
-use Rattle.std.proofs.Common.{◌≡◌, ◌≤◌, length, take}
-use Rattle.std.specs.Vec.{vec_len, vec_capacity}
-use Rattle.fq_model.specs.History.{history_of}
-use Rattle.fq_model.specs.Outcome.{Outcome}
+use Rattle.std.proofs.Common.{◌≡◌, length}
+use Rattle.fq_model.specs.Script.{call_of_words}
+use Rattle.journal_text.specs.Body.{said_below}
+use Rattle.twodfq_main.proofs.Serving.{IsPartAnswered}
 use Rattle.twodfq_main.proofs.serve.serve.Given as goal
 
 abbrev pub invariant-loop-call : goal.invariant-loop-call
 invariant-loop-call g l = record {
-  outcome : Outcome l.fn.config (take l.call-index l.calls) l.replies.items (history_of l.scheduler.past);
+  part : IsPartAnswered l.fn.config l.fn.tells (said_below call_of_words l.fn.body) (said_below call_of_words l.body) l.text.items l.scheduler.past;
   config_is : l.scheduler.config ≡ l.fn.config;
-  counted : vec_len l.replies ≡ l.call-index;
-  room : length l.calls ≤ vec_capacity l.replies;
 }
+
+abbrev pub decreases-loop-call : goal.decreases-loop-call
+decreases-loop-call g l = length l.body.lines
