@@ -1,12 +1,12 @@
 -- Below a head with kinds, the lines of a text are the lines of its body.
-use Rattle.std.proofs.Common.{ℕ, ◌+◌, ◌<◌, ◌≡◌, ◌==◌, Bool, true, false, not, ◌&&◌, if◌then◌else◌, List, [], ◌∷◌, ◌++◌, length, Result, Ok, Err, None, refl, sym, ap, subst, ◌∙◌, append_assoc, arith, length-append}
+use Rattle.std.proofs.Common.{ℕ, ◌+◌, ◌<◌, ◌≡◌, ◌==◌, Bool, true, false, not, ◌&&◌, if◌then◌else◌, List, [], ◌∷◌, ◌++◌, length, Result, Ok, Err, refl, sym, ap, ◌∙◌, append_assoc, arith, length-append}
 use Rattle.std.proofs.lemmas.List.{append-nil}
 use Rattle.std.proofs.lemmas.Bool.{eqb-true}
 use Rattle.std.specs.Prelude.{codes}
 use Rattle.fq_laws.proofs.Faults.{no_fault}
 use Rattle.fq_model.specs.declared.fault.ScriptKind.{ScriptKind}
 use Rattle.fq_model.specs.declared.version.Version.{Version}
-use Rattle.fq_model.specs.Document.{Document, LineReader, config_of, with_tenant, with_kind, with_body, with_line, with_lines}
+use Rattle.fq_model.specs.Document.{Document, LineReader, config_of, with_body, with_line, with_lines}
 use Rattle.fq_model.specs.Lines.{Words, words_of, lines_of}
 use Rattle.fq_model.specs.Reading.{◌>>=◌, at_line, begins_with, is_empty}
 use Rattle.journal_text.specs.Body.{below_at, with_first, body_of, with_body_lines, IsOpened}
@@ -78,7 +78,7 @@ with_lines-more : {A : Type 0} (reader : LineReader A) (lines : List (List ℕ))
 with_lines-more reader [] place d some more = none_left reader place d some
 with_lines-more reader (line ∷ lines) place d some more =
     rw (in_body reader d (words_of line) some (no_kind (begins_with (words_of line) (codes "kind")) (not (is_empty d.tenants)) (is_empty d.body) more))
-      (one_more reader place lines d (reader (words_of line)) (λ said. with_lines-more reader lines (place + 1) (added d said) some (is_empty-push d.body said)))
+    (one_more reader place lines d (reader (words_of line)) (λ said. with_lines-more reader lines (place + 1) (added d said) some (is_empty-push d.body said)))
 
 -- none of the head's lines is left
 abbrev pub StartsBody : {A : Type 0} → Document A → List (List ℕ) → Type 0
@@ -95,7 +95,7 @@ pub with_lines-body : {A : Type 0} (reader : LineReader A) (lines : List (List �
 with_lines-body reader [] place d some starts = none_left reader place d some
 with_lines-body reader (line ∷ lines) place d some starts =
     rw (in_body reader d (words_of line) some (past_kinds (not (is_empty d.kinds)) (begins_with (words_of line) (codes "kind")) (not (is_empty d.tenants)) (is_empty d.body) starts))
-      (one_more reader place lines d (reader (words_of line)) (λ said. with_lines-more reader lines (place + 1) (added d said) some (is_empty-push d.body said)))
+    (one_more reader place lines d (reader (words_of line)) (λ said. with_lines-more reader lines (place + 1) (added d said) some (is_empty-push d.body said)))
 
 -- the body of a document that had none
 extended-bodyless : {A : Type 0} (d : Document A) (said : Result (List A) (ℕ × ScriptKind)) → d.body ≡ [] → extended d said ≡ with_body_lines d said
@@ -147,7 +147,7 @@ in_head : {A : Type 0} (reader : LineReader A) (d : Document A) (words : Words) 
 unfolding with_line
 in_head reader d words kept goes_on =
     same_head (begins_with words (codes "tenant")) (begins_with words (codes "kind")) (is_empty d.kinds) (is_empty d.tenants) (is_empty d.body) _ _ _ _
-        (ap is_empty kept.bodyless) goes_on (λ none. some_is (length d.tenants) (kept.order (some_if (length d.kinds) none)))
+    (ap is_empty kept.bodyless) goes_on (λ none. some_is (length d.tenants) (kept.order (some_if (length d.kinds) none)))
 
 -- a line of the head, and those below it
 next_in_head : {A : Type 0} (reader : LineReader A) (place : ℕ) (d : Document A) (line rest below : List ℕ)

@@ -2,7 +2,7 @@ mod Heads
 mod Kept
 mod FirstLine
 mod Names
-mod HeadLimits
-mod Bodies
+pub mod HeadLimits
+pub mod Bodies
 mod Telling
 mod Histories

@@ -29,17 +29,17 @@ body_of reader place [] = Ok []
 body_of reader place (line ∷ lines) =
     at_line place (reader (words_of line)) >>= λ said. with_first said (body_of reader (place + 1) lines)
 
--- what is left of a body says this
+-- what the lines that are left of a body say, in order, or their first fault
 abbrev pub said_below : {A : Type 0} → (Version → LineReader A) → Below → Result (List A) (ℕ × ScriptKind)
 said_below reader below = body_of (reader below.version) below.place below.lines
 
--- the document with this head, if its body is sound
+-- the document with this head, and with what its body says, or the body's fault
 abbrev pub with_body_lines : {A : Type 0} → Document A → Result (List A) (ℕ × ScriptKind) → Result (Document A) (ℕ × ScriptKind)
 with_body_lines head said = said >>= λ body. Ok (record head { body = body })
 
--- a text says this head, with what stands below it for its body; a scheduler can be opened with the head alone
-pub record IsOpened {A : Type 0} (text : Result (Document A) (ℕ × ScriptKind)) (reader : Version → LineReader A) (head : Document A) (below : Below) : Type 0 where
-  pub means : text ≡ with_body_lines head (said_below reader below)
+-- what is read is this head with what stands below it; the head by itself is a document that a scheduler can be opened with
+pub record IsOpened {A : Type 0} (read : Result (Document A) (ℕ × ScriptKind)) (reader : Version → LineReader A) (head : Document A) (below : Below) : Type 0 where
+  pub means : read ≡ with_body_lines head (said_below reader below)
   pub bodyless : head.body ≡ []
   pub fits : config_fault (config_of head) ≡ None
 

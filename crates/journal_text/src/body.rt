@@ -56,8 +56,14 @@ impl<'a, A: Line> Model for Body<'a, A> {
 }
 
 impl<'a, A: Line> Body<'a, A> {
-    /// The body that begins at a line of a text. The words of each line go into `words`. Takes no memory.
-    pub fn new(version: Version, place: u64, rest: &'a [u8], words: Vec<&'a [u8]>) -> Body<'a, A>
+    // The body that begins at this line of a text, the rest of the text. The words of each line go into
+    // `words`. Takes no memory.
+    pub(crate) fn new(
+        version: Version,
+        place: u64,
+        rest: &'a [u8],
+        words: Vec<&'a [u8]>,
+    ) -> Body<'a, A>
         requires { place + length rest.now < 2 ^ 64 }
         ensures { result ≡ below_at version place rest.now }
     {

@@ -44,8 +44,8 @@ impl<A: Drop> Document<A> {
         }
     }
 
-    /// The same with this body, in place of the one that it has. Takes no memory.
-    pub fn with_body(self, body: Vec<A>) -> Document<A>
+    // The same with this body, in place of the one that it has.
+    pub(crate) fn with_body(self, body: Vec<A>) -> Document<A>
         ensures { result ≡ record self { body = body.items } }
     {
         Document { body, ..self }

@@ -19,20 +19,29 @@ use fq_model::fault::ScriptKind;
 use fq_model::limits::{GREATEST_WEIGHT, MOST_KINDS, MOST_PAIRS, MOST_TENANTS};
 use fq_model::version::Version;
 use std::alloc::{AllocError, Global};
-use std::marker::Model;
+use std::marker::{Model, PhantomData};
 use tenant_table::kinds::Kinds;
 use tenant_table::tenants::Tenants;
 
-// What the lines so far say.
+/// A document whose head is read, and whose body is left to be read line by line.
+#[derive(Drop)]
+pub struct Opened<'a, A: Line> {
+    /// The document as if it had no body.
+    pub head: Document<A>,
+    pub body: Body<'a, A>,
+}
+
+// What the lines of the head so far say, as a document with no body.
 #[derive(Drop)]
 struct Draft<A: Drop> {
     settings: Settings,
     tenants: Tenants,
     kinds: Kinds,
-    body: Vec<A>,
+    said: PhantomData<A>,
 }
 
 impl<A: Drop> Model for Draft<A> {
+    ghost use Rattle.std.specs.Prelude.{[]};
     ghost use Rattle.fq_model.specs.Document.{Document};
     ghost use Rattle.tenant_table.specs.Names.{names_of, weights_of};
 
@@ -43,7 +52,7 @@ impl<A: Drop> Model for Draft<A> {
       tenants = names_of d.tenants;
       weights = weights_of d.tenants;
       kinds = d.kinds;
-      body = d.body.items;
+      body = [];
     } };
 }
 
@@ -56,11 +65,11 @@ impl<A: Line> Draft<A> {
             settings,
             tenants: Tenants::new(alloc),
             kinds: Kinds::new(alloc),
-            body: Vec::new(alloc),
+            said: PhantomData,
         }
     }
 
-    // The document, now that its lines are read.
+    // The document, now that the lines of its head are read.
     fn finish(self, alloc: Global) -> Result<Document<A>, AllocError>
         requires { config_fault (config_of self) ≡ None }
         ensures { IfOk result (λ d. d ≡ self) }
@@ -69,7 +78,7 @@ impl<A: Line> Draft<A> {
             settings,
             tenants,
             kinds,
-            body,
+            ..
         } = self;
         let config = Config {
             workers: settings.workers,
@@ -81,6 +90,7 @@ impl<A: Line> Draft<A> {
             estimate: settings.estimate,
             initial: settings.initial,
         };
+        let body = Vec::new(alloc);
         Ok(Document::new(config.check().unwrap(), tenants, kinds, body))
     }
 
@@ -255,14 +265,6 @@ fn read_draft<'a, A: Line>(
         line: 1,
         kind: ScriptKind::Header,
     })
-}
-
-/// A document whose head is read, and whose body is left to be read line by line.
-#[derive(Drop)]
-pub struct Opened<'a, A: Line> {
-    /// The document as if it had no body.
-    pub head: Document<A>,
-    pub body: Body<'a, A>,
 }
 
 /// Reads the head of a document, or names the first fault if it is there or right below. An answer that

@@ -1,5 +1,5 @@
 //! Scripts written by hand, with what the grammar says of them.
-use crate::calls::read_script;
+use crate::calls::{open_script, read_script};
 use fq_model::config::{Estimator, Policy};
 use fq_model::event::Call;
 use std::test::Fail;
@@ -63,6 +63,27 @@ fn reads_a_script(rt: HostRuntime) -> Result<(), Fail> {
         },
     ];
     assert_eq!(rt; script.body(), calls.as_slice());
+    Ok(())
+}
+
+#[test]
+fn reads_a_script_call_by_call(rt: HostRuntime) -> Result<(), Fail> {
+    let text = "script 1\nconfig 1 2dfq declared 1000 100 10\ntenant a 1\nkind get\nkind put\n\
+        take 9 0 3\nclose 7 5";
+    let mut script = open_script(rt.alloc(), text.as_bytes())?;
+    assert_eq!(rt; script.head.kinds().len(), 2);
+    assert_eq!(rt; script.head.body().len(), 0);
+    let take = Call::Take {
+        who: 9,
+        moment: 0,
+        worker: 3,
+    };
+    assert_eq!(rt; script.body.read_next(), Ok(Some(take)));
+    assert_eq!(rt;
+        script.body.read_next(),
+        Ok(Some(Call::Close { who: 7, moment: 5 }))
+    );
+    assert_eq!(rt; script.body.read_next(), Ok(None));
     Ok(())
 }
 

@@ -16,5 +16,5 @@ seen_from_extend v r ran road says = fact_from_extend v r ran (λ it b. YieldsLi
 pub returns : goal.returns
 returns c =
     seen_from_extend (λ w. w.now) c.extend.result c.extend.ensures.ran
-        (YieldsList-from_slice_split _ (λ b. b == 32) c.args.line.now c.split.ensures.rest c.split.ensures.done c.split.ensures.closure (λ x b q h. search rules))
-        (λ xs e h. ap (map (λ w. w.now)) (h.0 ∙ ap (λ l. l ++ xs) c.clear.ensures.items) ∙ e)
+    (YieldsList-from_slice_split _ (λ b. b == 32) c.args.line.now c.split.ensures.rest c.split.ensures.done c.split.ensures.closure (λ x b q h. search rules))
+    (λ xs e h. ap (map (λ w. w.now)) (h.0 ∙ ap (λ l. l ++ xs) c.clear.ensures.items) ∙ e)

@@ -17,8 +17,8 @@ returns-then-ends_before-clause-ok g c =
     let words : words_in c.as_slice.result.now ≡ words_of c.in-Some.line.now = search rules in
     let ends : ends_before c.loop-line.draft (words_of c.in-Some.line.now) ≡ true = cc in
     rw c.new.ensures
-      (opened_before g.A.Line.reader c.args.version _ c.loop-line.place c.loop-line.draft c.in-Some.line.now c.loop-line.rest.now c.in-Some.below.now
-        c.loop-line.invariant.same c.loop-line.invariant.kept c.in-Some.ensures.lines ends)
+    (opened_before g.A.Line.reader c.args.version _ c.loop-line.place c.loop-line.draft c.in-Some.line.now c.loop-line.rest.now c.in-Some.below.now
+    c.loop-line.invariant.same c.loop-line.invariant.kept c.in-Some.ensures.lines ends)
 
 pub returns-in-Err-clause-fault : goal.returns-in-Err-clause-fault
 returns-in-Err-clause-fault g c =
@@ -27,8 +27,8 @@ returns-in-Err-clause-fault g c =
     let words_2 : words_in c.as_slice-in-Some.result.now ≡ words_of c.in-Some.line.now = search rules in
     let fails : Fails c.in-Err.e (with_head_line c.loop-line.draft (words_of c.in-Some.line.now)) = subst (λ ws. Fails c.in-Err.e (with_head_line c.loop-line.draft ws)) words_2 c.in-Err.ensures in
     rw c.at.ensures
-      (fault_in_head (g.A.Line.reader c.args.version) _ c.loop-line.place c.loop-line.draft c.in-Some.line.now c.loop-line.rest.now c.in-Some.below.now c.in-Err.e
-        c.loop-line.invariant.same c.loop-line.invariant.kept c.in-Some.ensures.lines goes_on fails)
+    (fault_in_head (g.A.Line.reader c.args.version) _ c.loop-line.place c.loop-line.draft c.in-Some.line.now c.loop-line.rest.now c.in-Some.below.now c.in-Err.e
+    c.loop-line.invariant.same c.loop-line.invariant.kept c.in-Some.ensures.lines goes_on fails)
 
 pub loop-line-preserved : goal.loop-line-preserved
 loop-line-preserved g c =
@@ -38,7 +38,7 @@ loop-line-preserved g c =
     let read : with_head_line c.loop-line.draft (words_of c.in-Some.line.now) ≡ Ok c.add_words.new.self = ap (with_head_line c.loop-line.draft) (sym words_2) ∙ c.in_default-add_words.ensures in
     record {
       same = added_to_head (g.A.Line.reader c.args.version) _ c.loop-line.place c.loop-line.draft c.add_words.new.self c.in-Some.line.now c.loop-line.rest.now c.in-Some.below.now
-        c.loop-line.invariant.same c.loop-line.invariant.kept c.in-Some.ensures.lines goes_on read;
+          c.loop-line.invariant.same c.loop-line.invariant.kept c.in-Some.ensures.lines goes_on read;
       counted = omega (arith, c.in-Some.ensures.shorter);
       kept = with_head_line-kept c.loop-line.draft c.add_words.new.self (words_of c.in-Some.line.now) c.loop-line.invariant.kept read;
     }
@@ -46,5 +46,5 @@ loop-line-preserved g c =
 pub returns-clause-ok : goal.returns-clause-ok
 returns-clause-ok g c =
     rw c.new-2.ensures
-      (opened_at_end g.A.Line.reader c.args.version _ c.loop-line.place c.loop-line.draft c.loop-line.rest.now
-        c.loop-line.invariant.same c.loop-line.invariant.kept (search rules) (search rules))
+    (opened_at_end g.A.Line.reader c.args.version _ c.loop-line.place c.loop-line.draft c.loop-line.rest.now
+    c.loop-line.invariant.same c.loop-line.invariant.kept (search rules) (search rules))
