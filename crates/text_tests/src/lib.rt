@@ -1,10 +1,16 @@
-//! Tests of traces, names, the fluid reference and lag reports, as callers use them.
+//! Tests of scripts, journals, traces, names, the fluid reference and lag reports, as callers use them.
 #![tactic(auto)]
 
+#[cfg(test)]
+mod fault_tests;
 #[cfg(test)]
 mod level_tests;
 #[cfg(test)]
 mod name_tests;
+#[cfg(test)]
+mod printing_tests;
+#[cfg(test)]
+mod reading_tests;
 #[cfg(test)]
 mod report_tests;
 #[cfg(test)]

@@ -1,7 +1,7 @@
 //! Scripts written by hand, with what the grammar says of them.
-use crate::calls::{open_script, read_script};
 use fq_model::config::{Estimator, Policy};
 use fq_model::event::Call;
+use journal_text::calls::{open_script, read_script};
 use std::test::Fail;
 
 #[test]

@@ -1,10 +1,10 @@
 //! Texts written by hand, and what they say.
-use crate::calls::read_script;
-use crate::messages::placed_fault;
-use crate::printing::{entry_line, print};
-use crate::replies::{replies_text, reply_line};
 use fq_model::event::{Act, Cause, Entry, Reply};
 use fq_model::fault::ScriptKind;
+use journal_text::calls::read_script;
+use journal_text::messages::placed_fault;
+use journal_text::printing::{entry_line, print};
+use journal_text::replies::{replies_text, reply_line};
 use std::test::Fail;
 
 #[test]
