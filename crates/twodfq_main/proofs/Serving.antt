@@ -1,22 +1,30 @@
 -- The calls of a body, answered one by one.
 use Rattle.std.proofs.Common.{ℕ, ◌≡◌, ◌∙◌, refl, sym, ap, subst, Bool, true, false, if◌then◌else◌, List, [], ◌∷◌, ◌++◌, Result, Ok, Err}
+use Rattle.std.specs.Prelude.{is_err, OnOk}
+use Rattle.std.proofs.lemmas.Bool.{false≢true}
 use Rattle.std.proofs.lemmas.List.{append_assoc, append-nil}
+use Rattle.fq_model.specs.declared.command.ScriptPrint.{ScriptPrint}
+use Rattle.fq_model.specs.declared.command.ScriptPrint.TheVariants.{Replies, Journal, Both}
 use Rattle.fq_model.specs.declared.config.Config.{Config}
 use Rattle.fq_model.specs.declared.event.Call.{Call}
 use Rattle.fq_model.specs.declared.event.Entry.{Entry}
 use Rattle.fq_model.specs.declared.event.Reply.{Reply}
 use Rattle.fq_model.specs.declared.fault.ScriptKind.{ScriptKind}
+use Rattle.fq_model.specs.Document.{config_of}
 use Rattle.fq_model.specs.History.{history_of}
-use Rattle.fq_model.specs.Outcome.{Outcome}
+use Rattle.fq_model.specs.JournalText.{journal_text}
+use Rattle.fq_model.specs.Output.{script_output_text}
 use Rattle.fq_model.specs.Rules.{Answers}
+use Rattle.fq_model.specs.Script.{Script, script_of, call_of_words}
 use Rattle.fq_model.specs.Texts.{reply_line, replies_text}
 use Rattle.fq_laws.proofs.Outcome.{outcome_snoc}
 use Rattle.journal_text.proofs.Bodies.{with_more}
-use Rattle.journal_text.specs.Body.{with_first}
+use Rattle.journal_text.specs.Body.{Below, with_first, said_below, with_body_lines, IsOpened}
 use Rattle.journal_text.specs.Reading.{IsFirstFault}
 use Rattle.journal_text.specs.declared.fault.ScriptFault.{ScriptFault}
 use Rattle.journal_text.specs.declared.fault.ScriptFault.TheVariants.{At, NoMemory}
-use Rattle.twodfq_main.specs.Serving.{told_text, AreAnswered, IsBodyAnswered}
+use Rattle.twodfq_main.specs.Commands.{IsServed}
+use Rattle.twodfq_main.specs.Serving.{tells_replies, tells_journal, told_text, AreAnswered, IsBodyAnswered}
 
 -- what a body says, or its first fault
 abbrev pub Said : Type 0
@@ -44,17 +52,25 @@ told_snoc : (tells : Bool) (replies : List Reply) (reply : Reply) → told_text 
 told_snoc true replies reply = replies_snoc replies reply
 told_snoc false replies reply = refl
 
+nothing_told : (tells : Bool) → [] ≡ told_text tells []
+nothing_told true = refl
+nothing_told false = refl
+
 -- no call was answered yet
-pub nothing_answered : (C : Config) (tells : Bool) (said : Said) → IsPartAnswered C tells said said [] []
-nothing_answered C tells said = record {
+pub nothing_answered : (C : Config) (tells : Bool) (said : Said) (text : List ℕ) (past : List Entry) → text ≡ [] → past ≡ [] → IsPartAnswered C tells said said text past
+nothing_answered C tells said text past t p = record {
   calls = [];
   means = sym (with_none said);
-  answered = record { replies = []; outcome = refl; told = nothing tells };
+  answered = record { replies = []; outcome = ap history_of p; told = t ∙ nothing_told tells };
 }
-  where
-    nothing : (tells : Bool) → [] ≡ told_text tells []
-    nothing true = refl
-    nothing false = refl
+
+-- the line of a reply is added where replies are told
+pub line_is_told : {F : Type 0} (tells : Bool) (added : Result (Unit {0}) F) (text text2 line : List ℕ) → tells ≡ true → is_err added ≡ false → OnOk added (text2 ≡ text ++ line) → text2 ≡ text ++ (if tells then line else [])
+line_is_told tells (Ok done) text text2 line tell ok more = rw (tell) more
+line_is_told tells (Err fault) text text2 line tell ok more = absurd (false≢true (sym ok))
+
+pub no_line_is_told : (tells : Bool) (text text2 line : List ℕ) → tells ≡ false → text2 ≡ text → text2 ≡ text ++ (if tells then line else [])
+no_line_is_told tells text text2 line none same = rw (none, append-nil text) same
 
 -- one call more is answered
 pub one_more_answered : (C D : Config) (tells : Bool) (said old new : Said) (call : Call) (reply : Reply) (text text2 : List ℕ) (past past2 : List Entry) → D ≡ C → IsPartAnswered C tells said old text past → old ≡ with_first call new → Answers D (history_of past) call reply (history_of past2) → text2 ≡ text ++ (if tells then reply_line reply else []) → IsPartAnswered C tells said new text2 past2
@@ -82,3 +98,25 @@ all_answered C tells said left text past p none = record {
 pub fault_of_all : (calls : List Call) (said left : Said) (fault : ScriptFault) → said ≡ with_more calls left → IsFirstFault fault left → IsFirstFault fault said
 fault_of_all calls said left (At line kind) means first = means ∙ ap (with_more calls) first
 fault_of_all calls said left NoMemory means first = tt
+
+-- what is told of replies and then of the journal is what is asked for
+output_is : (what : ScriptPrint) (replies journal : List ℕ) → (if tells_replies what then replies else []) ++ (if tells_journal what then journal else []) ≡ script_output_text what replies journal
+output_is Replies replies journal = append-nil replies
+output_is Journal replies journal = refl
+output_is Both replies journal = refl
+
+-- a script whose body is answered, and what is written of it
+pub is_served : (what : ScriptPrint) (input : List ℕ) (head : Script) (below : Below) (told text : List ℕ) (past : List Entry) → IsOpened (script_of input) call_of_words head below → IsBodyAnswered (config_of head) (said_below call_of_words below) (tells_replies what) told past → text ≡ told ++ (if tells_journal what then journal_text (config_of head) head.tenants head.kinds past else []) → IsServed what input text
+is_served what input head below told text past opened b is = record {
+  script = record head { body = b.calls };
+  read = opened.means ∙ ap (with_body_lines head) b.read;
+  replies = b.answered.replies;
+  past = past;
+  outcome = b.answered.outcome;
+  text_is = is ∙ (ap (λ t. t ++ (if tells_journal what then journal_text (config_of head) head.tenants head.kinds past else [])) b.answered.told ∙ output_is what (replies_text b.answered.replies) (journal_text (config_of head) head.tenants head.kinds past));
+}
+
+-- a fault of the body is that of the script
+pub fault_of_script : (input : List ℕ) (head : Script) (below : Below) (fault : ScriptFault) → IsOpened (script_of input) call_of_words head below → IsFirstFault fault (said_below call_of_words below) → IsFirstFault fault (script_of input)
+fault_of_script input head below (At line kind) opened first = opened.means ∙ ap (with_body_lines head) first
+fault_of_script input head below NoMemory opened first = tt

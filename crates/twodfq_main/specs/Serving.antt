@@ -1,5 +1,7 @@
 -- What is left of a script whose calls are answered as they are read.
-use Rattle.std.specs.Prelude.{ℕ, ◌≡◌, Bool, if◌then◌else◌, List, [], Result, Ok}
+use Rattle.std.specs.Prelude.{ℕ, ◌≡◌, Bool, true, false, if◌then◌else◌, List, [], Result, Ok}
+use Rattle.fq_model.specs.declared.command.ScriptPrint.{ScriptPrint}
+use Rattle.fq_model.specs.declared.command.ScriptPrint.TheVariants.{Replies, Journal}
 use Rattle.fq_model.specs.declared.config.Config.{Config}
 use Rattle.fq_model.specs.declared.event.Call.{Call}
 use Rattle.fq_model.specs.declared.event.Entry.{Entry}
@@ -8,6 +10,15 @@ use Rattle.fq_model.specs.declared.fault.ScriptKind.{ScriptKind}
 use Rattle.fq_model.specs.History.{history_of}
 use Rattle.fq_model.specs.Outcome.{Outcome}
 use Rattle.fq_model.specs.Texts.{replies_text}
+
+-- whether replies are asked for, and whether the journal is
+abbrev pub tells_replies : ScriptPrint → Bool
+tells_replies Journal = false
+tells_replies _ = true
+
+abbrev pub tells_journal : ScriptPrint → Bool
+tells_journal Replies = false
+tells_journal _ = true
 
 -- what is kept of replies: a line for each, if they are told
 abbrev pub told_text : Bool → List Reply → List ℕ

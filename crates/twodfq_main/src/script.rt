@@ -5,6 +5,7 @@ ghost use Rattle.fq_model.specs.FaultTexts.{script_fault_text, placed_text};
 ghost use Rattle.twodfq_main.specs.Commands.{IsServed, Untold};
 ghost use Rattle.twodfq_main.specs.Histories.{message_line};
 ghost use Rattle.twodfq_main.specs.Program.{IsOutputStop};
+ghost use Rattle.twodfq_main.specs.Serving.{tells_replies, tells_journal};
 ghost use Rattle.twodfq_main.specs.Stops.{IsFaultStop};
 
 use crate::serve::{Served, serve};
@@ -29,17 +30,12 @@ pub fn served_text<X: Chooser + Drop>(
     ensures { MatchResult result (λ text. IsServed what input.now text.items)
         (IsOutputStop Untold (Script what) input.now) }
 {
-    let (tells, keeps) = match what {
-        ScriptPrint::Replies => (true, false),
-        ScriptPrint::Journal => (false, true),
-        ScriptPrint::Both => (true, true),
-    };
     let Opened { head, body } = match open_script(alloc, input) {
         Ok(script) => script,
         Err(fault) => return Err(fault_stop(alloc, fault)),
     };
     let (config, tenants, kinds, _) = head.into_parts();
-    let served: Served<X> = match serve(alloc, config, body, tells) {
+    let served: Served<X> = match serve(alloc, config, body, tells_replies(what)) {
         Ok(served) => served,
         Err(fault) => return Err(fault_stop(alloc, fault)),
     };
@@ -47,11 +43,25 @@ pub fn served_text<X: Chooser + Drop>(
         mut text,
         scheduler,
     } = served;
-    if keeps {
+    if tells_journal(what) {
         let past = scheduler.past();
         add_journal(alloc, past, scheduler.config(), &tenants, &kinds, &mut text)?;
     }
     Ok(text)
+}
+
+// Whether the replies are asked for.
+fn tells_replies(what: ScriptPrint) -> bool
+    ensures { result ≡ tells_replies what }
+{
+    matches!(what, ScriptPrint::Replies | ScriptPrint::Both)
+}
+
+// Whether the journal is asked for.
+fn tells_journal(what: ScriptPrint) -> bool
+    ensures { result ≡ tells_journal what }
+{
+    matches!(what, ScriptPrint::Journal | ScriptPrint::Both)
 }
 
 // Where an input is no script, a message that names its first fault.

@@ -29,10 +29,10 @@ pub fn serve<'a, X: Chooser + Drop>(
     mut body: Body<'a, Call>,
     tells: bool,
 ) -> Result<Served<X>, ScriptFault>
-    ensures served { IfOk result (λ s. IsBodyAnswered config (said_below call_of_words body) tells
+    ensures served { IfOk result (λ s. IsBodyAnswered config (said_below call_of_words body.entry) tells
         s.text.items s.scheduler.past) }
     ensures same { IfOk result (λ s. s.scheduler.config ≡ config) }
-    ensures fault { IfErr result (λ f. IsFirstFault f (said_below call_of_words body)) }
+    ensures fault { IfErr result (λ f. IsFirstFault f (said_below call_of_words body.entry)) }
 {
     let Ok(mut scheduler) = Scheduler::open(alloc, config) else {
         return Err(ScriptFault::NoMemory);

@@ -4,11 +4,11 @@ use Rattle.journal_text.specs.Body.{said_below}
 use Rattle.twodfq_main.proofs.Serving.{IsPartAnswered}
 use Rattle.twodfq_main.proofs.serve.serve.Given as goal
 
-abbrev pub invariant-loop-call : goal.invariant-loop-call
-invariant-loop-call g l = record {
+abbrev pub invariant-loop-text : goal.invariant-loop-text
+invariant-loop-text g l = record {
   part : IsPartAnswered l.fn.config l.fn.tells (said_below call_of_words l.fn.body) (said_below call_of_words l.body) l.text.items l.scheduler.past;
   config_is : l.scheduler.config ≡ l.fn.config;
 }
 
-abbrev pub decreases-loop-call : goal.decreases-loop-call
-decreases-loop-call g l = length l.body.lines
+abbrev pub decreases-loop-text : goal.decreases-loop-text
+decreases-loop-text g l = length l.body.lines
