@@ -94,11 +94,6 @@ all_answered C tells said left text past p none = record {
   answered = p.answered;
 }
 
--- the first fault of what is left is that of all
-pub fault_of_all : (calls : List Call) (said left : Said) (fault : ScriptFault) → said ≡ with_more calls left → IsFirstFault fault left → IsFirstFault fault said
-fault_of_all calls said left (At line kind) means first = means ∙ ap (with_more calls) first
-fault_of_all calls said left NoMemory means first = tt
-
 -- what is told of replies and then of the journal is what is asked for
 output_is : (what : ScriptPrint) (replies journal : List ℕ) → (if tells_replies what then replies else []) ++ (if tells_journal what then journal else []) ≡ script_output_text what replies journal
 output_is Replies replies journal = append-nil replies
@@ -106,8 +101,8 @@ output_is Journal replies journal = refl
 output_is Both replies journal = refl
 
 -- a script whose body is answered, and what is written of it
-pub is_served : (what : ScriptPrint) (input : List ℕ) (head : Script) (below : Below) (told text : List ℕ) (past : List Entry) → IsOpened (script_of input) call_of_words head below → IsBodyAnswered (config_of head) (said_below call_of_words below) (tells_replies what) told past → text ≡ told ++ (if tells_journal what then journal_text (config_of head) head.tenants head.kinds past else []) → IsServed what input text
-is_served what input head below told text past opened b is = record {
+script_is_served : (what : ScriptPrint) (input : List ℕ) (head : Script) (below : Below) (told text : List ℕ) (past : List Entry) → IsOpened (script_of input) call_of_words head below → IsBodyAnswered (config_of head) (said_below call_of_words below) (tells_replies what) told past → text ≡ told ++ (if tells_journal what then journal_text (config_of head) head.tenants head.kinds past else []) → IsServed what input text
+script_is_served what input head below told text past opened b is = record {
   script = record head { body = b.calls };
   read = opened.means ∙ ap (with_body_lines head) b.read;
   replies = b.answered.replies;
@@ -116,7 +111,16 @@ is_served what input head below told text past opened b is = record {
   text_is = is ∙ (ap (λ t. t ++ (if tells_journal what then journal_text (config_of head) head.tenants head.kinds past else [])) b.answered.told ∙ output_is what (replies_text b.answered.replies) (journal_text (config_of head) head.tenants head.kinds past));
 }
 
--- a fault of the body is that of the script
-pub fault_of_script : (input : List ℕ) (head : Script) (below : Below) (fault : ScriptFault) → IsOpened (script_of input) call_of_words head below → IsFirstFault fault (said_below call_of_words below) → IsFirstFault fault (script_of input)
-fault_of_script input head below (At line kind) opened first = opened.means ∙ ap (with_body_lines head) first
-fault_of_script input head below NoMemory opened first = tt
+-- the same by the parts of the script, and of the scheduler that served it
+pub is_served : (what : ScriptPrint) (input : List ℕ) (head : Script) (below : Below) (C D : Config) (tells : Bool) (names kinds : List (List ℕ)) (told text : List ℕ) (past : List Entry)
+    → IsOpened (script_of input) call_of_words head below → C ≡ config_of head → D ≡ C → tells ≡ tells_replies what → names ≡ head.tenants → kinds ≡ head.kinds
+    → IsBodyAnswered C (said_below call_of_words below) tells told past
+    → text ≡ told ++ (if tells_journal what then journal_text D names kinds past else []) → IsServed what input text
+is_served what input head below C D tells names kinds told text past opened c d t n k b is =
+    let body : IsBodyAnswered (config_of head) (said_below call_of_words below) (tells_replies what) told past =
+    subst (λ (x : Config). IsBodyAnswered x (said_below call_of_words below) (tells_replies what) told past) c
+    (subst (λ (x : Bool). IsBodyAnswered C (said_below call_of_words below) x told past) t b) in
+    let journal : journal_text D names kinds past ≡ journal_text (config_of head) head.tenants head.kinds past =
+    ap (λ (x : Config). journal_text x names kinds past) (d ∙ c)
+    ∙ (ap (λ (x : List (List ℕ)). journal_text (config_of head) x kinds past) n ∙ ap (λ (x : List (List ℕ)). journal_text (config_of head) head.tenants x past) k) in
+    script_is_served what input head below told text past opened body (is ∙ ap (λ (x : List ℕ). told ++ (if tells_journal what then x else [])) journal)

@@ -1,7 +1,9 @@
 //! `script`: the calls of a script, and what is printed of them.
-ghost use Rattle.std.specs.Prelude.{◌≡◌, string_bytes, MatchResult, IfOk};
+ghost use Rattle.std.specs.Prelude.{◌≡◌, ◌++◌, [], if◌then◌else◌, string_bytes, MatchResult, IfOk, OnOk};
 ghost use Rattle.fq_model.specs.declared.command.Command.TheVariants.{Script};
 ghost use Rattle.fq_model.specs.FaultTexts.{script_fault_text, placed_text};
+ghost use Rattle.fq_model.specs.JournalText.{journal_text};
+ghost use Rattle.tenant_table.specs.Names.{names_of};
 ghost use Rattle.twodfq_main.specs.Commands.{IsServed, Untold};
 ghost use Rattle.twodfq_main.specs.Histories.{message_line};
 ghost use Rattle.twodfq_main.specs.Program.{IsOutputStop};
@@ -18,7 +20,10 @@ use journal_text::messages::placed_fault;
 use journal_text::printing::add_journal;
 use journal_text::reading::Opened;
 use rival_policies::chooser::Chooser;
+use sched_state::Scheduler;
 use std::alloc::Global;
+use tenant_table::kinds::Kinds;
+use tenant_table::tenants::Tenants;
 
 /// What is asked for of a script: the replies to its calls, the journal that they leave, or both. The scheduler is over
 /// any chooser.
@@ -43,11 +48,33 @@ pub fn served_text<X: Chooser + Drop>(
         mut text,
         scheduler,
     } = served;
-    if tells_journal(what) {
-        let past = scheduler.past();
-        add_journal(alloc, past, scheduler.config(), &tenants, &kinds, &mut text)?;
-    }
+    add_if_asked(alloc, what, &scheduler, &tenants, &kinds, &mut text)?;
     Ok(text)
+}
+
+// Appends the journal that a scheduler has, where it is asked for.
+fn add_if_asked<X: Chooser>(
+    alloc: Global,
+    what: ScriptPrint,
+    scheduler: &Scheduler<u64, X>,
+    tenants: &Tenants,
+    kinds: &Kinds,
+    text: &mut Vec<u8>,
+) -> Result<(), NoMemory>
+    ensures { OnOk result (text.new.items ≡ text.old.items ++ (if tells_journal what then
+        journal_text scheduler.now.config (names_of tenants.now) kinds.now scheduler.now.past else [])) }
+{
+    if !tells_journal(what) {
+        return Ok(());
+    }
+    add_journal(
+        alloc,
+        scheduler.past(),
+        scheduler.config(),
+        tenants,
+        kinds,
+        text,
+    )
 }
 
 // Whether the replies are asked for.
