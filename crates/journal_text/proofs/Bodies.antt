@@ -27,6 +27,7 @@ added d said = record d { body = d.body ++ said ∷ [] }
 abbrev extended : {A : Type 0} → Document A → Result (List A) (ℕ × ScriptKind) → Result (Document A) (ℕ × ScriptKind)
 extended d later = later >>= λ more. Ok (record d { body = d.body ++ more })
 
+-- it is the same, whether a line is added before the others or with them
 regrouped : {A : Type 0} (d : Document A) (said : A) (later : Result (List A) (ℕ × ScriptKind)) → extended (added d said) later ≡ extended d (with_first said later)
 regrouped d said (Ok more) = ap (λ body. Ok (record d { body = body })) (append_assoc d.body (said ∷ []) more)
 regrouped d said (Err e) = refl
@@ -54,6 +55,7 @@ in_body : {A : Type 0} (reader : LineReader A) (d : Document A) (words : Words) 
 unfolding with_line with_body
 in_body reader d words some past = past_head (begins_with words (codes "tenant")) _ (is_empty d.kinds) _ _ _ _ some past
 
+-- no line is left
 none_left : {A : Type 0} (reader : LineReader A) (place : ℕ) (d : Document A) → is_empty d.kinds ≡ false → with_lines reader place d [] ≡ extended d (body_of reader place [])
 none_left reader place d some = rw (some, append-nil d.body) refl
 
@@ -90,6 +92,7 @@ past_kinds true true t b h = absurd (cc)
 past_kinds true false t b h = refl
 past_kinds false k t b h = absurd (cc)
 
+-- below a head with kinds, the lines are the body's
 pub with_lines-body : {A : Type 0} (reader : LineReader A) (lines : List (List ℕ)) (place : ℕ) (d : Document A) → is_empty d.kinds ≡ false → StartsBody d lines
     → with_lines reader place d lines ≡ extended d (body_of reader place lines)
 with_lines-body reader [] place d some starts = none_left reader place d some
@@ -129,6 +132,7 @@ pub opened_at_end : {A : Type 0} (reader : Version → LineReader A) (version : 
     → IsOpened text reader d (below_at version place rest)
 opened_at_end reader version text place d rest same kept some end = opened_at reader version text place d rest same kept some (rw end tt)
 
+-- where nothing stands in the body, and a line is no first one of it, it is one of the head
 same_head : {X : Type 0} (tenant kind none unnamed bodyless : Bool) (x y z w : X) → bodyless ≡ true → (not none && not kind) ≡ false → (none ≡ false → unnamed ≡ false)
     → (if tenant && none then x else (if kind && (not unnamed && bodyless) then y else (if none then z else w)))
     ≡ (if tenant && none then x else (if kind && not unnamed then y else z))
@@ -156,12 +160,14 @@ next_in_head : {A : Type 0} (reader : LineReader A) (place : ℕ) (d : Document 
 next_in_head reader place d line rest below kept first goes_on =
     rw first (ap (λ read. at_line place read >>= λ more. with_lines reader (place + 1) more (lines_of below)) (in_head reader d (words_of line) kept goes_on))
 
+-- where a line of the head is added, the lines below it say the rest
 pub added_to_head : {A : Type 0} (reader : LineReader A) (text : Result (Document A) (ℕ × ScriptKind)) (place : ℕ) (d u : Document A) (line rest below : List ℕ)
     → with_lines reader place d (lines_of rest) ≡ text → IsKept d → lines_of rest ≡ line ∷ lines_of below → ends_before d (words_of line) ≡ false
     → with_head_line d (words_of line) ≡ Ok u → with_lines reader (place + 1) u (lines_of below) ≡ text
 added_to_head reader text place d u line rest below same kept first goes_on read =
     sym (next_in_head reader place d line rest below kept first goes_on ∙ ap (λ r. at_line place r >>= λ more. with_lines reader (place + 1) more (lines_of below)) read) ∙ same
 
+-- the fault of a line of the head is the first of the text
 pub fault_in_head : {A : Type 0} (reader : LineReader A) (text : Result (Document A) (ℕ × ScriptKind)) (place : ℕ) (d : Document A) (line rest below : List ℕ) (e : LineError)
     → with_lines reader place d (lines_of rest) ≡ text → IsKept d → lines_of rest ≡ line ∷ lines_of below → ends_before d (words_of line) ≡ false
     → Fails e (with_head_line d (words_of line)) → IsFirstFault (fault_at place e) text

@@ -202,17 +202,19 @@ fn with_lines<'a, A: Line>(
     mut words: Vec<&'a [u8]>,
 ) -> Result<(Draft<A>, Body<'a, A>), ScriptFault>
     requires { IsOfConfigLine draft }
-    ensures ok { IfOk result (λ r. IsOpened (with_lines (A.reader version) 3 draft (lines_of text.now)) A.reader r.0 r.1) }
+    ensures ok { IfOk result (λ r.
+        IsOpened (with_lines (A.reader version) 3 draft (lines_of text.now)) A.reader r.0 r.1) }
     ensures fault { IfErr result (λ f. IsFirstFault f (with_lines (A.reader version) 3 draft (lines_of text.now))) }
 {
     let mut rest = text;
     let mut place: u64 = 3;
     while let Some((line, below)) = next_line(rest) {
         split_words(line, &mut words)?;
-        if draft.ends_before(words.as_slice()) {
+        let here = words.as_slice();
+        if draft.ends_before(here) {
             return Ok((draft, Body::new(version, place, rest, words)));
         }
-        if let Err(e) = draft.add_words(words.as_slice()) {
+        if let Err(e) = draft.add_words(here) {
             return Err(e.at(place));
         }
         rest = below;

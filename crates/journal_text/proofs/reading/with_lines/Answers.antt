@@ -14,7 +14,7 @@ loop-line-init g c = record {
 
 pub returns-then-ends_before-clause-ok : goal.returns-then-ends_before-clause-ok
 returns-then-ends_before-clause-ok g c =
-    let words : words_in c.as_slice.result.now ≡ words_of c.in-Some.line.now = search rules in
+    let words : words_in c.as_slice-here.result.now ≡ words_of c.in-Some.line.now = search rules in
     let ends : ends_before c.loop-line.draft (words_of c.in-Some.line.now) ≡ true = cc in
     rw c.new.ensures
     (opened_before g.A.Line.reader c.args.version _ c.loop-line.place c.loop-line.draft c.in-Some.line.now c.loop-line.rest.now c.in-Some.below.now
@@ -22,20 +22,17 @@ returns-then-ends_before-clause-ok g c =
 
 pub returns-in-Err-clause-fault : goal.returns-in-Err-clause-fault
 returns-in-Err-clause-fault g c =
-    let words : words_in c.as_slice.result.now ≡ words_of c.in-Some.line.now = search rules in
+    let words : words_in c.as_slice-here.result.now ≡ words_of c.in-Some.line.now = search rules in
     let goes_on : ends_before c.loop-line.draft (words_of c.in-Some.line.now) ≡ false = cc in
-    let words_2 : words_in c.as_slice-in-Some.result.now ≡ words_of c.in-Some.line.now = search rules in
-    let fails : Fails c.in-Err.e (with_head_line c.loop-line.draft (words_of c.in-Some.line.now)) = subst (λ ws. Fails c.in-Err.e (with_head_line c.loop-line.draft ws)) words_2 c.in-Err.ensures in
     rw c.at.ensures
     (fault_in_head (g.A.Line.reader c.args.version) _ c.loop-line.place c.loop-line.draft c.in-Some.line.now c.loop-line.rest.now c.in-Some.below.now c.in-Err.e
-    c.loop-line.invariant.same c.loop-line.invariant.kept c.in-Some.ensures.lines goes_on fails)
+    c.loop-line.invariant.same c.loop-line.invariant.kept c.in-Some.ensures.lines goes_on (subst (λ ws. Fails c.in-Err.e (with_head_line c.loop-line.draft ws)) words c.in-Err.ensures))
 
 pub loop-line-preserved : goal.loop-line-preserved
 loop-line-preserved g c =
-    let words : words_in c.as_slice.result.now ≡ words_of c.in-Some.line.now = search rules in
+    let words : words_in c.as_slice-here.result.now ≡ words_of c.in-Some.line.now = search rules in
     let goes_on : ends_before c.loop-line.draft (words_of c.in-Some.line.now) ≡ false = cc in
-    let words_2 : words_in c.as_slice-in-Some.result.now ≡ words_of c.in-Some.line.now = search rules in
-    let read : with_head_line c.loop-line.draft (words_of c.in-Some.line.now) ≡ Ok c.add_words.new.self = ap (with_head_line c.loop-line.draft) (sym words_2) ∙ c.in_default-add_words.ensures in
+    let read : with_head_line c.loop-line.draft (words_of c.in-Some.line.now) ≡ Ok c.add_words.new.self = ap (with_head_line c.loop-line.draft) (sym words) ∙ c.in_default-add_words.ensures in
     record {
       same = added_to_head (g.A.Line.reader c.args.version) _ c.loop-line.place c.loop-line.draft c.add_words.new.self c.in-Some.line.now c.loop-line.rest.now c.in-Some.below.now
           c.loop-line.invariant.same c.loop-line.invariant.kept c.in-Some.ensures.lines goes_on read;
