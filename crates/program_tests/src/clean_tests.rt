@@ -4,11 +4,11 @@ ghost use Rattle.std.specs.String.{string_bytes};
 ghost use Rattle.twodfq_main.specs.Commands.{asked, is_plain, Untold};
 ghost use Rattle.twodfq_main.specs.Laws.{AreOutputsShorter};
 
-use twodfq_main::program::plain;
 use crate::samples::{REPLIES, SCRIPT};
 use fq_io::{CleanSink, CleanSource};
 use std::alloc::Global;
 use std::test::Fail;
+use twodfq_main::program::plain;
 
 // Where the sink has more room than the output has bytes, neither reading nor writing can fail.
 fn clean_run(

@@ -1,5 +1,7 @@
 //! Devices that fail at any one of their calls.
-use crate::samples::{NEVER, REPLIES, RUN, SCRIPT, TRACE, expect_stop, run, sink_failing, source_failing};
+use crate::samples::{
+    NEVER, REPLIES, RUN, SCRIPT, TRACE, expect_stop, run, sink_failing, source_failing,
+};
 use std::alloc::Global;
 use std::process::Abort;
 use std::test::Fail;

@@ -1,10 +1,10 @@
 //! A trace that a pool of threads serves, at least two of them at once.
-use twodfq_main::program::twodfq;
 use crate::worked_tests::{sink, source_of};
 use fq_io::Clock;
 use std::sync::atomic::{AtomicU64, Ordering};
 use std::test::Fail;
 use std::{str, thread};
+use twodfq_main::program::twodfq;
 
 const TRACE: &str =
     "tenant,a,1\ntenant,b,1\nrequest,0,0,a,scan,8,8\nrequest,0,0,b,get,2,2\nrequest,0,1,b,get,2,2\n";

@@ -1,10 +1,10 @@
 //! Worked examples of the program, from the bytes that come in to the bytes that go out.
-use twodfq_main::program::{plain, twodfq};
 use crate::samples::{REPLIES, SCRIPT};
 use fq_io::{FixedClock, MemSink, MemSource, read_all};
 use std::alloc::Global;
 use std::process::Abort;
 use std::test::Fail;
+use twodfq_main::program::{plain, twodfq};
 
 // What a call is to leave.
 #[derive(Clone, Copy)]

@@ -20,9 +20,6 @@ use Rattle.fq_model.specs.Texts.{reply_line, replies_text}
 use Rattle.fq_laws.proofs.Outcome.{outcome_snoc}
 use Rattle.journal_text.proofs.Bodies.{with_more}
 use Rattle.journal_text.specs.Body.{Below, with_first, said_below, with_body_lines, IsOpened}
-use Rattle.journal_text.specs.Reading.{IsFirstFault}
-use Rattle.journal_text.specs.declared.fault.ScriptFault.{ScriptFault}
-use Rattle.journal_text.specs.declared.fault.ScriptFault.TheVariants.{At, NoMemory}
 use Rattle.twodfq_main.specs.Commands.{IsServed}
 use Rattle.twodfq_main.specs.Serving.{tells_replies, tells_journal, told_text, AreAnswered, IsBodyAnswered}
 
