@@ -64,7 +64,7 @@ fn done<X: Chooser, R: Wait + Abort>(
     worker
 }
 
-// Two reports and two costs of a request, of which each second report and each first cost falls below the last use.
+// Two reports of a request, the second below the first, and two costs, the first below the last use.
 fn done_after_falling<X: Chooser, R: Wait + Abort>(
     rt: &R,
     desk: &Desk<u64, X>,
@@ -99,7 +99,7 @@ fn closed<X: Chooser, R: Wait + Abort>(rt: &R, desk: &Desk<u64, X>, who: &mut Su
     assert_eq!(rt; submit(rt, desk, who, 50, 8), Err(refused));
 }
 
-// Asks for work where nothing waits, before the close and after it.
+// Asks for work where nothing waits.
 fn idle<X: Chooser, R: Wait + Abort>(rt: &R, desk: &Desk<u64, X>, worker: Worker) -> Worker
     requires { IsOf desk.now.lock worker.pass }
     ensures { IsOf desk.now.lock result.pass }
@@ -111,6 +111,7 @@ fn idle<X: Chooser, R: Wait + Abort>(rt: &R, desk: &Desk<u64, X>, worker: Worker
     worker
 }
 
+// Asks for work where nothing waits and nothing will come.
 fn drained<X: Chooser, R: Wait + Abort>(rt: &R, desk: &Desk<u64, X>, worker: Worker) -> Worker
     requires { IsOf desk.now.lock worker.pass }
     ensures { IsOf desk.now.lock result.pass }
@@ -130,7 +131,7 @@ fn small<X: Chooser + Drop, R: Abort>(rt: &R, alloc: Global) -> (Desk<u64, X>, S
     opened(rt, alloc, configured(rt, alloc, 1, 1, 1000, 10))
 }
 
-// A request is submitted and taken, falls, and ends.
+// A request is submitted, taken and ended.
 fn one_job<X: Chooser, R: Wait + Abort>(
     rt: &R,
     desk: &Desk<u64, X>,
@@ -152,7 +153,7 @@ fn one_job<X: Chooser, R: Wait + Abort>(
     done_after_falling(rt, desk, running)
 }
 
-// A desk's entries after one job, and a close that a worker asks for work before and after.
+// A desk's entries after one job and a close; a worker asks for work before the close and after it.
 fn job_and_close<X: Chooser + Drop, R: Wait + Abort>(rt: &R, alloc: Global) -> Vec<Entry> {
     let (desk, mut who, worker) = small::<X, R>(rt, alloc);
     let worker = one_job(rt, &desk, &mut who, worker);

@@ -305,7 +305,7 @@ fn are_handed_in(end: &End, mut wanted: Range<u64>) -> bool {
     wanted.is_empty()
 }
 
-// Whether a row was refused since it is closed, or none is left.
+// Whether a row was refused because of the close, or no row is left.
 fn is_stopped_by_close(end: &End) -> bool {
     match &end.stopped {
         Some((_, cause)) => *cause == Cause::Closed,
