@@ -1,159 +1,197 @@
-ghost use Rattle.std.specs.Prelude.{◌≡◌, IfOk, IfSome};
+ghost use Rattle.std.specs.Prelude.{◌≡◌, IfSome};
 ghost use Rattle.history_lock.specs.Passes.{IsOf};
 ghost use Rattle.desk.specs.Replies.{took_pass};
 
-use desk::{Desk, DoneRefusal, LiveRefusal, Submitter, Took, Worker};
+use crate::histories::{are_callers, are_jobs, are_moments};
+use crate::samples::{configured, ended, ended_for_two, opened, opened_for_two};
+use desk::{Desk, DoneRefusal, LiveRefusal, Running, Submitter, Took, Worker};
 use eligible_index::index::IndexChooser;
-use fq_model::config::{Checked, Config, Estimator, Policy, Weights};
-use fq_model::event::{Act, Cause};
-use sched_state::{AlreadyClosed, Refused, Scheduler};
+use fq_model::event::{Cause, Entry};
+use rival_policies::chooser::Chooser;
+use sched_state::{AlreadyClosed, Refused};
 use std::alloc::Global;
 use std::process::Abort;
 use std::sync::Wait;
-use std::test::Fail;
-use std::thread::join_mut;
+use std::thread::{Threads, join_mut};
 
-type IndexDesk = Desk<u64, IndexChooser>;
-
-// A desk of one submitter and one worker, with its tokens.
-fn opened(alloc: Global, config: Checked) -> Option<(IndexDesk, Submitter, Worker)>
-    requires { config.workers ≡ 1 }
-    ensures submitter { IfSome result (λ r. IsOf r.0.lock r.1.pass × (r.1.pass.number ≡ 0)) }
-    ensures worker { IfSome result (λ r. IsOf r.0.lock r.2.pass) }
+// Submits a job that is declared to cost 5.
+fn submit<X: Chooser, R: Wait>(
+    rt: &R,
+    desk: &Desk<u64, X>,
+    who: &mut Submitter,
+    moment: u64,
+    job: u64,
+) -> Result<u32, Refused<u64>>
+    requires { IsOf desk.now.lock who.old.pass }
+    ensures own { IsOf desk.now.lock who.new.pass }
+    ensures number { who.new.pass.number ≡ who.old.pass.number }
 {
-    match IndexDesk::open(alloc, config, 1) {
-        Err(_) => None,
-        Ok((desk, mut submitters, mut workers)) => {
-            let who = submitters.pop().unwrap();
-            let worker = workers.pop().unwrap();
-            submitters.destroy_empty();
-            workers.destroy_empty();
-            Some((desk, who, worker))
-        }
-    }
+    desk.submit(rt, who, moment, 0, 0, 5, job)
 }
 
-// One worker, one tenant of weight 1, and room for this many requests and 1,000 entries.
-fn small(alloc: Global, requests: u32) -> Result<Checked, Fail>
-    ensures { IfOk result (λ c. c.workers ≡ 1) }
-{
-    let config = Config {
-        workers: 1,
-        weights: Weights::from_vec(vec![in alloc; 1]?),
-        kinds: 1,
-        entries: 1000,
-        requests,
-        policy: Policy::TwoDfq,
-        estimate: Estimator::Declared,
-        initial: 1000,
-    };
-    Ok(config.check()?)
-}
-
-// Ends a desk of one submitter and one worker, and gives its scheduler.
-fn ended(
-    rt: &impl Abort,
-    alloc: Global,
-    desk: IndexDesk,
-    who: Submitter,
+// Takes a request that waits, and its job.
+fn taken_now<X: Chooser, R: Wait + Abort>(
+    rt: &R,
+    desk: &Desk<u64, X>,
     worker: Worker,
-) -> Result<Scheduler<u64, IndexChooser>, Fail>
-    requires submitter { IsOf desk.lock who.pass × (who.pass.number ≡ 0) }
-    requires worker { IsOf desk.lock worker.pass }
+    moment: u64,
+) -> (Running, u64)
+    requires { IsOf desk.now.lock worker.pass }
+    ensures { IsOf desk.now.lock result.0.pass }
 {
-    let mut submitters = Vec::new(alloc);
-    let kept = submitters.push(who);
-    let Ok(()) = kept else {
-        panic!(rt; "no memory for a token")
-    };
-    let mut workers = Vec::new(alloc);
-    let kept = workers.push(worker);
-    let Ok(()) = kept else {
-        panic!(rt; "no memory for a token")
-    };
-    Ok(desk.finish(submitters, workers)?)
-}
-
-// The label of a submission.
-fn label(act: Act) -> u64 {
-    match act {
-        Act::Submit { label, .. } => label,
-        _ => 0,
-    }
-}
-
-#[test]
-fn a_job_from_its_submission_to_the_end(rt: HostRuntime) -> Result<(), Fail> {
-    let config = small(rt.alloc(), 10)?;
-    let Some((desk, mut who, worker)) = opened(rt.alloc(), config) else {
-        panic!(rt; "no memory for a desk")
-    };
-    assert_eq!(rt; desk.submit(&rt, &mut who, 50, 0, 0, 5, 7), Ok(0));
-    let took = desk.take(&rt, worker, 50);
-    let Took::Run(mut running, job) = took else {
+    let took = desk.take(rt, worker, moment);
+    let Took::Run(running, job) = took else {
         panic!(rt; "a request waits")
     };
-    assert_eq!(rt;
-        (job, running.request(), running.estimate(), running.worker()),
-        (7, 0, 5, 0)
-    );
-    assert_eq!(rt; desk.report(&rt, &mut running, 50, 7), Ok(()));
+    (running, job)
+}
+
+// Ends a request at a cost that is accepted.
+fn done<X: Chooser, R: Wait + Abort>(
+    rt: &R,
+    desk: &Desk<u64, X>,
+    running: Running,
+    moment: u64,
+    cost: u64,
+) -> Worker
+    requires { IsOf desk.now.lock running.pass }
+    ensures { IsOf desk.now.lock result.pass }
+{
+    let done = desk.done(rt, running, moment, cost);
+    let Ok(worker) = done else {
+        panic!(rt; "a cost that is not below the last use")
+    };
+    worker
+}
+
+// Two reports of a request, the second below the first, and two costs, the first below the last use.
+fn done_after_falling<X: Chooser, R: Wait + Abort>(
+    rt: &R,
+    desk: &Desk<u64, X>,
+    mut running: Running,
+) -> Worker
+    requires { IsOf desk.now.lock running.pass }
+    ensures { IsOf desk.now.lock result.pass }
+{
+    assert_eq!(rt; desk.report(rt, &mut running, 50, 7), Ok(()));
     let falling = LiveRefusal::Falling { last: 7, given: 6 };
-    assert_eq!(rt; desk.report(&rt, &mut running, 50, 6), Err(falling));
-    let refused = desk.done(&rt, running, 50, 6);
+    assert_eq!(rt; desk.report(rt, &mut running, 50, 6), Err(falling));
+    let refused = desk.done(rt, running, 50, 6);
     let Err((running, cause)) = refused else {
         panic!(rt; "a cost below the last use")
     };
     assert_eq!(rt; cause, DoneRefusal::Falling { last: 7, given: 6 });
-    let done = desk.done(&rt, running, 50, 7);
-    let Ok(worker) = done else {
-        panic!(rt; "a cost that is not below it")
-    };
-    let took = desk.take(&rt, worker, 50);
-    let Took::Idle(worker) = took else {
-        panic!(rt; "nothing waits")
-    };
-    assert_eq!(rt; desk.close(&rt, &mut who, 50), Ok(()));
-    assert_eq!(rt; desk.close(&rt, &mut who, 50), Err(AlreadyClosed));
+    done(rt, desk, running, 50, 7)
+}
+
+// Closes twice, and submits once more.
+fn closed<X: Chooser, R: Wait + Abort>(rt: &R, desk: &Desk<u64, X>, who: &mut Submitter)
+    requires { IsOf desk.now.lock who.old.pass }
+    ensures own { IsOf desk.now.lock who.new.pass }
+    ensures number { who.new.pass.number ≡ who.old.pass.number }
+{
+    assert_eq!(rt; desk.close(rt, who, 50), Ok(()));
+    assert_eq!(rt; desk.close(rt, who, 50), Err(AlreadyClosed));
     let refused = Refused {
         job: 8,
         cause: Cause::Closed,
     };
-    assert_eq!(rt; desk.submit(&rt, &mut who, 50, 0, 0, 5, 8), Err(refused));
-    let took = desk.take(&rt, worker, 50);
+    assert_eq!(rt; submit(rt, desk, who, 50, 8), Err(refused));
+}
+
+// Asks for work where nothing waits.
+fn idle<X: Chooser, R: Wait + Abort>(rt: &R, desk: &Desk<u64, X>, worker: Worker) -> Worker
+    requires { IsOf desk.now.lock worker.pass }
+    ensures { IsOf desk.now.lock result.pass }
+{
+    let took = desk.take(rt, worker, 50);
+    let Took::Idle(worker) = took else {
+        panic!(rt; "nothing waits")
+    };
+    worker
+}
+
+// Asks for work where nothing waits and nothing will come.
+fn drained<X: Chooser, R: Wait + Abort>(rt: &R, desk: &Desk<u64, X>, worker: Worker) -> Worker
+    requires { IsOf desk.now.lock worker.pass }
+    ensures { IsOf desk.now.lock result.pass }
+{
+    let took = desk.take(rt, worker, 50);
     let Took::Drained(worker) = took else {
         panic!(rt; "nothing will come")
     };
-    let scheduler = ended(&rt, rt.alloc(), desk, who, worker)?;
-    let callers = scheduler.past().iter().map(|e| e.who);
-    assert!(rt; callers.eq([0u32, 1, 1, 1, 0]));
-    Ok(())
+    worker
+}
+
+// A desk of one worker, with room for 10 requests and 1,000 entries.
+fn small<X: Chooser + Drop, R: Abort>(rt: &R, alloc: Global) -> (Desk<u64, X>, Submitter, Worker)
+    ensures submitter { IsOf result.0.lock result.1.pass × (result.1.pass.number ≡ 0) }
+    ensures worker { IsOf result.0.lock result.2.pass }
+{
+    opened(rt, alloc, configured(rt, alloc, 1, 1, 1000, 10))
+}
+
+// A request is submitted, taken and ended.
+fn one_job<X: Chooser, R: Wait + Abort>(
+    rt: &R,
+    desk: &Desk<u64, X>,
+    who: &mut Submitter,
+    worker: Worker,
+) -> Worker
+    requires own { IsOf desk.now.lock who.old.pass }
+    requires worker { IsOf desk.now.lock worker.pass }
+    ensures own { IsOf desk.now.lock who.new.pass }
+    ensures number { who.new.pass.number ≡ who.old.pass.number }
+    ensures worker { IsOf desk.now.lock result.pass }
+{
+    assert_eq!(rt; submit(rt, desk, who, 50, 7), Ok(0));
+    let (running, job) = taken_now(rt, desk, worker, 50);
+    assert_eq!(rt;
+        (job, running.request(), running.estimate(), running.worker()),
+        (7, 0, 5, 0)
+    );
+    done_after_falling(rt, desk, running)
+}
+
+// A desk's entries after one job and a close; a worker asks for work before the close and after it.
+fn job_and_close<X: Chooser + Drop, R: Wait + Abort>(rt: &R, alloc: Global) -> Vec<Entry> {
+    let (desk, mut who, worker) = small::<X, R>(rt, alloc);
+    let worker = one_job(rt, &desk, &mut who, worker);
+    let worker = idle(rt, &desk, worker);
+    closed(rt, &desk, &mut who);
+    let worker = drained(rt, &desk, worker);
+    ended(rt, alloc, desk, who, worker)
 }
 
 #[test]
-fn moments_below_the_last_and_above_the_greatest(rt: HostRuntime) -> Result<(), Fail> {
-    let config = small(rt.alloc(), 10)?;
-    let Some((desk, mut who, worker)) = opened(rt.alloc(), config) else {
-        panic!(rt; "no memory for a desk")
-    };
-    assert_eq!(rt; desk.submit(&rt, &mut who, 50, 0, 0, 5, 7), Ok(0));
-    assert_eq!(rt; desk.submit(&rt, &mut who, 40, 0, 0, 5, 8), Ok(1));
-    let took = desk.take(&rt, worker, u64::MAX);
-    let Took::Run(running, _job) = took else {
-        panic!(rt; "a request waits")
-    };
-    let done = desk.done(&rt, running, 0, 5);
-    let Ok(worker) = done else {
-        panic!(rt; "a cost as it was declared")
-    };
-    let scheduler = ended(&rt, rt.alloc(), desk, who, worker)?;
-    let moments = scheduler.past().iter().map(|e| e.moment);
-    assert!(rt; moments.eq([50u64, 50, 1000000000000000, 1000000000000000]));
-    Ok(())
+fn a_job_from_its_submission_to_the_end(rt: HostRuntime) {
+    let past = job_and_close::<IndexChooser, HostRuntime>(&rt, rt.alloc());
+    assert!(rt; are_callers(past.as_slice(), &[0, 1, 1, 1, 0]));
+}
+
+// A desk's entries after calls at 50, at an earlier moment, at the last one that can be named, and at 0.
+fn calls_out_of_order<X: Chooser + Drop, R: Wait + Abort>(rt: &R, alloc: Global) -> Vec<Entry> {
+    let (desk, mut who, worker) = small::<X, R>(rt, alloc);
+    assert_eq!(rt; submit(rt, &desk, &mut who, 50, 7), Ok(0));
+    assert_eq!(rt; submit(rt, &desk, &mut who, 40, 8), Ok(1));
+    let (running, _job) = taken_now(rt, &desk, worker, u64::MAX);
+    let worker = done(rt, &desk, running, 0, 5);
+    ended(rt, alloc, desk, who, worker)
+}
+
+#[test]
+fn moments_below_the_last_and_above_the_greatest(rt: HostRuntime) {
+    let past = calls_out_of_order::<IndexChooser, HostRuntime>(&rt, rt.alloc());
+    let wanted = [50, 50, 1000000000000000, 1000000000000000];
+    assert!(rt; are_moments(past.as_slice(), &wanted));
 }
 
 // A worker asks until it is told something else than Idle, and sleeps between.
-fn taken<R: Wait>(rt: &R, desk: &IndexDesk, place: &mut Option<Worker>) -> Option<Took<u64>>
+fn taken<X: Chooser, R: Wait>(
+    rt: &R,
+    desk: &Desk<u64, X>,
+    place: &mut Option<Worker>,
+) -> Option<Took<u64>>
     requires { IfSome place.old (λ w. IsOf desk.now.lock w.pass) }
     ensures { IfSome result (λ t. IsOf desk.now.lock (took_pass t)) }
 {
@@ -171,62 +209,56 @@ fn taken<R: Wait>(rt: &R, desk: &IndexDesk, place: &mut Option<Worker>) -> Optio
     unreachable!()
 }
 
-#[test]
-fn a_worker_that_sleeps_until_a_request_comes(rt: HostRuntime) -> Result<(), Fail> {
-    let config = small(rt.alloc(), 10)?;
-    let Some((desk, mut who, worker)) = opened(rt.alloc(), config) else {
-        panic!(rt; "no memory for a desk")
-    };
+// What a worker is told that sleeps until this thread submits a request.
+fn woken<X: Chooser + Send, R: Threads + Wait + Sync + Abort>(
+    rt: &R,
+    desk: &Desk<u64, X>,
+    who: &mut Submitter,
+    worker: Worker,
+) -> Option<Took<u64>>
+    requires own { IsOf desk.now.lock who.old.pass }
+    requires worker { IsOf desk.now.lock worker.pass }
+    ensures own { IsOf desk.now.lock who.new.pass }
+    ensures number { who.new.pass.number ≡ who.old.pass.number }
+    ensures worker { IfSome result (λ t. IsOf desk.now.lock (took_pass t)) }
+{
     let mut place = Some(worker);
-    let shared = &desk;
     let (took, told) = join_mut(
-        &rt,
-        &mut || taken(&rt, shared, &mut place),
-        &mut || shared.submit(&rt, &mut who, 50, 0, 0, 5, 7),
+        rt,
+        &mut || taken(rt, desk, &mut place),
+        &mut || submit(rt, desk, who, 50, 7),
     );
     assert_eq!(rt; told, Ok(0));
     let None = place else {
         panic!(rt; "the worker has taken")
     };
+    took
+}
+
+// A desk's entries after a worker slept, took what came and ended it.
+fn slept<X: Chooser + Drop + Send, R: Threads + Wait + Sync + Abort>(
+    rt: &R,
+    alloc: Global,
+) -> Vec<Entry> {
+    let (desk, mut who, worker) = small::<X, R>(rt, alloc);
+    let took = woken(rt, &desk, &mut who, worker);
     let Some(Took::Run(running, job)) = took else {
         panic!(rt; "a request came")
     };
     assert_eq!(rt; (job, running.request()), (7, 0));
-    let done = desk.done(&rt, running, 50, 5);
-    let Ok(worker) = done else {
-        panic!(rt; "a cost as it was declared")
-    };
-    let scheduler = ended(&rt, rt.alloc(), desk, who, worker)?;
-    assert!(rt; scheduler.past().iter().map(|e| e.who).eq([0u32, 1, 1]));
-    Ok(())
+    let worker = done(rt, &desk, running, 50, 5);
+    ended(rt, alloc, desk, who, worker)
 }
 
-// A desk of two submitters and one worker, with its tokens.
-fn opened_for_two(
-    alloc: Global,
-    config: Checked,
-) -> Option<(IndexDesk, Submitter, Submitter, Worker)>
-    requires { config.workers ≡ 1 }
-    ensures first { IfSome result (λ r. IsOf r.0.lock r.1.pass × (r.1.pass.number ≡ 0)) }
-    ensures second { IfSome result (λ r. IsOf r.0.lock r.2.pass × (r.2.pass.number ≡ 1)) }
-    ensures worker { IfSome result (λ r. IsOf r.0.lock r.3.pass) }
-{
-    match IndexDesk::open(alloc, config, 2) {
-        Err(_) => None,
-        Ok((desk, mut submitters, mut workers)) => {
-            let second = submitters.pop().unwrap();
-            let first = submitters.pop().unwrap();
-            let worker = workers.pop().unwrap();
-            submitters.destroy_empty();
-            workers.destroy_empty();
-            Some((desk, first, second, worker))
-        }
-    }
+#[test]
+fn a_worker_that_sleeps_until_a_request_comes(rt: HostRuntime) {
+    let past = slept::<IndexChooser, HostRuntime>(&rt, rt.alloc());
+    assert!(rt; are_callers(past.as_slice(), &[0, 1, 1]));
 }
 
 // Submits 50 jobs, with numbers from 1,000 times the caller's own on, and notes in its bits which requests below 100 it
 // is told.
-fn fifty<R: Wait>(rt: &R, desk: &IndexDesk, who: &mut Submitter) -> u128
+fn fifty<X: Chooser, R: Wait>(rt: &R, desk: &Desk<u64, X>, who: &mut Submitter) -> u128
     requires { IsOf desk.now.lock who.old.pass }
     ensures own { IsOf desk.now.lock who.new.pass }
     ensures number { who.new.pass.number ≡ who.old.pass.number }
@@ -234,7 +266,7 @@ fn fifty<R: Wait>(rt: &R, desk: &IndexDesk, who: &mut Submitter) -> u128
     let mut told = 0;
     let from = who.number() as u64 * 1000;
     for job in from..from + 50 {
-        if let Ok(request) = desk.submit(rt, who, 50, 0, 0, 5, job) {
+        if let Ok(request) = submit(rt, desk, who, 50, job) {
             if request < 100 {
                 told |= 1u128 << request;
             }
@@ -243,43 +275,41 @@ fn fifty<R: Wait>(rt: &R, desk: &IndexDesk, who: &mut Submitter) -> u128
     told
 }
 
-#[test]
-fn two_submitters_in_two_threads(rt: HostRuntime) -> Result<(), Fail> {
-    let config = small(rt.alloc(), 100)?;
-    let Some((desk, mut first, mut second, worker)) = opened_for_two(rt.alloc(), config) else {
-        panic!(rt; "no memory for a desk")
-    };
-    let shared = &desk;
-    let zero = &mut first;
-    let one = &mut second;
+// Each of two submitters submits 50 jobs, in a thread of its own.
+fn fifty_each<X: Chooser + Send, R: Threads + Wait + Sync + Abort>(
+    rt: &R,
+    desk: &Desk<u64, X>,
+    zero: &mut Submitter,
+    one: &mut Submitter,
+)
+    requires zero { IsOf desk.now.lock zero.old.pass }
+    requires one { IsOf desk.now.lock one.old.pass }
+    ensures zero { IsOf desk.now.lock zero.new.pass × (zero.new.pass.number ≡ zero.old.pass.number) }
+    ensures one { IsOf desk.now.lock one.new.pass }
+{
     let (a, b) = join_mut(
-        &rt,
-        &mut || fifty(&rt, shared, zero),
-        &mut || fifty(&rt, shared, one),
+        rt,
+        &mut || fifty(rt, desk, zero),
+        &mut || fifty(rt, desk, one),
     );
     assert_eq!(rt; (a & b, a | b), (0, (1 << 100) - 1));
-    let mut submitters = Vec::new(rt.alloc());
-    let kept = submitters.push(first);
-    let Ok(()) = kept else {
-        panic!(rt; "no memory for a token")
-    };
-    let kept = submitters.push(second);
-    let Ok(()) = kept else {
-        panic!(rt; "no memory for a token")
-    };
-    let mut workers = Vec::new(rt.alloc());
-    let kept = workers.push(worker);
-    let Ok(()) = kept else {
-        panic!(rt; "no memory for a token")
-    };
-    let scheduler: Scheduler<u64, IndexChooser> = desk.finish(submitters, workers)?;
-    assert_eq!(rt; scheduler.past().len(), 100);
-    let of = |who: u32| scheduler
-        .past()
-        .iter()
-        .filter(move |e| e.who == who)
-        .map(|e| label(e.act));
-    assert!(rt; of(0).eq(0..50));
-    assert!(rt; of(1).eq(1000..1050));
-    Ok(())
+}
+
+// A desk's entries after that.
+fn hundred<X: Chooser + Drop + Send, R: Threads + Wait + Sync + Abort>(
+    rt: &R,
+    alloc: Global,
+) -> Vec<Entry> {
+    let config = configured(rt, alloc, 1, 1, 1000, 100);
+    let (desk, mut zero, mut one, workers) = opened_for_two::<X, R>(rt, alloc, config);
+    fifty_each(rt, &desk, &mut zero, &mut one);
+    ended_for_two(rt, alloc, desk, zero, one, workers)
+}
+
+#[test]
+fn two_submitters_in_two_threads(rt: HostRuntime) {
+    let past = hundred::<IndexChooser, HostRuntime>(&rt, rt.alloc());
+    assert_eq!(rt; past.len(), 100);
+    assert!(rt; are_jobs(past.as_slice(), Some(0), 0..50));
+    assert!(rt; are_jobs(past.as_slice(), Some(1), 1000..1050));
 }

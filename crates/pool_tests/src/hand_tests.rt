@@ -1,23 +1,23 @@
 //! Two submitters and two workers that meet at one desk, each in a thread of its own.
-ghost use Rattle.std.specs.Prelude.{◌≡◌, IfOk, IfSome, None};
+ghost use Rattle.std.specs.Prelude.{◌≡◌, [], ◌∷◌, None, Some};
 ghost use Rattle.std.specs.Thread.{IsSync};
 ghost use Rattle.history_lock.specs.Passes.{IsOf};
-ghost use Rattle.worker_gate.specs.Hands.{AreHandsOf, HandsDid};
-ghost use Rattle.worker_gate.specs.Rules.{work_cost};
+ghost use Rattle.worker_gate.specs.declared.pool.Hand.TheVariants as hand;
+ghost use Rattle.pool_tests.specs.Hired.{AreHired};
 
+use crate::histories::{are_jobs, are_letters, are_next_jobs, count_of, makes_only};
+use crate::samples::{both, configured, ended_for_two, opened_for_two, two};
 use desk::{Desk, Submitter, Worker};
 use eligible_index::index::IndexChooser;
 use fq_io::FixedClock;
-use fq_model::config::{Checked, Config, Estimator, Policy, Weights};
-use fq_model::event::{Act, Cause};
-use sched_state::Scheduler;
+use fq_model::event::{Cause, Entry};
+use rival_policies::chooser::Chooser;
 use std::alloc::Global;
 use std::collections::VecDeque;
 use std::ops::Range;
 use std::process::Abort;
 use std::sync::Wait;
 use std::sync::atomic::{AtomicU64, Ordering};
-use std::test::Fail;
 use std::thread;
 use std::thread::{Threads, join_mut};
 use worker_gate::cost_rule::{CostRule, WorkCost};
@@ -26,8 +26,6 @@ use worker_gate::feed::feed;
 use worker_gate::gate::{Gate, Slice};
 use worker_gate::pool::{Hand, pool};
 use worker_gate::rows::{Fed, Row};
-
-type IndexDesk = Desk<u64, IndexChooser>;
 
 // Job 0 ends once job 1 has begun, or is marked where that takes too many turns. Each other job ends at once.
 #[derive(Drop)]
@@ -70,47 +68,7 @@ impl Gate<u64> for Meeting {
     }
 }
 
-fn two_workers(alloc: Global) -> Result<Checked, Fail>
-    ensures { IfOk result (λ config. config.workers ≡ 2) }
-{
-    let config = Config {
-        workers: 2,
-        weights: Weights::from_vec(vec![in alloc; 1]?),
-        kinds: 1,
-        entries: 1000,
-        requests: 200,
-        policy: Policy::TwoDfq,
-        estimate: Estimator::Declared,
-        initial: 1000,
-    };
-    Ok(config.check()?)
-}
-
-// A desk of two submitters and two workers, with its tokens.
-fn opened(
-    alloc: Global,
-    config: Checked,
-) -> Option<(IndexDesk, Submitter, Submitter, Worker, Worker)>
-    requires { config.workers ≡ 2 }
-    ensures zero { IfSome result (λ r. IsOf r.0.lock r.1.pass × (r.1.pass.number ≡ 0)) }
-    ensures one { IfSome result (λ r. IsOf r.0.lock r.2.pass) }
-    ensures workers { IfSome result (λ r. IsOf r.0.lock r.3.pass × IsOf r.0.lock r.4.pass) }
-{
-    match IndexDesk::open(alloc, config, 2) {
-        Err(_) => None,
-        Ok((desk, mut submitters, mut workers)) => {
-            let one = submitters.pop().unwrap();
-            let zero = submitters.pop().unwrap();
-            let second = workers.pop().unwrap();
-            let first = workers.pop().unwrap();
-            submitters.destroy_empty();
-            workers.destroy_empty();
-            Some((desk, zero, one, first, second))
-        }
-    }
-}
-
-fn rows_of(alloc: Global, jobs: Range<u64>) -> Option<VecDeque<Row<u64>>> {
+fn rows_of<R: Abort>(rt: &R, alloc: Global, jobs: Range<u64>) -> VecDeque<Row<u64>> {
     let mut rows = VecDeque::new(alloc);
     for job in jobs {
         let row = Row {
@@ -119,9 +77,12 @@ fn rows_of(alloc: Global, jobs: Range<u64>) -> Option<VecDeque<Row<u64>>> {
             declared: 5,
             job,
         };
-        rows.push_back(row).ok()?;
+        let kept = rows.push_back(row);
+        let Ok(()) = kept else {
+            panic!(rt; "no memory for rows")
+        };
     }
-    Some(rows)
+    rows
 }
 
 // What submitter 1 does while those of the pool do their parts.
@@ -135,10 +96,10 @@ enum Aside {
 }
 
 // Does that, and says whether each of its calls was accepted.
-fn step_aside<R: Wait>(
+fn step_aside<X: Chooser, R: Wait + Abort>(
     rt: &R,
     alloc: Global,
-    desk: &IndexDesk,
+    desk: &Desk<u64, X>,
     who: &mut Submitter,
     total: u32,
     aside: Aside,
@@ -151,9 +112,7 @@ fn step_aside<R: Wait>(
         Aside::Shrink => 20,
         Aside::Close => 10,
     };
-    let Some(rows) = rows_of(alloc, 1000..1000 + count) else {
-        return false;
-    };
+    let rows = rows_of(rt, alloc, 1000..1000 + count);
     if matches!(aside, Aside::Shrink) && desk.workers(rt, who, 50, 1).is_err() {
         return false;
     }
@@ -164,24 +123,24 @@ fn step_aside<R: Wait>(
 }
 
 // The hands of a pool do their parts.
-fn serve<R: Threads + Wait + Sync>(
+fn serve<X: Chooser + Send, R: Threads + Wait + Sync>(
     rt: &R,
-    desk: &IndexDesk,
+    desk: &Desk<u64, X>,
     gate: &Meeting,
     hands: &mut [Hand<u64>],
 )
-    requires { AreHandsOf desk.now.lock hands.old }
-    ensures { HandsDid (λ job. job) desk.now.lock (λ _. None) work_cost (λ m. m ≡ 50) hands.old hands.new }
+    requires { AreHired desk.now.lock hands.old }
+    ensures { AreHired desk.now.lock hands.new }
 {
     let clock = FixedClock::new(50);
     pool(rt, desk, hands, gate, &clock, &CostRule::new(WorkCost));
 }
 
 // The hands of a pool do their parts, and submitter 1 does its own meanwhile.
-fn side_by_side<R: Threads + Wait + Sync>(
+fn side_by_side<X: Chooser + Send, R: Threads + Wait + Sync + Abort>(
     rt: &R,
     alloc: Global,
-    desk: &IndexDesk,
+    desk: &Desk<u64, X>,
     who: &mut Submitter,
     total: u32,
     aside: Aside,
@@ -189,99 +148,59 @@ fn side_by_side<R: Threads + Wait + Sync>(
     hands: &mut [Hand<u64>],
 ) -> bool
     requires who { IsOf desk.now.lock who.old.pass }
-    requires hands { AreHandsOf desk.now.lock hands.old }
+    requires hands { AreHired desk.now.lock hands.old }
     ensures who { IsOf desk.now.lock who.new.pass }
-    ensures hands { HandsDid (λ job. job) desk.now.lock (λ _. None) work_cost (λ m. m ≡ 50) hands.old hands.new }
+    ensures hands { AreHired desk.now.lock hands.new }
 {
     let (accepted, ()) = join_mut(
         rt,
         &mut || step_aside(rt, alloc, desk, who, total, aside),
         &mut ||
-            requires { IsSync R.row × AreHandsOf desk.now.lock hands.now }
-            ensures { HandsDid (λ job. job) desk.entry.now.lock (λ _. None) work_cost (λ m. m ≡ 50) hands.entry.now
-                hands.exit.now }
+            requires { IsSync R.row × AreHired desk.now.lock hands.now }
+            ensures { AreHired desk.entry.now.lock hands.exit.now }
         { serve(rt, desk, gate, hands) },
     );
     accepted
 }
 
-// Ends the desk, and gives its scheduler.
-fn ended(
-    rt: &impl Abort,
-    alloc: Global,
-    desk: IndexDesk,
-    zero: Submitter,
-    one: Submitter,
+// Submitter 0, which feeds these rows, and two workers.
+fn hired(
+    who: Submitter,
+    rows: VecDeque<Row<u64>>,
+    total: u32,
     first: Worker,
     second: Worker,
-) -> Result<Scheduler<u64, IndexChooser>, Fail>
-    requires zero { IsOf desk.lock zero.pass × (zero.pass.number ≡ 0) }
-    requires one { IsOf desk.lock one.pass }
-    requires workers { IsOf desk.lock first.pass × IsOf desk.lock second.pass }
+) -> [Hand<u64>; 3]
+    ensures { result ≡ hand.Feed who rows total None ∷ hand.Work (Some first) ∷ hand.Work (Some second) ∷ [] }
 {
-    let mut submitters = Vec::new(alloc);
-    let kept = submitters.push(zero);
-    let Ok(()) = kept else {
-        panic!(rt; "no memory for a token")
-    };
-    let kept = submitters.push(one);
-    let Ok(()) = kept else {
-        panic!(rt; "no memory for a token")
-    };
-    let mut workers = Vec::new(alloc);
-    let kept = workers.push(first);
-    let Ok(()) = kept else {
-        panic!(rt; "no memory for a token")
-    };
-    let kept = workers.push(second);
-    let Ok(()) = kept else {
-        panic!(rt; "no memory for a token")
-    };
-    Ok(desk.finish(submitters, workers)?)
-}
-
-// The scheduler of a desk, which row of submitter 0 was refused, and which rows of it were left.
-#[derive(Drop)]
-struct End {
-    scheduler: Scheduler<u64, IndexChooser>,
-    stopped: Option<(Row<u64>, Cause)>,
-    rest: VecDeque<Row<u64>>,
-}
-
-// Submitter 0 feeds jobs, two workers serve, and submitter 1 does something aside, in four threads.
-fn served<R: Threads + Wait + Sync + Abort>(
-    rt: &R,
-    alloc: Global,
-    gate: &Meeting,
-    jobs: Range<u64>,
-    total: u32,
-    aside: Aside,
-) -> Result<End, Fail> {
-    let config = two_workers(alloc)?;
-    let Some(rows) = rows_of(alloc, jobs) else {
-        panic!(rt; "no memory for rows")
-    };
-    let Some((desk, zero, mut one, first, second)) = opened(alloc, config) else {
-        panic!(rt; "no memory for a desk")
-    };
     let feeding = Hand::Feed {
-        who: zero,
+        who,
         rows,
         total,
         stopped: None,
     };
-    let mut hands = [feeding, Hand::Work(Some(first)), Hand::Work(Some(second))];
-    let accepted = side_by_side(
-        rt,
-        alloc,
-        &desk,
-        &mut one,
-        total,
-        aside,
-        gate,
-        hands.as_mut_slice(),
-    );
-    assert!(rt; accepted);
+    [feeding, Hand::Work(Some(first)), Hand::Work(Some(second))]
+}
+
+// The entries of a desk, which row of submitter 0 was refused, and which rows of it were left.
+#[derive(Drop)]
+struct End {
+    past: Vec<Entry>,
+    stopped: Option<(Row<u64>, Cause)>,
+    rest: VecDeque<Row<u64>>,
+}
+
+// Ends the desk, with the tokens of submitter 1 and of three hands.
+fn dismissed<X: Chooser + Drop, R: Abort>(
+    rt: &R,
+    alloc: Global,
+    desk: Desk<u64, X>,
+    one: Submitter,
+    hands: [Hand<u64>; 3],
+) -> End
+    requires one { IsOf desk.lock one.pass }
+    requires hands { AreHired desk.lock hands }
+{
     let [feeding, first, second] = hands;
     let Hand::Feed {
         who: zero,
@@ -298,95 +217,122 @@ fn served<R: Threads + Wait + Sync + Abort>(
     let Hand::Work(Some(second)) = second else {
         panic!(rt; "a worker has its token")
     };
-    let scheduler = ended(rt, alloc, desk, zero, one, first, second)?;
-    Ok(End {
-        scheduler,
+    let workers = two(rt, alloc, first, second);
+    let past = ended_for_two(rt, alloc, desk, zero, one, workers);
+    End {
+        past,
         stopped,
         rest,
-    })
-}
-
-// The job of a submission.
-fn submitted(act: Act) -> Option<u64> {
-    match act {
-        Act::Submit { label, .. } => Some(label),
-        _ => None,
     }
 }
 
-// One letter for each kind of act. Callers 0 and 1 are the submitters, and callers 2 and 3 the workers.
-fn letter(act: Act) -> char {
-    match act {
-        Act::Submit { .. } => 's',
-        Act::Take { .. } => 't',
-        Act::Done { .. } => 'd',
-        Act::Close => 'c',
-        Act::Workers { .. } => 'w',
-        _ => '?',
-    }
+// Submitter 0 feeds jobs, two workers serve, and submitter 1 does something aside, in four threads.
+fn served<X: Chooser + Drop + Send, R: Threads + Wait + Sync + Abort>(
+    rt: &R,
+    alloc: Global,
+    gate: &Meeting,
+    jobs: Range<u64>,
+    total: u32,
+    aside: Aside,
+) -> End {
+    let config = configured(rt, alloc, 2, 1, 1000, 200);
+    let (desk, zero, mut one, workers) = opened_for_two::<X, R>(rt, alloc, config);
+    let (first, second) = both(rt, workers);
+    let mut hands = hired(zero, rows_of(rt, alloc, jobs), total, first, second);
+    let accepted = side_by_side(
+        rt,
+        alloc,
+        &desk,
+        &mut one,
+        total,
+        aside,
+        gate,
+        hands.as_mut_slice(),
+    );
+    assert!(rt; accepted);
+    dismissed(rt, alloc, desk, one, hands)
 }
 
-#[test]
-fn two_workers_in_a_slice_at_once(rt: HostRuntime) -> Result<(), Fail> {
-    let gate = Meeting::new();
-    let end = served(&rt, rt.alloc(), &gate, 0..2, 2, Aside::Nothing)?;
-    assert_eq!(rt; gate.missed.load(Ordering::SeqCst), 0);
-    let past = end.scheduler.past();
-    let letters = |who: u32| past
-        .iter()
-        .filter(move |e| e.who == who)
-        .map(|e| letter(e.act));
-    assert!(rt; letters(0).eq(['s', 's', 'c']));
-    assert!(rt; letters(2).eq(['t', 'd']));
-    assert!(rt; letters(3).eq(['t', 'd']));
+// Both jobs were served, each by a worker of its own.
+fn expect_both_served<R: Abort>(rt: &R, past: &[Entry]) {
+    assert!(rt; are_letters(past, 0, "ssc"));
+    assert!(rt; are_letters(past, 2, "td"));
+    assert!(rt; are_letters(past, 3, "td"));
     assert_eq!(rt; past.len(), 7);
-    let jobs = past.iter().filter_map(|e| submitted(e.act));
-    assert!(rt; jobs.eq(0..2));
-    Ok(())
+    assert!(rt; are_jobs(past, None, 0..2));
 }
 
 #[test]
-fn one_worker_from_then_on(rt: HostRuntime) -> Result<(), Fail> {
+fn two_workers_in_a_slice_at_once(rt: HostRuntime) {
     let gate = Meeting::new();
-    let end = served(&rt, rt.alloc(), &gate, 0..0, 20, Aside::Shrink)?;
-    let past = end.scheduler.past();
-    let letters = |who: u32| past
-        .iter()
-        .filter(move |e| e.who == who)
-        .map(|e| letter(e.act));
-    let wanted = ['w'].into_iter().chain((0..20).map(|_| 's')).chain(['c']);
-    assert!(rt; letters(1).eq(wanted));
-    assert_eq!(rt; letters(2).filter(|l| *l == 'd').count(), 20);
-    assert_eq!(rt; letters(3).count(), 0);
+    let end = served::<IndexChooser, HostRuntime>(&rt, rt.alloc(), &gate, 0..2, 2, Aside::Nothing);
+    assert_eq!(rt; gate.missed.load(Ordering::SeqCst), 0);
+    expect_both_served(&rt, end.past.as_slice());
+}
+
+// The first worker alone served the 20 jobs of submitter 1.
+fn expect_one_serves<R: Abort>(rt: &R, past: &[Entry]) {
+    assert!(rt; are_letters(past, 1, "wssssssssssssssssssssc"));
+    assert_eq!(rt; count_of(past, Some(2), 'd'), 20);
+    assert!(rt; are_letters(past, 3, ""));
     assert_eq!(rt; past.len(), 62);
-    let jobs = past.iter().filter_map(|e| submitted(e.act));
-    assert!(rt; jobs.eq(1000..1020));
-    Ok(())
+    assert!(rt; are_jobs(past, None, 1000..1020));
 }
 
 #[test]
-fn a_close_in_the_midst(rt: HostRuntime) -> Result<(), Fail> {
+fn one_worker_from_then_on(rt: HostRuntime) {
     let gate = Meeting::new();
-    let end = served(&rt, rt.alloc(), &gate, 100..200, 1000, Aside::Close)?;
-    let past = end.scheduler.past();
-    let letters = |who: u32| past
-        .iter()
-        .filter(move |e| e.who == who)
-        .map(|e| letter(e.act));
-    let jobs = |who: u32| past
-        .iter()
-        .filter(move |e| e.who == who)
-        .filter_map(|e| submitted(e.act));
-    assert!(rt; letters(0).all(|l| l == 's'));
-    let stopped = end.stopped.iter().map(|s| s.0.job);
-    let rest = end.rest.iter().map(|row| row.job);
-    assert!(rt; jobs(0).chain(stopped).chain(rest).eq(100..200));
-    assert!(rt; end.stopped.iter().all(|s| s.1 == Cause::Closed));
-    assert!(rt; end.stopped.is_some() || end.rest.is_empty());
-    let wanted = (0..10).map(|_| 's').chain(['c']);
-    assert!(rt; letters(1).eq(wanted));
-    assert!(rt; jobs(1).eq(1000..1010));
-    let count = |wanted: char| past.iter().filter(move |e| letter(e.act) == wanted).count();
-    assert_eq!(rt; count('d'), count('s'));
-    Ok(())
+    let end = served::<IndexChooser, HostRuntime>(&rt, rt.alloc(), &gate, 0..0, 20, Aside::Shrink);
+    expect_one_serves(&rt, end.past.as_slice());
+}
+
+// Whether the jobs of submitter 0 are these: first those that it submitted, then the one that was refused, then those
+// that are left.
+fn are_handed_in(end: &End, mut wanted: Range<u64>) -> bool {
+    if !are_next_jobs(end.past.as_slice(), Some(0), &mut wanted) {
+        return false;
+    }
+    if let Some((row, _)) = &end.stopped {
+        if wanted.next() != Some(row.job) {
+            return false;
+        }
+    }
+    for row in &end.rest {
+        if wanted.next() != Some(row.job) {
+            return false;
+        }
+    }
+    wanted.is_empty()
+}
+
+// Whether a row was refused because of the close, or no row is left.
+fn is_stopped_by_close(end: &End) -> bool {
+    match &end.stopped {
+        Some((_, cause)) => *cause == Cause::Closed,
+        None => end.rest.is_empty(),
+    }
+}
+
+// What was submitted before the close was served.
+fn expect_close<R: Abort>(rt: &R, past: &[Entry]) {
+    assert!(rt; makes_only(past, 0, 's'));
+    assert!(rt; are_letters(past, 1, "ssssssssssc"));
+    assert!(rt; are_jobs(past, Some(1), 1000..1010));
+    assert_eq!(rt; count_of(past, None, 'd'), count_of(past, None, 's'));
+}
+
+#[test]
+fn a_close_in_the_midst(rt: HostRuntime) {
+    let gate = Meeting::new();
+    let end = served::<IndexChooser, HostRuntime>(
+        &rt,
+        rt.alloc(),
+        &gate,
+        100..200,
+        1000,
+        Aside::Close,
+    );
+    expect_close(&rt, end.past.as_slice());
+    assert!(rt; are_handed_in(&end, 100..200));
+    assert!(rt; is_stopped_by_close(&end));
 }

@@ -8,8 +8,12 @@ mod feed_tests;
 #[cfg(test)]
 mod hand_tests;
 #[cfg(test)]
+mod histories;
+#[cfg(test)]
 mod lock_tests;
 #[cfg(test)]
 mod rule_tests;
+#[cfg(test)]
+mod samples;
 #[cfg(test)]
 mod work_tests;

@@ -1,11 +1,54 @@
 ghost use Rattle.std.specs.Prelude.{◌≡◌};
 ghost use Rattle.history_lock.specs.Passes.{IsOf};
 
+use crate::histories::{are_callers, are_moments};
+use fq_model::event::Entry;
 use history_lock::laws::Echo;
 use history_lock::{HistoryLock, Pass};
+use std::alloc::Global;
+use std::ops::Range;
+use std::process::Abort;
 use std::sync::Wait;
-use std::test::Fail;
-use std::thread::join_mut;
+use std::thread::{Threads, join_mut};
+
+// A lock round an echo with room for so many entries, and its first pass.
+fn opened<R: Abort>(rt: &R, alloc: Global, room: u32) -> (HistoryLock<Echo>, Pass<u32>)
+    ensures own { IsOf result.0 result.1 }
+    ensures first { (result.1.number ≡ 0) × (result.1.made ≡ 0) }
+{
+    let echo = Echo::open(alloc, room);
+    let Ok(echo) = echo else {
+        panic!(rt; "no memory for entries")
+    };
+    let opened = HistoryLock::open(alloc, echo);
+    let Ok(both) = opened else {
+        panic!(rt; "no memory for a lock")
+    };
+    both
+}
+
+// Ends a lock, after the other pass was joined, and gives its echo.
+fn closed<R: Abort>(rt: &R, lock: HistoryLock<Echo>, mut zero: Pass<u32>, one: Pass<u32>) -> Echo
+    requires zero { IsOf lock zero × (zero.number ≡ 0) }
+    requires one { IsOf lock one }
+{
+    lock.join(&mut zero, one);
+    let closed = lock.close(zero);
+    let Ok(echo) = closed else {
+        panic!(rt; "a turn was not served")
+    };
+    echo
+}
+
+// Takes a turn.
+fn turn<R: Wait>(rt: &R, lock: &HistoryLock<Echo>, pass: &mut Pass<u32>, call: u64) -> u64
+    requires own { IsOf lock.now pass.old }
+    ensures own { IsOf lock.now pass.new }
+    ensures number { pass.new.number ≡ pass.old.number }
+    ensures made { pass.new.made ≡ pass.old.made }
+{
+    lock.turn(rt, pass, call)
+}
 
 // Takes 100 turns, with numbers from 1,000 times the pass's own on.
 fn turns<R: Wait>(rt: &R, lock: &HistoryLock<Echo>, pass: &mut Pass<u32>)
@@ -15,47 +58,58 @@ fn turns<R: Wait>(rt: &R, lock: &HistoryLock<Echo>, pass: &mut Pass<u32>)
 {
     let from = pass.number() as u64 * 1000;
     for call in from..from + 100 {
-        lock.turn(rt, pass, call);
+        turn(rt, lock, pass, call);
     }
 }
 
-#[test]
-fn two_passes_of_one_thread(rt: HostRuntime) -> Result<(), Fail> {
-    let (lock, mut zero) = HistoryLock::open(rt.alloc(), Echo::open(rt.alloc(), 3)?)?;
-    assert_eq!(rt; lock.turn(&rt, &mut zero, 9), 0);
+// Whether these are the moments of a caller's entries.
+fn are_moments_of(past: &[Entry], who: u32, mut wanted: Range<u64>) -> bool {
+    for e in past {
+        if e.who == who && wanted.next() != Some(e.moment) {
+            return false;
+        }
+    }
+    wanted.is_empty()
+}
+
+// What an echo has after two passes took their turns, of which it had no room for the last.
+fn four_turns<R: Wait + Abort>(rt: &R, alloc: Global) -> Echo {
+    let (lock, mut zero) = opened(rt, alloc, 3);
+    assert_eq!(rt; turn(rt, &lock, &mut zero, 9), 0);
     let mut one = lock.split(&mut zero);
     assert_eq!(rt; one.number(), 1);
-    assert_eq!(rt; lock.turn(&rt, &mut one, 4), 1);
-    assert_eq!(rt; lock.turn(&rt, &mut zero, 7), 2);
-    assert_eq!(rt; lock.turn(&rt, &mut one, 8), 3);
-    lock.join(&mut zero, one);
-    let echo = lock.close(zero)?;
-    assert!(rt; echo.past().iter().map(|e| e.moment).eq([9u64, 4, 7]));
-    assert!(rt; echo.past().iter().map(|e| e.who).eq([0u32, 1, 0]));
-    Ok(())
+    assert_eq!(rt; turn(rt, &lock, &mut one, 4), 1);
+    assert_eq!(rt; turn(rt, &lock, &mut zero, 7), 2);
+    assert_eq!(rt; turn(rt, &lock, &mut one, 8), 3);
+    closed(rt, lock, zero, one)
 }
 
 #[test]
-fn two_threads(rt: HostRuntime) -> Result<(), Fail> {
-    let (lock, mut zero) = HistoryLock::open(rt.alloc(), Echo::open(rt.alloc(), 200)?)?;
+fn two_passes_of_one_thread(rt: HostRuntime) {
+    let echo = four_turns(&rt, rt.alloc());
+    assert!(rt; are_moments(echo.past(), &[9, 4, 7]));
+    assert!(rt; are_callers(echo.past(), &[0, 1, 0]));
+}
+
+// What an echo has after two passes took 100 turns each, in a thread of its own.
+fn hundred_each<R: Threads + Wait + Sync + Abort>(rt: &R, alloc: Global) -> Echo {
+    let (lock, mut zero) = opened(rt, alloc, 200);
     let mut one = lock.split(&mut zero);
     let shared = &lock;
     let a = &mut zero;
     let b = &mut one;
     join_mut(
-        &rt,
-        &mut || turns(&rt, shared, a),
-        &mut || turns(&rt, shared, b),
+        rt,
+        &mut || turns(rt, shared, a),
+        &mut || turns(rt, shared, b),
     );
-    lock.join(&mut zero, one);
-    let echo = lock.close(zero)?;
+    closed(rt, lock, zero, one)
+}
+
+#[test]
+fn two_threads(rt: HostRuntime) {
+    let echo = hundred_each(&rt, rt.alloc());
     assert_eq!(rt; echo.past().len(), 200);
-    let of = |who: u32| echo
-        .past()
-        .iter()
-        .filter(move |e| e.who == who)
-        .map(|e| e.moment);
-    assert!(rt; of(0).eq(0..100));
-    assert!(rt; of(1).eq(1000..1100));
-    Ok(())
+    assert!(rt; are_moments_of(echo.past(), 0, 0..100));
+    assert!(rt; are_moments_of(echo.past(), 1, 1000..1100));
 }

@@ -40,36 +40,52 @@ fn gate_by_steps(rt: HostRuntime) {
     let gate = FirstBySteps {
         steps: Steps::new(3, 7),
     };
-    assert_eq!(rt; gate.slice(&0, 0, NO_COUNTERS), Slice::More(work(3)));
-    assert_eq!(rt; gate.slice(&0, 1, work(3)), Slice::More(work(6)));
-    assert_eq!(rt; gate.slice(&0, 2, work(6)), Slice::End(work(7)));
-    assert_eq!(rt; gate.slice(&0, 0, work(5)), Slice::More(work(5)));
     let one = Counters {
         work: 0,
         items: 1,
         bytes: 0,
     };
-    assert_eq!(rt; gate.slice(&1, 9999, NO_COUNTERS), Slice::More(one));
+    let told = [
+        gate.slice(&0, 0, NO_COUNTERS),
+        gate.slice(&0, 1, work(3)),
+        gate.slice(&0, 2, work(6)),
+        gate.slice(&0, 0, work(5)),
+        gate.slice(&1, 9999, NO_COUNTERS),
+    ];
+    let wanted = [
+        Slice::More(work(3)),
+        Slice::More(work(6)),
+        Slice::End(work(7)),
+        Slice::More(work(5)),
+        Slice::More(one),
+    ];
+    assert_eq!(rt; told, wanted);
 }
 
 #[test]
 fn steps_of_a_cost(rt: HostRuntime) {
-    // Without refresh, or with more than the cost, it is one slice.
-    assert_eq!(rt; Steps::new(0, 7).slice(0, NO_COUNTERS), Slice::End(work(7)));
-    assert_eq!(rt; Steps::new(8, 7).slice(0, NO_COUNTERS), Slice::End(work(7)));
-    assert_eq!(rt; Steps::new(3, 6).count(), 2);
-    // 10,000 slices of 1 are too few for one more, which takes steps of 2.
-    assert_eq!(rt; Steps::new(1, 10000).count(), 10000);
-    assert_eq!(rt; Steps::new(1, 10001).count(), 5001);
     let greatest = Steps::new(1, 1000000000);
-    assert_eq!(rt;
+    // Without refresh, or with more than the cost, it is one slice.
+    let told = [
+        Steps::new(0, 7).slice(0, NO_COUNTERS),
+        Steps::new(8, 7).slice(0, NO_COUNTERS),
         greatest.slice(9998, NO_COUNTERS),
-        Slice::More(work(999900000))
-    );
-    assert_eq!(rt;
         greatest.slice(9999, work(999900000)),
-        Slice::End(work(1000000000))
-    );
+    ];
+    let wanted = [
+        Slice::End(work(7)),
+        Slice::End(work(7)),
+        Slice::More(work(999900000)),
+        Slice::End(work(1000000000)),
+    ];
+    assert_eq!(rt; told, wanted);
+    // 10,000 slices of 1 are too few for one more, which takes steps of 2.
+    let counts = [
+        Steps::new(3, 6).count(),
+        Steps::new(1, 10000).count(),
+        Steps::new(1, 10001).count(),
+    ];
+    assert_eq!(rt; counts, [2, 10000, 5001]);
 }
 
 #[test]
@@ -100,9 +116,8 @@ impl Kind<u64> for Parity {
 #[test]
 fn rules_of_costs_and_kinds(rt: HostRuntime) {
     let costs = CostRule::new(WorkCost);
-    assert_eq!(rt; costs.cost(work(999999999)), 999999999);
-    assert_eq!(rt; costs.cost(work(u64::MAX)), 1000000000);
+    let told = [costs.cost(work(999999999)), costs.cost(work(u64::MAX))];
+    assert_eq!(rt; told, [999999999, 1000000000]);
     let kinds = KindRule::new(Parity, 2);
-    assert_eq!(rt; kinds.kind(&4), 0);
-    assert_eq!(rt; kinds.kind(&5), 1);
+    assert_eq!(rt; [kinds.kind(&4), kinds.kind(&5)], [0, 1]);
 }

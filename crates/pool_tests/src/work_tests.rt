@@ -1,23 +1,18 @@
 //! One worker that serves one request, over a real desk.
-ghost use Rattle.std.specs.Prelude.{◌≡◌, IfOk, IfSome, None};
-ghost use Rattle.history_lock.specs.Passes.{IsOf};
+ghost use Rattle.std.specs.Prelude.{None};
 
-use desk::{Desk, Submitter, Worker};
+use crate::samples::{configured, ended, opened};
 use fq_io::FixedClock;
-use fq_model::config::{Checked, Config, Estimator, Policy, Weights};
-use fq_model::event::Act;
+use fq_model::event::{Act, Entry};
+use rival_policies::chooser::Chooser;
 use rival_policies::plain::PlainChooser;
-use sched_state::Scheduler;
 use std::alloc::Global;
 use std::process::Abort;
 use std::sync::Wait;
-use std::test::Fail;
 use worker_gate::cost_rule::{CostRule, WorkCost};
 use worker_gate::counters::Counters;
 use worker_gate::gate::{Gate, Slice};
 use worker_gate::work::work;
-
-type PlainDesk = Desk<u64, PlainChooser>;
 
 // A job that never ends, and comes to one more of work with each slice.
 #[derive(Drop)]
@@ -51,75 +46,15 @@ impl Gate<u64> for Greatest {
     }
 }
 
-fn one_worker(alloc: Global, entries: u32) -> Result<Checked, Fail>
-    ensures { IfOk result (λ config. config.workers ≡ 1) }
-{
-    let config = Config {
-        workers: 1,
-        weights: Weights::from_vec(vec![in alloc; 1]?),
-        kinds: 1,
-        entries,
-        requests: 10,
-        policy: Policy::TwoDfq,
-        estimate: Estimator::Declared,
-        initial: 1000,
-    };
-    Ok(config.check()?)
-}
-
-// A desk of one submitter and one worker, with its tokens.
-fn opened(alloc: Global, config: Checked) -> Option<(PlainDesk, Submitter, Worker)>
-    requires { config.workers ≡ 1 }
-    ensures submitter { IfSome result (λ r. IsOf r.0.lock r.1.pass × (r.1.pass.number ≡ 0)) }
-    ensures worker { IfSome result (λ r. IsOf r.0.lock r.2.pass) }
-{
-    match PlainDesk::open(alloc, config, 1) {
-        Err(_) => None,
-        Ok((desk, mut submitters, mut workers)) => {
-            let who = submitters.pop().unwrap();
-            let worker = workers.pop().unwrap();
-            submitters.destroy_empty();
-            workers.destroy_empty();
-            Some((desk, who, worker))
-        }
-    }
-}
-
-// Ends the desk, and gives its scheduler.
-fn ended(
-    rt: &impl Abort,
-    alloc: Global,
-    desk: PlainDesk,
-    who: Submitter,
-    worker: Worker,
-) -> Result<Scheduler<u64, PlainChooser>, Fail>
-    requires submitter { IsOf desk.lock who.pass × (who.pass.number ≡ 0) }
-    requires worker { IsOf desk.lock worker.pass }
-{
-    let mut submitters = Vec::new(alloc);
-    let kept = submitters.push(who);
-    let Ok(()) = kept else {
-        panic!(rt; "no memory for a token")
-    };
-    let mut workers = Vec::new(alloc);
-    let kept = workers.push(worker);
-    let Ok(()) = kept else {
-        panic!(rt; "no memory for a token")
-    };
-    Ok(desk.finish(submitters, workers)?)
-}
-
-// The scheduler after one request was submitted, and its worker has served.
-fn served<G: Gate<u64>, R: Wait + Abort>(
+// The entries after one request was submitted, and its worker has served.
+fn served<X: Chooser + Drop, G: Gate<u64>, R: Wait + Abort>(
     rt: &R,
     alloc: Global,
     entries: u32,
     gate: &G,
-) -> Result<Scheduler<u64, PlainChooser>, Fail> {
-    let config = one_worker(alloc, entries)?;
-    let Some((desk, mut who, worker)) = opened(alloc, config) else {
-        panic!(rt; "no memory for a desk")
-    };
+) -> Vec<Entry> {
+    let config = configured(rt, alloc, 1, 1, entries, 10);
+    let (desk, mut who, worker) = opened::<X, R>(rt, alloc, config);
     assert_eq!(rt; desk.submit(rt, &mut who, 50, 0, 0, 5, 7), Ok(0));
     assert_eq!(rt; desk.close(rt, &mut who, 50), Ok(()));
     let clock = FixedClock::new(50);
@@ -127,9 +62,17 @@ fn served<G: Gate<u64>, R: Wait + Abort>(
     ended(rt, alloc, desk, who, worker)
 }
 
-// Its history: so many reports of 1, 2 and so on, and the cost.
-fn reported(rt: &impl Abort, scheduler: &Scheduler<u64, PlainChooser>, reports: u64, cost: u64) {
-    let acts = scheduler.past().iter().map(|e| e.act);
+// Whether an entry was made, with this act.
+fn is_act(entry: Option<&Entry>, wanted: Act) -> bool {
+    match entry {
+        Some(e) => e.act == wanted,
+        None => false,
+    }
+}
+
+// The entries: so many reports of 1, 2 and so on, and the cost.
+fn reported<R: Abort>(rt: &R, past: &[Entry], reports: u64, cost: u64) {
+    let mut entries = past.iter();
     let begun = [
         Act::Submit {
             request: 0,
@@ -145,36 +88,40 @@ fn reported(rt: &impl Abort, scheduler: &Scheduler<u64, PlainChooser>, reports: 
             estimate: 5,
         },
     ];
-    let uses = (0..reports).map(|k| Act::Report {
-        worker: 0,
-        request: 0,
-        used: k + 1,
-    });
-    let ended = [Act::Done {
+    for act in begun {
+        assert!(rt; is_act(entries.next(), act));
+    }
+    for used in 1..=reports {
+        let report = Act::Report {
+            worker: 0,
+            request: 0,
+            used,
+        };
+        assert!(rt; is_act(entries.next(), report));
+    }
+    let done = Act::Done {
         worker: 0,
         request: 0,
         cost,
-    }];
-    assert!(rt; acts.eq(begun.into_iter().chain(uses).chain(ended)));
+    };
+    assert!(rt; is_act(entries.next(), done));
+    assert!(rt; entries.next().is_none());
 }
 
 #[test]
-fn all_slices_with_room_for_each(rt: HostRuntime) -> Result<(), Fail> {
-    let scheduler = served(&rt, rt.alloc(), 10004, &Endless)?;
-    reported(&rt, &scheduler, 9999, 10000);
-    Ok(())
+fn all_slices_with_room_for_each(rt: HostRuntime) {
+    let past = served::<PlainChooser, Endless, HostRuntime>(&rt, rt.alloc(), 10004, &Endless);
+    reported(&rt, past.as_slice(), 9999, 10000);
 }
 
 #[test]
-fn all_slices_with_room_for_some(rt: HostRuntime) -> Result<(), Fail> {
-    let scheduler = served(&rt, rt.alloc(), 100, &Endless)?;
-    reported(&rt, &scheduler, 95, 10000);
-    Ok(())
+fn all_slices_with_room_for_some(rt: HostRuntime) {
+    let past = served::<PlainChooser, Endless, HostRuntime>(&rt, rt.alloc(), 100, &Endless);
+    reported(&rt, past.as_slice(), 95, 10000);
 }
 
 #[test]
-fn a_job_past_the_greatest_cost(rt: HostRuntime) -> Result<(), Fail> {
-    let scheduler = served(&rt, rt.alloc(), 100, &Greatest)?;
-    reported(&rt, &scheduler, 0, 1000000000);
-    Ok(())
+fn a_job_past_the_greatest_cost(rt: HostRuntime) {
+    let past = served::<PlainChooser, Greatest, HostRuntime>(&rt, rt.alloc(), 100, &Greatest);
+    reported(&rt, past.as_slice(), 0, 1000000000);
 }

@@ -1,8 +1,56 @@
-use Rattle.std.proofs.Common.{◌≡◌, ℕ, None, subst}
-use Rattle.worker_gate.specs.Hands.{HandsDid}
-use Rattle.worker_gate.specs.Rules.{work_cost}
+use Rattle.std.proofs.Common.{ℕ, List, [], ◌∷◌, Option, Some, None, ◌∙◌, refl, sym, subst, arith}
+use Rattle.std.proofs.lemmas.List.Elements.{All-cons, All-nil}
+use Rattle.history_lock.specs.Passes.{LockView}
+use Rattle.desk.specs.declared.floor.Crew.{Crew}
+use Rattle.worker_gate.specs.declared.counters.Counters.{Counters}
+use Rattle.worker_gate.specs.declared.pool.Hand.{Hand}
+use Rattle.worker_gate.specs.declared.pool.Hand.TheVariants.{Feed, Work}
+use Rattle.worker_gate.specs.Hands.{AreHandsOf, IsHandOf, HandDid, HandsDid}
+use Rattle.pool_tests.specs.Hired.{IsFeeding, IsWorking, AreHired}
 use Rattle.pool_tests.proofs.hand_tests.serve.Goals as goal
 
+feeds : (lock : LockView Crew) (x : Hand ℕ) → IsFeeding lock x → IsHandOf lock x
+feeds lock (Feed who rows total stopped) h = h.0
+feeds lock (Work slot) h = absurd h
+
+works : (lock : LockView Crew) (x : Hand ℕ) → IsWorking lock x → IsHandOf lock x
+works lock (Feed who rows total stopped) h = absurd h
+works lock (Work None) h = absurd h
+works lock (Work (Some worker)) h = (worker, refl, h)
+
+hands_of : (lock : LockView Crew) (hands : List (Hand ℕ)) → AreHired lock hands → AreHandsOf lock hands
+hands_of lock [] h = absurd h
+hands_of lock (x ∷ []) h = absurd h
+hands_of lock (x ∷ y ∷ []) h = absurd h
+hands_of lock (x ∷ y ∷ z ∷ []) h =
+    let P : Hand ℕ → Type 0 = IsHandOf lock in
+    All-cons P x (y ∷ z ∷ []) (feeds lock x h.0) (All-cons P y (z ∷ []) (works lock y h.1) (All-cons P z [] (works lock z h.2) (All-nil P)))
+hands_of lock (x ∷ y ∷ z ∷ w ∷ hands) h = absurd h
+
+module _ (lock : LockView Crew) (course_of : ℕ → Option (List Counters)) (cost_of : Counters → ℕ) (Tells : ℕ → Type 0) where
+  fed : (x y : Hand ℕ) → IsFeeding lock x → HandDid (λ (job : ℕ). job) lock course_of cost_of Tells x y → IsFeeding lock y
+  fed (Feed who rows total stopped) y h (who2, rows2, stopped2, is, did) = subst (IsFeeding lock) (sym is) (did.stays.own, did.stays.number ∙ h.1)
+  fed (Work slot) y h did = absurd h
+
+  worked : (x y : Hand ℕ) → IsWorking lock x → HandDid (λ (job : ℕ). job) lock course_of cost_of Tells x y → IsWorking lock y
+  worked (Feed who rows total stopped) y h did = absurd h
+  worked (Work None) y h did = absurd h
+  worked (Work (Some worker)) y h (before, after, same, is, did) = subst (IsWorking lock) (sym is) did.stays.own
+
+  all_did : (olds news : List (Hand ℕ)) → AreHired lock olds → HandsDid (λ (job : ℕ). job) lock course_of cost_of Tells olds news → AreHired lock news
+  all_did [] news h did = absurd h
+  all_did (a ∷ []) news h did = absurd h
+  all_did (a ∷ b ∷ []) news h did = absurd h
+  all_did (a ∷ b ∷ c ∷ d ∷ olds) news h did = absurd h
+  all_did (a ∷ b ∷ c ∷ []) [] h did = absurd (omega (arith, did.0))
+  all_did (a ∷ b ∷ c ∷ []) (x ∷ []) h did = absurd (omega (arith, did.0))
+  all_did (a ∷ b ∷ c ∷ []) (x ∷ y ∷ []) h did = absurd (omega (arith, did.0))
+  all_did (a ∷ b ∷ c ∷ []) (x ∷ y ∷ z ∷ []) h did =
+      (fed a x h.0 (did.1 0 a (omega arith)), worked b y h.1 (did.1 1 a (omega arith)), worked c z h.2 (did.1 2 a (omega arith)))
+  all_did (a ∷ b ∷ c ∷ []) (x ∷ y ∷ z ∷ w ∷ news) h did = absurd (omega (arith, did.0))
+
+pub pool-requires-after_bounds : goal.pool-requires-after_bounds
+pool-requires-after_bounds g c κs within = hands_of c.args.desk.now.lock c.args.hands.now c.requires
+
 pub returns : goal.returns
-returns g c =
-    subst (λ n. HandsDid {J = ℕ} (λ job. job) c.args.desk.now.lock (λ _. None) work_cost (λ m. m ≡ n) c.args.hands.now c.pool.new.hands) c.new-clock.ensures c.pool.ensures
+returns g c = all_did c.args.desk.now.lock _ _ _ c.args.hands.now c.pool.new.hands c.requires c.pool.ensures

@@ -1,0 +1,180 @@
+//! Desks of few tokens: how they are opened and ended.
+ghost use Rattle.std.specs.Prelude.{◌≡◌, [], ◌∷◌};
+ghost use Rattle.history_lock.specs.Passes.{IsOf};
+ghost use Rattle.desk.specs.Ending.{HoldsOfEach};
+
+use desk::{Desk, Submitter, Worker};
+use fq_model::config::{Checked, Config, Estimator, Policy, Weights};
+use fq_model::event::Entry;
+use rival_policies::chooser::Chooser;
+use sched_state::Scheduler;
+use std::alloc::Global;
+use std::process::Abort;
+
+/// One tenant of weight 1, and costs as declared.
+pub fn configured<R: Abort>(
+    rt: &R,
+    alloc: Global,
+    workers: u32,
+    kinds: u32,
+    entries: u32,
+    requests: u32,
+) -> Checked
+    ensures { result.kinds ≡ kinds }
+{
+    let weights = vec![in alloc; 1];
+    let Ok(weights) = weights else {
+        panic!(rt; "no memory for a weight")
+    };
+    let config = Config {
+        workers,
+        weights: Weights::from_vec(weights),
+        kinds,
+        entries,
+        requests,
+        policy: Policy::TwoDfq,
+        estimate: Estimator::Declared,
+        initial: 1000,
+    };
+    let checked = config.check();
+    let Ok(checked) = checked else {
+        panic!(rt; "a number out of its limits")
+    };
+    checked
+}
+
+/// The one token of a vector.
+pub fn only<T, R: Abort>(rt: &R, mut tokens: Vec<T>) -> T
+    ensures { tokens.items ≡ result ∷ [] }
+{
+    let last = tokens.pop();
+    let Some(token) = last else {
+        panic!(rt; "a token")
+    };
+    if !tokens.is_empty() {
+        panic!(rt; "no other token")
+    }
+    tokens.destroy_empty();
+    token
+}
+
+/// The two tokens of a vector.
+pub fn both<T, R: Abort>(rt: &R, mut tokens: Vec<T>) -> (T, T)
+    ensures { tokens.items ≡ result.0 ∷ result.1 ∷ [] }
+{
+    let last = tokens.pop();
+    let Some(second) = last else {
+        panic!(rt; "a token")
+    };
+    (only(rt, tokens), second)
+}
+
+/// A vector of one token.
+pub fn one<T, R: Abort>(rt: &R, alloc: Global, token: T) -> Vec<T>
+    ensures { result.items ≡ token ∷ [] }
+{
+    let mut tokens = Vec::new(alloc);
+    let kept = tokens.push(token);
+    let Ok(()) = kept else {
+        panic!(rt; "no memory for a token")
+    };
+    tokens
+}
+
+/// A vector of two tokens.
+pub fn two<T, R: Abort>(rt: &R, alloc: Global, first: T, second: T) -> Vec<T>
+    ensures { result.items ≡ first ∷ second ∷ [] }
+{
+    let mut tokens = one(rt, alloc, first);
+    let kept = tokens.push(second);
+    let Ok(()) = kept else {
+        panic!(rt; "no memory for a token")
+    };
+    tokens
+}
+
+/// A desk of one submitter and one worker, with its tokens.
+pub fn opened<X: Chooser + Drop, R: Abort>(
+    rt: &R,
+    alloc: Global,
+    config: Checked,
+) -> (Desk<u64, X>, Submitter, Worker)
+    ensures submitter { IsOf result.0.lock result.1.pass × (result.1.pass.number ≡ 0) }
+    ensures worker { IsOf result.0.lock result.2.pass }
+    ensures config { result.0.lock.frame.config ≡ config }
+{
+    let opened = Desk::<u64, X>::open(alloc, config, 1);
+    let Ok((desk, submitters, workers)) = opened else {
+        panic!(rt; "no memory for a desk")
+    };
+    (desk, only(rt, submitters), only(rt, workers))
+}
+
+// The entries of a scheduler that is given up.
+fn entries_of<X: Chooser + Drop, R: Abort>(
+    rt: &R,
+    alloc: Global,
+    scheduler: Scheduler<u64, X>,
+) -> Vec<Entry> {
+    let entries = scheduler.past().to_vec(alloc);
+    let Ok(entries) = entries else {
+        panic!(rt; "no memory for entries")
+    };
+    entries
+}
+
+/// Ends a desk of one submitter and one worker, and gives the entries of its scheduler.
+pub fn ended<X: Chooser + Drop, R: Abort>(
+    rt: &R,
+    alloc: Global,
+    desk: Desk<u64, X>,
+    who: Submitter,
+    worker: Worker,
+) -> Vec<Entry>
+    requires submitter { IsOf desk.lock who.pass × (who.pass.number ≡ 0) }
+    requires worker { IsOf desk.lock worker.pass }
+{
+    let ended = desk.finish(one(rt, alloc, who), one(rt, alloc, worker));
+    let Ok(scheduler) = ended else {
+        panic!(rt; "a turn was not served")
+    };
+    entries_of(rt, alloc, scheduler)
+}
+
+/// A desk of two submitters, with its tokens.
+pub fn opened_for_two<X: Chooser + Drop, R: Abort>(
+    rt: &R,
+    alloc: Global,
+    config: Checked,
+) -> (Desk<u64, X>, Submitter, Submitter, Vec<Worker>)
+    ensures zero { IsOf result.0.lock result.1.pass × (result.1.pass.number ≡ 0) }
+    ensures one { IsOf result.0.lock result.2.pass }
+    ensures workers { HoldsOfEach (λ t. IsOf result.0.lock t.pass) result.3.items }
+{
+    let opened = Desk::<u64, X>::open(alloc, config, 2);
+    let Ok((desk, submitters, workers)) = opened else {
+        panic!(rt; "no memory for a desk")
+    };
+    let (zero, one) = both(rt, submitters);
+    (desk, zero, one, workers)
+}
+
+/// Ends a desk of two submitters, and gives the entries of its scheduler.
+pub fn ended_for_two<X: Chooser + Drop, R: Abort>(
+    rt: &R,
+    alloc: Global,
+    desk: Desk<u64, X>,
+    zero: Submitter,
+    one: Submitter,
+    workers: Vec<Worker>,
+) -> Vec<Entry>
+    requires zero { IsOf desk.lock zero.pass × (zero.pass.number ≡ 0) }
+    requires one { IsOf desk.lock one.pass }
+    requires workers { HoldsOfEach (λ t. IsOf desk.lock t.pass) workers.items }
+{
+    let ended = desk.finish(two(rt, alloc, zero, one), workers);
+    let Ok(scheduler) = ended else {
+        panic!(rt; "a turn was not served")
+    };
+    entries_of(rt, alloc, scheduler)
+}
