@@ -1,6 +1,6 @@
 //! Numbers, and the words for policies and estimators.
-ghost use Rattle.std.specs.Prelude.{◌≡◌, ◌≢◌, ◌<◌, length, slice_index, ok_or, Some};
-ghost use Rattle.fq_model.specs.Numbers.{with_digits, number_of, policy_of, estimator_of, policy_word, estimator_word};
+ghost use Rattle.std.specs.Prelude.{◌≡◌, ok_or, Some};
+ghost use Rattle.fq_model.specs.Numbers.{with_digit, with_digits, number_of, policy_of, estimator_of, policy_word, estimator_word};
 
 use crate::config::{Estimator, Policy};
 use std::fmt;
@@ -72,20 +72,30 @@ impl fmt::Display for Estimator {
 pub fn number(text: &[u8]) -> Option<u64>
     ensures { result ≡ number_of text.now }
 {
-    if text.is_empty() || text[0] == b'+' || text.len() > 1 && text[0] == b'0' {
+    if text.is_empty() || text.len() > 1 && text[0] == b'0' {
         return None;
     }
     digits(text)
 }
 
-// The number that digits spell, with 64 bits at most.
+// The number that digits spell, with 64 bits at most. Std's `parse` asks for a text, so each number would be looked at
+// twice, and numbers are most of a script.
 fn digits(text: &[u8]) -> Option<u64>
-    requires some { 0 < length text.now }
-    requires no_sign { slice_index text.now 0 ≢ 43 }
     ensures { result ≡ with_digits 0 text.now }
 {
-    match str::from_utf8(text) {
-        Ok(text) => text.parse().ok(),
-        Err(_) => None,
+    let mut number = 0;
+    for byte in text {
+        number = with_digit(number, *byte)?;
     }
+    Some(number)
+}
+
+// The number with one digit more at its end, with 64 bits at most.
+fn with_digit(number: u64, byte: u8) -> Option<u64>
+    ensures { result ≡ with_digit number byte }
+{
+    if !byte.is_ascii_digit() {
+        return None;
+    }
+    number.checked_mul(10)?.checked_add((byte - b'0') as u64)
 }
