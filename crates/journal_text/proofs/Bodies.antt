@@ -5,14 +5,17 @@ use Rattle.std.proofs.lemmas.Bool.{eqb-true}
 use Rattle.std.specs.Prelude.{codes}
 use Rattle.fq_laws.proofs.Faults.{no_fault}
 use Rattle.fq_model.specs.declared.fault.ScriptKind.{ScriptKind}
+use Rattle.fq_model.specs.declared.fault.ScriptKind.TheVariants.{Missing}
 use Rattle.fq_model.specs.declared.version.Version.{Version}
 use Rattle.fq_model.specs.Document.{Document, LineReader, config_of, with_body, with_line, with_lines}
 use Rattle.fq_model.specs.Lines.{Words, words_of, lines_of}
 use Rattle.fq_model.specs.Reading.{◌>>=◌, at_line, begins_with, is_empty}
-use Rattle.journal_text.specs.Body.{below_at, with_first, body_of, with_body_lines, IsOpened}
+use Rattle.journal_text.specs.Body.{Below, below_at, with_first, body_of, said_below, with_body_lines, Reads, IsOpened, IsHeadFault, SaysFirst, IsStuck}
 use Rattle.journal_text.specs.Reading.{ends_before, with_head_line, Fails, IsFirstFault, fault_at}
 use Rattle.journal_text.specs.declared.fault.LineError.{LineError}
 use Rattle.journal_text.specs.declared.fault.LineError.TheVariants as errors
+use Rattle.journal_text.specs.declared.fault.ScriptFault.{ScriptFault}
+use Rattle.journal_text.specs.declared.fault.ScriptFault.TheVariants as faults
 use Rattle.journal_text.proofs.HeadLimits.{IsKept, config_of-in_limits, some_if}
 
 -- what was said before, and what is said later
@@ -105,12 +108,16 @@ extended-bodyless : {A : Type 0} (d : Document A) (said : Result (List A) (ℕ �
 extended-bodyless d (Ok more) none = ap (λ body. Ok (record d { body = body ++ more })) none
 extended-bodyless d (Err e) none = refl
 
+-- a text is read like what is left of it, however the lines of the body are read
+abbrev pub IsReadAt : {A : Type 0} → Reads A → Version → ℕ → Document A → List ℕ → Type 0
+IsReadAt {A} text version place d rest = (reader : Version → LineReader A) → with_lines (reader version) place d (lines_of rest) ≡ text reader
+
 -- a head was read up to the body
-opened_at : {A : Type 0} (reader : Version → LineReader A) (version : Version) (text : Result (Document A) (ℕ × ScriptKind)) (place : ℕ) (d : Document A) (rest : List ℕ)
-    → with_lines (reader version) place d (lines_of rest) ≡ text → IsKept d → is_empty d.kinds ≡ false → StartsBody d (lines_of rest)
-    → IsOpened text reader d (below_at version place rest)
-opened_at reader version text place d rest same kept some starts = record {
-  means = sym same ∙ (with_lines-body (reader version) (lines_of rest) place d some starts ∙ extended-bodyless d _ kept.bodyless);
+opened_at : {A : Type 0} (text : Reads A) (version : Version) (place : ℕ) (d : Document A) (rest : List ℕ)
+    → IsReadAt text version place d rest → IsKept d → is_empty d.kinds ≡ false → StartsBody d (lines_of rest)
+    → IsOpened text d (below_at version place rest)
+opened_at text version place d rest same kept some starts = record {
+  means = λ reader. sym (same reader) ∙ (with_lines-body (reader version) (lines_of rest) place d some starts ∙ extended-bodyless d _ kept.bodyless);
   bodyless = kept.bodyless;
   fits = no_fault (config_of d) (config_of-in_limits d kept (some_if (length d.kinds) some));
 }
@@ -120,17 +127,22 @@ some_kinds true kind ends = absurd (cc)
 some_kinds false kind ends = refl
 
 -- a head was read up to the first line of the body
-pub opened_before : {A : Type 0} (reader : Version → LineReader A) (version : Version) (text : Result (Document A) (ℕ × ScriptKind)) (place : ℕ) (d : Document A) (line rest below : List ℕ)
-    → with_lines (reader version) place d (lines_of rest) ≡ text → IsKept d → lines_of rest ≡ line ∷ lines_of below → ends_before d (words_of line) ≡ true
-    → IsOpened text reader d (below_at version place rest)
-opened_before reader version text place d line rest below same kept first ends =
-    opened_at reader version text place d rest same kept (some_kinds (is_empty d.kinds) (begins_with (words_of line) (codes "kind")) ends) (rw first ends)
+pub opened_before : {A : Type 0} (text : Reads A) (version : Version) (place : ℕ) (d : Document A) (line rest below : List ℕ)
+    → IsReadAt text version place d rest → IsKept d → lines_of rest ≡ line ∷ lines_of below → ends_before d (words_of line) ≡ true
+    → IsOpened text d (below_at version place rest)
+opened_before text version place d line rest below same kept first ends =
+    opened_at text version place d rest same kept (some_kinds (is_empty d.kinds) (begins_with (words_of line) (codes "kind")) ends) (rw first ends)
 
 -- a head was read up to the end of the text
-pub opened_at_end : {A : Type 0} (reader : Version → LineReader A) (version : Version) (text : Result (Document A) (ℕ × ScriptKind)) (place : ℕ) (d : Document A) (rest : List ℕ)
-    → with_lines (reader version) place d (lines_of rest) ≡ text → IsKept d → is_empty d.kinds ≡ false → rest ≡ []
-    → IsOpened text reader d (below_at version place rest)
-opened_at_end reader version text place d rest same kept some end = opened_at reader version text place d rest same kept some (rw end tt)
+pub opened_at_end : {A : Type 0} (text : Reads A) (version : Version) (place : ℕ) (d : Document A) (rest : List ℕ)
+    → IsReadAt text version place d rest → IsKept d → is_empty d.kinds ≡ false → rest ≡ []
+    → IsOpened text d (below_at version place rest)
+opened_at_end text version place d rest same kept some end = opened_at text version place d rest same kept some (rw end tt)
+
+-- a text that ends in its head lacks a part of it
+pub ends_in_head : {A : Type 0} (text : Reads A) (version : Version) (place : ℕ) (d : Document A) (rest : List ℕ)
+    → IsReadAt text version place d rest → is_empty d.kinds ≡ true → rest ≡ [] → IsHeadFault (faults.At place Missing) text
+ends_in_head text version place d rest same none end reader = sym (same reader) ∙ rw (end, none) refl
 
 -- where nothing stands in the body, and a line is no first one of it, it is one of the head
 same_head : {X : Type 0} (tenant kind none unnamed bodyless : Bool) (x y z w : X) → bodyless ≡ true → (not none && not kind) ≡ false → (none ≡ false → unnamed ≡ false)
@@ -161,16 +173,60 @@ next_in_head reader place d line rest below kept first goes_on =
     rw first (ap (λ read. at_line place read >>= λ more. with_lines reader (place + 1) more (lines_of below)) (in_head reader d (words_of line) kept goes_on))
 
 -- where a line of the head is added, the lines below it say the rest
-pub added_to_head : {A : Type 0} (reader : LineReader A) (text : Result (Document A) (ℕ × ScriptKind)) (place : ℕ) (d u : Document A) (line rest below : List ℕ)
-    → with_lines reader place d (lines_of rest) ≡ text → IsKept d → lines_of rest ≡ line ∷ lines_of below → ends_before d (words_of line) ≡ false
-    → with_head_line d (words_of line) ≡ Ok u → with_lines reader (place + 1) u (lines_of below) ≡ text
-added_to_head reader text place d u line rest below same kept first goes_on read =
-    sym (next_in_head reader place d line rest below kept first goes_on ∙ ap (λ r. at_line place r >>= λ more. with_lines reader (place + 1) more (lines_of below)) read) ∙ same
+pub added_to_head : {A : Type 0} (text : Reads A) (version : Version) (place : ℕ) (d u : Document A) (line rest below : List ℕ)
+    → IsReadAt text version place d rest → IsKept d → lines_of rest ≡ line ∷ lines_of below → ends_before d (words_of line) ≡ false
+    → with_head_line d (words_of line) ≡ Ok u → IsReadAt text version (place + 1) u below
+added_to_head text version place d u line rest below same kept first goes_on read reader =
+    sym (next_in_head (reader version) place d line rest below kept first goes_on ∙ ap (λ r. at_line place r >>= λ more. with_lines (reader version) (place + 1) more (lines_of below)) read) ∙ same reader
 
 -- the fault of a line of the head is the first of the text
-pub fault_in_head : {A : Type 0} (reader : LineReader A) (text : Result (Document A) (ℕ × ScriptKind)) (place : ℕ) (d : Document A) (line rest below : List ℕ) (e : LineError)
-    → with_lines reader place d (lines_of rest) ≡ text → IsKept d → lines_of rest ≡ line ∷ lines_of below → ends_before d (words_of line) ≡ false
-    → Fails e (with_head_line d (words_of line)) → IsFirstFault (fault_at place e) text
-fault_in_head reader text place d line rest below (errors.Fault kind) same kept first goes_on fails =
-    sym same ∙ (next_in_head reader place d line rest below kept first goes_on ∙ ap (λ r. at_line place r >>= λ more. with_lines reader (place + 1) more (lines_of below)) fails)
-fault_in_head reader text place d line rest below errors.Memory same kept first goes_on fails = tt
+pub fault_in_head : {A : Type 0} (text : Reads A) (version : Version) (place : ℕ) (d : Document A) (line rest below : List ℕ) (e : LineError)
+    → IsReadAt text version place d rest → IsKept d → lines_of rest ≡ line ∷ lines_of below → ends_before d (words_of line) ≡ false
+    → Fails e (with_head_line d (words_of line)) → IsHeadFault (fault_at place e) text
+fault_in_head text version place d line rest below (errors.Fault kind) same kept first goes_on fails reader =
+    sym (same reader) ∙ (next_in_head (reader version) place d line rest below kept first goes_on ∙ ap (λ r. at_line place r >>= λ more. with_lines (reader version) (place + 1) more (lines_of below)) fails)
+fault_in_head text version place d line rest below errors.Memory same kept first goes_on fails reader = tt
+
+-- what a first line says is said before what the others say
+pub said_first : {A : Type 0} (reader : Version → LineReader A) (old : Below) (said : A) (new : Below) → SaysFirst reader old said new
+    → said_below reader old ≡ with_first said (said_below reader new)
+said_first reader old said new first = rw (first.there, first.says, first.left) refl
+
+-- the lines that are left are fewer
+pub fewer_left : {A : Type 0} (reader : Version → LineReader A) (old : Below) (said : A) (new : Below) → SaysFirst reader old said new
+    → length new.lines < length old.lines
+fewer_left reader old said new first = rw first.there (omega arith)
+
+-- the fault of a first line is the first fault
+pub first_fault : {A : Type 0} (reader : Version → LineReader A) (old : Below) (fault : ScriptFault) (new : Below) → IsStuck reader old fault new
+    → IsFirstFault fault (said_below reader old)
+first_fault reader old (faults.At line kind) new stuck =
+    rw stuck.there (ap (λ read. read >>= λ said. with_first said (body_of (reader old.version) (old.place + 1) stuck.more)) stuck.fails)
+first_fault reader old faults.NoMemory new stuck = tt
+
+-- the first line of a text was read
+pub reads_first : {A : Type 0} (reader : Version → LineReader A) (version : Version) (place : ℕ) (rest line below : List ℕ) (old new : Below) (said : A)
+    → below_at version place rest ≡ old → below_at version (place + 1) below ≡ new → lines_of rest ≡ line ∷ lines_of below → reader version (words_of line) ≡ Ok said
+    → SaysFirst reader old said new
+reads_first reader version place rest line below old new said was is first says = rw (sym was, sym is) (record {
+  line = line;
+  there = first;
+  says = says;
+  left = refl;
+})
+
+fails_at : {A : Type 0} (place : ℕ) (e : LineError) (read : Result A ScriptKind) → Fails e read → IsFirstFault (fault_at place e) (at_line place read)
+fails_at place (errors.Fault kind) read fails = ap (at_line place) fails
+fails_at place errors.Memory read fails = tt
+
+-- it was not
+pub stays_at_first : {A : Type 0} (reader : Version → LineReader A) (version : Version) (place : ℕ) (rest line below : List ℕ) (old new : Below) (e : LineError)
+    → below_at version place rest ≡ old → below_at version place rest ≡ new → lines_of rest ≡ line ∷ lines_of below → Fails e (reader version (words_of line))
+    → IsStuck reader old (fault_at place e) new
+stays_at_first reader version place rest line below old new e was is first fails = rw (sym was, sym is) (record {
+  line = line;
+  more = lines_of below;
+  there = first;
+  fails = fails_at place e (reader version (words_of line)) fails;
+  same = refl;
+})

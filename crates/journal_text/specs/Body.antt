@@ -37,24 +37,37 @@ said_below reader below = body_of (reader below.version) below.place below.lines
 abbrev pub with_body_lines : {A : Type 0} → Document A → Result (List A) (ℕ × ScriptKind) → Result (Document A) (ℕ × ScriptKind)
 with_body_lines head said = said >>= λ body. Ok (record head { body = body })
 
--- what is read is this head with what stands below it; the head by itself is a document that a scheduler can be opened with
-pub record IsOpened {A : Type 0} (read : Result (Document A) (ℕ × ScriptKind)) (reader : Version → LineReader A) (head : Document A) (below : Below) : Type 0 where
-  pub means : read ≡ with_body_lines head (said_below reader below)
+-- a text that begins like a document, by how the lines of its body are read: the document that it spells, or its first fault
+abbrev pub Reads : Type 0 → Type 0
+Reads A = (Version → LineReader A) → Result (Document A) (ℕ × ScriptKind)
+
+-- What is read is this head with what stands below it, however the lines of the body are read: so the head has no fault, and no
+-- line of the body is left out. The head by itself is a document that a scheduler can be opened with.
+pub record IsOpened {A : Type 0} (read : Reads A) (head : Document A) (below : Below) : Type 0 where
+  pub means : (reader : Version → LineReader A) → read reader ≡ with_body_lines head (said_below reader below)
   pub bodyless : head.body ≡ []
   pub fits : config_fault (config_of head) ≡ None
 
+-- this is the first fault however the lines of the body are read, so it is one of the head; unless memory ran out
+abbrev pub IsHeadFault : {A : Type 0} → ScriptFault → Reads A → Type 0
+IsHeadFault fault read = (reader : Version → LineReader _) → IsFirstFault fault (read reader)
+
 -- the first line of a body says this, and was taken off
 pub record SaysFirst {A : Type 0} (reader : Version → LineReader A) (old : Below) (said : A) (new : Below) : Type 0 where
-  pub means : said_below reader old ≡ with_first said (said_below reader new)
-  pub shorter : length new.lines < length old.lines
+  pub line : List ℕ
+  pub there : old.lines ≡ line ∷ new.lines
+  pub says : reader old.version (words_of line) ≡ Ok said
+  pub left : new ≡ record { version = old.version; place = old.place + 1; lines = new.lines }
 
--- a line of a body was not read, and is still there
+-- the first line of a body has this fault, unless memory ran out, and is still there
 pub record IsStuck {A : Type 0} (reader : Version → LineReader A) (old : Below) (fault : ScriptFault) (new : Below) : Type 0 where
-  pub first : IsFirstFault fault (said_below reader old)
-  pub some : 0 < length old.lines
+  pub line : List ℕ
+  pub more : List (List ℕ)
+  pub there : old.lines ≡ line ∷ more
+  pub fails : IsFirstFault fault (at_line old.place (reader old.version (words_of line)))
   pub same : new ≡ old
 
--- what reading the next line of a body returns: what the line says, nothing where no line is left, or the body's first fault
+-- what reading the next line of a body returns: what the line says, nothing where no line is left, or the line's fault
 abbrev pub ReadsNext : {A : Type 0} → (Version → LineReader A) → Below → Result (Option A) ScriptFault → Below → Type 0
 ReadsNext reader old (Ok (Some said)) new = SaysFirst reader old said new
 ReadsNext reader old (Ok None) new = (old.lines ≡ []) × (new ≡ old)

@@ -28,7 +28,7 @@ abbrev pub Gives : {X Y : Type 0} → (X → Y) → Result X LineError → Resul
 Gives view (Ok x) read = read ≡ Ok (view x)
 Gives view (Err e) read = Fails e read
 
--- the same for a whole text, whose faults have a line
+-- this is the first fault of what was read, which has a line; where memory ran out, nothing is said of the text
 abbrev pub IsFirstFault : {Y : Type 0} → ScriptFault → Result Y (ℕ × ScriptKind) → Type 0
 IsFirstFault (faults.At line kind) read = read ≡ Err (line, kind)
 IsFirstFault faults.NoMemory read = Unit {0}
@@ -69,7 +69,7 @@ IsOfConfigLine {A} d = (words : Words) × (config_line {A = A} words ≡ Ok d)
 abbrev pub ends_before : {A : Type 0} → Document A → Words → Bool
 ends_before d words = not (is_empty d.kinds) && not (begins_with words (codes "kind"))
 
--- the head with one line more, below its config line
+-- the head with one line more, below its config line, where that line does not begin the body
 abbrev pub with_head_line : {A : Type 0} → Document A → Words → Result (Document A) ScriptKind
 with_head_line d words =
     if begins_with words (codes "tenant") && is_empty d.kinds then with_tenant d words

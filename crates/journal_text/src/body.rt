@@ -76,9 +76,8 @@ impl<'a, A: Line> Body<'a, A> {
         }
     }
 
-    /// Reads the next line, or names the first fault of what is left; that line is then still there. Takes
-    /// memory only for a line of more words than any line before it. An answer that memory ran out says
-    /// nothing of the text.
+    /// Reads the next line, or names its fault; that line is then still there. Takes memory only for a line of
+    /// more words than any line before it. An answer that memory ran out says no more than that a line is left.
     pub fn read_next(&mut self) -> Result<Option<A>, ScriptFault>
         ensures { ReadsNext A.reader self.old result self.new }
     {

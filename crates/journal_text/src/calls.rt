@@ -1,7 +1,7 @@
 //! Scripts, whose lines below the head are calls.
 ghost use Rattle.std.specs.Prelude.{◌≡◌, ◌<◌, length, codes, Ok, IfOk, IfErr};
 ghost use Rattle.fq_model.specs.Script.{submit_of, take_of, report_of, done_of, close_of, weight_of, workers_of, fixed_call_of, changing_call_of, call_of_words, script_of};
-ghost use Rattle.journal_text.specs.Body.{IsOpened};
+ghost use Rattle.journal_text.specs.Body.{IsOpened, IsHeadFault};
 ghost use Rattle.journal_text.specs.Reading.{Gives, IsFirstFault, words_in};
 
 use crate::body::Line;
@@ -185,11 +185,12 @@ impl Line for Call {
 /// A script whose head is read, and whose calls are left to be read one at a time.
 pub type OpenScript<'a> = Opened<'a, Call>;
 
-/// Reads the head of a script, or names the first fault of the head and the line below it. An answer that
-/// memory ran out says nothing of the text.
+/// Reads the head of a script, up to its last kind, or names the head's first fault. An answer that memory
+/// ran out says nothing of the text.
 pub fn open_script<'a>(alloc: Global, bytes: &'a [u8]) -> Result<OpenScript<'a>, ScriptFault>
-    ensures ok { IfOk result (λ o. IsOpened (script_of bytes.now) call_of_words o.head o.body) }
-    ensures fault { IfErr result (λ f. IsFirstFault f (script_of bytes.now)) }
+    ensures ok { IfOk result (λ o. IsOpened (λ reader. document_of (codes "script") reader bytes.now) o.head o.body) }
+    ensures fault { IfErr result (λ f.
+        IsHeadFault f (λ reader. document_of {A = Call} (codes "script") reader bytes.now)) }
 {
     open_document(alloc, bytes)
 }

@@ -1,4 +1,4 @@
-//! Why a script was not read.
+//! Why a script or a journal was not read.
 ghost use Rattle.std.specs.Prelude.{◌≡◌};
 ghost use Rattle.journal_text.specs.declared.fault.LineError.TheVariants.{Memory};
 ghost use Rattle.journal_text.specs.Reading.{fault_at};
@@ -7,7 +7,7 @@ use fq_model::fault::ScriptKind;
 use std::alloc::{AllocError, AllocFailed};
 use thiserror::Error;
 
-/// Why a script was not read.
+/// Why a document was not read.
 #[derive(Clone, Copy, Debug, PartialEq, Eq, Error)]
 pub enum ScriptFault {
     /// The first fault: its line, counted from 1, and what is wrong there.

@@ -6,7 +6,7 @@ ghost use Rattle.fq_model.specs.History.{is_change};
 ghost use Rattle.fq_model.specs.Numbers.{policy_word, estimator_word};
 ghost use Rattle.fq_model.specs.JournalText.{entry_line, entries_text, version_for, header_line, tenants_text, kinds_text, head_text, journal_text};
 ghost use Rattle.tenant_table.specs.Names.{names_of};
-ghost use Rattle.journal_text.specs.Printing.{row_text};
+ghost use Rattle.journal_text.specs.Printing.{row_text, IsKept};
 
 use crate::fault::NoMemory;
 use crate::rows::add_row;
@@ -34,7 +34,7 @@ pub fn print(
     Ok(text)
 }
 
-/// Appends that journal to a text. Where memory runs out, a part of it may stand there.
+/// Appends that journal to a text. Where memory runs out, the text stays as it was.
 #[tactic(auto, unfolding(fq_model::specs::JournalText::journal_text))]
 pub fn add_journal(
     alloc: Global,
@@ -44,13 +44,34 @@ pub fn add_journal(
     kinds: &Kinds,
     text: &mut Vec<u8>,
 ) -> Result<(), NoMemory>
-    ensures { OnOk result (text.new.items
+    ensures added { OnOk result (text.new.items
         ≡ text.old.items ++ journal_text config.now (names_of tenants.now) kinds.now past.now) }
+    ensures unchanged { OnErr result (text.new.items ≡ text.old.items) }
 {
+    let start = text.len();
     text.extend_from_slice(header(version_for(past)).as_bytes())?;
+    let added = add_below(alloc, past, config, tenants, kinds, text);
+    if added.is_err() {
+        text.truncate(start);
+    }
+    Ok(added?)
+}
+
+// Appends the lines below the first. Where memory runs out, it may be a part.
+fn add_below(
+    alloc: Global,
+    past: &[Entry],
+    config: &Checked,
+    tenants: &Tenants,
+    kinds: &Kinds,
+    text: &mut Vec<u8>,
+) -> Result<(), AllocError>
+    ensures added { OnOk result (text.new.items
+        ≡ text.old.items ++ (head_text config.now (names_of tenants.now) kinds.now ++ entries_text past.now)) }
+    ensures kept { IsKept text.old.items text.new.items }
+{
     add_head(alloc, config, tenants, kinds, text)?;
-    add_entries(past, text)?;
-    Ok(())
+    add_entries(past, text)
 }
 
 fn header(version: Version) -> &'static str
@@ -85,7 +106,7 @@ fn is_change(act: Act) -> bool
     matches!(act, Act::Weight { .. } | Act::Workers { .. })
 }
 
-// Appends the lines between the first and the entries.
+// Appends the lines between the first and the entries. Where memory runs out, a part of them stays, as in what it calls.
 fn add_head(
     alloc: Global,
     config: &Checked,
@@ -93,8 +114,9 @@ fn add_head(
     kinds: &Kinds,
     text: &mut Vec<u8>,
 ) -> Result<(), AllocError>
-    ensures { OnOk result (text.new.items
+    ensures added { OnOk result (text.new.items
         ≡ text.old.items ++ head_text config.now (names_of tenants.now) kinds.now) }
+    ensures kept { IsKept text.old.items text.new.items }
 {
     let settings = settings_start(alloc, config)?;
     let numbers = [
@@ -121,8 +143,9 @@ fn settings_start(alloc: Global, config: &Checked) -> Result<String, AllocError>
 
 // Appends a line for each tenant that has a weight.
 fn add_tenants(config: &Checked, tenants: &Tenants, text: &mut Vec<u8>) -> Result<(), AllocError>
-    ensures { OnOk result (text.new.items
+    ensures added { OnOk result (text.new.items
         ≡ text.old.items ++ tenants_text (names_of tenants.now) config.now.weights) }
+    ensures kept { IsKept text.old.items text.new.items }
 {
     for t in 0..tenants.len().min(config.tenants()) {
         text.extend_from_slice(b"tenant ")?;
@@ -133,7 +156,8 @@ fn add_tenants(config: &Checked, tenants: &Tenants, text: &mut Vec<u8>) -> Resul
 
 // Appends a line for each kind.
 fn add_kinds(kinds: &Kinds, text: &mut Vec<u8>) -> Result<(), AllocError>
-    ensures { OnOk result (text.new.items ≡ text.old.items ++ kinds_text kinds.now) }
+    ensures added { OnOk result (text.new.items ≡ text.old.items ++ kinds_text kinds.now) }
+    ensures kept { IsKept text.old.items text.new.items }
 {
     for k in 0..kinds.len() {
         text.extend_from_slice(b"kind ")?;
@@ -144,7 +168,8 @@ fn add_kinds(kinds: &Kinds, text: &mut Vec<u8>) -> Result<(), AllocError>
 
 // Appends a line for each entry.
 fn add_entries(past: &[Entry], text: &mut Vec<u8>) -> Result<(), AllocError>
-    ensures { OnOk result (text.new.items ≡ text.old.items ++ entries_text past.now) }
+    ensures added { OnOk result (text.new.items ≡ text.old.items ++ entries_text past.now) }
+    ensures kept { IsKept text.old.items text.new.items }
 {
     for entry in past {
         add_entry(*entry, text)?;

@@ -6,7 +6,7 @@ ghost use Rattle.fq_model.specs.Limits.{config_fault};
 ghost use Rattle.fq_model.specs.Names.{number_among};
 ghost use Rattle.tenant_table.specs.Names.{names_of};
 ghost use Rattle.journal_text.specs.Reading.{Gives, IsFirstFault, words_in, are_too_many, ends_before, with_head_line, IsOfConfigLine};
-ghost use Rattle.journal_text.specs.Body.{IsOpened};
+ghost use Rattle.journal_text.specs.Body.{IsOpened, IsHeadFault};
 
 use crate::body::{Body, Line};
 use crate::document::Document;
@@ -203,8 +203,9 @@ fn with_lines<'a, A: Line>(
 ) -> Result<(Draft<A>, Body<'a, A>), ScriptFault>
     requires { IsOfConfigLine draft }
     ensures ok { IfOk result (λ r.
-        IsOpened (with_lines (A.reader version) 3 draft (lines_of text.now)) A.reader r.0 r.1) }
-    ensures fault { IfErr result (λ f. IsFirstFault f (with_lines (A.reader version) 3 draft (lines_of text.now))) }
+        IsOpened (λ reader. with_lines (reader version) 3 draft (lines_of text.now)) r.0 r.1) }
+    ensures fault { IfErr result (λ f.
+        IsHeadFault f (λ reader. with_lines {A = A} (reader version) 3 draft (lines_of text.now))) }
 {
     let mut rest = text;
     let mut place: u64 = 3;
@@ -234,8 +235,9 @@ fn below_header<'a, A: Line>(
     version: Version,
     text: &'a [u8],
 ) -> Result<(Draft<A>, Body<'a, A>), ScriptFault>
-    ensures ok { IfOk result (λ r. IsOpened (below_header (A.reader version) (lines_of text.now)) A.reader r.0 r.1) }
-    ensures fault { IfErr result (λ f. IsFirstFault f (below_header (A.reader version) (lines_of text.now))) }
+    ensures ok { IfOk result (λ r. IsOpened (λ reader. below_header (reader version) (lines_of text.now)) r.0 r.1) }
+    ensures fault { IfErr result (λ f.
+        IsHeadFault f (λ reader. below_header {A = A} (reader version) (lines_of text.now))) }
 {
     let Some((line, below)) = next_line(text) else {
         return Err(ScriptFault::At {
@@ -255,8 +257,8 @@ fn read_draft<'a, A: Line>(
     alloc: Global,
     bytes: &'a [u8],
 ) -> Result<(Draft<A>, Body<'a, A>), ScriptFault>
-    ensures ok { IfOk result (λ r. IsOpened (document_of A.title A.reader bytes.now) A.reader r.0 r.1) }
-    ensures fault { IfErr result (λ f. IsFirstFault f (document_of A.title A.reader bytes.now)) }
+    ensures ok { IfOk result (λ r. IsOpened (λ reader. document_of A.title reader bytes.now) r.0 r.1) }
+    ensures fault { IfErr result (λ f. IsHeadFault f (λ reader. document_of {A = A} A.title reader bytes.now)) }
 {
     if let Some((line, below)) = next_line(bytes) {
         if let Some(version) = A::version(line) {
@@ -269,14 +271,14 @@ fn read_draft<'a, A: Line>(
     })
 }
 
-/// Reads the head of a document, or names the first fault if it is there or right below. An answer that
-/// memory ran out says nothing of the text.
+/// Reads the head of a document, up to its last kind, or names the head's first fault; no line of the body
+/// is looked at but the first one's first word. An answer that memory ran out says nothing of the text.
 pub fn open_document<'a, A: Line>(
     alloc: Global,
     bytes: &'a [u8],
 ) -> Result<Opened<'a, A>, ScriptFault>
-    ensures ok { IfOk result (λ o. IsOpened (document_of A.title A.reader bytes.now) A.reader o.head o.body) }
-    ensures fault { IfErr result (λ f. IsFirstFault f (document_of A.title A.reader bytes.now)) }
+    ensures ok { IfOk result (λ o. IsOpened (λ reader. document_of A.title reader bytes.now) o.head o.body) }
+    ensures fault { IfErr result (λ f. IsHeadFault f (λ reader. document_of {A = A} A.title reader bytes.now)) }
 {
     let (draft, body) = read_draft(alloc, bytes)?;
     let head = draft.finish(alloc)?;

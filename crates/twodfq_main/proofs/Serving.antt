@@ -1,6 +1,6 @@
 -- The calls of a body, answered one by one.
 use Rattle.std.proofs.Common.{ℕ, ◌≡◌, ◌∙◌, refl, sym, ap, subst, Bool, true, false, if◌then◌else◌, List, [], ◌∷◌, ◌++◌, Result, Ok, Err}
-use Rattle.std.specs.Prelude.{is_err, OnOk}
+use Rattle.std.specs.Prelude.{is_err, codes, OnOk}
 use Rattle.std.proofs.lemmas.Bool.{false≢true}
 use Rattle.std.proofs.lemmas.List.{append_assoc, append-nil}
 use Rattle.fq_model.specs.declared.command.ScriptPrint.{ScriptPrint}
@@ -10,7 +10,7 @@ use Rattle.fq_model.specs.declared.event.Call.{Call}
 use Rattle.fq_model.specs.declared.event.Entry.{Entry}
 use Rattle.fq_model.specs.declared.event.Reply.{Reply}
 use Rattle.fq_model.specs.declared.fault.ScriptKind.{ScriptKind}
-use Rattle.fq_model.specs.Document.{config_of}
+use Rattle.fq_model.specs.Document.{config_of, document_of}
 use Rattle.fq_model.specs.History.{history_of}
 use Rattle.fq_model.specs.JournalText.{journal_text}
 use Rattle.fq_model.specs.Output.{script_output_text}
@@ -98,10 +98,10 @@ output_is Journal replies journal = refl
 output_is Both replies journal = refl
 
 -- a script whose body is answered, and what is written of it
-script_is_served : (what : ScriptPrint) (input : List ℕ) (head : Script) (below : Below) (told text : List ℕ) (past : List Entry) → IsOpened (script_of input) call_of_words head below → IsBodyAnswered (config_of head) (said_below call_of_words below) (tells_replies what) told past → text ≡ told ++ (if tells_journal what then journal_text (config_of head) head.tenants head.kinds past else []) → IsServed what input text
+script_is_served : (what : ScriptPrint) (input : List ℕ) (head : Script) (below : Below) (told text : List ℕ) (past : List Entry) → IsOpened (λ reader. document_of (codes "script") reader input) head below → IsBodyAnswered (config_of head) (said_below call_of_words below) (tells_replies what) told past → text ≡ told ++ (if tells_journal what then journal_text (config_of head) head.tenants head.kinds past else []) → IsServed what input text
 script_is_served what input head below told text past opened b is = record {
   script = record head { body = b.calls };
-  read = opened.means ∙ ap (with_body_lines head) b.read;
+  read = opened.means call_of_words ∙ ap (with_body_lines head) b.read;
   replies = b.answered.replies;
   past = past;
   outcome = b.answered.outcome;
@@ -110,7 +110,7 @@ script_is_served what input head below told text past opened b is = record {
 
 -- the same by the parts of the script, and of the scheduler that served it
 pub is_served : (what : ScriptPrint) (input : List ℕ) (head : Script) (below : Below) (C D : Config) (tells : Bool) (names kinds : List (List ℕ)) (told text : List ℕ) (past : List Entry)
-    → IsOpened (script_of input) call_of_words head below → C ≡ config_of head → D ≡ C → tells ≡ tells_replies what → names ≡ head.tenants → kinds ≡ head.kinds
+    → IsOpened (λ reader. document_of (codes "script") reader input) head below → C ≡ config_of head → D ≡ C → tells ≡ tells_replies what → names ≡ head.tenants → kinds ≡ head.kinds
     → IsBodyAnswered C (said_below call_of_words below) tells told past
     → text ≡ told ++ (if tells_journal what then journal_text D names kinds past else []) → IsServed what input text
 is_served what input head below C D tells names kinds told text past opened c d t n k b is =

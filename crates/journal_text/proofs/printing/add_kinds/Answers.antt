@@ -1,7 +1,8 @@
-use Rattle.std.proofs.Common.{◌≡◌, ◌++◌, ◌+◌, [], drop, rules, arith}
+use Rattle.std.proofs.Common.{◌≡◌, ◌++◌, ◌+◌, [], drop, rules, arith, ap, ◌∙◌, append_assoc}
 use Rattle.std.specs.Prelude.{codes}
 use Rattle.fq_model.specs.JournalText.{kinds_text}
 use Rattle.journal_text.specs.Printing.{row_text}
+use Rattle.journal_text.proofs.Kept.{kept_more}
 use Rattle.journal_text.proofs.Heads.{longer, next_kind}
 use Rattle.journal_text.proofs.printing.add_kinds.Goals as goal
 
@@ -16,4 +17,6 @@ loop-k-preserved c =
           (kinds_text (drop c.loop-k.k kinds)) (kinds_text (drop (c.loop-k.k + 1) kinds)) _ word row
           (next_kind kinds c.loop-k.k name c.name.ensures.value) c.loop-k.invariant.so_far;
       below = omega arith;
+      kept = kept_more c.args.text.now.items c.loop-k.text.items (codes "kind " ++ row_text name []) c.add_row.new.text.items c.loop-k.invariant.kept
+          (row ∙ (ap (λ l. l ++ (row_text name [])) word ∙ append_assoc c.loop-k.text.items (codes "kind ") (row_text name [])));
     }

@@ -1,9 +1,10 @@
-use Rattle.std.proofs.Common.{◌≡◌, ◌++◌, ◌+◌, [], ◌∷◌, length, drop, rules, arith}
+use Rattle.std.proofs.Common.{◌≡◌, ◌++◌, ◌+◌, [], ◌∷◌, length, drop, rules, arith, ap, ◌∙◌, append_assoc}
 use Rattle.std.specs.Prelude.{codes}
 use Rattle.fq_model.specs.JournalText.{tenants_text}
 use Rattle.tenant_table.specs.Names.{names_of}
 use Rattle.journal_text.specs.Printing.{row_text}
 use Rattle.tenant_table.proofs.Tables.{length_names}
+use Rattle.journal_text.proofs.Kept.{kept_more}
 use Rattle.journal_text.proofs.Heads.{longer, next_tenant, whole}
 use Rattle.journal_text.proofs.printing.add_tenants.Goals as goal
 
@@ -21,10 +22,15 @@ loop-t-preserved c =
           row (next_tenant names weights t name c.weight.result (omega arith) c.name.ensures.value c.weight.ensures.value) c.loop-t.invariant.so_far;
       named = omega arith;
       weighed = omega arith;
+      kept = kept_more c.args.text.now.items c.loop-t.text.items (codes "tenant " ++ row_text name (c.weight.result ∷ [])) c.add_row.new.text.items c.loop-t.invariant.kept
+          (row ∙ (ap (λ l. l ++ (row_text name (c.weight.result ∷ []))) word ∙ append_assoc c.loop-t.text.items (codes "tenant ") (row_text name (c.weight.result ∷ []))));
     }
 
 pub returns : goal.returns
 returns c =
     let tenants = c.args.tenants.now in
     let counted : length (names_of tenants) ≡ length tenants = length_names tenants in
-    whole c.loop-t.text.items (names_of tenants) c.args.config.now.weights c.loop-t.t _ (omega arith) (omega arith) (omega arith) c.loop-t.invariant.so_far
+    record {
+      added = whole c.loop-t.text.items (names_of tenants) c.args.config.now.weights c.loop-t.t _ (omega arith) (omega arith) (omega arith) c.loop-t.invariant.so_far;
+      kept = c.loop-t.invariant.kept;
+    }

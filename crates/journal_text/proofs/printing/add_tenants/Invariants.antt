@@ -1,6 +1,7 @@
 use Rattle.std.proofs.Common.{◌≡◌, ◌≤◌, ◌++◌, length, drop}
 use Rattle.fq_model.specs.JournalText.{tenants_text}
 use Rattle.tenant_table.specs.Names.{names_of}
+use Rattle.journal_text.specs.Printing.{IsKept}
 use Rattle.journal_text.proofs.printing.add_tenants.Given as goal
 
 abbrev pub invariant-loop-t : goal.invariant-loop-t
@@ -9,4 +10,5 @@ invariant-loop-t l = record {
       ≡ l.fn.text.items ++ tenants_text (names_of l.tenants) l.config.weights;
   named : l.t ≤ length l.tenants;
   weighed : l.t ≤ length l.config.weights;
+  kept : IsKept l.fn.text.items l.text.items;
 }

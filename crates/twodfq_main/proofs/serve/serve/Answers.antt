@@ -4,6 +4,7 @@ use Rattle.fq_model.specs.declared.event.Call.{Call}
 use Rattle.fq_model.specs.Script.{call_of_words}
 use Rattle.fq_model.specs.Texts.{reply_line}
 use Rattle.journal_text.specs.Body.{said_below, ReadsNext}
+use Rattle.journal_text.proofs.Bodies.{said_first}
 use Rattle.sched_state.specs.Scheduler.{SchedulerView}
 use Rattle.twodfq_main.proofs.Serving.{nothing_answered, one_more_answered, line_is_told, no_line_is_told}
 use Rattle.twodfq_main.proofs.serve.serve.Goals as goal
@@ -23,6 +24,6 @@ loop-text-preserved g c =
       | else-tells-via-else-tells w ↦ no_line_is_told c.args.tells c.loop-text.text.items c.else-tells.text.items (reply_line c.answer-reply.result) w.if-tells.false (ap (λ t. t.items) w.text-is)
     ] in
     record {
-      part = one_more_answered c.args.config c.loop-text.scheduler.config c.args.tells (said_below call_of_words c.args.body) (said_below call_of_words c.loop-text.body) (said_below call_of_words c.read_next.new.self) c.in-Some.call c.answer-reply.result c.loop-text.text.items c.else-tells.text.items c.loop-text.scheduler.past c.answer-reply.new.scheduler.past c.loop-text.invariant.config_is c.loop-text.invariant.part first.means c.answer-reply.ensures.answers more;
+      part = one_more_answered c.args.config c.loop-text.scheduler.config c.args.tells (said_below call_of_words c.args.body) (said_below call_of_words c.loop-text.body) (said_below call_of_words c.read_next.new.self) c.in-Some.call c.answer-reply.result c.loop-text.text.items c.else-tells.text.items c.loop-text.scheduler.past c.answer-reply.new.scheduler.past c.loop-text.invariant.config_is c.loop-text.invariant.part (said_first call_of_words c.loop-text.body c.in-Some.call c.read_next.new.self first) c.answer-reply.ensures.answers more;
       config_is = c.answer-reply.ensures.config_is ∙ c.loop-text.invariant.config_is;
     }
