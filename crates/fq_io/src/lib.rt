@@ -27,6 +27,3 @@ pub use source::Source;
 pub use std_sink::StdSink;
 pub use std_source::StdSource;
 pub use writing::{WriteFault, write_all};
-
-#[cfg(test)]
-mod tests;

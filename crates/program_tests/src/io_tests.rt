@@ -1,4 +1,8 @@
-use crate::*;
+//! Sources, sinks and the clock that stands, one call after the other.
+use fq_io::{
+    CleanSink, CleanSource, Clock, FixedClock, MemSink, MemSource, ReadAllFault, StdSink,
+    StdSource, WriteFault, read_all, write_all,
+};
 use std::io::{self, ErrorKind, Read, Write};
 use std::test::Fail;
 

@@ -1,4 +1,4 @@
-//! Tests of the program: worked examples, devices that fail at any one of their calls, and inputs that are cut off at any
+//! Tests of the program and its devices: worked examples, devices that fail at any one of their calls, and inputs that are cut off at any
 //! byte or are too long.
 #![tactic(auto)]
 
@@ -8,6 +8,8 @@ mod clean_tests;
 mod cut_tests;
 #[cfg(test)]
 mod device_tests;
+#[cfg(test)]
+mod io_tests;
 #[cfg(test)]
 mod live_tests;
 #[cfg(test)]
