@@ -74,14 +74,14 @@ module _ {J : Type 0} where
     pub short : (tenant : ℕ) → tenant < length ends → length (numbers tenant) ≤ length slots
     pub total : count_of (lists_of slots ends) + length (numbers (length ends)) ≡ length slots
 
-  -- that, the number of items, and memory for as many slots as there may be
+  -- that, the number of items, no more slots than there may be, and memory for as many as there may be
   pub record KeepsCount (slots : List (Slot J)) (ends : List (Option Ends)) (free : Option ℕ) (len room capacity : ℕ) : Type 0 where
     pub links : Keeps slots ends free
     pub counted : len ≡ count_of (lists_of slots ends)
     pub within : length slots ≤ room
     pub reserved : room ≤ capacity
 
-  -- A slot is free after it, or there may be no more; the lists are as before, whichever ends they have.
+  -- A slot was made free if none was, or there are as many as there may be; the lists are as before, whichever ends they have.
   pub record IsMadeFree (slots : List (Slot J)) (free : Option ℕ) (room : ℕ) (slots2 : List (Slot J)) (free2 : Option ℕ) : Type 0 where
     pub keeps : (ends : List (Option Ends)) → Keeps slots ends free → Keeps slots2 ends free2
     pub same : (ends : List (Option Ends)) → Keeps slots ends free → lists_of slots2 ends ≡ lists_of slots ends
