@@ -1,7 +1,8 @@
 //! The program over memory that never fails.
 ghost use Rattle.std.specs.Prelude.{◌≡◌, ◌≢◌, [], map};
 ghost use Rattle.std.specs.String.{string_bytes};
-ghost use Rattle.twodfq_main.specs.Commands.{asked, is_plain, Untold};
+ghost use Rattle.command_texts.specs.Commands.{Untold};
+ghost use Rattle.twodfq_main.specs.Asked.{asked, is_plain};
 ghost use Rattle.twodfq_main.specs.Laws.{AreOutputsShorter};
 
 use crate::samples::{REPLIES, SCRIPT};

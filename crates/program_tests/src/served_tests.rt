@@ -1,13 +1,13 @@
 //! Worked scripts, with the replies that they get.
 use crate::samples::{REPLIES, SCRIPT};
 use crate::worked_tests::{Wanted, check, sink, source_of};
+use command_texts::script::served_text;
 use fq_model::command::ScriptPrint;
 use rival_policies::plain::PlainChooser;
 use shared_order::chooser::SharedChooser;
 use std::alloc::Global;
 use std::process::Abort;
 use std::test::Fail;
-use twodfq_main::script::served_text;
 
 const HEAD: &str =
     "script 1\nconfig 1 2dfq declared 1000 100 10\ntenant a 1\ntenant b 1\nkind get\n";

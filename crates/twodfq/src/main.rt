@@ -5,12 +5,12 @@
 mod clock;
 
 use clock::ProcessClock;
+use command_texts::stop::Stop;
 use fq_io::{StdSink, StdSource};
 use std::env;
 use std::io::ErrorKind;
 use std::process::ExitCode;
 use twodfq_main::program::{tell, twodfq};
-use twodfq_main::stop::Stop;
 
 fn main(rt: HostRuntime) -> ExitCode {
     let mut errs = StdSink::new(rt.stderr());

@@ -4,10 +4,11 @@ use Rattle.std.proofs.lemmas.Bool.{false≢true}
 use Rattle.std.specs.String.{string_bytes}
 use Rattle.fq_model.specs.declared.command.Command.{Command}
 use Rattle.fq_model.specs.declared.command.Command.TheVariants as commands
-use Rattle.twodfq_main.specs.Commands.{if_one_of, is_plain, is_live, is_served, Outputs, TellsCells}
+use Rattle.command_texts.specs.Commands.{Outputs, TellsCells}
+use Rattle.command_texts.specs.declared.stop.Stop.{Stop}
+use Rattle.command_texts.specs.declared.stop.Stop.TheVariants.{Words, TooLong, Fault, Reading, Writing, NoMemory, TooManyEntries, TooManyCells}
+use Rattle.twodfq_main.specs.Asked.{if_one_of, is_plain, is_live, is_served}
 use Rattle.twodfq_main.specs.Program.{Move, IsAnswered, IsOversized, Ends, EndsCommand}
-use Rattle.twodfq_main.specs.declared.stop.Stop.{Stop}
-use Rattle.twodfq_main.specs.declared.stop.Stop.TheVariants.{Words, TooLong, Fault, Reading, Writing, NoMemory, TooManyEntries, TooManyCells}
 
 -- whatever the clocks A and B tell
 module _ (A B : ℕ → Type 0) where

@@ -13,12 +13,12 @@ use Rattle.fq_model.specs.Report.{unfinished, is_unfinished}
 use Rattle.fq_model.specs.Trace.{Trace}
 use Rattle.fq_model.specs.TraceGrammar.{trace_of}
 use Rattle.fq_laws.proofs.Sums.{least_by}
-use Rattle.twodfq_main.specs.Commands.{IsLiveOutput, pool_entries}
-use Rattle.twodfq_main.specs.Histories.{IsHistoryOutput, PoolServes, IsPoolOutput, entries_message}
-use Rattle.twodfq_main.specs.Program.{IsOutputStop}
-use Rattle.twodfq_main.specs.Stops.{IsCellsStop, IsPoolStop}
-use Rattle.twodfq_main.specs.declared.stop.Stop.{Stop}
-use Rattle.twodfq_main.specs.declared.stop.Stop.TheVariants.{Words, TooLong, Fault, Reading, Writing, NoMemory, TooManyEntries, TooManyCells}
+use Rattle.command_texts.specs.Commands.{IsLiveOutput, pool_entries}
+use Rattle.command_texts.specs.Histories.{IsHistoryOutput, PoolServes, IsPoolOutput, entries_message}
+use Rattle.command_texts.specs.Stops.{IsCellsStop, IsOutputStop}
+use Rattle.twodfq_main.specs.Pools.{IsPoolStop}
+use Rattle.command_texts.specs.declared.stop.Stop.{Stop}
+use Rattle.command_texts.specs.declared.stop.Stop.TheVariants.{Words, TooLong, Fault, Reading, Writing, NoMemory, TooManyEntries, TooManyCells}
 
 -- it leaves no request undone
 module _ (T : Trace) (O : RunOptions) (H : History) (s : IsPoolHistory T O H) where

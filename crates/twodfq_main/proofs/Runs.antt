@@ -17,12 +17,15 @@ use Rattle.fq_model.specs.TraceGrammar.{trace_of}
 use Rattle.fq_model.specs.TraceText.{IsLawfulTrace}
 use Rattle.trace_reader.proofs.Lawful.{lawful}
 use Rattle.trace_runner.proofs.Only.{one_simulated}
-use Rattle.twodfq_main.specs.Commands.{if_one_of, is_input, trace_entries, pool_entries, Outputs, TellsFault, TellsCells, IsRunOutput, RunsManyCells, IsLiveOutput, LiveAlwaysMakesManyCells}
-use Rattle.twodfq_main.specs.Histories.{HasManyCells, IsSimulatedOutput, SimulatesManyCells, PoolAlwaysMakesManyCells}
-use Rattle.twodfq_main.specs.Program.{Move, Fails, Later, TellsEnd, FailsReading, ReadsInput, ReadsTooMuch, Ends, EndsCommand, IsRun, IsAnswered, greatest_input, status_of}
+use Rattle.command_texts.specs.Commands.{is_input, trace_entries, pool_entries, Outputs, TellsFault, TellsCells, IsRunOutput, RunsManyCells, IsLiveOutput}
+use Rattle.command_texts.specs.Histories.{HasManyCells, IsSimulatedOutput, SimulatesManyCells}
+use Rattle.command_texts.specs.Stops.{status_of}
+use Rattle.command_texts.specs.declared.stop.Stop.{Stop}
+use Rattle.command_texts.specs.declared.stop.Stop.TheVariants.{Words, TooLong, Fault, Reading, Writing, NoMemory, TooManyEntries, TooManyCells}
+use Rattle.twodfq_main.specs.Asked.{if_one_of}
+use Rattle.twodfq_main.specs.Pools.{PoolAlwaysMakesManyCells, LiveAlwaysMakesManyCells}
+use Rattle.twodfq_main.specs.Program.{Move, Fails, Later, TellsEnd, FailsReading, ReadsInput, ReadsTooMuch, Ends, EndsCommand, IsRun, IsAnswered, greatest_input}
 use Rattle.twodfq_main.specs.Causes.{IsRefused, IsRead, IsOver, IsAlwaysOver, IsTaken, MakesTooMuch, AlwaysMakesTooMuch, StatusMeans, input_of}
-use Rattle.twodfq_main.specs.declared.stop.Stop.{Stop}
-use Rattle.twodfq_main.specs.declared.stop.Stop.TheVariants.{Words, TooLong, Fault, Reading, Writing, NoMemory, TooManyEntries, TooManyCells}
 
 -- what has an output is what the command reads
 outputs_input : (Told : ℕ → Type 0) (command : Command) (input text : List ℕ) → Outputs Told command input text → is_input command input ≡ true

@@ -1,9 +1,10 @@
 -- What a status of the program says of what is asked and of an input whose bytes are told, and the other way round.
 use Rattle.std.specs.Prelude.{ℕ, ◌<◌, ◌≤◌, ◌≡◌, ◌↔◌, IsTrue, List, [], length, false, Option, Some, ◌⊎◌, IsSome, IfSome, IsSomeAnd}
 use Rattle.fq_model.specs.declared.command.Command.{Command}
-use Rattle.fq_model.specs.declared.command.Command.TheVariants.{Gen}
+use Rattle.fq_model.specs.declared.command.Command.TheVariants.{Run, Live, Gen}
 use Rattle.fq_model.specs.declared.limits.TheConstants.{MOST_ENTRIES}
-use Rattle.twodfq_main.specs.Commands.{is_input, entries_needed, MakesManyCells, AlwaysMakesManyCells}
+use Rattle.command_texts.specs.Commands.{is_input, entries_needed, RunsManyCells, LiveMakesManyCells}
+use Rattle.twodfq_main.specs.Pools.{LiveAlwaysMakesManyCells}
 use Rattle.twodfq_main.specs.Program.{Move, Fails, greatest_input}
 
 -- the input is not what the command reads, or is longer than an input may be
@@ -13,6 +14,18 @@ IsRefused command input = (is_input command input ≡ false) ⊎ (greatest_input
 -- the input is what the command reads, and is not longer than an input may be
 abbrev pub IsRead : Command → List ℕ → Type 0
 IsRead command input = IsTrue (is_input command input) × (length input ≤ greatest_input)
+
+-- the report of a history that the command may make would have more cells than it may
+abbrev pub MakesManyCells : (ℕ → Type 0) → Command → List ℕ → Type 0
+MakesManyCells Told (Run options slot print) input = RunsManyCells options slot print input
+MakesManyCells Told (Live options slot print watch) input = LiveMakesManyCells Told options slot print input
+MakesManyCells Told _ input = ⊥
+
+-- the report of each history that the command may make would have more cells than it may
+abbrev pub AlwaysMakesManyCells : (ℕ → Type 0) → Command → List ℕ → Type 0
+AlwaysMakesManyCells Told (Run options slot print) input = RunsManyCells options slot print input
+AlwaysMakesManyCells Told (Live options slot print watch) input = LiveAlwaysMakesManyCells Told options slot print input
+AlwaysMakesManyCells Told _ input = ⊥
 
 -- a history that the command may make would have more entries than it may, or the report of it more cells
 abbrev pub MakesTooMuch : (ℕ → Type 0) → Command → List ℕ → Type 0

@@ -2,7 +2,7 @@
 use Rattle.std.specs.Prelude.{ℕ, ◌<◌, ◌≡◌, ◌≢◌, List, [], length, Option, Some}
 use Rattle.fq_io.specs.Clean.{IsClean}
 use Rattle.fq_model.specs.declared.command.Command.{Command}
-use Rattle.twodfq_main.specs.Commands.{Outputs}
+use Rattle.command_texts.specs.Commands.{Outputs}
 use Rattle.twodfq_main.specs.Program.{Move, IsRun}
 
 -- a clean source was read: its faults are 0 before and after

@@ -1,7 +1,5 @@
-pub mod Histories
-pub mod Commands
-pub mod Serving
+pub mod Asked
+pub mod Pools
 pub mod Program
 pub mod Causes
-pub mod Stops
 pub mod Laws

@@ -1,5 +1,5 @@
 -- What the program does with its input, its output and its messages, by what it is asked and what its clock may tell.
-use Rattle.std.specs.Prelude.{ℕ, ◌+◌, ◌≤◌, ◌≡◌, List, [], length, Option, Some, None, Result, Ok, Err, codes, ◌⊎◌}
+use Rattle.std.specs.Prelude.{ℕ, ◌+◌, ◌≤◌, ◌≡◌, List, [], length, Option, Some, None, Result, Ok, Err, ◌⊎◌}
 use Rattle.std.specs.String.{string_bytes}
 use Rattle.std.specs.Io.KnownBytes.{Appends}
 use Rattle.fq_io.specs.Faults.{Rose}
@@ -7,9 +7,10 @@ use Rattle.fq_io.specs.Sources.{GaveAll, TookAtMost, TookTooMany}
 use Rattle.fq_io.specs.Sinks.{AppendsPart}
 use Rattle.fq_model.specs.declared.command.Command.{Command}
 use Rattle.fq_model.specs.declared.command.Command.TheVariants.{Gen}
-use Rattle.twodfq_main.specs.Commands.{Outputs, TellsFault, TellsEntries, TellsCells}
-use Rattle.twodfq_main.specs.declared.stop.Stop.{Stop}
-use Rattle.twodfq_main.specs.declared.stop.Stop.TheVariants.{Words, TooLong, Fault, Reading, Writing, NoMemory, TooManyEntries, TooManyCells}
+use Rattle.command_texts.specs.Commands.{Outputs, TellsFault, TellsEntries, TellsCells}
+use Rattle.command_texts.specs.Stops.{status_of, message_of}
+use Rattle.command_texts.specs.declared.stop.Stop.{Stop}
+use Rattle.command_texts.specs.declared.stop.Stop.TheVariants.{Words, TooLong, Fault, Reading, Writing, NoMemory, TooManyEntries, TooManyCells}
 
 -- the greatest length of an input, in bytes
 abbrev pub greatest_input : ℕ
@@ -148,29 +149,6 @@ abbrev pub Ends : (ℕ → Type 0) → Option Command → Move → Move → Resu
 Ends Told (Some command) source sink end = EndsCommand Told command source sink end
 Ends Told None source sink end = (end ≡ Err Words) × Stays source × Stays sink
 
--- the status of an end
-abbrev pub status_of : Result (Unit {0}) Stop → ℕ
-status_of (Ok done) = 0
-status_of (Err Words) = 2
-status_of (Err TooLong) = 3
-status_of (Err (Fault message)) = 3
-status_of (Err Reading) = 4
-status_of (Err Writing) = 5
-status_of (Err NoMemory) = 6
-status_of (Err (TooManyEntries message)) = 7
-status_of (Err (TooManyCells message)) = 7
-
--- the message of a stop, one line
-abbrev pub message_of : Stop → List ℕ
-message_of Words = codes "twodfq: the words are not a command line\n"
-message_of TooLong = codes "twodfq: input longer than 67108864 bytes\n"
-message_of (Fault message) = string_bytes message
-message_of Reading = codes "twodfq: reading failed\n"
-message_of Writing = codes "twodfq: writing failed\n"
-message_of NoMemory = codes "twodfq: out of memory\n"
-message_of (TooManyEntries message) = string_bytes message
-message_of (TooManyCells message) = string_bytes message
-
 -- the message was written, or a front part of it where that failed; a fault of the messages changes nothing else
 abbrev pub Says : Move → List ℕ → Type 0
 Says errs message = Writes errs message ⊎ WritesPart errs message
@@ -189,11 +167,3 @@ pub record IsRun (Told : ℕ → Type 0) (ask : Option Command) (source sink err
   pub source_later : Later source
   pub sink_later : Later sink
   pub errs_later : Later errs
-
--- why a command has no output for an input
-abbrev pub IsOutputStop : (ℕ → Type 0) → Command → List ℕ → Stop → Type 0
-IsOutputStop Told command input (Fault message) = TellsFault command input (string_bytes message)
-IsOutputStop Told command input (TooManyEntries message) = TellsEntries command input (string_bytes message)
-IsOutputStop Told command input (TooManyCells message) = TellsCells Told command input (string_bytes message)
-IsOutputStop Told command input NoMemory = Unit {0}
-IsOutputStop Told command input _ = ⊥

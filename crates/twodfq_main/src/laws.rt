@@ -1,5 +1,5 @@
 //! Laws of runs over memory that never fails, whatever is asked. Nothing here runs.
-ghost use Rattle.twodfq_main.specs.Commands.{Untold};
+ghost use Rattle.command_texts.specs.Commands.{Untold};
 ghost use Rattle.twodfq_main.specs.Laws.{NeverFailsReading, NeverFailsWriting};
 
 use fq_io::Clock;

@@ -1,17 +1,17 @@
 //! `live`: what is asked for of one history of a pool of threads that serves a trace.
 ghost use Rattle.std.specs.Prelude.{ℕ, ◌≤◌, MatchResult};
+ghost use Rattle.command_texts.specs.Commands.{IsLiveOutput};
+ghost use Rattle.command_texts.specs.Histories.{IsPoolOutput};
+ghost use Rattle.command_texts.specs.Stops.{IsOutputStop};
 ghost use Rattle.fq_model.specs.declared.command.Command.TheVariants.{Live};
 ghost use Rattle.fq_model.specs.declared.limits.TheConstants.{GREATEST_SLOT};
 ghost use Rattle.fq_model.specs.Limits.{AreInRange};
 ghost use Rattle.fq_model.specs.TraceText.{IsLawfulTrace};
-ghost use Rattle.twodfq_main.specs.Commands.{IsLiveOutput};
-ghost use Rattle.twodfq_main.specs.Histories.{IsPoolOutput};
-ghost use Rattle.twodfq_main.specs.Program.{IsOutputStop};
-ghost use Rattle.twodfq_main.specs.Stops.{IsPoolStop};
+ghost use Rattle.twodfq_main.specs.Pools.{IsPoolStop};
 
-use crate::reporting::history_text;
-use crate::simulation::{entries_stop, fault_stop};
-use crate::stop::Stop;
+use command_texts::reporting::history_text;
+use command_texts::simulation::{entries_stop, fault_stop};
+use command_texts::stop::Stop;
 use eligible_index::index::IndexChooser;
 use fq_io::Clock;
 use fq_model::command::HistoryPrint;

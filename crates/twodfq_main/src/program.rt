@@ -2,20 +2,21 @@
 ghost use Rattle.std.specs.Prelude.{ℕ, ◌≡◌, ◌≤◌, map, is_some, Err, IfSome};
 ghost use Rattle.std.specs.String.{string_bytes};
 ghost use Rattle.command_line.specs.Commands.{IsInRange};
+ghost use Rattle.command_texts.specs.Commands.{Untold};
+ghost use Rattle.command_texts.specs.Stops.{status_of, message_of};
 ghost use Rattle.fq_model.specs.declared.command.Command.TheVariants.{Script, Run, Live, Gen};
 ghost use Rattle.fq_model.specs.declared.limits.TheConstants.{GREATEST_SLOT, MOST_TENANTS, MOST_ROWS};
 ghost use Rattle.fq_model.specs.Limits.{IsWithin, AreInRange};
-ghost use Rattle.twodfq_main.specs.Commands.{asked, if_one_of, is_plain, is_live, is_served, Untold};
-ghost use Rattle.twodfq_main.specs.Program.{Ends, EndsCommand, Move, Stays, IsRun, Says, TellsEnd};
-ghost use Rattle.twodfq_main.specs.Program.{moved, status_of, message_of};
+ghost use Rattle.twodfq_main.specs.Asked.{asked, if_one_of, is_plain, is_live, is_served};
+ghost use Rattle.twodfq_main.specs.Program.{Ends, EndsCommand, Move, Stays, IsRun, Says, TellsEnd, moved};
 ghost use Rattle.twodfq_main.specs.Causes.{StatusMeans};
 
-use crate::generation::generated_text;
 use crate::pooling::live_text;
-use crate::script::served_text;
-use crate::simulation::run_text;
-use crate::stop::Stop;
 use command_line::command::command;
+use command_texts::generation::generated_text;
+use command_texts::script::served_text;
+use command_texts::simulation::run_text;
+use command_texts::stop::Stop;
 use eligible_index::index::IndexChooser;
 use fq_io::{Clock, Sink, Source, read_all, write_all};
 use fq_model::command::{Command, GenPrint, HistoryPrint, ScriptPrint};

@@ -1,4 +1,4 @@
-use Rattle.twodfq_main.specs.Commands.{Untold}
+use Rattle.command_texts.specs.Commands.{Untold}
 use Rattle.twodfq_main.proofs.CleanRuns.{no_writing}
 use Rattle.twodfq_main.proofs.laws.never_fails_writing.Goals as goal
 

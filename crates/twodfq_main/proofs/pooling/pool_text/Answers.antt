@@ -1,7 +1,7 @@
 use Rattle.fq_model.specs.PoolHistory.{needed_pool_entries}
 use Rattle.trace_pool.specs.Serving.{too_long}
 use Rattle.twodfq_main.proofs.Pools.{none_unfinished, of_pool}
-use Rattle.twodfq_main.proofs.Reports.{few_entries}
+use Rattle.command_texts.proofs.Reports.{few_entries}
 use Rattle.twodfq_main.proofs.pooling.pool_text.Goals as goal
 
 pub history_text-requires-clause-done : goal.history_text-requires-clause-done

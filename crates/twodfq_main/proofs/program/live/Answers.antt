@@ -1,4 +1,4 @@
-use Rattle.twodfq_main.specs.Commands.{is_live}
+use Rattle.twodfq_main.specs.Asked.{is_live}
 use Rattle.twodfq_main.proofs.Runs.{run_is, run_means}
 use Rattle.twodfq_main.proofs.program.live.Goals as goal
 

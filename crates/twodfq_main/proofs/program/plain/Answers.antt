@@ -1,4 +1,4 @@
-use Rattle.twodfq_main.specs.Commands.{is_plain}
+use Rattle.twodfq_main.specs.Asked.{is_plain}
 use Rattle.twodfq_main.proofs.Runs.{run_is, run_means}
 use Rattle.twodfq_main.proofs.program.plain.Goals as goal
 

@@ -1,5 +1,6 @@
 use Rattle.std.proofs.Common.{sym, ◌∙◌}
-use Rattle.twodfq_main.specs.Commands.{is_served, Untold}
+use Rattle.command_texts.specs.Commands.{Untold}
+use Rattle.twodfq_main.specs.Asked.{is_served}
 use Rattle.twodfq_main.proofs.Asked.{plain_ends, live_ends}
 use Rattle.twodfq_main.proofs.Runs.{run_is, run_means}
 use Rattle.twodfq_main.proofs.program.twodfq.Goals as goal

@@ -1,0 +1,123 @@
+-- The calls of a body, answered one by one.
+use Rattle.std.proofs.Common.{ℕ, ◌≡◌, ◌∙◌, refl, sym, ap, subst, Bool, true, false, if◌then◌else◌, List, [], ◌∷◌, ◌++◌, Result, Ok, Err}
+use Rattle.std.specs.Prelude.{is_err, codes, OnOk}
+use Rattle.std.proofs.lemmas.Bool.{false≢true}
+use Rattle.std.proofs.lemmas.List.{append_assoc, append-nil}
+use Rattle.fq_model.specs.declared.command.ScriptPrint.{ScriptPrint}
+use Rattle.fq_model.specs.declared.command.ScriptPrint.TheVariants.{Replies, Journal, Both}
+use Rattle.fq_model.specs.declared.config.Config.{Config}
+use Rattle.fq_model.specs.declared.event.Call.{Call}
+use Rattle.fq_model.specs.declared.event.Entry.{Entry}
+use Rattle.fq_model.specs.declared.event.Reply.{Reply}
+use Rattle.fq_model.specs.declared.fault.ScriptKind.{ScriptKind}
+use Rattle.fq_model.specs.Document.{config_of, document_of}
+use Rattle.fq_model.specs.History.{history_of}
+use Rattle.fq_model.specs.JournalText.{journal_text}
+use Rattle.fq_model.specs.Output.{script_output_text}
+use Rattle.fq_model.specs.Rules.{Answers}
+use Rattle.fq_model.specs.Script.{Script, script_of, call_of_words}
+use Rattle.fq_model.specs.Texts.{reply_line, replies_text}
+use Rattle.fq_laws.proofs.Outcome.{outcome_snoc}
+use Rattle.journal_text.proofs.Bodies.{with_more}
+use Rattle.journal_text.specs.Body.{Below, with_first, said_below, with_body_lines, IsOpened}
+use Rattle.command_texts.specs.Commands.{IsServed}
+use Rattle.command_texts.specs.Serving.{tells_replies, tells_journal, told_text, AreAnswered, IsBodyAnswered}
+
+-- what a body says, or its first fault
+abbrev pub Said : Type 0
+Said = Result (List Call) (ℕ × ScriptKind)
+
+-- of what a body said, these calls were answered, and this is left
+pub record IsPartAnswered (C : Config) (tells : Bool) (said left : Said) (text : List ℕ) (past : List Entry) : Type 0 where
+  pub calls : List Call
+  pub means : said ≡ with_more calls left
+  pub answered : AreAnswered C tells calls text past
+
+with_none : (later : Said) → with_more [] later ≡ later
+with_none (Ok more) = refl
+with_none (Err fault) = refl
+
+with_one_more : (calls : List Call) (call : Call) (later : Said) → with_more calls (with_first call later) ≡ with_more (calls ++ call ∷ []) later
+with_one_more calls call (Ok more) = ap Ok (sym (append_assoc calls (call ∷ []) more))
+with_one_more calls call (Err fault) = refl
+
+replies_snoc : (replies : List Reply) (reply : Reply) → replies_text (replies ++ reply ∷ []) ≡ replies_text replies ++ reply_line reply
+replies_snoc [] reply = append-nil (reply_line reply)
+replies_snoc (first ∷ rest) reply = ap (λ text. reply_line first ++ text) (replies_snoc rest reply) ∙ sym (append_assoc (reply_line first) (replies_text rest) (reply_line reply))
+
+told_snoc : (tells : Bool) (replies : List Reply) (reply : Reply) → told_text tells (replies ++ reply ∷ []) ≡ told_text tells replies ++ (if tells then reply_line reply else [])
+told_snoc true replies reply = replies_snoc replies reply
+told_snoc false replies reply = refl
+
+nothing_told : (tells : Bool) → [] ≡ told_text tells []
+nothing_told true = refl
+nothing_told false = refl
+
+-- no call was answered yet
+pub nothing_answered : (C : Config) (tells : Bool) (said : Said) (text : List ℕ) (past : List Entry) → text ≡ [] → past ≡ [] → IsPartAnswered C tells said said text past
+nothing_answered C tells said text past t p = record {
+  calls = [];
+  means = sym (with_none said);
+  answered = record { replies = []; outcome = ap history_of p; told = t ∙ nothing_told tells };
+}
+
+-- the line of a reply is added where replies are told
+pub line_is_told : {F : Type 0} (tells : Bool) (added : Result (Unit {0}) F) (text text2 line : List ℕ) → tells ≡ true → is_err added ≡ false → OnOk added (text2 ≡ text ++ line) → text2 ≡ text ++ (if tells then line else [])
+line_is_told tells (Ok done) text text2 line tell ok more = rw (tell) more
+line_is_told tells (Err fault) text text2 line tell ok more = absurd (false≢true (sym ok))
+
+pub no_line_is_told : (tells : Bool) (text text2 line : List ℕ) → tells ≡ false → text2 ≡ text → text2 ≡ text ++ (if tells then line else [])
+no_line_is_told tells text text2 line none same = rw (none, append-nil text) same
+
+-- one call more is answered
+pub one_more_answered : (C D : Config) (tells : Bool) (said old new : Said) (call : Call) (reply : Reply) (text text2 : List ℕ) (past past2 : List Entry) → D ≡ C → IsPartAnswered C tells said old text past → old ≡ with_first call new → Answers D (history_of past) call reply (history_of past2) → text2 ≡ text ++ (if tells then reply_line reply else []) → IsPartAnswered C tells said new text2 past2
+one_more_answered C D tells said old new call reply text text2 past past2 same p first answers more =
+    let there : Answers C (history_of past) call reply (history_of past2) = subst (λ (x : Config). Answers x (history_of past) call reply (history_of past2)) same answers in
+    record {
+      calls = p.calls ++ call ∷ [];
+      means = p.means ∙ (ap (with_more p.calls) first ∙ with_one_more p.calls call new);
+      answered = record {
+        replies = p.answered.replies ++ reply ∷ [];
+        outcome = outcome_snoc C [] (history_of past) (history_of past2) p.calls p.answered.replies call reply p.answered.outcome there;
+        told = more ∙ (ap (λ t. t ++ (if tells then reply_line reply else [])) p.answered.told ∙ sym (told_snoc tells p.answered.replies reply));
+      };
+    }
+
+-- nothing is left
+pub all_answered : (C : Config) (tells : Bool) (said left : Said) (text : List ℕ) (past : List Entry) → IsPartAnswered C tells said left text past → left ≡ Ok [] → IsBodyAnswered C said tells text past
+all_answered C tells said left text past p none = record {
+  calls = p.calls;
+  read = p.means ∙ (ap (with_more p.calls) none ∙ ap Ok (append-nil p.calls));
+  answered = p.answered;
+}
+
+-- what is told of replies and then of the journal is what is asked for
+output_is : (what : ScriptPrint) (replies journal : List ℕ) → (if tells_replies what then replies else []) ++ (if tells_journal what then journal else []) ≡ script_output_text what replies journal
+output_is Replies replies journal = append-nil replies
+output_is Journal replies journal = refl
+output_is Both replies journal = refl
+
+-- a script whose body is answered, and what is written of it
+script_is_served : (what : ScriptPrint) (input : List ℕ) (head : Script) (below : Below) (told text : List ℕ) (past : List Entry) → IsOpened (λ reader. document_of (codes "script") reader input) head below → IsBodyAnswered (config_of head) (said_below call_of_words below) (tells_replies what) told past → text ≡ told ++ (if tells_journal what then journal_text (config_of head) head.tenants head.kinds past else []) → IsServed what input text
+script_is_served what input head below told text past opened b is = record {
+  script = record head { body = b.calls };
+  read = opened.means call_of_words ∙ ap (with_body_lines head) b.read;
+  replies = b.answered.replies;
+  past = past;
+  outcome = b.answered.outcome;
+  text_is = is ∙ (ap (λ t. t ++ (if tells_journal what then journal_text (config_of head) head.tenants head.kinds past else [])) b.answered.told ∙ output_is what (replies_text b.answered.replies) (journal_text (config_of head) head.tenants head.kinds past));
+}
+
+-- the same by the parts of the script, and of the scheduler that served it
+pub is_served : (what : ScriptPrint) (input : List ℕ) (head : Script) (below : Below) (C D : Config) (tells : Bool) (names kinds : List (List ℕ)) (told text : List ℕ) (past : List Entry)
+    → IsOpened (λ reader. document_of (codes "script") reader input) head below → C ≡ config_of head → D ≡ C → tells ≡ tells_replies what → names ≡ head.tenants → kinds ≡ head.kinds
+    → IsBodyAnswered C (said_below call_of_words below) tells told past
+    → text ≡ told ++ (if tells_journal what then journal_text D names kinds past else []) → IsServed what input text
+is_served what input head below C D tells names kinds told text past opened c d t n k b is =
+    let body : IsBodyAnswered (config_of head) (said_below call_of_words below) (tells_replies what) told past =
+    subst (λ (x : Config). IsBodyAnswered x (said_below call_of_words below) (tells_replies what) told past) c
+    (subst (λ (x : Bool). IsBodyAnswered C (said_below call_of_words below) x told past) t b) in
+    let journal : journal_text D names kinds past ≡ journal_text (config_of head) head.tenants head.kinds past =
+    ap (λ (x : Config). journal_text x names kinds past) (d ∙ c)
+    ∙ (ap (λ (x : List (List ℕ)). journal_text (config_of head) x kinds past) n ∙ ap (λ (x : List (List ℕ)). journal_text (config_of head) head.tenants x past) k) in
+    script_is_served what input head below told text past opened body (is ∙ ap (λ (x : List ℕ). told ++ (if tells_journal what then x else [])) journal)

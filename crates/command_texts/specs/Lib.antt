@@ -1,0 +1,4 @@
+pub mod Histories
+pub mod Commands
+pub mod Serving
+pub mod Stops

@@ -1,0 +1,9 @@
+//! What a command writes for an input, or why it has nothing to write. Nothing here reads or writes, or starts a thread.
+#![tactic(auto)]
+
+pub mod generation;
+pub mod reporting;
+pub mod script;
+pub mod serve;
+pub mod simulation;
+pub mod stop;

@@ -1,0 +1,113 @@
+//! `script`: the calls of a script, and what is printed of them.
+ghost use Rattle.std.specs.Prelude.{◌≡◌, ◌++◌, [], if◌then◌else◌, string_bytes, MatchResult, IfOk, OnOk};
+ghost use Rattle.fq_model.specs.declared.command.Command.TheVariants.{Script};
+ghost use Rattle.fq_model.specs.FaultTexts.{script_fault_text, placed_text};
+ghost use Rattle.fq_model.specs.JournalText.{journal_text};
+ghost use Rattle.tenant_table.specs.Names.{names_of};
+ghost use Rattle.command_texts.specs.Commands.{IsServed, Untold};
+ghost use Rattle.command_texts.specs.Histories.{message_line};
+ghost use Rattle.command_texts.specs.Serving.{tells_replies, tells_journal};
+ghost use Rattle.command_texts.specs.Stops.{IsFaultStop, IsOutputStop};
+
+use crate::serve::{Served, serve};
+use crate::stop::Stop;
+use fq_model::command::ScriptPrint;
+use fq_model::fault::ScriptKind;
+use journal_text::calls::open_script;
+use journal_text::fault::{NoMemory, ScriptFault};
+use journal_text::messages::placed_fault;
+use journal_text::printing::add_journal;
+use journal_text::reading::Opened;
+use rival_policies::chooser::Chooser;
+use sched_state::Scheduler;
+use std::alloc::Global;
+use tenant_table::kinds::Kinds;
+use tenant_table::tenants::Tenants;
+
+/// What is asked for of a script: the replies to its calls, the journal that they leave, or both. The scheduler is over
+/// any chooser.
+pub fn served_text<X: Chooser + Drop>(
+    alloc: Global,
+    what: ScriptPrint,
+    input: &[u8],
+) -> Result<Vec<u8>, Stop>
+    ensures { MatchResult result (λ text. IsServed what input.now text.items)
+        (IsOutputStop Untold (Script what) input.now) }
+{
+    let Opened { head, body } = match open_script(alloc, input) {
+        Ok(script) => script,
+        Err(fault) => return Err(fault_stop(alloc, fault)),
+    };
+    let (config, tenants, kinds, _) = head.into_parts();
+    let served: Served<X> = match serve(alloc, config, body, tells_replies(what)) {
+        Ok(served) => served,
+        Err(fault) => return Err(fault_stop(alloc, fault)),
+    };
+    let Served {
+        mut text,
+        scheduler,
+    } = served;
+    add_if_asked(alloc, what, &scheduler, &tenants, &kinds, &mut text)?;
+    Ok(text)
+}
+
+// Appends the journal that a scheduler has, where it is asked for.
+fn add_if_asked<X: Chooser>(
+    alloc: Global,
+    what: ScriptPrint,
+    scheduler: &Scheduler<u64, X>,
+    tenants: &Tenants,
+    kinds: &Kinds,
+    text: &mut Vec<u8>,
+) -> Result<(), NoMemory>
+    ensures { OnOk result (text.new.items ≡ text.old.items ++ (if tells_journal what then
+        journal_text scheduler.now.config (names_of tenants.now) kinds.now scheduler.now.past else [])) }
+{
+    if !tells_journal(what) {
+        return Ok(());
+    }
+    add_journal(
+        alloc,
+        scheduler.past(),
+        scheduler.config(),
+        tenants,
+        kinds,
+        text,
+    )
+}
+
+// Whether the replies are asked for.
+fn tells_replies(what: ScriptPrint) -> bool
+    ensures { result ≡ tells_replies what }
+{
+    matches!(what, ScriptPrint::Replies | ScriptPrint::Both)
+}
+
+// Whether the journal is asked for.
+fn tells_journal(what: ScriptPrint) -> bool
+    ensures { result ≡ tells_journal what }
+{
+    matches!(what, ScriptPrint::Journal | ScriptPrint::Both)
+}
+
+// Where an input is no script, a message that names its first fault.
+fn fault_stop(alloc: Global, fault: ScriptFault) -> Stop
+    ensures { IsFaultStop fault result }
+{
+    match fault {
+        ScriptFault::At { line, kind } => match fault_message(alloc, line, kind) {
+            Ok(message) => Stop::Fault(message),
+            Err(NoMemory) => Stop::NoMemory,
+        },
+        ScriptFault::NoMemory => Stop::NoMemory,
+    }
+}
+
+fn fault_message(alloc: Global, line: u64, kind: ScriptKind) -> Result<String, NoMemory>
+    ensures { IfOk result (λ message. string_bytes message
+        ≡ message_line (placed_text line (script_fault_text kind))) }
+{
+    let told = placed_fault(alloc, "script", line, kind)?;
+    let message = format!(in alloc; "twodfq: {told}\n")?;
+    Ok(message)
+}

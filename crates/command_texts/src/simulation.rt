@@ -1,0 +1,116 @@
+//! `run`: what is asked for of the simulated history of a trace.
+ghost use Rattle.std.specs.Prelude.{◌≡◌, ◌≤◌, string_bytes, MatchResult, IfOk};
+ghost use Rattle.fq_model.specs.declared.command.Command.TheVariants.{Run};
+ghost use Rattle.fq_model.specs.declared.limits.TheConstants.{GREATEST_SLOT};
+ghost use Rattle.fq_model.specs.FaultTexts.{placed_text, trace_fault_text};
+ghost use Rattle.fq_model.specs.Limits.{AreInRange};
+ghost use Rattle.fq_model.specs.TraceText.{IsLawfulTrace};
+ghost use Rattle.command_texts.specs.Commands.{IsRunOutput, Untold};
+ghost use Rattle.command_texts.specs.Histories.{IsSimulatedOutput, entries_message, message_line};
+ghost use Rattle.command_texts.specs.Stops.{IsTraceFaultStop, IsEntriesStop, IsSimulationStop, IsOutputStop};
+
+use crate::reporting::history_text;
+use crate::stop::Stop;
+use eligible_index::index::IndexChooser;
+use fq_model::command::HistoryPrint;
+use fq_model::fault::TraceKind;
+use fq_model::trace::RunOptions;
+use sched_state::Scheduler;
+use std::alloc::{AllocError, Global};
+use trace_reader::fault::{NoMemory, TraceFault};
+use trace_reader::messages::placed_fault;
+use trace_reader::reading::read;
+use trace_reader::trace::Trace;
+use trace_runner::fault::SimFault;
+use trace_runner::runner::simulate;
+
+/// What is asked for of the simulated history of a trace that has to be read.
+pub fn run_text(
+    alloc: Global,
+    options: RunOptions,
+    slot: u64,
+    what: HistoryPrint,
+    input: &[u8],
+) -> Result<Vec<u8>, Stop>
+    requires options { AreInRange options }
+    requires slot { slot ≤ GREATEST_SLOT }
+    ensures { MatchResult result (λ text. IsRunOutput options slot what input.now text.items)
+        (IsOutputStop Untold (Run options slot what) input.now) }
+{
+    match read(alloc, input) {
+        Ok(trace) => simulated_text(alloc, &trace, options, slot, what),
+        Err(fault) => Err(fault_stop(alloc, fault)),
+    }
+}
+
+/// What is asked for of the simulated history of a trace.
+pub fn simulated_text(
+    alloc: Global,
+    trace: &Trace,
+    options: RunOptions,
+    slot: u64,
+    what: HistoryPrint,
+) -> Result<Vec<u8>, Stop>
+    requires lawful { IsLawfulTrace trace.now }
+    requires options { AreInRange options }
+    requires slot { slot ≤ GREATEST_SLOT }
+    ensures { MatchResult result (λ text. IsSimulatedOutput trace.now options slot what text.items)
+        (IsSimulationStop trace.now options slot what) }
+{
+    let simulated: Result<Scheduler<u64, IndexChooser>, SimFault> = simulate(alloc, trace, options);
+    match simulated {
+        Ok(scheduler) => {
+            history_text(
+                alloc,
+                what,
+                slot,
+                &scheduler,
+                trace.tenants(),
+                trace.kinds(),
+            )
+        }
+        Err(SimFault::TooManyEntries(needed)) => Err(entries_stop(alloc, needed)),
+        Err(SimFault::NoMemory) => Err(Stop::NoMemory),
+    }
+}
+
+/// Where an input is no trace, a message that names its first fault.
+pub fn fault_stop(alloc: Global, fault: TraceFault) -> Stop
+    ensures { IsTraceFaultStop fault result }
+{
+    match fault {
+        TraceFault::At { line, kind } => match fault_message(alloc, line, kind) {
+            Ok(message) => Stop::Fault(message),
+            Err(NoMemory) => Stop::NoMemory,
+        },
+        TraceFault::NoMemory => Stop::NoMemory,
+    }
+}
+
+fn fault_message(alloc: Global, line: u64, kind: TraceKind) -> Result<String, NoMemory>
+    ensures { IfOk result (λ message. string_bytes message
+        ≡ message_line (placed_text line (trace_fault_text kind))) }
+{
+    let told = placed_fault(alloc, line, kind)?;
+    let message = format!(in alloc; "twodfq: {told}\n")?;
+    Ok(message)
+}
+
+/// Where a history would have more entries than there may be, a message that tells how many.
+pub fn entries_stop(alloc: Global, needed: u64) -> Stop
+    ensures { IsEntriesStop needed result }
+{
+    match entries_message(alloc, needed) {
+        Ok(message) => Stop::TooManyEntries(message),
+        Err(_) => Stop::NoMemory,
+    }
+}
+
+fn entries_message(alloc: Global, needed: u64) -> Result<String, AllocError>
+    ensures { IfOk result (λ message. string_bytes message ≡ entries_message needed) }
+{
+    let message = format!(in alloc;
+        "twodfq: the history would have {needed} entries, more than 4194304\n"
+    )?;
+    Ok(message)
+}
