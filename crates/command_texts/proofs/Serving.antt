@@ -19,8 +19,15 @@ use Rattle.fq_model.specs.Script.{Script, script_of, call_of_words}
 use Rattle.fq_model.specs.Texts.{reply_line, replies_text}
 use Rattle.fq_laws.proofs.Outcome.{outcome_snoc}
 use Rattle.journal_text.proofs.Bodies.{with_more}
-use Rattle.journal_text.specs.Body.{Below, with_first, said_below, with_body_lines, IsOpened}
+use Rattle.journal_text.specs.Body.{Below, with_first, said_below, with_body_lines, IsOpened, IsHeadFault}
+use Rattle.journal_text.specs.Reading.{IsFirstFault}
+use Rattle.journal_text.specs.declared.fault.ScriptFault.{ScriptFault}
+use Rattle.journal_text.specs.declared.fault.ScriptFault.TheVariants as faults
+use Rattle.fq_model.specs.declared.command.Command.TheVariants as commands
 use Rattle.command_texts.specs.Commands.{IsServed}
+use Rattle.command_texts.specs.Stops.{IsFaultStop, IsOutputStop}
+use Rattle.command_texts.specs.declared.stop.Stop.{Stop}
+use Rattle.command_texts.specs.declared.stop.Stop.TheVariants as stops
 use Rattle.command_texts.specs.Serving.{tells_replies, tells_journal, told_text, AreAnswered, IsBodyAnswered}
 
 -- what a body says, or its first fault
@@ -121,3 +128,40 @@ is_served what input head below C D tells names kinds told text past opened c d 
     ap (λ (x : Config). journal_text x names kinds past) (d ∙ c)
     ∙ (ap (λ (x : List (List ℕ)). journal_text (config_of head) x kinds past) n ∙ ap (λ (x : List (List ℕ)). journal_text (config_of head) head.tenants x past) k) in
     script_is_served what input head below told text past opened body (is ∙ ap (λ (x : List ℕ). told ++ (if tells_journal what then x else [])) journal)
+
+-- the first fault of a body is that of the script
+fault_below : (head : Script) (fault : ScriptFault) (said : Said) → IsFirstFault fault said → IsFirstFault fault (with_body_lines head said)
+fault_below head (faults.At line kind) said first = ap (with_body_lines head) first
+fault_below head faults.NoMemory said first = tt
+
+-- an input whose first fault this is has no output, and its message names the fault
+pub faulty_input : (Told : ℕ → Type 0) (what : ScriptPrint) (input : List ℕ) (fault : ScriptFault) (stop : Stop) → IsFirstFault fault (script_of input) → IsFaultStop fault stop
+    → IsOutputStop Told (commands.Script what) input stop
+faulty_input Told what input (faults.At line kind) (stops.Fault message) first tells = record { line = line; fault = kind; first = first; told = tells }
+faulty_input Told what input (faults.At line kind) stops.Words first tells = absurd tells
+faulty_input Told what input (faults.At line kind) stops.TooLong first tells = absurd tells
+faulty_input Told what input (faults.At line kind) stops.Reading first tells = absurd tells
+faulty_input Told what input (faults.At line kind) stops.Writing first tells = absurd tells
+faulty_input Told what input (faults.At line kind) stops.NoMemory first tells = tt
+faulty_input Told what input (faults.At line kind) (stops.TooManyEntries message) first tells = absurd tells
+faulty_input Told what input (faults.At line kind) (stops.TooManyCells message) first tells = absurd tells
+faulty_input Told what input faults.NoMemory stops.Words first tells = absurd tells
+faulty_input Told what input faults.NoMemory stops.TooLong first tells = absurd tells
+faulty_input Told what input faults.NoMemory (stops.Fault message) first tells = absurd tells
+faulty_input Told what input faults.NoMemory stops.Reading first tells = absurd tells
+faulty_input Told what input faults.NoMemory stops.Writing first tells = absurd tells
+faulty_input Told what input faults.NoMemory stops.NoMemory first tells = tt
+faulty_input Told what input faults.NoMemory (stops.TooManyEntries message) first tells = absurd tells
+faulty_input Told what input faults.NoMemory (stops.TooManyCells message) first tells = absurd tells
+
+-- a fault of the head
+pub faulty_head : (Told : ℕ → Type 0) (what : ScriptPrint) (input : List ℕ) (fault : ScriptFault) (stop : Stop) → IsHeadFault {A = Call} fault (λ reader. document_of (codes "script") reader input)
+    → IsFaultStop fault stop → IsOutputStop Told (commands.Script what) input stop
+faulty_head Told what input fault stop first tells = faulty_input Told what input fault stop (first call_of_words) tells
+
+-- a fault of the body
+pub faulty_body : (Told : ℕ → Type 0) (what : ScriptPrint) (input : List ℕ) (head : Script) (below : Below) (fault : ScriptFault) (stop : Stop)
+    → IsOpened (λ reader. document_of (codes "script") reader input) head below → IsFirstFault fault (said_below call_of_words below) → IsFaultStop fault stop
+    → IsOutputStop Told (commands.Script what) input stop
+faulty_body Told what input head below fault stop opened first tells =
+    faulty_input Told what input fault stop (subst (IsFirstFault fault) (sym (opened.means call_of_words)) (fault_below head fault (said_below call_of_words below) first)) tells
