@@ -1,9 +1,7 @@
 -- That the pasts of the tests are legal.
 use Rattle.std.proofs.Common.{ℕ, ◌≡◌, refl, sym, subst, arith, List, [], ◌∷◌}
 use Rattle.fq_model.specs.declared.config.Config.{Config}
-use Rattle.fq_model.specs.declared.config.Estimator.{Estimator}
 use Rattle.fq_model.specs.declared.config.Estimator.TheVariants.{Declared, Pessimistic}
-use Rattle.fq_model.specs.declared.config.Policy.{Policy}
 use Rattle.fq_model.specs.declared.config.Policy.TheVariants.{Wfq, TwoDfq}
 use Rattle.fq_model.specs.declared.event.Act.{Act}
 use Rattle.fq_model.specs.declared.event.Act.TheVariants.{Submit, Take, Done, Close, Weight}
@@ -12,6 +10,7 @@ use Rattle.fq_model.specs.History.{history_of}
 use Rattle.fq_model.specs.Rules.{IsLegal}
 use Rattle.fq_laws.proofs.Computed.Histories.{computing}
 use Rattle.fq_laws.proofs.Computed.Legal.{legal_is}
+use Rattle.scheduler_tests.specs.Gaps.{gap_config}
 
 abbrev at : ℕ → Act → Entry
 at moment act = record { who = 0; moment = moment; act = act }
@@ -25,12 +24,9 @@ take moment worker request estimate = at moment (Take worker request estimate)
 abbrev done : ℕ → ℕ → ℕ → ℕ → Entry
 done moment worker request cost = at moment (Done worker request cost)
 
-abbrev two_tenants : ℕ → ℕ → Policy → Estimator → Config
-two_tenants workers weight policy estimate = record { workers = workers; weights = 1 ∷ weight ∷ []; kinds = 2; entries = 100; requests = 10; policy = policy; estimate = estimate; initial = 990 }
-
--- what is legal is legal under equal names
-named : (C D : Config) (past entries : List Entry) → C ≡ D → past ≡ entries → IsLegal D (history_of entries) → IsLegal C (history_of past)
-named C D past entries same_config same_past l = subst (λ (x : Config). IsLegal x (history_of past)) (sym same_config) (subst (λ (x : List Entry). IsLegal D (history_of x)) (sym same_past) l)
+-- what is legal is legal under an equal name
+named : (C : Config) (past entries : List Entry) → past ≡ entries → IsLegal C (history_of entries) → IsLegal C (history_of past)
+named C past entries same l = subst (λ (x : List Entry). IsLegal C (history_of x)) (sym same) l
 
 -- ---- two workers that stagger
 
@@ -48,9 +44,9 @@ two_workers =
     ∷ at 8 Close
     ∷ []
 
-pub two_workers_legal : (C : Config) (past : List Entry) → C ≡ two_tenants 2 1 TwoDfq Declared → past ≡ two_workers → IsLegal C (history_of past)
+pub two_workers_legal : (past : List Entry) → past ≡ two_workers → IsLegal (gap_config 2 1 TwoDfq Declared) (history_of past)
 unfolding computing
-two_workers_legal C past same_config same_past = named C _ past two_workers same_config same_past (legal_is 3 2 (two_tenants 2 1 TwoDfq Declared) (history_of two_workers) (record { bound = omega arith; acts = refl }) refl)
+two_workers_legal past same = named _ past two_workers same (legal_is 3 2 (gap_config 2 1 TwoDfq Declared) (history_of two_workers) (record { bound = omega arith; acts = refl }) refl)
 
 -- ---- estimates that are not the declared numbers
 
@@ -67,15 +63,15 @@ estimated =
     ∷ take 993 0 1 980
     ∷ []
 
-pub estimated_legal : (C : Config) (past : List Entry) → C ≡ two_tenants 1 2 TwoDfq Pessimistic → past ≡ estimated → IsLegal C (history_of past)
+pub estimated_legal : (past : List Entry) → past ≡ estimated → IsLegal (gap_config 1 2 TwoDfq Pessimistic) (history_of past)
 unfolding computing
-estimated_legal C past same_config same_past = named C _ past estimated same_config same_past (legal_is 4 2 (two_tenants 1 2 TwoDfq Pessimistic) (history_of estimated) (record { bound = omega arith; acts = refl }) refl)
+estimated_legal past same = named _ past estimated same (legal_is 4 2 (gap_config 1 2 TwoDfq Pessimistic) (history_of estimated) (record { bound = omega arith; acts = refl }) refl)
 
 -- ---- a weight that rises
 
 abbrev pub reweighed : List Entry
 reweighed = submit 0 0 0 8 ∷ submit 0 1 1 4 ∷ at 0 (Weight 0 4) ∷ submit 0 2 0 8 ∷ take 0 0 0 8 ∷ []
 
-pub reweighed_legal : (C : Config) (past : List Entry) → C ≡ two_tenants 1 1 Wfq Declared → past ≡ reweighed → IsLegal C (history_of past)
+pub reweighed_legal : (past : List Entry) → past ≡ reweighed → IsLegal (gap_config 1 1 Wfq Declared) (history_of past)
 unfolding computing
-reweighed_legal C past same_config same_past = named C _ past reweighed same_config same_past (legal_is 3 2 (two_tenants 1 1 Wfq Declared) (history_of reweighed) (record { bound = omega arith; acts = refl }) refl)
+reweighed_legal past same = named _ past reweighed same (legal_is 3 2 (gap_config 1 1 Wfq Declared) (history_of reweighed) (record { bound = omega arith; acts = refl }) refl)

@@ -1,21 +1,31 @@
 use crate::samples::send_away;
-use std::test::Fail;
+use std::alloc::Global;
+use std::process::Abort;
 use tag_rules::accounts::Accounts;
 
-#[test]
-fn tags_catch_up_with_virtual_time(rt: HostRuntime) -> Result<(), Fail> {
-    let mut accounts = Accounts::open(rt.alloc(), 2)?;
+// What the accounts of two tenants tell while the first is charged and raised: twice its credit and its tag, twice its
+// tag, and then the tag of the second.
+fn told<R: Abort>(rt: &R, alloc: Global) -> [i128; 7] {
+    let accounts = Accounts::open(alloc, 2);
+    let Ok(mut accounts) = accounts else {
+        panic!(rt; "no memory for accounts")
+    };
     accounts.charge(0, 1048576);
-    assert_eq!(rt; accounts.credit(0), 1048576);
-    assert_eq!(rt; accounts.tag(0), 1048576);
+    let charged = (accounts.credit(0), accounts.tag(0));
     accounts.raise(0, 3000000);
-    assert_eq!(rt; accounts.tag(0), 3000000);
-    assert_eq!(rt; accounts.credit(0), 1048576);
+    let raised = (accounts.credit(0), accounts.tag(0));
     accounts.charge(0, -48576);
-    assert_eq!(rt; accounts.tag(0), 2951424);
+    let less = accounts.tag(0);
     accounts.raise(0, 2000000);
-    assert_eq!(rt; accounts.tag(0), 2951424);
-    assert_eq!(rt; accounts.tag(1), 0);
+    let last = (accounts.tag(0), accounts.tag(1));
     send_away(accounts);
-    Ok(())
+    [
+        charged.0, charged.1, raised.0, raised.1, less, last.0, last.1,
+    ]
+}
+
+#[test]
+fn tags_catch_up_with_virtual_time(rt: HostRuntime) {
+    let wanted = [1048576, 1048576, 1048576, 3000000, 2951424, 2951424, 0];
+    assert_eq!(rt; told(&rt, rt.alloc()), wanted);
 }

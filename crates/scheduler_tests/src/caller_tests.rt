@@ -1,16 +1,22 @@
 use crate::samples::send_away;
-use fq_model::config::{Config, Estimator, Policy, Weights};
+use fq_model::config::{Checked, Config, Estimator, Policy, Weights};
 use fq_model::event::{Act, Entry};
+use rival_policies::chooser::Chooser;
 use rival_policies::plain::PlainChooser;
 use sched_state::{Scheduler, Taken};
-use std::test::Fail;
+use std::alloc::Global;
+use std::marker::Send;
+use std::process::Abort;
 
-// The caller that the README shows: two tenants of the weights 1 and 2 share one worker.
-#[test]
-fn a_caller(rt: HostRuntime) -> Result<(), Fail> {
+// Two tenants of the weights 1 and 2 share one worker.
+fn shared_worker<R: Abort>(rt: &R, alloc: Global) -> Checked {
+    let weights = vec![in alloc; 1, 2];
+    let Ok(weights) = weights else {
+        panic!(rt; "no memory for weights")
+    };
     let config = Config {
         workers: 1,
-        weights: Weights::from_vec(vec![in rt.alloc(); 1, 2]?),
+        weights: Weights::from_vec(weights),
         kinds: 1,
         entries: 100,
         requests: 10,
@@ -18,15 +24,42 @@ fn a_caller(rt: HostRuntime) -> Result<(), Fail> {
         estimate: Estimator::Declared,
         initial: 1000,
     };
-    let mut scheduler: Scheduler<u64, PlainChooser> = Scheduler::open(rt.alloc(), config.check()?)?;
-    let request = scheduler.submit(0, 0, 1, 0, 5, 42)?;
-    assert_eq!(rt; request, 0);
+    let checked = config.check();
+    let Ok(checked) = checked else {
+        panic!(rt; "a number out of its limits")
+    };
+    checked
+}
+
+// A scheduler of those.
+fn opened<X: Chooser, R: Abort>(rt: &R, alloc: Global) -> Scheduler<u64, X> {
+    let scheduler = Scheduler::<u64, X>::open(alloc, shared_worker(rt, alloc));
+    let Ok(scheduler) = scheduler else {
+        panic!(rt; "no memory for a scheduler")
+    };
+    scheduler
+}
+
+// Takes the job that waits, and ends it.
+fn serve<X: Chooser, R: Abort>(rt: &R, scheduler: &mut Scheduler<u64, X>) {
     if let Taken::Run { job, .. } = scheduler.take(1, 3, 0) {
         assert_eq!(rt; job, 42);
-        scheduler.done(1, 8, 0, 5)?;
+        assert_eq!(rt; scheduler.done(1, 8, 0, 5), Ok(()));
     }
+}
+
+// Three entries of which this one is the last.
+fn expect_last<R: Abort>(rt: &R, past: &[Entry], wanted: Entry) {
+    assert_eq!(rt; past.len(), 3);
+    assert_eq!(rt; past.last().copied(), Some(wanted));
+}
+
+// The caller that the README shows.
+fn call<X: Chooser + Drop + Send, R: Abort>(rt: &R, alloc: Global) {
+    let mut scheduler = opened::<X, R>(rt, alloc);
+    assert_eq!(rt; scheduler.submit(0, 0, 1, 0, 5, 42), Ok(0));
+    serve(rt, &mut scheduler);
     assert_eq!(rt; scheduler.take(1, 8, 0), Taken::Idle);
-    assert_eq!(rt; scheduler.past().len(), 3);
     let act = Act::Done {
         worker: 0,
         request: 0,
@@ -37,7 +70,11 @@ fn a_caller(rt: HostRuntime) -> Result<(), Fail> {
         moment: 8,
         act,
     };
-    assert_eq!(rt; scheduler.past().last().copied(), Some(done));
+    expect_last(rt, scheduler.past(), done);
     send_away(scheduler);
-    Ok(())
+}
+
+#[test]
+fn a_caller(rt: HostRuntime) {
+    call::<PlainChooser, HostRuntime>(&rt, rt.alloc());
 }

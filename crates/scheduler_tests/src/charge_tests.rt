@@ -1,27 +1,65 @@
+ghost use Rattle.std.specs.Prelude.{◌≡◌, length, replicate, None};
+
 use crate::samples::{configured, send_away};
 use charge_book::book::Book;
 use charge_book::refusal::BookRefusal;
 use charge_book::row::RunRow;
 use fq_model::config::Policy;
 use fq_model::event::Cause;
-use std::test::Fail;
+use std::alloc::Global;
+use std::process::Abort;
 
-#[test]
-fn charges_follow_uses(rt: HostRuntime) -> Result<(), Fail> {
-    let config = configured(rt.alloc(), Policy::TwoDfq, 2, 2)?;
-    let mut book = Book::open(rt.alloc(), &config)?;
-    assert_eq!(rt; book.begin(0, 7, 1, 0, 1, 10), 10485760);
-    assert_eq!(rt; book.report(0, 4), Ok(0));
-    assert_eq!(rt; book.report(0, 12), Ok(2097152));
-    let falling = BookRefusal::Falling {
-        last: 12,
-        given: 11,
+// A book for two workers and two tenants.
+fn opened<R: Abort>(rt: &R, alloc: Global) -> Book
+    ensures rows { result.rows ≡ replicate 2 None }
+    ensures nets { result.nets ≡ replicate 2 0 }
+    ensures begins { result.begins ≡ 0 }
+{
+    let config = configured(rt, alloc, Policy::TwoDfq, 2, 2);
+    let book = Book::open(alloc, &config);
+    let Ok(book) = book else {
+        panic!(rt; "no memory for a book")
     };
-    assert_eq!(rt; book.report(0, 11), Err(falling));
-    assert_eq!(rt;
+    book
+}
+
+const FALLING: BookRefusal = BookRefusal::Falling {
+    last: 12,
+    given: 11,
+};
+
+// The uses that are reported of the first worker's request, and a cost that is out of range, with what is told.
+fn expect_uses<R: Abort>(rt: &R, book: &mut Book)
+    requires { length book.old.rows ≡ 2 }
+    ensures rows { length book.new.rows ≡ 2 }
+    ensures nets { length book.new.nets ≡ length book.old.nets }
+{
+    let told = [
+        book.report(0, 4),
+        book.report(0, 12),
+        book.report(0, 11),
         book.finish(0, 1000000001),
-        Err(BookRefusal::CostRange(1000000001))
-    );
+    ];
+    let range = BookRefusal::CostRange(1000000001);
+    assert_eq!(rt; told, [Ok(0), Ok(2097152), Err(FALLING), Err(range)]);
+}
+
+// The request of the first worker ends, and then none runs there.
+fn expect_end<R: Abort>(rt: &R, book: &mut Book)
+    requires rows { length book.old.rows ≡ 2 }
+    requires nets { length book.old.nets ≡ 2 }
+{
+    assert_eq!(rt; book.finish(0, 15), Ok(3145728));
+    assert_eq!(rt; (book.net(1), book.net(0)), (15, 0));
+    assert_eq!(rt; book.running(0), None);
+    assert_eq!(rt; book.report(0, 4), Err(BookRefusal::NotRunning));
+}
+
+// A request from its begin to its end.
+fn one_request<R: Abort>(rt: &R, alloc: Global) {
+    let mut book = opened(rt, alloc);
+    assert_eq!(rt; book.begin(0, 7, 1, 0, 1, 10), 10485760);
+    expect_uses(rt, &mut book);
     assert_eq!(rt; book.net(1), 12);
     let row = RunRow {
         request: 7,
@@ -32,51 +70,61 @@ fn charges_follow_uses(rt: HostRuntime) -> Result<(), Fail> {
         last: 12,
     };
     assert_eq!(rt; book.running(0), Some(row));
-    assert_eq!(rt; book.finish(0, 15), Ok(3145728));
-    assert_eq!(rt; book.net(1), 15);
-    assert_eq!(rt; book.net(0), 0);
-    assert_eq!(rt; book.running(0), None);
-    assert_eq!(rt; book.report(0, 4), Err(BookRefusal::NotRunning));
+    expect_end(rt, &mut book);
     send_away(book);
-    Ok(())
 }
 
 #[test]
-fn what_runs_keeps_its_weight(rt: HostRuntime) -> Result<(), Fail> {
-    let config = configured(rt.alloc(), Policy::TwoDfq, 2, 2)?;
-    let mut book = Book::open(rt.alloc(), &config)?;
-    assert_eq!(rt; book.begin(0, 7, 1, 0, 1, 8), 8388608);
+fn charges_follow_uses(rt: HostRuntime) {
+    one_request(&rt, rt.alloc());
+}
+
+// What runs on both workers is charged so much more, and then the second tenant so much in all.
+fn two_requests<R: Abort>(rt: &R, alloc: Global) {
+    let mut book = opened(rt, alloc);
+    let first = book.begin(0, 7, 1, 0, 1, 8);
     // The weight of its tenant is 4 now.
-    assert_eq!(rt; book.begin(1, 8, 1, 0, 4, 8), 2097152);
-    assert_eq!(rt; book.finish(0, 4), Ok(-4194304));
-    assert_eq!(rt; book.report(1, 12), Ok(1048576));
-    assert_eq!(rt; book.finish(1, 16), Ok(1048576));
+    let second = book.begin(1, 8, 1, 0, 4, 8);
+    assert_eq!(rt; [first, second], [8388608, 2097152]);
+    let told = [book.finish(0, 4), book.report(1, 12), book.finish(1, 16)];
+    assert_eq!(rt; told, [Ok(-4194304), Ok(1048576), Ok(1048576)]);
     assert_eq!(rt; book.net(1), 20);
-    Ok(())
 }
 
 #[test]
-fn refusals_are_told(rt: HostRuntime) -> Result<(), Fail> {
-    let falling = BookRefusal::Falling {
+fn what_runs_keeps_its_weight(rt: HostRuntime) {
+    two_requests(&rt, rt.alloc());
+}
+
+// A refusal is told so.
+fn expect_told<R: Abort>(rt: &R, alloc: Global, refusal: BookRefusal, wanted: &str) {
+    let text = format!(in alloc; "{refusal}");
+    let Ok(text) = text else {
+        panic!(rt; "no memory for a text")
+    };
+    assert_eq!(rt; text.as_str(), wanted);
+}
+
+#[test]
+fn refusals_are_told(rt: HostRuntime) {
+    expect_told(
+        &rt,
+        rt.alloc(),
+        BookRefusal::NotRunning,
+        "nothing runs on the worker",
+    );
+    let range = BookRefusal::CostRange(1000000001);
+    expect_told(
+        &rt,
+        rt.alloc(),
+        range,
+        "1000000001 microseconds are above 1000000000",
+    );
+    let falling = "11 microseconds are less than the 12 reported before";
+    expect_told(&rt, rt.alloc(), FALLING, falling);
+    let cause = Cause::Falling {
         last: 12,
         given: 11,
     };
-    let text = format!(in rt.alloc();
-        "{}; {}; {}",
-        BookRefusal::NotRunning,
-        BookRefusal::CostRange(1000000001),
-        falling
-    )?;
-    assert_eq!(rt;
-        text.as_str(),
-        "nothing runs on the worker; 1000000001 microseconds are above 1000000000; 11 microseconds are less than the 12 reported before"
-    );
-    assert_eq!(rt;
-        Cause::from(falling),
-        Cause::Falling {
-            last: 12,
-            given: 11
-        }
-    );
-    Ok(())
+    assert_eq!(rt; Cause::from(FALLING), cause);
 }

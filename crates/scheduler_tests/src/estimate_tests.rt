@@ -1,4 +1,4 @@
-ghost use Rattle.std.specs.Prelude.{◌≡◌, ◌<◌, ◌≤◌, length, IfOk};
+ghost use Rattle.std.specs.Prelude.{◌≡◌, ◌<◌, ◌≤◌, length};
 
 use crate::samples::send_away;
 use cost_estimate::any::AnyCost;
@@ -7,18 +7,22 @@ use cost_estimate::estimate::Estimate;
 use cost_estimate::pessimistic::PessimisticCost;
 use cost_estimate::recent::RecentCost;
 use fq_model::config::{Checked, Config, Estimator, Policy, Weights};
-use fq_model::limits::GREATEST_COST;
 use std::alloc::Global;
-use std::test::Fail;
+use std::marker::Send;
+use std::process::Abort;
 
 // Two tenants, two kinds and the initial value 1000.
-fn two_by_two(alloc: Global, estimate: Estimator) -> Result<Checked, Fail>
-    ensures tenants { IfOk result (λ c. length c.weights ≡ 2) }
-    ensures kinds { IfOk result (λ c. c.kinds ≡ 2) }
+fn two_by_two<R: Abort>(rt: &R, alloc: Global, estimate: Estimator) -> Checked
+    ensures tenants { length result.weights ≡ 2 }
+    ensures kinds { result.kinds ≡ 2 }
 {
+    let weights = vec![in alloc; 1, 1];
+    let Ok(weights) = weights else {
+        panic!(rt; "no memory for weights")
+    };
     let config = Config {
         workers: 1,
-        weights: Weights::from_vec(vec![in alloc; 1, 1]?),
+        weights: Weights::from_vec(weights),
         kinds: 2,
         entries: 4,
         requests: 1,
@@ -26,40 +30,77 @@ fn two_by_two(alloc: Global, estimate: Estimator) -> Result<Checked, Fail>
         estimate,
         initial: 1000,
     };
-    Ok(config.check()?)
+    let checked = config.check();
+    let Ok(checked) = checked else {
+        panic!(rt; "a number out of its limits")
+    };
+    checked
 }
 
-// What an estimator says of a request of the tenant 1 and the kind 1 once one of them has cost so much.
-fn now_after<E: Estimate>(estimator: &mut E, cost: u64) -> u64
+// An estimator for those.
+fn opened<E: Estimate, R: Abort>(rt: &R, alloc: Global, estimate: Estimator) -> E
+    ensures tenants { E.tenants result ≡ 2 }
+    ensures kinds { E.kinds result ≡ 2 }
+{
+    let config = two_by_two(rt, alloc, estimate);
+    let opened = E::open(alloc, &config);
+    let Ok(estimator) = opened else {
+        panic!(rt; "no memory for costs")
+    };
+    estimator
+}
+
+// What it says of a request that is declared to cost 7 is this.
+fn expect_now<E: Estimate, R: Abort>(rt: &R, estimator: &E, tenant: u32, kind: u32, wanted: u64)
+    requires tenant { tenant < E.tenants estimator.now }
+    requires kind { kind < E.kinds estimator.now }
+{
+    assert_eq!(rt;
+        estimator.now(tenant, kind, 7),
+        wanted,
+        "of {tenant} and {kind}"
+    );
+}
+
+// It learns these costs of tenant 1 and kind 1, and says this after each.
+fn expect_learned<E: Estimate, R: Abort>(rt: &R, estimator: &mut E, rows: &[(u16, u64)])
     requires tenant { 1 < E.tenants estimator.old }
     requires kind { 1 < E.kinds estimator.old }
-    requires cost { cost ≤ GREATEST_COST }
     ensures tenants { E.tenants estimator.new ≡ E.tenants estimator.old }
     ensures kinds { E.kinds estimator.new ≡ E.kinds estimator.old }
 {
-    estimator.learn(1, 1, cost);
-    estimator.now(1, 1, 7)
+    for (cost, wanted) in rows {
+        estimator.learn(1, 1, u64::from(*cost));
+        assert_eq!(rt; estimator.now(1, 1, 7), *wanted, "after {cost}");
+    }
+}
+
+// It says one thing first, these after each cost, and the first thing still of other tenants and kinds.
+fn expect_estimates<E: Estimate + Drop + Send, R: Abort>(
+    rt: &R,
+    alloc: Global,
+    estimate: Estimator,
+    first: u64,
+    rows: &[(u16, u64)],
+) {
+    let mut estimator = opened::<E, R>(rt, alloc, estimate);
+    expect_now(rt, &estimator, 1, 1, first);
+    expect_learned(rt, &mut estimator, rows);
+    expect_now(rt, &estimator, 0, 1, first);
+    expect_now(rt, &estimator, 1, 0, first);
+    send_away(estimator);
 }
 
 #[test]
-fn pessimistic_costs_decay(rt: HostRuntime) -> Result<(), Fail> {
-    let config = two_by_two(rt.alloc(), Estimator::Pessimistic)?;
-    let mut cost = PessimisticCost::open(rt.alloc(), &config)?;
-    assert_eq!(rt; cost.now(1, 1, 7), 1000);
-    assert_eq!(rt; now_after(&mut cost, 500), 990);
-    assert_eq!(rt; now_after(&mut cost, 3), 980);
-    assert_eq!(rt; cost.now(0, 1, 7), 1000);
-    assert_eq!(rt; cost.now(1, 0, 7), 1000);
-    send_away(cost);
-    Ok(())
+fn pessimistic_costs_decay(rt: HostRuntime) {
+    let rows = [(500, 990), (3, 980)];
+    let named = Estimator::Pessimistic;
+    expect_estimates::<PessimisticCost, HostRuntime>(&rt, rt.alloc(), named, 1000, &rows);
 }
 
 #[test]
-fn recent_costs_are_the_last_eight(rt: HostRuntime) -> Result<(), Fail> {
-    let config = two_by_two(rt.alloc(), Estimator::Recent)?;
-    let mut cost = RecentCost::open(rt.alloc(), &config)?;
-    assert_eq!(rt; cost.now(1, 1, 7), 1000);
-    for (learned, want) in [
+fn recent_costs_are_the_last_eight(rt: HostRuntime) {
+    let rows = [
         (1, 1),
         (2, 1),
         (3, 2),
@@ -69,37 +110,25 @@ fn recent_costs_are_the_last_eight(rt: HostRuntime) -> Result<(), Fail> {
         (7, 4),
         (8, 4),
         (9, 5),
-    ] {
-        assert_eq!(rt; now_after(&mut cost, learned), want, "after {learned}");
-    }
-    assert_eq!(rt; cost.now(0, 1, 7), 1000);
-    assert_eq!(rt; cost.now(1, 0, 7), 1000);
-    send_away(cost);
-    Ok(())
+    ];
+    let named = Estimator::Recent;
+    expect_estimates::<RecentCost, HostRuntime>(&rt, rt.alloc(), named, 1000, &rows);
 }
 
 #[test]
-fn declared_costs_are_taken(rt: HostRuntime) -> Result<(), Fail> {
-    let config = two_by_two(rt.alloc(), Estimator::Declared)?;
-    let mut cost = DeclaredCost::open(rt.alloc(), &config)?;
-    assert_eq!(rt; cost.now(1, 1, 7), 7);
-    assert_eq!(rt; now_after(&mut cost, 500), 7);
-    send_away(cost);
-    Ok(())
+fn declared_costs_are_taken(rt: HostRuntime) {
+    let named = Estimator::Declared;
+    expect_estimates::<DeclaredCost, HostRuntime>(&rt, rt.alloc(), named, 7, &[(500, 7)]);
+}
+
+// What is chosen by the configuration says these two things.
+fn expect_named<R: Abort>(rt: &R, alloc: Global, named: Estimator, first: u64, second: u64) {
+    expect_estimates::<AnyCost, R>(rt, alloc, named, first, &[(500, second)]);
 }
 
 #[test]
-fn the_configuration_names_the_estimator(rt: HostRuntime) -> Result<(), Fail> {
-    for (estimate, first, second) in [
-        (Estimator::Declared, 7, 7),
-        (Estimator::Recent, 1000, 500),
-        (Estimator::Pessimistic, 1000, 990),
-    ] {
-        let config = two_by_two(rt.alloc(), estimate)?;
-        let mut cost = AnyCost::open(rt.alloc(), &config)?;
-        assert_eq!(rt; cost.now(1, 1, 7), first);
-        assert_eq!(rt; now_after(&mut cost, 500), second);
-        send_away(cost);
-    }
-    Ok(())
+fn the_configuration_names_the_estimator(rt: HostRuntime) {
+    expect_named(&rt, rt.alloc(), Estimator::Declared, 7, 7);
+    expect_named(&rt, rt.alloc(), Estimator::Recent, 1000, 500);
+    expect_named(&rt, rt.alloc(), Estimator::Pessimistic, 1000, 990);
 }

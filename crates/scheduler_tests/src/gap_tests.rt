@@ -1,36 +1,35 @@
-ghost use Rattle.std.specs.Prelude.{◌≡◌, ◌∷◌, [], IfOk};
+ghost use Rattle.std.specs.Prelude.{◌≡◌};
+ghost use Rattle.fq_model.specs.History.{history_of};
+ghost use Rattle.fq_model.specs.Rules.{IsLegal};
 ghost use Rattle.fq_model.specs.declared.event.Act.TheVariants as act;
+ghost use Rattle.scheduler_tests.specs.Gaps.{gap_config};
 
 use fq_model::config::{Checked, Config, Estimator, Policy, Weights};
 use fq_model::event::{Act, Entry};
 use std::alloc::Global;
-use std::test::Fail;
+use std::process::Abort;
 use tag_gap::fault::GapFault;
 use tag_gap::gap::Gap;
 use tag_gap::gaps::tag_gap;
 
 // Two tenants, the first of weight 1.
-fn two_tenants(
+fn two_tenants<R: Abort>(
+    rt: &R,
     alloc: Global,
     workers: u32,
     weight: u32,
     policy: Policy,
     estimate: Estimator,
-) -> Result<Checked, Fail>
-    ensures { IfOk result (λ c. c ≡ record {
-      workers = workers;
-      weights = 1 ∷ weight ∷ [];
-      kinds = 2;
-      entries = 100;
-      requests = 10;
-      policy = policy;
-      estimate = estimate;
-      initial = 990;
-    }) }
+) -> Checked
+    ensures { result ≡ gap_config workers weight policy estimate }
 {
+    let weights = vec![in alloc; 1, weight];
+    let Ok(weights) = weights else {
+        panic!(rt; "no memory for weights")
+    };
     let config = Config {
         workers,
-        weights: Weights::from_vec(vec![in alloc; 1, weight]?),
+        weights: Weights::from_vec(weights),
         kinds: 2,
         entries: 100,
         requests: 10,
@@ -38,7 +37,44 @@ fn two_tenants(
         estimate,
         initial: 990,
     };
-    Ok(config.check()?)
+    let checked = config.check();
+    let Ok(checked) = checked else {
+        panic!(rt; "a number out of its limits")
+    };
+    checked
+}
+
+// What is told of a history: the gap of one tenant above another.
+fn expect_told<R: Abort>(
+    rt: &R,
+    alloc: Global,
+    config: &Checked,
+    past: &[Entry],
+    rows: &[(u32, u32, Result<Option<Gap>, GapFault>)],
+)
+    requires { IsLegal config.now (history_of past.now) }
+{
+    for (f, g, wanted) in rows {
+        let told = tag_gap(alloc, past, config, *f, *g);
+        assert_eq!(rt; told, *wanted, "of {f} above {g}");
+    }
+}
+
+// What is told of one with those tenants.
+fn expect_gaps<R: Abort>(
+    rt: &R,
+    alloc: Global,
+    workers: u32,
+    weight: u32,
+    policy: Policy,
+    estimate: Estimator,
+    past: &[Entry],
+    rows: &[(u32, u32, Result<Option<Gap>, GapFault>)],
+)
+    requires { IsLegal (gap_config workers weight policy estimate) (history_of past.now) }
+{
+    let config = two_tenants(rt, alloc, workers, weight, policy, estimate);
+    expect_told(rt, alloc, &config, past, rows);
 }
 
 // An entry of caller 0, with this act, and with a Submit, a Take and a Done.
@@ -93,9 +129,12 @@ fn done(moment: u64, worker: u32, request: u32, cost: u64) -> Entry
     )
 }
 
+fn gap(largest: i128, bound: i128) -> Result<Option<Gap>, GapFault> {
+    Ok(Some(Gap { largest, bound }))
+}
+
 #[test]
-fn two_workers_stagger(rt: HostRuntime) -> Result<(), Fail> {
-    let config = two_tenants(rt.alloc(), 2, 1, Policy::TwoDfq, Estimator::Declared)?;
+fn two_workers_stagger(rt: HostRuntime) {
     let past = [
         submit(0, 0, 0, 8),
         submit(0, 1, 1, 2),
@@ -108,32 +147,29 @@ fn two_workers_stagger(rt: HostRuntime) -> Result<(), Fail> {
         done(8, 1, 0, 8),
         at(8, Act::Close),
     ];
-    let gap = |largest: i128| {
-        Ok(Some(Gap {
-            largest,
-            bound: 16777216,
-        }))
-    };
-    for (f, g, told) in [
-        (1, 0, gap(2097152)),
-        (0, 1, gap(0)),
+    let rows = [
+        (1, 0, gap(2097152, 16777216)),
+        (0, 1, gap(0, 16777216)),
         (0, 0, Err(GapFault::SameTenant)),
         (2, 0, Err(GapFault::UnknownTenant(2))),
         (0, 2, Err(GapFault::UnknownTenant(2))),
         (3, 2, Err(GapFault::UnknownTenant(3))),
-    ] {
-        assert_eq!(rt;
-            tag_gap(rt.alloc(), &past, &config, f, g),
-            told,
-            "of {f} above {g}"
-        );
-    }
-    Ok(())
+    ];
+    let policy = Policy::TwoDfq;
+    expect_gaps(
+        &rt,
+        rt.alloc(),
+        2,
+        1,
+        policy,
+        Estimator::Declared,
+        &past,
+        &rows,
+    );
 }
 
 #[test]
-fn estimates_are_not_declared(rt: HostRuntime) -> Result<(), Fail> {
-    let config = two_tenants(rt.alloc(), 1, 2, Policy::TwoDfq, Estimator::Pessimistic)?;
+fn estimates_are_not_declared(rt: HostRuntime) {
     let past = [
         submit(0, 0, 0, 1),
         submit(0, 1, 0, 1),
@@ -145,14 +181,22 @@ fn estimates_are_not_declared(rt: HostRuntime) -> Result<(), Fail> {
         submit(993, 3, 1, 1),
         take(993, 0, 1, 980),
     ];
-    let told = tag_gap(rt.alloc(), &past, &config, 0, 1);
-    assert_eq!(rt; told, Err(GapFault::NotDeclared(0)));
-    Ok(())
+    let rows = [(0, 1, Err(GapFault::NotDeclared(0)))];
+    let policy = Policy::TwoDfq;
+    expect_gaps(
+        &rt,
+        rt.alloc(),
+        1,
+        2,
+        policy,
+        Estimator::Pessimistic,
+        &past,
+        &rows,
+    );
 }
 
 #[test]
-fn each_weight_had_counts(rt: HostRuntime) -> Result<(), Fail> {
-    let config = two_tenants(rt.alloc(), 1, 1, Policy::Wfq, Estimator::Declared)?;
+fn each_weight_had_counts(rt: HostRuntime) {
     let past = [
         submit(0, 0, 0, 8),
         submit(0, 1, 1, 4),
@@ -166,11 +210,15 @@ fn each_weight_had_counts(rt: HostRuntime) -> Result<(), Fail> {
         submit(0, 2, 0, 8),
         take(0, 0, 0, 8),
     ];
-    let told = tag_gap(rt.alloc(), &past, &config, 0, 1);
-    let gap = Gap {
-        largest: 2097152,
-        bound: 8388608,
-    };
-    assert_eq!(rt; told, Ok(Some(gap)));
-    Ok(())
+    let rows = [(0, 1, gap(2097152, 8388608))];
+    expect_gaps(
+        &rt,
+        rt.alloc(),
+        1,
+        1,
+        Policy::Wfq,
+        Estimator::Declared,
+        &past,
+        &rows,
+    );
 }

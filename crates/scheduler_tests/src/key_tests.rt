@@ -5,10 +5,11 @@ use tag_rules::keys::{eligible_key, keys};
 #[test]
 fn keys_of_a_head(rt: HostRuntime) {
     let head = keys(5, 3, 2, 7);
-    assert_eq!(rt; head.start, 5);
-    assert_eq!(rt; head.len, 1572864);
+    assert_eq!(rt;
+        [head.start, head.len, head.finish()],
+        [5, 1572864, 1572869]
+    );
     assert_eq!(rt; head.request, 7);
-    assert_eq!(rt; head.finish(), 1572869);
 }
 
 // Of two workers the second begins half a length early: from 4 units on a head that starts at 8 and is 8 long, from
@@ -17,18 +18,20 @@ fn keys_of_a_head(rt: HostRuntime) {
 fn staggered_under_2dfq_alone(rt: HostRuntime) {
     let long = keys(8388608, 8, 1, 1);
     let short = keys(6291456, 1, 1, 7);
-    assert_eq!(rt; eligible_key(Policy::TwoDfq, long, 1, 2), 4194304);
-    assert_eq!(rt; eligible_key(Policy::TwoDfq, short, 1, 2), 5767168);
-    assert_eq!(rt; eligible_key(Policy::TwoDfq, long, 0, 2), 8388608);
-    assert_eq!(rt; eligible_key(Policy::Wfq, long, 1, 2), 8388608);
-    assert_eq!(rt; eligible_key(Policy::Wf2q, long, 1, 2), 8388608);
-    assert_eq!(rt; eligible_key(Policy::Msf2q, long, 1, 2), 8388608);
+    let told = [
+        eligible_key(Policy::TwoDfq, long, 1, 2),
+        eligible_key(Policy::TwoDfq, short, 1, 2),
+        eligible_key(Policy::TwoDfq, long, 0, 2),
+        eligible_key(Policy::Wfq, long, 1, 2),
+        eligible_key(Policy::Wf2q, long, 1, 2),
+        eligible_key(Policy::Msf2q, long, 1, 2),
+    ];
+    let wanted = [4194304, 5767168, 8388608, 8388608, 8388608, 8388608];
+    assert_eq!(rt; told, wanted);
 }
 
 #[test]
 fn eligible_before_time_began(rt: HostRuntime) {
-    assert_eq!(rt;
-        eligible_key(Policy::TwoDfq, keys(5, 3, 2, 7), 1, 4),
-        -393211
-    );
+    let key = eligible_key(Policy::TwoDfq, keys(5, 3, 2, 7), 1, 4);
+    assert_eq!(rt; key, -393211);
 }

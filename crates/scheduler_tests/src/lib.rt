@@ -8,6 +8,8 @@ mod caller_tests;
 #[cfg(test)]
 mod charge_tests;
 #[cfg(test)]
+mod choosers;
+#[cfg(test)]
 mod clock_tests;
 #[cfg(test)]
 mod estimate_tests;

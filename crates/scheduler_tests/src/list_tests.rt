@@ -1,5 +1,6 @@
 use crate::samples::send_away;
-use std::test::Fail;
+use std::alloc::Global;
+use std::process::Abort;
 use waiting_lists::{Item, Lists};
 
 // A job that is not `Copy`.
@@ -15,16 +16,24 @@ fn item(request: u32) -> Item<Label> {
     }
 }
 
-#[test]
-fn two_tenants_share_two_slots(rt: HostRuntime) -> Result<(), Fail> {
-    let mut lists = Lists::<Label>::open(rt.alloc(), 2, 2)?;
-    assert_eq!(rt; lists.push(1, item(0)), Ok(()));
-    assert_eq!(rt; lists.push(0, item(1)), Ok(()));
+// Two slots of two tenants fill, and one of them becomes free.
+fn fill<R: Abort>(rt: &R, alloc: Global) {
+    let lists = Lists::<Label>::open(alloc, 2, 2);
+    let Ok(mut lists) = lists else {
+        panic!(rt; "no memory for lists")
+    };
+    assert_eq!(rt;
+        [lists.push(1, item(0)), lists.push(0, item(1))],
+        [Ok(()), Ok(())]
+    );
     assert_eq!(rt; lists.push(1, item(2)), Err(item(2)));
     assert_eq!(rt; lists.head(1), Some(&item(0)));
-    assert_eq!(rt; lists.pop(1), Some(item(0)));
-    assert_eq!(rt; lists.pop(1), None);
+    assert_eq!(rt; [lists.pop(1), lists.pop(1)], [Some(item(0)), None]);
     assert_eq!(rt; lists.len(), 1);
     send_away(lists);
-    Ok(())
+}
+
+#[test]
+fn two_tenants_share_two_slots(rt: HostRuntime) {
+    fill(&rt, rt.alloc());
 }

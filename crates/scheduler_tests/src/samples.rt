@@ -1,31 +1,36 @@
 //! What the tests share.
-ghost use Rattle.std.specs.Prelude.{◌≡◌, ◌≤◌, length, IfOk};
+ghost use Rattle.std.specs.Prelude.{◌≡◌, ◌≤◌, length};
 
 use fq_model::config::{Checked, Config, Estimator, Policy, Weights};
 use fq_model::limits::MOST_WORKERS;
 use std::alloc::Global;
 use std::marker::Send;
-use std::test::Fail;
+use std::process::Abort;
 
 /// Only what may go to another thread can be passed here.
 pub fn send_away<T: Send + Drop>(_sent: T) {}
 
 /// So many tenants of weight 1, and costs as declared.
-pub fn configured(
+pub fn configured<R: Abort>(
+    rt: &R,
     alloc: Global,
     policy: Policy,
     workers: u32,
     tenants: usize,
-) -> Result<Checked, Fail>
+) -> Checked
     requires low { 1 ≤ workers }
     requires high { workers ≤ MOST_WORKERS }
-    ensures policy { IfOk result (λ c. c.policy ≡ policy) }
-    ensures workers { IfOk result (λ c. c.workers ≡ workers) }
-    ensures tenants { IfOk result (λ c. length c.weights ≡ tenants) }
+    ensures policy { result.policy ≡ policy }
+    ensures workers { result.workers ≡ workers }
+    ensures tenants { length result.weights ≡ tenants }
 {
+    let weights = vec![in alloc; 1; tenants];
+    let Ok(weights) = weights else {
+        panic!(rt; "no memory for weights")
+    };
     let config = Config {
         workers,
-        weights: Weights::from_vec(vec![in alloc; 1; tenants]?),
+        weights: Weights::from_vec(weights),
         kinds: 1,
         entries: 4,
         requests: 1,
@@ -33,5 +38,9 @@ pub fn configured(
         estimate: Estimator::Declared,
         initial: 1000,
     };
-    Ok(config.check()?)
+    let checked = config.check();
+    let Ok(checked) = checked else {
+        panic!(rt; "a number out of its limits")
+    };
+    checked
 }

@@ -1,9 +1,10 @@
 //! Traces whose simulated histories were made by hand.
-ghost use Rattle.std.specs.Prelude.{◌<◌};
+ghost use Rattle.std.specs.Prelude.{◌≡◌, ◌<◌};
+ghost use Rattle.fq_model.specs.Limits.{AreInRange};
 ghost use Rattle.fq_model.specs.TraceText.{IsLawfulTrace};
 
 use eligible_index::index::IndexChooser;
-use fq_model::config::{Estimator, Policy};
+use fq_model::config::{Checked, Estimator, Policy};
 use fq_model::event::{Act, Entry};
 use fq_model::trace::RunOptions;
 use rival_policies::chooser::Chooser;
@@ -11,7 +12,7 @@ use rival_policies::plain::PlainChooser;
 use sched_state::Scheduler;
 use shared_order::chooser::SharedChooser;
 use std::alloc::Global;
-use std::test::Fail;
+use std::process::Abort;
 use trace_reader::generating::generate;
 use trace_reader::reading::read;
 use trace_reader::trace::Trace;
@@ -61,11 +62,47 @@ fn done(moment: u64, worker: u32, request: u32, cost: u64) -> Entry
     }
 }
 
-#[test]
-fn two_workers_serve_three_requests(rt: HostRuntime) -> Result<(), Fail> {
-    let text = "tenant,a,1\ntenant,b,1\nrequest,0,0,a,scan,8,8\nrequest,0,0,b,get,2,2\n\
-        request,0,1,b,get,2,2\n";
-    let trace = read(rt.alloc(), text.as_bytes())?;
+// The trace that a text says.
+fn trace_in<R: Abort>(rt: &R, alloc: Global, text: &str) -> Trace
+    ensures { IsLawfulTrace result }
+{
+    let trace = read(alloc, text.as_bytes());
+    let Ok(trace) = trace else {
+        panic!(rt; "a trace")
+    };
+    trace
+}
+
+// The scheduler that has served a trace.
+fn served<X: Chooser + Drop, R: Abort>(
+    rt: &R,
+    alloc: Global,
+    trace: &Trace,
+    options: RunOptions,
+) -> Scheduler<u64, X>
+    requires lawful { IsLawfulTrace trace.now }
+    requires options { AreInRange options }
+{
+    let scheduler = simulate::<X>(alloc, trace, options);
+    let Ok(scheduler) = scheduler else {
+        panic!(rt; "no memory for a simulation")
+    };
+    scheduler
+}
+
+// A scheduler had room for so many entries and requests.
+fn expect_room<R: Abort>(rt: &R, config: &Checked, entries: u32, requests: u32) {
+    assert_eq!(rt; (config.entries(), config.requests()), (entries, requests));
+}
+
+// Two workers have served a trace of three requests, as these entries tell.
+fn expect_entries<X: Chooser + Drop, R: Abort>(
+    rt: &R,
+    alloc: Global,
+    text: &str,
+    wanted: &[Entry],
+) {
+    let trace = trace_in(rt, alloc, text);
     let options = RunOptions {
         workers: 2,
         policy: Policy::TwoDfq,
@@ -73,13 +110,21 @@ fn two_workers_serve_three_requests(rt: HostRuntime) -> Result<(), Fail> {
         initial: 1000,
         refresh: 0,
     };
-    let scheduler: Scheduler<u64, PlainChooser> = simulate(rt.alloc(), &trace, options)?;
+    let scheduler = served::<X, R>(rt, alloc, &trace, options);
+    assert_eq!(rt; scheduler.past(), wanted);
+    expect_room(rt, scheduler.config(), 10, 3);
+}
+
+#[test]
+fn two_workers_serve_three_requests(rt: HostRuntime) {
+    let text = "tenant,a,1\ntenant,b,1\nrequest,0,0,a,scan,8,8\nrequest,0,0,b,get,2,2\n\
+        request,0,1,b,get,2,2\n";
     let close = Entry {
         who: 0,
         moment: 8,
         act: Act::Close,
     };
-    let want = [
+    let wanted = [
         submit(0, 0, 0, 0, 0, 8),
         submit(0, 0, 1, 1, 1, 2),
         submit(1, 0, 2, 1, 1, 2),
@@ -91,10 +136,7 @@ fn two_workers_serve_three_requests(rt: HostRuntime) -> Result<(), Fail> {
         done(8, 1, 0, 8),
         close,
     ];
-    assert_eq!(rt; scheduler.past(), want.as_slice());
-    assert_eq!(rt; scheduler.config().entries(), 10);
-    assert_eq!(rt; scheduler.config().requests(), 3);
-    Ok(())
+    expect_entries::<PlainChooser, HostRuntime>(&rt, rt.alloc(), text, &wanted);
 }
 
 const REALISTIC: &str = "tenant,alpha,1\ntenant,beta,1\ntenant,gamma,2\n\
@@ -119,77 +161,143 @@ const DEFAULTS: RunOptions = RunOptions {
     refresh: 10000,
 };
 
-#[test]
-fn running_requests_are_reported(rt: HostRuntime) -> Result<(), Fail> {
-    let trace = read(rt.alloc(), REALISTIC.as_bytes())?;
-    let scheduler: Scheduler<u64, PlainChooser> = simulate(rt.alloc(), &trace, DEFAULTS)?;
-    let past = scheduler.past();
-    assert_eq!(rt; needed(&trace, DEFAULTS.refresh), 44);
-    assert_eq!(rt; past.len(), 44);
-    assert_eq!(rt; scheduler.config().entries(), 44);
-    let first = [(3, 0, 0), (4, 1, 2), (5, 2, 1)];
-    for (who, worker, request) in first {
-        let act = Act::Take {
-            worker,
-            request,
-            estimate: 1000,
-        };
-        let entry = Entry {
-            who,
-            moment: 0,
-            act,
-        };
-        assert_eq!(rt; past.get(3 + worker as usize).copied(), Some(entry));
+// How many entries are reports.
+fn count_of_reports(past: &[Entry]) -> u64 {
+    let mut count = 0u64;
+    for entry in past {
+        if let Act::Report { .. } = entry.act {
+            count = count.saturating_add(1);
+        }
     }
-    let reports = past
-        .iter()
-        .filter(|entry| matches!(entry.act, Act::Report { .. }))
-        .count();
-    assert_eq!(rt; reports, 7);
-    Ok(())
+    count
+}
+
+// At first a worker took a request. The submitters are the callers 0, 1 and 2.
+fn expect_taken<R: Abort>(rt: &R, past: &[Entry], worker: u32, request: u32)
+    requires { worker < 64 }
+{
+    let act = Act::Take {
+        worker,
+        request,
+        estimate: 1000,
+    };
+    let entry = Entry {
+        who: 3 + worker,
+        moment: 0,
+        act,
+    };
+    assert_eq!(rt; past.get(3 + worker as usize).copied(), Some(entry));
+}
+
+// Three workers took requests at first, and there are so many reports.
+fn expect_reports<R: Abort>(rt: &R, past: &[Entry], reports: u64) {
+    expect_taken(rt, past, 0, 0);
+    expect_taken(rt, past, 1, 2);
+    expect_taken(rt, past, 2, 1);
+    assert_eq!(rt; count_of_reports(past), reports);
+}
+
+// A trace needs so many entries, of which so many are reports.
+fn expect_needed<X: Chooser + Drop, R: Abort>(
+    rt: &R,
+    alloc: Global,
+    text: &str,
+    entries: u32,
+    reports: u64,
+) {
+    let trace = trace_in(rt, alloc, text);
+    assert_eq!(rt; needed(&trace, DEFAULTS.refresh), u64::from(entries));
+    let scheduler = served::<X, R>(rt, alloc, &trace, DEFAULTS);
+    assert_eq!(rt; scheduler.past().len(), entries as usize);
+    assert_eq!(rt; scheduler.config().entries(), entries);
+    expect_reports(rt, scheduler.past(), reports);
 }
 
 #[test]
-fn a_history_may_be_too_long(rt: HostRuntime) -> Result<(), Fail> {
-    let text = "tenant,a,1\nrequest,0,0,a,get,1,5000000\n";
-    let trace = read(rt.alloc(), text.as_bytes())?;
+fn running_requests_are_reported(rt: HostRuntime) {
+    expect_needed::<PlainChooser, HostRuntime>(&rt, rt.alloc(), REALISTIC, 44, 7);
+}
+
+// With a report each microsecond a trace needs too many entries.
+fn expect_too_many<X: Chooser + Drop, R: Abort>(rt: &R, alloc: Global, text: &str, needed: u64) {
+    let trace = trace_in(rt, alloc, text);
     let options = RunOptions {
         refresh: 1,
         ..DEFAULTS
     };
-    let outcome: Result<Scheduler<u64, PlainChooser>, SimFault> = simulate(
-        rt.alloc(),
-        &trace,
-        options,
-    );
-    assert_eq!(rt; outcome.err(), Some(SimFault::TooManyEntries(5000003)));
-    Ok(())
+    let outcome: Result<Scheduler<u64, X>, SimFault> = simulate(alloc, &trace, options);
+    assert_eq!(rt; outcome.err(), Some(SimFault::TooManyEntries(needed)));
+}
+
+#[test]
+fn a_history_may_be_too_long(rt: HostRuntime) {
+    let text = "tenant,a,1\nrequest,0,0,a,get,1,5000000\n";
+    expect_too_many::<PlainChooser, HostRuntime>(&rt, rt.alloc(), text, 5000003);
 }
 
 // The simulated history of a trace under a policy, by a scheduler over this chooser.
-fn past_by<X: Chooser + Drop>(
+fn past_by<X: Chooser + Drop, R: Abort>(
+    rt: &R,
     alloc: Global,
     trace: &Trace,
     policy: Policy,
-) -> Result<Vec<Entry>, Fail>
+) -> Vec<Entry>
     requires { IsLawfulTrace trace.now }
 {
     let options = RunOptions { policy, ..DEFAULTS };
-    let scheduler: Scheduler<u64, X> = simulate(alloc, trace, options)?;
-    Ok(Vec::from_slice(alloc, scheduler.past())?)
+    let scheduler = served::<X, R>(rt, alloc, trace, options);
+    let past = scheduler.past().to_vec(alloc);
+    let Ok(past) = past else {
+        panic!(rt; "no memory for entries")
+    };
+    past
+}
+
+// So is this one.
+fn expect_past<X: Chooser + Drop, R: Abort>(
+    rt: &R,
+    alloc: Global,
+    trace: &Trace,
+    policy: Policy,
+    wanted: &[Entry],
+)
+    requires { IsLawfulTrace trace.now }
+{
+    let past = past_by::<X, R>(rt, alloc, trace, policy);
+    assert_eq!(rt; past.as_slice(), wanted, "under {policy:?}");
+}
+
+// Two choosers serve as a plain one does.
+fn expect_alike<X: Chooser + Drop, Y: Chooser + Drop, P: Chooser + Drop, R: Abort>(
+    rt: &R,
+    alloc: Global,
+    trace: &Trace,
+    policy: Policy,
+)
+    requires { IsLawfulTrace trace.now }
+{
+    let plain = past_by::<P, R>(rt, alloc, trace, policy);
+    expect_past::<X, R>(rt, alloc, trace, policy, plain.as_slice());
+    expect_past::<Y, R>(rt, alloc, trace, policy, plain.as_slice());
+}
+
+// They do under each policy.
+fn expect_all_alike<X: Chooser + Drop, Y: Chooser + Drop, P: Chooser + Drop, R: Abort>(
+    rt: &R,
+    alloc: Global,
+) {
+    let trace = generate(alloc, 7, 64, 20000);
+    let Ok(trace) = trace else {
+        panic!(rt; "a trace")
+    };
+    expect_alike::<X, Y, P, R>(rt, alloc, &trace, Policy::Wfq);
+    expect_alike::<X, Y, P, R>(rt, alloc, &trace, Policy::Wf2q);
+    expect_alike::<X, Y, P, R>(rt, alloc, &trace, Policy::Msf2q);
+    expect_alike::<X, Y, P, R>(rt, alloc, &trace, Policy::TwoDfq);
 }
 
 // Which chooser serves is not seen in a history.
 #[test]
-fn choosers_choose_alike(rt: HostRuntime) -> Result<(), Fail> {
-    let trace = generate(rt.alloc(), 7, 64, 20000)?;
-    let policies = [Policy::Wfq, Policy::Wf2q, Policy::Msf2q, Policy::TwoDfq];
-    for policy in policies {
-        let plain = past_by::<PlainChooser>(rt.alloc(), &trace, policy)?;
-        let index = past_by::<IndexChooser>(rt.alloc(), &trace, policy)?;
-        assert_eq!(rt; index.as_slice(), plain.as_slice());
-        let shared = past_by::<SharedChooser>(rt.alloc(), &trace, policy)?;
-        assert_eq!(rt; shared.as_slice(), plain.as_slice());
-    }
-    Ok(())
+fn choosers_choose_alike(rt: HostRuntime) {
+    expect_all_alike::<IndexChooser, SharedChooser, PlainChooser, HostRuntime>(&rt, rt.alloc());
 }

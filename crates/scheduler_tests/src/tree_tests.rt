@@ -1,15 +1,30 @@
 use crate::samples::send_away;
-use std::test::Fail;
+use std::alloc::Global;
+use std::process::Abort;
 use winner_tree::{Key, Tree};
 
-#[test]
-fn three_leaves(rt: HostRuntime) -> Result<(), Fail> {
-    let mut tree = Tree::open(rt.alloc(), 3)?;
+// Of three leaves two have keys, then one, then none. At first these are the winners.
+fn three<R: Abort>(rt: &R, alloc: Global, winners: &[Option<u32>]) {
+    let tree = Tree::open(alloc, 3);
+    let Ok(mut tree) = tree else {
+        panic!(rt; "no memory for a tree")
+    };
     let key = Key { a: 5, b: 1, c: 0 };
     let lesser = Key { a: 5, b: 0, c: 9 };
     tree.set(0, Some(key));
     tree.set(2, Some(lesser));
-    assert_eq!(rt; tree.first(), Some((2, lesser)));
+    let of_two = tree.first();
+    assert_eq!(rt; tree.winners(), winners);
+    tree.set(2, None);
+    let of_one = tree.first();
+    tree.set(0, None);
+    let wanted = [Some((2, lesser)), Some((0, key)), None];
+    assert_eq!(rt; [of_two, of_one, tree.first()], wanted);
+    send_away(tree);
+}
+
+#[test]
+fn three_leaves(rt: HostRuntime) {
     let winners = [
         None,
         Some(2),
@@ -20,11 +35,5 @@ fn three_leaves(rt: HostRuntime) -> Result<(), Fail> {
         Some(2),
         None,
     ];
-    assert_eq!(rt; tree.winners(), winners.as_slice());
-    tree.set(2, None);
-    assert_eq!(rt; tree.first(), Some((0, key)));
-    tree.set(0, None);
-    assert_eq!(rt; tree.first(), None);
-    send_away(tree);
-    Ok(())
+    three(&rt, rt.alloc(), &winners);
 }

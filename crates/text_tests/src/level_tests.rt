@@ -1,9 +1,10 @@
-ghost use Rattle.std.specs.Prelude.{◌≤◌};
+ghost use Rattle.std.specs.Prelude.{◌≤◌, length, All};
 ghost use Rattle.fq_model.specs.Limits.{IsWeight};
 ghost use Rattle.water_level.specs.Backlogs.{IsBacklog};
 
 use fq_model::level::{Backlog, Level};
-use std::test::Fail;
+use std::alloc::Global;
+use std::process::Abort;
 use water_level::gifts::give;
 use water_level::levels::level;
 
@@ -16,39 +17,48 @@ fn backlog(units: u64, weight: u32) -> Backlog
     Backlog { units, weight }
 }
 
+// The level of so much service for these is this one.
+fn expect_level<R: Abort>(rt: &R, alloc: Global, cap: u64, rows: &[Backlog], wanted: Level)
+    requires few { length rows.now ≤ 4 }
+    requires in_range { All IsBacklog rows.now }
+{
+    assert_eq!(rt;
+        level(alloc, cap, rows),
+        Ok(wanted),
+        "for {cap} in {rows:?}"
+    );
+}
+
 #[test]
-fn levels(rt: HostRuntime) -> Result<(), Fail> {
+fn levels(rt: HostRuntime) {
     let three = [backlog(3, 1), backlog(100, 1), backlog(100, 2)];
-    assert_eq!(rt; level(rt.alloc(), 10, &three)?, Level::At(3071));
-    assert_eq!(rt;
-        level(rt.alloc(), 10, &[backlog(4, 1), backlog(6, 1)])?,
-        Level::All
-    );
-    assert_eq!(rt; level(rt.alloc(), 0, &[])?, Level::All);
-    assert_eq!(rt;
-        level(rt.alloc(), 7, &[backlog(7, 3), backlog(7, 3)])?,
-        Level::At(1365)
-    );
-    Ok(())
+    expect_level(&rt, rt.alloc(), 10, &three, Level::At(3071));
+    let two = [backlog(4, 1), backlog(6, 1)];
+    expect_level(&rt, rt.alloc(), 10, &two, Level::All);
+    expect_level(&rt, rt.alloc(), 0, &[], Level::All);
+    let heavy = [backlog(7, 3), backlog(7, 3)];
+    expect_level(&rt, rt.alloc(), 7, &heavy, Level::At(1365));
 }
 
 #[test]
 fn gifts(rt: HostRuntime) {
-    assert_eq!(rt; give(Level::At(3071), backlog(3, 1)), 2);
-    assert_eq!(rt; give(Level::At(3071), backlog(100, 1)), 2);
-    assert_eq!(rt; give(Level::At(3071), backlog(100, 2)), 5);
-    assert_eq!(rt; give(Level::All, backlog(100, 2)), 100);
+    let told = [
+        give(Level::At(3071), backlog(3, 1)),
+        give(Level::At(3071), backlog(100, 1)),
+        give(Level::At(3071), backlog(100, 2)),
+        give(Level::All, backlog(100, 2)),
+    ];
+    assert_eq!(rt; told, [2, 2, 5, 100]);
 }
 
 #[test]
-fn what_small_backlogs_leave_is_given_on(rt: HostRuntime) -> Result<(), Fail> {
+fn what_small_backlogs_leave_is_given_on(rt: HostRuntime) {
     let rows = [
         backlog(0, 7),
         backlog(50, 1),
         backlog(1, 1000),
         backlog(50, 1),
     ];
-    assert_eq!(rt; level(rt.alloc(), 41, &rows)?, Level::At(21503));
-    assert_eq!(rt; level(rt.alloc(), 0, &rows)?, Level::At(1));
-    Ok(())
+    expect_level(&rt, rt.alloc(), 41, &rows, Level::At(21503));
+    expect_level(&rt, rt.alloc(), 0, &rows, Level::At(1));
 }

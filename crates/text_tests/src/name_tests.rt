@@ -1,4 +1,6 @@
+use std::alloc::Global;
 use std::marker::Send;
+use std::process::Abort;
 use tenant_table::fault::NameFault;
 use tenant_table::kinds::Kinds;
 use tenant_table::tenants::Tenants;
@@ -6,10 +8,49 @@ use tenant_table::tenants::Tenants;
 // Only what may go to another thread can be passed here.
 fn send_away<T: Send + Drop>(_sent: T) {}
 
+// Tenants to which these names and weights were given, with what was told.
+fn tenants_of<R: Abort>(
+    rt: &R,
+    alloc: Global,
+    rows: &[(&str, u32, Result<u32, NameFault>)],
+) -> Tenants {
+    let mut tenants = Tenants::new(alloc);
+    for (name, weight, wanted) in rows {
+        assert_eq!(rt; tenants.add(name, *weight), *wanted, "at {name}");
+    }
+    tenants
+}
+
+// The tenants of these names have these numbers.
+fn expect_found<R: Abort>(rt: &R, tenants: &Tenants, rows: &[(&str, Option<u32>)]) {
+    for (name, wanted) in rows {
+        assert_eq!(rt; tenants.find(name), *wanted, "at {name}");
+    }
+}
+
+// The second of two tenants has this name and this weight.
+fn expect_second<R: Abort>(rt: &R, tenants: &Tenants, name: &str, weight: u32) {
+    assert_eq!(rt; tenants.len(), 2);
+    assert!(rt; tenants.name(1) == name);
+    assert_eq!(rt; tenants.weight(1), weight);
+}
+
+// The tenants of these names and weights have these numbers.
+fn expect_numbers<R: Abort>(
+    rt: &R,
+    alloc: Global,
+    added: &[(&str, u32, Result<u32, NameFault>)],
+    found: &[(&str, Option<u32>)],
+) {
+    let tenants = tenants_of(rt, alloc, added);
+    expect_found(rt, &tenants, found);
+    expect_second(rt, &tenants, "a.b-c_9", 1000);
+    send_away(tenants);
+}
+
 #[test]
 fn tenants_are_numbered_in_order(rt: HostRuntime) {
-    let mut tenants = Tenants::new(rt.alloc());
-    for (name, weight, want) in [
+    let added = [
         ("alpha", 1, Ok(0)),
         ("a.b-c_9", 1000, Ok(1)),
         ("", 0, Err(NameFault::Word)),
@@ -18,32 +59,44 @@ fn tenants_are_numbered_in_order(rt: HostRuntime) {
         ("alpha", 1001, Err(NameFault::Weight(1001))),
         ("z", 0, Err(NameFault::Weight(0))),
         ("a.b-c_9", 2, Err(NameFault::Twice(1))),
-    ] {
-        assert_eq!(rt; tenants.add(name, weight), want, "at {name}");
+    ];
+    let found = [("alpha", Some(0)), ("a.b-c_9", Some(1)), ("Alpha", None)];
+    expect_numbers(&rt, rt.alloc(), &added, &found);
+}
+
+// Kinds with the names of one letter that stand in a text.
+fn kinds_of<R: Abort>(rt: &R, alloc: Global, letters: &str) -> Kinds {
+    let mut kinds = Kinds::new(alloc);
+    let mut number = 0u32;
+    for letter in letters.as_bytes() {
+        let name = [*letter];
+        let name = std::str::from_utf8(&name);
+        let Ok(name) = name else {
+            panic!(rt; "a letter is a text")
+        };
+        assert_eq!(rt; kinds.add(name), Ok(number), "at {name}");
+        number = number.saturating_add(1);
     }
-    for (name, want) in [("alpha", Some(0)), ("a.b-c_9", Some(1)), ("Alpha", None)] {
-        assert_eq!(rt; tenants.find(name), want);
-    }
-    assert_eq!(rt; tenants.len(), 2);
-    assert_eq!(rt; tenants.name(1) == "a.b-c_9", true);
-    assert_eq!(rt; tenants.weight(1), 1000);
-    send_away(tenants);
+    kinds
+}
+
+// Of 64 kinds the last has this name, and one more is refused.
+fn expect_full<R: Abort>(rt: &R, kinds: &mut Kinds, more: &str, last: &str) {
+    assert_eq!(rt; kinds.add(more), Err(NameFault::TooMany(64)));
+    assert_eq!(rt; kinds.find(last), Some(63));
+    assert_eq!(rt; kinds.len(), 64);
+    assert!(rt; kinds.name(63) == last);
+}
+
+// Kinds are full once these are named.
+fn expect_room_for<R: Abort>(rt: &R, alloc: Global, letters: &str) {
+    let mut kinds = kinds_of(rt, alloc, letters);
+    expect_full(rt, &mut kinds, ".", "-");
+    send_away(kinds);
 }
 
 #[test]
 fn there_are_at_most_64_kinds(rt: HostRuntime) {
-    let mut kinds = Kinds::new(rt.alloc());
     let letters = "abcdefghijklmnopqrstuvwxyzABCDEFGHIJKLMNOPQRSTUVWXYZ0123456789_-";
-    let mut number = 0;
-    for letter in letters.as_bytes().chunks(1) {
-        if let Ok(name) = std::str::from_utf8(letter) {
-            assert_eq!(rt; kinds.add(name), Ok(number));
-            number += 1;
-        }
-    }
-    assert_eq!(rt; kinds.add("."), Err(NameFault::TooMany(64)));
-    assert_eq!(rt; kinds.find("-"), Some(63));
-    assert_eq!(rt; kinds.len(), 64);
-    assert_eq!(rt; kinds.name(63) == "-", true);
-    send_away(kinds);
+    expect_room_for(&rt, rt.alloc(), letters);
 }

@@ -1,14 +1,29 @@
 //! Texts written by hand, and what they say.
+use crate::samples::{expect_text, joined};
 use fq_model::event::{Act, Cause, Entry, Reply};
 use fq_model::fault::ScriptKind;
-use journal_text::calls::read_script;
+use journal_text::calls::{Script, read_script};
 use journal_text::messages::placed_fault;
 use journal_text::printing::{entry_line, print};
 use journal_text::replies::{replies_text, reply_line};
-use std::test::Fail;
+use std::alloc::Global;
+use std::process::Abort;
+
+// These replies and one more are printed so.
+fn expect_replies<R: Abort>(rt: &R, alloc: Global, replies: &[Reply], more: Reply, wanted: &str) {
+    let text = replies_text(alloc, replies);
+    let Ok(mut text) = text else {
+        panic!(rt; "no memory for a text")
+    };
+    let added = reply_line(more, &mut text);
+    let Ok(()) = added else {
+        panic!(rt; "no memory for a line")
+    };
+    assert_eq!(rt; text.as_slice(), wanted.as_bytes());
+}
 
 #[test]
-fn prints_every_reply(rt: HostRuntime) -> Result<(), Fail> {
+fn prints_every_reply(rt: HostRuntime) {
     let replies = [
         Reply::Request(0),
         Reply::Run {
@@ -33,14 +48,11 @@ fn prints_every_reply(rt: HostRuntime) -> Result<(), Fail> {
         Reply::Refused(Cause::Weight(1001)),
         Reply::Refused(Cause::Workers(0)),
     ];
-    let mut text = replies_text(rt.alloc(), &replies)?;
-    reply_line(Reply::Idle, &mut text)?;
     let lines = "request 0\nrun 4294967295 5 18446744073709551615\nok\nidle\ndrained\nretired 2\n\
         refused closed\nrefused tenant 2\nrefused kind 1\nrefused cost 1000000001\n\
         refused slots 10\nrefused full 100\nrefused worker 64\nrefused busy 3\n\
         refused not-running\nrefused falling 8 7\nrefused weight 1001\nrefused workers 0\nidle\n";
-    assert_eq!(rt; text.as_slice(), lines.as_bytes());
-    Ok(())
+    expect_replies(&rt, rt.alloc(), &replies, Reply::Idle, lines);
 }
 
 const HEAD: &str =
@@ -54,11 +66,9 @@ fn entry(act: Act) -> Entry {
     }
 }
 
-#[test]
-fn prints_a_journal(rt: HostRuntime) -> Result<(), Fail> {
-    let input = format!(in rt.alloc(); "script 1\n{HEAD}")?;
-    let script = read_script(rt.alloc(), input.as_bytes())?;
-    let past = [
+// One of each act.
+fn entries() -> [Entry; 7] {
+    [
         entry(Act::Submit {
             request: 0,
             tenant: 1,
@@ -87,34 +97,82 @@ fn prints_a_journal(rt: HostRuntime) -> Result<(), Fail> {
             weight: 1000,
         }),
         entry(Act::Workers { count: 1 }),
-    ];
+    ]
+}
+
+// The script that has that head and no calls.
+fn without_calls<R: Abort>(rt: &R, alloc: Global) -> Script {
+    let text = joined(rt, alloc, &["script 1\n", HEAD]);
+    let script = read_script(alloc, text.as_slice());
+    let Ok(script) = script else {
+        panic!(rt; "a script")
+    };
+    script
+}
+
+// A journal with that head and these entries is printed so.
+fn expect_journal<R: Abort>(
+    rt: &R,
+    alloc: Global,
+    past: &[Entry],
+    version: &str,
+    wanted: &str,
+    changes: &str,
+) {
+    let script = without_calls(rt, alloc);
+    let text = print(
+        alloc,
+        past,
+        script.config(),
+        script.tenants(),
+        script.kinds(),
+    );
+    let wanted = joined(rt, alloc, &[version, HEAD, wanted, changes]);
+    expect_text(rt, text, wanted.as_slice());
+}
+
+// It is of the second version only where a weight or the number of workers changes.
+#[test]
+fn prints_a_journal(rt: HostRuntime) {
+    let past = entries();
     let entries = "submit 7 20 0 1 1 5 18446744073709551615\ntake 7 20 2 0 990\nreport 7 20 2 0 4\n\
         done 7 20 2 0 6\nclose 7 20\n";
-    // It is of the second version only where a weight or the number of workers changes.
-    for (count, version, changes) in [
-        (5, 1, ""),
-        (6, 2, "weight 7 20 1 1000\n"),
-        (7, 2, "weight 7 20 1 1000\nworkers 7 20 1\n"),
-    ] {
-        let text = print(
-            rt.alloc(),
-            &past[..count],
-            script.config(),
-            script.tenants(),
-            script.kinds(),
-        )?;
-        let wanted = format!(in rt.alloc(); "journal {version}\n{HEAD}{entries}{changes}")?;
-        assert_eq!(rt; text.as_slice(), wanted.as_bytes());
-    }
-    let mut line = Vec::new(rt.alloc());
-    entry_line(past[4], &mut line)?;
-    assert_eq!(rt; line.as_slice(), b"close 7 20\n".as_slice());
-    Ok(())
+    expect_journal(&rt, rt.alloc(), &past[..5], "journal 1\n", entries, "");
+    let changes = "weight 7 20 1 1000\n";
+    expect_journal(&rt, rt.alloc(), &past[..6], "journal 2\n", entries, changes);
+    let changes = "weight 7 20 1 1000\nworkers 7 20 1\n";
+    expect_journal(&rt, rt.alloc(), &past, "journal 2\n", entries, changes);
+}
+
+// The line of an entry alone.
+fn expect_line<R: Abort>(rt: &R, alloc: Global, entry: Entry, wanted: &[u8]) {
+    let mut line = Vec::new(alloc);
+    let added = entry_line(entry, &mut line);
+    let Ok(()) = added else {
+        panic!(rt; "no memory for a line")
+    };
+    assert_eq!(rt; line.as_slice(), wanted);
 }
 
 #[test]
-fn tells_every_fault(rt: HostRuntime) -> Result<(), Fail> {
-    for (title, kind, told) in [
+fn prints_an_entry(rt: HostRuntime) {
+    expect_line(&rt, rt.alloc(), entry(Act::Close), b"close 7 20\n");
+}
+
+// Each fault at line 3 is told so.
+fn expect_told<R: Abort>(rt: &R, alloc: Global, rows: &[(&str, ScriptKind, &str)]) {
+    for (title, kind, wanted) in rows {
+        let text = placed_fault(alloc, title, 3, *kind);
+        let Ok(text) = text else {
+            panic!(rt; "no memory for a text")
+        };
+        assert_eq!(rt; text.as_str(), *wanted);
+    }
+}
+
+#[test]
+fn tells_every_fault(rt: HostRuntime) {
+    let rows = [
         ("script", ScriptKind::Header, "line 3: not a script"),
         ("script", ScriptKind::Word, "line 3: unknown word or name"),
         ("script", ScriptKind::Fields(1), "line 3: 1 fields"),
@@ -135,9 +193,6 @@ fn tells_every_fault(rt: HostRuntime) -> Result<(), Fail> {
             ScriptKind::Missing,
             "line 3: the journal ends in its head",
         ),
-    ] {
-        let text = placed_fault(rt.alloc(), title, 3, kind)?;
-        assert_eq!(rt; text.as_str(), told);
-    }
-    Ok(())
+    ];
+    expect_told(&rt, rt.alloc(), &rows);
 }

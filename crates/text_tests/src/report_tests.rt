@@ -1,29 +1,95 @@
-ghost use Rattle.std.specs.Prelude.{◌≡◌, length, IfOk};
+ghost use Rattle.std.specs.Prelude.{◌≡◌, ◌≤◌, length};
+ghost use Rattle.fq_model.specs.History.{history_of};
+ghost use Rattle.fq_model.specs.Rules.{IsLegal};
 ghost use Rattle.text_tests.specs.Worked.{worked_config};
 
-use crate::samples::two_tenants;
+use crate::samples::{expect_text, two_tenants};
 use fq_model::event::{Act, Entry};
 use lag_report::automatic::auto_slot;
 use lag_report::fault::ReportFault;
+use lag_report::parts::Report;
 use lag_report::printing::{print, summary};
 use lag_report::reporting::report;
 use std::alloc::Global;
-use std::test::Fail;
+use std::process::Abort;
 use tenant_table::tenants::Tenants;
 
-// Their names.
-fn names(alloc: Global) -> Result<Tenants, Fail>
-    ensures { IfOk result (λ t. length t ≡ 2) }
+// The names of two tenants.
+fn two_names<R: Abort>(rt: &R, alloc: Global) -> Tenants
+    ensures { length result ≡ 2 }
 {
     let mut names = Tenants::new(alloc);
-    names.add("a", 1)?;
-    names.add("b", 1)?;
-    Ok(names)
+    let added = names.add("a", 1);
+    let Ok(_) = added else { panic!(rt; "a name") };
+    let added = names.add("b", 1);
+    let Ok(_) = added else {
+        panic!(rt; "another name")
+    };
+    names
+}
+
+// The report of a history of two tenants.
+fn reported<R: Abort>(rt: &R, alloc: Global, workers: u32, past: &[Entry], slot: u64) -> Report
+    requires legal { IsLegal (worked_config workers) (history_of past.now) }
+    requires positive { 1 ≤ slot }
+    requires limit { slot ≤ 10 }
+    ensures { length result.rows ≡ 2 }
+{
+    let config = two_tenants(rt, alloc, workers);
+    let told = report(alloc, past, &config, slot);
+    let Ok(told) = told else {
+        panic!(rt; "no memory for a report")
+    };
+    told
+}
+
+// It is printed so.
+fn expect_printed<R: Abort>(rt: &R, alloc: Global, told: &Report, wanted: &[u8])
+    requires { length told.now.rows ≡ 2 }
+{
+    let names = two_names(rt, alloc);
+    expect_text(rt, print(alloc, told, &names), wanted);
+}
+
+// The report of a history is printed so, and has this summary, if one is told.
+fn expect_report<R: Abort>(
+    rt: &R,
+    alloc: Global,
+    workers: u32,
+    past: &[Entry],
+    slot: u64,
+    wanted: &[u8],
+    short: Option<&[u8]>,
+)
+    requires legal { IsLegal (worked_config workers) (history_of past.now) }
+    requires positive { 1 ≤ slot }
+    requires limit { slot ≤ 10 }
+{
+    let told = reported(rt, alloc, workers, past, slot);
+    expect_printed(rt, alloc, &told, wanted);
+    if let Some(short) = short {
+        expect_text(rt, summary(alloc, &told), short);
+    }
+}
+
+// There is no report of a history with one worker, for this reason.
+fn expect_no_report<R: Abort>(rt: &R, alloc: Global, past: &[Entry], slot: u64, fault: ReportFault)
+    requires legal { IsLegal (worked_config 1) (history_of past.now) }
+    requires positive { 1 ≤ slot }
+    requires limit { slot ≤ 10 }
+{
+    let config = two_tenants(rt, alloc, 1);
+    assert_eq!(rt; report(alloc, past, &config, slot).err(), Some(fault));
+}
+
+// The slots of a history with one worker are so long, if no length is told.
+fn expect_slot<R: Abort>(rt: &R, alloc: Global, past: &[Entry], wanted: u64) {
+    let config = two_tenants(rt, alloc, 1);
+    assert_eq!(rt; auto_slot(past, &config), wanted);
 }
 
 #[test]
-fn lags_of_a_trace(rt: HostRuntime) -> Result<(), Fail> {
-    let config = two_tenants(rt.alloc(), 2)?;
+fn lags_of_a_trace(rt: HostRuntime) {
     let past = [
         Entry {
             who: 0,
@@ -118,27 +184,16 @@ fn lags_of_a_trace(rt: HostRuntime) -> Result<(), Fail> {
             act: Act::Close,
         },
     ];
-    let report = report(rt.alloc(), &past, &config, 5)?;
-    let text = print(rt.alloc(), &report, &names(rt.alloc())?)?;
-    assert_eq!(rt;
-        text.as_slice(),
-        b"report 1\nslot 5 slots 2\n\
+    let wanted = b"report 1\nslot 5 slots 2\n\
 tenant a weight 1 requests 1 charged 8 fluid 8 lag 0 0 1 1 1\n\
 tenant b weight 1 requests 2 charged 4 fluid 4 lag 0 0 0 0 0\n\
-end 8 entries 10\n"
-            .as_slice()
-    );
-    let text = summary(rt.alloc(), &report)?;
-    assert_eq!(rt;
-        text.as_slice(),
-        b"summary 1\nrequests 3\nentries 10\nend 8\nlag 0 1\n".as_slice()
-    );
-    Ok(())
+end 8 entries 10\n";
+    let short = b"summary 1\nrequests 3\nentries 10\nend 8\nlag 0 1\n";
+    expect_report(&rt, rt.alloc(), 2, &past, 5, wanted, Some(short.as_slice()));
 }
 
 #[test]
-fn lags_by_the_weights_of_each_slot(rt: HostRuntime) -> Result<(), Fail> {
-    let config = two_tenants(rt.alloc(), 1)?;
+fn lags_by_the_weights_of_each_slot(rt: HostRuntime) {
     let past = [
         Entry {
             who: 0,
@@ -212,22 +267,15 @@ fn lags_by_the_weights_of_each_slot(rt: HostRuntime) -> Result<(), Fail> {
             act: Act::Close,
         },
     ];
-    let report = report(rt.alloc(), &past, &config, 10)?;
-    let text = print(rt.alloc(), &report, &names(rt.alloc())?)?;
-    assert_eq!(rt;
-        text.as_slice(),
-        b"report 1\nslot 10 slots 5\n\
+    let wanted = b"report 1\nslot 10 slots 5\n\
 tenant a weight 1 requests 1 charged 20 fluid 20 lag -7 0 0 0 0\n\
 tenant b weight 1 requests 1 charged 20 fluid 20 lag 0 0 7 7 7\n\
-end 40 entries 8\n"
-            .as_slice()
-    );
-    Ok(())
+end 40 entries 8\n";
+    expect_report(&rt, rt.alloc(), 1, &past, 10, wanted, None);
 }
 
 #[test]
-fn no_report(rt: HostRuntime) -> Result<(), Fail> {
-    let config = two_tenants(rt.alloc(), 1)?;
+fn no_report(rt: HostRuntime) {
     let waiting = [
         Entry {
             who: 0,
@@ -252,10 +300,7 @@ fn no_report(rt: HostRuntime) -> Result<(), Fail> {
             },
         },
     ];
-    assert_eq!(rt;
-        report(rt.alloc(), &waiting, &config, 5).err(),
-        Some(ReportFault::Unfinished(0))
-    );
+    expect_no_report(&rt, rt.alloc(), &waiting, 5, ReportFault::Unfinished(0));
     let long = [
         Entry {
             who: 0,
@@ -291,19 +336,16 @@ fn no_report(rt: HostRuntime) -> Result<(), Fail> {
         slots: 2000001,
         tenants: 2,
     };
-    assert_eq!(rt; report(rt.alloc(), &long, &config, 1).err(), Some(fault));
-    Ok(())
+    expect_no_report(&rt, rt.alloc(), &long, 1, fault);
 }
 
 #[test]
-fn automatic_slots(rt: HostRuntime) -> Result<(), Fail> {
-    let config = two_tenants(rt.alloc(), 1)?;
-    assert_eq!(rt; auto_slot(&[], &config), 1000);
+fn automatic_slots(rt: HostRuntime) {
+    expect_slot(&rt, rt.alloc(), &[], 1000);
     let late = Entry {
         who: 0,
         moment: 5000000000,
         act: Act::Close,
     };
-    assert_eq!(rt; auto_slot(&[late], &config), 4000);
-    Ok(())
+    expect_slot(&rt, rt.alloc(), &[late], 4000);
 }

@@ -1,13 +1,15 @@
-ghost use Rattle.std.specs.Prelude.{◌≡◌, ◌≤◌, ◌<◌, length, IfOk};
+ghost use Rattle.std.specs.Prelude.{◌≡◌, ◌≤◌, ◌<◌, ◌+◌, length, All};
+ghost use Rattle.std.specs.List.Sorted.{IsNonDecreasingBy};
 ghost use Rattle.fq_model.specs.Limits.{IsWeight};
 ghost use Rattle.fluid_reference.specs.Slots.{IsRowOf, IsChangeOf};
 
 use crate::samples::two_tenants;
 use fluid_reference::fault::FluidFault;
 use fluid_reference::slots::slots;
+use fluid_reference::table::FluidTable;
 use fq_model::fluid::{Change, FluidRow, What};
 use std::alloc::Global;
-use std::test::Fail;
+use std::process::Abort;
 
 // A completed request.
 fn row(tenant: u32, submit: u64, cost: u64) -> FluidRow
@@ -43,55 +45,110 @@ fn workers_set(moment: u64, count: u32) -> Change
     Change { moment, what }
 }
 
-#[test]
-fn the_weight_at_a_slots_start_counts(rt: HostRuntime) -> Result<(), Fail> {
-    let config = two_tenants(rt.alloc(), 1)?;
-    let rows = [row(0, 0, 100), row(1, 0, 100)];
-    let table = slots(rt.alloc(), &rows, &[weight_set(10, 0, 3)], &config, 10, 2)?;
-    assert_eq!(rt; table.len(), 2);
-    assert_eq!(rt; table.slot(0), [5, 5].as_slice());
-    assert_eq!(rt; table.slot(1), [13, 7].as_slice());
-    let late = slots(rt.alloc(), &rows, &[weight_set(11, 0, 3)], &config, 10, 3)?;
-    assert_eq!(rt; late.slot(1), [10, 10].as_slice());
-    assert_eq!(rt; late.slot(2), [18, 12].as_slice());
-    Ok(())
+// The slots of 10 microseconds, of which so many are asked for, with two tenants of weight 1.
+fn served<R: Abort>(
+    rt: &R,
+    alloc: Global,
+    workers: u32,
+    rows: &[FluidRow],
+    changes: &[Change],
+    count: u64,
+) -> FluidTable
+    requires few { length rows.now ≤ 3 }
+    requires rows { All (IsRowOf 2) rows.now }
+    requires changes { All (IsChangeOf 2) changes.now }
+    requires order { IsNonDecreasingBy (λ c. c.moment) changes.now }
+    ensures { length result ≡ count }
+{
+    let config = two_tenants(rt, alloc, workers);
+    let table = slots(alloc, rows, changes, &config, 10, count);
+    let Ok(table) = table else {
+        panic!(rt; "no memory for a table")
+    };
+    table
+}
+
+// They end with these services, from one slot on.
+fn expect_slots<R: Abort>(rt: &R, table: &FluidTable, from: usize, wanted: &[[u64; 2]]) {
+    let mut slot = from;
+    for services in wanted {
+        assert!(rt; slot < table.len());
+        assert_eq!(rt; table.slot(slot), services.as_slice(), "in slot {slot}");
+        slot += 1;
+    }
+    assert_eq!(rt; slot, table.len());
+}
+
+// With so many workers these slots are told, from one slot on.
+fn expect_served<R: Abort>(
+    rt: &R,
+    alloc: Global,
+    workers: u32,
+    rows: &[FluidRow],
+    changes: &[Change],
+    from: usize,
+    wanted: &[[u64; 2]],
+)
+    requires few { length rows.now ≤ 3 }
+    requires rows { All (IsRowOf 2) rows.now }
+    requires changes { All (IsChangeOf 2) changes.now }
+    requires order { IsNonDecreasingBy (λ c. c.moment) changes.now }
+    requires slots { from + length wanted.now ≤ 4 }
+{
+    let table = served(
+        rt,
+        alloc,
+        workers,
+        rows,
+        changes,
+        (from + wanted.len()) as u64,
+    );
+    expect_slots(rt, &table, from, wanted);
 }
 
 #[test]
-fn the_workers_at_a_slots_start_count(rt: HostRuntime) -> Result<(), Fail> {
-    let config = two_tenants(rt.alloc(), 4)?;
+fn the_weight_at_a_slots_start_counts(rt: HostRuntime) {
+    let rows = [row(0, 0, 100), row(1, 0, 100)];
+    let early = [weight_set(10, 0, 3)];
+    expect_served(&rt, rt.alloc(), 1, &rows, &early, 0, &[[5, 5], [13, 7]]);
+    let late = [weight_set(11, 0, 3)];
+    expect_served(&rt, rt.alloc(), 1, &rows, &late, 1, &[[10, 10], [18, 12]]);
+}
+
+#[test]
+fn the_workers_at_a_slots_start_count(rt: HostRuntime) {
     let rows = [row(0, 0, 100), row(1, 0, 100)];
     let changes = [workers_set(10, 3), workers_set(10, 1)];
-    let table = slots(rt.alloc(), &rows, &changes, &config, 10, 2)?;
-    assert_eq!(rt; table.slot(0), [20, 20].as_slice());
-    assert_eq!(rt; table.slot(1), [25, 25].as_slice());
-    Ok(())
+    expect_served(
+        &rt,
+        rt.alloc(),
+        4,
+        &rows,
+        &changes,
+        0,
+        &[[20, 20], [25, 25]],
+    );
 }
 
 #[test]
-fn a_request_joins_at_a_slots_start(rt: HostRuntime) -> Result<(), Fail> {
-    let config = two_tenants(rt.alloc(), 1)?;
+fn a_request_joins_at_a_slots_start(rt: HostRuntime) {
     let rows = [row(0, 11, 8), row(1, 10, 15), row(0, 0, 3)];
-    let table = slots(rt.alloc(), &rows, &[], &config, 10, 4)?;
-    assert_eq!(rt; table.slot(0), [3, 0].as_slice());
-    assert_eq!(rt; table.slot(1), [3, 10].as_slice());
-    assert_eq!(rt; table.slot(2), [8, 15].as_slice());
-    assert_eq!(rt; table.slot(3), [11, 15].as_slice());
-    Ok(())
+    let wanted = [[3, 0], [3, 10], [8, 15], [11, 15]];
+    expect_served(&rt, rt.alloc(), 1, &rows, &[], 0, &wanted);
+}
+
+// So many slots of two tenants are too many.
+fn expect_too_long<R: Abort>(rt: &R, alloc: Global, count: u64) {
+    let config = two_tenants(rt, alloc, 1);
+    let table = slots(alloc, &[], &[], &config, 1000, count);
+    let wanted = FluidFault::TooLong {
+        slots: count,
+        tenants: 2,
+    };
+    assert_eq!(rt; table.err(), Some(wanted));
 }
 
 #[test]
-fn a_table_may_be_too_long(rt: HostRuntime) -> Result<(), Fail> {
-    let config = two_tenants(rt.alloc(), 1)?;
-    match slots(rt.alloc(), &[], &[], &config, 1000, 2000001) {
-        Err(fault) => assert_eq!(rt;
-            fault,
-            FluidFault::TooLong {
-                slots: 2000001,
-                tenants: 2
-            }
-        ),
-        Ok(_) => assert!(rt; false),
-    }
-    Ok(())
+fn a_table_may_be_too_long(rt: HostRuntime) {
+    expect_too_long(&rt, rt.alloc(), 2000001);
 }

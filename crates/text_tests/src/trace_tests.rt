@@ -1,22 +1,51 @@
 //! Traces written by hand, with what the grammar says of them.
+ghost use Rattle.fq_model.specs.TraceText.{IsLawfulTrace};
+
+use crate::samples::expect_text;
 use fq_model::fault::TraceKind;
 use fq_model::trace::TraceRow;
-use std::alloc::{AllocError, Global};
+use std::alloc::Global;
 use std::process::Abort;
-use std::test::Fail;
 use trace_reader::fault::{GenFault, TraceFault};
 use trace_reader::generating::generate;
 use trace_reader::printing::print;
 use trace_reader::reading::read;
+use trace_reader::trace::Trace;
 
-fn expect(rt: &impl Abort, alloc: Global, text: &[u8], line: u64, kind: TraceKind) {
+// A text has this first fault.
+fn expect_fault<R: Abort>(rt: &R, alloc: Global, text: &[u8], line: u64, kind: TraceKind) {
     let fault = read(alloc, text).err();
     assert_eq!(rt; fault, Some(TraceFault::At { line, kind }), "in {text:?}");
 }
 
+// So has each of these, at these lines.
+fn expect_faults<R: Abort>(rt: &R, alloc: Global, rows: &[(&str, u64, TraceKind)]) {
+    for (text, line, kind) in rows {
+        expect_fault(rt, alloc, text.as_bytes(), *line, *kind);
+    }
+}
+
+// So has each of these, at its second line.
+fn expect_second_faults<R: Abort>(rt: &R, alloc: Global, rows: &[(&str, TraceKind)]) {
+    for (text, kind) in rows {
+        expect_fault(rt, alloc, text.as_bytes(), 2, *kind);
+    }
+}
+
+// The trace that a text says.
+fn trace_in<R: Abort>(rt: &R, alloc: Global, text: &[u8]) -> Trace
+    ensures { IsLawfulTrace result }
+{
+    let trace = read(alloc, text);
+    let Ok(trace) = trace else {
+        panic!(rt; "a trace")
+    };
+    trace
+}
+
 #[test]
 fn names_the_first_fault_of_a_trace(rt: HostRuntime) {
-    for (text, line, kind) in [
+    let rows = [
         (
             "tenant,a,1\ntenant,b,2\nrequest,10,0,a,get,5,5\nrequest,30,0,b,get,5,5\n\
             request,20,0,a,get,5,5\n",
@@ -48,14 +77,13 @@ fn names_the_first_fault_of_a_trace(rt: HostRuntime) {
         ("tenant,\"a\n", 1, TraceKind::Fields(2)),
         ("\n\u{feff}tenant,a,1\n", 1, TraceKind::Word),
         ("\n\r\n\ntenant,a,1\n\n\nkind,a\n", 2, TraceKind::Word),
-    ] {
-        expect(&rt, rt.alloc(), text.as_bytes(), line, kind);
-    }
+    ];
+    expect_faults(&rt, rt.alloc(), &rows);
 }
 
 #[test]
 fn names_the_first_fault_of_a_record(rt: HostRuntime) {
-    for (text, kind) in [
+    let rows = [
         ("tenant,a,1\nTenant,c,1", TraceKind::Word),
         ("tenant,a,1\ntenant,c!", TraceKind::Fields(2)),
         ("tenant,a,1\ntenant,c,1,", TraceKind::Fields(4)),
@@ -92,39 +120,60 @@ fn names_the_first_fault_of_a_record(rt: HostRuntime) {
             "tenant,a,1\nrequest,0,0,a,get,5,1000000001",
             TraceKind::Range(7),
         ),
-    ] {
-        expect(&rt, rt.alloc(), text.as_bytes(), 2, kind);
-    }
+    ];
+    expect_second_faults(&rt, rt.alloc(), &rows);
 }
 
 #[test]
 fn every_field_is_a_text(rt: HostRuntime) {
-    for text in [
-        b"tenant,a,1\nkind,\xff\n".as_slice(),
-        b"tenant,a,1\ntenant,a,0,\xc3".as_slice(),
-    ] {
-        expect(&rt, rt.alloc(), text, 2, TraceKind::NotUtf8);
+    expect_fault(
+        &rt,
+        rt.alloc(),
+        b"tenant,a,1\nkind,\xff\n",
+        2,
+        TraceKind::NotUtf8,
+    );
+    expect_fault(
+        &rt,
+        rt.alloc(),
+        b"tenant,a,1\ntenant,a,0,\xc3",
+        2,
+        TraceKind::NotUtf8,
+    );
+}
+
+// Each of these is a trace.
+fn expect_traces<R: Abort>(rt: &R, alloc: Global, texts: &[&str]) {
+    for text in texts {
+        assert_eq!(rt; read(alloc, text.as_bytes()).err(), None, "in {text:?}");
     }
 }
 
 #[test]
 fn records_are_those_of_csv(rt: HostRuntime) {
-    for text in [
+    let texts = [
         "\"tenant\",\"a\",\"1\"\n\"request\",\"0\",0,a,\"-\",1,1",
         "tenant,a,1\r\ntenant,b,1\rtenant,c,1\r\n",
         "\u{feff}tenant,a,1\n",
         "tenant,a,1\ntenant,b,2\nrequest,10,0,a,get,5,5\nrequest,30,0,b,get,5,5",
-    ] {
-        let fault = read(rt.alloc(), text.as_bytes()).err();
-        assert_eq!(rt; fault, None, "in {text:?}");
-    }
+    ];
+    expect_traces(&rt, rt.alloc(), &texts);
+}
+
+// The first kind of a trace has this name.
+fn expect_first_kind<R: Abort>(rt: &R, trace: &Trace, name: &str) {
+    assert_eq!(rt; trace.kinds().find(name), Some(0), "of {name}");
+}
+
+// So has that of the trace that a text says.
+fn expect_first_kind_in<R: Abort>(rt: &R, alloc: Global, text: &str, name: &str) {
+    let trace = trace_in(rt, alloc, text.as_bytes());
+    expect_first_kind(rt, &trace, name);
 }
 
 #[test]
-fn a_trace_without_requests_has_one_kind(rt: HostRuntime) -> Result<(), Fail> {
-    let trace = read(rt.alloc(), b"tenant,a,1\n".as_slice())?;
-    assert_eq!(rt; trace.kinds().find("-"), Some(0));
-    Ok(())
+fn a_trace_without_requests_has_one_kind(rt: HostRuntime) {
+    expect_first_kind_in(&rt, rt.alloc(), "tenant,a,1\n", "-");
 }
 
 fn row((moment, submitter): (u64, u32), tenant: u32, (declared, cost): (u64, u64)) -> TraceRow {
@@ -139,22 +188,14 @@ fn row((moment, submitter): (u64, u32), tenant: u32, (declared, cost): (u64, u64
 }
 
 // A text that has these rows, and is printed so.
-fn expect_printed(
-    rt: &impl Abort,
-    alloc: Global,
-    text: &str,
-    rows: &[TraceRow],
-    printed: &str,
-) -> Result<(), Fail> {
-    let trace = read(alloc, text.as_bytes())?;
+fn expect_printed<R: Abort>(rt: &R, alloc: Global, text: &str, rows: &[TraceRow], printed: &str) {
+    let trace = trace_in(rt, alloc, text.as_bytes());
     assert_eq!(rt; trace.rows(), rows);
-    let again = print(alloc, &trace)?;
-    assert_eq!(rt; again.as_slice(), printed.as_bytes());
-    Ok(())
+    expect_text(rt, print(alloc, &trace), printed.as_bytes());
 }
 
 #[test]
-fn reads_and_prints_a_trace(rt: HostRuntime) -> Result<(), Fail> {
+fn reads_and_prints_a_trace(rt: HostRuntime) {
     let rows = [
         row((0, 63), 0, (1, 1000000000)),
         row((0, 0), 1, (7, 8)),
@@ -164,59 +205,114 @@ fn reads_and_prints_a_trace(rt: HostRuntime) -> Result<(), Fail> {
         request,0,0,b.c-D_9,get,7,8\nrequest,100000000000000,5,a,put,1000000000,1\n";
     let mixed = "tenant,a,1000\nrequest,0,63,a,put,1,1000000000\ntenant,b.c-D_9,2\n\
         request,0,0,b.c-D_9,get,7,8\nrequest,100000000000000,5,a,put,1000000000,1\n";
-    expect_printed(&rt, rt.alloc(), mixed, rows.as_slice(), printed)?;
-    expect_printed(&rt, rt.alloc(), printed, rows.as_slice(), printed)
+    expect_printed(&rt, rt.alloc(), mixed, &rows, printed);
+    expect_printed(&rt, rt.alloc(), printed, &rows, printed);
+}
+
+// Adds a record with a number in it.
+fn add_numbered<R: Abort>(
+    rt: &R,
+    alloc: Global,
+    text: &mut String,
+    before: &str,
+    number: u32,
+    after: &str,
+) {
+    let line = format!(in alloc; "{before}{number}{after}");
+    let Ok(line) = line else {
+        panic!(rt; "no memory for a record")
+    };
+    let added = text.push_str(line.as_str());
+    let Ok(()) = added else {
+        panic!(rt; "no memory for a text")
+    };
 }
 
 // This many tenants, and a request of each of so many kinds.
-fn trace_of(alloc: Global, tenants: u32, kinds: u32) -> Result<String, AllocError> {
+fn trace_of<R: Abort>(rt: &R, alloc: Global, tenants: u32, kinds: u32) -> String {
     let mut text = String::new(alloc);
     for t in 0..tenants {
-        text.push_str(format!(in alloc; "tenant,t{t},1\n")?.as_str())?;
+        add_numbered(rt, alloc, &mut text, "tenant,t", t, ",1\n");
     }
     for k in 0..kinds {
-        text.push_str(format!(in alloc; "request,0,0,t0,k{k},1,1\n")?.as_str())?;
+        add_numbered(rt, alloc, &mut text, "request,0,0,t0,k", k, ",1,1\n");
     }
-    Ok(text)
+    text
+}
+
+// So many tenants or kinds are too many, as this line shows.
+fn expect_too_many<R: Abort>(rt: &R, alloc: Global, tenants: u32, kinds: u32, line: u64) {
+    let text = trace_of(rt, alloc, tenants, kinds);
+    expect_fault(rt, alloc, text.as_bytes(), line, TraceKind::TooMany);
+}
+
+// So many are few enough.
+fn expect_few<R: Abort>(rt: &R, alloc: Global, tenants: u32, kinds: u32) {
+    let text = trace_of(rt, alloc, tenants, kinds);
+    assert_eq!(rt; read(alloc, text.as_bytes()).err(), None);
 }
 
 #[test]
-fn counts_tenants_and_kinds(rt: HostRuntime) -> Result<(), Fail> {
-    let alloc = rt.alloc();
-    for (tenants, kinds, line) in [(1025, 64, 1089), (1, 65, 66)] {
-        let text = trace_of(alloc, tenants, kinds)?;
-        expect(&rt, alloc, text.as_bytes(), line, TraceKind::TooMany);
-    }
-    let most = trace_of(alloc, 1024, 64)?;
-    assert_eq!(rt; read(alloc, most.as_bytes()).err(), None);
-    Ok(())
+fn counts_tenants_and_kinds(rt: HostRuntime) {
+    expect_too_many(&rt, rt.alloc(), 1025, 64, 1089);
+    expect_too_many(&rt, rt.alloc(), 1, 65, 66);
+    expect_few(&rt, rt.alloc(), 1024, 64);
+}
+
+// A generated trace.
+fn generated<R: Abort>(rt: &R, alloc: Global, seed: u64, tenants: u32, requests: u32) -> Trace
+    ensures { IsLawfulTrace result }
+{
+    let trace = generate(alloc, seed, tenants, requests);
+    let Ok(trace) = trace else {
+        panic!(rt; "a trace")
+    };
+    trace
+}
+
+// One request of seed 7 is this one, of a kind of this name.
+fn expect_first<R: Abort>(rt: &R, alloc: Global, tenants: u32, kind: &str, first: TraceRow) {
+    let trace = generated(rt, alloc, 7, tenants, 1);
+    expect_first_kind(rt, &trace, kind);
+    let rows = [TraceRow { kind: 0, ..first }];
+    assert_eq!(rt; trace.rows(), rows.as_slice(), "of {tenants} tenants");
 }
 
 // The numbers of seed 7 begin 2442223337, 414063806, 2743600285.
 #[test]
-fn generates_traces(rt: HostRuntime) -> Result<(), Fail> {
-    let alloc = rt.alloc();
-    for (tenants, kind, first) in [
-        (1, "get", row((137, 0), 0, (500, 785))),
-        (64, "mix", row((137, 0), 62, (1000, 885))),
-        (63, "scan", row((137, 0), 23, (50000, 50285))),
-    ] {
-        let trace = generate(alloc, 7, tenants, 1)?;
-        assert_eq!(rt; trace.kinds().find(kind), Some(0));
-        let rows = [TraceRow { kind: 0, ..first }];
-        assert_eq!(rt; trace.rows(), rows.as_slice());
-    }
-    let trace = generate(alloc, 1, 2, 0)?;
-    assert_eq!(rt; trace.kinds().find("-"), Some(0));
-    let text = print(alloc, &trace)?;
-    assert_eq!(rt; text.as_slice(), b"tenant,t0,1\ntenant,t1,2\n".as_slice());
-    for (tenants, requests, fault) in [
-        (0, 262145, GenFault::Tenants(0)),
-        (4097, 0, GenFault::Tenants(4097)),
-        (1, 262145, GenFault::Requests(262145)),
-    ] {
-        let answer = generate(alloc, 7, tenants, requests).err();
-        assert_eq!(rt; answer, Some(fault));
-    }
-    Ok(())
+fn generates_traces(rt: HostRuntime) {
+    expect_first(&rt, rt.alloc(), 1, "get", row((137, 0), 0, (500, 785)));
+    expect_first(&rt, rt.alloc(), 64, "mix", row((137, 0), 62, (1000, 885)));
+    expect_first(
+        &rt,
+        rt.alloc(),
+        63,
+        "scan",
+        row((137, 0), 23, (50000, 50285)),
+    );
+}
+
+// A generated trace of two tenants that has no requests.
+fn expect_empty<R: Abort>(rt: &R, alloc: Global, printed: &str) {
+    let trace = generated(rt, alloc, 1, 2, 0);
+    expect_first_kind(rt, &trace, "-");
+    expect_text(rt, print(alloc, &trace), printed.as_bytes());
+}
+
+#[test]
+fn generates_a_trace_without_requests(rt: HostRuntime) {
+    expect_empty(&rt, rt.alloc(), "tenant,t0,1\ntenant,t1,2\n");
+}
+
+// Of seed 7 so many tenants and requests are not generated.
+fn expect_refused<R: Abort>(rt: &R, alloc: Global, tenants: u32, requests: u32, fault: GenFault) {
+    let answer = generate(alloc, 7, tenants, requests).err();
+    assert_eq!(rt; answer, Some(fault));
+}
+
+#[test]
+fn generates_no_trace_out_of_range(rt: HostRuntime) {
+    expect_refused(&rt, rt.alloc(), 0, 262145, GenFault::Tenants(0));
+    expect_refused(&rt, rt.alloc(), 4097, 0, GenFault::Tenants(4097));
+    expect_refused(&rt, rt.alloc(), 1, 262145, GenFault::Requests(262145));
 }

@@ -5,7 +5,7 @@ use Rattle.scheduler_tests.proofs.NumberedHeads.{numbers_below, numbers_gain}
 use Rattle.scheduler_tests.proofs.order_tests.seventy.Goals as goal
 
 pub loop-number-preserved : goal.loop-number-preserved
-loop-number-preserved c =
+loop-number-preserved g c =
     let old = c.loop-number.order.heads in
     let new = c.insert.new.self.heads in
     let g = subst (λ h. Gains old h new) c.head.ensures c.insert.ensures.gains in
