@@ -37,12 +37,13 @@ said_below reader below = body_of (reader below.version) below.place below.lines
 abbrev pub with_body_lines : {A : Type 0} → Document A → Result (List A) (ℕ × ScriptKind) → Result (Document A) (ℕ × ScriptKind)
 with_body_lines head said = said >>= λ body. Ok (record head { body = body })
 
--- a text that begins like a document, by how the lines of its body are read: the document that it spells, or its first fault
+-- what a text spells, by how the lines of its body are read: a document, or the first fault
 abbrev pub Reads : Type 0 → Type 0
 Reads A = (Version → LineReader A) → Result (Document A) (ℕ × ScriptKind)
 
--- What is read is this head with what stands below it, however the lines of the body are read: so the head has no fault, and no
--- line of the body is left out. The head by itself is a document that a scheduler can be opened with.
+-- What is read is this head with what stands below it, however the lines of the body are read: so the head has no fault, and each
+-- line of the body is there, as far as a way to read lines can tell. The head by itself is a document that a scheduler can be opened
+-- with.
 pub record IsOpened {A : Type 0} (read : Reads A) (head : Document A) (below : Below) : Type 0 where
   pub means : (reader : Version → LineReader A) → read reader ≡ with_body_lines head (said_below reader below)
   pub bodyless : head.body ≡ []
@@ -67,7 +68,7 @@ pub record IsStuck {A : Type 0} (reader : Version → LineReader A) (old : Below
   pub fails : IsFirstFault fault (at_line old.place (reader old.version (words_of line)))
   pub same : new ≡ old
 
--- what reading the next line of a body returns: what the line says, nothing where no line is left, or the line's fault
+-- what reading the next line of a body returns and leaves: what the line says, nothing where no line is left, or the line's fault
 abbrev pub ReadsNext : {A : Type 0} → (Version → LineReader A) → Below → Result (Option A) ScriptFault → Below → Type 0
 ReadsNext reader old (Ok (Some said)) new = SaysFirst reader old said new
 ReadsNext reader old (Ok None) new = (old.lines ≡ []) × (new ≡ old)

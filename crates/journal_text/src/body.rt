@@ -76,8 +76,9 @@ impl<'a, A: Line> Body<'a, A> {
         }
     }
 
-    /// Reads the next line, or names its fault; that line is then still there. Takes memory only for a line of
-    /// more words than any line before it. An answer that memory ran out says no more than that a line is left.
+    /// Reads the next line, or names its fault; after an error the body is as it was. Memory is taken only for a
+    /// line of more words than any line before it. Where it ran out, nothing is said of the line but that it is
+    /// there.
     pub fn read_next(&mut self) -> Result<Option<A>, ScriptFault>
         ensures { ReadsNext A.reader self.old result self.new }
     {

@@ -186,8 +186,8 @@ impl Line for Call {
 /// A script whose head is read, and whose calls are left to be read one at a time.
 pub type OpenScript<'a> = Opened<'a, Call>;
 
-/// Reads the head of a script, up to its last kind, or names the head's first fault. An answer that memory
-/// ran out says nothing of the text.
+/// Reads the head of a script, up to its last kind, or names the head's first fault. A scheduler can be
+/// opened with it. An answer that memory ran out says nothing of the text.
 pub fn open_script<'a>(alloc: Global, bytes: &'a [u8]) -> Result<OpenScript<'a>, ScriptFault>
     ensures ok { IfOk result (λ o. IsOpened (λ reader. document_of (codes "script") reader bytes.now) o.head o.body) }
     ensures fault { IfErr result (λ f.

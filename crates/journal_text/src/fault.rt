@@ -41,7 +41,7 @@ impl From<AllocError> for NoMemory {
 }
 
 impl LineError {
-    /// The same, with the line's number.
+    /// The same, with the line's number where it is a fault; that memory ran out has no line.
     pub fn at(self, line: u64) -> ScriptFault
         ensures { result ≡ fault_at line self }
     {

@@ -57,7 +57,7 @@ pub fn add_journal(
     Ok(added?)
 }
 
-// Appends the lines below the first. Where memory runs out, it may be a part.
+// Appends the lines below the first. Where memory runs out, what stood there stands still, perhaps with more after it.
 fn add_below(
     alloc: Global,
     past: &[Entry],
@@ -106,7 +106,7 @@ fn is_change(act: Act) -> bool
     matches!(act, Act::Weight { .. } | Act::Workers { .. })
 }
 
-// Appends the lines between the first and the entries. Where memory runs out, a part of them stays, as in what it calls.
+// Appends the lines between the first and the entries; like what it calls, it keeps what stood there.
 fn add_head(
     alloc: Global,
     config: &Checked,

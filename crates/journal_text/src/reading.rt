@@ -271,8 +271,9 @@ fn read_draft<'a, A: Line>(
     })
 }
 
-/// Reads the head of a document, up to its last kind, or names the head's first fault; no line of the body
-/// is looked at but the first one's first word. An answer that memory ran out says nothing of the text.
+/// Reads the head of a document, up to its last kind, or names the head's first fault. No line of the body
+/// is read; the first is split into its words, since its first word ends the head. An answer that memory
+/// ran out says nothing of the text.
 pub fn open_document<'a, A: Line>(
     alloc: Global,
     bytes: &'a [u8],

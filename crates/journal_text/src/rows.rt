@@ -21,7 +21,8 @@ pub fn add_row(word: &str, numbers: &[u64], text: &mut Vec<u8>) -> Result<(), Al
     added
 }
 
-/// Appends the rest of a line: numbers, each after a space. Where memory runs out, it may be a part.
+/// Appends the rest of a line: numbers, each after a space. Where memory runs out, what stood there stands still,
+/// perhaps with more after it.
 pub fn add_numbers(numbers: &[u64], text: &mut Vec<u8>) -> Result<(), AllocError>
     ensures added { OnOk result (text.new.items ≡ text.old.items ++ numbers_text numbers.now) }
     ensures kept { IsKept text.old.items text.new.items }

@@ -5,10 +5,10 @@ ghost use Rattle.command_texts.specs.Commands.{Untold};
 ghost use Rattle.twodfq_main.specs.Asked.{asked, is_plain};
 ghost use Rattle.twodfq_main.specs.Laws.{AreOutputsShorter};
 
-use crate::samples::{REPLIES, SCRIPT};
+use crate::samples::{REPLIES, SCRIPT, bytes_of, owned};
 use fq_io::{CleanSink, CleanSource};
 use std::alloc::Global;
-use std::test::Fail;
+use std::process::Abort;
 use twodfq_main::program::plain;
 
 // Where the sink has more room than the output has bytes, neither reading nor writing can fail.
@@ -30,14 +30,27 @@ fn clean_run(
     status
 }
 
-#[test]
-fn memory_never_fails(rt: HostRuntime) -> Result<(), Fail> {
-    let words = [String::from_str(rt.alloc(), "script")?];
-    let mut source = CleanSource::new(SCRIPT.as_bytes().to_vec(rt.alloc())?);
-    let mut sink = CleanSink::with_room(rt.alloc(), 1000)?;
-    let mut errs = CleanSink::with_room(rt.alloc(), 1000)?;
-    let status = plain(rt.alloc(), &words, &mut source, &mut sink, &mut errs);
+// A sink with room for 1000 bytes.
+fn sink_of<R: Abort>(rt: &R, alloc: Global) -> CleanSink {
+    let sink = CleanSink::with_room(alloc, 1000);
+    let Ok(sink) = sink else {
+        panic!(rt; "no memory for a sink")
+    };
+    sink
+}
+
+// The script is served so.
+fn serve<R: Abort>(rt: &R, alloc: Global) {
+    let words = owned(rt, alloc, &["script"]);
+    let mut source = CleanSource::new(bytes_of(rt, alloc, SCRIPT));
+    let mut sink = sink_of(rt, alloc);
+    let mut errs = sink_of(rt, alloc);
+    let status = plain(alloc, words.as_slice(), &mut source, &mut sink, &mut errs);
     assert_eq!(rt; status, 0);
     assert_eq!(rt; sink.bytes(), REPLIES.as_bytes());
-    Ok(())
+}
+
+#[test]
+fn memory_never_fails(rt: HostRuntime) {
+    serve(&rt, rt.alloc());
 }

@@ -1,9 +1,10 @@
 //! Inputs that are cut off at any byte, and one that is too long.
-use crate::samples::{NEVER, RUN, SCRIPT, TRACE, expect_stop, run, sink_failing, source_failing};
+use crate::samples::{
+    NEVER, RUN, SCRIPT, TRACE, expect_stop, joined, run, run_failing, sink_failing,
+};
 use fq_io::MemSource;
 use std::alloc::Global;
 use std::process::Abort;
-use std::test::Fail;
 
 // What is told of the front parts of the script, the empty one first: each line says it of those that are longer than
 // the line before it says, up to its own number of bytes.
@@ -126,67 +127,84 @@ const FRONTS_OF_TRACE: &str = "\
 ";
 
 // Of this input it is told that it is accepted, or else this fault, and then nothing is written.
-fn check(
-    rt: &impl Abort,
-    alloc: Global,
-    words: &str,
-    input: &str,
-    wanted: &str,
-) -> Result<(), Fail> {
-    let source = source_failing(alloc, input, NEVER)?;
-    let (written, told) = (sink_failing(alloc, NEVER)?, sink_failing(alloc, NEVER)?);
-    let left = run(alloc, words, source, written, told)?;
+fn check<R: Abort>(rt: &R, alloc: Global, words: &str, input: &str, wanted: &str) {
+    let left = run_failing(rt, alloc, words, input, NEVER, NEVER);
     let length = input.len() as u64;
     if wanted == "accepted" {
         assert_eq!(rt; left.status, 0, "at {length}");
         assert_eq!(rt; left.told.bytes(), b"".as_slice(), "at {length}");
-        return Ok(());
+        return;
     }
-    let message = format!(in alloc; "twodfq: {wanted}\n")?;
+    let message = joined(rt, alloc, &["twodfq: ", wanted, "\n"]);
     expect_stop(rt, &left, 3, message.as_str(), length);
-    Ok(())
+}
+
+// So it is told of the front parts of the input from `next` to `last` bytes.
+fn check_fronts<R: Abort>(
+    rt: &R,
+    alloc: Global,
+    words: &str,
+    input: &str,
+    next: usize,
+    last: usize,
+    wanted: &str,
+) {
+    for length in next..=last {
+        let Some(front) = input.get(..length) else {
+            panic!(rt; "a row past the input")
+        };
+        check(rt, alloc, words, front, wanted);
+    }
+}
+
+// A row of a table: up to how many bytes it says so, and what it says.
+fn row_of<'a, R: Abort>(rt: &R, row: &'a str) -> (usize, &'a str) {
+    let Some((last, wanted)) = row.split_once(' ') else {
+        panic!(rt; "a row of one word")
+    };
+    let last = last.parse::<usize>();
+    let Ok(last) = last else {
+        panic!(rt; "a row without a number")
+    };
+    (last, wanted)
 }
 
 // Each front part of the input, the empty one and the whole among them, is told of as the table says.
-fn cut(rt: &impl Abort, alloc: Global, words: &str, input: &str, table: &str) -> Result<(), Fail> {
+fn cut<R: Abort>(rt: &R, alloc: Global, words: &str, input: &str, table: &str) {
     let mut next: usize = 0;
     for row in table.lines() {
-        let (last, wanted) = row.split_once(' ').ok_or("a row of one word")?;
-        let last: usize = last.parse()?;
-        for length in next..=last {
-            let front = input.get(..length).ok_or("a row past the input")?;
-            check(rt, alloc, words, front, wanted)?;
-        }
+        let (last, wanted) = row_of(rt, row);
+        check_fronts(rt, alloc, words, input, next, last, wanted);
         next = last.saturating_add(1);
     }
     assert_eq!(rt; next, input.len() + 1);
-    Ok(())
 }
 
 #[test]
-fn inputs_are_cut_off(rt: HostRuntime) -> Result<(), Fail> {
-    cut(&rt, rt.alloc(), "script", SCRIPT, FRONTS_OF_SCRIPT)?;
-    cut(&rt, rt.alloc(), RUN, TRACE, FRONTS_OF_TRACE)
+fn inputs_are_cut_off(rt: HostRuntime) {
+    cut(&rt, rt.alloc(), "script", SCRIPT, FRONTS_OF_SCRIPT);
+    cut(&rt, rt.alloc(), RUN, TRACE, FRONTS_OF_TRACE);
 }
 
 // A script of so many spaces is refused, and this is told.
-fn refuses_spaces(rt: &impl Abort, alloc: Global, count: usize, message: &str) -> Result<(), Fail> {
-    let bytes = vec![in alloc; b' '; count]?;
+fn refuses_spaces<R: Abort>(rt: &R, alloc: Global, count: usize, message: &str) {
+    let bytes = vec![in alloc; b' '; count];
+    let Ok(bytes) = bytes else {
+        panic!(rt; "no memory for an input")
+    };
     let source = MemSource::new(bytes, 4096, Vec::new(alloc));
-    let (written, told) = (sink_failing(alloc, NEVER)?, sink_failing(alloc, NEVER)?);
-    let left = run(alloc, "script", source, written, told)?;
+    let left = run(rt, alloc, "script", source, sink_failing(rt, alloc, NEVER));
     expect_stop(rt, &left, 3, message, count as u64);
-    Ok(())
 }
 
 // The longest input that is read whole, and one that is a byte longer.
 #[test]
-fn inputs_are_long(rt: HostRuntime) -> Result<(), Fail> {
-    refuses_spaces(&rt, rt.alloc(), 67108864, "twodfq: line 1: not a script\n")?;
+fn inputs_are_long(rt: HostRuntime) {
+    refuses_spaces(&rt, rt.alloc(), 67108864, "twodfq: line 1: not a script\n");
     refuses_spaces(
         &rt,
         rt.alloc(),
         67108865,
         "twodfq: input longer than 67108864 bytes\n",
-    )
+    );
 }

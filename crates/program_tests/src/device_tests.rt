@@ -1,10 +1,11 @@
 //! Devices that fail at any one of their calls.
 use crate::samples::{
-    NEVER, REPLIES, RUN, SCRIPT, TRACE, expect_stop, run, sink_failing, source_failing,
+    Left, NEVER, REPLIES, RUN, SCRIPT, TRACE, expect_part, expect_stop, expect_written,
+    run_failing, sink_failing, source_failing, words_of,
 };
 use std::alloc::Global;
 use std::process::Abort;
-use std::test::Fail;
+use twodfq_main::program::plain;
 
 const SIMULATED: &str =
     "journal 1\nconfig 2 2dfq declared 1000 10 3\ntenant a 1\ntenant b 1\nkind scan\nkind get\n\
@@ -14,97 +15,71 @@ const SIMULATED: &str =
     tenant b weight 1 requests 2 charged 4 fluid 4 lag 0 0 0 0 0\nend 8 entries 10\n";
 
 // The output takes so many writes of 4 bytes. Where one of them fails, what the earlier ones took stays written.
-fn writes_fail(
-    rt: &impl Abort,
+fn writes_fail<R: Abort>(
+    rt: &R,
     alloc: Global,
     words: &str,
     input: &str,
     output: &str,
     writes: u32,
-) -> Result<(), Fail> {
+) {
     for call in 0..writes {
-        let source = source_failing(alloc, input, NEVER)?;
-        let told = sink_failing(alloc, NEVER)?;
-        let left = run(
-            alloc,
-            words,
-            source,
-            sink_failing(alloc, call as u64)?,
-            told,
-        )?;
-        assert_eq!(rt; left.status, 5, "{words}, failing write {call}");
-        assert_eq!(rt; left.written.bytes().len() as u64, 4 * call as u64);
-        assert_eq!(rt; output.as_bytes().starts_with(left.written.bytes()), true);
-        assert_eq!(rt; left.told.bytes(), b"twodfq: writing failed\n".as_slice());
+        let left = run_failing(rt, alloc, words, input, NEVER, call as u64);
+        expect_part(rt, &left, output, 4 * call as u64);
     }
-    let source = source_failing(alloc, input, NEVER)?;
-    let told = sink_failing(alloc, NEVER)?;
-    let left = run(
-        alloc,
-        words,
-        source,
-        sink_failing(alloc, writes as u64)?,
-        told,
-    )?;
-    assert_eq!(rt; left.status, 0, "{words}");
-    assert_eq!(rt; left.written.bytes(), output.as_bytes());
-    assert_eq!(rt; left.told.bytes(), b"".as_slice());
-    Ok(())
+    let left = run_failing(rt, alloc, words, input, NEVER, writes as u64);
+    expect_written(rt, &left, output);
 }
 
 #[test]
-fn each_write_fails(rt: HostRuntime) -> Result<(), Fail> {
-    for (words, input, output, writes) in [
-        ("script", SCRIPT, REPLIES, 14),
-        (RUN, TRACE, SIMULATED, 103),
-        (
-            "gen --seed 1 --tenants 2 --requests 0",
-            "",
-            "tenant,t0,1\ntenant,t1,2\n",
-            6,
-        ),
-    ] {
-        writes_fail(&rt, rt.alloc(), words, input, output, writes)?;
-    }
-    Ok(())
+fn each_write_fails(rt: HostRuntime) {
+    writes_fail(&rt, rt.alloc(), "script", SCRIPT, REPLIES, 14);
+    writes_fail(&rt, rt.alloc(), RUN, TRACE, SIMULATED, 103);
+    let words = "gen --seed 1 --tenants 2 --requests 0";
+    writes_fail(&rt, rt.alloc(), words, "", "tenant,t0,1\ntenant,t1,2\n", 6);
 }
 
 // The input takes so many reads of 16 bytes, the last of which finds its end.
-fn reads_fail(
-    rt: &impl Abort,
-    alloc: Global,
-    words: &str,
-    input: &str,
-    reads: u32,
-) -> Result<(), Fail> {
+fn reads_fail<R: Abort>(rt: &R, alloc: Global, words: &str, input: &str, reads: u32) {
     for call in 0..reads {
-        let source = source_failing(alloc, input, call as u64)?;
-        let (written, told) = (sink_failing(alloc, NEVER)?, sink_failing(alloc, NEVER)?);
-        let left = run(alloc, words, source, written, told)?;
+        let left = run_failing(rt, alloc, words, input, call as u64, NEVER);
         expect_stop(rt, &left, 4, "twodfq: reading failed\n", call as u64);
     }
-    let source = source_failing(alloc, input, reads as u64)?;
-    let (written, told) = (sink_failing(alloc, NEVER)?, sink_failing(alloc, NEVER)?);
-    let left = run(alloc, words, source, written, told)?;
+    let left = run_failing(rt, alloc, words, input, reads as u64, NEVER);
     assert_eq!(rt; left.status, 0, "{words}");
-    Ok(())
 }
 
 #[test]
-fn each_read_fails(rt: HostRuntime) -> Result<(), Fail> {
-    reads_fail(&rt, rt.alloc(), "script", SCRIPT, 12)?;
-    reads_fail(&rt, rt.alloc(), RUN, TRACE, 7)
+fn each_read_fails(rt: HostRuntime) {
+    reads_fail(&rt, rt.alloc(), "script", SCRIPT, 12);
+    reads_fail(&rt, rt.alloc(), RUN, TRACE, 7);
+}
+
+// A run of a trace whose last row comes too early, where nothing can be told.
+fn run_untold<R: Abort>(rt: &R, alloc: Global) -> Left {
+    let trace = "tenant,a,1\ntenant,b,2\nrequest,10,0,a,get,5,5\nrequest,30,0,b,get,5,5\n\
+        request,20,0,a,get,5,5\n";
+    let words = words_of(rt, alloc, "run");
+    let mut source = source_failing(rt, alloc, trace, NEVER);
+    let mut written = sink_failing(rt, alloc, NEVER);
+    let mut told = sink_failing(rt, alloc, 0);
+    let status = plain(
+        alloc,
+        words.as_slice(),
+        &mut source,
+        &mut written,
+        &mut told,
+    );
+    Left {
+        status,
+        written,
+        told,
+    }
 }
 
 // Where the message can't be told, the status stays that of the fault that it names.
 #[test]
-fn telling_fails(rt: HostRuntime) -> Result<(), Fail> {
-    let trace = "tenant,a,1\ntenant,b,2\nrequest,10,0,a,get,5,5\nrequest,30,0,b,get,5,5\n\
-        request,20,0,a,get,5,5\n";
-    let source = source_failing(rt.alloc(), trace, NEVER)?;
-    let written = sink_failing(rt.alloc(), NEVER)?;
-    let told = sink_failing(rt.alloc(), 0)?;
-    let left = run(rt.alloc(), "run", source, written, told)?;
+fn telling_fails(rt: HostRuntime) {
+    let left = run_untold(&rt, rt.alloc());
     expect_stop(&rt, &left, 3, "", 5);
-    Ok(())
 }

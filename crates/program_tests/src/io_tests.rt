@@ -1,64 +1,122 @@
 //! Sources, sinks and the clock that stands, one call after the other.
+use crate::samples::{bytes_of, sink_with_room, source_of};
 use fq_io::{
-    CleanSink, CleanSource, Clock, FixedClock, MemSink, MemSource, ReadAllFault, StdSink,
-    StdSource, WriteFault, read_all, write_all,
+    CleanSink, CleanSource, Clock, FixedClock, ReadAllFault, Sink, Source, StdSink, StdSource,
+    WriteFault, read_all, write_all,
 };
+use std::alloc::Global;
 use std::io::{self, ErrorKind, Read, Write};
-use std::test::Fail;
+use std::process::Abort;
+
+// A source is read to its end so.
+fn expect_read<S: Source, R: Abort>(
+    rt: &R,
+    alloc: Global,
+    source: &mut S,
+    limit: u64,
+    wanted: &[u8],
+) {
+    let all = read_all(alloc, source, limit);
+    let Ok(all) = all else {
+        panic!(rt; "a whole source")
+    };
+    assert_eq!(rt; all.as_slice(), wanted);
+}
+
+// A source is not read to its end, for this reason.
+fn expect_fault<S: Source, R: Abort>(
+    rt: &R,
+    alloc: Global,
+    source: &mut S,
+    limit: u64,
+    fault: ReadAllFault,
+) {
+    assert_eq!(rt; read_all(alloc, source, limit).err(), Some(fault));
+}
 
 // Each is read in pieces of 4 bytes: calls 0 to 2 give bytes, and call 3 finds the end.
-#[test]
-fn reading_in_pieces(rt: HostRuntime) -> Result<(), Fail> {
-    for (fail, limit, want) in [
-        (9, 10, None),
-        (9, 9, Some(ReadAllFault::TooLong(9))),
-        (3, 10, Some(ReadAllFault::ReadFault)),
-    ] {
-        let bytes = b"abcdefghij".to_vec(rt.alloc())?;
-        let mut source = MemSource::new(bytes, 4, vec![in rt.alloc(); fail]?);
-        assert_eq!(rt; read_all(rt.alloc(), &mut source, limit).err(), want);
-    }
-    Ok(())
+fn read_in_pieces<R: Abort>(rt: &R, alloc: Global) {
+    let all = "abcdefghij";
+    expect_read(
+        rt,
+        alloc,
+        &mut source_of(rt, alloc, all, 4, 9),
+        10,
+        all.as_bytes(),
+    );
+    let long = ReadAllFault::TooLong(9);
+    expect_fault(rt, alloc, &mut source_of(rt, alloc, all, 4, 9), 9, long);
+    let broken = ReadAllFault::ReadFault;
+    expect_fault(rt, alloc, &mut source_of(rt, alloc, all, 4, 3), 10, broken);
 }
 
 #[test]
-fn writing_in_pieces(rt: HostRuntime) -> Result<(), Fail> {
-    for (room, fail, want, written) in [
-        (7, 9, Ok(()), "abcdefg"),
-        (6, 9, Err(WriteFault), "abcdef"),
-        (7, 1, Err(WriteFault), "abcd"),
-    ] {
-        let mut sink = MemSink::new(rt.alloc(), room, 4, vec![in rt.alloc(); fail]?)?;
-        assert_eq!(rt; write_all(&mut sink, b"abcdefg"), want);
-        assert_eq!(rt;
-            sink.bytes(),
-            written.as_bytes(),
-            "room {room}, failing at {fail}"
-        );
-    }
-    Ok(())
+fn reading_in_pieces(rt: HostRuntime) {
+    read_in_pieces(&rt, rt.alloc());
+}
+
+// Of these bytes so many are written in pieces of 4 to a sink with this room, where the call of this number fails.
+fn expect_written<R: Abort>(
+    rt: &R,
+    alloc: Global,
+    room: usize,
+    fail: u64,
+    wanted: Result<(), WriteFault>,
+    written: &str,
+) {
+    let mut sink = sink_with_room(rt, alloc, room, 4, fail);
+    assert_eq!(rt; write_all(&mut sink, b"abcdefg"), wanted);
+    assert_eq!(rt;
+        sink.bytes(),
+        written.as_bytes(),
+        "room {room}, failing at {fail}"
+    );
 }
 
 #[test]
-fn clean_source_gives_all(rt: HostRuntime) -> Result<(), Fail> {
-    let mut source = CleanSource::new(b"abc".to_vec(rt.alloc())?);
-    let all = read_all(rt.alloc(), &mut source, 3)?;
-    assert_eq!(rt; all.as_slice(), b"abc".as_slice());
-    Ok(())
+fn writing_in_pieces(rt: HostRuntime) {
+    expect_written(&rt, rt.alloc(), 7, 9, Ok(()), "abcdefg");
+    expect_written(&rt, rt.alloc(), 6, 9, Err(WriteFault), "abcdef");
+    expect_written(&rt, rt.alloc(), 7, 1, Err(WriteFault), "abcd");
+}
+
+// A source that never fails.
+fn read_clean<R: Abort>(rt: &R, alloc: Global) {
+    let mut source = CleanSource::new(bytes_of(rt, alloc, "abc"));
+    expect_read(rt, alloc, &mut source, 3, b"abc");
 }
 
 #[test]
-fn clean_sink_fails_where_it_is_full(rt: HostRuntime) -> Result<(), Fail> {
-    let mut sink = CleanSink::with_room(rt.alloc(), 4)?;
-    for (text, want, written) in [
-        ("abc", Ok(()), "abc"),
-        ("de", Err(WriteFault), "abcd"),
-        ("", Ok(()), "abcd"),
-    ] {
-        assert_eq!(rt; write_all(&mut sink, text.as_bytes()), want);
-        assert_eq!(rt; sink.bytes(), written.as_bytes(), "after {text}");
-    }
-    Ok(())
+fn clean_source_gives_all(rt: HostRuntime) {
+    read_clean(&rt, rt.alloc());
+}
+
+// A text is written so, and then all of this has been.
+fn expect_told<R: Abort>(
+    rt: &R,
+    sink: &mut CleanSink,
+    text: &str,
+    wanted: Result<(), WriteFault>,
+    written: &str,
+) {
+    assert_eq!(rt; write_all(sink, text.as_bytes()), wanted);
+    assert_eq!(rt; sink.bytes(), written.as_bytes(), "after {text}");
+}
+
+// A sink of four bytes that fails only where it is full.
+fn fill_clean<R: Abort>(rt: &R, alloc: Global) {
+    let sink = CleanSink::with_room(alloc, 4);
+    let Ok(mut sink) = sink else {
+        panic!(rt; "no memory for a sink")
+    };
+    expect_told(rt, &mut sink, "abc", Ok(()), "abc");
+    expect_told(rt, &mut sink, "de", Err(WriteFault), "abcd");
+    expect_told(rt, &mut sink, "", Ok(()), "abcd");
+}
+
+#[test]
+fn clean_sink_fails_where_it_is_full(rt: HostRuntime) {
+    fill_clean(&rt, rt.alloc());
 }
 
 // A pipe whose other end is gone, seen at each read and at each flush.
@@ -81,33 +139,42 @@ impl Write for Broken {
     }
 }
 
-#[test]
-fn reader_of_std(rt: HostRuntime) -> Result<(), Fail> {
-    let mut source = StdSource::new(b"abc".as_slice());
-    let all = read_all(rt.alloc(), &mut source, 3)?;
-    assert_eq!(rt; all.as_slice(), b"abc".as_slice());
-    let failed = read_all(rt.alloc(), &mut StdSource::new(Broken), 3);
-    assert_eq!(rt; failed.err(), Some(ReadAllFault::ReadFault));
-    Ok(())
+// A reader of std, and one that is broken.
+fn read_std<R: Abort>(rt: &R, alloc: Global) {
+    expect_read(rt, alloc, &mut StdSource::new(b"abc".as_slice()), 3, b"abc");
+    let broken = ReadAllFault::ReadFault;
+    expect_fault(rt, alloc, &mut StdSource::new(Broken), 3, broken);
 }
 
 #[test]
-fn writer_of_std(rt: HostRuntime) -> Result<(), Fail> {
-    let mut out = Vec::new(rt.alloc());
-    let mut sink = StdSink::new(&mut out);
-    assert_eq!(rt; write_all(&mut sink, b"abc"), Ok(()));
-    assert_eq!(rt; out.as_slice(), b"abc".as_slice());
+fn reader_of_std(rt: HostRuntime) {
+    read_std(&rt, rt.alloc());
+}
 
-    // A writer that is full takes nothing, which is a fault.
+// Three bytes are written to this sink so.
+fn expect_abc<W: Sink, R: Abort>(rt: &R, sink: &mut W, wanted: Result<(), WriteFault>) {
+    assert_eq!(rt; write_all(sink, b"abc"), wanted);
+}
+
+// A list takes all.
+fn write_to_list<R: Abort>(rt: &R, alloc: Global) {
+    let mut out = Vec::new(alloc);
+    expect_abc(rt, &mut StdSink::new(&mut out), Ok(()));
+    assert_eq!(rt; out.as_slice(), b"abc".as_slice());
+}
+
+// A writer that is full takes nothing, which is a fault.
+fn write_to_two_bytes<R: Abort>(rt: &R) {
     let mut room = [0u8; 2];
-    let mut short = StdSink::new(room.as_mut_slice());
-    assert_eq!(rt; write_all(&mut short, b"abc"), Err(WriteFault));
+    expect_abc(rt, &mut StdSink::new(room.as_mut_slice()), Err(WriteFault));
     assert_eq!(rt; room, *b"ab");
-    assert_eq!(rt;
-        write_all(&mut StdSink::new(Broken), b"abc"),
-        Err(WriteFault)
-    );
-    Ok(())
+}
+
+#[test]
+fn writer_of_std(rt: HostRuntime) {
+    write_to_list(&rt, rt.alloc());
+    write_to_two_bytes(&rt);
+    expect_abc(&rt, &mut StdSink::new(Broken), Err(WriteFault));
 }
 
 fn is_shared<T: Sync>(_: &T) {}

@@ -1,13 +1,14 @@
 //! A trace that a pool of threads serves, at least two of them at once.
-use crate::worked_tests::{sink, source_of};
-use fq_io::Clock;
+use crate::samples::{TRACE, words_of};
+use crate::worked_tests::{sound_sink, sound_source};
+use fq_io::{Clock, MemSink};
+use std::alloc::Global;
+use std::process::Abort;
+use std::sync::Wait;
 use std::sync::atomic::{AtomicU64, Ordering};
-use std::test::Fail;
+use std::thread::Threads;
 use std::{str, thread};
 use twodfq_main::program::twodfq;
-
-const TRACE: &str =
-    "tenant,a,1\ntenant,b,1\nrequest,0,0,a,scan,8,8\nrequest,0,0,b,get,2,2\nrequest,0,1,b,get,2,2\n";
 
 // The journal's lines before its entries.
 const HEAD: &str =
@@ -50,23 +51,20 @@ fn told(line: &str) -> (Option<&str>, Option<&str>) {
     (moment, cost)
 }
 
-#[test]
-fn pool_serves_a_trace(rt: HostRuntime) -> Result<(), Fail> {
-    let mut words = Vec::new(rt.alloc());
-    for word in "live --workers 2 --refresh 0 --print journal".split(' ') {
-        words.push(word.to_string(rt.alloc())?)?;
-    }
-    let mut source = source_of(rt.alloc(), TRACE)?;
-    let mut written = sink(rt.alloc())?;
-    let mut messages = sink(rt.alloc())?;
+// What a pool of two threads writes where it serves the trace under a clock that sees whether two calls met.
+fn serve<T: Abort + Wait + Threads + Sync>(rt: &T, alloc: Global) -> MemSink {
+    let words = words_of(rt, alloc, "live --workers 2 --refresh 0 --print journal");
+    let mut source = sound_source(rt, alloc, TRACE);
+    let mut written = sound_sink(rt, alloc);
+    let mut messages = sound_sink(rt, alloc);
     let clock = MeetingClock {
         asked: AtomicU64::new(0),
         missed: AtomicU64::new(0),
     };
     let status = twodfq(
-        &rt,
-        rt.alloc(),
-        &words,
+        rt,
+        alloc,
+        words.as_slice(),
         &mut source,
         &mut written,
         &mut messages,
@@ -74,9 +72,11 @@ fn pool_serves_a_trace(rt: HostRuntime) -> Result<(), Fail> {
     );
     assert_eq!(rt; status, 0);
     assert_eq!(rt; clock.missed.load(Ordering::SeqCst), 0);
-    let journal = str::from_utf8(written.bytes())?;
-    assert_eq!(rt; journal.starts_with(HEAD), true);
-    assert_eq!(rt; journal.lines().count(), 16);
+    written
+}
+
+// Each entry stands at 7, and the rows are done at their costs: one at 8, and two at 2.
+fn expect_entries<R: Abort>(rt: &R, journal: &str) {
     let (mut of_8, mut of_2): (u32, u32) = (0, 0);
     for line in journal.lines().skip(6) {
         let (moment, cost) = told(line);
@@ -87,7 +87,22 @@ fn pool_serves_a_trace(rt: HostRuntime) -> Result<(), Fail> {
             other => assert_eq!(rt; other, None, "at {line}"),
         }
     }
-    // one Done at the cost of its row for each row
     assert_eq!(rt; (of_8, of_2), (1, 2));
-    Ok(())
+}
+
+// A journal of ten entries below its head.
+fn expect_journal<R: Abort>(rt: &R, written: &MemSink) {
+    let journal = str::from_utf8(written.bytes());
+    let Ok(journal) = journal else {
+        panic!(rt; "a text")
+    };
+    assert_eq!(rt; journal.starts_with(HEAD), true);
+    assert_eq!(rt; journal.lines().count(), 16);
+    expect_entries(rt, journal);
+}
+
+#[test]
+fn pool_serves_a_trace(rt: HostRuntime) {
+    let written = serve(&rt, rt.alloc());
+    expect_journal(&rt, &written);
 }

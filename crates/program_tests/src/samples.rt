@@ -2,7 +2,6 @@
 use fq_io::{MemSink, MemSource};
 use std::alloc::Global;
 use std::process::Abort;
-use std::test::Fail;
 use twodfq_main::program::plain;
 
 /// A request of one tenant, served until the scheduler is drained, and one that comes after the close. 169 bytes.
@@ -31,35 +30,115 @@ pub struct Left {
     pub told: MemSink,
 }
 
+/// These words, as texts of their own.
+pub fn owned<R: Abort>(rt: &R, alloc: Global, words: &[&str]) -> Vec<String> {
+    let mut owned = Vec::new(alloc);
+    for word in words {
+        let text = String::from_str(alloc, word);
+        let Ok(text) = text else {
+            panic!(rt; "no memory for a word")
+        };
+        let kept = owned.push(text);
+        let Ok(()) = kept else {
+            panic!(rt; "no memory for a word")
+        };
+    }
+    owned
+}
+
 /// The words of a line.
-pub fn words_of(alloc: Global, line: &str) -> Result<Vec<String>, Fail> {
+pub fn words_of<R: Abort>(rt: &R, alloc: Global, line: &str) -> Vec<String> {
     let mut words = Vec::new(alloc);
     for word in line.split(' ') {
-        words.push(word.to_string(alloc)?)?;
+        let kept = words.push(word);
+        let Ok(()) = kept else {
+            panic!(rt; "no memory for a word")
+        };
     }
-    Ok(words)
+    owned(rt, alloc, words.as_slice())
+}
+
+/// The parts of a text, one after another.
+pub fn joined<R: Abort>(rt: &R, alloc: Global, parts: &[&str]) -> String {
+    let mut text = String::new(alloc);
+    for part in parts {
+        let kept = text.push_str(part);
+        let Ok(()) = kept else {
+            panic!(rt; "no memory for a text")
+        };
+    }
+    text
+}
+
+/// The bytes of a text.
+pub fn bytes_of<R: Abort>(rt: &R, alloc: Global, text: &str) -> Vec<u8> {
+    let bytes = text.as_bytes().to_vec(alloc);
+    let Ok(bytes) = bytes else {
+        panic!(rt; "no memory for an input")
+    };
+    bytes
+}
+
+// A list of this number.
+fn number<R: Abort>(rt: &R, alloc: Global, number: u64) -> Vec<u64> {
+    let numbers = vec![in alloc; number];
+    let Ok(numbers) = numbers else {
+        panic!(rt; "no memory for a number")
+    };
+    numbers
+}
+
+/// A source that gives so many bytes in a call, and fails the call of this number.
+pub fn source_of<R: Abort>(
+    rt: &R,
+    alloc: Global,
+    input: &str,
+    piece: usize,
+    call: u64,
+) -> MemSource {
+    MemSource::new(bytes_of(rt, alloc, input), piece, number(rt, alloc, call))
 }
 
 /// A source that gives 16 bytes in a call, and fails the call of this number.
-pub fn source_failing(alloc: Global, input: &str, call: u64) -> Result<MemSource, Fail> {
-    let bytes = input.as_bytes().to_vec(alloc)?;
-    Ok(MemSource::new(bytes, 16, vec![in alloc; call]?))
+pub fn source_failing<R: Abort>(rt: &R, alloc: Global, input: &str, call: u64) -> MemSource {
+    source_of(rt, alloc, input, 16, call)
+}
+
+/// A sink with so much room that takes so many bytes in a call, and fails the call of this number.
+pub fn sink_with_room<R: Abort>(
+    rt: &R,
+    alloc: Global,
+    room: usize,
+    piece: usize,
+    call: u64,
+) -> MemSink {
+    let sink = MemSink::new(alloc, room, piece, number(rt, alloc, call));
+    let Ok(sink) = sink else {
+        panic!(rt; "no memory for a sink")
+    };
+    sink
+}
+
+/// One with room for 1000 bytes.
+pub fn sink_of<R: Abort>(rt: &R, alloc: Global, piece: usize, call: u64) -> MemSink {
+    sink_with_room(rt, alloc, 1000, piece, call)
 }
 
 /// A sink that takes 4 bytes in a call, and fails the call of this number.
-pub fn sink_failing(alloc: Global, call: u64) -> Result<MemSink, Fail> {
-    Ok(MemSink::new(alloc, 1000, 4, vec![in alloc; call]?)?)
+pub fn sink_failing<R: Abort>(rt: &R, alloc: Global, call: u64) -> MemSink {
+    sink_of(rt, alloc, 4, call)
 }
 
 /// Runs `plain` on these words and devices.
-pub fn run(
+pub fn run<R: Abort>(
+    rt: &R,
     alloc: Global,
     words: &str,
     mut source: MemSource,
     mut written: MemSink,
-    mut told: MemSink,
-) -> Result<Left, Fail> {
-    let words = words_of(alloc, words)?;
+) -> Left {
+    let words = words_of(rt, alloc, words);
+    let mut told = sink_failing(rt, alloc, NEVER);
     let status = plain(
         alloc,
         words.as_slice(),
@@ -67,16 +146,44 @@ pub fn run(
         &mut written,
         &mut told,
     );
-    Ok(Left {
+    Left {
         status,
         written,
         told,
-    })
+    }
+}
+
+/// Runs `plain` on these words and an input, where the read and the write of these numbers fail.
+pub fn run_failing<R: Abort>(
+    rt: &R,
+    alloc: Global,
+    words: &str,
+    input: &str,
+    read: u64,
+    write: u64,
+) -> Left {
+    let source = source_failing(rt, alloc, input, read);
+    run(rt, alloc, words, source, sink_failing(rt, alloc, write))
 }
 
 /// The run stopped with this status and this message, and nothing was written. `place` says where in a table that is.
-pub fn expect_stop(rt: &impl Abort, left: &Left, status: u8, message: &str, place: u64) {
+pub fn expect_stop<R: Abort>(rt: &R, left: &Left, status: u8, message: &str, place: u64) {
     assert_eq!(rt; left.status, status, "at {place}");
     assert_eq!(rt; left.written.bytes(), b"".as_slice(), "at {place}");
     assert_eq!(rt; left.told.bytes(), message.as_bytes(), "at {place}");
+}
+
+/// The run wrote so many bytes of the output, and then a write failed.
+pub fn expect_part<R: Abort>(rt: &R, left: &Left, output: &str, bytes: u64) {
+    assert_eq!(rt; left.status, 5, "after {bytes} bytes");
+    assert_eq!(rt; left.written.bytes().len() as u64, bytes);
+    assert_eq!(rt; output.as_bytes().starts_with(left.written.bytes()), true);
+    assert_eq!(rt; left.told.bytes(), b"twodfq: writing failed\n".as_slice());
+}
+
+/// The run wrote this, and told nothing.
+pub fn expect_written<R: Abort>(rt: &R, left: &Left, output: &str) {
+    assert_eq!(rt; left.status, 0);
+    assert_eq!(rt; left.written.bytes(), output.as_bytes());
+    assert_eq!(rt; left.told.bytes(), b"".as_slice());
 }

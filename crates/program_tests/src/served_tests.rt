@@ -1,72 +1,86 @@
 //! Worked scripts, with the replies that they get.
-use crate::samples::{REPLIES, SCRIPT};
-use crate::worked_tests::{Wanted, check, sink, source_of};
+use crate::samples::{REPLIES, SCRIPT, joined};
+use crate::worked_tests::{Wanted, check, sound_sink, sound_source};
 use command_texts::script::served_text;
 use fq_model::command::ScriptPrint;
+use rival_policies::chooser::Chooser;
 use rival_policies::plain::PlainChooser;
 use shared_order::chooser::SharedChooser;
 use std::alloc::Global;
 use std::process::Abort;
-use std::test::Fail;
 
 const HEAD: &str =
     "script 1\nconfig 1 2dfq declared 1000 100 10\ntenant a 1\ntenant b 1\nkind get\n";
 
 // The input is served, with these replies.
-fn answers(rt: &impl Abort, alloc: Global, input: &str, replies: &str) -> Result<(), Fail> {
-    prints(rt, alloc, &["script"], input, replies)
+fn answers<R: Abort>(rt: &R, alloc: Global, input: &str, replies: &str) {
+    prints(rt, alloc, &["script"], input, replies);
 }
 
-// The input is served, with these replies, whichever chooser serves.
-fn each_answers(rt: &impl Abort, alloc: Global, input: &str, replies: &str) -> Result<(), Fail> {
-    answers(rt, alloc, input, replies)?;
-    let plain = served_text::<PlainChooser>(alloc, ScriptPrint::Replies, input.as_bytes())?;
-    assert_eq!(rt; plain.as_slice(), replies.as_bytes());
-    let shared = served_text::<SharedChooser>(alloc, ScriptPrint::Replies, input.as_bytes())?;
-    assert_eq!(rt; shared.as_slice(), replies.as_bytes());
-    Ok(())
+// So are these parts of one input.
+fn parts_answer<R: Abort>(rt: &R, alloc: Global, parts: &[&str], replies: &str) {
+    let input = joined(rt, alloc, parts);
+    answers(rt, alloc, input.as_str(), replies);
+}
+
+// The input is served so by this chooser.
+fn chooser_answers<X: Chooser + Drop, R: Abort>(rt: &R, alloc: Global, input: &str, replies: &str) {
+    let text = served_text::<X>(alloc, ScriptPrint::Replies, input.as_bytes());
+    let Ok(text) = text else {
+        panic!(rt; "a script")
+    };
+    assert_eq!(rt; text.as_slice(), replies.as_bytes());
+}
+
+// The input of these parts is served, with these replies, whichever chooser serves.
+fn each_answers<R: Abort>(rt: &R, alloc: Global, parts: &[&str], replies: &str) {
+    let input = joined(rt, alloc, parts);
+    answers(rt, alloc, input.as_str(), replies);
+    chooser_answers::<PlainChooser, R>(rt, alloc, input.as_str(), replies);
+    chooser_answers::<SharedChooser, R>(rt, alloc, input.as_str(), replies);
 }
 
 // The input is served, and this is written.
-fn prints(
-    rt: &impl Abort,
-    alloc: Global,
-    words: &[&str],
-    input: &str,
-    written: &str,
-) -> Result<(), Fail> {
+fn prints<R: Abort>(rt: &R, alloc: Global, words: &[&str], input: &str, written: &str) {
+    let mut source = sound_source(rt, alloc, input);
+    let mut sink = sound_sink(rt, alloc);
     let wanted = Wanted {
         status: 0,
         written,
         told: "",
     };
-    check(
+    check(rt, alloc, words, &mut source, &mut sink, wanted);
+}
+
+// The input of these parts is served, and this is written.
+fn parts_print<R: Abort>(rt: &R, alloc: Global, print: &str, parts: &[&str], written: &str) {
+    let input = joined(rt, alloc, parts);
+    prints(
         rt,
         alloc,
-        words,
-        &mut source_of(alloc, input)?,
-        &mut sink(alloc)?,
-        &wanted,
-    )
+        &["script", "--print", print],
+        input.as_str(),
+        written,
+    );
 }
 
 #[test]
-fn serves_one_tenant(rt: HostRuntime) -> Result<(), Fail> {
-    answers(&rt, rt.alloc(), SCRIPT, REPLIES)
+fn serves_one_tenant(rt: HostRuntime) {
+    answers(&rt, rt.alloc(), SCRIPT, REPLIES);
 }
 
 #[test]
-fn serves_nothing_a_tie_and_few_slots(rt: HostRuntime) -> Result<(), Fail> {
-    answers(&rt, rt.alloc(), HEAD, "")?;
-    let tie = format!(in rt.alloc();
-        "{HEAD}submit 1 0 1 0 4 1\nsubmit 0 0 0 0 4 2\ntake 10 0 0\n"
-    )?;
-    answers(
+fn serves_nothing_a_tie_and_few_slots(rt: HostRuntime) {
+    answers(&rt, rt.alloc(), HEAD, "");
+    parts_answer(
         &rt,
         rt.alloc(),
-        tie.as_str(),
+        &[
+            HEAD,
+            "submit 1 0 1 0 4 1\nsubmit 0 0 0 0 4 2\ntake 10 0 0\n",
+        ],
         "request 0\nrequest 1\nrun 0 4 1\n",
-    )?;
+    );
     let one_slot = "script 1\nconfig 1 2dfq declared 1000 100 1\ntenant a 1\ntenant b 1\nkind get\n\
         submit 0 0 0 0 5 1\nsubmit 0 0 0 0 5 2\ntake 10 0 0\nsubmit 0 0 0 0 5 2\n";
     answers(
@@ -74,53 +88,51 @@ fn serves_nothing_a_tie_and_few_slots(rt: HostRuntime) -> Result<(), Fail> {
         rt.alloc(),
         one_slot,
         "request 0\nrefused slots 1\nrun 0 5 1\nrequest 1\n",
-    )
+    );
 }
 
 // Two workers: the second starts late, and where no request is eligible the one that is next so is taken.
 #[test]
-fn staggers_workers_and_falls_back(rt: HostRuntime) -> Result<(), Fail> {
+fn staggers_workers_and_falls_back(rt: HostRuntime) {
     let start = "script 1\nconfig 2 2dfq declared 1000 100 10\ntenant a 1\ntenant b 1\nkind get\n\
         submit 0 0 0 0 8 1\nsubmit 0 0 0 0 8 2\ntake 11 0 1\n\
         submit 1 0 1 0 1 11\nsubmit 1 0 1 0 1 12\nsubmit 1 0 1 0 1 13\nsubmit 1 0 1 0 1 14\n\
         submit 1 0 1 0 1 15\nsubmit 1 0 1 0 1 16\nsubmit 1 0 1 0 1 17\nsubmit 1 0 1 0 1 18\n\
         take 10 0 0\ndone 10 1 0 1\ntake 10 1 0\ndone 10 2 0 1\ntake 10 2 0\ndone 10 3 0 1\n\
         take 10 3 0\ndone 10 4 0 1\ntake 10 4 0\ndone 10 5 0 1\n";
-    let late = format!(in rt.alloc(); "{start}take 10 5 0\ndone 11 5 1 8\ntake 11 5 1\n")?;
     each_answers(
         &rt,
         rt.alloc(),
-        late.as_str(),
+        &[start, "take 10 5 0\ndone 11 5 1 8\ntake 11 5 1\n"],
         "request 0\nrequest 1\nrun 0 8 1\n\
         request 2\nrequest 3\nrequest 4\nrequest 5\nrequest 6\nrequest 7\nrequest 8\nrequest 9\n\
         run 2 1 11\nok\nrun 3 1 12\nok\nrun 4 1 13\nok\nrun 5 1 14\nok\nrun 6 1 15\nok\n\
         run 7 1 16\nok\nrun 1 8 2\n",
-    )?;
-    let fallback = format!(in rt.alloc(); "{start}take 10 5 0\ndone 10 5 0 1\ntake 10 5 0\n")?;
+    );
     each_answers(
         &rt,
         rt.alloc(),
-        fallback.as_str(),
+        &[start, "take 10 5 0\ndone 10 5 0 1\ntake 10 5 0\n"],
         "request 0\nrequest 1\nrun 0 8 1\n\
         request 2\nrequest 3\nrequest 4\nrequest 5\nrequest 6\nrequest 7\nrequest 8\nrequest 9\n\
         run 2 1 11\nok\nrun 3 1 12\nok\nrun 4 1 13\nok\nrun 5 1 14\nok\nrun 6 1 15\nok\n\
         run 7 1 16\nok\nrun 8 1 17\n",
-    )
+    );
 }
 
 // A request that took 3 microseconds where 990 were charged: its tenant gets the difference back, and goes first.
 #[test]
-fn gives_back_what_was_not_used(rt: HostRuntime) -> Result<(), Fail> {
+fn gives_back_what_was_not_used(rt: HostRuntime) {
     let input = "script 1\nconfig 1 2dfq pessimistic 990 100 10\ntenant a 1\ntenant b 2\nkind get\n\
         submit 0 0 0 0 1 1\nsubmit 0 0 0 0 1 2\ntake 10 0 0\nsubmit 1 0 1 0 1 3\ndone 10 3 0 3\n\
         take 10 3 0\ndone 10 993 0 990\nsubmit 1 993 1 0 1 4\ntake 10 993 0\n";
     each_answers(
         &rt,
         rt.alloc(),
-        input,
+        &[input],
         "request 0\nrequest 1\nrun 0 990 1\nrequest 2\nok\nrun 2 990 3\nok\nrequest 3\n\
         run 1 980 2\n",
-    )
+    );
 }
 
 // A tenant that comes back after a rest starts at virtual time by its tag, and earlier by the time that passed while it
@@ -137,23 +149,23 @@ const BY_TAG: &str =
 const BY_IDLE_TIME: &str =
     "request 0\nrun 0 1000 1\nrequest 1\nrequest 2\nok\nrun 1 10 2\nok\nrequest 3\nrun 3 200 4\n";
 
+// It is served so under this policy.
+fn comes_back<R: Abort>(rt: &R, alloc: Global, policy: &str, replies: &str) {
+    let parts = ["script 1\nconfig 1 ", policy, " ", AFTER_A_REST];
+    each_answers(rt, alloc, &parts, replies);
+}
+
 #[test]
-fn serves_under_each_policy(rt: HostRuntime) -> Result<(), Fail> {
-    for (policy, replies) in [
-        ("wfq", BY_TAG),
-        ("wf2q", BY_TAG),
-        ("2dfq", BY_TAG),
-        ("msf2q", BY_IDLE_TIME),
-    ] {
-        let input = format!(in rt.alloc(); "script 1\nconfig 1 {policy} {AFTER_A_REST}")?;
-        each_answers(&rt, rt.alloc(), input.as_str(), replies)?;
-    }
-    Ok(())
+fn serves_under_each_policy(rt: HostRuntime) {
+    comes_back(&rt, rt.alloc(), "wfq", BY_TAG);
+    comes_back(&rt, rt.alloc(), "wf2q", BY_TAG);
+    comes_back(&rt, rt.alloc(), "2dfq", BY_TAG);
+    comes_back(&rt, rt.alloc(), "msf2q", BY_IDLE_TIME);
 }
 
 // A submit that names an earlier moment than the entry before it takes effect at that entry's: at 4 it would be served first.
 #[test]
-fn keeps_moments_in_order(rt: HostRuntime) -> Result<(), Fail> {
+fn keeps_moments_in_order(rt: HostRuntime) {
     let input = "script 1\nconfig 1 wf2q declared 1000 100 10\ntenant a 1\ntenant b 1\nkind get\n\
         submit 0 0 0 0 20 0\ntake 10 5 0\ndone 10 7 0 1\nsubmit 1 4 1 0 2 3\nsubmit 0 7 0 0 1 4\ntake 10 12 0\n";
     answers(
@@ -161,12 +173,12 @@ fn keeps_moments_in_order(rt: HostRuntime) -> Result<(), Fail> {
         rt.alloc(),
         input,
         "request 0\nrun 0 20 0\nok\nrequest 1\nrequest 2\nrun 2 1 4\n",
-    )
+    );
 }
 
 // The mean of the costs so far, 4 and 7, is 5.
 #[test]
-fn estimates_the_mean(rt: HostRuntime) -> Result<(), Fail> {
+fn estimates_the_mean(rt: HostRuntime) {
     let input = "script 1\nconfig 1 2dfq recent 9 100 10\ntenant a 1\nkind get\n\
         submit 0 0 0 0 1 1\nsubmit 0 0 0 0 1 2\nsubmit 0 0 0 0 1 3\ntake 10 0 0\ndone 10 4 0 4\n\
         take 10 4 0\nreport 10 7 0 7\ndone 10 7 0 7\ntake 10 7 0\n";
@@ -175,26 +187,25 @@ fn estimates_the_mean(rt: HostRuntime) -> Result<(), Fail> {
         rt.alloc(),
         input,
         "request 0\nrequest 1\nrequest 2\nrun 0 9 1\nok\nrun 1 4 2\nok\nok\nrun 2 5 3\n",
-    )
+    );
 }
 
 // A moment that goes back is written as that of the entry before.
 #[test]
-fn prints_the_journal(rt: HostRuntime) -> Result<(), Fail> {
-    let input = format!(in rt.alloc(); "{HEAD}submit 0 50 0 0 5 1\nsubmit 1 40 0 0 6 2\n")?;
-    prints(
+fn prints_the_journal(rt: HostRuntime) {
+    parts_print(
         &rt,
         rt.alloc(),
-        &["script", "--print", "journal"],
-        input.as_str(),
+        "journal",
+        &[HEAD, "submit 0 50 0 0 5 1\nsubmit 1 40 0 0 6 2\n"],
         "journal 1\nconfig 1 2dfq declared 1000 100 10\ntenant a 1\ntenant b 1\nkind get\n\
         submit 0 50 0 0 0 5 1\nsubmit 1 50 1 0 0 6 2\n",
-    )
+    );
 }
 
 // Four entries have room for one request and the close, and none for a report.
 #[test]
-fn refuses_reports_without_room(rt: HostRuntime) -> Result<(), Fail> {
+fn refuses_reports_without_room(rt: HostRuntime) {
     let input = "script 1\nconfig 1 2dfq declared 1000 4 10\ntenant a 1\ntenant b 1\nkind get\n\
         submit 0 0 0 0 5 1\nsubmit 0 0 0 0 5 2\ntake 10 0 0\nreport 10 1 0 1\ndone 10 5 0 5\n\
         close 0 5\nclose 0 5\n";
@@ -203,61 +214,56 @@ fn refuses_reports_without_room(rt: HostRuntime) -> Result<(), Fail> {
         rt.alloc(),
         input,
         "request 0\nrefused full 4\nrun 0 5 1\nrefused full 4\nok\nok\nrefused closed\n",
-    )
+    );
 }
 
 #[test]
-fn refuses_calls(rt: HostRuntime) -> Result<(), Fail> {
-    let input = format!(in rt.alloc();
-        "{HEAD}submit 0 0 2 0 5 1\nsubmit 0 0 0 1 5 1\nsubmit 0 0 0 0 0 1\nsubmit 0 0 0 0 1000000001 1\n\
+fn refuses_calls(rt: HostRuntime) {
+    let calls =
+        "submit 0 0 2 0 5 1\nsubmit 0 0 0 1 5 1\nsubmit 0 0 0 0 0 1\nsubmit 0 0 0 0 1000000001 1\n\
         take 10 0 1\nreport 10 0 1 7\nreport 10 0 0 7\nsubmit 0 0 0 0 5 1\ntake 10 0 0\ntake 10 0 0\n\
         report 10 7 0 1000000001\nreport 10 7 0 7\nreport 10 8 0 6\n\
-        done 10 8 0 6\ndone 10 9 0 1000000001\ndone 10 9 0 7\ndone 10 9 0 7\n"
-    )?;
-    answers(
+        done 10 8 0 6\ndone 10 9 0 1000000001\ndone 10 9 0 7\ndone 10 9 0 7\n";
+    parts_answer(
         &rt,
         rt.alloc(),
-        input.as_str(),
+        &[HEAD, calls],
         "refused tenant 2\nrefused kind 1\nrefused cost 0\nrefused cost 1000000001\n\
         refused worker 1\nrefused worker 1\nrefused not-running\nrequest 0\nrun 0 5 1\nrefused busy 0\n\
         refused cost 1000000001\nok\nrefused falling 7 6\n\
         refused falling 7 6\nrefused cost 1000000001\nok\nrefused not-running\n",
-    )
+    );
 }
 
 // The request that runs was charged by the weight before its take, 2, and so its tenant starts at 4 and finishes at 6; by
 // the later weight it would finish at 4, before the other at 5.
 #[test]
-fn changes_weights(rt: HostRuntime) -> Result<(), Fail> {
+fn changes_weights(rt: HostRuntime) {
     let head = "script 2\nconfig 1 2dfq declared 1000 100 10\ntenant a 1\ntenant b 1\nkind get\n";
-    let input = format!(in rt.alloc();
-        "{head}submit 0 0 0 0 8 1\nsubmit 0 0 0 0 8 2\nsubmit 1 0 1 0 5 3\nweight 0 0 0 2\ntake 10 0 0\n\
-        weight 0 0 0 4\ndone 10 20 0 8\ntake 10 20 0\n"
-    )?;
-    prints(
+    let calls =
+        "submit 0 0 0 0 8 1\nsubmit 0 0 0 0 8 2\nsubmit 1 0 1 0 5 3\nweight 0 0 0 2\ntake 10 0 0\n\
+        weight 0 0 0 4\ndone 10 20 0 8\ntake 10 20 0\n";
+    parts_print(
         &rt,
         rt.alloc(),
-        &["script", "--print", "both"],
-        input.as_str(),
+        "both",
+        &[head, calls],
         "request 0\nrequest 1\nrequest 2\nok\nrun 0 8 1\nok\nok\nrun 2 5 3\n\
         journal 2\nconfig 1 2dfq declared 1000 100 10\ntenant a 1\ntenant b 1\nkind get\n\
         submit 0 0 0 0 0 8 1\nsubmit 0 0 1 0 0 8 2\nsubmit 1 0 2 1 0 5 3\nweight 0 0 0 2\n\
         take 10 0 0 0 8\nweight 0 0 0 4\ndone 10 20 0 0 8\ntake 10 20 0 2 5\n",
-    )?;
-    let refused = format!(in rt.alloc();
-        "{head}weight 0 0 2 1\nweight 0 0 0 0\nweight 0 0 0 1001\n"
-    )?;
-    answers(
+    );
+    parts_answer(
         &rt,
         rt.alloc(),
-        refused.as_str(),
+        &[head, "weight 0 0 2 1\nweight 0 0 0 0\nweight 0 0 0 1001\n"],
         "refused tenant 2\nrefused weight 0\nrefused weight 1001\n",
-    )
+    );
 }
 
 // A worker whose number is not below that of the workers ends what it runs, and is given nothing more.
 #[test]
-fn changes_workers(rt: HostRuntime) -> Result<(), Fail> {
+fn changes_workers(rt: HostRuntime) {
     let input = "script 2\nconfig 2 2dfq declared 1000 100 10\ntenant a 1\ntenant b 1\nkind get\n\
         submit 0 0 0 0 4 1\nsubmit 0 0 0 0 4 2\ntake 11 0 1\nworkers 0 0 1\ntake 11 0 1\ndone 11 4 1 4\n\
         take 11 4 1\ntake 10 4 0\nworkers 0 4 3\nworkers 0 4 2\ntake 11 4 1\n";
@@ -267,7 +273,7 @@ fn changes_workers(rt: HostRuntime) -> Result<(), Fail> {
         input,
         "request 0\nrequest 1\nrun 0 4 1\nok\nrefused busy 0\nok\nretired 1\nrun 1 4 2\n\
         refused workers 3\nok\nidle\n",
-    )
+    );
 }
 
 // Up to 4 there are four workers over the weight 2, and virtual time comes to 4 units; up to 6 two over 2 and 1, and it
@@ -280,20 +286,31 @@ const WITH_CHANGES: &str = "declared 1000 100 10\ntenant a 2\ntenant b 1\nkind g
     submit 0 6 0 0 8 101\nsubmit 0 6 0 0 10 102\ntake 10 6 0\ndone 11 6 1 1\n\
     submit 1 7 1 0 1 201\ntake 11 8 1\nsubmit 0 10 0 0 1 103\ndone 11 11 1 8\ntake 11 11 1\n";
 
+// It is served so under this policy: what runs from 6, from 8 and from 11 on.
+fn changes<R: Abort>(rt: &R, alloc: Global, policy: &str, at_6: &str, at_8: &str, at_11: &str) {
+    let input = joined(
+        rt,
+        alloc,
+        &["script 2\nconfig 4 ", policy, " ", WITH_CHANGES],
+    );
+    let first = "request 0\nok\nrequest 1\nrun 0 1 100\nok\nrequest 2\nrequest 3\nrun ";
+    let parts = [
+        first,
+        at_6,
+        "\nok\nrequest 4\nrun ",
+        at_8,
+        "\nrequest 5\nok\nrun ",
+        at_11,
+        "\n",
+    ];
+    let replies = joined(rt, alloc, &parts);
+    answers(rt, alloc, input.as_str(), replies.as_str());
+}
+
 #[test]
-fn changes_under_each_policy(rt: HostRuntime) -> Result<(), Fail> {
-    for (policy, at_6, at_8, at_11) in [
-        ("wfq", "1 8 200", "4 1 201", "2 8 101"),
-        ("wf2q", "1 8 200", "2 8 101", "4 1 201"),
-        ("msf2q", "2 8 101", "1 8 200", "3 10 102"),
-        ("2dfq", "1 8 200", "2 8 101", "3 10 102"),
-    ] {
-        let input = format!(in rt.alloc(); "script 2\nconfig 4 {policy} {WITH_CHANGES}")?;
-        let replies = format!(in rt.alloc();
-            "request 0\nok\nrequest 1\nrun 0 1 100\nok\nrequest 2\nrequest 3\nrun {at_6}\nok\n\
-            request 4\nrun {at_8}\nrequest 5\nok\nrun {at_11}\n"
-        )?;
-        answers(&rt, rt.alloc(), input.as_str(), replies.as_str())?;
-    }
-    Ok(())
+fn changes_under_each_policy(rt: HostRuntime) {
+    changes(&rt, rt.alloc(), "wfq", "1 8 200", "4 1 201", "2 8 101");
+    changes(&rt, rt.alloc(), "wf2q", "1 8 200", "2 8 101", "4 1 201");
+    changes(&rt, rt.alloc(), "msf2q", "2 8 101", "1 8 200", "3 10 102");
+    changes(&rt, rt.alloc(), "2dfq", "1 8 200", "2 8 101", "3 10 102");
 }

@@ -1,12 +1,13 @@
 //! Worked examples of the program, from the bytes that come in to the bytes that go out.
-use crate::samples::{REPLIES, SCRIPT};
+use crate::samples::{NEVER, REPLIES, SCRIPT, owned, sink_of, source_of};
 use fq_io::{FixedClock, MemSink, MemSource, read_all};
 use std::alloc::Global;
 use std::process::Abort;
-use std::test::Fail;
+use std::sync::Wait;
+use std::thread::Threads;
 use twodfq_main::program::{plain, twodfq};
 
-// What a call is to leave.
+/// What a call is to leave.
 #[derive(Clone, Copy)]
 pub struct Wanted<'a> {
     pub status: u8,
@@ -15,146 +16,136 @@ pub struct Wanted<'a> {
 }
 
 /// A source of these bytes that never fails.
-pub fn source_of(alloc: Global, input: &str) -> Result<MemSource, Fail> {
-    let bytes = input.as_bytes().to_vec(alloc)?;
-    Ok(MemSource::new(bytes, 4096, Vec::new(alloc)))
+pub fn sound_source<R: Abort>(rt: &R, alloc: Global, input: &str) -> MemSource {
+    source_of(rt, alloc, input, 4096, NEVER)
 }
 
 /// A sink with room for 1000 bytes that never fails.
-pub fn sink(alloc: Global) -> Result<MemSink, Fail> {
-    Ok(MemSink::new(alloc, 1000, 1000, Vec::new(alloc))?)
+pub fn sound_sink<R: Abort>(rt: &R, alloc: Global) -> MemSink {
+    sink_of(rt, alloc, 1000, NEVER)
 }
 
 /// Runs `plain`, and compares its status, what was written and what was told with what is wanted.
-pub fn check(
-    rt: &impl Abort,
+pub fn check<R: Abort>(
+    rt: &R,
     alloc: Global,
     words: &[&str],
     source: &mut MemSource,
     sink: &mut MemSink,
-    wanted: &Wanted<'_>,
-) -> Result<(), Fail> {
-    let mut errs = MemSink::new(alloc, 1000, 1000, Vec::new(alloc))?;
-    let mut line = Vec::new(alloc);
-    for word in words {
-        line.push(String::from_str(alloc, word)?)?;
-    }
-    let status = plain(alloc, line.as_slice(), source, sink, &mut errs);
+    wanted: Wanted<'_>,
+) {
+    let mut errs = sound_sink(rt, alloc);
+    let words = owned(rt, alloc, words);
+    let status = plain(alloc, words.as_slice(), source, sink, &mut errs);
     assert_eq!(rt; status, wanted.status);
     assert_eq!(rt; sink.bytes(), wanted.written.as_bytes());
     assert_eq!(rt; errs.bytes(), wanted.told.as_bytes());
-    Ok(())
+}
+
+// So much of the source is left.
+fn expect_left<R: Abort>(rt: &R, alloc: Global, source: &mut MemSource, wanted: &str) {
+    let rest = read_all(alloc, source, 1000);
+    let Ok(rest) = rest else {
+        panic!(rt; "the rest of a source")
+    };
+    assert_eq!(rt; rest.as_slice(), wanted.as_bytes());
+}
+
+// The input is no script: this is told, nothing is written, and all was read.
+fn expect_fault<R: Abort>(rt: &R, alloc: Global, input: &str, told: &str) {
+    let mut source = sound_source(rt, alloc, input);
+    let mut sink = sound_sink(rt, alloc);
+    let words = ["script", "--print=both"];
+    let wanted = Wanted {
+        status: 3,
+        written: "",
+        told,
+    };
+    check(rt, alloc, &words, &mut source, &mut sink, wanted);
+    expect_left(rt, alloc, &mut source, "");
 }
 
 // The first fault is named with its line, and nothing is written.
 #[test]
-fn names_the_first_fault(rt: HostRuntime) -> Result<(), Fail> {
-    for (input, told) in [
-        ("", "twodfq: line 1: not a script\n"),
-        (
-            "script 1\nconfig 1 sfq declared 01 100 10\ntenant a 1\nkind get\n",
-            "twodfq: line 2: unknown word or name\n",
-        ),
-        (
-            "script 1\nconfig 1 2dfq declared 1000 100 10\ntenant a 1\ntenant b 1\nkind get\nweight 0 0 2 1\n\
-            weight 0 0 0 0\nweight 0 0 0 1001\n",
-            "twodfq: line 6: unknown word or name\n",
-        ),
-    ] {
-        let mut source = source_of(rt.alloc(), input)?;
-        let wanted = Wanted {
-            status: 3,
-            written: "",
-            told,
-        };
-        check(
-            &rt,
-            rt.alloc(),
-            &["script", "--print=both"],
-            &mut source,
-            &mut sink(rt.alloc())?,
-            &wanted,
-        )?;
-        let rest = read_all(rt.alloc(), &mut source, 1)?;
-        assert_eq!(rt; rest.len(), 0);
-    }
-    Ok(())
+fn names_the_first_fault(rt: HostRuntime) {
+    expect_fault(&rt, rt.alloc(), "", "twodfq: line 1: not a script\n");
+    expect_fault(
+        &rt,
+        rt.alloc(),
+        "script 1\nconfig 1 sfq declared 01 100 10\ntenant a 1\nkind get\n",
+        "twodfq: line 2: unknown word or name\n",
+    );
+    expect_fault(
+        &rt,
+        rt.alloc(),
+        "script 1\nconfig 1 2dfq declared 1000 100 10\ntenant a 1\ntenant b 1\nkind get\nweight 0 0 2 1\n\
+        weight 0 0 0 0\nweight 0 0 0 1001\n",
+        "twodfq: line 6: unknown word or name\n",
+    );
 }
 
-// As do those for `live`, where only what waits for nobody is served.
-#[test]
-fn words_of_no_command_leave_the_input(rt: HostRuntime) -> Result<(), Fail> {
+// The words are no command line, and the input is not read.
+fn expect_no_command<R: Abort>(rt: &R, alloc: Global, words: &[&str]) {
+    let mut source = sound_source(rt, alloc, SCRIPT);
+    let mut sink = sound_sink(rt, alloc);
     let wanted = Wanted {
         status: 2,
         written: "",
         told: "twodfq: the words are not a command line\n",
     };
-    let none: [&str; 0] = [];
-    let help = ["script", "--help"];
-    let live = ["live"];
-    for words in [none.as_slice(), help.as_slice(), live.as_slice()] {
-        let mut source = source_of(rt.alloc(), SCRIPT)?;
-        check(
-            &rt,
-            rt.alloc(),
-            words,
-            &mut source,
-            &mut sink(rt.alloc())?,
-            &wanted,
-        )?;
-        let rest = read_all(rt.alloc(), &mut source, 1000)?;
-        assert_eq!(rt; rest.as_slice(), SCRIPT.as_bytes());
-    }
-    Ok(())
+    check(rt, alloc, words, &mut source, &mut sink, wanted);
+    expect_left(rt, alloc, &mut source, SCRIPT);
 }
 
+// As do those for `live`, where only what waits for nobody is served.
 #[test]
-fn devices_fail(rt: HostRuntime) -> Result<(), Fail> {
-    // The second write fails, after one of four bytes.
-    let mut short = MemSink::new(rt.alloc(), 1000, 4, [1].to_vec(rt.alloc())?)?;
-    let writing = Wanted {
+fn words_of_no_command_leave_the_input(rt: HostRuntime) {
+    expect_no_command(&rt, rt.alloc(), &[]);
+    expect_no_command(&rt, rt.alloc(), &["script", "--help"]);
+    expect_no_command(&rt, rt.alloc(), &["live"]);
+}
+
+// The second write fails, after one of four bytes.
+fn writing_fails<R: Abort>(rt: &R, alloc: Global) {
+    let mut source = sound_source(rt, alloc, SCRIPT);
+    let mut short = sink_of(rt, alloc, 4, 1);
+    let wanted = Wanted {
         status: 5,
         written: "requ",
         told: "twodfq: writing failed\n",
     };
-    check(
-        &rt,
-        rt.alloc(),
-        &["script"],
-        &mut source_of(rt.alloc(), SCRIPT)?,
-        &mut short,
-        &writing,
-    )?;
+    check(rt, alloc, &["script"], &mut source, &mut short, wanted);
+}
 
-    // The first read fails.
-    let bytes = SCRIPT.as_bytes().to_vec(rt.alloc())?;
-    let mut broken = MemSource::new(bytes, 4096, [0].to_vec(rt.alloc())?);
-    let reading = Wanted {
+// The first read fails.
+fn reading_fails<R: Abort>(rt: &R, alloc: Global) {
+    let mut broken = source_of(rt, alloc, SCRIPT, 4096, 0);
+    let mut sink = sound_sink(rt, alloc);
+    let wanted = Wanted {
         status: 4,
         written: "",
         told: "twodfq: reading failed\n",
     };
-    check(
-        &rt,
-        rt.alloc(),
-        &["script"],
-        &mut broken,
-        &mut sink(rt.alloc())?,
-        &reading,
-    )
+    check(rt, alloc, &["script"], &mut broken, &mut sink, wanted);
 }
 
 #[test]
-fn serves_with_a_clock(rt: HostRuntime) -> Result<(), Fail> {
-    let words = [String::from_str(rt.alloc(), "script")?];
-    let mut source = source_of(rt.alloc(), SCRIPT)?;
-    let mut written = sink(rt.alloc())?;
-    let mut told = sink(rt.alloc())?;
+fn devices_fail(rt: HostRuntime) {
+    writing_fails(&rt, rt.alloc());
+    reading_fails(&rt, rt.alloc());
+}
+
+// The whole program serves the script, by a clock that stands at 7.
+fn serve<T: Abort + Wait + Threads + Sync>(rt: &T, alloc: Global) {
+    let words = owned(rt, alloc, &["script"]);
+    let mut source = sound_source(rt, alloc, SCRIPT);
+    let mut written = sound_sink(rt, alloc);
+    let mut told = sound_sink(rt, alloc);
     let clock = FixedClock::new(7);
     let status = twodfq(
-        &rt,
-        rt.alloc(),
-        &words,
+        rt,
+        alloc,
+        words.as_slice(),
         &mut source,
         &mut written,
         &mut told,
@@ -163,5 +154,9 @@ fn serves_with_a_clock(rt: HostRuntime) -> Result<(), Fail> {
     assert_eq!(rt; status, 0);
     assert_eq!(rt; written.bytes(), REPLIES.as_bytes());
     assert_eq!(rt; told.bytes(), b"".as_slice());
-    Ok(())
+}
+
+#[test]
+fn serves_with_a_clock(rt: HostRuntime) {
+    serve(&rt, rt.alloc());
 }
