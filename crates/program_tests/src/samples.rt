@@ -1,4 +1,6 @@
 //! A script, a trace, and runs of the program over memory that fails where it is told to.
+ghost use Rattle.std.specs.Prelude.{◌≤◌};
+
 use fq_io::{MemSink, MemSource};
 use std::alloc::Global;
 use std::process::Abort;
@@ -89,13 +91,9 @@ fn number<R: Abort>(rt: &R, alloc: Global, number: u64) -> Vec<u64> {
 }
 
 /// A source that gives so many bytes in a call, and fails the call of this number.
-pub fn source_of<R: Abort>(
-    rt: &R,
-    alloc: Global,
-    input: &str,
-    piece: usize,
-    call: u64,
-) -> MemSource {
+pub fn source_of<R: Abort>(rt: &R, alloc: Global, input: &str, piece: usize, call: u64) -> MemSource
+    requires { 1 ≤ piece }
+{
     MemSource::new(bytes_of(rt, alloc, input), piece, number(rt, alloc, call))
 }
 
@@ -111,7 +109,9 @@ pub fn sink_with_room<R: Abort>(
     room: usize,
     piece: usize,
     call: u64,
-) -> MemSink {
+) -> MemSink
+    requires { 1 ≤ piece }
+{
     let sink = MemSink::new(alloc, room, piece, number(rt, alloc, call));
     let Ok(sink) = sink else {
         panic!(rt; "no memory for a sink")
@@ -120,7 +120,9 @@ pub fn sink_with_room<R: Abort>(
 }
 
 /// One with room for 1000 bytes.
-pub fn sink_of<R: Abort>(rt: &R, alloc: Global, piece: usize, call: u64) -> MemSink {
+pub fn sink_of<R: Abort>(rt: &R, alloc: Global, piece: usize, call: u64) -> MemSink
+    requires { 1 ≤ piece }
+{
     sink_with_room(rt, alloc, 1000, piece, call)
 }
 
