@@ -1,11 +1,10 @@
 //! Devices that fail at any one of their calls.
 use crate::samples::{
     Left, NEVER, REPLIES, RUN, SCRIPT, TRACE, expect_part, expect_stop, expect_written,
-    run_failing, sink_failing, source_failing, words_of,
+    run_failing, run_telling, sink_failing, source_failing,
 };
 use std::alloc::Global;
 use std::process::Abort;
-use twodfq_main::program::plain;
 
 const SIMULATED: &str =
     "journal 1\nconfig 2 2dfq declared 1000 10 3\ntenant a 1\ntenant b 1\nkind scan\nkind get\n\
@@ -59,22 +58,16 @@ fn each_read_fails(rt: HostRuntime) {
 fn run_untold<R: Abort>(rt: &R, alloc: Global) -> Left {
     let trace = "tenant,a,1\ntenant,b,2\nrequest,10,0,a,get,5,5\nrequest,30,0,b,get,5,5\n\
         request,20,0,a,get,5,5\n";
-    let words = words_of(rt, alloc, "run");
-    let mut source = source_failing(rt, alloc, trace, NEVER);
-    let mut written = sink_failing(rt, alloc, NEVER);
-    let mut told = sink_failing(rt, alloc, 0);
-    let status = plain(
+    let source = source_failing(rt, alloc, trace, NEVER);
+    let written = sink_failing(rt, alloc, NEVER);
+    run_telling(
+        rt,
         alloc,
-        words.as_slice(),
-        &mut source,
-        &mut written,
-        &mut told,
-    );
-    Left {
-        status,
+        "run",
+        source,
         written,
-        told,
-    }
+        sink_failing(rt, alloc, 0),
+    )
 }
 
 // Where the message can't be told, the status stays that of the fault that it names.

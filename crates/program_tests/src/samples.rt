@@ -132,15 +132,15 @@ pub fn sink_failing<R: Abort>(rt: &R, alloc: Global, call: u64) -> MemSink {
 }
 
 /// Runs `plain` on these words and devices.
-pub fn run<R: Abort>(
+pub fn run_telling<R: Abort>(
     rt: &R,
     alloc: Global,
     words: &str,
     mut source: MemSource,
     mut written: MemSink,
+    mut told: MemSink,
 ) -> Left {
     let words = words_of(rt, alloc, words);
-    let mut told = sink_failing(rt, alloc, NEVER);
     let status = plain(
         alloc,
         words.as_slice(),
@@ -153,6 +153,18 @@ pub fn run<R: Abort>(
         written,
         told,
     }
+}
+
+/// The same where all can be told.
+pub fn run<R: Abort>(
+    rt: &R,
+    alloc: Global,
+    words: &str,
+    source: MemSource,
+    written: MemSink,
+) -> Left {
+    let told = sink_failing(rt, alloc, NEVER);
+    run_telling(rt, alloc, words, source, written, told)
 }
 
 /// Runs `plain` on these words and an input, where the read and the write of these numbers fail.
