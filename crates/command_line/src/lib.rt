@@ -3,7 +3,5 @@
 
 pub mod command;
 mod given;
-mod options;
+pub mod options;
 mod table;
-#[cfg(test)]
-mod tests;

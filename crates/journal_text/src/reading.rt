@@ -20,8 +20,8 @@ use fq_model::limits::{GREATEST_WEIGHT, MOST_KINDS, MOST_PAIRS, MOST_TENANTS};
 use fq_model::version::Version;
 use std::alloc::{AllocError, Global};
 use std::marker::{Model, PhantomData};
-use tenant_table::kinds::Kinds;
-use tenant_table::tenants::Tenants;
+use tenant_table::kinds_builder::KindsBuilder;
+use tenant_table::tenants_builder::TenantsBuilder;
 
 /// A document whose head is read, and whose body is left to be read line by line.
 #[derive(Drop)]
@@ -35,8 +35,8 @@ pub struct Opened<'a, A: Line> {
 #[derive(Drop)]
 struct Draft<A: Drop> {
     settings: Settings,
-    tenants: Tenants,
-    kinds: Kinds,
+    tenants: TenantsBuilder,
+    kinds: KindsBuilder,
     said: PhantomData<A>,
 }
 
@@ -63,8 +63,8 @@ impl<A: Line> Draft<A> {
     {
         Draft {
             settings,
-            tenants: Tenants::new(alloc),
-            kinds: Kinds::new(alloc),
+            tenants: TenantsBuilder::new(alloc),
+            kinds: KindsBuilder::new(alloc),
             said: PhantomData,
         }
     }
@@ -80,6 +80,7 @@ impl<A: Line> Draft<A> {
             kinds,
             ..
         } = self;
+        let (tenants, kinds) = (tenants.finish()?, kinds.finish()?);
         let config = Config {
             workers: settings.workers,
             weights: Weights::from_vec(tenants.weights(alloc)?),
@@ -145,7 +146,7 @@ impl<A: Line> Draft<A> {
 }
 
 // That no tenant has the name.
-fn expect_new_tenant(tenants: &Tenants, name: &str) -> Result<(), LineError>
+fn expect_new_tenant(tenants: &TenantsBuilder, name: &str) -> Result<(), LineError>
     ensures given { Gives (λ _. name.now) result (new_among (names_of tenants.now) name.now) }
     ensures absent { IfOk result (λ _. number_among (names_of tenants.now) name.now ≡ None) }
 {
@@ -156,7 +157,7 @@ fn expect_new_tenant(tenants: &Tenants, name: &str) -> Result<(), LineError>
 }
 
 // That no kind has the name.
-fn expect_new_kind(kinds: &Kinds, name: &str) -> Result<(), LineError>
+fn expect_new_kind(kinds: &KindsBuilder, name: &str) -> Result<(), LineError>
     ensures given { Gives (λ _. name.now) result (new_among kinds.now name.now) }
     ensures absent { IfOk result (λ _. number_among kinds.now name.now ≡ None) }
 {

@@ -135,11 +135,12 @@ no_key name keys none = any_fails (λ k. bytes_eq name (string_bytes k)) keys (n
 
 -- ---- a row by its place
 
+-- a row that is read by its number
+pub row_at : (rows : List (String Global × ℕ)) (t : ℕ) (row : String Global × ℕ) → t < length (tenants_of rows) → row ≡ get_or rows t row → slice_get rows t ≡ Some row
+row_at rows t row below read = slice_get-get_or rows t row (rw (length_rows rows) at below) ∙ ap Some (sym read)
+
 pub name_at : (rows : List (String Global × ℕ)) (t : ℕ) (row : String Global × ℕ) → slice_get rows t ≡ Some row → slice_get (names_of (tenants_of rows)) t ≡ Some (string_bytes row.0)
 name_at rows t row at = slice_get-map (λ (u : List ℕ × ℕ). u.0) (tenants_of rows) t ∙ (ap (option_map (λ (u : List ℕ × ℕ). u.0)) (slice_get-map (λ (r : String Global × ℕ). (string_bytes r.0, r.1)) rows t) ∙ ap (λ o. option_map (λ (u : List ℕ × ℕ). u.0) (option_map (λ (r : String Global × ℕ). (string_bytes r.0, r.1)) o)) at)
 
 pub weight_at : (rows : List (String Global × ℕ)) (t : ℕ) (row : String Global × ℕ) → slice_get rows t ≡ Some row → get_or (weights_of (tenants_of rows)) t 0 ≡ row.1
 weight_at rows t row at = get_or_from_slice_get (weights_of (tenants_of rows)) t row.1 0 (slice_get-map (λ (u : List ℕ × ℕ). u.1) (tenants_of rows) t ∙ (ap (option_map (λ (u : List ℕ × ℕ). u.1)) (slice_get-map (λ (r : String Global × ℕ). (string_bytes r.0, r.1)) rows t) ∙ ap (λ o. option_map (λ (u : List ℕ × ℕ). u.1) (option_map (λ (r : String Global × ℕ). (string_bytes r.0, r.1)) o)) at))
-
-pub key_at : (keys : List (String Global)) (k : ℕ) (key : String Global) → slice_get keys k ≡ Some key → slice_get (kinds_of keys) k ≡ Some (string_bytes key)
-key_at keys k key at = slice_get-map string_bytes keys k ∙ ap (option_map string_bytes) at

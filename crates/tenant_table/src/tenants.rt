@@ -1,14 +1,7 @@
 //! The tenants' names and weights.
-ghost use Rattle.std.specs.Prelude.{◌≡◌, ◌<◌, ◌==◌, ◌++◌, [], ◌∷◌, IsTrue, length, Some, None, IfOk, OnOk, OnErr, IfSome, IfNone, Contains, slice_get, slice_index};
-ghost use Rattle.fq_model.specs.Limits.{IsWeight};
-ghost use Rattle.fq_model.specs.Numbers.{is_name};
-ghost use Rattle.tenant_table.specs.Names.{names_of, weights_of, number_among, AreTenants, tenant_refusal, IsAnswer};
-ghost use Rattle.tenant_table.specs.Rows.{tenants_of};
+ghost use Rattle.std.specs.Prelude.{◌≡◌, ◌<◌, ◌==◌, length, Some, IfOk, slice_get, slice_index};
+ghost use Rattle.tenant_table.specs.Names.{names_of, weights_of, AreTenants};
 
-use crate::fault::NameFault;
-use crate::name::is_name;
-use fq_model::limits::{GREATEST_WEIGHT, MOST_TENANTS};
-use indexmap::IndexMap;
 use std::alloc::{AllocError, Global};
 use std::marker::Model;
 
@@ -16,8 +9,7 @@ use std::marker::Model;
 /// bytes, with their weights.
 #[derive(Drop)]
 pub struct Tenants {
-    alloc: Global,
-    rows: IndexMap<String, u32>,
+    pub(crate) rows: Vec<(String, u32)>,
 }
 
 impl Model for Tenants {
@@ -27,72 +19,12 @@ impl Model for Tenants {
 
     ghost Value = { List (List ℕ × ℕ) };
 
-    ghost view = { λ t. tenants_of t.rows.entries };
+    ghost view = { λ t. tenants_of t.rows.items };
 
-    ghost invariant = { λ t. AreTenants (tenants_of t.rows.entries) };
+    ghost invariant = { λ t. AreTenants (tenants_of t.rows.items) };
 }
 
 impl Tenants {
-    /// No tenants yet. Takes no memory: `add` takes it from `alloc`.
-    pub fn new(alloc: Global) -> Tenants
-        ensures { result ≡ [] }
-    {
-        Tenants {
-            alloc,
-            rows: IndexMap::new(alloc),
-        }
-    }
-
-    /// Adds a tenant and gives its number, which is how many there were. A refusal is the first reason,
-    /// and leaves the tenants as they were.
-    pub fn add(&mut self, name: &str, weight: u32) -> Result<u32, NameFault>
-        ensures answer { IsAnswer result (length self.old) (tenant_refusal self.old name.now weight) }
-        ensures added { OnOk result (self.new ≡ self.old ++ (name.now, weight) ∷ []) }
-        ensures unchanged { OnErr result (self.new ≡ self.old) }
-    {
-        if !is_name(name.as_bytes()) {
-            return Err(NameFault::Word);
-        }
-        if weight < 1 || weight > GREATEST_WEIGHT {
-            return Err(NameFault::Weight(weight));
-        }
-        if let Some(t) = self.find(name) {
-            return Err(NameFault::Twice(t));
-        }
-        let number = self.len();
-        if number >= MOST_TENANTS {
-            return Err(NameFault::TooMany(MOST_TENANTS));
-        }
-        Ok(self.add_new(name, weight)?)
-    }
-
-    /// Adds a tenant that is known to be one more, and gives its number, which is how many there were.
-    /// Where memory runs out, the tenants stay as they were.
-    pub fn add_new(&mut self, name: &str, weight: u32) -> Result<u32, AllocError>
-        requires spelled { IsTrue (is_name name.now) }
-        requires weighs { IsWeight weight }
-        requires absent { number_among (names_of self.old) name.now ≡ None }
-        requires room { length self.old < MOST_TENANTS }
-        ensures number { IfOk result (λ t. t ≡ length self.old) }
-        ensures added { OnOk result (self.new ≡ self.old ++ (name.now, weight) ∷ []) }
-        ensures unchanged { OnErr result (self.new ≡ self.old) }
-    {
-        let number = self.len();
-        put(self.alloc, &mut self.rows, name, weight)?;
-        Ok(number)
-    }
-
-    /// The number of the tenant of this name.
-    pub fn find(&self, name: &str) -> Option<u32>
-        ensures number { result ≡ number_among (names_of self.now) name.now }
-        ensures found { IfSome result (λ t. slice_get (names_of self.now) t ≡ Some name.now) }
-        ensures absent { IfNone result (¬ Contains (names_of self.now) name.now) }
-        ensures limits { AreTenants self.now }
-    {
-        let found = self.rows.get_index_of(name)?;
-        Some(found as u32)
-    }
-
     /// How many tenants there are: at most 4,096.
     pub fn len(&self) -> u32
         ensures value { result ≡ length self.now }
@@ -125,8 +57,7 @@ impl Tenants {
         ensures value { slice_get (names_of self.now) t ≡ Some result.now }
         ensures limits { AreTenants self.now }
     {
-        let (name, _) = self.rows.get_index(t as usize).unwrap();
-        name.as_str()
+        self.rows[t as usize].0.as_str()
     }
 
     /// The weight of tenant `t`: 1 to 1,000.
@@ -135,22 +66,6 @@ impl Tenants {
         ensures value { result ≡ slice_index (weights_of self.now) t }
         ensures limits { AreTenants self.now }
     {
-        let (_, weight) = self.rows.get_index(t as usize).unwrap();
-        *weight
+        self.rows[t as usize].1
     }
-}
-
-// Adds a row whose name is new.
-fn put(
-    alloc: Global,
-    rows: &mut IndexMap<String, u32>,
-    name: &str,
-    weight: u32,
-) -> Result<(), AllocError>
-    requires { number_among (names_of (tenants_of rows.old.entries)) name.now ≡ None }
-    ensures ok { OnOk result (tenants_of rows.new.entries ≡ tenants_of rows.old.entries ++ (name.now, weight) ∷ []) }
-    ensures unchanged { OnErr result (tenants_of rows.new.entries ≡ tenants_of rows.old.entries) }
-{
-    rows.insert(name.to_string(alloc)?, weight)?;
-    Ok(())
 }

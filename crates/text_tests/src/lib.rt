@@ -1,6 +1,8 @@
-//! Tests of scripts, journals, traces, names, the fluid reference and lag reports, as callers use them.
+//! Tests of virtual time, command lines, scripts, journals, traces, names, the fluid reference and lag reports, as callers use them.
 #![tactic(auto)]
 
+#[cfg(test)]
+mod command_tests;
 #[cfg(test)]
 mod fault_tests;
 #[cfg(test)]
@@ -17,5 +19,7 @@ mod report_tests;
 mod samples;
 #[cfg(test)]
 mod slot_tests;
+#[cfg(test)]
+mod time_tests;
 #[cfg(test)]
 mod trace_tests;

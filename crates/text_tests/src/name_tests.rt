@@ -3,7 +3,9 @@ use std::marker::Send;
 use std::process::Abort;
 use tenant_table::fault::NameFault;
 use tenant_table::kinds::Kinds;
+use tenant_table::kinds_builder::KindsBuilder;
 use tenant_table::tenants::Tenants;
+use tenant_table::tenants_builder::TenantsBuilder;
 
 // Only what may go to another thread can be passed here.
 fn send_away<T: Send + Drop>(_sent: T) {}
@@ -13,8 +15,8 @@ fn tenants_of<R: Abort>(
     rt: &R,
     alloc: Global,
     rows: &[(&str, u32, Result<u32, NameFault>)],
-) -> Tenants {
-    let mut tenants = Tenants::new(alloc);
+) -> TenantsBuilder {
+    let mut tenants = TenantsBuilder::new(alloc);
     for (name, weight, wanted) in rows {
         assert_eq!(rt; tenants.add(name, *weight), *wanted, "at {name}");
     }
@@ -22,7 +24,7 @@ fn tenants_of<R: Abort>(
 }
 
 // The tenants of these names have these numbers.
-fn expect_found<R: Abort>(rt: &R, tenants: &Tenants, rows: &[(&str, Option<u32>)]) {
+fn expect_found<R: Abort>(rt: &R, tenants: &TenantsBuilder, rows: &[(&str, Option<u32>)]) {
     for (name, wanted) in rows {
         assert_eq!(rt; tenants.find(name), *wanted, "at {name}");
     }
@@ -44,6 +46,9 @@ fn expect_numbers<R: Abort>(
 ) {
     let tenants = tenants_of(rt, alloc, added);
     expect_found(rt, &tenants, found);
+    let Ok(tenants) = tenants.finish() else {
+        panic!(rt; "no memory for tenants")
+    };
     expect_second(rt, &tenants, "a.b-c_9", 1000);
     send_away(tenants);
 }
@@ -65,8 +70,8 @@ fn tenants_are_numbered_in_order(rt: HostRuntime) {
 }
 
 // Kinds with the names of one letter that stand in a text.
-fn kinds_of<R: Abort>(rt: &R, alloc: Global, letters: &str) -> Kinds {
-    let mut kinds = Kinds::new(alloc);
+fn kinds_of<R: Abort>(rt: &R, alloc: Global, letters: &str) -> KindsBuilder {
+    let mut kinds = KindsBuilder::new(alloc);
     let mut number = 0u32;
     for letter in letters.as_bytes() {
         let name = [*letter];
@@ -81,9 +86,13 @@ fn kinds_of<R: Abort>(rt: &R, alloc: Global, letters: &str) -> Kinds {
 }
 
 // Of 64 kinds the last has this name, and one more is refused.
-fn expect_full<R: Abort>(rt: &R, kinds: &mut Kinds, more: &str, last: &str) {
+fn expect_full<R: Abort>(rt: &R, kinds: &mut KindsBuilder, more: &str, last: &str) {
     assert_eq!(rt; kinds.add(more), Err(NameFault::TooMany(64)));
     assert_eq!(rt; kinds.find(last), Some(63));
+}
+
+// There are 64 kinds, and the last has this name.
+fn expect_last<R: Abort>(rt: &R, kinds: &Kinds, last: &str) {
     assert_eq!(rt; kinds.len(), 64);
     assert!(rt; kinds.name(63) == last);
 }
@@ -92,6 +101,10 @@ fn expect_full<R: Abort>(rt: &R, kinds: &mut Kinds, more: &str, last: &str) {
 fn expect_room_for<R: Abort>(rt: &R, alloc: Global, letters: &str) {
     let mut kinds = kinds_of(rt, alloc, letters);
     expect_full(rt, &mut kinds, ".", "-");
+    let Ok(kinds) = kinds.finish() else {
+        panic!(rt; "no memory for kinds")
+    };
+    expect_last(rt, &kinds, "-");
     send_away(kinds);
 }
 

@@ -13,17 +13,21 @@ use lag_report::reporting::report;
 use std::alloc::Global;
 use std::process::Abort;
 use tenant_table::tenants::Tenants;
+use tenant_table::tenants_builder::TenantsBuilder;
 
 // The names of two tenants.
 fn two_names<R: Abort>(rt: &R, alloc: Global) -> Tenants
     ensures { length result ≡ 2 }
 {
-    let mut names = Tenants::new(alloc);
+    let mut names = TenantsBuilder::new(alloc);
     let added = names.add("a", 1);
     let Ok(_) = added else { panic!(rt; "a name") };
     let added = names.add("b", 1);
     let Ok(_) = added else {
         panic!(rt; "another name")
+    };
+    let Ok(names) = names.finish() else {
+        panic!(rt; "no memory for names")
     };
     names
 }

@@ -162,7 +162,9 @@ fn records_are_those_of_csv(rt: HostRuntime) {
 
 // The first kind of a trace has this name.
 fn expect_first_kind<R: Abort>(rt: &R, trace: &Trace, name: &str) {
-    assert_eq!(rt; trace.kinds().find(name), Some(0), "of {name}");
+    let kinds = trace.kinds();
+    assert!(rt; !kinds.is_empty(), "of {name}");
+    assert!(rt; kinds.name(0) == name, "of {name}");
 }
 
 // So has that of the trace that a text says.

@@ -18,7 +18,7 @@ use fq_model::limits::GREATEST_TRACE_MOMENT;
 use fq_model::trace::TraceRow;
 use fq_model::words::number;
 use tenant_table::name::is_name;
-use tenant_table::tenants::Tenants;
+use tenant_table::tenants_builder::TenantsBuilder;
 
 /// A record whose fields are all texts.
 pub fn texts(bytes: ByteRecord) -> Option<StringRecord>
@@ -138,7 +138,7 @@ pub fn name_at(fields: &StringRecord, k: u32) -> Result<&str, RecordError>
 /// A name that no tenant has.
 #[tactic(auto, unfolding(fq_model::specs::TraceGrammar::new_name_at))]
 pub fn new_name_at<'a>(
-    tenants: &Tenants,
+    tenants: &TenantsBuilder,
     fields: &'a StringRecord,
     k: u32,
 ) -> Result<&'a str, RecordError>
@@ -156,7 +156,11 @@ pub fn new_name_at<'a>(
 
 /// The number of the tenant that is named.
 #[tactic(auto, unfolding(fq_model::specs::TraceGrammar::tenant_at))]
-pub fn tenant_at(tenants: &Tenants, fields: &StringRecord, k: u32) -> Result<u32, RecordError>
+pub fn tenant_at(
+    tenants: &TenantsBuilder,
+    fields: &StringRecord,
+    k: u32,
+) -> Result<u32, RecordError>
     requires { k < length (fields_of fields.now) }
     ensures { Gives (λ t. t) result (tenant_at (names_of tenants.now) (fields_of fields.now) k) }
 {

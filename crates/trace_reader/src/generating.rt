@@ -9,6 +9,7 @@ ghost use Rattle.fq_model.specs.TraceText.{IsLawfulTrace};
 ghost use Rattle.trace_reader.specs.Generating.{gen_refusal, FaultsOnly, HasRoomForOne};
 ghost use Rattle.trace_reader.specs.Reading.{trace_in};
 
+use crate::draft::Draft;
 use crate::fault::GenFault;
 use crate::fields::last_moment;
 use crate::trace::Trace;
@@ -18,8 +19,8 @@ use rand_core::SeedableRng;
 use rand_core::utils::NextWord;
 use rand_pcg::Lcg64Xsh32;
 use std::alloc::{AllocError, Global};
-use tenant_table::kinds::Kinds;
-use tenant_table::tenants::Tenants;
+use tenant_table::kinds_builder::KindsBuilder;
+use tenant_table::tenants_builder::TenantsBuilder;
 
 /// The trace of a seed, which may be any number: 1 to 4,096 tenants and up to 262,144 requests, three numbers of PCG32
 /// (O'Neill, 2014) for each request. Moments, declared numbers and costs are microseconds.
@@ -44,23 +45,23 @@ fn generated(alloc: Global, seed: u64, tenants: u32, requests: u32) -> Result<Tr
     ensures { IfOk result (λ t. t ≡ generated_trace seed tenants requests) }
 {
     let tenants = generated_tenants(alloc, tenants)?;
-    let mut trace = Trace::new(tenants, Kinds::new(alloc), Vec::new(alloc));
+    let mut draft = Draft::new(alloc, tenants);
     let mut numbers = Lcg64Xsh32::seed_from_u64(seed);
     for j in 0..requests {
         let moment = numbers.next_word();
         let tenant = numbers.next_word();
         let cost = numbers.next_word();
-        add_request(&mut trace, j, moment, tenant, cost)?;
+        add_request(&mut draft, j, moment, tenant, cost)?;
     }
-    trace.with_some_kind(alloc)
+    draft.finish(alloc)
 }
 
 // The tenants, each with the name and the weight of its number.
-fn generated_tenants(alloc: Global, count: u32) -> Result<Tenants, AllocError>
+fn generated_tenants(alloc: Global, count: u32) -> Result<TenantsBuilder, AllocError>
     requires { count ≤ MOST_TENANTS }
     ensures { IfOk result (λ tenants. trace_in tenants [] [] ≡ generated_tenants count) }
 {
-    let mut tenants = Tenants::new(alloc);
+    let mut tenants = TenantsBuilder::new(alloc);
     for t in 0..count {
         let name = format!(in alloc; "t{t}")?;
         tenants.add_new(&name, 1 + t % 4)?;
@@ -70,19 +71,19 @@ fn generated_tenants(alloc: Global, count: u32) -> Result<Tenants, AllocError>
 
 // Adds request `j`, whose moment, tenant and cost three random numbers say.
 fn add_request(
-    trace: &mut Trace,
+    draft: &mut Draft,
     j: u32,
     moment: u32,
     tenant: u32,
     cost: u32,
 ) -> Result<(), AllocError>
-    requires { HasRoomForOne trace.old }
-    ensures { OnOk result (trace.new ≡ with_generated (length trace.old.tenants) j trace.old moment tenant cost) }
+    requires { HasRoomForOne draft.old }
+    ensures { OnOk result (draft.new ≡ with_generated (length draft.old.tenants) j draft.old moment tenant cost) }
 {
-    let tenant = tenant % trace.tenants.len();
-    let moment = last_moment(trace.rows.as_slice()) + (moment % 200) as u64;
-    let kind = number_of_kind(&mut trace.kinds, kind_of(tenant))?;
-    trace.rows.push(TraceRow {
+    let tenant = tenant % draft.tenants.len();
+    let moment = last_moment(draft.rows.as_slice()) + (moment % 200) as u64;
+    let kind = number_of_kind(&mut draft.kinds, kind_of(tenant))?;
+    draft.rows.push(TraceRow {
         moment,
         submitter: j % 4,
         tenant,
@@ -94,7 +95,7 @@ fn add_request(
 }
 
 // The number of a kind, which is added where it is new.
-fn number_of_kind(kinds: &mut Kinds, name: &str) -> Result<u32, AllocError>
+fn number_of_kind(kinds: &mut KindsBuilder, name: &str) -> Result<u32, AllocError>
     requires spelled { IsTrue (is_name name.now) }
     requires room { length kinds.old < MOST_KINDS }
     ensures number { IfOk result (λ k. k ≡ number_by_appearance kinds.old name.now) }

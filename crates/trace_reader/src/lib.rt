@@ -2,6 +2,7 @@
 //! numbers.
 #![tactic(auto)]
 
+mod draft;
 pub mod fault;
 mod fields;
 pub mod generating;

@@ -7,6 +7,7 @@ ghost use Rattle.fq_model.specs.TraceGrammar.{with_tenant, with_request, with_re
 ghost use Rattle.fq_model.specs.TraceText.{IsLawfulTrace};
 ghost use Rattle.trace_reader.specs.Reading.{Gives, IsFirstFault, are_too_many};
 
+use crate::draft::Draft;
 use crate::fault::{RecordError, TraceFault};
 use crate::fields::{
     begins_with, expect_count, moment_at, name_at, new_name_at, ranged_at, small_at, tenant_at,
@@ -32,44 +33,44 @@ fn are_too_many(tenants: u32, kinds: u32, rows: usize) -> bool
 }
 
 #[tactic(auto, unfolding(fq_model::specs::TraceGrammar::with_tenant))]
-fn add_tenant(trace: &mut Trace, fields: &StringRecord) -> Result<(), RecordError>
-    ensures { Gives (λ _. trace.new) result (with_tenant trace.old (fields_of fields.now)) }
+fn add_tenant(draft: &mut Draft, fields: &StringRecord) -> Result<(), RecordError>
+    ensures { Gives (λ _. draft.new) result (with_tenant draft.old (fields_of fields.now)) }
 {
     expect_count(fields, 3)?;
-    let name = new_name_at(&trace.tenants, fields, 1)?;
+    let name = new_name_at(&draft.tenants, fields, 1)?;
     let weight = small_at(fields, 2, 1, GREATEST_WEIGHT)?;
-    if are_too_many(trace.tenants.len() + 1, trace.kinds.len(), trace.rows.len()) {
+    if are_too_many(draft.tenants.len() + 1, draft.kinds.len(), draft.rows.len()) {
         return Err(RecordError::Fault(TraceKind::TooMany));
     }
-    trace.tenants.add_new(name, weight)?;
+    draft.tenants.add_new(name, weight)?;
     Ok(())
 }
 
 #[tactic(auto, unfolding(fq_model::specs::TraceGrammar::with_request))]
-fn add_request(trace: &mut Trace, fields: &StringRecord) -> Result<(), RecordError>
-    ensures { Gives (λ _. trace.new) result (with_request trace.old (fields_of fields.now)) }
+fn add_request(draft: &mut Draft, fields: &StringRecord) -> Result<(), RecordError>
+    ensures { Gives (λ _. draft.new) result (with_request draft.old (fields_of fields.now)) }
 {
     expect_count(fields, 7)?;
-    let moment = moment_at(trace.rows.as_slice(), fields, 1)?;
+    let moment = moment_at(draft.rows.as_slice(), fields, 1)?;
     let submitter = small_at(fields, 2, 0, GREATEST_SUBMITTER)?;
-    let tenant = tenant_at(&trace.tenants, fields, 3)?;
+    let tenant = tenant_at(&draft.tenants, fields, 3)?;
     let name = name_at(fields, 4)?;
     let declared = ranged_at(fields, 5, 1, GREATEST_COST)?;
     let cost = ranged_at(fields, 6, 1, GREATEST_COST)?;
-    let found = trace.kinds.find(name);
+    let found = draft.kinds.find(name);
     let kinds = if found.is_some() {
-        trace.kinds.len()
+        draft.kinds.len()
     } else {
-        trace.kinds.len() + 1
+        draft.kinds.len() + 1
     };
-    if are_too_many(trace.tenants.len(), kinds, trace.rows.len() + 1) {
+    if are_too_many(draft.tenants.len(), kinds, draft.rows.len() + 1) {
         return Err(RecordError::Fault(TraceKind::TooMany));
     }
     let kind = match found {
         Some(kind) => kind,
-        None => trace.kinds.add_new(name)?,
+        None => draft.kinds.add_new(name)?,
     };
-    trace.rows.push(TraceRow {
+    draft.rows.push(TraceRow {
         moment,
         submitter,
         tenant,
@@ -81,14 +82,14 @@ fn add_request(trace: &mut Trace, fields: &StringRecord) -> Result<(), RecordErr
 }
 
 #[tactic(auto, unfolding(fq_model::specs::TraceGrammar::with_record))]
-fn add_texts(trace: &mut Trace, fields: &StringRecord) -> Result<(), RecordError>
+fn add_texts(draft: &mut Draft, fields: &StringRecord) -> Result<(), RecordError>
     requires { IsTrue (list_all is_utf8 (fields_of fields.now)) }
-    ensures { Gives (λ _. trace.new) result (with_record trace.old (fields_of fields.now)) }
+    ensures { Gives (λ _. draft.new) result (with_record draft.old (fields_of fields.now)) }
 {
     if begins_with(fields, "tenant") {
-        add_tenant(trace, fields)
+        add_tenant(draft, fields)
     } else if begins_with(fields, "request") {
-        add_request(trace, fields)
+        add_request(draft, fields)
     } else {
         Err(RecordError::Fault(TraceKind::Word))
     }
@@ -96,28 +97,28 @@ fn add_texts(trace: &mut Trace, fields: &StringRecord) -> Result<(), RecordError
 
 // Adds a record.
 #[tactic(auto, unfolding(fq_model::specs::TraceGrammar::with_record))]
-fn add_record(trace: &mut Trace, bytes: ByteRecord) -> Result<(), RecordError>
-    ensures { Gives (λ _. trace.new) result (with_record trace.old (fields_of bytes)) }
+fn add_record(draft: &mut Draft, bytes: ByteRecord) -> Result<(), RecordError>
+    ensures { Gives (λ _. draft.new) result (with_record draft.old (fields_of bytes)) }
 {
     match texts(bytes) {
-        Some(fields) => add_texts(trace, &fields),
+        Some(fields) => add_texts(draft, &fields),
         None => Err(RecordError::Fault(TraceKind::NotUtf8)),
     }
 }
 
 // All records are read: gives the trace a kind where no request names one. `place` is one more than the
 // number of records.
-fn finish(alloc: Global, trace: Trace, place: u64) -> Result<Trace, TraceFault>
-    ensures ok { IfOk result (λ t. at_end place trace ≡ Ok t) }
-    ensures fault { IfErr result (λ f. IsFirstFault f (at_end place trace)) }
+fn finish(alloc: Global, draft: Draft, place: u64) -> Result<Trace, TraceFault>
+    ensures ok { IfOk result (λ t. at_end place draft ≡ Ok t) }
+    ensures fault { IfErr result (λ f. IsFirstFault f (at_end place draft)) }
 {
-    if trace.tenants.is_empty() {
+    if draft.tenants.is_empty() {
         return Err(TraceFault::At {
             line: place,
             kind: TraceKind::NoTenants,
         });
     }
-    Ok(trace.with_some_kind(alloc)?)
+    Ok(draft.finish(alloc)?)
 }
 
 /// Reads a trace, or names its first fault. An answer that memory ran out says nothing of the text.
@@ -130,16 +131,16 @@ pub fn read(alloc: Global, bytes: &[u8]) -> Result<Trace, TraceFault>
         .has_headers(false)
         .flexible(true)
         .from_reader(alloc, bytes);
-    let mut trace = Trace::empty(alloc);
+    let mut draft = Draft::empty(alloc);
     let mut place: u64 = 1;
     for record in reader.into_byte_records() {
         let Ok(record) = record else {
             return Err(TraceFault::NoMemory);
         };
-        if let Err(e) = add_record(&mut trace, record) {
+        if let Err(e) = add_record(&mut draft, record) {
             return Err(e.at(place));
         }
         place += 1;
     }
-    finish(alloc, trace, place)
+    finish(alloc, draft, place)
 }

@@ -1,12 +1,9 @@
 //! Traces.
-ghost use Rattle.std.specs.Prelude.{◌≡◌, [], IfOk};
-ghost use Rattle.fq_model.specs.Trace.{with_some_kind};
-ghost use Rattle.fq_model.specs.TraceGrammar.{no_records};
+ghost use Rattle.std.specs.Prelude.{◌≡◌};
 ghost use Rattle.tenant_table.specs.Names.{names_of, weights_of};
 ghost use Rattle.trace_reader.specs.Reading.{trace_in};
 
 use fq_model::trace::TraceRow;
-use std::alloc::{AllocError, Global};
 use std::marker::Model;
 use tenant_table::kinds::Kinds;
 use tenant_table::tenants::Tenants;
@@ -14,9 +11,9 @@ use tenant_table::tenants::Tenants;
 /// A trace: the tenants and kinds that there are, and the requests that come, in order of time.
 #[derive(Drop)]
 pub struct Trace {
-    pub(crate) tenants: Tenants,
-    pub(crate) kinds: Kinds,
-    pub(crate) rows: Vec<TraceRow>,
+    tenants: Tenants,
+    kinds: Kinds,
+    rows: Vec<TraceRow>,
 }
 
 impl Model for Trace {
@@ -38,30 +35,6 @@ impl Trace {
             kinds,
             rows,
         }
-    }
-
-    // No tenants and no requests yet. Takes no memory.
-    pub(crate) fn empty(alloc: Global) -> Trace
-        ensures { result ≡ no_records }
-    {
-        Trace::new(Tenants::new(alloc), Kinds::new(alloc), Vec::new(alloc))
-    }
-
-    // The trace of all these requests: where there are none, it has the one kind `-`.
-    pub(crate) fn with_some_kind(self, alloc: Global) -> Result<Trace, AllocError>
-        ensures { IfOk result (λ t. t ≡ with_some_kind self) }
-    {
-        if !self.rows.is_empty() {
-            return Ok(self);
-        }
-        let Trace {
-            tenants,
-            kinds: _,
-            rows,
-        } = self;
-        let mut kinds = Kinds::new(alloc);
-        kinds.add_new("-")?;
-        Ok(Trace::new(tenants, kinds, rows))
     }
 
     /// The tenants.

@@ -15,7 +15,7 @@ loop-record-init c =
     let start = c.into_iter-record-iterator.ensures.into_iter_gives ∙ refl in
     let rdr = c.into_byte_records-record-items.ensures.rdr in
     let left = c.into_byte_records-record-items.ensures.left in
-    rw (start, rdr, c.empty-trace.ensures, fr.state) (
+    rw (start, rdr, c.empty-draft.ensures, fr.state) (
       rw (flexible, headers) at fr.trim ∙ c.new.ensures.trim,
       inr (inr (rw (flexible, headers) at fr.has_headers, fr.headers)),
       left,
@@ -31,14 +31,14 @@ returns-in-Err-clause-fault c =
     let inv = c.loop-record.invariant in
     let s = rw (c.in-Some.is, c.in-Ok.is) at ((c.next.ensures.steps inv.2 inv.0).0 inv.1) in
     let m = one_read (λ (b : Bor (List ℕ)). Some b.now) c.loop-record.record-iterator.rdr c.next.new.self.rdr (fields_of c.in-Ok.record) inv.4 inv.3 inv.5 s.0 in
-    rw c.at.ensures (first_fault (strip_bom c.args.bytes.now) c.loop-record.trace c.loop-record.place _ _ inv.4 m.0 (fields_of c.in-Ok.record) c.in-Err.e inv.6 m.2 c.in-Err.ensures)
+    rw c.at.ensures (first_fault (strip_bom c.args.bytes.now) c.loop-record.draft c.loop-record.place _ _ inv.4 m.0 (fields_of c.in-Ok.record) c.in-Err.e inv.6 m.2 c.in-Err.ensures)
 
 pub overflow_add-place : goal.overflow_add-place
 overflow_add-place c =
     let inv = c.loop-record.invariant in
     let s = rw (c.in-Some.is, c.in-Ok.is) at ((c.next.ensures.steps inv.2 inv.0).0 inv.1) in
     let m = one_read (λ (b : Bor (List ℕ)). Some b.now) c.loop-record.record-iterator.rdr c.next.new.self.rdr (fields_of c.in-Ok.record) inv.4 inv.3 inv.5 s.0 in
-    let most = place_at_most (strip_bom c.args.bytes.now) c.loop-record.trace c.loop-record.place _ _ inv.4 m.0 (fields_of c.in-Ok.record) inv.6 m.2 in
+    let most = place_at_most (strip_bom c.args.bytes.now) c.loop-record.draft c.loop-record.place _ _ inv.4 m.0 (fields_of c.in-Ok.record) inv.6 m.2 in
     let short : length (strip_bom c.args.bytes.now) ≤ length c.args.bytes.now = stripped c.args.bytes.now in
     search rules
 
@@ -47,7 +47,7 @@ loop-record-preserved c =
     let inv = c.loop-record.invariant in
     let s = rw (c.in-Some.is, c.in-Ok.is) at ((c.next.ensures.steps inv.2 inv.0).0 inv.1) in
     let m = one_read (λ (b : Bor (List ℕ)). Some b.now) c.loop-record.record-iterator.rdr c.next.new.self.rdr (fields_of c.in-Ok.record) inv.4 inv.3 inv.5 s.0 in
-    (s.0.3 ∙ inv.0, inl s.1, s.2, s.0.2 ∙ inv.3, m.0, m.1, next_at (strip_bom c.args.bytes.now) c.loop-record.trace c.add_record.new.trace c.loop-record.place _ _ inv.4 m.0 (fields_of c.in-Ok.record) inv.6 m.2 c.in_default-add_record.ensures)
+    (s.0.3 ∙ inv.0, inl s.1, s.2, s.0.2 ∙ inv.3, m.0, m.1, next_at (strip_bom c.args.bytes.now) c.loop-record.draft c.add_record.new.draft c.loop-record.place _ _ inv.4 m.0 (fields_of c.in-Ok.record) inv.6 m.2 c.in_default-add_record.ensures)
 
 pub returns-clause-ok : goal.returns-clause-ok
 unfolding trace_of
@@ -55,7 +55,7 @@ returns-clause-ok c =
     let inv = c.loop-record.invariant in
     let s = rw c.in-None.is at ((c.next.ensures.steps inv.2 inv.0).0 inv.1) in
     let none = rows-end (λ (b : Bor (List ℕ)). Some b.now) c.loop-record.record-iterator.rdr c.next.new.self.rdr [] default_config inv.4 inv.3 inv.5 s in
-    let all = at_its_end (strip_bom c.args.bytes.now) c.loop-record.trace c.loop-record.place _ inv.4 inv.6 none in
+    let all = at_its_end (strip_bom c.args.bytes.now) c.loop-record.draft c.loop-record.place _ inv.4 inv.6 none in
     rw all c.finish.ensures.ok
 
 pub returns-clause-lawful : goal.returns-clause-lawful
@@ -64,7 +64,7 @@ returns-clause-lawful c =
     let inv = c.loop-record.invariant in
     let s = rw c.in-None.is at ((c.next.ensures.steps inv.2 inv.0).0 inv.1) in
     let none = rows-end (λ (b : Bor (List ℕ)). Some b.now) c.loop-record.record-iterator.rdr c.next.new.self.rdr [] default_config inv.4 inv.3 inv.5 s in
-    let all = at_its_end (strip_bom c.args.bytes.now) c.loop-record.trace c.loop-record.place _ inv.4 inv.6 none in
+    let all = at_its_end (strip_bom c.args.bytes.now) c.loop-record.draft c.loop-record.place _ inv.4 inv.6 none in
     lawful_answer c.args.bytes.now c.finish.result (rw all c.finish.ensures.ok)
 
 pub returns-clause-fault : goal.returns-clause-fault
@@ -73,5 +73,5 @@ returns-clause-fault c =
     let inv = c.loop-record.invariant in
     let s = rw c.in-None.is at ((c.next.ensures.steps inv.2 inv.0).0 inv.1) in
     let none = rows-end (λ (b : Bor (List ℕ)). Some b.now) c.loop-record.record-iterator.rdr c.next.new.self.rdr [] default_config inv.4 inv.3 inv.5 s in
-    let all = at_its_end (strip_bom c.args.bytes.now) c.loop-record.trace c.loop-record.place _ inv.4 inv.6 none in
+    let all = at_its_end (strip_bom c.args.bytes.now) c.loop-record.draft c.loop-record.place _ inv.4 inv.6 none in
     rw all c.finish.ensures.fault

@@ -7,4 +7,4 @@ use Rattle.trace_reader.proofs.reading.read.Given as goal
 abbrev pub invariant-loop-record : goal.invariant-loop-record
 invariant-loop-record l = (l.record-iterator.rdr.trim ≡ trim.None) × Ready l.record-iterator.rdr × (0 < l.record-iterator.left) × (l.record-iterator.rdr.config ≡ default_config)
     × (xs : List ℕ) × (source_of (λ s. Some s.now) l.record-iterator.rdr ≡ Some xs)
-    × IsAt (strip_bom l.bytes) l.trace l.place l.record-iterator.rdr.state xs
+    × IsAt (strip_bom l.bytes) l.draft l.place l.record-iterator.rdr.state xs

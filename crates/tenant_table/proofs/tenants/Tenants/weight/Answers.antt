@@ -1,8 +1,9 @@
 use Rattle.std.proofs.Common.{sym}
-use Rattle.tenant_table.proofs.Tables.{weight_at}
+use Rattle.tenant_table.proofs.Tables.{weight_at, row_at}
 use Rattle.tenant_table.proofs.tenants.Tenants.weight.Goals as goal
 
 pub returns-clause-value : goal.returns-clause-value
 returns-clause-value c =
-    let at = sym (rw c.unwrap.ensures at c.get_index.ensures.entry) in
-    rw (← c.self.view_is) (sym (weight_at c.self.inside.rows.entries c.args.t (c.unwrap.result.0.now, c.unwrap.result.1.now) at))
+    let rows = c.self.inside.rows.items in
+    let row = row_at rows c.args.t c.index.result.now (rw (← c.self.view_is) at c.requires) c.index.ensures in
+    rw (← c.self.view_is) (sym (weight_at rows c.args.t c.index.result.now row))

@@ -1,7 +1,7 @@
 use Rattle.std.proofs.Common.{sym, ◌∙◌}
 use Rattle.tenant_table.specs.Rows.{kinds_of}
 use Rattle.tenant_table.proofs.Tables.{number_kinds, found, absent}
-use Rattle.tenant_table.proofs.kinds.Kinds.find.Goals as goal
+use Rattle.tenant_table.proofs.kinds_builder.KindsBuilder.find.Goals as goal
 
 pub returns-in_err-found-clause-number : goal.returns-in_err-found-clause-number
 returns-in_err-found-clause-number c = rw (c.from_residual.ensures, ← c.self.view_is) (c.in_err-found.ensures.index ∙ sym (number_kinds c.args.name.now c.self.inside.names.keys))

@@ -1,10 +1,11 @@
-use crate::command::command;
-use crate::options::{Absent, OptionRow, Value, Values, values_in};
+//! Command lines, and what they ask for.
+use command_line::command::command;
+use command_line::options::{Absent, OptionRow, Value, Values, values_in};
 use fq_model::command::{Command, GenPrint, HistoryPrint, ScriptPrint};
 use fq_model::config::{Estimator, Policy};
 use fq_model::trace::RunOptions;
-use std::alloc::{AllocError, Global};
-use std::test::Fail;
+use std::alloc::Global;
+use std::process::Abort;
 
 // An option of each kind.
 const ROWS: [OptionRow; 3] = [
@@ -29,20 +30,38 @@ const ROWS: [OptionRow; 3] = [
 ];
 
 // The words of a line, one space between each two.
-fn words_of(alloc: Global, line: &str) -> Result<Vec<String>, AllocError> {
+fn words_of<R: Abort>(rt: &R, alloc: Global, line: &str) -> Vec<String> {
     let mut words = Vec::new(alloc);
     for word in line.split(' ') {
-        words.push(word.to_string(alloc)?)?;
+        let Ok(word) = word.to_string(alloc) else {
+            panic!(rt; "no memory for a word")
+        };
+        let Ok(()) = words.push(word) else {
+            panic!(rt; "no memory for words")
+        };
     }
-    Ok(words)
+    words
+}
+
+// Each of these lines is this command, or none.
+fn expect_commands<R: Abort>(rt: &R, alloc: Global, rows: &[(&str, Option<Command>)]) {
+    for (line, wanted) in rows {
+        let words = words_of(rt, alloc, line);
+        assert!(rt; command(&words) == *wanted, "at {line}");
+    }
+}
+
+// No words are no command.
+fn expect_no_command<R: Abort>(rt: &R) {
+    assert!(rt; command(&[]) == None);
 }
 
 #[test]
-fn script_is_read(rt: HostRuntime) -> Result<(), Fail> {
-    let replies = Some(ScriptPrint::Replies);
-    let journal = Some(ScriptPrint::Journal);
-    let both = Some(ScriptPrint::Both);
-    for (line, want) in [
+fn script_is_read(rt: HostRuntime) {
+    let replies = Some(script(ScriptPrint::Replies));
+    let journal = Some(script(ScriptPrint::Journal));
+    let both = Some(script(ScriptPrint::Both));
+    let rows = [
         ("script", replies),
         ("script --print replies", replies),
         ("script --print journal", journal),
@@ -67,13 +86,13 @@ fn script_is_read(rt: HostRuntime) -> Result<(), Fail> {
         ("script --print Journal", None),
         ("script --print=journal=x", None),
         ("script --print journal --print journal", None),
-    ] {
-        let words = words_of(rt.alloc(), line)?;
-        let want = want.map(|print| Command::Script { print });
-        assert_eq!(rt; command(&words), want, "at {line}");
-    }
-    assert_eq!(rt; command(&[]), None);
-    Ok(())
+    ];
+    expect_commands(&rt, rt.alloc(), &rows);
+    expect_no_command(&rt);
+}
+
+fn script(print: ScriptPrint) -> Command {
+    Command::Script { print }
 }
 
 fn run(options: RunOptions, slot: u64, print: HistoryPrint) -> Command {
@@ -103,7 +122,7 @@ fn generate(seed: u64, tenants: u32, requests: u32, print: GenPrint) -> Command 
 }
 
 #[test]
-fn the_others_are_read(rt: HostRuntime) -> Result<(), Fail> {
+fn the_others_are_read(rt: HostRuntime) {
     let plain = RunOptions {
         workers: 4,
         policy: Policy::TwoDfq,
@@ -118,7 +137,7 @@ fn the_others_are_read(rt: HostRuntime) -> Result<(), Fail> {
         initial: 1,
         refresh: 0,
     };
-    for (line, want) in [
+    let rows = [
         ("run", Some(run(plain, 0, HistoryPrint::Both))),
         (
             "run --workers=64 --",
@@ -168,17 +187,23 @@ fn the_others_are_read(rt: HostRuntime) -> Result<(), Fail> {
         ("gen --seed 7 --tenants 0 --requests 0", None),
         ("gen --seed 7 --tenants 4097 --requests 0", None),
         ("gen --seed 7 --tenants 1 --requests 262145", None),
-    ] {
-        let words = words_of(rt.alloc(), line)?;
-        assert_eq!(rt; command(&words), want, "at {line}");
+    ];
+    expect_commands(&rt, rt.alloc(), &rows);
+}
+
+// By the rows above each of these lines has these values, or is none.
+fn expect_values<R: Abort>(rt: &R, alloc: Global, rows: &[(&str, Option<[Value; 3]>)]) {
+    for (line, wanted) in rows {
+        let words = words_of(rt, alloc, line);
+        let read: Option<[Value; 3]> = values_in(&ROWS, &words);
+        assert!(rt; read == *wanted, "at {line}");
     }
-    Ok(())
 }
 
 #[test]
-fn options_are_read(rt: HostRuntime) -> Result<(), Fail> {
+fn options_are_read(rt: HostRuntime) {
     let most = u64::MAX;
-    for (line, want) in [
+    let rows = [
         ("--seed 0", Some([Some(0), Some(4), None])),
         (
             "--seed=18446744073709551615 --",
@@ -205,10 +230,6 @@ fn options_are_read(rt: HostRuntime) -> Result<(), Fail> {
         ("--seed 7 --explain=0 --explain=0", None),
         ("--seed 7 --Workers 4", None),
         ("--seed 7 --work 4", None),
-    ] {
-        let words = words_of(rt.alloc(), line)?;
-        let read: Option<[Value; 3]> = values_in(&ROWS, &words);
-        assert_eq!(rt; read, want, "at {line}");
-    }
-    Ok(())
+    ];
+    expect_values(&rt, rt.alloc(), &rows);
 }

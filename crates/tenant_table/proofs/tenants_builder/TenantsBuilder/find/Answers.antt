@@ -2,7 +2,7 @@ use Rattle.std.proofs.Common.{sym, ◌∙◌}
 use Rattle.tenant_table.specs.Names.{names_of}
 use Rattle.tenant_table.specs.Rows.{tenants_of}
 use Rattle.tenant_table.proofs.Tables.{number_rows, found, absent}
-use Rattle.tenant_table.proofs.tenants.Tenants.find.Goals as goal
+use Rattle.tenant_table.proofs.tenants_builder.TenantsBuilder.find.Goals as goal
 
 pub returns-in_err-found-clause-number : goal.returns-in_err-found-clause-number
 returns-in_err-found-clause-number c = rw (c.from_residual.ensures, ← c.self.view_is) (c.in_err-found.ensures.index ∙ sym (number_rows c.args.name.now c.self.inside.rows.entries))

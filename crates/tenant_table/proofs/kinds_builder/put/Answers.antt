@@ -1,7 +1,7 @@
 use Rattle.std.proofs.Common.{ap, ◌∙◌, ◌++◌, [], ◌∷◌, cond}
 use Rattle.tenant_table.specs.Rows.{kinds_of}
 use Rattle.tenant_table.proofs.Tables.{no_key, keys_push}
-use Rattle.tenant_table.proofs.kinds.put.Goals as goal
+use Rattle.tenant_table.proofs.kinds_builder.put.Goals as goal
 
 pub returns-clause-ok : goal.returns-clause-ok
 returns-clause-ok c =

@@ -3,7 +3,7 @@ use Rattle.std.specs.String.{string_eq}
 use Rattle.indexmap.proofs.CallerLemmas.{insert_entry-new}
 use Rattle.tenant_table.specs.Rows.{tenants_of}
 use Rattle.tenant_table.proofs.Tables.{no_row, rows_push}
-use Rattle.tenant_table.proofs.tenants.put.Goals as goal
+use Rattle.tenant_table.proofs.tenants_builder.put.Goals as goal
 
 pub returns-clause-ok : goal.returns-clause-ok
 returns-clause-ok c =

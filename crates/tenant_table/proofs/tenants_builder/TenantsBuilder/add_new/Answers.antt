@@ -1,6 +1,6 @@
 use Rattle.tenant_table.specs.Rows.{tenants_of}
 use Rattle.tenant_table.proofs.Tables.{tenants_push}
-use Rattle.tenant_table.proofs.tenants.Tenants.add_new.Goals as goal
+use Rattle.tenant_table.proofs.tenants_builder.TenantsBuilder.add_new.Goals as goal
 
 pub invariant_of-self-2 : goal.invariant_of-self-2
 invariant_of-self-2 c =

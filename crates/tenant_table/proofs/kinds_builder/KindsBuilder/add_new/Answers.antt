@@ -1,6 +1,6 @@
 use Rattle.tenant_table.specs.Rows.{kinds_of}
 use Rattle.tenant_table.proofs.Tables.{names_push}
-use Rattle.tenant_table.proofs.kinds.Kinds.add_new.Goals as goal
+use Rattle.tenant_table.proofs.kinds_builder.KindsBuilder.add_new.Goals as goal
 
 pub invariant_of-self-2 : goal.invariant_of-self-2
 invariant_of-self-2 c =
