@@ -43,7 +43,11 @@ pub fn live_text<T: Wait + Threads + Sync, K: Clock + Sync>(
         (IsOutputStop (K.tells clock.now) (Live options slot what watch) input.now) }
 {
     match read(alloc, input) {
-        Ok(trace) => pool_text(rt, alloc, &trace, options, slot, what, clock),
+        Ok(trace) => {
+            let text = pool_text(rt, alloc, &trace, options, slot, what, clock);
+            drop(trace);
+            text
+        }
         Err(fault) => Err(fault_stop(alloc, fault)),
     }
 }
@@ -69,14 +73,16 @@ fn pool_text<T: Wait + Threads + Sync, K: Clock + Sync>(
     );
     match served {
         Ok(scheduler) => {
-            history_text(
+            let text = history_text(
                 alloc,
                 what,
                 slot,
                 &scheduler,
                 trace.tenants(),
                 trace.kinds(),
-            )
+            );
+            drop(scheduler);
+            text
         }
         Err(PoolFault::TooManyEntries(needed)) => Err(entries_stop(alloc, needed)),
         Err(PoolFault::NoMemory) => Err(Stop::NoMemory),

@@ -1,14 +1,15 @@
 //! The program, over any source, sinks and clock.
-ghost use Rattle.std.specs.Prelude.{ℕ, ◌≡◌, ◌≤◌, map, is_some, Err, IfSome};
+ghost use Rattle.std.specs.Prelude.{ℕ, ◌≡◌, ◌≤◌, map, is_some, Err, IfSome, IfErr, OnOk};
 ghost use Rattle.std.specs.String.{string_bytes};
 ghost use Rattle.command_line.specs.Commands.{IsInRange};
 ghost use Rattle.command_texts.specs.Commands.{Untold};
 ghost use Rattle.command_texts.specs.Stops.{status_of, message_of};
+ghost use Rattle.command_texts.specs.declared.stop.Stop.TheVariants.{Writing};
 ghost use Rattle.fq_model.specs.declared.command.Command.TheVariants.{Script, Run, Live, Gen};
 ghost use Rattle.fq_model.specs.declared.limits.TheConstants.{GREATEST_SLOT, MOST_TENANTS, MOST_ROWS};
 ghost use Rattle.fq_model.specs.Limits.{IsWithin, AreInRange};
 ghost use Rattle.twodfq_main.specs.Asked.{asked, if_one_of, is_plain, is_live, is_served};
-ghost use Rattle.twodfq_main.specs.Program.{Ends, EndsCommand, Move, Stays, IsRun, Says, TellsEnd, moved};
+ghost use Rattle.twodfq_main.specs.Program.{Ends, EndsCommand, Move, Stays, IsRun, Says, TellsEnd, Writes, WritesPart, moved};
 ghost use Rattle.twodfq_main.specs.Causes.{StatusMeans};
 
 use crate::pooling::live_text;
@@ -213,9 +214,9 @@ fn run_script<R: Source, W: Sink>(
     ensures sink_room { W.room sink.new ≡ W.room sink.old }
 {
     let input = read_all(alloc, source, GREATEST_INPUT)?;
-    let text = served_text::<IndexChooser>(alloc, print, input.as_slice())?;
-    write_all(sink, text.as_slice())?;
-    Ok(())
+    let text = served_text::<IndexChooser>(alloc, print, input.as_slice());
+    drop(input);
+    written(sink, text?)
 }
 
 // Reads a trace, simulates it and writes what is asked for of its history, or says why not.
@@ -236,9 +237,9 @@ fn run_trace<R: Source, W: Sink>(
     ensures sink_room { W.room sink.new ≡ W.room sink.old }
 {
     let input = read_all(alloc, source, GREATEST_INPUT)?;
-    let text = run_text(alloc, options, slot, print, input.as_slice())?;
-    write_all(sink, text.as_slice())?;
-    Ok(())
+    let text = run_text(alloc, options, slot, print, input.as_slice());
+    drop(input);
+    written(sink, text?)
 }
 
 // Reads a trace, serves it by a pool of threads and writes what is asked for of the pool's history, or says why not.
@@ -261,9 +262,9 @@ fn run_live<T: Wait + Threads + Sync, R: Source, W: Sink, K: Clock + Sync>(
     ensures sink_room { W.room sink.new ≡ W.room sink.old }
 {
     let input = read_all(alloc, source, GREATEST_INPUT)?;
-    let text = live_text(rt, alloc, options, slot, print, input.as_slice(), clock)?;
-    write_all(sink, text.as_slice())?;
-    Ok(())
+    let text = live_text(rt, alloc, options, slot, print, input.as_slice(), clock);
+    drop(input);
+    written(sink, text?)
 }
 
 // Generates a trace and writes it, or the summary of its history, or says why not.
@@ -284,6 +285,18 @@ fn run_generator<W: Sink>(
     ensures sink_room { W.room sink.new ≡ W.room sink.old }
 {
     let text = generated_text(alloc, seed, tenants, requests, print)?;
-    write_all(sink, text.as_slice())?;
-    Ok(())
+    written(sink, text)
+}
+
+// Writes a text, or says that a write failed.
+fn written<W: Sink>(sink: &mut W, text: Vec<u8>) -> Result<(), Stop>
+    ensures wrote { OnOk result (Writes (moved W.written W.faults sink.old sink.new) text.items) }
+    ensures failed { IfErr result (λ stop. (stop ≡ Writing)
+        × WritesPart (moved W.written W.faults sink.old sink.new) text.items) }
+    ensures later { W.faults sink.old ≤ W.faults sink.new }
+    ensures room { W.room sink.new ≡ W.room sink.old }
+{
+    let end = write_all(sink, text.as_slice());
+    drop(text);
+    Ok(end?)
 }
