@@ -1,3 +1,2 @@
 pub mod Serving
-pub mod Wants
 pub mod Reports

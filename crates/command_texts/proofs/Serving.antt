@@ -1,6 +1,6 @@
 -- The calls of a body, answered one by one.
 use Rattle.std.proofs.Common.{ℕ, ◌≡◌, ◌∙◌, refl, sym, ap, subst, Bool, true, false, if◌then◌else◌, List, [], ◌∷◌, ◌++◌, Result, Ok, Err}
-use Rattle.std.specs.Prelude.{is_err, codes, OnOk}
+use Rattle.std.specs.Prelude.{is_err, codes, OnOk, IfOk, IfErr, MatchResult}
 use Rattle.std.proofs.lemmas.Bool.{false≢true}
 use Rattle.std.proofs.lemmas.List.{append_assoc, append-nil}
 use Rattle.fq_model.specs.declared.command.ScriptPrint.{ScriptPrint}
@@ -19,16 +19,16 @@ use Rattle.fq_model.specs.Script.{Script, script_of, call_of_words}
 use Rattle.fq_model.specs.Texts.{reply_line, replies_text}
 use Rattle.fq_laws.proofs.Outcome.{outcome_snoc}
 use Rattle.journal_text.proofs.Bodies.{with_more}
-use Rattle.journal_text.specs.Body.{Below, with_first, said_below, with_body_lines, IsOpened, IsHeadFault}
+use Rattle.journal_text.specs.Body.{Below, with_first, said_below, with_body_lines, IsHeadFault}
 use Rattle.journal_text.specs.Reading.{IsFirstFault}
 use Rattle.journal_text.specs.declared.fault.ScriptFault.{ScriptFault}
 use Rattle.journal_text.specs.declared.fault.ScriptFault.TheVariants as faults
 use Rattle.fq_model.specs.declared.command.Command.TheVariants as commands
-use Rattle.command_texts.specs.Commands.{IsServed}
+use Rattle.command_texts.specs.Commands.{IsServed, Untold}
 use Rattle.command_texts.specs.Stops.{IsFaultStop, IsOutputStop}
 use Rattle.command_texts.specs.declared.stop.Stop.{Stop}
 use Rattle.command_texts.specs.declared.stop.Stop.TheVariants as stops
-use Rattle.command_texts.specs.Serving.{tells_replies, tells_journal, told_text, AreAnswered, IsBodyAnswered}
+use Rattle.command_texts.specs.Serving.{tells_replies, tells_journal, told_text, AreAnswered, IsBodyAnswered, OpensAs, IsBodyText, IsBodyStop}
 
 -- what a body says, or its first fault
 abbrev pub Said : Type 0
@@ -104,30 +104,26 @@ output_is Replies replies journal = append-nil replies
 output_is Journal replies journal = refl
 output_is Both replies journal = refl
 
--- a script whose body is answered, and what is written of it
-script_is_served : (what : ScriptPrint) (input : List ℕ) (head : Script) (below : Below) (told text : List ℕ) (past : List Entry) → IsOpened (λ reader. document_of (codes "script") reader input) head below → IsBodyAnswered (config_of head) (said_below call_of_words below) (tells_replies what) told past → text ≡ told ++ (if tells_journal what then journal_text (config_of head) head.tenants head.kinds past else []) → IsServed what input text
-script_is_served what input head below told text past opened b is = record {
-  script = record head { body = b.calls };
-  read = opened.means call_of_words ∙ ap (with_body_lines head) b.read;
-  replies = b.answered.replies;
-  past = past;
-  outcome = b.answered.outcome;
-  text_is = is ∙ (ap (λ t. t ++ (if tells_journal what then journal_text (config_of head) head.tenants head.kinds past else [])) b.answered.told ∙ output_is what (replies_text b.answered.replies) (journal_text (config_of head) head.tenants head.kinds past));
-}
-
--- the same by the parts of the script, and of the scheduler that served it
-pub is_served : (what : ScriptPrint) (input : List ℕ) (head : Script) (below : Below) (C D : Config) (tells : Bool) (names kinds : List (List ℕ)) (told text : List ℕ) (past : List Entry)
-    → IsOpened (λ reader. document_of (codes "script") reader input) head below → C ≡ config_of head → D ≡ C → tells ≡ tells_replies what → names ≡ head.tenants → kinds ≡ head.kinds
-    → IsBodyAnswered C (said_below call_of_words below) tells told past
-    → text ≡ told ++ (if tells_journal what then journal_text D names kinds past else []) → IsServed what input text
-is_served what input head below C D tells names kinds told text past opened c d t n k b is =
-    let body : IsBodyAnswered (config_of head) (said_below call_of_words below) (tells_replies what) told past =
-    subst (λ (x : Config). IsBodyAnswered x (said_below call_of_words below) (tells_replies what) told past) c
-    (subst (λ (x : Bool). IsBodyAnswered C (said_below call_of_words below) x told past) t b) in
-    let journal : journal_text D names kinds past ≡ journal_text (config_of head) head.tenants head.kinds past =
-    ap (λ (x : Config). journal_text x names kinds past) (d ∙ c)
-    ∙ (ap (λ (x : List (List ℕ)). journal_text (config_of head) x kinds past) n ∙ ap (λ (x : List (List ℕ)). journal_text (config_of head) head.tenants x past) k) in
-    script_is_served what input head below told text past opened body (is ∙ ap (λ (x : List ℕ). told ++ (if tells_journal what then x else [])) journal)
+-- what is written of a script whose body is answered
+pub is_served : (what : ScriptPrint) (input : List ℕ) (head : Script) (below : Below) (C : Config) (names kinds : List (List ℕ)) (text : List ℕ)
+    → OpensAs input head below → C ≡ config_of head → names ≡ head.tenants → kinds ≡ head.kinds
+    → IsBodyText what C names kinds (said_below call_of_words below) text → IsServed what input text
+is_served what input head below C names kinds text opened c n k body =
+    let answered : IsBodyAnswered (config_of head) (said_below call_of_words below) (tells_replies what) body.told body.past =
+    subst (λ (x : Config). IsBodyAnswered x (said_below call_of_words below) (tells_replies what) body.told body.past) c body.answered in
+    let journal : journal_text C names kinds body.past ≡ journal_text (config_of head) head.tenants head.kinds body.past =
+    ap (λ (x : Config). journal_text x names kinds body.past) c
+    ∙ (ap (λ (x : List (List ℕ)). journal_text (config_of head) x kinds body.past) n ∙ ap (λ (x : List (List ℕ)). journal_text (config_of head) head.tenants x body.past) k) in
+    record {
+      script = record head { body = answered.calls };
+      read = opened.means call_of_words ∙ ap (with_body_lines head) answered.read;
+      replies = answered.answered.replies;
+      past = body.past;
+      outcome = answered.answered.outcome;
+      text_is = body.text_is ∙ (ap (λ (x : List ℕ). body.told ++ (if tells_journal what then x else [])) journal
+          ∙ (ap (λ t. t ++ (if tells_journal what then journal_text (config_of head) head.tenants head.kinds body.past else [])) answered.answered.told
+          ∙ output_is what (replies_text answered.answered.replies) (journal_text (config_of head) head.tenants head.kinds body.past)));
+    }
 
 -- the first fault of a body is that of the script
 fault_below : (head : Script) (fault : ScriptFault) (said : Said) → IsFirstFault fault said → IsFirstFault fault (with_body_lines head said)
@@ -160,8 +156,15 @@ pub faulty_head : (Told : ℕ → Type 0) (what : ScriptPrint) (input : List ℕ
 faulty_head Told what input fault stop first tells = faulty_input Told what input fault stop (first call_of_words) tells
 
 -- a fault of the body
-pub faulty_body : (Told : ℕ → Type 0) (what : ScriptPrint) (input : List ℕ) (head : Script) (below : Below) (fault : ScriptFault) (stop : Stop)
-    → IsOpened (λ reader. document_of (codes "script") reader input) head below → IsFirstFault fault (said_below call_of_words below) → IsFaultStop fault stop
-    → IsOutputStop Told (commands.Script what) input stop
-faulty_body Told what input head below fault stop opened first tells =
-    faulty_input Told what input fault stop (subst (IsFirstFault fault) (sym (opened.means call_of_words)) (fault_below head fault (said_below call_of_words below) first)) tells
+pub faulty_body : (Told : ℕ → Type 0) (what : ScriptPrint) (input : List ℕ) (head : Script) (below : Below) (stop : Stop)
+    → OpensAs input head below → IsBodyStop (said_below call_of_words below) stop → IsOutputStop Told (commands.Script what) input stop
+faulty_body Told what input head below stop opened body =
+    faulty_input Told what input body.fault stop (subst (IsFirstFault body.fault) (sym (opened.means call_of_words)) (fault_below head body.fault (said_below call_of_words below) body.first)) body.stops
+
+-- what becomes of a script whose head is read
+pub opened_is : (A : Type 0) (bytes : A → List ℕ) (what : ScriptPrint) (head : Script) (below : Below) (C : Config) (names kinds : List (List ℕ)) (made : Result A Stop)
+    → C ≡ config_of head → names ≡ head.tenants → kinds ≡ head.kinds
+    → IfOk made (λ x. IsBodyText what C names kinds (said_below call_of_words below) (bytes x)) → IfErr made (IsBodyStop (said_below call_of_words below))
+    → (input : List ℕ) → OpensAs input head below → MatchResult made (λ x. IsServed what input (bytes x)) (IsOutputStop Untold (commands.Script what) input)
+opened_is A bytes what head below C names kinds (Ok x) c n k ok err input opened = is_served what input head below C names kinds (bytes x) opened c n k ok
+opened_is A bytes what head below C names kinds (Err stop) c n k ok err input opened = faulty_body Untold what input head below stop opened err

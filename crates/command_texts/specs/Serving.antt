@@ -1,5 +1,5 @@
 -- What is left of a script whose calls are answered as they are read.
-use Rattle.std.specs.Prelude.{ℕ, ◌≡◌, Bool, true, false, if◌then◌else◌, List, [], Result, Ok}
+use Rattle.std.specs.Prelude.{ℕ, ◌≡◌, Bool, true, false, if◌then◌else◌, codes, List, [], ◌++◌, Result, Ok}
 use Rattle.fq_model.specs.declared.command.ScriptPrint.{ScriptPrint}
 use Rattle.fq_model.specs.declared.command.ScriptPrint.TheVariants.{Replies, Journal}
 use Rattle.fq_model.specs.declared.config.Config.{Config}
@@ -7,9 +7,16 @@ use Rattle.fq_model.specs.declared.event.Call.{Call}
 use Rattle.fq_model.specs.declared.event.Entry.{Entry}
 use Rattle.fq_model.specs.declared.event.Reply.{Reply}
 use Rattle.fq_model.specs.declared.fault.ScriptKind.{ScriptKind}
+use Rattle.fq_model.specs.Document.{Document, document_of}
 use Rattle.fq_model.specs.History.{history_of}
 use Rattle.fq_model.specs.Outcome.{Outcome}
 use Rattle.fq_model.specs.Texts.{replies_text}
+use Rattle.fq_model.specs.JournalText.{journal_text}
+use Rattle.journal_text.specs.Body.{Below, IsOpened}
+use Rattle.journal_text.specs.declared.fault.ScriptFault.{ScriptFault}
+use Rattle.journal_text.specs.Reading.{IsFirstFault}
+use Rattle.command_texts.specs.declared.stop.Stop.{Stop}
+use Rattle.command_texts.specs.Stops.{IsFaultStop}
 
 -- whether replies are asked for, and whether the journal is
 abbrev pub tells_replies : ScriptPrint → Bool
@@ -19,6 +26,10 @@ tells_replies _ = true
 abbrev pub tells_journal : ScriptPrint → Bool
 tells_journal Replies = false
 tells_journal _ = true
+
+-- the input is a script with this head, and with this body left to be read
+abbrev pub OpensAs : List ℕ → Document Call → Below → Type 0
+OpensAs input head body = IsOpened (λ reader. document_of (codes "script") reader input) head body
 
 -- what is kept of replies: a line for each, if they are told
 abbrev pub told_text : Bool → List Reply → List ℕ
@@ -36,3 +47,16 @@ pub record IsBodyAnswered (C : Config) (said : Result (List Call) (ℕ × Script
   pub calls : List Call
   pub read : said ≡ Ok calls
   pub answered : AreAnswered C tells calls text past
+
+-- what is written of a script with this configuration and with these tenants and kinds, whose body says this
+pub record IsBodyText (what : ScriptPrint) (C : Config) (tenants kinds : List (List ℕ)) (said : Result (List Call) (ℕ × ScriptKind)) (text : List ℕ) : Type 0 where
+  pub told : List ℕ
+  pub past : List Entry
+  pub answered : IsBodyAnswered C said (tells_replies what) told past
+  pub text_is : text ≡ told ++ (if tells_journal what then journal_text C tenants kinds past else [])
+
+-- why nothing is written of a script whose body says this: its first fault, unless memory ran out
+pub record IsBodyStop (said : Result (List Call) (ℕ × ScriptKind)) (stop : Stop) : Type 0 where
+  pub fault : ScriptFault
+  pub first : IsFirstFault fault said
+  pub stops : IsFaultStop fault stop

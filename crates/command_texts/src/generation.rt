@@ -44,11 +44,14 @@ pub fn generated_text(
     };
     match what {
         GenPrint::Trace => {
-            let text = print(alloc, &trace)?;
-            Ok(text)
+            let text = print(alloc, &trace);
+            drop(trace);
+            Ok(text?)
         }
         GenPrint::Summary => {
-            simulated_text(alloc, &trace, DEFAULT_OPTIONS, 0, HistoryPrint::Summary)
+            let text = simulated_text(alloc, &trace, DEFAULT_OPTIONS, 0, HistoryPrint::Summary);
+            drop(trace);
+            text
         }
     }
 }

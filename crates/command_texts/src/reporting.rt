@@ -53,8 +53,9 @@ pub fn history_text<X: Chooser + Drop>(
         }
         HistoryPrint::Summary => {
             let report = made_report(alloc, slot, scheduler)?;
-            let text = summary(alloc, &report)?;
-            Ok(text)
+            let text = summary(alloc, &report);
+            drop(report);
+            Ok(text?)
         }
     }
 }
@@ -88,8 +89,9 @@ fn reported<X: Chooser>(
         (IsCellsStop prints.Report slot scheduler.now.config (history_of scheduler.now.past)) }
 {
     let report = made_report(alloc, slot, scheduler)?;
-    let text = print_report(alloc, &report, tenants)?;
-    Ok(text)
+    let text = print_report(alloc, &report, tenants);
+    drop(report);
+    Ok(text?)
 }
 
 // The report by the slot that is asked for, or by the automatic one.

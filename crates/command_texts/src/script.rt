@@ -1,19 +1,24 @@
 //! `script`: the calls of a script, and what is printed of them.
-ghost use Rattle.std.specs.Prelude.{◌≡◌, ◌++◌, [], if◌then◌else◌, string_bytes, MatchResult, IfOk, OnOk};
+ghost use Rattle.std.specs.Prelude.{ℕ, ◌≡◌, List, ◌++◌, [], if◌then◌else◌, string_bytes, MatchResult, IfOk, IfErr, OnOk};
 ghost use Rattle.fq_model.specs.declared.command.Command.TheVariants.{Script};
 ghost use Rattle.fq_model.specs.FaultTexts.{script_fault_text, placed_text};
 ghost use Rattle.fq_model.specs.JournalText.{journal_text};
+ghost use Rattle.fq_model.specs.Script.{call_of_words};
+ghost use Rattle.journal_text.specs.Body.{said_below};
 ghost use Rattle.tenant_table.specs.Names.{names_of};
 ghost use Rattle.command_texts.specs.Commands.{IsServed, Untold};
 ghost use Rattle.command_texts.specs.Histories.{message_line};
-ghost use Rattle.command_texts.specs.Serving.{tells_replies, tells_journal};
+ghost use Rattle.command_texts.specs.Serving.{OpensAs, IsBodyText, IsBodyStop, tells_replies, tells_journal};
 ghost use Rattle.command_texts.specs.Stops.{IsFaultStop, IsOutputStop};
 
 use crate::serve::{Served, serve};
 use crate::stop::Stop;
 use fq_model::command::ScriptPrint;
+use fq_model::config::Checked;
+use fq_model::event::Call;
 use fq_model::fault::ScriptKind;
-use journal_text::calls::open_script;
+use journal_text::body::Body;
+use journal_text::calls::{OpenScript, open_script};
 use journal_text::fault::{NoMemory, ScriptFault};
 use journal_text::messages::placed_fault;
 use journal_text::printing::add_journal;
@@ -34,20 +39,67 @@ pub fn served_text<X: Chooser + Drop>(
     ensures { MatchResult result (λ text. IsServed what input.now text.items)
         (IsOutputStop Untold (Script what) input.now) }
 {
-    let Opened { head, body } = match open_script(alloc, input) {
-        Ok(script) => script,
-        Err(fault) => return Err(fault_stop(alloc, fault)),
-    };
+    match open_script(alloc, input) {
+        Ok(script) => opened_text::<X>(alloc, what, script),
+        Err(fault) => Err(fault_stop(alloc, fault)),
+    }
+}
+
+// The same of a script whose head is read, whatever the input was.
+fn opened_text<X: Chooser + Drop>(
+    alloc: Global,
+    what: ScriptPrint,
+    script: OpenScript,
+) -> Result<Vec<u8>, Stop>
+    ensures { (input : List ℕ) → OpensAs input script.entry.head script.entry.body → MatchResult result
+        (λ text. IsServed what input text.items) (IsOutputStop Untold (Script what) input) }
+{
+    let Opened { head, body } = script;
     let (config, tenants, kinds, _) = head.into_parts();
-    let served: Served<X> = match serve(alloc, config, body, tells_replies(what)) {
-        Ok(served) => served,
-        Err(fault) => return Err(fault_stop(alloc, fault)),
-    };
+    let text = body_text::<X>(alloc, what, config, body, &tenants, &kinds);
+    drop(tenants);
+    drop(kinds);
+    text
+}
+
+// What is asked for of a script with this configuration, and with these tenants and kinds.
+fn body_text<'a, X: Chooser + Drop>(
+    alloc: Global,
+    what: ScriptPrint,
+    config: Checked,
+    body: Body<'a, Call>,
+    tenants: &Tenants,
+    kinds: &Kinds,
+) -> Result<Vec<u8>, Stop>
+    ensures text { IfOk result (λ text. IsBodyText what config (names_of tenants.now) kinds.now
+        (said_below call_of_words body.entry) text.items) }
+    ensures stop { IfErr result (IsBodyStop (said_below call_of_words body.entry)) }
+{
+    let served: Result<Served<X>, ScriptFault> = serve(alloc, config, body, tells_replies(what));
+    match served {
+        Ok(served) => Ok(told_text(alloc, what, served, tenants, kinds)?),
+        Err(fault) => Err(fault_stop(alloc, fault)),
+    }
+}
+
+// What was kept of the replies, and the journal if it is asked for.
+fn told_text<X: Chooser + Drop>(
+    alloc: Global,
+    what: ScriptPrint,
+    served: Served<X>,
+    tenants: &Tenants,
+    kinds: &Kinds,
+) -> Result<Vec<u8>, NoMemory>
+    ensures { IfOk result (λ text. text.items ≡ served.text.items ++ (if tells_journal what then
+        journal_text served.scheduler.config (names_of tenants.now) kinds.now served.scheduler.past else [])) }
+{
     let Served {
         mut text,
         scheduler,
     } = served;
-    add_if_asked(alloc, what, &scheduler, &tenants, &kinds, &mut text)?;
+    let added = add_if_asked(alloc, what, &scheduler, tenants, kinds, &mut text);
+    drop(scheduler);
+    added?;
     Ok(text)
 }
 

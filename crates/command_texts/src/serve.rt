@@ -1,5 +1,5 @@
 //! The calls of a script, answered as they are read.
-ghost use Rattle.std.specs.Prelude.{◌≡◌, IfOk, IfErr};
+ghost use Rattle.std.specs.Prelude.{◌≡◌, [], IfOk, IfErr, OnOk};
 ghost use Rattle.fq_model.specs.Script.{call_of_words};
 ghost use Rattle.journal_text.specs.Body.{said_below};
 ghost use Rattle.journal_text.specs.Reading.{IsFirstFault};
@@ -27,7 +27,7 @@ pub struct Served<X: Chooser> {
 pub fn serve<'a, X: Chooser + Drop>(
     alloc: Global,
     config: Checked,
-    mut body: Body<'a, Call>,
+    body: Body<'a, Call>,
     tells: bool,
 ) -> Result<Served<X>, ScriptFault>
     ensures served { IfOk result (λ s. IsBodyAnswered config (said_below call_of_words body.entry) tells
@@ -35,15 +35,54 @@ pub fn serve<'a, X: Chooser + Drop>(
     ensures same { IfOk result (λ s. s.scheduler.config ≡ config) }
     ensures fault { IfErr result (λ f. IsFirstFault f (said_below call_of_words body.entry)) }
 {
-    let Ok(mut scheduler) = Scheduler::open(alloc, config) else {
-        return Err(ScriptFault::NoMemory);
-    };
+    match Scheduler::open(alloc, config) {
+        Ok(scheduler) => serve_by(alloc, scheduler, body, tells),
+        Err(_) => Err(ScriptFault::NoMemory),
+    }
+}
+
+// The same, on a scheduler that was just opened.
+fn serve_by<'a, X: Chooser + Drop>(
+    alloc: Global,
+    mut scheduler: Scheduler<u64, X>,
+    body: Body<'a, Call>,
+    tells: bool,
+) -> Result<Served<X>, ScriptFault>
+    requires { scheduler.past ≡ [] }
+    ensures served { IfOk result (λ s. IsBodyAnswered scheduler.config (said_below call_of_words body.entry) tells
+        s.text.items s.scheduler.past) }
+    ensures same { IfOk result (λ s. s.scheduler.config ≡ scheduler.config) }
+    ensures fault { IfErr result (λ f. IsFirstFault f (said_below call_of_words body.entry)) }
+{
     let mut text = Vec::new(alloc);
+    match answer_all(body, tells, &mut scheduler, &mut text) {
+        Ok(()) => Ok(Served { text, scheduler }),
+        Err(fault) => {
+            drop(scheduler);
+            Err(fault)
+        }
+    }
+}
+
+// Makes the calls of a body, and keeps their replies as text if they are told.
+fn answer_all<'a, X: Chooser>(
+    mut body: Body<'a, Call>,
+    tells: bool,
+    scheduler: &mut Scheduler<u64, X>,
+    text: &mut Vec<u8>,
+) -> Result<(), ScriptFault>
+    requires opened { scheduler.old.past ≡ [] }
+    requires empty { text.old.items ≡ [] }
+    ensures served { OnOk result (IsBodyAnswered scheduler.old.config (said_below call_of_words body.entry) tells
+        text.new.items scheduler.new.past) }
+    ensures same { scheduler.new.config ≡ scheduler.old.config }
+    ensures fault { IfErr result (λ f. IsFirstFault f (said_below call_of_words body.entry)) }
+{
     while let Some(call) = body.read_next()? {
-        let reply = answer(&mut scheduler, call);
-        if tells && reply_line(reply, &mut text).is_err() {
+        let reply = answer(scheduler, call);
+        if tells && reply_line(reply, text).is_err() {
             return Err(ScriptFault::NoMemory);
         }
     }
-    Ok(Served { text, scheduler })
+    Ok(())
 }

@@ -38,7 +38,11 @@ pub fn run_text(
         (IsOutputStop Untold (Run options slot what) input.now) }
 {
     match read(alloc, input) {
-        Ok(trace) => simulated_text(alloc, &trace, options, slot, what),
+        Ok(trace) => {
+            let text = simulated_text(alloc, &trace, options, slot, what);
+            drop(trace);
+            text
+        }
         Err(fault) => Err(fault_stop(alloc, fault)),
     }
 }
@@ -60,14 +64,10 @@ pub fn simulated_text(
     let simulated: Result<Scheduler<u64, IndexChooser>, SimFault> = simulate(alloc, trace, options);
     match simulated {
         Ok(scheduler) => {
-            history_text(
-                alloc,
-                what,
-                slot,
-                &scheduler,
-                trace.tenants(),
-                trace.kinds(),
-            )
+            let (tenants, kinds) = (trace.tenants(), trace.kinds());
+            let text = history_text(alloc, what, slot, &scheduler, tenants, kinds);
+            drop(scheduler);
+            text
         }
         Err(SimFault::TooManyEntries(needed)) => Err(entries_stop(alloc, needed)),
         Err(SimFault::NoMemory) => Err(Stop::NoMemory),
