@@ -3,7 +3,7 @@ ghost use Rattle.std.specs.Prelude.{◌≡◌, ◌+◌, IsTrue, length, Ok, IfOk
 ghost use Rattle.std.specs.List.{list_all};
 ghost use Rattle.std.specs.Str.{is_utf8};
 ghost use Rattle.csv.specs.Records.{fields_of};
-ghost use Rattle.fq_model.specs.TraceGrammar.{with_tenant, with_request, with_record, at_end, trace_of};
+ghost use Rattle.fq_model.specs.TraceGrammar.{no_records, with_tenant, with_request, with_record, at_end, trace_of};
 ghost use Rattle.fq_model.specs.TraceText.{IsLawfulTrace};
 ghost use Rattle.trace_reader.specs.Reading.{Gives, IsFirstFault, are_too_many};
 
@@ -113,6 +113,7 @@ fn finish(alloc: Global, draft: Draft, place: u64) -> Result<Trace, TraceFault>
     ensures fault { IfErr result (λ f. IsFirstFault f (at_end place draft)) }
 {
     if draft.tenants.is_empty() {
+        drop(draft);
         return Err(TraceFault::At {
             line: place,
             kind: TraceKind::NoTenants,
@@ -121,26 +122,41 @@ fn finish(alloc: Global, draft: Draft, place: u64) -> Result<Trace, TraceFault>
     Ok(draft.finish(alloc)?)
 }
 
-/// Reads a trace, or names its first fault. An answer that memory ran out says nothing of the text.
-pub fn read(alloc: Global, bytes: &[u8]) -> Result<Trace, TraceFault>
-    ensures ok { IfOk result (λ t. trace_of bytes.now ≡ Ok t) }
-    ensures lawful { IfOk result IsLawfulTrace }
+// Adds all records of a text to a draft that has none, and gives a place, one more than their number.
+fn add_all(alloc: Global, draft: &mut Draft, bytes: &[u8]) -> Result<u64, TraceFault>
+    requires { draft.old ≡ no_records }
+    ensures ok { IfOk result (λ place. trace_of bytes.now ≡ at_end place draft.new) }
     ensures fault { IfErr result (λ f. IsFirstFault f (trace_of bytes.now)) }
 {
     let reader = ReaderBuilder::new()
         .has_headers(false)
         .flexible(true)
         .from_reader(alloc, bytes);
-    let mut draft = Draft::empty(alloc);
     let mut place: u64 = 1;
     for record in reader.into_byte_records() {
         let Ok(record) = record else {
             return Err(TraceFault::NoMemory);
         };
-        if let Err(e) = add_record(&mut draft, record) {
+        if let Err(e) = add_record(draft, record) {
             return Err(e.at(place));
         }
         place += 1;
     }
-    finish(alloc, draft, place)
+    Ok(place)
+}
+
+/// Reads a trace, or names its first fault. An answer that memory ran out says nothing of the text.
+pub fn read(alloc: Global, bytes: &[u8]) -> Result<Trace, TraceFault>
+    ensures ok { IfOk result (λ t. trace_of bytes.now ≡ Ok t) }
+    ensures lawful { IfOk result IsLawfulTrace }
+    ensures fault { IfErr result (λ f. IsFirstFault f (trace_of bytes.now)) }
+{
+    let mut draft = Draft::empty(alloc);
+    match add_all(alloc, &mut draft, bytes) {
+        Ok(place) => finish(alloc, draft, place),
+        Err(fault) => {
+            drop(draft);
+            Err(fault)
+        }
+    }
 }
