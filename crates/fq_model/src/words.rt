@@ -1,5 +1,5 @@
 //! Numbers, and the words for policies and estimators.
-ghost use Rattle.std.specs.Prelude.{◌≡◌, ok_or, Some};
+ghost use Rattle.std.specs.Prelude.{◌≡◌, ◌<◌, length, ok_or, Some};
 ghost use Rattle.fq_model.specs.Numbers.{with_digit, with_digits, number_of, policy_of, estimator_of, policy_word, estimator_word};
 
 use crate::config::{Estimator, Policy};
@@ -81,6 +81,31 @@ pub fn number(text: &[u8]) -> Option<u64>
 // The number that digits spell, with 64 bits at most. Std's `parse` asks for a text, so each number would be looked at
 // twice, and numbers are most of a script.
 fn digits(text: &[u8]) -> Option<u64>
+    ensures { result ≡ with_digits 0 text.now }
+{
+    if text.len() < 20 {
+        few_digits(text)
+    } else {
+        many_digits(text)
+    }
+}
+
+// The same for so few digits that they always fit, so that no step need see to it.
+fn few_digits(text: &[u8]) -> Option<u64>
+    requires { length text.now < 20 }
+    ensures { result ≡ with_digits 0 text.now }
+{
+    let mut number = 0;
+    for byte in text {
+        if !byte.is_ascii_digit() {
+            return None;
+        }
+        number = 10 * number + (*byte - b'0') as u64;
+    }
+    Some(number)
+}
+
+fn many_digits(text: &[u8]) -> Option<u64>
     ensures { result ≡ with_digits 0 text.now }
 {
     let mut number = 0;

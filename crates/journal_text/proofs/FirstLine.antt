@@ -1,8 +1,11 @@
 -- A text's first line ends at its first LF, or with the text.
-use Rattle.std.proofs.Common.{ℕ, suc, ◌+◌, ◌-◌, ◌<◌, ◌≤◌, ◌≡◌, ◌==◌, Bool, true, false, List, [], ◌∷◌, length, take, drop, refl, arith, Some, None, nat_lt, if◌then◌else◌, ap, ◌∙◌, subst, length-drop}
+use Rattle.std.proofs.Common.{ℕ, suc, ◌+◌, ◌-◌, ◌<◌, ◌≤◌, ◌≡◌, ◌==◌, Bool, true, false, List, [], ◌∷◌, length, take, drop, refl, arith, Option, Some, None, nat_lt, if◌then◌else◌, sym, ap, ◌∙◌, subst, length-drop}
 use borrow.Author.Tests.{ltb-true, ltb-false}
 use Rattle.std.specs.List.{position_or_len, position, onto_first}
 use Rattle.std.proofs.lemmas.List.{take_rest, drop_all}
+use Rattle.std.proofs.lemmas.List.Sums.{position_or_len_is}
+use Rattle.std.proofs.lemmas.Bool.{false_from_ne_true, cond_below, cond_above}
+use Rattle.memchr.specs.Find.{IsFirstByte, is_byte}
 use Rattle.fq_model.specs.Lines.{lines_of}
 use Rattle.journal_text.specs.Reading.{IsFirstLine}
 
@@ -64,3 +67,14 @@ first_line_open (b ∷ bs) some h =
       lines = rw none (lines_of-open b bs open_end);
       shorter = rw none (omega arith);
     }
+
+-- what a search for an LF finds
+pub found_end : (text : List ℕ) (r : Option ℕ) → IsFirstByte (is_byte 10) text r → r ≡ position (λ b. b == 10) text
+found_end text None none =
+    let passed : end_of text ≡ length text = position_or_len_is (λ b. b == 10) text (length text) 0 (omega arith)
+    (λ k lt. false_from_ne_true _ (none k (omega arith) lt)) (λ lt. absurd (omega arith)) in
+    cond_above (end_of text) (length text) (Some (end_of text)) None None (omega arith) refl
+found_end text (Some k) found =
+    let here : end_of text ≡ k = position_or_len_is (λ b. b == 10) text k 0 (omega (arith, found.0.high))
+    (λ i lt. false_from_ne_true _ (found.0.before i (omega arith) lt)) (λ lt. found.1) in
+    ap Some (sym here) ∙ cond_below (end_of text) (length text) (Some (end_of text)) None (omega (arith, found.0.high))

@@ -1,7 +1,10 @@
 -- What stood in a text stands there still.
-use Rattle.std.proofs.Common.{ℕ, ◌≡◌, ◌∙◌, List, [], ◌++◌, length, take, sym, ap, append_assoc}
-use Rattle.std.proofs.lemmas.List.{append-nil}
+use Rattle.std.proofs.Common.{ℕ, Bool, true, false, cond, ◌+◌, ◌<◌, ◌≤◌, ◌≡◌, ◌∙◌, List, [], ◌++◌, length, take, drop, sym, ap, append_assoc, slice_index}
+use Rattle.std.specs.Prelude.{codes}
+use Rattle.std.specs.Fmt.{decimal}
+use Rattle.std.proofs.lemmas.List.{append-nil, at_drop_more, drop_all}
 use Rattle.std.proofs.Math.Seq.{take-append_seam}
+use Rattle.fq_model.specs.JournalText.{numbers_text}
 use Rattle.journal_text.specs.Printing.{IsKept}
 
 pub kept_all : (old : List ℕ) → IsKept old old
@@ -13,3 +16,32 @@ kept_more old text more new kept is = (kept.0 ++ more, is ∙ ap (λ t. t ++ mor
 -- cut back to its length, it is as it was
 pub cut_back : (old text : List ℕ) → IsKept old text → take (length old) text ≡ old
 cut_back old text kept = ap (take (length old)) kept.1 ∙ take-append_seam old kept.0
+
+-- what is kept of what was kept
+pub kept_through : (old text new : List ℕ) → IsKept old text → IsKept text new → IsKept old new
+kept_through old text new kept then = kept_more old text then.0 new kept then.1
+
+-- one number more of those that are appended
+pub one_number : (numbers : List ℕ) (k : ℕ) (text new all : List ℕ) → k < length numbers → new ≡ text ++ (codes " " ++ decimal (slice_index numbers k))
+    → text ++ numbers_text (drop k numbers) ≡ all → new ++ numbers_text (drop (k + 1) numbers) ≡ all
+one_number numbers k text new all lt is so_far =
+    let row = codes " " ++ decimal (slice_index numbers k) in
+    let below = numbers_text (drop (k + 1) numbers) in
+    let next : numbers_text (drop k numbers) ≡ codes " " ++ decimal (slice_index numbers k) ++ below = at_drop_more numbers_text numbers k 0 lt in
+    ap (λ t. t ++ below) is ∙ append_assoc text row below ∙ ap (λ t. text ++ t) (append_assoc (codes " ") (decimal (slice_index numbers k)) below ∙ sym next) ∙ so_far
+
+-- the end of the line, where all numbers are appended
+pub all_numbers : (numbers : List ℕ) (k : ℕ) (text new all : List ℕ) → length numbers ≤ k → new ≡ text ++ codes "\n"
+    → text ++ numbers_text (drop k numbers) ≡ all → new ≡ all
+all_numbers numbers k text new all le is so_far =
+    let none : drop k numbers ≡ [] = drop_all k numbers le in
+    is ∙ rw none at so_far
+
+-- what is kept where nothing more is added
+pub kept_still : (old text new : List ℕ) → IsKept old text → new ≡ text → IsKept old new
+kept_still old text new kept is = (kept.0, is ∙ kept.1)
+
+-- what is kept where something more is added, or nothing
+pub kept_either : (old text more new : List ℕ) (t : Bool) → IsKept old text → new ≡ cond t (text ++ more) text → IsKept old new
+kept_either old text more new true kept is = kept_more old text more new kept is
+kept_either old text more new false kept is = kept_still old text new kept is

@@ -3,6 +3,7 @@ ghost use Rattle.std.specs.Prelude.{◌≡◌, ◌==◌, [], MatchOption, OnOk, 
 ghost use Rattle.fq_model.specs.Lines.{words_of};
 ghost use Rattle.journal_text.specs.Reading.{IsFirstLine, words_in};
 
+use memchr::memchr;
 use std::alloc::AllocError;
 
 /// The first line of a text, and the text below it.
@@ -21,7 +22,7 @@ pub fn next_line(text: &[u8]) -> Option<(&[u8], &[u8])>
 fn line_end(text: &[u8]) -> Option<usize>
     ensures { result ≡ position (λ b. b == 10) text.now }
 {
-    text.iter().position(|b| *b == b'\n')
+    memchr(b'\n', text)
 }
 
 /// Splits a line into its words, in place of those that were there. Takes memory only where `words` had
@@ -30,5 +31,13 @@ pub fn split_words<'a>(line: &'a [u8], words: &mut Vec<&'a [u8]>) -> Result<(), 
     ensures { OnOk result (words_in words.new.items ≡ words_of line.now) }
 {
     words.clear();
-    words.extend(line.split(|b| *b == b' '))
+    let mut start = 0;
+    for end in 0..line.len() {
+        if line[end] == b' ' {
+            words.push(&line[start..end])?;
+            start = end + 1;
+        }
+    }
+    words.push(&line[start..])?;
+    Ok(())
 }

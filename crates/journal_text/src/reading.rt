@@ -1,12 +1,13 @@
 //! The reader of documents.
-ghost use Rattle.std.specs.Prelude.{◌≡◌, None, Ok, IfOk, IfErr};
+ghost use Rattle.std.specs.Prelude.{◌≡◌, ◌+◌, ◌≤◌, length, None, Ok, IfOk, IfErr};
+ghost use Rattle.fq_model.specs.declared.version.Version.{Version};
 ghost use Rattle.fq_model.specs.Lines.{words_of, lines_of};
 ghost use Rattle.fq_model.specs.Document.{new_among, with_tenant, with_kind, with_lines, opened, config_line, below_header, config_of, document_of};
 ghost use Rattle.fq_model.specs.Limits.{config_fault};
 ghost use Rattle.fq_model.specs.Names.{number_among};
 ghost use Rattle.tenant_table.specs.Names.{names_of};
 ghost use Rattle.journal_text.specs.Reading.{Gives, IsFirstFault, words_in, are_too_many, ends_before, with_head_line, IsOfConfigLine};
-ghost use Rattle.journal_text.specs.Body.{IsOpened, IsHeadFault};
+ghost use Rattle.journal_text.specs.Body.{IsOpened, IsHeadFault, below_at};
 
 use crate::body::{Body, Line};
 use crate::document::Document;
@@ -195,26 +196,28 @@ fn config_line<'a, A: Line>(
     config_words(alloc, words.as_slice())
 }
 
-// Adds the lines below the config line, which are a text of their own, up to the body.
-fn with_lines<'a, A: Line>(
-    version: Version,
-    mut draft: Draft<A>,
+// Adds the lines below the config line, which are a text of their own, up to the body. The answer is the number of the
+// body's first line, and the text from there on.
+fn add_lines<'a, A: Line>(
+    draft: &mut Draft<A>,
     text: &'a [u8],
-    mut words: Vec<&'a [u8]>,
-) -> Result<(Draft<A>, Body<'a, A>), ScriptFault>
-    requires { IsOfConfigLine draft }
-    ensures ok { IfOk result (λ r.
-        IsOpened (λ reader. with_lines (reader version) 3 draft (lines_of text.now)) r.0 r.1) }
-    ensures fault { IfErr result (λ f.
-        IsHeadFault f (λ reader. with_lines {A = A} (reader version) 3 draft (lines_of text.now))) }
+    words: &mut Vec<&'a [u8]>,
+) -> Result<(u64, &'a [u8]), ScriptFault>
+    requires { IsOfConfigLine draft.now }
+    ensures ok { IfOk result (λ r. (version : Version) → IsOpened
+        (λ reader. with_lines (reader version) 3 draft.old (lines_of text.now))
+        draft.new (below_at version r.0 r.1.now)) }
+    ensures counted { IfOk result (λ r. r.0 + length r.1.now ≤ length text.now + 3) }
+    ensures fault { IfErr result (λ f. (version : Version) → IsHeadFault f
+        (λ reader. with_lines {A = A} (reader version) 3 draft.old (lines_of text.now))) }
 {
     let mut rest = text;
     let mut place: u64 = 3;
     while let Some((line, below)) = next_line(rest) {
-        split_words(line, &mut words)?;
+        split_words(line, words)?;
         let here = words.as_slice();
         if draft.ends_before(here) {
-            return Ok((draft, Body::new(version, place, rest, words)));
+            return Ok((place, rest));
         }
         if let Err(e) = draft.add_words(here) {
             return Err(e.at(place));
@@ -228,6 +231,23 @@ fn with_lines<'a, A: Line>(
             kind: ScriptKind::Missing,
         });
     }
+    Ok((place, rest))
+}
+
+// The same of a head by value, which is given back with what is left to be read.
+fn with_lines<'a, A: Line>(
+    version: Version,
+    mut draft: Draft<A>,
+    text: &'a [u8],
+    mut words: Vec<&'a [u8]>,
+) -> Result<(Draft<A>, Body<'a, A>), ScriptFault>
+    requires { IsOfConfigLine draft }
+    ensures ok { IfOk result (λ r.
+        IsOpened (λ reader. with_lines (reader version) 3 draft (lines_of text.now)) r.0 r.1) }
+    ensures fault { IfErr result (λ f.
+        IsHeadFault f (λ reader. with_lines {A = A} (reader version) 3 draft (lines_of text.now))) }
+{
+    let (place, rest) = add_lines(&mut draft, text, &mut words)?;
     Ok((draft, Body::new(version, place, rest, words)))
 }
 

@@ -1,5 +1,6 @@
 //! Lines of a word and numbers.
-ghost use Rattle.std.specs.Prelude.{◌≡◌, ◌++◌, OnOk, OnErr};
+ghost use Rattle.std.specs.Prelude.{◌≡◌, ◌++◌, codes, OnOk, OnErr};
+ghost use Rattle.std.specs.Fmt.{decimal};
 ghost use Rattle.fq_model.specs.JournalText.{numbers_text};
 ghost use Rattle.journal_text.specs.Printing.{row_text, IsKept};
 
@@ -29,9 +30,17 @@ pub fn add_numbers(numbers: &[u64], text: &mut Vec<u8>) -> Result<(), AllocError
 {
     let mut buffer = Buffer::new();
     for number in numbers {
-        text.push(b' ')?;
-        text.extend_from_slice(buffer.format(*number).as_bytes())?;
+        add_number(*number, &mut buffer, text)?;
     }
     text.push(b'\n')?;
     Ok(())
+}
+
+// Appends a number after a space. Where memory runs out, what stood there stands still, perhaps with a space after it.
+fn add_number(number: u64, buffer: &mut Buffer, text: &mut Vec<u8>) -> Result<(), AllocError>
+    ensures added { OnOk result (text.new.items ≡ text.old.items ++ (codes " " ++ decimal number)) }
+    ensures kept { IsKept text.old.items text.new.items }
+{
+    text.push(b' ')?;
+    text.extend_from_slice(buffer.format(number).as_bytes())
 }

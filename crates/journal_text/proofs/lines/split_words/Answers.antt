@@ -1,20 +1,30 @@
-use Rattle.std.proofs.Common.{rules, ◌≡◌, ◌==◌, ◌++◌, ◌∙◌, ap, map, List, Option, Result}
-use Rattle.std.specs.Iterator.{Yields, Drains}
-use Rattle.std.specs.Result.{OnOk, MatchResult}
-use Rattle.std.proofs.lemmas.Iterator.{YieldsList}
-use Rattle.std.proofs.lemmas.Iterator.Consumers.{YieldsList-at}
-use Rattle.std.proofs.lemmas.Iterator.Adapters.{fact_from_extend}
-use Rattle.std.proofs.lemmas.Iterator.Splits.{YieldsList-from_slice_split}
+use Rattle.std.proofs.Common.{arith, ◌≡◌, ◌+◌, drop, length, subst}
+use Rattle.fq_model.specs.Lines.{words_of}
+use Rattle.journal_text.proofs.WordEnds.{HasNoSpace, HasNoSpace-more, word_ended, word_open, word_pushed, word_all}
+use Rattle.journal_text.proofs.lines.split_words.Goals.{then-line-end-eq32+in_ok-push, else-line-end-eq32}
 use Rattle.journal_text.proofs.lines.split_words.Goals as goal
 
--- what `extend` adds of a chain that gives references
-seen_from_extend : {T A C E Q : Type 0} {steps : T → Option A → T → Type 0} {all : List C} {P : List A → Type 0} {s : T} (v : A → C) (r : Result (Unit {0}) E)
-    → ((it : T) × (xs : List A) × (it ≡ s) × P xs × MatchResult r (λ _. Drains steps it xs) (λ _. (t : T) × Yields steps it xs t))
-    → YieldsList steps v s all → ((xs : List A) → map v xs ≡ all → P xs → Q) → OnOk r Q
-seen_from_extend v r ran road says = fact_from_extend v r ran (λ it b. YieldsList-at b road) says
+pub loop-end-preserved : goal.loop-end-preserved
+loop-end-preserved c =
+    let line = c.args.line.now in
+    elim c.if-line-end-eq32.branch [
+      | then-line-end-eq32+in_ok-push w ↦ rw (w.words-is, w.start-is) (record {
+        so_far = word_pushed c.loop-end.words.items _ _ (words_of (drop c.loop-end.start line)) (words_of (drop (c.loop-end.end + 1) line)) (words_of line) w.in_ok-push.ensures.items
+            (word_ended line c.loop-end.start c.loop-end.end c.loop-end.invariant.from c.loop-end-test.true c.loop-end.invariant.none w.if-line-end-eq32.true) c.loop-end.invariant.so_far;
+        from = omega arith;
+        none = λ k from to. absurd (omega arith);
+      })
+      | else-line-end-eq32 w ↦ rw (w.words-is, w.start-is) (record {
+        so_far = c.loop-end.invariant.so_far;
+        from = omega (arith, c.loop-end.invariant.from);
+        none = HasNoSpace-more line c.loop-end.start c.loop-end.end c.loop-end.invariant.none w.if-line-end-eq32.false;
+      })
+    ]
 
 pub returns : goal.returns
 returns c =
-    seen_from_extend (λ w. w.now) c.extend.result c.extend.ensures.ran
-    (YieldsList-from_slice_split _ (λ b. b == 32) c.args.line.now c.split.ensures.rest c.split.ensures.done c.split.ensures.closure (λ x b q h. search rules))
-    (λ xs e h. ap (map (λ w. w.now)) (h.0 ∙ ap (λ l. l ++ xs) c.clear.ensures.items) ∙ e)
+    let line = c.args.line.now in
+    let end : c.loop-end.end ≡ length line = omega arith in
+    let none : HasNoSpace line c.loop-end.start (length line) = subst (HasNoSpace line c.loop-end.start) end c.loop-end.invariant.none in
+    word_all c.loop-end.words.items _ _ (words_of (drop c.loop-end.start line)) (words_of line) c.in_ok-push-2.ensures.items
+    (word_open line c.loop-end.start (omega (arith, c.loop-end.invariant.from)) none) c.loop-end.invariant.so_far

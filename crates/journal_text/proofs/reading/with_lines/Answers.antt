@@ -1,47 +1,4 @@
-use Rattle.std.proofs.Common.{◌≡◌, Ok, arith, refl, rules, true, false, sym, ◌∙◌, ap, subst}
-use Rattle.fq_model.specs.Lines.{words_of}
-use Rattle.journal_text.specs.Reading.{words_in, ends_before, with_head_line, Fails}
-use Rattle.journal_text.proofs.HeadLimits.{config_line-kept, with_head_line-kept}
-use Rattle.journal_text.proofs.Bodies.{opened_before, opened_at_end, added_to_head, fault_in_head}
 use Rattle.journal_text.proofs.reading.with_lines.Goals as goal
 
-pub loop-line-init : goal.loop-line-init
-loop-line-init g c = record {
-  same = λ reader. refl;
-  counted = omega arith;
-  kept = config_line-kept c.requires.0 _ c.requires.1;
-}
-
-pub returns-then-ends_before-clause-ok : goal.returns-then-ends_before-clause-ok
-returns-then-ends_before-clause-ok g c =
-    let words : words_in c.as_slice-here.result.now ≡ words_of c.in-Some.line.now = search rules in
-    let ends : ends_before c.loop-line.draft (words_of c.in-Some.line.now) ≡ true = cc in
-    rw c.new.ensures
-    (opened_before _ c.args.version c.loop-line.place c.loop-line.draft c.in-Some.line.now c.loop-line.rest.now c.in-Some.below.now
-    c.loop-line.invariant.same c.loop-line.invariant.kept c.in-Some.ensures.lines ends)
-
-pub returns-in-Err-clause-fault : goal.returns-in-Err-clause-fault
-returns-in-Err-clause-fault g c =
-    let words : words_in c.as_slice-here.result.now ≡ words_of c.in-Some.line.now = search rules in
-    let goes_on : ends_before c.loop-line.draft (words_of c.in-Some.line.now) ≡ false = cc in
-    rw c.at.ensures
-    (fault_in_head _ c.args.version c.loop-line.place c.loop-line.draft c.in-Some.line.now c.loop-line.rest.now c.in-Some.below.now c.in-Err.e
-    c.loop-line.invariant.same c.loop-line.invariant.kept c.in-Some.ensures.lines goes_on (subst (λ ws. Fails c.in-Err.e (with_head_line c.loop-line.draft ws)) words c.in-Err.ensures))
-
-pub loop-line-preserved : goal.loop-line-preserved
-loop-line-preserved g c =
-    let words : words_in c.as_slice-here.result.now ≡ words_of c.in-Some.line.now = search rules in
-    let goes_on : ends_before c.loop-line.draft (words_of c.in-Some.line.now) ≡ false = cc in
-    let read : with_head_line c.loop-line.draft (words_of c.in-Some.line.now) ≡ Ok c.add_words.new.self = ap (with_head_line c.loop-line.draft) (sym words) ∙ c.in_default-add_words.ensures in
-    record {
-      same = added_to_head _ c.args.version c.loop-line.place c.loop-line.draft c.add_words.new.self c.in-Some.line.now c.loop-line.rest.now c.in-Some.below.now
-          c.loop-line.invariant.same c.loop-line.invariant.kept c.in-Some.ensures.lines goes_on read;
-      counted = omega (arith, c.in-Some.ensures.shorter);
-      kept = with_head_line-kept c.loop-line.draft c.add_words.new.self (words_of c.in-Some.line.now) c.loop-line.invariant.kept read;
-    }
-
 pub returns-clause-ok : goal.returns-clause-ok
-returns-clause-ok g c =
-    rw c.new-2.ensures
-    (opened_at_end _ c.args.version c.loop-line.place c.loop-line.draft c.loop-line.rest.now
-    c.loop-line.invariant.same c.loop-line.invariant.kept (search rules) (search rules))
+returns-clause-ok g c = rw c.new.ensures (c.in_ok-place.ensures.ok c.args.version)

@@ -1,13 +1,14 @@
 use Rattle.std.proofs.Common.{◌≡◌, ◌+◌, ◌≤◌, length}
+use Rattle.fq_model.specs.declared.version.Version.{Version}
 use Rattle.fq_model.specs.Document.{with_lines}
 use Rattle.fq_model.specs.Lines.{lines_of}
 use Rattle.journal_text.proofs.Bodies.{IsReadAt}
 use Rattle.journal_text.proofs.HeadLimits.{IsKept}
-use Rattle.journal_text.proofs.reading.with_lines.Given as goal
+use Rattle.journal_text.proofs.reading.add_lines.Given as goal
 
 abbrev pub invariant-loop-line : goal.invariant-loop-line
 invariant-loop-line g l = record {
-  same : IsReadAt (λ reader. with_lines (reader l.version) 3 l.fn.draft (lines_of l.text)) l.version l.place l.draft l.rest;
+  same : (version : Version) → IsReadAt (λ reader. with_lines (reader version) 3 l.fn.draft (lines_of l.text)) version l.place l.draft l.rest;
   counted : l.place + length l.rest ≤ length l.text + 3;
   kept : IsKept l.draft;
 }
