@@ -1,4 +1,4 @@
-use Rattle.std.proofs.Common.{◌≡◌, ◌+◌, ◌≤◌, length}
+use Rattle.std.proofs.Common.{◌+◌, ◌≤◌, length}
 use Rattle.fq_model.specs.declared.version.Version.{Version}
 use Rattle.fq_model.specs.Document.{with_lines}
 use Rattle.fq_model.specs.Lines.{lines_of}
