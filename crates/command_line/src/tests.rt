@@ -70,9 +70,9 @@ fn script_is_read(rt: HostRuntime) -> Result<(), Fail> {
     ] {
         let words = words_of(rt.alloc(), line)?;
         let want = want.map(|print| Command::Script { print });
-        assert_eq!(rt; command(&words), want, "at {line}");
+        assert!(rt; command(&words) == want, "at {line}");
     }
-    assert_eq!(rt; command(&[]), None);
+    assert!(rt; command(&[]).is_none());
     Ok(())
 }
 
@@ -170,7 +170,7 @@ fn the_others_are_read(rt: HostRuntime) -> Result<(), Fail> {
         ("gen --seed 7 --tenants 1 --requests 262145", None),
     ] {
         let words = words_of(rt.alloc(), line)?;
-        assert_eq!(rt; command(&words), want, "at {line}");
+        assert!(rt; command(&words) == want, "at {line}");
     }
     Ok(())
 }
