@@ -3,7 +3,7 @@ use std::sync::Wait;
 use std::sync::atomic::{AtomicU64, Ordering};
 
 /// How much news of a desk a worker has heard.
-#[derive(Clone, Copy, Debug, PartialEq, Eq)]
+#[derive(Clone, Copy, PartialEq, Eq)]
 pub struct Heard {
     news: u64,
 }

@@ -3,7 +3,7 @@
 use crate::trace::RunOptions;
 
 /// What `script` writes.
-#[derive(Clone, Copy, Debug, PartialEq, Eq)]
+#[derive(Clone, Copy, PartialEq, Eq)]
 pub enum ScriptPrint {
     /// The replies.
     Replies,
@@ -14,7 +14,7 @@ pub enum ScriptPrint {
 }
 
 /// What `run` and `live` write of a history.
-#[derive(Clone, Copy, Debug, PartialEq, Eq)]
+#[derive(Clone, Copy, PartialEq, Eq)]
 pub enum HistoryPrint {
     /// Its journal.
     Journal,
@@ -27,7 +27,7 @@ pub enum HistoryPrint {
 }
 
 /// What `gen` writes.
-#[derive(Clone, Copy, Debug, PartialEq, Eq)]
+#[derive(Clone, Copy, PartialEq, Eq)]
 pub enum GenPrint {
     /// The generated trace.
     Trace,
@@ -36,7 +36,7 @@ pub enum GenPrint {
 }
 
 /// What a command line asks for. A slot is in microseconds, and 0 stands for the automatic slot.
-#[derive(Clone, Copy, Debug, PartialEq, Eq)]
+#[derive(Clone, Copy, PartialEq, Eq)]
 pub enum Command {
     /// Makes the calls of a script.
     Script {

@@ -3,7 +3,7 @@
 use crate::config::{Estimator, Policy};
 
 /// What a trace is run with under each policy and estimator.
-#[derive(Clone, Copy, Debug, PartialEq, Eq)]
+#[derive(Clone, Copy)]
 pub struct CompareOptions {
     /// 1 to 64.
     pub workers: u32,
@@ -17,7 +17,7 @@ pub struct CompareOptions {
 }
 
 /// What one policy and estimator come to on a trace.
-#[derive(Clone, Copy, Debug, PartialEq, Eq)]
+#[derive(Clone, Copy)]
 pub struct CompareRow {
     pub policy: Policy,
     pub estimate: Estimator,

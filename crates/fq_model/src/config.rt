@@ -6,11 +6,12 @@ use crate::limits::{
     GREATEST_COST, GREATEST_WEIGHT, LEAST_ENTRIES, MOST_ENTRIES, MOST_KINDS, MOST_PAIRS,
     MOST_REQUESTS, MOST_TENANTS, MOST_WORKERS,
 };
+use std::fmt;
 use std::marker::Model;
 use thiserror::Error;
 
 /// Which waiting request a worker takes.
-#[derive(Clone, Copy, Debug, PartialEq, Eq)]
+#[derive(Clone, Copy, PartialEq, Eq)]
 pub enum Policy {
     /// The least finish tag (after Demers, Keshav and Shenker, 1989; Parekh and Gallager, 1993).
     Wfq,
@@ -24,7 +25,7 @@ pub enum Policy {
 }
 
 /// What a request is thought to cost before it is done.
-#[derive(Clone, Copy, Debug, PartialEq, Eq)]
+#[derive(Clone, Copy, PartialEq, Eq)]
 pub enum Estimator {
     /// What its submitter named.
     Declared,
@@ -92,7 +93,7 @@ pub struct Config {
 }
 
 /// The first number of a configuration that is out of its limit, in the order of these variants.
-#[derive(Clone, Copy, Debug, PartialEq, Eq, Error)]
+#[derive(Clone, Copy, PartialEq, Eq, Error)]
 pub enum ConfigFault {
     /// So many workers; there may be 1 to 64.
     #[error("{0} workers, and there may be 1 to {MOST_WORKERS}")]
@@ -118,6 +119,13 @@ pub enum ConfigFault {
     /// This initial value, in microseconds; it may be 1 to 10^9.
     #[error("an initial value of {0} microseconds, and it may be 1 to {GREATEST_COST}")]
     Initial(u64),
+}
+
+// A failed `unwrap` or assertion then tells the message.
+impl fmt::Debug for ConfigFault {
+    fn fmt<W: fmt::Write>(&self, f: &mut fmt::Formatter<W>) -> fmt::Result {
+        fmt::Display::fmt(self, f)
+    }
 }
 
 /// A configuration whose numbers are in their limits.

@@ -1,10 +1,11 @@
 //! Entries of a history, calls and replies.
 
 use crate::limits::{GREATEST_COST, GREATEST_WEIGHT};
+use std::fmt;
 use thiserror::Error;
 
 /// What an entry says was done. Moments and costs are microseconds.
-#[derive(Clone, Copy, Debug, PartialEq, Eq)]
+#[derive(Clone, Copy, PartialEq, Eq)]
 pub enum Act {
     /// A request came. `declared` is the cost that its submitter names, `label` the number of its job.
     Submit {
@@ -46,7 +47,7 @@ pub enum Act {
 }
 
 /// One accepted call: who made it, at what moment in microseconds, and what it did.
-#[derive(Clone, Copy, Debug, PartialEq, Eq)]
+#[derive(Clone, Copy, PartialEq, Eq)]
 pub struct Entry {
     pub who: u32,
     pub moment: u64,
@@ -54,7 +55,7 @@ pub struct Entry {
 }
 
 /// Why a call is refused, with the numbers concerned.
-#[derive(Clone, Copy, Debug, PartialEq, Eq, Error)]
+#[derive(Clone, Copy, PartialEq, Eq, Error)]
 pub enum Cause {
     /// The history is closed.
     #[error("the history is closed")]
@@ -94,9 +95,16 @@ pub enum Cause {
     Workers(u32),
 }
 
+// A failed `unwrap` or assertion then tells the message.
+impl fmt::Debug for Cause {
+    fn fmt<W: fmt::Write>(&self, f: &mut fmt::Formatter<W>) -> fmt::Result {
+        fmt::Display::fmt(self, f)
+    }
+}
+
 /// What a scheduler is asked. `who` is the caller's number, which is written down and not looked at;
 /// `moment` is the caller's clock in microseconds, and may be any number.
-#[derive(Clone, Copy, Debug, PartialEq, Eq)]
+#[derive(Clone, Copy, PartialEq, Eq)]
 pub enum Call {
     /// A request comes.
     Submit {
@@ -148,7 +156,7 @@ pub enum Call {
 }
 
 /// What a scheduler answers.
-#[derive(Clone, Copy, Debug, PartialEq, Eq)]
+#[derive(Clone, Copy)]
 pub enum Reply {
     /// The submitted request has this number.
     Request(u32),

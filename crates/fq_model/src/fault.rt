@@ -1,9 +1,10 @@
 //! What is wrong with a script, a journal or a trace.
 
+use std::fmt;
 use thiserror::Error;
 
 /// What is wrong with a line of a script or a journal.
-#[derive(Clone, Copy, Debug, PartialEq, Eq, Error)]
+#[derive(Clone, Copy, PartialEq, Eq, Error)]
 pub enum ScriptKind {
     /// The first line is not `script 1` or `script 2`, or for a journal `journal 1` or `journal 2`.
     #[error("the first line does not say that this is a script, or a journal")]
@@ -32,8 +33,15 @@ pub enum ScriptKind {
     Missing,
 }
 
+// A failed `unwrap` or assertion then tells the message.
+impl fmt::Debug for ScriptKind {
+    fn fmt<W: fmt::Write>(&self, f: &mut fmt::Formatter<W>) -> fmt::Result {
+        fmt::Display::fmt(self, f)
+    }
+}
+
 /// What is wrong with a record of a trace.
-#[derive(Clone, Copy, Debug, PartialEq, Eq, Error)]
+#[derive(Clone, Copy, PartialEq, Eq, Error)]
 pub enum TraceKind {
     /// A field is not UTF-8.
     #[error("a field is not UTF-8")]
@@ -65,4 +73,11 @@ pub enum TraceKind {
     /// The trace names no tenant.
     #[error("the trace names no tenant")]
     NoTenants,
+}
+
+// A failed `unwrap` or assertion then tells the message.
+impl fmt::Debug for TraceKind {
+    fn fmt<W: fmt::Write>(&self, f: &mut fmt::Formatter<W>) -> fmt::Result {
+        fmt::Display::fmt(self, f)
+    }
 }

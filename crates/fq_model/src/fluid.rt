@@ -1,7 +1,7 @@
 //! What the fluid reference reads of a history.
 
 /// A request that is done. The moment and the cost are microseconds.
-#[derive(Clone, Copy, Debug, PartialEq, Eq)]
+#[derive(Clone, Copy)]
 pub struct FluidRow {
     pub tenant: u32,
     /// When it was submitted.
@@ -11,7 +11,7 @@ pub struct FluidRow {
 }
 
 /// What a change sets.
-#[derive(Clone, Copy, Debug, PartialEq, Eq)]
+#[derive(Clone, Copy)]
 pub enum What {
     /// From here on the tenant has this weight.
     Weight { tenant: u32, weight: u32 },
@@ -20,7 +20,7 @@ pub enum What {
 }
 
 /// A change of a weight or of the number of workers, and its moment in microseconds.
-#[derive(Clone, Copy, Debug, PartialEq, Eq)]
+#[derive(Clone, Copy)]
 pub struct Change {
     pub moment: u64,
     pub what: What,

@@ -2,7 +2,7 @@
 
 /// A tenant's line of a lag report. The lags are those after each slot, in microseconds of work: below 0 where the
 /// tenant was served more than its share, above 0 where it was served less.
-#[derive(Clone, Copy, Debug, PartialEq, Eq)]
+#[derive(Clone, Copy)]
 pub struct TenantLag {
     /// The weight that the configuration gives it.
     pub weight: u32,

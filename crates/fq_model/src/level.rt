@@ -1,7 +1,7 @@
 //! How far a slot serves what tenants still want.
 
 /// What a tenant still wants, in microseconds of work, and its weight.
-#[derive(Clone, Copy, Debug, PartialEq, Eq)]
+#[derive(Clone, Copy)]
 pub struct Backlog {
     pub units: u64,
     /// 1 to 1,000.
@@ -9,7 +9,7 @@ pub struct Backlog {
 }
 
 /// How far all backlogs of a slot are served.
-#[derive(Clone, Copy, Debug, PartialEq, Eq)]
+#[derive(Clone, Copy, PartialEq, Eq)]
 pub enum Level {
     /// Each is served whole.
     All,

@@ -1,7 +1,7 @@
 //! What is shown of a history while it grows.
 
 /// Numbers of one history.
-#[derive(Clone, Copy, Debug, PartialEq, Eq)]
+#[derive(Clone, Copy)]
 pub struct Status {
     /// How many entries it has.
     pub entries: u64,

@@ -4,7 +4,7 @@ use crate::config::{Estimator, Policy};
 
 /// A request of a trace: when it comes, through which submitter, of which tenant and kind, what its submitter declares,
 /// and what it costs. The moment, the declared number and the cost are microseconds.
-#[derive(Clone, Copy, Debug, PartialEq, Eq)]
+#[derive(Clone, Copy, PartialEq, Eq)]
 pub struct TraceRow {
     /// 0 to 100,000,000,000,000; moments do not fall from row to row.
     pub moment: u64,
@@ -19,7 +19,7 @@ pub struct TraceRow {
 }
 
 /// What a trace is run with.
-#[derive(Clone, Copy, Debug, PartialEq, Eq)]
+#[derive(Clone, Copy, PartialEq, Eq)]
 pub struct RunOptions {
     /// 1 to 64.
     pub workers: u32,

@@ -8,9 +8,16 @@ use std::str::FromStr;
 use thiserror::Error;
 
 /// The word names no policy, or no estimator.
-#[derive(Clone, Copy, Debug, PartialEq, Eq, Error)]
+#[derive(Clone, Copy, Error)]
 #[error("no policy or estimator has this name")]
 pub struct UnknownWord;
+
+// A failed `unwrap` or assertion then tells the message.
+impl fmt::Debug for UnknownWord {
+    fn fmt<W: fmt::Write>(&self, f: &mut fmt::Formatter<W>) -> fmt::Result {
+        fmt::Display::fmt(self, f)
+    }
+}
 
 impl FromStr for Policy {
     type Err = UnknownWord;

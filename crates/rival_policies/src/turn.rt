@@ -9,7 +9,7 @@ use tag_rules::keys::eligible_key;
 use tag_rules::parts::Keys;
 
 /// Under which policy a worker, of how many, chooses, and at what virtual time, in steps.
-#[derive(Clone, Copy, Debug, PartialEq, Eq)]
+#[derive(Clone, Copy)]
 pub struct Turn {
     pub policy: Policy,
     pub workers: u32,

@@ -87,7 +87,7 @@ impl<J> fmt::Display for Refused<J> {
 impl<J: fmt::Debug + Drop> Error for Refused<J> {}
 
 /// What a worker that asks for work is given, by the first of these that is so.
-#[derive(Drop, Debug, PartialEq, Eq)]
+#[derive(Drop)]
 pub enum Taken<J> {
     /// No worker has this number.
     UnknownWorker(u32),

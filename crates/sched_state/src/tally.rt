@@ -5,7 +5,7 @@ ghost use Rattle.sched_state.specs.Tally.{TallyIs, counted, CanCount};
 use fq_model::event::Act;
 
 /// What a history comes to in a few numbers.
-#[derive(Clone, Copy, Debug, PartialEq, Eq)]
+#[derive(Clone, Copy)]
 pub struct Tally {
     /// Whether nothing more is submitted.
     pub closed: bool,

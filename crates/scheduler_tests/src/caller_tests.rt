@@ -51,7 +51,7 @@ fn serve<X: Chooser, R: Abort>(rt: &R, scheduler: &mut Scheduler<u64, X>) {
 // Three entries of which this one is the last.
 fn expect_last<R: Abort>(rt: &R, past: &[Entry], wanted: Entry) {
     assert_eq!(rt; past.len(), 3);
-    assert_eq!(rt; past.last().copied(), Some(wanted));
+    assert!(rt; past.last().copied() == Some(wanted));
 }
 
 // The caller that the README shows.
@@ -59,7 +59,7 @@ fn call<X: Chooser + Drop + Send, R: Abort>(rt: &R, alloc: Global) {
     let mut scheduler = opened::<X, R>(rt, alloc);
     assert_eq!(rt; scheduler.submit(0, 0, 1, 0, 5, 42), Ok(0));
     serve(rt, &mut scheduler);
-    assert_eq!(rt; scheduler.take(1, 8, 0), Taken::Idle);
+    assert!(rt; matches!(scheduler.take(1, 8, 0), Taken::Idle));
     let act = Act::Done {
         worker: 0,
         request: 0,

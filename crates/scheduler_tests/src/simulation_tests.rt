@@ -111,7 +111,7 @@ fn expect_entries<X: Chooser + Drop, R: Abort>(
         refresh: 0,
     };
     let scheduler = served::<X, R>(rt, alloc, &trace, options);
-    assert_eq!(rt; scheduler.past(), wanted);
+    assert!(rt; scheduler.past() == wanted, "of {text:?}");
     expect_room(rt, scheduler.config(), 10, 3);
 }
 
@@ -186,7 +186,10 @@ fn expect_taken<R: Abort>(rt: &R, past: &[Entry], worker: u32, request: u32)
         moment: 0,
         act,
     };
-    assert_eq!(rt; past.get(3 + worker as usize).copied(), Some(entry));
+    assert!(rt;
+        past.get(3 + worker as usize).copied() == Some(entry),
+        "of worker {worker}"
+    );
 }
 
 // Three workers took requests at first, and there are so many reports.
@@ -264,7 +267,7 @@ fn expect_past<X: Chooser + Drop, R: Abort>(
     requires { IsLawfulTrace trace.now }
 {
     let past = past_by::<X, R>(rt, alloc, trace, policy);
-    assert_eq!(rt; past.as_slice(), wanted, "under {policy:?}");
+    assert!(rt; past.as_slice() == wanted, "under {policy}");
 }
 
 // Two choosers serve as a plain one does.

@@ -192,7 +192,7 @@ fn row((moment, submitter): (u64, u32), tenant: u32, (declared, cost): (u64, u64
 // A text that has these rows, and is printed so.
 fn expect_printed<R: Abort>(rt: &R, alloc: Global, text: &str, rows: &[TraceRow], printed: &str) {
     let trace = trace_in(rt, alloc, text.as_bytes());
-    assert_eq!(rt; trace.rows(), rows);
+    assert!(rt; trace.rows() == rows, "in {text:?}");
     expect_text(rt, print(alloc, &trace), printed.as_bytes());
 }
 
@@ -277,7 +277,7 @@ fn expect_first<R: Abort>(rt: &R, alloc: Global, tenants: u32, kind: &str, first
     let trace = generated(rt, alloc, 7, tenants, 1);
     expect_first_kind(rt, &trace, kind);
     let rows = [TraceRow { kind: 0, ..first }];
-    assert_eq!(rt; trace.rows(), rows.as_slice(), "of {tenants} tenants");
+    assert!(rt; trace.rows() == rows.as_slice(), "of {tenants} tenants");
 }
 
 // The numbers of seed 7 begin 2442223337, 414063806, 2743600285.

@@ -8,10 +8,11 @@ ghost use Rattle.trace_reader.specs.Reading.{fault_at};
 use fq_model::fault::TraceKind;
 use fq_model::limits::{MOST_ROWS, MOST_TENANTS};
 use std::alloc::{AllocError, AllocFailed};
+use std::fmt;
 use thiserror::Error;
 
 /// Why a trace was not read.
-#[derive(Clone, Copy, Debug, PartialEq, Eq, Error)]
+#[derive(Clone, Copy, PartialEq, Eq, Error)]
 pub enum TraceFault {
     /// The first fault: the number of its record, counted from 1, and what is wrong with it.
     #[error("line {line}: {kind}")]
@@ -19,6 +20,13 @@ pub enum TraceFault {
     /// Memory ran out.
     #[error("out of memory")]
     NoMemory,
+}
+
+// A failed `unwrap` or assertion then tells the message.
+impl fmt::Debug for TraceFault {
+    fn fmt<W: fmt::Write>(&self, f: &mut fmt::Formatter<W>) -> fmt::Result {
+        fmt::Display::fmt(self, f)
+    }
 }
 
 impl From<AllocError> for TraceFault {
@@ -30,7 +38,7 @@ impl From<AllocError> for TraceFault {
 }
 
 /// Why a trace was not generated: the first reason, in the order of these variants.
-#[derive(Clone, Copy, Debug, PartialEq, Eq, Error)]
+#[derive(Clone, Copy, PartialEq, Eq, Error)]
 pub enum GenFault {
     /// How many tenants were asked for, which is not from 1 to 4,096.
     #[error("the number of tenants {0} is not from 1 to {MOST_TENANTS}")]
@@ -41,6 +49,13 @@ pub enum GenFault {
     /// Memory ran out.
     #[error("out of memory")]
     NoMemory,
+}
+
+// A failed `unwrap` or assertion then tells the message.
+impl fmt::Debug for GenFault {
+    fn fmt<W: fmt::Write>(&self, f: &mut fmt::Formatter<W>) -> fmt::Result {
+        fmt::Display::fmt(self, f)
+    }
 }
 
 impl From<AllocError> for GenFault {
@@ -63,7 +78,7 @@ impl From<AllocError> for NoMemory {
 }
 
 /// Why a record was not read.
-#[derive(Clone, Copy, Debug, PartialEq, Eq, Error)]
+#[derive(Clone, Copy, Error)]
 pub(crate) enum RecordError {
     /// The record's first fault.
     #[error("{0}")]
@@ -71,6 +86,13 @@ pub(crate) enum RecordError {
     /// Memory ran out.
     #[error("out of memory")]
     Memory,
+}
+
+// A failed `unwrap` or assertion then tells the message.
+impl fmt::Debug for RecordError {
+    fn fmt<W: fmt::Write>(&self, f: &mut fmt::Formatter<W>) -> fmt::Result {
+        fmt::Display::fmt(self, f)
+    }
 }
 
 impl RecordError {

@@ -13,7 +13,7 @@ use fq_model::trace::TraceRow;
 use std::alloc::Global;
 
 /// What the simulation does at an event.
-#[derive(Clone, Copy, Debug, PartialEq, Eq)]
+#[derive(Clone, Copy)]
 pub enum What {
     /// The worker tells what is used of its request by now.
     Report { worker: u32, work: Work },
@@ -26,7 +26,7 @@ pub enum What {
 }
 
 /// One call of the simulation, and its moment in microseconds.
-#[derive(Clone, Copy, Debug, PartialEq, Eq)]
+#[derive(Clone, Copy)]
 pub struct Event {
     pub moment: u64,
     pub what: What,

@@ -4,9 +4,10 @@ ghost use Rattle.trace_runner.specs.declared.fault.SimFault.TheVariants as fault
 
 use fq_model::limits::MOST_ENTRIES;
 use std::alloc::{AllocError, AllocFailed};
+use std::fmt;
 
 /// Why a trace is not simulated.
-#[derive(Clone, Copy, Debug, PartialEq, Eq, thiserror::Error)]
+#[derive(Clone, Copy, PartialEq, Eq, thiserror::Error)]
 pub enum SimFault {
     /// The history would have so many entries; there may be 4,194,304.
     #[error("the history would have {0} entries, and there may be {MOST_ENTRIES}")]
@@ -14,6 +15,13 @@ pub enum SimFault {
     /// There was no memory.
     #[error("no memory for the simulation")]
     NoMemory,
+}
+
+// A failed `unwrap` or assertion then tells the message.
+impl fmt::Debug for SimFault {
+    fn fmt<W: fmt::Write>(&self, f: &mut fmt::Formatter<W>) -> fmt::Result {
+        fmt::Display::fmt(self, f)
+    }
 }
 
 impl From<AllocError> for SimFault {

@@ -11,7 +11,7 @@ use std::marker::Model;
 use winner_tree::{Key, Tree};
 
 /// What a worker serves, in microseconds.
-#[derive(Clone, Copy, Debug, PartialEq, Eq)]
+#[derive(Clone, Copy)]
 pub struct Work {
     /// The moment of the Take.
     pub start: u64,
