@@ -5,10 +5,11 @@ ghost use Rattle.journal_text.specs.Reading.{fault_at};
 
 use fq_model::fault::ScriptKind;
 use std::alloc::{AllocError, AllocFailed};
+use std::fmt;
 use thiserror::Error;
 
 /// Why a document was not read.
-#[derive(Clone, Copy, Debug, PartialEq, Eq, Error)]
+#[derive(Clone, Copy, PartialEq, Eq, Error)]
 pub enum ScriptFault {
     /// The first fault: its line, counted from 1, and what is wrong there.
     #[error("line {line}: {kind}")]
@@ -18,8 +19,15 @@ pub enum ScriptFault {
     NoMemory,
 }
 
+// A failed `unwrap` or assertion then tells the message.
+impl fmt::Debug for ScriptFault {
+    fn fmt<W: fmt::Write>(&self, f: &mut fmt::Formatter<W>) -> fmt::Result {
+        fmt::Display::fmt(self, f)
+    }
+}
+
 /// Why a line was not read.
-#[derive(Clone, Copy, Debug, PartialEq, Eq, Error)]
+#[derive(Clone, Copy, Error)]
 pub enum LineError {
     /// The line's first fault.
     #[error("{0}")]
@@ -27,6 +35,13 @@ pub enum LineError {
     /// Memory ran out.
     #[error("out of memory")]
     Memory,
+}
+
+// A failed `unwrap` or assertion then tells the message.
+impl fmt::Debug for LineError {
+    fn fmt<W: fmt::Write>(&self, f: &mut fmt::Formatter<W>) -> fmt::Result {
+        fmt::Display::fmt(self, f)
+    }
 }
 
 /// Memory ran out.

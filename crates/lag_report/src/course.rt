@@ -1,7 +1,7 @@
 //! The course of a request.
 
 /// When a request came, was taken and was done, in microseconds.
-#[derive(Clone, Copy, Debug, PartialEq, Eq)]
+#[derive(Clone, Copy)]
 pub struct Course {
     /// Whose it is.
     pub tenant: u32,

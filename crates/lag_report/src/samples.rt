@@ -24,7 +24,7 @@ pub fn samples(alloc: Global, served: &[u64], gains: &[u64]) -> Result<Vec<i64>,
 }
 
 /// The least lag, percentiles 50, 90 and 99, and the greatest, in microseconds of work.
-#[derive(Clone, Copy, Debug, PartialEq, Eq)]
+#[derive(Clone, Copy)]
 pub struct Ranked {
     pub least: i64,
     pub p50: i64,
