@@ -9,7 +9,7 @@ use std::alloc::{AllocError, Global};
 use thiserror::Error;
 
 /// How many bytes one call asks for at most.
-const PIECE: usize = 4096;
+const PIECE: usize = 65536;
 
 /// Why a source was not read to its end. What was read is given up.
 #[derive(Clone, Copy, Debug, PartialEq, Eq, Error)]
