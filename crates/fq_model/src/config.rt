@@ -6,9 +6,10 @@ use crate::limits::{
     GREATEST_COST, GREATEST_WEIGHT, LEAST_ENTRIES, MOST_ENTRIES, MOST_KINDS, MOST_PAIRS,
     MOST_REQUESTS, MOST_TENANTS, MOST_WORKERS,
 };
+use crate::messages::{out_of_range, two_numbers};
+use std::error::Error;
 use std::fmt;
 use std::marker::Model;
-use thiserror::Error;
 
 /// Which waiting request a worker takes.
 #[derive(Clone, Copy, PartialEq, Eq)]
@@ -93,33 +94,73 @@ pub struct Config {
 }
 
 /// The first number of a configuration that is out of its limit, in the order of these variants.
-#[derive(Clone, Copy, PartialEq, Eq, Error)]
+#[derive(Clone, Copy, PartialEq, Eq)]
 pub enum ConfigFault {
     /// So many workers; there may be 1 to 64.
-    #[error("{0} workers, and there may be 1 to {MOST_WORKERS}")]
     Workers(u32),
     /// So many tenants; there may be 1 to 4,096.
-    #[error("{0} tenants, and there may be 1 to {MOST_TENANTS}")]
     Tenants(u64),
     /// The least tenant whose weight is not from 1 to 1,000.
-    #[error("the weight of tenant {0} is not from 1 to {GREATEST_WEIGHT}")]
     Weight(u32),
     /// So many kinds; there may be 1 to 64.
-    #[error("{0} kinds, and there may be 1 to {MOST_KINDS}")]
     Kinds(u32),
     /// So many tenants times kinds; there may be 65,536.
-    #[error("{0} pairs of a tenant and a kind, and there may be {MOST_PAIRS}")]
     Pairs(u64),
     /// So many entries; there may be 4 to 4,194,304.
-    #[error("{0} entries, and there may be {LEAST_ENTRIES} to {MOST_ENTRIES}")]
     Entries(u32),
     /// So many requests that may wait; there may be 1 to 262,144.
-    #[error("{0} requests that may wait, and there may be 1 to {MOST_REQUESTS}")]
     Requests(u32),
     /// This initial value, in microseconds; it may be 1 to 10^9.
-    #[error("an initial value of {0} microseconds, and it may be 1 to {GREATEST_COST}")]
     Initial(u64),
 }
+
+impl fmt::Display for ConfigFault {
+    fn fmt<W: fmt::Write>(&self, f: &mut fmt::Formatter<W>) -> fmt::Result {
+        match *self {
+            ConfigFault::Workers(n) => out_of_range(f, n as u64, "workers", 1, MOST_WORKERS as u64),
+            ConfigFault::Tenants(n) => out_of_range(f, n, "tenants", 1, MOST_TENANTS as u64),
+            ConfigFault::Weight(t) => two_numbers(
+                f,
+                "the weight of tenant ",
+                t as u64,
+                " is not from 1 to ",
+                GREATEST_WEIGHT as u64,
+                "",
+            ),
+            ConfigFault::Kinds(n) => out_of_range(f, n as u64, "kinds", 1, MOST_KINDS as u64),
+            ConfigFault::Pairs(n) => out_of_range(
+                f,
+                n,
+                "pairs of a tenant and a kind",
+                1,
+                MOST_PAIRS,
+            ),
+            ConfigFault::Entries(n) => {
+                out_of_range(
+                    f,
+                    n as u64,
+                    "entries",
+                    LEAST_ENTRIES as u64,
+                    MOST_ENTRIES as u64,
+                )
+            }
+            ConfigFault::Requests(n) => {
+                out_of_range(
+                    f,
+                    n as u64,
+                    "requests that may wait",
+                    1,
+                    MOST_REQUESTS as u64,
+                )
+            }
+            ConfigFault::Initial(n) => {
+                out_of_range(f, n, "microseconds as the initial value", 1, GREATEST_COST)
+            }
+        }
+    }
+}
+
+impl Error for ConfigFault {}
 
 // A failed `unwrap` or assertion then tells the message.
 impl fmt::Debug for ConfigFault {

@@ -1,8 +1,9 @@
 //! Entries of a history, calls and replies.
 
 use crate::limits::{GREATEST_COST, GREATEST_WEIGHT};
+use crate::messages::{numbered, plain, two_numbers};
+use std::error::Error;
 use std::fmt;
-use thiserror::Error;
 
 /// What an entry says was done. Moments and costs are microseconds.
 #[derive(Clone, Copy, PartialEq, Eq)]
@@ -55,45 +56,85 @@ pub struct Entry {
 }
 
 /// Why a call is refused, with the numbers concerned.
-#[derive(Clone, Copy, PartialEq, Eq, Error)]
+#[derive(Clone, Copy, PartialEq, Eq)]
 pub enum Cause {
     /// The history is closed.
-    #[error("the history is closed")]
     Closed,
     /// No tenant has this number.
-    #[error("no tenant has the number {0}")]
     Tenant(u32),
     /// No kind has this number.
-    #[error("no kind has the number {0}")]
     Kind(u32),
     /// A cost or a use that is out of its range.
-    #[error("a cost or use of {0} microseconds, and it may be up to {GREATEST_COST}, a declared one 1 at least")]
     Cost(u64),
     /// As many requests wait as there are slots, which is this number.
-    #[error("{0} requests wait, and no more may")]
     Slots(u32),
     /// The history, which may have this many entries, lacks room for the call and all that must follow it.
-    #[error("the history may have {0} entries, and lacks room for the call and all that must follow it")]
     Full(u32),
     /// No worker has this number.
-    #[error("no worker has the number {0}")]
     Worker(u32),
     /// The worker runs this request already.
-    #[error("the worker runs request {0} already")]
     Busy(u32),
     /// The worker runs nothing.
-    #[error("the worker runs nothing")]
     NotRunning,
     /// The use or cost `given` is less than `last`, the greatest use reported so far.
-    #[error("a use or cost of {given} microseconds, after a use of {last} was reported")]
     Falling { last: u64, given: u64 },
     /// A weight that is out of its range.
-    #[error("a weight of {0}, and it may be 1 to {GREATEST_WEIGHT}")]
     Weight(u32),
     /// A number of workers that is 0, or more than the scheduler was opened with.
-    #[error("{0} workers, and there may be 1 to as many as at the opening")]
     Workers(u32),
 }
+
+impl fmt::Display for Cause {
+    fn fmt<W: fmt::Write>(&self, f: &mut fmt::Formatter<W>) -> fmt::Result {
+        match *self {
+            Cause::Closed => plain(f, "the history is closed"),
+            Cause::Tenant(t) => numbered(f, "no tenant has the number ", t as u64, ""),
+            Cause::Kind(k) => numbered(f, "no kind has the number ", k as u64, ""),
+            Cause::Cost(c) => two_numbers(
+                f,
+                "a cost or use of ",
+                c,
+                " microseconds, and it may be up to ",
+                GREATEST_COST,
+                ", a declared one 1 at least",
+            ),
+            Cause::Slots(n) => numbered(f, "", n as u64, " requests wait, and no more may"),
+            Cause::Full(n) => numbered(
+                f,
+                "the history may have ",
+                n as u64,
+                " entries, and lacks room for the call and all that must follow it",
+            ),
+            Cause::Worker(w) => numbered(f, "no worker has the number ", w as u64, ""),
+            Cause::Busy(r) => numbered(f, "the worker runs request ", r as u64, " already"),
+            Cause::NotRunning => plain(f, "the worker runs nothing"),
+            Cause::Falling { last, given } => two_numbers(
+                f,
+                "a use or cost of ",
+                given,
+                " microseconds, after a use of ",
+                last,
+                " was reported",
+            ),
+            Cause::Weight(w) => two_numbers(
+                f,
+                "a weight of ",
+                w as u64,
+                ", and it may be 1 to ",
+                GREATEST_WEIGHT as u64,
+                "",
+            ),
+            Cause::Workers(n) => numbered(
+                f,
+                "",
+                n as u64,
+                " workers, and there may be 1 to as many as at the opening",
+            ),
+        }
+    }
+}
+
+impl Error for Cause {}
 
 // A failed `unwrap` or assertion then tells the message.
 impl fmt::Debug for Cause {

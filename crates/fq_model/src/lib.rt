@@ -12,6 +12,7 @@ pub mod job;
 pub mod lag;
 pub mod level;
 pub mod limits;
+mod messages;
 pub mod parts;
 pub mod trace;
 pub mod version;

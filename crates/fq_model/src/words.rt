@@ -3,14 +3,21 @@ ghost use Rattle.std.specs.Prelude.{◌≡◌, ◌<◌, length, ok_or, Some};
 ghost use Rattle.fq_model.specs.Numbers.{with_digit, with_digits, number_of, policy_of, estimator_of, policy_word, estimator_word};
 
 use crate::config::{Estimator, Policy};
+use std::error::Error;
 use std::fmt;
 use std::str::FromStr;
-use thiserror::Error;
 
 /// The word names no policy, or no estimator.
-#[derive(Clone, Copy, Error)]
-#[error("no policy or estimator has this name")]
+#[derive(Clone, Copy)]
 pub struct UnknownWord;
+
+impl fmt::Display for UnknownWord {
+    fn fmt<W: fmt::Write>(&self, f: &mut fmt::Formatter<W>) -> fmt::Result {
+        f.write_str("no policy or estimator has this name")
+    }
+}
+
+impl Error for UnknownWord {}
 
 // A failed `unwrap` or assertion then tells the message.
 impl fmt::Debug for UnknownWord {

@@ -1,0 +1,45 @@
+//! What the messages of faults are made of. Each message is one call of these, which is quickly proved.
+use std::fmt;
+
+/// A text without numbers.
+pub(crate) fn plain<W: fmt::Write>(f: &mut fmt::Formatter<W>, text: &str) -> fmt::Result {
+    f.write_str(text)
+}
+
+/// A number between two texts.
+pub(crate) fn numbered<W: fmt::Write>(
+    f: &mut fmt::Formatter<W>,
+    before: &str,
+    number: u64,
+    after: &str,
+) -> fmt::Result {
+    f.write_str(before)?;
+    fmt::Display::fmt(&number, f)?;
+    f.write_str(after)
+}
+
+/// Two numbers with texts around them.
+pub(crate) fn two_numbers<W: fmt::Write>(
+    f: &mut fmt::Formatter<W>,
+    before: &str,
+    first: u64,
+    between: &str,
+    second: u64,
+    after: &str,
+) -> fmt::Result {
+    numbered(f, before, first, between)?;
+    numbered(f, "", second, after)
+}
+
+/// So many of something, of which there may be another number.
+pub(crate) fn out_of_range<W: fmt::Write>(
+    f: &mut fmt::Formatter<W>,
+    number: u64,
+    what: &str,
+    least: u64,
+    most: u64,
+) -> fmt::Result {
+    numbered(f, "", number, " ")?;
+    f.write_str(what)?;
+    two_numbers(f, ", and there may be ", least, " to ", most, "")
+}
