@@ -7,18 +7,19 @@ use Rattle.vt_fixed.specs.declared.limits.TheConstants.{GREATEST_MOMENT}
 use Rattle.fq_model.specs.declared.config.Config.{Config}
 use Rattle.fq_model.specs.declared.event.Entry.{Entry}
 use Rattle.fq_model.specs.declared.event.Act.{Act}
-use Rattle.fq_model.specs.declared.event.Act.TheVariants.{Take, Report, Done, Weight, Workers}
+use Rattle.fq_model.specs.declared.event.Act.TheVariants.{Submit, Take, Report, Done, Close, Weight, Workers}
 use Rattle.fq_model.specs.declared.event.Call.{Call}
 use Rattle.fq_model.specs.declared.event.Call.TheVariants as call
 use Rattle.fq_model.specs.declared.event.Reply.{Reply}
 use Rattle.fq_model.specs.declared.event.Reply.TheVariants as answer
 use Rattle.fq_model.specs.declared.event.Cause.{Cause}
 use Rattle.fq_model.specs.declared.event.Cause.TheVariants as cause
-use Rattle.fq_model.specs.History.{History, Request, waiting, is_closed, pool_at}
+use Rattle.fq_model.specs.Limits.{InLimits}
+use Rattle.fq_model.specs.History.{History, Request, waiting, is_closed, submits, pool_at}
 use Rattle.fq_model.specs.Time.{last_moment, effective_moment}
-use Rattle.fq_model.specs.Rules.{IsLegal, FitsUse, IsChosen, IsAccepted, RunsChosen, AnswersFree, RefusedOrElse, Answers, needed_room, request_on, use_refusals, take_refusal, report_refusal, done_refusal, weight_refusal, workers_refusal}
+use Rattle.fq_model.specs.Rules.{IsLegal, FitsUse, IsChosen, IsAccepted, RunsChosen, AnswersFree, RefusedOrElse, Answers, needed_room, request_on, use_refusals, submit_refusal, take_refusal, report_refusal, done_refusal, weight_refusal, workers_refusal}
 use Rattle.fq_laws.specs.Words.{one_more}
-use Rattle.fq_laws.proofs.Rules.Refusals.{all_false, report_fits, done_fits, weight_fits, workers_fits, request_on_is}
+use Rattle.fq_laws.proofs.Rules.Refusals.{all_false, submit_fits, report_fits, done_fits, weight_fits, workers_fits, request_on_is}
 use Rattle.charge_book.specs.declared.row.RunRow.{RunRow}
 use Rattle.charge_book.proofs.Refusals.{row_of}
 use Rattle.rival_policies.specs.Tables.{ChooserView}
@@ -61,6 +62,15 @@ not_refused o P reply Q Accepted e x = rw e x
 
 accepted : (P : History) (who moment m : ℕ) (act : Act) (reply : Reply) → m ≡ effective_moment P moment → IsAccepted P who moment act reply reply (one_more who m act P)
 accepted P who moment m act reply is = (refl, ap (λ (z : ℕ). one_more who z act P) is)
+
+-- ---- a Submit
+
+-- where nothing refuses it
+pub legal_submit : (C : Config) (P : History) (who m r tenant kind declared label : ℕ) → submit_refusal C P tenant kind declared ≡ None → r ≡ submits P → InLimits C → IsLegal C P → last_moment P ≤ m → m ≤ GREATEST_MOMENT → IsLegal C (one_more who m (Submit r tenant kind declared label) P)
+legal_submit C P who m r tenant kind declared label none next lim l later in_range = rw next (l, later, in_range, submit_fits C P tenant kind declared lim l none)
+
+pub answered_submit : (C : Config) (P : History) (who moment m r tenant kind declared label written : ℕ) → submit_refusal C P tenant kind declared ≡ None → r ≡ submits P → written ≡ label → m ≡ effective_moment P moment → Answers C P (call.Submit who moment tenant kind declared label) (answer.Request r) (one_more who m (Submit r tenant kind declared written) P)
+answered_submit C P who moment m r tenant kind declared label written none next same is = not_refused _ P _ _ _ none (rw (next, same) (accepted P who moment m _ (answer.Request (submits P)) is))
 
 -- ---- a Take
 
@@ -120,6 +130,14 @@ module _ {J X : Type 0} (label : J → ℕ) (seen : X → ChooserView) (C : Conf
 
     pub answered_report : room ≡ true → (who moment m : ℕ) → m ≡ effective_moment P moment → Answers C P (call.Report who moment worker used) answer.Accepted (one_more who m (Report worker row.request used) P)
     answered_report is who moment m at = not_refused _ P _ _ _ (report_refused_by ∙ rw is refl) (rw row_request (accepted P who moment m _ answer.Accepted at))
+
+-- ---- a Close
+
+pub refused_close : (C : Config) (P : History) (who moment : ℕ) → is_closed P ≡ true → Answers C P (call.Close who moment) (answer.Refused cause.Closed) P
+refused_close C P who moment is = rw is (refl, refl)
+
+pub answered_close : (C : Config) (P : History) (who moment m : ℕ) → is_closed P ≡ false → m ≡ effective_moment P moment → Answers C P (call.Close who moment) answer.Accepted (one_more who m Close P)
+answered_close C P who moment m still is = rw still (accepted P who moment m Close answer.Accepted is)
 
 -- ---- a Weight and a Workers
 

@@ -4,11 +4,16 @@ use Rattle.fq_model.specs.declared.config.Config.{Config}
 use Rattle.fq_model.specs.History.{waiting, pool_at}
 use Rattle.fq_model.specs.Rules.{take_refusal}
 use Rattle.charge_book.proofs.Refusals.{busy, take_refused}
+use Rattle.std.specs.FinMap as map
 use Rattle.sched_state.specs.Journal.{history}
+use Rattle.sched_state.specs.Scheduler.{SchedulerView}
 use Rattle.sched_state.proofs.CallLemmas.{unmoved, moved, entered, refused, retired, rested, took}
 use Rattle.sched_state.proofs.scheduler.Scheduler.take.Given as given
 use Rattle.sched_state.proofs.scheduler.Scheduler.take.Goals as goal
 use Rattle.sched_state.proofs.scheduler.Scheduler.take.Goals.{After-running, After-workers-workers, then-is_closed, else-is_closed}
+
+pub running-requires : goal.running-requires
+running-requires g c = omega (arith, c.if-worker-workers.false, c.workers.ensures.value, ap (λ (x : Config). x.workers) c.config.ensures.config, c.self.invariant.mirrors.book_is.workers)
 
 -- why the worker is refused work, if it is
 refusal : (g : given.Over) (c : After-running g) → take_refusal c.self.inside.journal.config (history c.self.inside.journal) c.args.worker ≡ busy c.running.result
@@ -38,6 +43,9 @@ returns-then-len-eq0-clause-answers g c =
       | else-is_closed w ↦ rw w.result-is (rested c.self.inside.journal.config (history c.self.inside.journal) c.args.who c.args.moment c.args.worker false none pooled nothing w.if-is_closed.ensures)
     ])
 
+pub take-item-requires-clause-tracked : goal.take-item-requires-clause-tracked
+take-item-requires-clause-tracked g c = c.self.invariant
+
 pub take-item-requires-clause-may : goal.take-item-requires-clause-may
 take-item-requires-clause-may g c = record {
   later = c.effective-moment.ensures.later;
@@ -59,3 +67,10 @@ returns-clause-answers g c =
     let pooled : c.args.worker < pool_at c.self.inside.journal.config (history c.self.inside.journal) = omega (arith, pool_is g (goal.at.returns-clause-answers g c).After-workers-workers, c.if-worker-workers-2.false) in
     let some : waiting (history c.self.inside.journal) ≢ 0 = λ z. c.if-len-eq0.false (c.len.ensures.all ∙ c.self.invariant.mirrors.lists_are.counted ∙ z) in
     moved c.self.inside.journal c.enter.new.self _ _ _ c.args.self.now _ _ c.self.view_is c.enter.ensures (took c.self.inside.journal.config (history c.self.inside.journal) c.args.who c.args.moment c.effective-moment.result c.args.worker c.take-item.result.0.request c.take-item.result.1 (g.J.Job.label_of c.take-item.result.0.job) c.take-item.ensures.asked none pooled some c.effective-moment.ensures.value c.take-item.ensures.label_is c.take-item.ensures.chosen)
+
+pub returns-clause-jobs : goal.returns-clause-jobs
+returns-clause-jobs g c =
+    let x = c.take-item.ensures in (
+      ap (λ (s : SchedulerView g.row.J.Denot). map.get s.jobs c.take-item.result.0.request) (sym c.self.view_is) ∙ x.job_is,
+      x.jobs_are ∙ ap (λ (s : SchedulerView g.row.J.Denot). map.remove s.jobs c.take-item.result.0.request) c.self.view_is,
+    )

@@ -11,7 +11,7 @@ use Rattle.sched_state.specs.Tracker.{TracksBut}
 use Rattle.sched_state.proofs.ListLemmas.{taken}
 use Rattle.sched_state.proofs.CostLemmas.{estimate_is}
 use Rattle.sched_state.proofs.ChargeLemmas.{BeginStep, begin_step, step_charge}
-use Rattle.sched_state.proofs.KeyLemmas.{latest_at}
+use Rattle.sched_state.proofs.KeyLemmas.{latest_at, worker_in}
 use Rattle.sched_state.proofs.TrackerLemmas.{Turns, turns, time_at, has_item, item_chosen, legal_take, some_chosen, kind_known, was_asked, weighed_there, weight_there, take_but, some_but, renewed}
 use Rattle.sched_state.proofs.tracker.Tracker.take.Given as given
 use Rattle.sched_state.proofs.tracker.Tracker.take.Goals as goal
@@ -19,6 +19,12 @@ use Rattle.sched_state.proofs.tracker.Tracker.take.Goals.{After-unwrap-tenant, A
 
 pub pass-requires-clause-later : goal.pass-requires-clause-later
 pass-requires-clause-later g c = omega (arith, c.requires.may.later, c.requires.tracked.mirrors.times_are.clock_is.moment)
+
+pub pass-requires-clause-in_range : goal.pass-requires-clause-in_range
+pass-requires-clause-in_range g c = c.requires.may.in_range
+
+pub choose-requires-clause-worker : goal.choose-requires-clause-worker
+choose-requires-clause-worker g c = worker_in c.args.journal.now.config (history c.args.journal.now) c.args.moment (g.X.Chooser.seen c.args.self.now.chooser) c.requires.tracked.mirrors.legal c.requires.tracked.chooser_is c.args.worker c.requires.may.pooled
 
 pub choose-requires-clause-not_back : goal.choose-requires-clause-not_back
 choose-requires-clause-not_back g c =
@@ -43,6 +49,9 @@ pop-requires g c = omega (arith, (turn g (goal.at.pop-requires g c).After-unwrap
 pub unwrap-item-requires : goal.unwrap-item-requires
 unwrap-item-requires g c = has_item g.J.Job.label_of g.X.Chooser.seen c.args.journal.now.config (history c.args.journal.now) c.args.moment c.args.worker c.args.self.now c.requires.tracked c.requires.may.later c.requires.may.in_range c.requires.may.free c.requires.may.pooled c.requires.may.some_waits c.unwrap-tenant.result c.pop.result (turn g (goal.at.unwrap-item-requires g c).After-unwrap-tenant) (sym c.pop.ensures.first)
 
+pub now-estimate-requires-clause-tenant : goal.now-estimate-requires-clause-tenant
+now-estimate-requires-clause-tenant g c = omega (arith, (turn g (goal.at.now-estimate-requires-clause-tenant g c).After-unwrap-tenant).known, c.requires.tracked.mirrors.costs_are.tenants)
+
 pub now-estimate-requires-clause-kind : goal.now-estimate-requires-clause-kind
 now-estimate-requires-clause-kind g c =
     let m = c.requires.tracked.mirrors in
@@ -65,11 +74,26 @@ begun g c x who =
 pub begin-change-requires-clause-free : goal.begin-change-requires-clause-free
 begin-change-requires-clause-free g c = let at = goal.at.begin-change-requires-clause-free g c in (begun g at.After-weight-weight (turn g at.After-unwrap-tenant) 0).free
 
+pub begin-change-requires-clause-worker : goal.begin-change-requires-clause-worker
+begin-change-requires-clause-worker g c = let at = goal.at.begin-change-requires-clause-worker g c in (begun g at.After-weight-weight (turn g at.After-unwrap-tenant) 0).worker
+
+pub begin-change-requires-clause-tenant : goal.begin-change-requires-clause-tenant
+begin-change-requires-clause-tenant g c = omega (arith, (turn g (goal.at.begin-change-requires-clause-tenant g c).After-unwrap-tenant).known, c.requires.tracked.mirrors.book_is.tenants)
+
+pub begin-change-requires-clause-weight_positive : goal.begin-change-requires-clause-weight_positive
+begin-change-requires-clause-weight_positive g c = c.weight-weight.ensures.low
+
+pub begin-change-requires-clause-weight_in_range : goal.begin-change-requires-clause-weight_in_range
+begin-change-requires-clause-weight_in_range g c = c.weight-weight.ensures.high
+
 pub begin-change-requires-clause-estimate : goal.begin-change-requires-clause-estimate
 begin-change-requires-clause-estimate g c = let at = goal.at.begin-change-requires-clause-estimate g c in (begun g at.After-weight-weight (turn g at.After-unwrap-tenant) 0).estimate_low
 
 pub begin-change-requires-clause-few : goal.begin-change-requires-clause-few
 begin-change-requires-clause-few g c = let at = goal.at.begin-change-requires-clause-few g c in (begun g at.After-weight-weight (turn g at.After-unwrap-tenant) 0).few
+
+pub charge-requires-clause-tenant : goal.charge-requires-clause-tenant
+charge-requires-clause-tenant g c = omega (arith, (turn g (goal.at.charge-requires-clause-tenant g c).After-unwrap-tenant).known, c.requires.tracked.mirrors.accounts_are.charges_sized)
 
 pub charge-requires-clause-low : goal.charge-requires-clause-low
 charge-requires-clause-low g c = let at = goal.at.charge-requires-clause-low g c in (step_charge c.args.journal.now.config (history c.args.journal.now) _ c.args.self.now.accounts c.unwrap-tenant.result _ _ c.begin-change.result (begun g at.After-weight-weight (turn g at.After-unwrap-tenant) 0).step c.begin-change.ensures.change).0
