@@ -1,7 +1,7 @@
 //! The gate of a trace.
 ghost use Rattle.std.specs.Prelude.{◌≡◌, ◌≤◌};
 ghost use Rattle.vt_fixed.specs.declared.limits.TheConstants.{GREATEST_COST};
-ghost use Rattle.pool_laws.specs.PoolEnd.{trace_course};
+ghost use Rattle.trace_pool.specs.PoolEnd.{trace_course};
 ghost use Rattle.trace_runner.specs.Plan.{AreCosts};
 
 use fq_model::trace::TraceRow;
