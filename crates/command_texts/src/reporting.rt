@@ -60,6 +60,28 @@ pub fn history_text<X: Chooser + Drop>(
     }
 }
 
+/// The same of a scheduler that nobody needs afterwards.
+pub fn last_history_text<X: Chooser + Drop>(
+    alloc: Global,
+    what: HistoryPrint,
+    slot: u64,
+    scheduler: Scheduler<u64, X>,
+    tenants: &Tenants,
+    kinds: &Kinds,
+) -> Result<Vec<u8>, Stop>
+    requires slot { slot ≤ GREATEST_SLOT }
+    requires names { length tenants.now ≡ length scheduler.config.weights }
+    requires done { unfinished (history_of scheduler.past) ≡ None }
+    ensures { MatchResult result
+        (λ text. IsHistoryOutput what slot scheduler.config
+        (names_of tenants.now) kinds.now scheduler.past text.items)
+        (IsCellsStop what slot scheduler.config (history_of scheduler.past)) }
+{
+    let text = history_text(alloc, what, slot, &scheduler, tenants, kinds);
+    drop(scheduler);
+    text
+}
+
 fn journal<X: Chooser>(
     alloc: Global,
     scheduler: &Scheduler<u64, X>,

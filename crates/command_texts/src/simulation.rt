@@ -9,7 +9,7 @@ ghost use Rattle.command_texts.specs.Commands.{IsRunOutput, Untold};
 ghost use Rattle.command_texts.specs.Histories.{IsSimulatedOutput, entries_message, message_line};
 ghost use Rattle.command_texts.specs.Stops.{IsTraceFaultStop, IsEntriesStop, IsSimulationStop, IsOutputStop};
 
-use crate::reporting::history_text;
+use crate::reporting::last_history_text;
 use crate::stop::Stop;
 use eligible_index::index::IndexChooser;
 use fq_model::command::HistoryPrint;
@@ -65,9 +65,7 @@ pub fn simulated_text(
     match simulated {
         Ok(scheduler) => {
             let (tenants, kinds) = (trace.tenants(), trace.kinds());
-            let text = history_text(alloc, what, slot, &scheduler, tenants, kinds);
-            drop(scheduler);
-            text
+            last_history_text(alloc, what, slot, scheduler, tenants, kinds)
         }
         Err(SimFault::TooManyEntries(needed)) => Err(entries_stop(alloc, needed)),
         Err(SimFault::NoMemory) => Err(Stop::NoMemory),

@@ -7,7 +7,7 @@ use Rattle.fq_model.specs.Courses.{row_request}
 use Rattle.fq_model.specs.History.{Request}
 use Rattle.fq_model.specs.PoolHistory.{requests_from}
 use Rattle.worker_gate.specs.declared.rows.Row.{Row}
-use Rattle.pool_laws.specs.PoolEnd.{row_asks}
+use Rattle.trace_pool.specs.PoolEnd.{row_asks}
 
 -- what was dealt of the rows before row r, and what is left to be dealt of row r and the rows after it, are all rows
 abbrev pub IsDealtTo : List TraceRow → ℕ → ℕ → List (Row ℕ) → Type 0

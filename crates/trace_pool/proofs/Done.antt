@@ -11,7 +11,7 @@ use Rattle.worker_gate.specs.declared.pool.Hand.TheVariants.{Feed, Work}
 use Rattle.worker_gate.specs.Feeding.{Feeds}
 use Rattle.worker_gate.specs.Hands.{IsHandOf, HandDid, HandsDid}
 use Rattle.worker_gate.specs.Rules.{work_cost}
-use Rattle.pool_laws.specs.PoolEnd.{trace_course}
+use Rattle.trace_pool.specs.PoolEnd.{trace_course}
 use Rattle.trace_pool.specs.Parts.{IsFeedOf, IsWorkOf, AreHands, HasFed, HasWorked, HasFedHand, HasWorkedHand, AreDone}
 use Rattle.trace_pool.specs.Places.{HoldsFrom}
 

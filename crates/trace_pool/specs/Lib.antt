@@ -1,3 +1,5 @@
+pub mod PoolEnd
+pub mod Laws
 pub mod Serving
 pub mod Places
 pub mod Parts

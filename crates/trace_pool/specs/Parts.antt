@@ -15,7 +15,7 @@ use Rattle.worker_gate.specs.declared.rows.Row.{Row}
 use Rattle.worker_gate.specs.Feeding.{Feeds}
 use Rattle.worker_gate.specs.Rules.{work_cost}
 use Rattle.worker_gate.specs.Running.{Worked}
-use Rattle.pool_laws.specs.PoolEnd.{trace_course, row_asks}
+use Rattle.trace_pool.specs.PoolEnd.{trace_course, row_asks}
 use Rattle.trace_pool.specs.Places.{HoldsFrom}
 
 -- these are the rows of submitter j, in order

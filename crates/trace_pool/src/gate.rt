@@ -1,7 +1,8 @@
 //! The gate of a trace.
-ghost use Rattle.std.specs.Prelude.{◌≡◌, ◌≤◌};
+ghost use Rattle.std.specs.Prelude.{◌≡◌, ◌≤◌, slice_get, option_map, IfSome};
 ghost use Rattle.vt_fixed.specs.declared.limits.TheConstants.{GREATEST_COST};
-ghost use Rattle.pool_laws.specs.PoolEnd.{trace_course};
+ghost use Rattle.fq_model.specs.Limits.{IsWithin};
+ghost use Rattle.trace_pool.specs.PoolEnd.{trace_course};
 ghost use Rattle.trace_runner.specs.Plan.{AreCosts};
 
 use fq_model::trace::TraceRow;
@@ -29,18 +30,23 @@ impl<'a> TraceGate<'a> {
     {
         TraceGate { rows, refresh }
     }
+
+    // The cost of the row that a job is the number of, if there is such a row.
+    fn cost(&self, job: u64) -> Option<u64>
+        ensures cost { result ≡ option_map (λ row. row.cost) (slice_get self.now.rows.now job) }
+        ensures range { IfSome result (IsWithin 1 GREATEST_COST) }
+    {
+        let row = self.rows.get(job as usize)?;
+        Some(row.cost)
+    }
 }
 
 impl<'a> Gate<u64> for TraceGate<'a> {
     ghost course = { λ gate label. trace_course gate.refresh gate.rows.now label };
 
     fn slice(&self, job: &u64, k: u32, last: Counters) -> Slice {
-        let row = match usize::try_from(*job) {
-            Ok(number) => self.rows.get(number),
-            Err(_) => None,
-        };
-        match row {
-            Some(row) => Steps::new(self.refresh, row.cost).slice(k, last),
+        match self.cost(*job) {
+            Some(cost) => Steps::new(self.refresh, cost).slice(k, last),
             None => Slice::End(last),
         }
     }

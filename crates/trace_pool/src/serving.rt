@@ -1,10 +1,11 @@
 //! A trace, served by a pool.
 ghost use Rattle.std.specs.Prelude.{◌≡◌, ◌≤◌, ◌+◌, ◌⊎◌, [], length, vec_capacity, Err, IfOk, IfErr};
 ghost use Rattle.vt_fixed.specs.declared.limits.TheConstants.{GREATEST_COST};
-ghost use Rattle.fq_model.specs.declared.limits.TheConstants.{MOST_ROWS};
+ghost use Rattle.fq_model.specs.declared.limits.TheConstants.{MOST_ENTRIES, MOST_ROWS};
+ghost use Rattle.fq_model.specs.Courses.{submitters};
 ghost use Rattle.fq_model.specs.History.{history_of};
 ghost use Rattle.fq_model.specs.Limits.{AreInRange};
-ghost use Rattle.fq_model.specs.PoolHistory.{IsPoolHistory, HasToldMoments, pool_config};
+ghost use Rattle.fq_model.specs.PoolHistory.{IsPoolHistory, HasToldMoments, needed_pool_entries, pool_config};
 ghost use Rattle.fq_model.specs.TraceText.{IsLawfulTrace};
 ghost use Rattle.desk.specs.Opening.{AreTokens};
 ghost use Rattle.trace_runner.specs.Plan.{AreCosts};
@@ -20,6 +21,7 @@ use crate::hands::{hand_out, take_back};
 use crate::needed::needed;
 use desk::{DeskOf, Floor, Submitter, Worker};
 use fq_io::Clock;
+use fq_model::config::Checked;
 use fq_model::limits::{LEAST_ENTRIES, MOST_ENTRIES};
 use fq_model::trace::{RunOptions, TraceRow};
 use rival_policies::chooser::Chooser;
@@ -64,6 +66,50 @@ fn serve_rows<X: Chooser + Drop + Send, K: Clock + Sync, R: Threads + Wait + Syn
     hands.destroy_empty();
 }
 
+// Opens a desk, has the callers of all its tokens serve the trace's rows, and gives its scheduler.
+fn serve_at_desk<X: Chooser + Drop + Send, K: Clock + Sync, R: Threads + Wait + Sync>(
+    rt: &R,
+    alloc: Global,
+    config: Checked,
+    trace: &Trace,
+    options: RunOptions,
+    clock: &K,
+    count: u32,
+    queues: Vec<VecDeque<Row<u64>>>,
+    hands: Vec<Hand<u64>>,
+) -> Result<Scheduler<u64, X>, PoolFault>
+    requires trace { IsLawfulTrace trace.now × AreInRange options × (count ≡ submitters trace.now.rows)
+        × (needed_pool_entries trace.now.rows options.refresh ≤ MOST_ENTRIES) }
+    requires config { config ≡ pool_config trace.now options }
+    requires queues { HoldsFrom (λ j q. AreRowsOf trace.now.rows j q.items) 0 queues.items
+        × (length queues.items ≡ count) }
+    requires hands { (hands.items ≡ []) × (count + options.workers ≤ vec_capacity hands) }
+    ensures history { IfOk result (λ s. IsPoolHistory trace.now options (history_of s.past)
+        × HasToldMoments (K.tells clock.now) (history_of s.past)) }
+    ensures config { IfOk result (λ s. s.config ≡ pool_config trace.now options) }
+    ensures fault { IfErr result (λ f. f ≡ faults.NoMemory) }
+{
+    let Ok((desk, mut submitters, mut workers)) = DeskOf::open(alloc, config, count) else {
+        hands.destroy_empty();
+        return Err(PoolFault::NoMemory);
+    };
+    serve_rows(
+        rt,
+        &desk,
+        trace.rows(),
+        options.refresh,
+        clock,
+        queues,
+        hands,
+        &mut submitters,
+        &mut workers,
+    );
+    let Ok(scheduler) = desk.finish(submitters, workers) else {
+        unreachable!()
+    };
+    Ok(scheduler)
+}
+
 /// Serves a trace by a pool of threads, one for each submitter and one for each worker, and gives the scheduler that they
 /// shared. Rows come when their submitter comes to them: their moments are not used. The clock is asked by the threads
 /// alone, before each call that they make, and labels are the rows' numbers from 0. All memory is taken before the first
@@ -93,23 +139,7 @@ pub fn serve<X: Chooser + Drop + Send, K: Clock + Sync, R: Threads + Wait + Sync
     let count = submitters(rows);
     let queues = deal(alloc, rows, count)?;
     let hands = Vec::with_capacity(alloc, (count + options.workers) as usize)?;
-    let Ok((desk, mut submitters, mut workers)) = DeskOf::open(alloc, config, count) else {
-        hands.destroy_empty();
-        return Err(PoolFault::NoMemory);
-    };
-    serve_rows(
-        rt,
-        &desk,
-        rows,
-        options.refresh,
-        clock,
-        queues,
-        hands,
-        &mut submitters,
-        &mut workers,
-    );
-    let Ok(scheduler) = desk.finish(submitters, workers) else {
-        unreachable!()
-    };
-    Ok(scheduler)
+    serve_at_desk(
+        rt, alloc, config, trace, options, clock, count, queues, hands,
+    )
 }

@@ -12,18 +12,21 @@ use std::io::ErrorKind;
 use std::process::ExitCode;
 use twodfq_main::program::{tell, twodfq};
 
+// The words after the program's name.
+fn words(rt: &HostRuntime) -> Result<Vec<String>, Stop> {
+    match env::args(rt) {
+        Ok(args) => Ok(args.skip(1).collect::<Vec<String>>(rt.alloc())?),
+        Err(error) if error.kind() == ErrorKind::OutOfMemory => Err(Stop::NoMemory),
+        // A word that is no text is no word of a command line.
+        Err(_) => Err(Stop::Words),
+    }
+}
+
 fn main(rt: HostRuntime) -> ExitCode {
     let mut errs = StdSink::new(rt.stderr());
-    let words = match env::args(&rt) {
-        Ok(args) => args.skip(1).collect::<Vec<String>>(rt.alloc()),
-        Err(error) if error.kind() == ErrorKind::OutOfMemory => {
-            return ExitCode::from(tell(&mut errs, Stop::NoMemory));
-        }
-        // A word that is no text is no word of a command line.
-        Err(_) => return ExitCode::from(tell(&mut errs, Stop::Words)),
-    };
-    let Ok(words) = words else {
-        return ExitCode::from(tell(&mut errs, Stop::NoMemory));
+    let words = match words(&rt) {
+        Ok(words) => words,
+        Err(stop) => return ExitCode::from(tell(&mut errs, stop)),
     };
     let mut source = StdSource::new(rt.stdin());
     let mut sink = StdSink::new(rt.stdout());

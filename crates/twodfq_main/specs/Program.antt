@@ -128,6 +128,12 @@ pub record FailsWriting (Told : ℕ → Type 0) (command : Command) (source sink
   pub answered : IsAnswered Told command source text
   pub wrote : WritesPart sink text
 
+-- how a command ends for which this text was made, or for which there is none
+abbrev pub EndsWith : {A : Type 0} → Result A Stop → (A → List ℕ) → Move → Result (Unit {0}) Stop → Type 0
+EndsWith (Ok text) bytes sink (Ok done) = Writes sink (bytes text)
+EndsWith (Ok text) bytes sink (Err stop) = (stop ≡ Writing) × WritesPart sink (bytes text)
+EndsWith (Err why) bytes sink end = (end ≡ Err why) × Stays sink
+
 -- when each end of a command comes, and what it leaves of the source and the sink. Want of memory may come at any step
 -- before writing.
 abbrev pub EndsCommand : (ℕ → Type 0) → Command → Move → Move → Result (Unit {0}) Stop → Type 0

@@ -9,7 +9,7 @@ ghost use Rattle.fq_model.specs.Limits.{AreInRange};
 ghost use Rattle.fq_model.specs.TraceText.{IsLawfulTrace};
 ghost use Rattle.twodfq_main.specs.Pools.{IsPoolStop};
 
-use command_texts::reporting::history_text;
+use command_texts::reporting::last_history_text;
 use command_texts::simulation::{entries_stop, fault_stop};
 use command_texts::stop::Stop;
 use eligible_index::index::IndexChooser;
@@ -73,16 +73,8 @@ fn pool_text<T: Wait + Threads + Sync, K: Clock + Sync>(
     );
     match served {
         Ok(scheduler) => {
-            let text = history_text(
-                alloc,
-                what,
-                slot,
-                &scheduler,
-                trace.tenants(),
-                trace.kinds(),
-            );
-            drop(scheduler);
-            text
+            let (tenants, kinds) = (trace.tenants(), trace.kinds());
+            last_history_text(alloc, what, slot, scheduler, tenants, kinds)
         }
         Err(PoolFault::TooManyEntries(needed)) => Err(entries_stop(alloc, needed)),
         Err(PoolFault::NoMemory) => Err(Stop::NoMemory),

@@ -1,15 +1,14 @@
 //! The program, over any source, sinks and clock.
-ghost use Rattle.std.specs.Prelude.{ℕ, ◌≡◌, ◌≤◌, map, is_some, Err, IfSome, IfErr, OnOk};
+ghost use Rattle.std.specs.Prelude.{ℕ, ◌≡◌, ◌≤◌, map, is_some, Err, IfSome};
 ghost use Rattle.std.specs.String.{string_bytes};
 ghost use Rattle.command_line.specs.Commands.{IsInRange};
 ghost use Rattle.command_texts.specs.Commands.{Untold};
 ghost use Rattle.command_texts.specs.Stops.{status_of, message_of};
-ghost use Rattle.command_texts.specs.declared.stop.Stop.TheVariants.{Writing};
 ghost use Rattle.fq_model.specs.declared.command.Command.TheVariants.{Script, Run, Live, Gen};
 ghost use Rattle.fq_model.specs.declared.limits.TheConstants.{GREATEST_SLOT, MOST_TENANTS, MOST_ROWS};
 ghost use Rattle.fq_model.specs.Limits.{IsWithin, AreInRange};
 ghost use Rattle.twodfq_main.specs.Asked.{asked, if_one_of, is_plain, is_live, is_served};
-ghost use Rattle.twodfq_main.specs.Program.{Ends, EndsCommand, Move, Stays, IsRun, Says, TellsEnd, Writes, WritesPart, moved};
+ghost use Rattle.twodfq_main.specs.Program.{Ends, EndsCommand, EndsWith, Move, Stays, IsRun, Says, TellsEnd, moved};
 ghost use Rattle.twodfq_main.specs.Causes.{StatusMeans};
 
 use crate::pooling::live_text;
@@ -216,7 +215,7 @@ fn run_script<R: Source, W: Sink>(
     let input = read_all(alloc, source, GREATEST_INPUT)?;
     let text = served_text::<IndexChooser>(alloc, print, input.as_slice());
     drop(input);
-    written(sink, text?)
+    written(sink, text)
 }
 
 // Reads a trace, simulates it and writes what is asked for of its history, or says why not.
@@ -239,7 +238,7 @@ fn run_trace<R: Source, W: Sink>(
     let input = read_all(alloc, source, GREATEST_INPUT)?;
     let text = run_text(alloc, options, slot, print, input.as_slice());
     drop(input);
-    written(sink, text?)
+    written(sink, text)
 }
 
 // Reads a trace, serves it by a pool of threads and writes what is asked for of the pool's history, or says why not.
@@ -264,7 +263,7 @@ fn run_live<T: Wait + Threads + Sync, R: Source, W: Sink, K: Clock + Sync>(
     let input = read_all(alloc, source, GREATEST_INPUT)?;
     let text = live_text(rt, alloc, options, slot, print, input.as_slice(), clock);
     drop(input);
-    written(sink, text?)
+    written(sink, text)
 }
 
 // Generates a trace and writes it, or the summary of its history, or says why not.
@@ -284,18 +283,17 @@ fn run_generator<W: Sink>(
     ensures sink_later { W.faults sink.old ≤ W.faults sink.new }
     ensures sink_room { W.room sink.new ≡ W.room sink.old }
 {
-    let text = generated_text(alloc, seed, tenants, requests, print)?;
+    let text = generated_text(alloc, seed, tenants, requests, print);
     written(sink, text)
 }
 
-// Writes a text, or says that a write failed.
-fn written<W: Sink>(sink: &mut W, text: Vec<u8>) -> Result<(), Stop>
-    ensures wrote { OnOk result (Writes (moved W.written W.faults sink.old sink.new) text.items) }
-    ensures failed { IfErr result (λ stop. (stop ≡ Writing)
-        × WritesPart (moved W.written W.faults sink.old sink.new) text.items) }
+// Writes the text that was made, or says why there is none, or that a write failed.
+fn written<W: Sink>(sink: &mut W, text: Result<Vec<u8>, Stop>) -> Result<(), Stop>
+    ensures ends { EndsWith text (λ t. t.items) (moved W.written W.faults sink.old sink.new) result }
     ensures later { W.faults sink.old ≤ W.faults sink.new }
     ensures room { W.room sink.new ≡ W.room sink.old }
 {
+    let text = text?;
     let end = write_all(sink, text.as_slice());
     drop(text);
     Ok(end?)

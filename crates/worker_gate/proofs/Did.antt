@@ -1,5 +1,6 @@
 -- A hand that ran.
-use Rattle.std.proofs.Common.{◌≡◌, ℕ, List, Option, Some, sym, ap, subst}
+use Rattle.std.proofs.Common.{◌≡◌, ◌<◌, ◌-◌, ◌∙◌, ℕ, List, length, slice_index_or, Option, Some, sym, ap, subst, arith}
+use Rattle.std.specs.List.{ReversedBelow}
 use Rattle.history_lock.specs.Passes.{LockView}
 use Rattle.desk.specs.declared.floor.Crew.{Crew}
 use Rattle.desk.specs.declared.tokens.Worker.{Worker}
@@ -7,7 +8,7 @@ use Rattle.worker_gate.specs.declared.counters.Counters.{Counters}
 use Rattle.worker_gate.specs.declared.pool.Hand.{Hand}
 use Rattle.worker_gate.specs.declared.pool.Hand.TheVariants.{Work}
 use Rattle.worker_gate.specs.Running.{Worked}
-use Rattle.worker_gate.specs.Hands.{HandDid}
+use Rattle.worker_gate.specs.Hands.{HandDid, HandsDid}
 
 module _ {J : Type 0} (label : J → ℕ) (lock : LockView Crew) (course_of : ℕ → Option (List Counters)) (cost_of : Counters → ℕ) (Tells : ℕ → Type 0) where
   -- what a hand that is seen so has done
@@ -18,3 +19,20 @@ module _ {J : Type 0} (label : J → ℕ) (lock : LockView Crew) (course_of : �
       → Worked lock course_of cost_of Tells worker worker2 → HandDid label lock course_of cost_of Tells hand (Work slot2)
   did_work hand slot slot2 worker worker2 is was now w =
       did_so hand (Work slot) (Work slot2) is (worker, worker2, was, ap (λ s. let h : Hand J = Work s in h) now, w)
+
+  -- what a call with a `&mut` to a hand has made of it
+  pub did_at : (hand argument after new : Hand J) → argument ≡ hand → after ≡ new → HandDid label lock course_of cost_of Tells argument after → HandDid label lock course_of cost_of Tells hand new
+  did_at hand argument after new is left did = subst (λ h. HandDid label lock course_of cost_of Tells h new) is (subst (HandDid label lock course_of cost_of Tells argument) left did)
+
+  -- hands that are turned round, have done their parts, and are turned back
+  pub did_turned : (olds turned done news : List (Hand J)) → length turned ≡ length olds → ReversedBelow olds turned (length olds) → length done ≡ length turned
+      → ((i : ℕ) (d : Hand J) → i < length turned → HandDid label lock course_of cost_of Tells (slice_index_or turned i d) (slice_index_or done i d))
+      → length news ≡ length done → ReversedBelow done news (length done) → HandsDid label lock course_of cost_of Tells olds news
+  did_turned olds turned done news same first all did back second = (back ∙ (all ∙ same), λ i d here. at i d here)
+    where
+      at : (i : ℕ) (d : Hand J) → i < length olds → HandDid label lock course_of cost_of Tells (slice_index_or olds i d) (slice_index_or news i d)
+      at i d here =
+          let k : ℕ = length done - 1 - i in
+          let below : k < length turned = omega (arith, here, same, all) in
+          let was : slice_index_or turned k d ≡ slice_index_or olds i d = first k d (omega (arith, below, same)) ∙ ap (λ n. slice_index_or olds n d) (omega (arith, here, same, all)) in
+          did_at (slice_index_or olds i d) (slice_index_or turned k d) (slice_index_or done k d) (slice_index_or news i d) was (sym (second i d (omega (arith, here, same, all)))) (did k d below)

@@ -12,8 +12,10 @@ use Rattle.desk.specs.declared.tokens.Worker.{Worker}
 use Rattle.desk.specs.Replies.{SameRun}
 use Rattle.desk.specs.Tokens.{Stays}
 use Rattle.worker_gate.specs.declared.counters.Counters.{Counters}
+use Rattle.worker_gate.specs.declared.work.Turn.{Turn}
+use Rattle.worker_gate.specs.declared.work.Turn.TheVariants.{On, Over}
 use Rattle.worker_gate.specs.Moments.{HasToldMomentsFrom}
-use Rattle.worker_gate.specs.Running.{Use, JobRun, with_uses, with_runs, acts_of, AreKeptWhereRoom, IsAsTold, AreRuns}
+use Rattle.worker_gate.specs.Running.{Use, JobRun, with_uses, with_runs, acts_of, AreKeptWhereRoom, IsAsTold, AreRuns, Worked}
 
 -- the request's course as its worker ran it
 abbrev pub run_of : Running → ℕ → List Use → ℕ → JobRun
@@ -73,3 +75,8 @@ module _ (lock : LockView Crew) (Tells : ℕ → Type 0) where
       pub runs_are :
           AreRuns lock.frame.config old.pass.number old.worker course_of cost_of
           new.pass.seen (acts_of old.pass.mine) runs
+
+    -- after a turn the worker goes on, and has served so, or it has worked to the end
+    abbrev pub HasTurned : Worker → Turn → Type 0
+    HasTurned begun (On free) = Serves begun free
+    HasTurned begun (Over ended) = Worked lock course_of cost_of Tells begun ended

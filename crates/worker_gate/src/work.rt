@@ -3,7 +3,8 @@ ghost use Rattle.std.specs.Prelude.{Bool, ◌≤◌, [], ◌∷◌};
 ghost use Rattle.fq_model.specs.History.{history_of, last_use};
 ghost use Rattle.history_lock.specs.Passes.{IsOf};
 ghost use Rattle.worker_gate.specs.Running.{Worked};
-ghost use Rattle.worker_gate.specs.Serving.{IsAtStart, HasNamed, HasRunSlices, HasRun};
+ghost use Rattle.desk.specs.declared.tokens.Worker.{Worker};
+ghost use Rattle.worker_gate.specs.Serving.{IsAtStart, HasNamed, HasRunSlices, HasRun, Serves, HasTurned};
 
 use crate::cost_rule::{Cost, CostRule};
 use crate::counters::NO_COUNTERS;
@@ -86,6 +87,39 @@ fn run_job<J: Job + Drop, X: Chooser, G: Gate<J>, K: Clock, F: Cost, R: Wait>(
     worker
 }
 
+// What comes of one take.
+enum Turn {
+    // The worker goes on.
+    On(Worker),
+    // Nothing waits and nothing more will come, or the pool has no place for the worker.
+    Over(Worker),
+}
+
+// Takes a job and runs it to its end, or sleeps where nothing waits.
+fn take_turn<J: Job + Drop, X: Chooser, G: Gate<J>, K: Clock, F: Cost, R: Wait>(
+    desk: &DeskOf<Floor<J, X>>,
+    rt: &R,
+    free: Worker,
+    gate: &G,
+    clock: &K,
+    rule: &CostRule<F>,
+) -> Turn
+    requires { IsOf desk.now.lock free.pass }
+    ensures { (begun : Worker)
+        → Serves desk.now.lock (K.tells clock.now) (G.course gate.now) (F.cost_of rule.now) begun free
+        → HasTurned desk.now.lock (K.tells clock.now) (G.course gate.now) (F.cost_of rule.now) begun result }
+{
+    let heard = desk.heard();
+    match desk.take(rt, free, clock.now()) {
+        Took::Run(running, job) => Turn::On(run_job(desk, rt, running, &job, gate, clock, rule)),
+        Took::Idle(back) => {
+            desk.await_news(rt, heard);
+            Turn::On(back)
+        }
+        Took::Drained(back) | Took::Retired(back, _) => Turn::Over(back),
+    }
+}
+
 /// Takes one job after another and runs each to its end, until nothing waits and nothing more will come, or the pool has
 /// no place for the worker. Each job's gate is asked for slice after slice; what a slice has used is reported, at the
 /// cost that the rule makes of it, and is let go where the history has no room for it. Slice 9,999 is the last, whatever
@@ -103,16 +137,9 @@ pub fn work<J: Job + Drop, X: Chooser, G: Gate<J>, K: Clock, F: Cost, R: Wait>(
 {
     let mut free = worker;
     for _ in rt.forever() {
-        let heard = desk.heard();
-        match desk.take(rt, free, clock.now()) {
-            Took::Run(running, job) => {
-                free = run_job(desk, rt, running, &job, gate, clock, rule);
-            }
-            Took::Idle(back) => {
-                desk.await_news(rt, heard);
-                free = back;
-            }
-            Took::Drained(back) | Took::Retired(back, _) => return back,
+        match take_turn(desk, rt, free, gate, clock, rule) {
+            Turn::On(next) => free = next,
+            Turn::Over(back) => return back,
         }
     }
     free

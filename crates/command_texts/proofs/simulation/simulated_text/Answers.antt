@@ -4,11 +4,11 @@ use Rattle.trace_runner.proofs.Finished.{none_unfinished}
 use Rattle.command_texts.proofs.Reports.{few_entries, of_trace}
 use Rattle.command_texts.proofs.simulation.simulated_text.Goals as goal
 
-pub history_text-text-requires-clause-done : goal.history_text-text-requires-clause-done
-history_text-text-requires-clause-done c = none_unfinished c.args.trace.now c.args.options _ c.in-Ok.ensures.simulated
+pub last_history_text-requires-clause-done : goal.last_history_text-requires-clause-done
+last_history_text-requires-clause-done c = none_unfinished c.args.trace.now c.args.options _ c.in-Ok.ensures.simulated
 
 pub returns-in-Ok : goal.returns-in-Ok
 returns-in-Ok c =
     let few = few_entries (needed_entries c.args.trace.now.rows c.args.options.refresh) c.in-Ok.scheduler (too_long c.args.trace.now c.args.options) c.in-Ok.ensures.too_many in
-    of_trace (λ v. v.items) c.args.trace.now c.args.options c.args.slot c.args.what c.in-Ok.scheduler.config c.in-Ok.scheduler.past c.history_text-text.result
-    c.in-Ok.ensures.config (record { few = few; simulated = c.in-Ok.ensures.simulated }) (rw (c.tenants-tenants.ensures.names, c.kinds-kinds.ensures) at c.history_text-text.ensures)
+    of_trace (λ v. v.items) c.args.trace.now c.args.options c.args.slot c.args.what c.in-Ok.scheduler.config c.in-Ok.scheduler.past c.last_history_text.result
+    c.in-Ok.ensures.config (record { few = few; simulated = c.in-Ok.ensures.simulated }) (rw (c.tenants-tenants.ensures.names, c.kinds-kinds.ensures) at c.last_history_text.ensures)

@@ -4,11 +4,11 @@ use Rattle.twodfq_main.proofs.Pools.{none_unfinished, of_pool}
 use Rattle.command_texts.proofs.Reports.{few_entries}
 use Rattle.twodfq_main.proofs.pooling.pool_text.Goals as goal
 
-pub history_text-text-requires-clause-done : goal.history_text-text-requires-clause-done
-history_text-text-requires-clause-done g c = none_unfinished c.args.trace.now c.args.options _ c.in-Ok.ensures.history.0
+pub last_history_text-requires-clause-done : goal.last_history_text-requires-clause-done
+last_history_text-requires-clause-done g c = none_unfinished c.args.trace.now c.args.options _ c.in-Ok.ensures.history.0
 
 pub returns-in-Ok : goal.returns-in-Ok
 returns-in-Ok g c =
     let few = few_entries (needed_pool_entries c.args.trace.now.rows c.args.options.refresh) c.in-Ok.scheduler (too_long c.args.trace.now c.args.options) c.in-Ok.ensures.too_many in
-    of_pool (λ v. v.items) (g.K.Clock.tells c.args.clock.now) c.args.trace.now c.args.options c.args.slot c.args.what c.in-Ok.scheduler.config c.in-Ok.scheduler.past c.history_text-text.result
-    c.in-Ok.ensures.config (record { few = few; history = c.in-Ok.ensures.history.0; moments = c.in-Ok.ensures.history.1 }) (rw (c.tenants.ensures.names, c.kinds.ensures) at c.history_text-text.ensures)
+    of_pool (λ v. v.items) (g.K.Clock.tells c.args.clock.now) c.args.trace.now c.args.options c.args.slot c.args.what c.in-Ok.scheduler.config c.in-Ok.scheduler.past c.last_history_text.result
+    c.in-Ok.ensures.config (record { few = few; history = c.in-Ok.ensures.history.0; moments = c.in-Ok.ensures.history.1 }) (rw (c.tenants-tenants.ensures.names, c.kinds-kinds.ensures) at c.last_history_text.ensures)

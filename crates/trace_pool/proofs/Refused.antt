@@ -25,13 +25,13 @@ use Rattle.fq_laws.proofs.History.Numbers.{waiting_submitted, waiting_taken}
 use Rattle.fq_laws.proofs.History.Requests.{IsKnown, submitted_below}
 use Rattle.worker_gate.specs.declared.rows.Row.{Row}
 use Rattle.worker_gate.specs.Feeding.{Splits, IsRefused, ClosesAt, is_last_submit}
-use Rattle.pool_laws.specs.PoolEnd.{row_asks}
-use Rattle.pool_laws.proofs.Callers.{has_own}
-use Rattle.pool_laws.proofs.Absent.{nobody_does}
-use Rattle.pool_laws.proofs.Parts.{PoolParts}
-use Rattle.pool_laws.proofs.Room.{Front, front, reports_at_most}
-use Rattle.pool_laws.proofs.Submitted.{IsStopped, submits_lower}
-use Rattle.pool_laws.proofs.Sums.{none_within}
+use Rattle.trace_pool.specs.PoolEnd.{row_asks}
+use Rattle.trace_pool.proofs.Callers.{has_own}
+use Rattle.trace_pool.proofs.Absent.{nobody_does}
+use Rattle.trace_pool.proofs.Parts.{PoolParts}
+use Rattle.trace_pool.proofs.Room.{Front, front, reports_at_most}
+use Rattle.trace_pool.proofs.Submitted.{IsStopped, submits_lower}
+use Rattle.trace_pool.proofs.Sums.{none_within}
 
 -- ---- a request of a row is known
 

@@ -8,7 +8,7 @@ use Rattle.fq_model.specs.History.{Request}
 use Rattle.fq_model.specs.PoolHistory.{requests_from}
 use Rattle.fq_model.specs.Sums.{sum_below}
 use Rattle.fq_laws.proofs.Sums.{sum_at, sum_zero}
-use Rattle.pool_laws.proofs.Sums.{request_sum, one_each}
+use Rattle.trace_pool.proofs.Sums.{request_sum, one_each}
 
 -- what is made of the requests of all rows, where the first row is row r
 abbrev pub rows_sum : (Request → ℕ) → ℕ → List TraceRow → ℕ

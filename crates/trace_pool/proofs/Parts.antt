@@ -21,9 +21,9 @@ use Rattle.worker_gate.specs.Feeding.{IsFeed, HasClosed, Splits, IsRefused}
 use Rattle.worker_gate.specs.Moments.{HasToldMomentsFrom}
 use Rattle.worker_gate.specs.Rules.{work_cost}
 use Rattle.worker_gate.specs.Running.{JobRun, AreRuns, with_runs, acts_of, EndsWork}
-use Rattle.pool_laws.specs.PoolEnd.{FeedEnds, WorkEnds, PoolEnds, row_asks, trace_course}
-use Rattle.pool_laws.proofs.Callers.{own_turns, front_turns, none_newer, who_is}
-use Rattle.pool_laws.proofs.Moments.{told_beyond, told_of_nobody, told_of_all}
+use Rattle.trace_pool.specs.PoolEnd.{FeedEnds, WorkEnds, PoolEnds, row_asks, trace_course}
+use Rattle.trace_pool.proofs.Callers.{own_turns, front_turns, none_newer, who_is}
+use Rattle.trace_pool.proofs.Moments.{told_beyond, told_of_nobody, told_of_all}
 
 -- the acts, the newest first
 abbrev pub acts : History → List Act

@@ -8,14 +8,14 @@ use Rattle.fq_model.specs.Limits.{InLimits}
 use Rattle.fq_model.specs.PoolHistory.{pool_config, row_reports}
 use Rattle.fq_model.specs.Rules.{IsLegal}
 use Rattle.fq_model.specs.Trace.{Trace}
-use Rattle.pool_laws.proofs.Balance.{Balanced, balanced, reports, legal_older, closes_once, taken_covered, asked_sum}
-use Rattle.pool_laws.proofs.Callers.{front_turns, who_is}
-use Rattle.pool_laws.proofs.Absent.{no_change, no_reports}
-use Rattle.pool_laws.proofs.Labels.{label_reports, number_reports, reports_of_rows, run_rows, runs_where_room, few_uses}
-use Rattle.pool_laws.proofs.Parts.{acts, Sees, PoolParts, WorkPart}
-use Rattle.pool_laws.proofs.Runs.{AllKept, WasFull, all_kept_or_full, reports_low, runs_reports, runs_takes}
-use Rattle.pool_laws.proofs.Submitted.{submits_low, whole_sum}
-use Rattle.pool_laws.proofs.Sums.{act_sum, own_sum, sum_within, sums_rise, sums_rise_at, none_within, submits_are, submit_weight, take_weight, report_weight, one_each}
+use Rattle.trace_pool.proofs.Balance.{Balanced, balanced, reports, legal_older, closes_once, taken_covered, asked_sum}
+use Rattle.trace_pool.proofs.Callers.{front_turns, who_is}
+use Rattle.trace_pool.proofs.Absent.{no_change, no_reports}
+use Rattle.trace_pool.proofs.Labels.{label_reports, number_reports, reports_of_rows, run_rows, runs_where_room, few_uses}
+use Rattle.trace_pool.proofs.Parts.{acts, Sees, PoolParts, WorkPart}
+use Rattle.trace_pool.proofs.Runs.{AllKept, WasFull, all_kept_or_full, reports_low, runs_reports, runs_takes}
+use Rattle.trace_pool.proofs.Submitted.{submits_low, whole_sum}
+use Rattle.trace_pool.proofs.Sums.{act_sum, own_sum, sum_within, sums_rise, sums_rise_at, none_within, submits_are, submit_weight, take_weight, report_weight, one_each}
 use Rattle.fq_model.specs.Outcome.{own_entries}
 
 -- a history that the whole one begins with: how many entries it has, and that it has no more of each kind

@@ -9,11 +9,11 @@ use Rattle.fq_model.specs.History.{History, has_act, is_change}
 use Rattle.fq_model.specs.Outcome.{own_entries}
 use Rattle.fq_model.specs.PoolHistory.{is_submit_or_close}
 use Rattle.fq_model.specs.Trace.{Trace}
-use Rattle.pool_laws.proofs.Callers.{has_none, who_is}
-use Rattle.pool_laws.proofs.Parts.{acts, PoolParts}
-use Rattle.pool_laws.proofs.Runs.{MakesNothing, tally, tally_none}
-use Rattle.pool_laws.proofs.Submitted.{no_worker_sum}
-use Rattle.pool_laws.proofs.Sums.{act_sum, has_less, has_is, report_weight}
+use Rattle.trace_pool.proofs.Callers.{has_none, who_is}
+use Rattle.trace_pool.proofs.Parts.{acts, PoolParts}
+use Rattle.trace_pool.proofs.Runs.{MakesNothing, tally, tally_none}
+use Rattle.trace_pool.proofs.Submitted.{no_worker_sum}
+use Rattle.trace_pool.proofs.Sums.{act_sum, has_less, has_is, report_weight}
 
 -- an act that is neither a Submit nor a Close
 abbrev pub is_other : Act → Bool

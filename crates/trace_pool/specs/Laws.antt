@@ -9,7 +9,7 @@ use Rattle.fq_model.specs.Trace.{Trace}
 use Rattle.fq_model.specs.TraceText.{IsLawfulTrace}
 use Rattle.history_lock.specs.Passes.{LockView}
 use Rattle.desk.specs.declared.floor.Crew.{Crew}
-use Rattle.pool_laws.specs.PoolEnd.{PoolEnds}
+use Rattle.trace_pool.specs.PoolEnd.{PoolEnds}
 
 -- the past is a history of a pool that served the trace: nothing was refused, and each request was taken once and done
 abbrev pub PoolHistoryIs : (ℕ → Type 0) → Type 0

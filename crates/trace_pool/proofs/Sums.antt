@@ -10,8 +10,8 @@ use Rattle.fq_model.specs.Outcome.{own_entries}
 use Rattle.fq_model.specs.PoolHistory.{submitted_requests, with_request}
 use Rattle.fq_model.specs.Sums.{sum_below}
 use Rattle.fq_laws.proofs.Sums.{sum_at, sum_zero}
-use Rattle.pool_laws.proofs.Callers.{own_here, own_else, not_by, none_older}
-use Rattle.pool_laws.proofs.Parts.{acts}
+use Rattle.trace_pool.proofs.Callers.{own_here, own_else, not_by, none_older}
+use Rattle.trace_pool.proofs.Parts.{acts}
 
 -- ---- sums over acts
 

@@ -17,11 +17,11 @@ use Rattle.worker_gate.specs.Running.{Use, JobRun, with_uses, with_run, with_run
 use Rattle.worker_gate.specs.Slices.{counters_after}
 use Rattle.worker_gate.specs.Stepping.{step_course, CountsUp, work_only}
 use Rattle.worker_gate.proofs.Stepping.{course_counters, steps_count_up}
-use Rattle.pool_laws.proofs.Labels.{AllRunRows, follows_few, run_rows}
-use Rattle.pool_laws.proofs.Parts.{PoolParts}
-use Rattle.pool_laws.proofs.Refused.{lawful_row}
-use Rattle.pool_laws.proofs.Room.{all_kept}
-use Rattle.pool_laws.proofs.Runs.{AreKept, AllKept}
+use Rattle.trace_pool.proofs.Labels.{AllRunRows, follows_few, run_rows}
+use Rattle.trace_pool.proofs.Parts.{PoolParts}
+use Rattle.trace_pool.proofs.Refused.{lawful_row}
+use Rattle.trace_pool.proofs.Room.{all_kept}
+use Rattle.trace_pool.proofs.Runs.{AreKept, AllKept}
 
 reports_more : (i r step k : ℕ) (older rest : List Act) → with_reports i r step k older ++ rest ≡ with_reports i r step k (older ++ rest)
 reports_more i r step zero older rest = refl

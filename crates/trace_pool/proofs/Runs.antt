@@ -9,7 +9,7 @@ use Rattle.fq_model.specs.History.{history_of, is_take_of, is_done_of}
 use Rattle.fq_model.specs.Rules.{needed_room}
 use Rattle.history_lock.specs.Histories.{IsPrefix}
 use Rattle.worker_gate.specs.Running.{Use, JobRun, with_uses, with_runs, AreKeptWhereRoom, LackedRoom}
-use Rattle.pool_laws.proofs.Sums.{act_sum, any_act, take_weight, report_weight}
+use Rattle.trace_pool.proofs.Sums.{act_sum, any_act, take_weight, report_weight}
 
 -- ---- acts that a worker doesn't do
 

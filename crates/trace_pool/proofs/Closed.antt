@@ -18,15 +18,15 @@ use Rattle.fq_model.specs.TraceText.{IsLawfulTrace}
 use Rattle.fq_laws.proofs.Sums.{sum_same}
 use Rattle.worker_gate.specs.declared.rows.Row.{Row}
 use Rattle.worker_gate.specs.Feeding.{Splits, is_last_submit}
-use Rattle.pool_laws.specs.PoolEnd.{row_asks}
-use Rattle.pool_laws.proofs.Balance.{closes_once}
-use Rattle.pool_laws.proofs.Callers.{has_owner}
-use Rattle.pool_laws.proofs.Absent.{no_worker_does}
-use Rattle.pool_laws.proofs.Parts.{Sees, PoolParts}
-use Rattle.pool_laws.proofs.Refused.{never_stopped}
-use Rattle.pool_laws.proofs.Rows.{from_sum, from_parts, rows_count}
-use Rattle.pool_laws.proofs.Submitted.{IsStopped, submitters_sum, none_submitted}
-use Rattle.pool_laws.proofs.Sums.{own_sum, counted, has_within, submit_weight, submitted_sum, submits_are, request_sum, request_sum_turned, one_each}
+use Rattle.trace_pool.specs.PoolEnd.{row_asks}
+use Rattle.trace_pool.proofs.Balance.{closes_once}
+use Rattle.trace_pool.proofs.Callers.{has_owner}
+use Rattle.trace_pool.proofs.Absent.{no_worker_does}
+use Rattle.trace_pool.proofs.Parts.{Sees, PoolParts}
+use Rattle.trace_pool.proofs.Refused.{never_stopped}
+use Rattle.trace_pool.proofs.Rows.{from_sum, from_parts, rows_count}
+use Rattle.trace_pool.proofs.Submitted.{IsStopped, submitters_sum, none_submitted}
+use Rattle.trace_pool.proofs.Sums.{own_sum, counted, has_within, submit_weight, submitted_sum, submits_are, request_sum, request_sum_turned, one_each}
 
 -- ---- what is submitted
 

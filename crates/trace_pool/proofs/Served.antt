@@ -21,12 +21,12 @@ use Rattle.fq_laws.proofs.Sums.{count_some}
 use Rattle.fq_laws.proofs.History.Numbers.{submitted_small}
 use Rattle.fq_laws.proofs.History.Once.{taken_once}
 use Rattle.worker_gate.specs.Running.{EndsWork, with_runs}
-use Rattle.pool_laws.proofs.Balance.{legal_older}
-use Rattle.pool_laws.proofs.Callers.{has_own, has_owner, who_is}
-use Rattle.pool_laws.proofs.Absent.{is_other, no_change}
-use Rattle.pool_laws.proofs.Parts.{WorkPart, PoolParts}
-use Rattle.pool_laws.proofs.Runs.{taken_done}
-use Rattle.pool_laws.proofs.Sums.{any_act, counted, has_is, has_less, has_within, none_within}
+use Rattle.trace_pool.proofs.Balance.{legal_older}
+use Rattle.trace_pool.proofs.Callers.{has_own, has_owner, who_is}
+use Rattle.trace_pool.proofs.Absent.{is_other, no_change}
+use Rattle.trace_pool.proofs.Parts.{WorkPart, PoolParts}
+use Rattle.trace_pool.proofs.Runs.{taken_done}
+use Rattle.trace_pool.proofs.Sums.{any_act, counted, has_is, has_less, has_within, none_within}
 
 -- ---- a worker that is turned away
 

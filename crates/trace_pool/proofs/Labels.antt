@@ -18,13 +18,13 @@ use Rattle.worker_gate.specs.Rules.{work_cost}
 use Rattle.worker_gate.specs.Running.{Use, JobRun, AreRuns, IsRun, IsAsTold, FollowsCourse, uses_after, with_runs}
 use Rattle.worker_gate.specs.Stepping.{step_course}
 use Rattle.worker_gate.proofs.Stepping.{course_length}
-use Rattle.pool_laws.specs.PoolEnd.{trace_course}
-use Rattle.pool_laws.proofs.Balance.{known_weight, asked_within_history}
-use Rattle.pool_laws.proofs.Parts.{acts, Sees, PoolParts}
-use Rattle.pool_laws.proofs.Rows.{all_named}
-use Rattle.pool_laws.proofs.Runs.{FewUses, AllWhereRoom}
-use Rattle.pool_laws.proofs.Submitted.{submitted_low}
-use Rattle.pool_laws.proofs.Sums.{act_sum, submit_weight}
+use Rattle.trace_pool.specs.PoolEnd.{trace_course}
+use Rattle.trace_pool.proofs.Balance.{known_weight, asked_within_history}
+use Rattle.trace_pool.proofs.Parts.{acts, Sees, PoolParts}
+use Rattle.trace_pool.proofs.Rows.{all_named}
+use Rattle.trace_pool.proofs.Runs.{FewUses, AllWhereRoom}
+use Rattle.trace_pool.proofs.Submitted.{submitted_low}
+use Rattle.trace_pool.proofs.Sums.{act_sum, submit_weight}
 
 -- ---- labels
 

@@ -1,13 +1,13 @@
 -- What follows at the end of a pool.
 use Rattle.std.proofs.Common.{ℕ}
 use Rattle.fq_model.specs.History.{history_of}
-use Rattle.pool_laws.specs.Laws.{PoolHistoryIs, PoolMomentsAre}
-use Rattle.pool_laws.proofs.Callers.{all_known}
-use Rattle.pool_laws.proofs.Closed.{is_fed, is_closed_once}
-use Rattle.pool_laws.proofs.Absent.{no_change}
-use Rattle.pool_laws.proofs.Parts.{pool_parts, parts_told}
-use Rattle.pool_laws.proofs.Served.{is_served}
-use Rattle.pool_laws.proofs.Serving.{is_serving}
+use Rattle.trace_pool.specs.Laws.{PoolHistoryIs, PoolMomentsAre}
+use Rattle.trace_pool.proofs.Callers.{all_known}
+use Rattle.trace_pool.proofs.Closed.{is_fed, is_closed_once}
+use Rattle.trace_pool.proofs.Absent.{no_change}
+use Rattle.trace_pool.proofs.Parts.{pool_parts, parts_told}
+use Rattle.trace_pool.proofs.Served.{is_served}
+use Rattle.trace_pool.proofs.Courses.{is_serving}
 use Rattle.fq_model.specs.Courses.{worker_caller}
 
 pub pool_history : (Tells : ℕ → Type 0) → PoolHistoryIs Tells

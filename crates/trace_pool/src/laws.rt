@@ -1,5 +1,5 @@
 //! The laws, one function a law: its contract is the law, for whatever clock, and its body is empty.
-ghost use Rattle.pool_laws.specs.Laws.{PoolHistoryIs, PoolMomentsAre};
+ghost use Rattle.trace_pool.specs.Laws.{PoolHistoryIs, PoolMomentsAre};
 
 use fq_io::Clock;
 

@@ -14,8 +14,8 @@ use Rattle.fq_laws.proofs.History.Counts.{running_submit, running_report, waitin
 use Rattle.fq_laws.proofs.History.Numbers.{waiting_submitted, waiting_taken, running_taken, running_finished, next_small, take_request_small}
 use Rattle.fq_laws.proofs.History.Requests.{fresh_unsubmitted, fresh_untaken, asked_stays}
 use Rattle.fq_laws.proofs.Rules.Takes.{take_waits}
-use Rattle.pool_laws.proofs.Parts.{acts}
-use Rattle.pool_laws.proofs.Sums.{act_sum, number_weight, take_weight, submit_weight, report_weight}
+use Rattle.trace_pool.proofs.Parts.{acts}
+use Rattle.trace_pool.proofs.Sums.{act_sum, number_weight, take_weight, submit_weight, report_weight}
 
 pub legal_older : (C : Config) (newer P : History) → IsLegal C (newer ++ P) → IsLegal C P
 legal_older C [] P l = l

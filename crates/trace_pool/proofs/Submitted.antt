@@ -10,12 +10,12 @@ use Rattle.fq_model.specs.Sums.{sum_below}
 use Rattle.fq_model.specs.Trace.{Trace}
 use Rattle.worker_gate.specs.declared.rows.Row.{Row}
 use Rattle.worker_gate.specs.Feeding.{Splits}
-use Rattle.pool_laws.specs.PoolEnd.{row_asks}
-use Rattle.pool_laws.proofs.Callers.{who_is}
-use Rattle.pool_laws.proofs.Parts.{acts, FeedPart, PoolParts}
-use Rattle.pool_laws.proofs.Rows.{rows_sum, from_sum, from_parts, rows_count}
-use Rattle.pool_laws.proofs.Runs.{MakesNothing, runs_nothing}
-use Rattle.pool_laws.proofs.Sums.{act_sum, own_sum, sum_parts, sum_cut, sums_rise, sums_rise_at, submit_weight, submitted_sum, submits_are, request_sum, request_sum_turned, one_each}
+use Rattle.trace_pool.specs.PoolEnd.{row_asks}
+use Rattle.trace_pool.proofs.Callers.{who_is}
+use Rattle.trace_pool.proofs.Parts.{acts, FeedPart, PoolParts}
+use Rattle.trace_pool.proofs.Rows.{rows_sum, from_sum, from_parts, rows_count}
+use Rattle.trace_pool.proofs.Runs.{MakesNothing, runs_nothing}
+use Rattle.trace_pool.proofs.Sums.{act_sum, own_sum, sum_parts, sum_cut, sums_rise, sums_rise_at, submit_weight, submitted_sum, submits_are, request_sum, request_sum_turned, one_each}
 
 abbrev asked : List (Row ℕ) → List Request
 asked rows = map row_asks rows

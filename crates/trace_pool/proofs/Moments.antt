@@ -4,7 +4,7 @@ use Rattle.fq_model.specs.History.{History}
 use Rattle.fq_model.specs.Outcome.{own_entries}
 use Rattle.fq_model.specs.PoolHistory.{HasToldMoments}
 use Rattle.worker_gate.specs.Moments.{HasToldMomentsFrom}
-use Rattle.pool_laws.proofs.Callers.{not_by, none_older}
+use Rattle.trace_pool.proofs.Callers.{not_by, none_older}
 
 -- entries of others change nothing
 pub told_beyond : (Tells : ℕ → Type 0) (j : ℕ) (newer P : History) → own_entries newer j ≡ [] → HasToldMomentsFrom Tells j 0 P → HasToldMomentsFrom Tells j 0 (newer ++ P)

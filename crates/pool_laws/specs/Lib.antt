@@ -1,2 +1,0 @@
-pub mod PoolEnd
-pub mod Laws
