@@ -1,6 +1,6 @@
 -- Every call keeps the past legal and staffed.
 use Rattle.std.proofs.Common.{◌≡◌, ℕ, ◌+◌, Bool, true, false, Option, sym, ap, ◌∙◌, subst, ◌==◌}
-use Rattle.std.specs.Prelude.{MatchBool, nat_le}
+use Rattle.std.specs.Prelude.{MatchBool, nat_le, Result, Ok, Err, IfErr}
 use Rattle.fq_model.specs.declared.config.Config.{Config}
 use Rattle.fq_model.specs.declared.event.Act.{Act}
 use Rattle.fq_model.specs.declared.event.Cause.{Cause}
@@ -10,14 +10,17 @@ use Rattle.fq_model.specs.Rules.{Answers, IsAnswered, IsAccepted, RefusedOrElse,
 use Rattle.fq_laws.proofs.Rules.Answers.{answer_legal}
 use Rattle.fq_laws.proofs.Rules.Refusals.{refused_keeps}
 use Rattle.sched_state.specs.Scheduler.{SchedulerView}
+use Rattle.sched_state.specs.declared.replies.Refused.{Refused}
 use Rattle.sched_state.specs.Replies.{AnswersCall}
 use Rattle.desk.specs.declared.floor.Crew.{Crew}
 use Rattle.desk.specs.declared.told.Ask.{Ask}
 use Rattle.desk.specs.declared.told.Ask.TheVariants as ask
+use Rattle.desk.specs.declared.told.Told.{Told}
+use Rattle.desk.specs.declared.told.Told.TheVariants as told
 use Rattle.desk.specs.Staffed.{IsMadeBy, IsStaffed, MayAsk}
 use Rattle.desk.specs.Floors.{FloorView, crew_of, KeepsFloor}
 use Rattle.desk.specs.Ending.{IsGivenBack}
-use Rattle.desk.specs.Told.{call_of}
+use Rattle.desk.specs.Told.{call_of, reply_of, Suits, AnswersAsk}
 
 -- an accepted call of this act, refused or not, keeps the history staffed
 staffed_more : (s who moment : ℕ) (act : Act) (o : Option Cause) (P : History) (wanted reply : Reply) (Q : History) → IsMadeBy s who act → IsStaffed s P → RefusedOrElse o P reply Q (IsAccepted P who moment act wanted reply Q) → IsStaffed s Q
@@ -51,6 +54,23 @@ kept {J = J} label before after s seen who given asked reply view is may a k =
       legal = subst (λ (C : Config). IsLegal C (history_of after.past)) (sym a.config_is) (answer_legal before.config (history_of before.past) (call_of label who asked) reply (history_of after.past) k.limits k.legal a.answers);
       staffed = staffed_on label crew (history_of before.past) who asked reply (history_of after.past) by k.staffed a.answers;
     }
+
+-- and answers what is asked so
+pub answers_so : {J : Type 0} (label : J → ℕ) (before after : SchedulerView J) (s : ℕ) (seen : FloorView J) (who : ℕ) (given asked : Ask J) (reply : Told J) → record { scheduler = before; submitters = s } ≡ seen → given ≡ asked
+    → AnswersCall before (call_of label who asked) (reply_of label reply) after → Suits asked reply → KeepsFloor before s → AnswersAsk label (crew_of seen) seen.scheduler.past who given reply after.past
+answers_so {J = J} label before after s seen who given asked reply view is a suits k =
+    subst (λ (f : FloorView J). AnswersAsk label (crew_of f) f.scheduler.past who given reply after.past) view
+    (subst (λ (x : Ask J). AnswersAsk label (record { config = before.config; submitters = s }) before.past who x reply after.past) (sym is)
+    (record { legal = k.legal; staffed = k.staffed; answers = a.answers; suits = suits }))
+
+-- a refused Submit gives its job back
+pub suits_submit : {J : Type 0} (moment tenant kind declared : ℕ) (job : J) (result : Result ℕ (Refused J)) → IfErr result (λ f. f.job ≡ job) → Suits (ask.Submit moment tenant kind declared job) (told.Submitted result)
+suits_submit moment tenant kind declared job (Ok request) back = tt
+suits_submit moment tenant kind declared job (Err refused) back = back
+
+-- the crew stays
+pub crew_stays : {J : Type 0} (before after : SchedulerView J) (s : ℕ) (seen : FloorView J) → record { scheduler = before; submitters = s } ≡ seen → after.config ≡ before.config → record { config = after.config; submitters = s } ≡ crew_of seen
+crew_stays {J = J} before after s seen view same = ap (λ (C : Config). record { config = C; submitters = s }) same ∙ ap (λ (f : FloorView J). crew_of f) view
 
 -- what a floor keeps, a desk gives back
 pub given_back : {J : Type 0} (crew : Crew) (floor : FloorView J) (scheduler : SchedulerView J) → crew_of floor ≡ crew → scheduler ≡ floor.scheduler → KeepsFloor scheduler floor.submitters → IsGivenBack crew scheduler

@@ -34,7 +34,7 @@ module _ {J : Type 0} (label : J → ℕ) where
   after crew old new i asked reply t may by =
       runs_by_own crew.submitters i old.number new.seen new.mine by (own_gained old.number t.0 new.seen old.mine new.mine t.2 t.4) (staffed_on label crew (history_of t.0) old.number asked (reply_of label reply) (history_of new.seen) may t.3.staffed t.3.answers)
 
-  numbered_by : (lock : LockView Crew) (old : PassView Crew) (i : ℕ) → IsOf lock old → old.number ≡ submitters_of old.frame + i → old.number ≡ lock.frame.submitters + i
+  pub numbered_by : (lock : LockView Crew) (old : PassView Crew) (i : ℕ) → IsOf lock old → old.number ≡ submitters_of old.frame + i → old.number ≡ lock.frame.submitters + i
   numbered_by lock old i own by = by ∙ ap (λ f. submitters_of f + i) own.1
 
   known_by : (lock : LockView Crew) (old : PassView Crew) (i : ℕ) → IsOf lock old → i < workers_of old.frame → i < lock.frame.config.workers
@@ -82,3 +82,10 @@ module _ {J : Type 0} (label : J → ℕ) where
 -- the pass of a submitter is one after a turn
 pub below_kept : (lock : LockView Crew) (old new : PassView Crew) → IsOf lock old → IsOf lock new → new.number ≡ old.number → old.number < submitters_of old.frame → new.number < submitters_of new.frame
 below_kept lock old new was is same below = rw (same, is.1) (subst (λ f. old.number < submitters_of f) was.1 below)
+
+-- and so is that of a worker, which keeps its number among the workers
+pub numbered_kept : (lock : LockView Crew) (old new : PassView Crew) (i : ℕ) → IsOf lock old → IsOf lock new → new.number ≡ old.number → old.number ≡ submitters_of old.frame + i → new.number ≡ submitters_of new.frame + i
+numbered_kept lock old new i was is same by = same ∙ (by ∙ ap (λ f. submitters_of f + i) (was.1 ∙ sym is.1))
+
+pub known_kept : (lock : LockView Crew) (old new : PassView Crew) (i : ℕ) → IsOf lock old → IsOf lock new → i < workers_of old.frame → i < workers_of new.frame
+known_kept lock old new i was is known = subst (λ f. i < workers_of f) (was.1 ∙ sym is.1) known

@@ -1,4 +1,10 @@
-use Rattle.desk.proofs.Turned.{own_kept, report_leaves, report_runs}
+use Rattle.std.proofs.Common.{refl, sym, ap, ◌∙◌}
+use Rattle.fq_model.specs.declared.event.Cause.{Cause}
+use Rattle.fq_model.specs.declared.event.Reply.TheVariants as answer
+use Rattle.sched_state.specs.Replies.{change_reply}
+use Rattle.desk.specs.declared.told.Ask.TheVariants as ask
+use Rattle.desk.specs.declared.told.Told.TheVariants as told
+use Rattle.desk.proofs.Turned.{numbered_by, own_kept, numbered_kept, known_kept, answered, report_leaves, report_runs}
 use Rattle.desk.proofs.calls.DeskOf+Floor+J+X.report.Goals as goal
 
 pub invariant_of-running-clause-runs : goal.invariant_of-running-clause-runs
@@ -13,3 +19,33 @@ live_refusal-requires g c =
 
 pub invariant_of-running-clause-own : goal.invariant_of-running-clause-own
 invariant_of-running-clause-own g c = own_kept g.J.Job.label_of c.args.self.now.lock.frame c.args.running.now.pass c.turn.new.pass _ _ c.turn.ensures.answers c.turn.ensures.number
+
+pub turn-requires-clause-own : goal.turn-requires-clause-own
+turn-requires-clause-own g c = c.requires
+
+pub turn-requires-clause-allowed : goal.turn-requires-clause-allowed
+turn-requires-clause-allowed g c = numbered_by g.J.Job.label_of c.args.self.now.lock c.args.running.now.pass c.args.running.now.worker c.requires c.args.running.now.numbered
+
+pub invariant_of-running-clause-numbered : goal.invariant_of-running-clause-numbered
+invariant_of-running-clause-numbered g c = let w = c.args.running.now in numbered_kept c.args.self.now.lock w.pass c.turn.new.pass w.worker c.requires c.turn.ensures.lock c.turn.ensures.number w.numbered
+
+pub invariant_of-running-clause-known : goal.invariant_of-running-clause-known
+invariant_of-running-clause-known g c = let w = c.args.running.now in known_kept c.args.self.now.lock w.pass c.turn.new.pass w.worker c.requires c.turn.ensures.lock w.known
+
+pub returns-in-Ok-clause-stays : goal.returns-in-Ok-clause-stays
+returns-in-Ok-clause-stays g c = let t = c.turn.ensures in record { own = t.lock; number = t.number; made = t.made; ended = t.ended }
+
+pub returns-in-Ok-clause-answers : goal.returns-in-Ok-clause-answers
+returns-in-Ok-clause-answers g c = answered g.J.Job.label_of c.args.self.now.lock.frame c.args.running.now.pass c.turn.new.pass (ask.Report c.args.moment c.args.running.now.worker c.args.used) (told.Reported c.in-Reported.result) _ c.in-Reported.ensures.answers (ap change_reply c.in-Ok.is)
+
+pub returns-in-Ok-clause-run : goal.returns-in-Ok-clause-run
+returns-in-Ok-clause-run g c = record { worker = refl; request = refl; estimate = refl }
+
+pub returns-in-Err-clause-stays : goal.returns-in-Err-clause-stays
+returns-in-Err-clause-stays g c = let t = c.turn.ensures in record { own = t.lock; number = t.number; made = t.made; ended = t.ended }
+
+pub returns-in-Err-clause-answers : goal.returns-in-Err-clause-answers
+returns-in-Err-clause-answers g c = answered g.J.Job.label_of c.args.self.now.lock.frame c.args.running.now.pass c.turn.new.pass (ask.Report c.args.moment c.args.running.now.worker c.args.used) (told.Reported c.in-Reported.result) _ c.in-Reported.ensures.answers (ap change_reply c.in-Err.is ∙ ap (λ (x : Cause). answer.Refused x) (sym c.live_refusal.ensures))
+
+pub returns-in-Err-clause-run : goal.returns-in-Err-clause-run
+returns-in-Err-clause-run g c = record { worker = refl; request = refl; estimate = refl }

@@ -1,12 +1,49 @@
-use Rattle.std.proofs.Common.{◌≡◌, ◌∙◌, sym, ap, subst, List, ◌∷◌}
+use Rattle.std.proofs.Common.{◌≡◌, ◌∙◌, refl, sym, ap, subst, List, ◌∷◌}
 use Rattle.std.proofs.lemmas.Bool.{false≢true}
 use Rattle.std.proofs.lemmas.Result.{err_from_is_err_and}
 use Rattle.fq_model.specs.declared.event.Entry.{Entry}
-use Rattle.history_lock.specs.Passes.{HasNoneAbove}
-use Rattle.desk.specs.Ending.{HasAll, AreAll, LastMoment, IsFirst, first_made}
+use Rattle.history_lock.specs.Passes.{IsOf, HasNoneAbove}
+use Rattle.desk.specs.declared.tokens.Submitter.{Submitter}
+use Rattle.desk.specs.Ending.{HoldsOfEach, HasAll, AreAll, LastMoment, IsFirst, first_made}
 use Rattle.desk.proofs.Joins.{first_and_rest, ends_in, all_ended, last_moment}
 use Rattle.desk.proofs.Keeping.{given_back}
 use Rattle.desk.proofs.ending.DeskOf+Floor+J+X.finish.Goals as goal
+
+pub join_submitters-requires-clause-own : goal.join_submitters-requires-clause-own
+join_submitters-requires-clause-own g c =
+    let first = c.remove-first in
+    let both : c.args.submitters.items ≡ first.result ∷ first.new.self.items = first_and_rest _ _ _ c.requires.first first.ensures.value first.ensures.by_index.2 in
+    (subst (HoldsOfEach (λ (t : Submitter). IsOf c.args.self.lock t.pass)) both c.requires.submitters_own).0
+
+pub join_submitters-requires-clause-number : goal.join_submitters-requires-clause-number
+join_submitters-requires-clause-number g c =
+    let first = c.remove-first in
+    let both : c.args.submitters.items ≡ first.result ∷ first.new.self.items = first_and_rest _ _ _ c.requires.first first.ensures.value first.ensures.by_index.2 in
+    subst IsFirst both c.requires.first
+
+pub join_submitters-requires-clause-tokens : goal.join_submitters-requires-clause-tokens
+join_submitters-requires-clause-tokens g c =
+    let first = c.remove-first in
+    let both : c.args.submitters.items ≡ first.result ∷ first.new.self.items = first_and_rest _ _ _ c.requires.first first.ensures.value first.ensures.by_index.2 in
+    (subst (HoldsOfEach (λ (t : Submitter). IsOf c.args.self.lock t.pass)) both c.requires.submitters_own).1
+
+pub join_workers-requires-clause-own : goal.join_workers-requires-clause-own
+join_workers-requires-clause-own g c = c.join_submitters.ensures.own
+
+pub join_workers-requires-clause-number : goal.join_workers-requires-clause-number
+join_workers-requires-clause-number g c = c.join_submitters.ensures.number
+
+pub join_workers-requires-clause-tokens : goal.join_workers-requires-clause-tokens
+join_workers-requires-clause-tokens g c = c.requires.workers_own
+
+pub close-requires-clause-own : goal.close-requires-clause-own
+close-requires-clause-own g c = c.join_workers.ensures.own
+
+pub close-requires-clause-first : goal.close-requires-clause-first
+close-requires-clause-first g c = c.join_workers.ensures.number
+
+pub returns-clause-settled : goal.returns-clause-settled
+returns-clause-settled g c = λ all. refl
 
 pub returns-in_err-floor-clause-settled : goal.returns-in_err-floor-clause-settled
 returns-in_err-floor-clause-settled g c = λ all.
