@@ -44,11 +44,11 @@ impl<A: Drop> Document<A> {
         }
     }
 
-    // The same with this body, in place of the one that it has.
-    pub(crate) fn with_body(self, body: Vec<A>) -> Document<A>
-        ensures { result ≡ record self { body = body.items } }
+    // Gives it this body, in place of the one that it has.
+    pub(crate) fn set_body(&mut self, body: Vec<A>)
+        ensures { self.new ≡ record self.old { body = body.items } }
     {
-        Document { body, ..self }
+        self.body = body;
     }
 
     /// What the scheduler is opened with.

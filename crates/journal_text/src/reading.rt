@@ -312,6 +312,7 @@ pub fn read_document<A: Line>(alloc: Global, bytes: &[u8]) -> Result<Document<A>
     ensures ok { IfOk result (λ d. document_of A.title A.reader bytes.now ≡ Ok d) }
     ensures fault { IfErr result (λ f. IsFirstFault f (document_of A.title A.reader bytes.now)) }
 {
-    let Opened { head, body } = open_document(alloc, bytes)?;
-    Ok(head.with_body(body.read_all(alloc)?))
+    let Opened { mut head, body } = open_document(alloc, bytes)?;
+    head.set_body(body.read_all(alloc)?);
+    Ok(head)
 }

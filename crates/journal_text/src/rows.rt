@@ -1,5 +1,5 @@
 //! Lines of a word and numbers.
-ghost use Rattle.std.specs.Prelude.{◌≡◌, ◌++◌, codes, OnOk, OnErr};
+ghost use Rattle.std.specs.Prelude.{◌≡◌, ◌++◌, [], ◌∷◌, codes, OnOk, OnErr};
 ghost use Rattle.std.specs.Fmt.{decimal};
 ghost use Rattle.fq_model.specs.JournalText.{numbers_text};
 ghost use Rattle.journal_text.specs.Printing.{row_text, IsKept};
@@ -20,6 +20,22 @@ pub fn add_row(word: &str, numbers: &[u64], text: &mut Vec<u8>) -> Result<(), Al
         text.truncate(start);
     }
     added
+}
+
+/// Appends a line of a word alone. Where memory runs out, the text stays as it was.
+pub fn add_word(word: &str, text: &mut Vec<u8>) -> Result<(), AllocError>
+    ensures added { OnOk result (text.new.items ≡ text.old.items ++ row_text word.now []) }
+    ensures unchanged { OnErr result (text.new.items ≡ text.old.items) }
+{
+    add_row(word, &[], text)
+}
+
+/// Appends a line of a word and one number. Where memory runs out, the text stays as it was.
+pub fn add_one(word: &str, number: u64, text: &mut Vec<u8>) -> Result<(), AllocError>
+    ensures added { OnOk result (text.new.items ≡ text.old.items ++ row_text word.now (number ∷ [])) }
+    ensures unchanged { OnErr result (text.new.items ≡ text.old.items) }
+{
+    add_row(word, &[number], text)
 }
 
 /// Appends the rest of a line: numbers, each after a space. Where memory runs out, what stood there stands still,

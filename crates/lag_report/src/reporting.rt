@@ -2,14 +2,16 @@
 ghost use Rattle.std.specs.Prelude.{◌≡◌, ◌≤◌, IfOk, IfErr, None};
 ghost use Rattle.fq_model.specs.History.{history_of};
 ghost use Rattle.fq_model.specs.Rules.{IsLegal};
+ghost use Rattle.fq_model.specs.Fluid.{changes_of};
 ghost use Rattle.fq_model.specs.Report.{lag_report};
+ghost use Rattle.lag_report.specs.Courses.{courses_of, rows_of};
 ghost use Rattle.lag_report.specs.Reports.{report_refusal, IsReason};
 
 use crate::automatic::last_moment;
 use crate::fault::ReportFault;
 use crate::lines::{by_tenant, lines};
 use crate::parts::Report;
-use crate::reading::{read, unfinished};
+use crate::reading::{Contents, read, unfinished};
 use fluid_reference::slots::slots;
 use fq_model::config::Checked;
 use fq_model::event::Entry;
@@ -31,8 +33,31 @@ pub fn report(
     ensures sound { IfOk result (λ _. report_refusal config.now (history_of past.now) slot ≡ None) }
     ensures reason { IfErr result (λ fault. IsReason fault (report_refusal config.now (history_of past.now) slot)) }
 {
-    let weights = config.weights();
     let mut contents = read(alloc, past)?;
+    let report = report_of(alloc, past, &mut contents, config, slot);
+    drop(contents);
+    report
+}
+
+// The same, where the history says this. Leaves its courses in the order of their tenants.
+fn report_of(
+    alloc: Global,
+    past: &[Entry],
+    contents: &mut Contents,
+    config: &Checked,
+    slot: u64,
+) -> Result<Report, ReportFault>
+    requires legal { IsLegal config.now (history_of past.now) }
+    requires positive { 1 ≤ slot }
+    requires short { slot ≤ GREATEST_SLOT }
+    requires courses { contents.old.courses.items ≡ courses_of (history_of past.now) }
+    requires rows { contents.old.rows.items ≡ rows_of (history_of past.now) }
+    requires changes { contents.old.changes.items ≡ changes_of (history_of past.now) }
+    ensures report { IfOk result (λ r. r ≡ lag_report config.now (history_of past.now) slot) }
+    ensures sound { IfOk result (λ _. report_refusal config.now (history_of past.now) slot ≡ None) }
+    ensures reason { IfErr result (λ fault. IsReason fault (report_refusal config.now (history_of past.now) slot)) }
+{
+    let weights = config.weights();
     if let Some(request) = unfinished(contents.courses.as_slice()) {
         return Err(ReportFault::Unfinished(request as u32));
     }
