@@ -10,15 +10,7 @@ use Rattle.fq_model.specs.declared.event.Reply.{Reply}
 use Rattle.fq_model.specs.declared.event.Reply.TheVariants as answer
 use Rattle.fq_model.specs.History.{History, is_closed, waiting, pool_at, running_on}
 use Rattle.fq_model.specs.Rules.{first_true, Answers, IsAnswered, RefusedOrElse, AnswersFree, AnswersPooled, RunsChosen, take_refusal, report_refusal, done_refusal}
-use Rattle.desk.specs.Replies.{IsLive, IsEnding}
-
--- a worker that took runs the request that it was given, and else none
-abbrev pub TookLeft : ℕ → History → Reply → Type 0
-TookLeft i H (answer.Run request estimate label) = running_on H i ≡ Some request
-TookLeft i H answer.Idle = running_on H i ≡ None
-TookLeft i H answer.Drained = running_on H i ≡ None
-TookLeft i H (answer.Retired workers) = running_on H i ≡ None
-TookLeft i H _ = ⊥
+use Rattle.desk.specs.Replies.{TookLeft, IsLive, IsEnding}
 
 -- a worker that reported runs on, and is refused for few causes
 abbrev pub ReportLeft : ℕ → ℕ → History → Reply → Type 0

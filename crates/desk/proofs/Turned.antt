@@ -16,10 +16,11 @@ use Rattle.sched_state.specs.Replies.{take_reply, change_reply}
 use Rattle.fq_model.specs.declared.event.Cause.{Cause}
 use Rattle.desk.specs.Staffed.{MayAsk}
 use Rattle.desk.specs.Told.{call_of, reply_of, AnswersAsk}
+use Rattle.desk.specs.Replies.{TookLeft}
 use Rattle.desk.specs.Tokens.{submitters_of, workers_of, IsAnswered}
 use Rattle.desk.proofs.Keeping.{staffed_on}
 use Rattle.desk.proofs.Own.{runs_by_own, own_gained}
-use Rattle.desk.proofs.Left.{TookLeft, ReportLeft, DoneLeft, took_left, report_left, done_left, reported_runs, took_same, report_same, done_same}
+use Rattle.desk.proofs.Left.{ReportLeft, DoneLeft, took_left, report_left, done_left, reported_runs, took_same, report_same, done_same}
 
 module _ {J : Type 0} (label : J → ℕ) where
   -- what a turn ensures

@@ -1,9 +1,10 @@
 -- The reply that each result of a call is, and the token that comes with it.
-use Rattle.std.specs.Prelude.{ℕ, ◌≡◌, Result, Ok, Err}
+use Rattle.std.specs.Prelude.{ℕ, ◌≡◌, Some, None, Result, Ok, Err}
 use Rattle.fq_model.specs.declared.event.Reply.{Reply}
 use Rattle.fq_model.specs.declared.event.Reply.TheVariants as answer
 use Rattle.fq_model.specs.declared.event.Cause.{Cause}
 use Rattle.fq_model.specs.declared.event.Cause.TheVariants as cause
+use Rattle.fq_model.specs.History.{History, running_on}
 use Rattle.history_lock.specs.Passes.{PassView}
 use Rattle.desk.specs.declared.floor.Crew.{Crew}
 use Rattle.desk.specs.declared.tokens.Worker.{Worker}
@@ -33,6 +34,14 @@ took_worker (took.Run running job) = running.worker
 took_worker (took.Idle worker) = worker.worker
 took_worker (took.Drained worker) = worker.worker
 took_worker (took.Retired worker workers) = worker.worker
+
+-- a worker that took runs the request that it was given, and else none
+abbrev pub TookLeft : ℕ → History → Reply → Type 0
+TookLeft i H (answer.Run request estimate label) = running_on H i ≡ Some request
+TookLeft i H answer.Idle = running_on H i ≡ None
+TookLeft i H answer.Drained = running_on H i ≡ None
+TookLeft i H (answer.Retired workers) = running_on H i ≡ None
+TookLeft i H _ = ⊥
 
 -- the causes that a report may have
 abbrev pub IsLive : Cause → Type 0

@@ -1,5 +1,5 @@
 -- What tokens keep, and what calls say of them.
-use Rattle.std.specs.Prelude.{ℕ, ◌≡◌, List, Option, Some, None}
+use Rattle.std.specs.Prelude.{ℕ, ◌+◌, ◌<◌, ◌≡◌, List, Option, Some, None}
 use Rattle.fq_model.specs.declared.event.Call.{Call}
 use Rattle.fq_model.specs.declared.event.Reply.{Reply}
 use Rattle.fq_model.specs.declared.event.Entry.{Entry}
@@ -20,6 +20,12 @@ submitters_of (Some crew) = crew.submitters
 abbrev pub workers_of : Option Crew → ℕ
 workers_of None = 0
 workers_of (Some crew) = crew.config.workers
+
+-- it is the pass of this worker of its desk, and what it has as its own are its own entries
+pub record IsOfWorker (pass : PassView Crew) (worker : ℕ) : Type 0 where
+  pub own : pass.mine ≡ own_entries pass.seen pass.number
+  pub numbered : pass.number ≡ submitters_of pass.frame + worker
+  pub known : worker < workers_of pass.frame
 
 -- it is the pass of the same caller of this lock, and what it has made and ended stays
 pub record Stays (lock : LockView Crew) (old new : PassView Crew) : Type 0 where

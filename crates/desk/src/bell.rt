@@ -35,6 +35,10 @@ impl Bell {
         }
     }
 
+    fn has_news_since(&self, heard: Heard) -> bool {
+        self.news.load(Ordering::SeqCst) != heard.news
+    }
+
     /// There is news for one sleeper.
     pub(crate) fn ring_one(&self) {
         self.news.fetch_add(1, Ordering::SeqCst);
@@ -53,12 +57,12 @@ impl Bell {
 
     /// Sleeps while there is no more news than this.
     pub(crate) fn wait<R: Wait>(&self, rt: &R, heard: Heard) {
-        if self.heard() != heard {
+        if self.has_news_since(heard) {
             return;
         }
         self.sleepers.fetch_add(1, Ordering::SeqCst);
         for _ in rt.forever() {
-            if self.heard() != heard {
+            if self.has_news_since(heard) {
                 break;
             }
             self.news.park(rt, (heard.news & 0xffff_ffff) as u32);

@@ -1,22 +1,54 @@
 //! The calls of a desk. Each waits for its turn, and takes no memory.
 ghost use Rattle.std.specs.Prelude.{◌≡◌, IfErr};
 ghost use Rattle.fq_model.specs.declared.event.Call.TheVariants as call;
+ghost use Rattle.fq_model.specs.History.{history_of};
 ghost use Rattle.history_lock.specs.Passes.{IsOf};
-ghost use Rattle.sched_state.specs.Replies.{submit_reply, change_reply, close_reply};
-ghost use Rattle.desk.specs.Tokens.{Stays, IsAnswered};
-ghost use Rattle.desk.specs.Replies.{took_reply, took_pass, took_worker, live_reply, done_reply, done_pass, SameRun, GoesOn};
+ghost use Rattle.sched_state.specs.Replies.{submit_reply, take_reply, change_reply, close_reply};
+ghost use Rattle.desk.specs.Tokens.{Stays, IsAnswered, IsOfWorker};
+ghost use Rattle.desk.specs.Replies.{took_reply, took_pass, took_worker, TookLeft};
+ghost use Rattle.desk.specs.Replies.{live_reply, done_reply, done_pass, SameRun, GoesOn};
 
 use crate::bell::Heard;
 use crate::desk::DeskOf;
-use crate::floor::Floor;
+use crate::floor::{Crew, Floor};
 use crate::refusals::{DoneRefusal, LiveRefusal, done_refusal, live_refusal};
 use crate::tokens::{Running, Submitter, Took, Worker};
 use crate::told::{Ask, Told};
 use fq_model::event::Cause;
 use fq_model::job::Job;
+use history_lock::Pass;
 use rival_policies::chooser::Chooser;
 use sched_state::{AlreadyClosed, Refused, Taken};
 use std::sync::Wait;
+
+// What a worker that asked for work is given, by what it was told.
+fn took<J: Job + Drop>(pass: Pass<Crew>, worker: u32, taken: Taken<J>) -> Took<J>
+    requires token { IsOfWorker pass worker }
+    requires left { TookLeft worker (history_of pass.mine) (take_reply J.label_of taken) }
+    ensures reply { took_reply J.label_of result ≡ take_reply J.label_of taken }
+    ensures same { (took_pass result ≡ pass) × (took_worker result ≡ worker) }
+{
+    match taken {
+        Taken::Run {
+            request,
+            estimate,
+            job,
+        } => {
+            let running = Running {
+                pass,
+                worker,
+                request,
+                estimate,
+            };
+            Took::Run(running, job)
+        }
+        Taken::Idle => Took::Idle(Worker { pass, worker }),
+        Taken::Drained => Took::Drained(Worker { pass, worker }),
+        Taken::Retired(workers) => Took::Retired(Worker { pass, worker }, workers),
+        Taken::UnknownWorker(_) => unreachable!(),
+        Taken::Busy(_) => unreachable!(),
+    }
+}
 
 impl<J: Job + Drop, X: Chooser> DeskOf<Floor<J, X>> {
     /// A request comes, and gets the next number. Refused as the scheduler refuses; the job then comes back.
@@ -154,26 +186,7 @@ impl<J: Job + Drop, X: Chooser> DeskOf<Floor<J, X>> {
         let Told::Took(taken) = self.lock.turn(rt, &mut pass, ask) else {
             unreachable!()
         };
-        match taken {
-            Taken::Run {
-                request,
-                estimate,
-                job,
-            } => {
-                let running = Running {
-                    pass,
-                    worker,
-                    request,
-                    estimate,
-                };
-                Took::Run(running, job)
-            }
-            Taken::Idle => Took::Idle(Worker { pass, worker }),
-            Taken::Drained => Took::Drained(Worker { pass, worker }),
-            Taken::Retired(workers) => Took::Retired(Worker { pass, worker }, workers),
-            Taken::UnknownWorker(_) => unreachable!(),
-            Taken::Busy(_) => unreachable!(),
-        }
+        took(pass, worker, taken)
     }
 
     /// The request has come to this use, in microseconds, and runs on.
