@@ -1,4 +1,4 @@
-use Rattle.std.proofs.Common.{rules, refl, sym, ap, ◌∙◌, subst, ◌≡◌}
+use Rattle.std.proofs.Common.{refl, sym, ap, ◌∙◌, subst, ◌≡◌}
 use Rattle.fq_model.specs.Outcome.{own_entries}
 use Rattle.history_lock.specs.Passes.{held, AllEnded}
 use Rattle.history_lock.specs.Views.{view_of}
@@ -9,7 +9,7 @@ use Rattle.history_lock.proofs.lock.HistoryLock.close.Goals as goal
 
 pub returns-then-drawn-served-clause-settled : goal.returns-then-drawn-served-clause-settled
 returns-then-drawn-served-clause-settled g c = λ covers.
-    let same : view_of c.pass.inside.badge.views ≡ c.into_seat.result.me.0 = search rules in
+    let same : view_of c.pass.inside.badge.views ≡ c.into_seat.result.me.0 = ap view_of c.into_seat.ensures.2 in
     let idle = ap (λ v. v.stage) (sym same) ∙ idle_is _ c.pass.invariant.idle in
     let is = ap (held c.pass.inside.badge.table_id) (sym same) ∙ c.pass.view_is in
     absurd (c.if-drawn-served.true (all_served g.M.Machine.past g.M.Machine.frame _ _ _ _ _ _ _ idle (ap (λ h. h.number) is ∙ c.requires.first) c.close_with-closed.ensures.values.2 c.word-drawn.ensures c.word-served.ensures
@@ -17,14 +17,14 @@ returns-then-drawn-served-clause-settled g c = λ covers.
 
 pub returns-then-drawn-served-clause-exact : goal.returns-then-drawn-served-clause-exact
 returns-then-drawn-served-clause-exact g c =
-    let same : view_of c.pass.inside.badge.views ≡ c.into_seat.result.me.0 = search rules in
+    let same : view_of c.pass.inside.badge.views ≡ c.into_seat.result.me.0 = ap view_of c.into_seat.ensures.2 in
     let is = ap (held c.pass.inside.badge.table_id) (sym same) ∙ c.pass.view_is in
     let last = last_words g.M.Machine.past g.M.Machine.frame _ c.pass.inside.badge.table_id _ _ _ _ _ _ c.close_with-closed.ensures.values.2 c.word-drawn.ensures c.word-served.ensures in
     (c.word-drawn.result, c.word-served.result, last_moved g.M.Machine.past g.M.Machine.frame _ _ _ _ _ _ (ap (λ l. l.frame) c.self.view_is) is last, tt, (refl, refl, c.if-drawn-served.true))
 
 pub unwrap-requires : goal.unwrap-requires
 unwrap-requires g c =
-    let same : view_of c.pass.inside.badge.views ≡ c.into_seat.result.me.0 = search rules in
+    let same : view_of c.pass.inside.badge.views ≡ c.into_seat.result.me.0 = ap view_of c.into_seat.ensures.2 in
     let idle = ap (λ v. v.stage) (sym same) ∙ idle_is _ c.pass.invariant.idle in
     let zeroth = ap (λ v. v.number) (sym same) ∙ (ap (λ h. h.number) c.pass.view_is ∙ c.requires.first) in
     let got = settles g.M.Machine.past g.M.Machine.frame _ c.pass.inside.badge.table_id _ _ _ _ _ _ _ idle zeroth c.close_with-closed.ensures.values.2 c.word-drawn.ensures c.word-served.ensures c.take-slot.ensures.value c.if-drawn-served.false in
@@ -32,7 +32,7 @@ unwrap-requires g c =
 
 pub returns : goal.returns
 returns g c =
-    let same : view_of c.pass.inside.badge.views ≡ c.into_seat.result.me.0 = search rules in
+    let same : view_of c.pass.inside.badge.views ≡ c.into_seat.result.me.0 = ap view_of c.into_seat.ensures.2 in
     let idle = ap (λ v. v.stage) (sym same) ∙ idle_is _ c.pass.invariant.idle in
     let is = ap (held c.pass.inside.badge.table_id) (sym same) ∙ c.pass.view_is in
     let got = settles g.M.Machine.past g.M.Machine.frame _ c.pass.inside.badge.table_id _ _ _ _ _ _ _ idle (ap (λ h. h.number) is ∙ c.requires.first) c.close_with-closed.ensures.values.2 c.word-drawn.ensures c.word-served.ensures c.take-slot.ensures.value c.if-drawn-served.false in
