@@ -10,12 +10,12 @@ loop-token-init g c = (c.requires.tokens, ([], sym (append-nil _), none_joined c
 
 pub join-requires-clause-other_own : goal.join-requires-clause-other_own
 join-requires-clause-other_own g c =
-    let popped : c.loop-token.tokens.items ≡ c.pop.new.self.items ++ c.in-Some.token ∷ [] = search rules in
+    let popped : c.loop-token.tokens.items ≡ c.pop.new.self.items ++ c.in-Some.token ∷ [] = c.in-Some.ensures.items in
     each_last (λ (t : Submitter). IsOf c.args.lock.now t.pass) c.pop.new.self.items c.in-Some.token (subst (HoldsOfEach (λ (t : Submitter). IsOf c.args.lock.now t.pass)) popped c.loop-token.invariant.0)
 
 pub loop-token-preserved : goal.loop-token-preserved
 loop-token-preserved g c =
-    let popped : c.loop-token.tokens.items ≡ c.pop.new.self.items ++ c.in-Some.token ∷ [] = search rules in
+    let popped : c.loop-token.tokens.items ≡ c.pop.new.self.items ++ c.in-Some.token ∷ [] = c.in-Some.ensures.items in
     let done = c.loop-token.invariant.1 in let s = c.join.ensures in (
       each_front (λ (t : Submitter). IsOf c.args.lock.now t.pass) c.pop.new.self.items (c.in-Some.token ∷ []) (subst (HoldsOfEach (λ (t : Submitter). IsOf c.args.lock.now t.pass)) popped c.loop-token.invariant.0),
       (
