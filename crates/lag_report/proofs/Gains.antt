@@ -14,16 +14,16 @@ use Rattle.lag_report.specs.Work.{work_in, number_at, EndsWithin, GainsAre, samp
 -- ---- the work on one request
 
 -- all of it from the end on, none up to the start, and a part in between
-whole : (taken ended cost m : ℕ) → ended ≤ m → work_between taken ended cost m ≡ cost
+pub whole : (taken ended cost m : ℕ) → ended ≤ m → work_between taken ended cost m ≡ cost
 whole taken ended cost m h = cond-true (nat_le ended m) _ _ (le-leb _ _ h)
 
-none : (taken ended cost m : ℕ) → m < ended → m ≤ taken → work_between taken ended cost m ≡ 0
+pub none : (taken ended cost m : ℕ) → m < ended → m ≤ taken → work_between taken ended cost m ≡ 0
 none taken ended cost m h g = cond-false (nat_le ended m) _ _ (lt-leb _ _ h) ∙ cond-true (nat_le m taken) _ _ (le-leb _ _ g)
 
-part : (taken ended cost m : ℕ) → m < ended → taken < m → work_between taken ended cost m ≡ cost * (m - taken) / (ended - taken)
+pub part : (taken ended cost m : ℕ) → m < ended → taken < m → work_between taken ended cost m ≡ cost * (m - taken) / (ended - taken)
 part taken ended cost m h g = cond-false (nat_le ended m) _ _ (lt-leb _ _ h) ∙ cond-false (nat_le m taken) _ _ (lt-leb _ _ g)
 
-part_low : (taken ended cost m : ℕ) → m < ended → cost * (m - taken) / (ended - taken) ≤ cost
+pub part_low : (taken ended cost m : ℕ) → m < ended → cost * (m - taken) / (ended - taken) ≤ cost
 part_low taken ended cost m h = div-le_of_le-mul (ended - taken) (omega (arith, mul-le-mul_left {m = m - taken} {n = ended - taken} cost (omega arith)))
 
 low : (taken ended cost m : ℕ) → work_between taken ended cost m ≤ cost

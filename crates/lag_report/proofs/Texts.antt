@@ -6,7 +6,11 @@ use Rattle.std.proofs.lemmas.List.Elements.{All-map}
 use Rattle.std.proofs.Math.ListN.{drop_of_length-le}
 use Rattle.fq_model.specs.declared.lag.TenantLag.{TenantLag}
 use Rattle.fq_model.specs.ReportText.{tenant_lag_line, tenant_lag_lines}
-use Rattle.fq_model.specs.Report.{least_lag, greatest_lag}
+use Rattle.std.specs.Prelude.{codes}
+use Rattle.std.specs.Fmt.{decimal, signed_decimal}
+use Rattle.fq_model.specs.Report.{LagReport, least_lag, greatest_lag}
+use Rattle.lag_report.specs.Reports.{requests_of}
+use Rattle.lag_report.specs.Texts.{with_counts, with_totals, with_range}
 use Rattle.lag_report.proofs.Ranks.{least_at, greatest_at}
 
 -- stands past the end
@@ -79,3 +83,30 @@ moves_up f p k more best = below_more _ _ (λ j l. omega (arith, ints, more, bes
 -- a line feed and two pieces more
 pub longer_by_line : (old x y z now next : List ℕ) → now ≡ old ++ x → next ≡ now ++ (10 ∷ y) ++ z → next ≡ old ++ (x ++ 10 ∷ [] ++ y ++ z)
 longer_by_line old x y z now next is then = longer_by_two old x (10 ∷ y) z now next is then ∙ ap (λ l. old ++ (l ++ z)) (sym (append_assoc x (10 ∷ []) y))
+
+-- ---- parts of a line, and of a summary
+
+-- a summary up to its lags
+abbrev pub summary_totals : LagReport → List ℕ
+summary_totals report =
+    codes "summary 1\n" ++ codes "requests " ++ decimal (requests_of report.rows) ++ 10 ∷ [] ++ codes "entries " ++ decimal report.entries
+    ++ 10 ∷ [] ++ codes "end " ++ decimal report.end
+
+pub all_counts : (row : TenantLag) (old x now next : List ℕ) → now ≡ old ++ x → next ≡ with_counts now row → next ≡ old ++ with_counts x row
+all_counts row old x now next is then =
+    let weight = longer_by_two old x (codes " weight ") (decimal row.weight) now _ is refl in
+    let requests = longer_by_two old _ (codes " requests ") (decimal row.requests) _ _ weight refl in
+    let charged = longer_by_two old _ (codes " charged ") (decimal row.charged) _ _ requests refl in
+    longer_by_two old _ (codes " fluid ") (decimal row.fluid) _ next charged then
+
+pub all_totals : (report : LagReport) (now next : List ℕ) → now ≡ [] ++ codes "summary 1\n" → next ≡ with_totals now report → next ≡ [] ++ summary_totals report
+all_totals report now next is then =
+    let requests = longer_by_two [] _ (codes "requests ") (decimal (requests_of report.rows)) now _ is refl in
+    let entries = longer_by_line [] _ (codes "entries ") (decimal report.entries) _ _ requests refl in
+    longer_by_line [] _ (codes "end ") (decimal report.end) _ next entries then
+
+pub all_range : (rows : List TenantLag) (x now next : List ℕ) → now ≡ [] ++ x → next ≡ with_range now rows → next ≡ [] ++ (x ++ 10 ∷ [] ++ codes "lag " ++ signed_decimal (least_lag rows) ++ codes " " ++ signed_decimal (greatest_lag rows) ++ codes "\n")
+all_range rows x now next is then =
+    let least = longer_by_line [] x (codes "lag ") (signed_decimal (least_lag rows)) now _ is refl in
+    let greatest = longer_by_two [] _ (codes " ") (signed_decimal (greatest_lag rows)) _ _ least refl in
+    longer [] _ (codes "\n") _ next greatest then

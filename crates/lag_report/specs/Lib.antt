@@ -4,3 +4,4 @@ pub mod Courses
 pub mod Work
 pub mod Ranked
 pub mod Laws
+pub mod Texts

@@ -5,6 +5,7 @@ ghost use Rattle.tenant_table.specs.Names.{names_of};
 ghost use Rattle.fq_model.specs.Report.{least_lag, greatest_lag};
 ghost use Rattle.fq_model.specs.ReportText.{lag_numbers, tenant_lag_line, tenant_lag_lines, slot_line, end_line, lag_report_text, lag_summary_text};
 ghost use Rattle.lag_report.specs.Reports.{requests_of};
+ghost use Rattle.lag_report.specs.Texts.{with_counts, with_range, with_totals};
 
 use crate::fault::NoMemory;
 use crate::parts::Report;
@@ -32,13 +33,29 @@ pub fn summary(alloc: Global, report: &Report) -> Result<Vec<u8>, NoMemory>
     ensures { IfOk result (λ text. text.items ≡ lag_summary_text (requests_of report.now.rows) report.now) }
 {
     let mut text = Vec::from_slice(alloc, b"summary 1\n")?;
-    add_count(b"requests ", requests(report.rows()), &mut text)?;
-    add_count(b"\nentries ", report.entries(), &mut text)?;
-    add_count(b"\nend ", report.end(), &mut text)?;
-    add_lag(b"\nlag ", least(report.rows()), &mut text)?;
-    add_lag(b" ", greatest(report.rows()), &mut text)?;
-    text.push(b'\n')?;
+    add_totals(report, &mut text)?;
+    add_range(report.rows(), &mut text)?;
     Ok(text)
+}
+
+// Appends how many requests and entries there were, and when the last entry came.
+fn add_totals(report: &Report, text: &mut Vec<u8>) -> Result<(), AllocError>
+    ensures { OnOk result (text.new.items ≡ with_totals text.old.items report.now) }
+{
+    add_count(b"requests ", requests(report.rows()), text)?;
+    add_count(b"\nentries ", report.entries(), text)?;
+    add_count(b"\nend ", report.end(), text)?;
+    Ok(())
+}
+
+// Appends between what numbers all lags are.
+fn add_range(rows: &[TenantLag], text: &mut Vec<u8>) -> Result<(), AllocError>
+    ensures { OnOk result (text.new.items ≡ with_range text.old.items rows.now) }
+{
+    add_lag(b"\nlag ", least(rows), text)?;
+    add_lag(b" ", greatest(rows), text)?;
+    text.push(b'\n')?;
+    Ok(())
 }
 
 // How many requests all tenants submitted.
@@ -122,13 +139,21 @@ fn add_tenant(name: &str, row: TenantLag, text: &mut Vec<u8>) -> Result<(), Allo
 {
     text.extend_from_slice(b"tenant ")?;
     text.extend_from_slice(name.as_bytes())?;
+    add_counts(row, text)?;
+    text.extend_from_slice(b" lag ")?;
+    add_lags(row, text)?;
+    text.push(b'\n')?;
+    Ok(())
+}
+
+// Appends a tenant's weight, its requests, and what it was charged and the fluid server served it.
+fn add_counts(row: TenantLag, text: &mut Vec<u8>) -> Result<(), AllocError>
+    ensures { OnOk result (text.new.items ≡ with_counts text.old.items row) }
+{
     add_count(b" weight ", row.weight as u64, text)?;
     add_count(b" requests ", row.requests as u64, text)?;
     add_count(b" charged ", row.charged, text)?;
     add_count(b" fluid ", row.fluid, text)?;
-    text.extend_from_slice(b" lag ")?;
-    add_lags(row, text)?;
-    text.push(b'\n')?;
     Ok(())
 }
 

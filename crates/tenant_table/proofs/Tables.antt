@@ -27,6 +27,10 @@ pub length_names : (tenants : List (List ℕ × ℕ)) → length (names_of tenan
 length_names [] = refl
 length_names (t ∷ ts) = ap suc (length_names ts)
 
+pub length_weights : (tenants : List (List ℕ × ℕ)) → length (weights_of tenants) ≡ length tenants
+length_weights [] = refl
+length_weights (t ∷ ts) = ap suc (length_weights ts)
+
 pub length_kinds : (keys : List (String Global)) → length (kinds_of keys) ≡ length keys
 length_kinds [] = refl
 length_kinds (k ∷ ks) = ap suc (length_kinds ks)

@@ -109,14 +109,8 @@ impl KindsBuilder {
     pub fn finish(self) -> Result<Kinds, AllocError>
         ensures { IfOk result (λ kinds. kinds ≡ self) }
     {
-        let KindsBuilder {
-            alloc,
-            names: added,
-        } = self;
-        let mut names = Vec::new(alloc);
-        for name in added {
-            names.push(name)?;
-        }
+        let KindsBuilder { alloc, names } = self;
+        let names = names.into_iter().collect(alloc)?;
         Ok(Kinds { names })
     }
 }

@@ -113,11 +113,8 @@ impl TenantsBuilder {
     pub fn finish(self) -> Result<Tenants, AllocError>
         ensures { IfOk result (λ tenants. tenants ≡ self) }
     {
-        let TenantsBuilder { alloc, rows: added } = self;
-        let mut rows = Vec::new(alloc);
-        for row in added {
-            rows.push(row)?;
-        }
+        let TenantsBuilder { alloc, rows } = self;
+        let rows = rows.into_iter().collect(alloc)?;
         Ok(Tenants { rows })
     }
 }

@@ -1,4 +1,5 @@
 use Rattle.std.proofs.Common.{◌≡◌, ◌∷◌, ◌∙◌, sym, ap, subst, length, take, get_or, ◌+◌, ap₂}
+use Rattle.std.proofs.lemmas.List.{take_all}
 use Rattle.fq_model.specs.declared.event.Act.TheVariants.{Submit}
 use Rattle.fq_model.specs.declared.event.Entry.{Entry}
 use Rattle.fq_model.specs.Fluid.{changes_of, with_change}
@@ -23,3 +24,15 @@ loop-entry-preserved c =
       changes = c.in_ok-add.ensures.changes ∙ ap (with_change entry.moment entry.act) c.loop-entry.invariant.changes ∙ sym (ap changes_of more);
       rows = c.in_ok-add.ensures.rows ∙ ap₂ (λ cs rs. rows_after cs entry.act rs) c.loop-entry.invariant.courses c.loop-entry.invariant.rows ∙ sym (ap rows_of more);
     }
+
+pub loop-entry-init : goal.loop-entry-init
+loop-entry-init c = record { courses = c.new.ensures.items; rows = c.new-2.ensures.items; changes = c.new-3.ensures.items }
+
+pub returns-clause-courses : goal.returns-clause-courses
+returns-clause-courses c = c.loop-entry.invariant.courses ∙ ap (λ es. courses_of (history_of es)) (take_all c.loop-entry.entry-index c.args.past.now c.loop-entry-test.false)
+
+pub returns-clause-rows : goal.returns-clause-rows
+returns-clause-rows c = c.loop-entry.invariant.rows ∙ ap (λ es. rows_of (history_of es)) (take_all c.loop-entry.entry-index c.args.past.now c.loop-entry-test.false)
+
+pub returns-clause-changes : goal.returns-clause-changes
+returns-clause-changes c = c.loop-entry.invariant.changes ∙ ap (λ es. changes_of (history_of es)) (take_all c.loop-entry.entry-index c.args.past.now c.loop-entry-test.false)

@@ -1,7 +1,8 @@
 use Rattle.std.proofs.Common.{ℕ, ◌+◌, ◌≤◌, ◌≡◌, ◌++◌, ◌∷◌, [], List, take, get_or, sum, arith, refl, ap, ap₂, sym, ◌∙◌, ℤ, pos, ◌-ℤ◌, add-one, w64}
-use mir.Val.{to_z, of_z}
+use mir.Val.{SFits, to_z, of_z}
 use Rattle.std.proofs.lemmas.Int.{ints}
 use Rattle.std.proofs.lemmas.List.Sums.{sum_by_more, sum_by_more_le}
+use Rattle.fq_model.specs.Sums.{list_below}
 use Rattle.fluid_reference.proofs.Lists.{list_none, list_more}
 use Rattle.lag_report.specs.Work.{sample_at}
 use Rattle.lag_report.proofs.samples.samples.Goals as goal
@@ -27,3 +28,17 @@ loop-k-preserved c =
       work = work;
       samples = c.in_ok-push.ensures.items ∙ ap₂ (λ (xs : List ℤ) z. xs ++ z ∷ []) c.loop-k.invariant.samples here ∙ sym (list_more (sample_at c.args.served.now (λ k. sum (take k c.args.gains.now))) c.loop-k.k);
     }
+
+pub bounds-gains-k : goal.bounds-gains-k
+bounds-gains-k c = omega (arith, c.requires.same, c.loop-k-test.true)
+
+-- each number is in its limits, and so is their difference
+lag_fits : (served work : ℕ) → served ≤ 2000000000000000 → work ≤ 2000000000000000 → SFits w64 (to_z w64 served -ℤ to_z w64 work)
+lag_fits served work s w = omega (arith, ints)
+
+pub overflow_sub-served : goal.overflow_sub-served
+overflow_sub-served c = lag_fits (get_or c.args.served.now c.loop-k.k 0) (c.loop-k.work + get_or c.args.gains.now c.loop-k.k 0) (c.requires.served c.loop-k.k 0 c.loop-k-test.true)
+    (omega (arith, c.loop-k.invariant.work, sum_by_more_le (λ x. x) c.args.gains.now c.loop-k.k 0 (omega (arith, c.requires.same, c.loop-k-test.true)), c.requires.gained))
+
+pub returns : goal.returns
+returns c = c.loop-k.invariant.samples ∙ ap (list_below (sample_at c.args.served.now (λ k. sum (take k c.args.gains.now)))) (omega (arith, c.loop-k-test.false, c.loop-k.auto.k-end))

@@ -1,5 +1,5 @@
 use Rattle.std.proofs.Common.{◌≡◌, ◌++◌, length, take, drop, replicate, arith, rules, ap, sym, ◌∙◌, subst, ℕ, sum, ◌+◌, ◌≤◌}
-use Rattle.std.proofs.lemmas.List.{length-replicate, length-take}
+use Rattle.std.proofs.lemmas.List.{length-replicate, length-take, take_all}
 use Rattle.std.proofs.lemmas.List.Elements.{All-take}
 use Rattle.fluid_reference.proofs.Known.{written_back}
 use Rattle.lag_report.specs.declared.course.Course.{Course}
@@ -36,3 +36,12 @@ spread-requires-clause-room c = omega (
       (omega (arith, length-take c.loop-course.course-index c.args.courses.now, c.requires.few))
       c.loop-course.invariant.gains,
 )
+
+pub spread-requires-clause-ends : goal.spread-requires-clause-ends
+spread-requires-clause-ends c = subst (λ n. EndsWithin c.args.slot n (course_at c.args.courses.now c.loop-course.course-index)) (sym (ap length c.as_mut_slice.ensures.value ∙ c.loop-course.invariant.len)) (c.requires.end c.loop-course.course-index _ c.loop-course-test.true)
+
+pub returns-clause-len : goal.returns-clause-len
+returns-clause-len c = c.loop-course.invariant.len
+
+pub returns-clause-gains : goal.returns-clause-gains
+returns-clause-gains c = subst (λ cs. GainsAre c.args.slot cs c.loop-course.gains.items) (take_all c.loop-course.course-index c.args.courses.now c.loop-course-test.false) c.loop-course.invariant.gains

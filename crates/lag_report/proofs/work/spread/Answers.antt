@@ -74,3 +74,6 @@ returns c = λ k l. elim (cases_Bool (nat_le k c.loop-k.k)) [
       let there : work_in c.args.slot k c.args.course ≡ c.args.course.cost = in_whole c.args.slot k c.args.course c.requires.positive (omega (arith, ended, late)) in
       c.loop-k.invariant.gained k l ∙ ap (λ n. sum (take k c.args.gains.now) + n) (ap (λ n. work_in c.args.slot n c.args.course) least ∙ here ∙ sym there)
 ]
+
+pub bounds-gains-k : goal.bounds-gains-k
+bounds-gains-k c = omega (arith, inside (goal.at.bounds-gains-k c).After-worked-after, c.loop-k.invariant.len)
