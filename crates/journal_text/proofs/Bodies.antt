@@ -230,3 +230,28 @@ stays_at_first reader version place rest line below old new e was is first fails
   fails = fails_at place e (reader version (words_of line)) fails;
   same = refl;
 })
+
+-- what the first line says is said before the rest
+with_more-first : {A F : Type 0} (said : List A) (x : A) (later : Result (List A) F) → with_more said (with_first x later) ≡ with_more (said ++ x ∷ []) later
+with_more-first said x (Ok more) = ap (λ all. Ok all) (sym (append_assoc said (x ∷ []) more))
+with_more-first said x (Err e) = refl
+
+first_said : {A : Type 0} (reader : Version → LineReader A) (old : Below) (x : A) (new : Below) → SaysFirst reader old x new
+    → said_below reader old ≡ with_first x (said_below reader new)
+first_said reader old x new first =
+    let version : new.version ≡ old.version = ap (λ b. b.version) first.left in
+    let place : new.place ≡ old.place + 1 = ap (λ b. b.place) first.left in
+    rw (version, place, first.there, first.says) refl
+
+-- one line more is read
+pub one_said : {A : Type 0} (reader : Version → LineReader A) (said said2 : List A) (x : A) (old new : Below) (all : Result (List A) (ℕ × ScriptKind))
+    → SaysFirst reader old x new → said2 ≡ said ++ x ∷ [] → with_more said (said_below reader old) ≡ all → with_more said2 (said_below reader new) ≡ all
+one_said reader said said2 x old new all first longer so_far =
+    ap (λ l. with_more l (said_below reader new)) longer ∙ sym (with_more-first said x (said_below reader new)) ∙ ap (with_more said) (sym (first_said reader old x new first)) ∙ so_far
+
+-- no line is left
+pub all_said : {A : Type 0} (reader : Version → LineReader A) (said : List A) (old : Below) (all : Result (List A) (ℕ × ScriptKind)) → old.lines ≡ []
+    → with_more said (said_below reader old) ≡ all → all ≡ Ok said
+all_said reader said old all none so_far =
+    let left : said_below reader old ≡ Ok [] = rw none refl in
+    sym so_far ∙ ap (with_more said) left ∙ ap (λ l. Ok l) (append-nil said)

@@ -1,8 +1,8 @@
 -- What stood in a text stands there still.
-use Rattle.std.proofs.Common.{ℕ, Bool, true, false, cond, ◌+◌, ◌<◌, ◌≤◌, ◌≡◌, ◌∙◌, List, [], ◌++◌, length, take, drop, sym, ap, append_assoc, slice_index}
+use Rattle.std.proofs.Common.{ℕ, Bool, true, false, cond, ◌+◌, ◌<◌, ◌≤◌, ◌≡◌, ◌∙◌, List, [], ◌∷◌, ◌++◌, length, take, drop, sym, ap, append_assoc, slice_index, get_or}
 use Rattle.std.specs.Prelude.{codes}
 use Rattle.std.specs.Fmt.{decimal}
-use Rattle.std.proofs.lemmas.List.{append-nil, at_drop_more, drop_all}
+use Rattle.std.proofs.lemmas.List.{append-nil, at_drop_more, at_drop_all, drop_all}
 use Rattle.std.proofs.Math.Seq.{take-append_seam}
 use Rattle.fq_model.specs.JournalText.{numbers_text}
 use Rattle.journal_text.specs.Printing.{IsKept}
@@ -20,6 +20,19 @@ cut_back old text kept = ap (take (length old)) kept.1 ∙ take-append_seam old 
 -- what is kept of what was kept
 pub kept_through : (old text new : List ℕ) → IsKept old text → IsKept text new → IsKept old new
 kept_through old text new kept then = kept_more old text then.0 new kept then.1
+
+-- one more of the things that are told, each by its line
+pub one_more : {X : Type 0} (told : List X → List ℕ) (things : List X) (k : ℕ) (none : X) (line text new all : List ℕ) → k < length things
+    → told (get_or things k none ∷ drop (k + 1) things) ≡ line ++ told (drop (k + 1) things) → new ≡ text ++ line
+    → text ++ told (drop k things) ≡ all → new ++ told (drop (k + 1) things) ≡ all
+one_more told things k none line text new all lt tells is so_far =
+    let below = told (drop (k + 1) things) in
+    ap (λ t. t ++ below) is ∙ append_assoc text line below ∙ ap (λ t. text ++ t) (sym (at_drop_more told things k none lt ∙ tells)) ∙ so_far
+
+-- all of them are told
+pub all_told : {X : Type 0} (told : List X → List ℕ) (things : List X) (k : ℕ) (text all : List ℕ) → length things ≤ k → told [] ≡ []
+    → text ++ told (drop k things) ≡ all → text ≡ all
+all_told told things k text all le nothing so_far = sym (append-nil text) ∙ ap (λ t. text ++ t) (sym (at_drop_all told things k le ∙ nothing)) ∙ so_far
 
 -- one number more of those that are appended
 pub one_number : (numbers : List ℕ) (k : ℕ) (text new all : List ℕ) → k < length numbers → new ≡ text ++ (codes " " ++ decimal (slice_index numbers k))

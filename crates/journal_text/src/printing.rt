@@ -35,7 +35,6 @@ pub fn print(
 }
 
 /// Appends that journal to a text. Where memory runs out, the text stays as it was.
-#[tactic(auto, unfolding(fq_model::specs::JournalText::journal_text))]
 pub fn add_journal(
     alloc: Global,
     past: &[Entry],
@@ -49,16 +48,16 @@ pub fn add_journal(
     ensures unchanged { OnErr result (text.new.items ≡ text.old.items) }
 {
     let start = text.len();
-    text.extend_from_slice(header(version_for(past)).as_bytes())?;
-    let added = add_below(alloc, past, config, tenants, kinds, text);
-    if added.is_err() {
+    if add_lines(alloc, past, config, tenants, kinds, text).is_err() {
         text.truncate(start);
+        return Err(NoMemory);
     }
-    Ok(added?)
+    Ok(())
 }
 
-// Appends the lines below the first. Where memory runs out, what stood there stands still, perhaps with more after it.
-fn add_below(
+// Appends its lines. Where memory runs out, what stood there stands still, perhaps with more after it.
+#[tactic(auto, unfolding(fq_model::specs::JournalText::journal_text))]
+fn add_lines(
     alloc: Global,
     past: &[Entry],
     config: &Checked,
@@ -67,9 +66,10 @@ fn add_below(
     text: &mut Vec<u8>,
 ) -> Result<(), AllocError>
     ensures added { OnOk result (text.new.items
-        ≡ text.old.items ++ (head_text config.now (names_of tenants.now) kinds.now ++ entries_text past.now)) }
+        ≡ text.old.items ++ journal_text config.now (names_of tenants.now) kinds.now past.now) }
     ensures kept { IsKept text.old.items text.new.items }
 {
+    text.extend_from_slice(header(version_for(past)).as_bytes())?;
     add_head(alloc, config, tenants, kinds, text)?;
     add_entries(past, text)
 }

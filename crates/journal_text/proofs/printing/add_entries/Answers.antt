@@ -1,6 +1,30 @@
-use Rattle.journal_text.proofs.Kept.{kept_still}
+use Rattle.std.proofs.Common.{arith, refl}
+use Rattle.fq_model.specs.declared.event.Act.TheVariants.{Submit}
+use Rattle.fq_model.specs.declared.event.Entry.{Entry}
+use Rattle.fq_model.specs.JournalText.{entries_text}
+use Rattle.journal_text.proofs.Kept.{kept_all, kept_more, kept_still, one_more, all_told}
 use Rattle.journal_text.proofs.printing.add_entries.Goals as goal
+
+-- what stands past the end
+abbrev none : Entry
+none = record { who = 0; moment = 0; act = Submit 0 0 0 0 0 }
+
+pub loop-entry-init : goal.loop-entry-init
+loop-entry-init c = record { so_far = refl; kept = kept_all c.args.text.now.items }
+
+pub loop-entry-preserved : goal.loop-entry-preserved
+loop-entry-preserved c = record {
+  so_far = one_more entries_text c.args.past.now c.loop-entry.entry-index none _ c.loop-entry.text.items c.add_entry.new.out.items _ c.loop-entry-test.true refl
+      c.in_ok-add_entry.ensures.added c.loop-entry.invariant.so_far;
+  kept = kept_more c.args.text.now.items c.loop-entry.text.items _ c.add_entry.new.out.items c.loop-entry.invariant.kept c.in_ok-add_entry.ensures.added;
+}
 
 pub returns-in_err-add_entry-clause-kept : goal.returns-in_err-add_entry-clause-kept
 returns-in_err-add_entry-clause-kept c =
     kept_still c.args.text.now.items c.loop-entry.text.items c.add_entry.new.out.items c.loop-entry.invariant.kept c.in_err-add_entry.ensures.unchanged
+
+pub returns : goal.returns
+returns c = record {
+  added = all_told entries_text c.args.past.now c.loop-entry.entry-index c.loop-entry.text.items _ (omega arith) refl c.loop-entry.invariant.so_far;
+  kept = c.loop-entry.invariant.kept;
+}
