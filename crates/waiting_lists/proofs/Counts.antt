@@ -1,11 +1,12 @@
 -- How many items there are, and the whole of the lists.
-use Rattle.std.proofs.Common.{◌≡◌, ℕ, ◌+◌, ◌-◌, ◌<◌, List, [], ◌∷◌, ◌++◌, Option, Some, None, Result, Ok, Err, OnErr, length, get_or, set, take, drop, slice_get, arith, refl, sym, ap, ◌∙◌}
+use Rattle.std.proofs.Common.{◌≡◌, ℕ, ◌+◌, ◌-◌, ◌<◌, ◌≤◌, List, [], ◌∷◌, ◌++◌, Option, Some, None, Result, Ok, Err, OnOk, OnErr, IsErr, length, get_or, set, take, drop, slice_get, arith, refl, sym, ap, ◌∙◌}
 use Rattle.std.proofs.lemmas.List.{length_push, take_at}
+use Rattle.std.proofs.lemmas.Result.{IfOk-from_err}
 use Rattle.std.proofs.lemmas.List.Sums.{sum_by-set}
 use Rattle.waiting_lists.specs.declared.item.Item.{Item}
 use Rattle.waiting_lists.specs.declared.links.Slot.{Slot}
 use Rattle.waiting_lists.specs.declared.links.Ends.{Ends}
-use Rattle.waiting_lists.specs.Lists.{ListsView}
+use Rattle.waiting_lists.specs.Lists.{ListsView, list_of, waiting, with_list}
 use Rattle.waiting_lists.specs.Linked.{lists_of, count_of, Keeps, KeepsCount, IsMadeFree}
 use Rattle.waiting_lists.proofs.Chains.{none_not_some}
 use Rattle.waiting_lists.proofs.Owners.{lists_length}
@@ -13,6 +14,10 @@ use Rattle.waiting_lists.proofs.Owners.{lists_length}
 pub on_err : {T E : Type 0} (r : Result T E) (P : Type 0) → P → OnErr r P
 on_err (Ok x) P p = tt
 on_err (Err e) P p = p
+
+pub not_ok : {T E : Type 0} (r : Result T E) (P : Type 0) → IsErr r → OnOk r P
+not_ok {T} {E} (Ok x) P err = IfOk-from_err {E = E} (Ok x) (λ _. P) err
+not_ok (Err e) P err = tt
 
 -- a vector that lent all its items, and has them back
 pub back_is : {X : Type 0} (n : ℕ) (items old : List X) → length items ≡ n → take n (items ++ drop (length items) old) ≡ items
@@ -92,3 +97,22 @@ module _ {J : Type 0} where
   -- a tenant that callers know has ends
   pub known_tenant : (slots : List (Slot J)) (ends : List (Option Ends)) (room : ℕ) (seen : ListsView J) (t : ℕ) → whole slots ends room ≡ seen → t < length seen.lists → t < length ends
   known_tenant slots ends room seen t e h = omega (arith, lists_length slots ends, ap (λ (w : ListsView J). length w.lists) e, h)
+
+  -- a slot that was left is room for one more
+  pub room_left : (slots after : List (Slot J)) (ends : List (Option Ends)) (free link : Option ℕ) (room : ℕ) (seen : ListsView J) → whole slots ends room ≡ seen → Keeps slots ends free → IsMadeFree slots free room after link → count_of (lists_of after ends) < length after → waiting seen < seen.slots
+  room_left slots after ends free link room seen e k made lt = omega (arith, ap (λ (w : ListsView J). waiting w) e, ap (λ (w : ListsView J). w.slots) e, ap (λ (ls : List (List (Item J))). count_of ls) (made.same ends k), made.within, lt)
+
+  -- and one more can be counted
+  pub count_left : (slots after : List (Slot J)) (ends : List (Option Ends)) (free link : Option ℕ) (len room capacity : ℕ) → KeepsCount slots ends free len room capacity → IsMadeFree slots free room after link → count_of (lists_of after ends) < length after → len + 1 ≤ room
+  count_left slots after ends free link len room capacity k made lt = omega (arith, k.counted, ap (λ (ls : List (List (Item J))). count_of ls) (made.same ends k.links), made.within, lt)
+
+  -- a list with a first item is counted
+  pub first_counts : (slots : List (Slot J)) (ends : List (Option Ends)) (free : Option ℕ) (len room capacity t : ℕ) (item : Item J) → KeepsCount slots ends free len room capacity → t < length ends → slice_get (get_or (lists_of slots ends) t []) 0 ≡ Some item → 1 ≤ len
+  first_counts slots ends free len room capacity t item k lt some = omega (arith, k.counted, count_set (lists_of slots ends) t [] (omega (arith, lists_length slots ends, lt)), length_rest_some (get_or (lists_of slots ends) t []) item some)
+
+  -- the whole of lists of which one was changed, as callers see it
+  pub list_set : (n m : ℕ) (after lent slots : List (Slot J)) (now ends : List (Option Ends)) (room t : ℕ) (seen : ListsView J) (change : List (Item J) → List (Item J)) → length after ≡ n → length now ≡ m → whole slots ends room ≡ seen → lists_of after now ≡ set (lists_of slots ends) t (change (get_or (lists_of slots ends) t [])) → whole (take n (after ++ drop (length after) lent)) (take m (now ++ drop (length now) ends)) room ≡ with_list seen t (change (list_of seen t))
+  list_set n m after lent slots now ends room t seen change p q e lists =
+      whole_back n m after lent now ends room p q
+      ∙ whole_is after now room (set (lists_of slots ends) t (change (get_or (lists_of slots ends) t []))) lists
+      ∙ ap (λ (w : ListsView J). with_list w t (change (list_of w t))) e
