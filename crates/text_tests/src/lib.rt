@@ -8,6 +8,8 @@ mod fault_tests;
 #[cfg(test)]
 mod level_tests;
 #[cfg(test)]
+mod message_tests;
+#[cfg(test)]
 mod name_tests;
 #[cfg(test)]
 mod printing_tests;

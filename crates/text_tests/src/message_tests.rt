@@ -1,0 +1,155 @@
+//! The messages of faults, for people to read.
+use fq_model::config::ConfigFault;
+use fq_model::event::Cause;
+use fq_model::fault::{ScriptKind, TraceKind};
+use fq_model::words::UnknownWord;
+use std::alloc::Global;
+use std::fmt::Display;
+use std::process::Abort;
+
+// Each of these says this.
+fn expect<D: Display>(rt: &impl Abort, alloc: Global, messages: &[(D, &str)]) {
+    for (fault, wanted) in messages {
+        let Ok(text) = format!(in alloc; "{fault}") else {
+            panic!(rt; "no memory for a text")
+        };
+        assert_eq!(rt; text.as_str(), *wanted);
+    }
+}
+
+#[test]
+fn says_why_a_call_is_refused(rt: HostRuntime) {
+    let messages = [
+        (Cause::Closed, "the history is closed"),
+        (Cause::Tenant(7), "no tenant has the number 7"),
+        (Cause::Kind(8), "no kind has the number 8"),
+        (
+            Cause::Cost(0),
+            "a cost or use of 0 microseconds, and it may be up to 1000000000, a declared one 1 at least",
+        ),
+        (Cause::Slots(9), "9 requests wait, and no more may"),
+        (
+            Cause::Full(10),
+            "the history may have 10 entries, and lacks room for the call and all that must follow it",
+        ),
+        (Cause::Worker(64), "no worker has the number 64"),
+        (Cause::Busy(11), "the worker runs request 11 already"),
+        (Cause::NotRunning, "the worker runs nothing"),
+        (
+            Cause::Falling { last: 5, given: 4 },
+            "a use or cost of 4 microseconds, after a use of 5 was reported",
+        ),
+        (
+            Cause::Weight(1001),
+            "a weight of 1001, and it may be 1 to 1000",
+        ),
+        (
+            Cause::Workers(0),
+            "0 workers, and there may be 1 to as many as at the opening",
+        ),
+    ];
+    expect(&rt, rt.alloc(), &messages);
+}
+
+#[test]
+fn says_what_is_wrong_with_a_configuration(rt: HostRuntime) {
+    let messages = [
+        (
+            ConfigFault::Workers(65),
+            "65 workers, and there may be 1 to 64",
+        ),
+        (
+            ConfigFault::Tenants(0),
+            "0 tenants, and there may be 1 to 4096",
+        ),
+        (
+            ConfigFault::Weight(3),
+            "the weight of tenant 3 is not from 1 to 1000",
+        ),
+        (ConfigFault::Kinds(65), "65 kinds, and there may be 1 to 64"),
+        (
+            ConfigFault::Pairs(65537),
+            "65537 pairs of a tenant and a kind, and there may be 1 to 65536",
+        ),
+        (
+            ConfigFault::Entries(3),
+            "3 entries, and there may be 4 to 4194304",
+        ),
+        (
+            ConfigFault::Requests(0),
+            "0 requests that may wait, and there may be 1 to 262144",
+        ),
+        (
+            ConfigFault::Initial(0),
+            "0 microseconds as the initial value, and there may be 1 to 1000000000",
+        ),
+    ];
+    expect(&rt, rt.alloc(), &messages);
+}
+
+#[test]
+fn says_what_is_wrong_with_a_line(rt: HostRuntime) {
+    let messages = [
+        (
+            ScriptKind::Header,
+            "the first line does not say that this is a script, or a journal",
+        ),
+        (ScriptKind::Word, "a word that does not stand here"),
+        (
+            ScriptKind::Fields(6),
+            "6 words, where the first asks for another number",
+        ),
+        (ScriptKind::Number(2), "word 2 is not a number"),
+        (
+            ScriptKind::Range(3),
+            "the number at word 3 is out of its range",
+        ),
+        (ScriptKind::Twice, "the name is taken"),
+        (
+            ScriptKind::TooMany,
+            "more tenants, kinds or pairs of both than there may be",
+        ),
+        (ScriptKind::Missing, "the text ends before its head does"),
+    ];
+    expect(&rt, rt.alloc(), &messages);
+    expect(
+        &rt,
+        rt.alloc(),
+        &[(UnknownWord, "no policy or estimator has this name")],
+    );
+}
+
+#[test]
+fn says_what_is_wrong_with_a_record(rt: HostRuntime) {
+    let messages = [
+        (TraceKind::NotUtf8, "a field is not UTF-8"),
+        (
+            TraceKind::Word,
+            "a word with which no record begins, or no name",
+        ),
+        (
+            TraceKind::Fields(5),
+            "5 fields, where the first asks for another number",
+        ),
+        (TraceKind::Number(2), "field 2 is not a number"),
+        (
+            TraceKind::Range(3),
+            "the number in field 3 is out of its range",
+        ),
+        (
+            TraceKind::UnknownTenant,
+            "no earlier record names the tenant",
+        ),
+        (TraceKind::Twice, "the name is taken"),
+        (
+            TraceKind::Backward,
+            "the moment is before that of the request before",
+        ),
+        (
+            TraceKind::TooMany,
+            "more tenants, kinds, pairs of both or requests than there may be",
+        ),
+        (TraceKind::NoTenants, "the trace names no tenant"),
+    ];
+    expect(&rt, rt.alloc(), &messages);
+}
