@@ -2,11 +2,8 @@
 //! a command and its options; input, output and messages are the standard streams.
 #![tactic(auto)]
 
-mod clock;
-
-use clock::ProcessClock;
 use command_texts::stop::Stop;
-use fq_io::{StdSink, StdSource};
+use fq_io::{ProcessClock, StdSink, StdSource};
 use std::env;
 use std::io::ErrorKind;
 use std::process::ExitCode;

@@ -1,6 +1,6 @@
 //! The clock of the process.
 
-use fq_io::Clock;
+use crate::clock::Clock;
 use std::time;
 use std::time::Instant;
 
