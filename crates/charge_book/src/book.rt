@@ -5,11 +5,11 @@ ghost use Rattle.fq_laws.specs.Changes.{length_change};
 ghost use Rattle.charge_book.specs.Rows.{row_charge};
 ghost use Rattle.charge_book.specs.Book.{row_on, use_refusal, IsRunRow, MayUse, SameSizes, nets_recharged, row_of_run, begun, reported, report_change, finished, finish_change};
 
-use crate::refusal::{BookRefusal, NoMemory};
+use crate::refusal::BookRefusal;
 use crate::row::RunRow;
 use fq_model::config::Checked;
 use fq_model::limits::{GREATEST_COST, GREATEST_WEIGHT};
-use std::alloc::Global;
+use std::alloc::{AllocError, Global};
 use std::marker::Model;
 
 /// The running request of each worker that there may be, and the net charge of each tenant: the sum of the
@@ -34,7 +34,7 @@ impl Model for Book {
 
 impl Book {
     /// A book in which nothing runs and nothing is charged. All its memory is taken here.
-    pub fn open(alloc: Global, config: &Checked) -> Result<Book, NoMemory>
+    pub fn open(alloc: Global, config: &Checked) -> Result<Book, AllocError>
         ensures rows { IfOk result (λ b. b.rows ≡ replicate config.now.workers None) }
         ensures nets { IfOk result (λ b. b.nets ≡ replicate (length config.now.weights) 0) }
         ensures begins { IfOk result (λ b. b.begins ≡ 0) }

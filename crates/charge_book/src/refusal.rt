@@ -4,27 +4,8 @@ ghost use Rattle.charge_book.specs.Refusal.{cause_of};
 
 use fq_model::event::Cause;
 use fq_model::limits::GREATEST_COST;
-use std::alloc::AllocError;
 use std::error::Error;
 use std::fmt;
-
-/// There was no memory for the book.
-#[derive(Clone, Copy, Debug, PartialEq, Eq)]
-pub struct NoMemory;
-
-impl fmt::Display for NoMemory {
-    fn fmt<W: fmt::Write>(&self, f: &mut fmt::Formatter<W>) -> fmt::Result {
-        write!(f, "no memory for the book")
-    }
-}
-
-impl Error for NoMemory {}
-
-impl From<AllocError> for NoMemory {
-    fn from(_fault: AllocError) -> NoMemory {
-        NoMemory
-    }
-}
 
 /// The first reason, in the order of these variants, for which a use or a cost is refused.
 #[derive(Clone, Copy, Debug, PartialEq, Eq)]

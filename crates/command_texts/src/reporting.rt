@@ -19,40 +19,39 @@ use lag_report::fault::ReportFault;
 use lag_report::parts::Report;
 use lag_report::printing::{print as print_report, summary};
 use lag_report::reporting::report;
-use rival_policies::chooser::Chooser;
-use sched_state::Scheduler;
+use sched_state::History;
 use std::alloc::{AllocError, Global};
 use tenant_table::kinds::Kinds;
 use tenant_table::tenants::Tenants;
 
-/// What is asked for of the scheduler's history. Slot 0 asks for the automatic slot.
-pub fn history_text<X: Chooser + Drop>(
+/// What is asked for of a history. Slot 0 asks for the automatic slot.
+pub fn history_text(
     alloc: Global,
     what: HistoryPrint,
     slot: u64,
-    scheduler: &Scheduler<u64, X>,
+    history: &History,
     tenants: &Tenants,
     kinds: &Kinds,
 ) -> Result<Vec<u8>, Stop>
     requires slot { slot ≤ GREATEST_SLOT }
-    requires names { length tenants.now ≡ length scheduler.now.config.weights }
-    requires done { unfinished (history_of scheduler.now.past) ≡ None }
+    requires names { length tenants.now ≡ length history.now.config.weights }
+    requires done { unfinished (history_of history.now.past) ≡ None }
     ensures { MatchResult result
-        (λ text. IsHistoryOutput what slot scheduler.now.config
-        (names_of tenants.now) kinds.now scheduler.now.past text.items)
-        (IsCellsStop what slot scheduler.now.config (history_of scheduler.now.past)) }
+        (λ text. IsHistoryOutput what slot history.now.config
+        (names_of tenants.now) kinds.now history.now.past text.items)
+        (IsCellsStop what slot history.now.config (history_of history.now.past)) }
 {
     match what {
-        HistoryPrint::Journal => journal(alloc, scheduler, tenants, kinds),
-        HistoryPrint::Report => reported(alloc, slot, scheduler, tenants),
+        HistoryPrint::Journal => journal(alloc, history, tenants, kinds),
+        HistoryPrint::Report => reported(alloc, slot, history, tenants),
         HistoryPrint::Both => {
-            let report = reported(alloc, slot, scheduler, tenants)?;
-            let mut text = journal(alloc, scheduler, tenants, kinds)?;
+            let report = reported(alloc, slot, history, tenants)?;
+            let mut text = journal(alloc, history, tenants, kinds)?;
             text.extend_from_slice(report.as_slice())?;
             Ok(text)
         }
         HistoryPrint::Summary => {
-            let report = made_report(alloc, slot, scheduler)?;
+            let report = made_report(alloc, slot, history)?;
             let text = summary(alloc, &report);
             drop(report);
             Ok(text?)
@@ -60,77 +59,68 @@ pub fn history_text<X: Chooser + Drop>(
     }
 }
 
-/// The same of a scheduler that nobody needs afterwards.
-pub fn last_history_text<X: Chooser + Drop>(
+/// The same of a history that nobody needs afterwards.
+pub fn last_history_text(
     alloc: Global,
     what: HistoryPrint,
     slot: u64,
-    scheduler: Scheduler<u64, X>,
+    history: History,
     tenants: &Tenants,
     kinds: &Kinds,
 ) -> Result<Vec<u8>, Stop>
     requires slot { slot ≤ GREATEST_SLOT }
-    requires names { length tenants.now ≡ length scheduler.config.weights }
-    requires done { unfinished (history_of scheduler.past) ≡ None }
+    requires names { length tenants.now ≡ length history.config.weights }
+    requires done { unfinished (history_of history.past) ≡ None }
     ensures { MatchResult result
-        (λ text. IsHistoryOutput what slot scheduler.config
-        (names_of tenants.now) kinds.now scheduler.past text.items)
-        (IsCellsStop what slot scheduler.config (history_of scheduler.past)) }
+        (λ text. IsHistoryOutput what slot history.config
+        (names_of tenants.now) kinds.now history.past text.items)
+        (IsCellsStop what slot history.config (history_of history.past)) }
 {
-    let text = history_text(alloc, what, slot, &scheduler, tenants, kinds);
-    drop(scheduler);
+    let text = history_text(alloc, what, slot, &history, tenants, kinds);
+    drop(history);
     text
 }
 
-fn journal<X: Chooser>(
+fn journal(
     alloc: Global,
-    scheduler: &Scheduler<u64, X>,
+    history: &History,
     tenants: &Tenants,
     kinds: &Kinds,
 ) -> Result<Vec<u8>, Stop>
     ensures { MatchResult result (λ text. text.items
-        ≡ journal_text scheduler.now.config (names_of tenants.now) kinds.now scheduler.now.past)
+        ≡ journal_text history.now.config (names_of tenants.now) kinds.now history.now.past)
         (λ stop. stop ≡ stops.NoMemory) }
 {
-    let text = print_journal(alloc, scheduler.past(), scheduler.config(), tenants, kinds)?;
+    let text = print_journal(alloc, history.past(), history.config(), tenants, kinds)?;
     Ok(text)
 }
 
-fn reported<X: Chooser>(
-    alloc: Global,
-    slot: u64,
-    scheduler: &Scheduler<u64, X>,
-    tenants: &Tenants,
-) -> Result<Vec<u8>, Stop>
+fn reported(alloc: Global, slot: u64, history: &History, tenants: &Tenants) -> Result<Vec<u8>, Stop>
     requires slot { slot ≤ GREATEST_SLOT }
-    requires names { length tenants.now ≡ length scheduler.now.config.weights }
-    requires done { unfinished (history_of scheduler.now.past) ≡ None }
+    requires names { length tenants.now ≡ length history.now.config.weights }
+    requires done { unfinished (history_of history.now.past) ≡ None }
     ensures { MatchResult result
-        (λ text. IsHistoryOutput prints.Report slot scheduler.now.config
-        (names_of tenants.now) [] scheduler.now.past text.items)
-        (IsCellsStop prints.Report slot scheduler.now.config (history_of scheduler.now.past)) }
+        (λ text. IsHistoryOutput prints.Report slot history.now.config
+        (names_of tenants.now) [] history.now.past text.items)
+        (IsCellsStop prints.Report slot history.now.config (history_of history.now.past)) }
 {
-    let report = made_report(alloc, slot, scheduler)?;
+    let report = made_report(alloc, slot, history)?;
     let text = print_report(alloc, &report, tenants);
     drop(report);
     Ok(text?)
 }
 
 // The report by the slot that is asked for, or by the automatic one.
-fn made_report<X: Chooser>(
-    alloc: Global,
-    slot: u64,
-    scheduler: &Scheduler<u64, X>,
-) -> Result<Report, Stop>
+fn made_report(alloc: Global, slot: u64, history: &History) -> Result<Report, Stop>
     requires slot { slot ≤ GREATEST_SLOT }
-    requires done { unfinished (history_of scheduler.now.past) ≡ None }
-    ensures legal { IsLegal scheduler.now.config (history_of scheduler.now.past) }
+    requires done { unfinished (history_of history.now.past) ≡ None }
+    ensures legal { IsLegal history.now.config (history_of history.now.past) }
     ensures report { MatchResult result
-        (IsReportBy slot scheduler.now.config (history_of scheduler.now.past))
-        (IsCellsStop prints.Report slot scheduler.now.config (history_of scheduler.now.past)) }
+        (IsReportBy slot history.now.config (history_of history.now.past))
+        (IsCellsStop prints.Report slot history.now.config (history_of history.now.past)) }
 {
-    let past = scheduler.past();
-    let config = scheduler.config();
+    let past = history.past();
+    let config = history.config();
     let chosen = if slot == 0 {
         auto_slot(past, config)
     } else {

@@ -19,13 +19,13 @@ use fq_model::event::Call;
 use fq_model::fault::ScriptKind;
 use journal_text::body::Body;
 use journal_text::calls::{OpenScript, open_script};
-use journal_text::fault::{NoMemory, ScriptFault};
+use journal_text::fault::ScriptFault;
 use journal_text::messages::placed_fault;
 use journal_text::printing::add_journal;
 use journal_text::reading::Opened;
 use rival_policies::chooser::Chooser;
-use sched_state::Scheduler;
-use std::alloc::Global;
+use sched_state::History;
+use std::alloc::{AllocError, Global};
 use tenant_table::kinds::Kinds;
 use tenant_table::tenants::Tenants;
 
@@ -75,53 +75,49 @@ fn body_text<'a, X: Chooser + Drop>(
         (said_below call_of_words body.entry) text.items) }
     ensures stop { IfErr result (IsBodyStop (said_below call_of_words body.entry)) }
 {
-    let served: Result<Served<X>, ScriptFault> = serve(alloc, config, body, tells_replies(what));
-    match served {
+    match serve::<X>(alloc, config, body, tells_replies(what)) {
         Ok(served) => Ok(told_text(alloc, what, served, tenants, kinds)?),
         Err(fault) => Err(fault_stop(alloc, fault)),
     }
 }
 
 // What was kept of the replies, and the journal if it is asked for.
-fn told_text<X: Chooser + Drop>(
+fn told_text(
     alloc: Global,
     what: ScriptPrint,
-    served: Served<X>,
+    served: Served,
     tenants: &Tenants,
     kinds: &Kinds,
-) -> Result<Vec<u8>, NoMemory>
+) -> Result<Vec<u8>, AllocError>
     ensures { IfOk result (λ text. text.items ≡ served.text.items ++ (if tells_journal what then
-        journal_text served.scheduler.config (names_of tenants.now) kinds.now served.scheduler.past else [])) }
+        journal_text served.history.config (names_of tenants.now) kinds.now served.history.past else [])) }
 {
-    let Served {
-        mut text,
-        scheduler,
-    } = served;
-    let added = add_if_asked(alloc, what, &scheduler, tenants, kinds, &mut text);
-    drop(scheduler);
+    let Served { mut text, history } = served;
+    let added = add_if_asked(alloc, what, &history, tenants, kinds, &mut text);
+    drop(history);
     added?;
     Ok(text)
 }
 
-// Appends the journal that a scheduler has, where it is asked for.
-fn add_if_asked<X: Chooser>(
+// Appends the journal of a history, where it is asked for.
+fn add_if_asked(
     alloc: Global,
     what: ScriptPrint,
-    scheduler: &Scheduler<u64, X>,
+    history: &History,
     tenants: &Tenants,
     kinds: &Kinds,
     text: &mut Vec<u8>,
-) -> Result<(), NoMemory>
+) -> Result<(), AllocError>
     ensures { OnOk result (text.new.items ≡ text.old.items ++ (if tells_journal what then
-        journal_text scheduler.now.config (names_of tenants.now) kinds.now scheduler.now.past else [])) }
+        journal_text history.now.config (names_of tenants.now) kinds.now history.now.past else [])) }
 {
     if !tells_journal(what) {
         return Ok(());
     }
     add_journal(
         alloc,
-        scheduler.past(),
-        scheduler.config(),
+        history.past(),
+        history.config(),
         tenants,
         kinds,
         text,
@@ -149,13 +145,13 @@ fn fault_stop(alloc: Global, fault: ScriptFault) -> Stop
     match fault {
         ScriptFault::At { line, kind } => match fault_message(alloc, line, kind) {
             Ok(message) => Stop::Fault(message),
-            Err(NoMemory) => Stop::NoMemory,
+            Err(AllocError) => Stop::NoMemory,
         },
         ScriptFault::NoMemory => Stop::NoMemory,
     }
 }
 
-fn fault_message(alloc: Global, line: u64, kind: ScriptKind) -> Result<String, NoMemory>
+fn fault_message(alloc: Global, line: u64, kind: ScriptKind) -> Result<String, AllocError>
     ensures { IfOk result (λ message. string_bytes message
         ≡ message_line (placed_text line (script_fault_text kind))) }
 {

@@ -11,14 +11,14 @@ use journal_text::body::Body;
 use journal_text::fault::ScriptFault;
 use journal_text::replies::reply_line;
 use rival_policies::chooser::Chooser;
-use sched_state::{Scheduler, answer};
+use sched_state::{History, Scheduler, answer};
 use std::alloc::Global;
 
-/// A scheduler that has answered the calls of a script, and the text of its replies, or none.
+/// The history of the calls of a script, and the text of their replies, or none.
 #[derive(Drop)]
-pub struct Served<X: Chooser> {
+pub struct Served {
     pub text: Vec<u8>,
-    pub scheduler: Scheduler<u64, X>,
+    pub history: History,
 }
 
 /// Opens a scheduler, and makes the calls of a script's body on it as they are read. Their replies are kept as text if
@@ -29,14 +29,14 @@ pub fn serve<'a, X: Chooser + Drop>(
     config: Checked,
     body: Body<'a, Call>,
     tells: bool,
-) -> Result<Served<X>, ScriptFault>
+) -> Result<Served, ScriptFault>
     ensures served { IfOk result (λ s. IsBodyAnswered config (said_below call_of_words body.entry) tells
-        s.text.items s.scheduler.past) }
-    ensures same { IfOk result (λ s. s.scheduler.config ≡ config) }
+        s.text.items s.history.past) }
+    ensures same { IfOk result (λ s. s.history.config ≡ config) }
     ensures fault { IfErr result (λ f. IsFirstFault f (said_below call_of_words body.entry)) }
 {
     match Scheduler::open(alloc, config) {
-        Ok(scheduler) => serve_by(alloc, scheduler, body, tells),
+        Ok(scheduler) => serve_by::<X>(alloc, scheduler, body, tells),
         Err(_) => Err(ScriptFault::NoMemory),
     }
 }
@@ -47,16 +47,19 @@ fn serve_by<'a, X: Chooser + Drop>(
     mut scheduler: Scheduler<u64, X>,
     body: Body<'a, Call>,
     tells: bool,
-) -> Result<Served<X>, ScriptFault>
+) -> Result<Served, ScriptFault>
     requires { scheduler.past ≡ [] }
     ensures served { IfOk result (λ s. IsBodyAnswered scheduler.config (said_below call_of_words body.entry) tells
-        s.text.items s.scheduler.past) }
-    ensures same { IfOk result (λ s. s.scheduler.config ≡ scheduler.config) }
+        s.text.items s.history.past) }
+    ensures same { IfOk result (λ s. s.history.config ≡ scheduler.config) }
     ensures fault { IfErr result (λ f. IsFirstFault f (said_below call_of_words body.entry)) }
 {
     let mut text = Vec::new(alloc);
     match answer_all(body, tells, &mut scheduler, &mut text) {
-        Ok(()) => Ok(Served { text, scheduler }),
+        Ok(()) => Ok(Served {
+            text,
+            history: scheduler.into_history(),
+        }),
         Err(fault) => {
             drop(scheduler);
             Err(fault)

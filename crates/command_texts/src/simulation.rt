@@ -15,9 +15,8 @@ use eligible_index::index::IndexChooser;
 use fq_model::command::HistoryPrint;
 use fq_model::fault::TraceKind;
 use fq_model::trace::RunOptions;
-use sched_state::Scheduler;
 use std::alloc::{AllocError, Global};
-use trace_reader::fault::{NoMemory, TraceFault};
+use trace_reader::fault::TraceFault;
 use trace_reader::messages::placed_fault;
 use trace_reader::reading::read;
 use trace_reader::trace::Trace;
@@ -61,11 +60,10 @@ pub fn simulated_text(
     ensures { MatchResult result (λ text. IsSimulatedOutput trace.now options slot what text.items)
         (IsSimulationStop trace.now options slot what) }
 {
-    let simulated: Result<Scheduler<u64, IndexChooser>, SimFault> = simulate(alloc, trace, options);
-    match simulated {
-        Ok(scheduler) => {
+    match simulate::<IndexChooser>(alloc, trace, options) {
+        Ok(history) => {
             let (tenants, kinds) = (trace.tenants(), trace.kinds());
-            last_history_text(alloc, what, slot, scheduler, tenants, kinds)
+            last_history_text(alloc, what, slot, history, tenants, kinds)
         }
         Err(SimFault::TooManyEntries(needed)) => Err(entries_stop(alloc, needed)),
         Err(SimFault::NoMemory) => Err(Stop::NoMemory),
@@ -79,13 +77,13 @@ pub fn fault_stop(alloc: Global, fault: TraceFault) -> Stop
     match fault {
         TraceFault::At { line, kind } => match fault_message(alloc, line, kind) {
             Ok(message) => Stop::Fault(message),
-            Err(NoMemory) => Stop::NoMemory,
+            Err(AllocError) => Stop::NoMemory,
         },
         TraceFault::NoMemory => Stop::NoMemory,
     }
 }
 
-fn fault_message(alloc: Global, line: u64, kind: TraceKind) -> Result<String, NoMemory>
+fn fault_message(alloc: Global, line: u64, kind: TraceKind) -> Result<String, AllocError>
     ensures { IfOk result (λ message. string_bytes message
         ≡ message_line (placed_text line (trace_fault_text kind))) }
 {

@@ -92,46 +92,6 @@ impl From<WriteFault> for Stop {
     }
 }
 
-impl From<journal_text::fault::NoMemory> for Stop {
-    ghost use Rattle.command_texts.specs.declared.stop.Stop.TheVariants as stops;
-
-    ghost from_gives = { λ _ stop. stop ≡ stops.NoMemory };
-
-    fn from(_fault: journal_text::fault::NoMemory) -> Stop {
-        Stop::NoMemory
-    }
-}
-
-impl From<sched_state::NoMemory> for Stop {
-    ghost use Rattle.command_texts.specs.declared.stop.Stop.TheVariants as stops;
-
-    ghost from_gives = { λ _ stop. stop ≡ stops.NoMemory };
-
-    fn from(_fault: sched_state::NoMemory) -> Stop {
-        Stop::NoMemory
-    }
-}
-
-impl From<trace_reader::fault::NoMemory> for Stop {
-    ghost use Rattle.command_texts.specs.declared.stop.Stop.TheVariants as stops;
-
-    ghost from_gives = { λ _ stop. stop ≡ stops.NoMemory };
-
-    fn from(_fault: trace_reader::fault::NoMemory) -> Stop {
-        Stop::NoMemory
-    }
-}
-
-impl From<lag_report::fault::NoMemory> for Stop {
-    ghost use Rattle.command_texts.specs.declared.stop.Stop.TheVariants as stops;
-
-    ghost from_gives = { λ _ stop. stop ≡ stops.NoMemory };
-
-    fn from(_fault: lag_report::fault::NoMemory) -> Stop {
-        Stop::NoMemory
-    }
-}
-
 impl From<AllocError> for Stop {
     ghost use Rattle.command_texts.specs.declared.stop.Stop.TheVariants as stops;
 

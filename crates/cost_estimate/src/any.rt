@@ -2,11 +2,11 @@
 ghost use Rattle.cost_estimate.specs.AnyCost.{rule_of, initial_of, tenants_of, kinds_of, StandsFor};
 
 use crate::declared::DeclaredCost;
-use crate::estimate::{Estimate, NoMemory};
+use crate::estimate::Estimate;
 use crate::pessimistic::PessimisticCost;
 use crate::recent::RecentCost;
 use fq_model::config::{Checked, Estimator};
-use std::alloc::Global;
+use std::alloc::{AllocError, Global};
 
 /// One of the three estimators: the one that the configuration names.
 #[derive(Drop)]
@@ -29,7 +29,7 @@ impl Estimate for AnyCost {
 
     ghost stands_for = { StandsFor };
 
-    fn open(alloc: Global, config: &Checked) -> Result<Self, NoMemory> {
+    fn open(alloc: Global, config: &Checked) -> Result<Self, AllocError> {
         match config.estimate() {
             Estimator::Declared => Ok(AnyCost::Declared(DeclaredCost::open(alloc, config)?)),
             Estimator::Recent => Ok(AnyCost::Recent(RecentCost::open(alloc, config)?)),

@@ -1,10 +1,10 @@
 //! Costs as their submitters declare them.
 ghost use Rattle.fq_model.specs.declared.config.Estimator.TheVariants.{Declared};
 
-use crate::estimate::{Estimate, NoMemory};
+use crate::estimate::Estimate;
 use crate::pairs::Pairs;
 use fq_model::config::Checked;
-use std::alloc::Global;
+use std::alloc::{AllocError, Global};
 
 /// Takes the declared number; completed requests make no difference.
 #[derive(Drop)]
@@ -26,7 +26,7 @@ impl Estimate for DeclaredCost {
 
     ghost stands_for = { λ _ _. Unit {0} };
 
-    fn open(_alloc: Global, config: &Checked) -> Result<Self, NoMemory> {
+    fn open(_alloc: Global, config: &Checked) -> Result<Self, AllocError> {
         Ok(DeclaredCost {
             pairs: Pairs::of(config),
             initial: config.initial(),

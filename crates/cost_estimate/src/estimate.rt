@@ -6,25 +6,7 @@ ghost use Rattle.cost_estimate.specs.Estimate.{IsEstimate, Learns};
 
 use fq_model::config::Checked;
 use fq_model::limits::GREATEST_COST;
-use std::alloc::{AllocError, AllocFailed, Global};
-use thiserror::Error;
-
-/// There was no memory for what is kept.
-#[derive(Clone, Copy, Debug, PartialEq, Eq, Error)]
-#[error("out of memory")]
-pub struct NoMemory;
-
-impl From<AllocError> for NoMemory {
-    fn from(_: AllocError) -> NoMemory {
-        NoMemory
-    }
-}
-
-impl<T: Drop> From<AllocFailed<T>> for NoMemory {
-    fn from(_: AllocFailed<T>) -> NoMemory {
-        NoMemory
-    }
-}
+use std::alloc::{AllocError, Global};
 
 /// Estimates what a request costs, in microseconds, from the costs of the completed requests of its tenant
 /// and kind. Not every cost is kept, so an estimator has no list of them: its meaning is which lists it
@@ -49,7 +31,7 @@ pub trait Estimate: Sized {
     ghost stands_for: { Self → List Completed → Type 0 };
 
     /// An estimator that has seen no completed request. All its memory is taken here.
-    fn open(alloc: Global, config: &Checked) -> Result<Self, NoMemory>
+    fn open(alloc: Global, config: &Checked) -> Result<Self, AllocError>
         ensures rule { IfOk result (λ e. rule e ≡ opened_rule config.now.estimate) }
         ensures initial { IfOk result (λ e. initial e ≡ config.now.initial) }
         ensures tenants { IfOk result (λ e. tenants e ≡ length config.now.weights) }

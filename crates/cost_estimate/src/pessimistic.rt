@@ -4,10 +4,10 @@ ghost use Rattle.vt_fixed.specs.declared.limits.TheConstants.{GREATEST_COST};
 ghost use Rattle.fq_model.specs.declared.config.Estimator.TheVariants.{Pessimistic};
 ghost use Rattle.cost_estimate.specs.Tables.{HasGreatest};
 
-use crate::estimate::{Estimate, NoMemory};
+use crate::estimate::Estimate;
 use crate::pairs::Pairs;
 use fq_model::config::Checked;
-use std::alloc::Global;
+use std::alloc::{AllocError, Global};
 
 /// One running maximum for each tenant and kind (after the estimates of Mace and others, 2016; the
 /// numbers are this project's own). That is enough: the decay of the greater of two is the greater of
@@ -34,7 +34,7 @@ impl Estimate for PessimisticCost {
 
     ghost stands_for = { λ e cs. HasGreatest e.pairs.tenants e.pairs.kinds e.initial e.greatest.items cs };
 
-    fn open(alloc: Global, config: &Checked) -> Result<Self, NoMemory> {
+    fn open(alloc: Global, config: &Checked) -> Result<Self, AllocError> {
         let pairs = Pairs::of(config);
         let initial = config.initial();
         let greatest = vec![in alloc; initial; pairs.count()]?;

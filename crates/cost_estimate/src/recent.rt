@@ -5,11 +5,11 @@ ghost use Rattle.fq_model.specs.Charge.{recent_mean};
 ghost use Rattle.fq_model.specs.declared.config.Estimator.TheVariants.{Recent};
 ghost use Rattle.cost_estimate.specs.Tables.{IsRing, HasRecent};
 
-use crate::estimate::{Estimate, NoMemory};
+use crate::estimate::Estimate;
 use crate::pairs::Pairs;
 use circular_buffer::HeapCircularBuffer;
 use fq_model::config::Checked;
-use std::alloc::Global;
+use std::alloc::{AllocError, Global};
 
 /// The last eight costs of each tenant and kind.
 #[derive(Drop)]
@@ -34,7 +34,7 @@ impl Estimate for RecentCost {
 
     ghost stands_for = { λ e cs. HasRecent e.pairs.tenants e.pairs.kinds e.rings.items cs };
 
-    fn open(alloc: Global, config: &Checked) -> Result<Self, NoMemory> {
+    fn open(alloc: Global, config: &Checked) -> Result<Self, AllocError> {
         let pairs = Pairs::of(config);
         let rings = empty_rings(alloc, pairs.count())?;
         Ok(RecentCost {
@@ -57,7 +57,7 @@ impl Estimate for RecentCost {
 }
 
 // So many rings for eight costs, all empty.
-fn empty_rings(alloc: Global, count: usize) -> Result<Vec<HeapCircularBuffer<u64>>, NoMemory>
+fn empty_rings(alloc: Global, count: usize) -> Result<Vec<HeapCircularBuffer<u64>>, AllocError>
     ensures { IfOk result (λ rings. rings.items ≡ replicate count (buffer [] 8)) }
 {
     let mut rings = Vec::new(alloc);

@@ -8,8 +8,8 @@ use fq_model::config::Checked;
 use fq_model::job::Job;
 use history_lock::Machine;
 use rival_policies::chooser::Chooser;
-use sched_state::{NoMemory, Scheduler};
-use std::alloc::Global;
+use sched_state::Scheduler;
+use std::alloc::{AllocError, Global};
 use std::marker::Model;
 
 /// What no call changes: what the scheduler was opened with, and how many submitters there are. No value of it is ever made:
@@ -41,7 +41,7 @@ impl<J: Job, X: Chooser> Model for Floor<J, X> {
 
 impl<J: Job + Drop, X: Chooser> Floor<J, X> {
     /// A floor with no past. All its memory is taken here.
-    pub fn open(alloc: Global, config: Checked, submitters: u32) -> Result<Floor<J, X>, NoMemory>
+    pub fn open(alloc: Global, config: Checked, submitters: u32) -> Result<Floor<J, X>, AllocError>
         requires { InLimits config }
         ensures { IfOk result (λ f. f ≡ opened config submitters) }
     {

@@ -6,9 +6,9 @@ ghost use Rattle.eligible_index.specs.Index.{trees_of, IsExactFor, AreNoted, Are
 
 use crate::trees::WorkerTrees;
 use fq_model::config::{Checked, Policy};
-use rival_policies::chooser::{Chooser, NoMemory};
+use rival_policies::chooser::Chooser;
 use rival_policies::turn::Turn;
-use std::alloc::Global;
+use std::alloc::{AllocError, Global};
 use std::marker::Model;
 use tag_rules::parts::Keys;
 use winner_tree::Tree;
@@ -51,7 +51,7 @@ impl Model for IndexChooser {
 impl Chooser for IndexChooser {
     ghost seen = { λ c. c.chooser };
 
-    fn open(alloc: Global, config: &Checked) -> Result<Self, NoMemory> {
+    fn open(alloc: Global, config: &Checked) -> Result<Self, AllocError> {
         let table = vec![in alloc; None; config.tenants() as usize]?;
         let trees = open_trees(alloc, config.workers(), config.tenants())?;
         Ok(IndexChooser {
@@ -117,7 +117,7 @@ impl IndexChooser {
 }
 
 // Trees of so many tenants for each of so many workers.
-fn open_trees(alloc: Global, workers: u32, tenants: u32) -> Result<Vec<WorkerTrees>, NoMemory>
+fn open_trees(alloc: Global, workers: u32, tenants: u32) -> Result<Vec<WorkerTrees>, AllocError>
     requires some { 1 ≤ tenants }
     requires few { tenants ≤ 4096 }
     ensures { IfOk result (λ trees. trees.items ≡ replicate workers (empty_trees tenants)) }

@@ -2,8 +2,7 @@
 ghost use Rattle.std.specs.Prelude.{◌≡◌, ◌<◌, ◌≤◌, IfOk, MatchOption, None, length, replicate, slice_set};
 ghost use Rattle.winner_tree.specs.Order.{HasNoKey, IsFirst};
 
-use rival_policies::chooser::NoMemory;
-use std::alloc::Global;
+use std::alloc::{AllocError, Global};
 use std::marker::Model;
 use winner_tree::{Key, Tree};
 
@@ -28,14 +27,12 @@ impl Model for Marked {
 
 impl Marked {
     /// A tree of so many leaves, none of which has a key.
-    pub fn open(alloc: Global, leaves: u32) -> Result<Marked, NoMemory>
+    pub fn open(alloc: Global, leaves: u32) -> Result<Marked, AllocError>
         requires some { 1 ≤ leaves }
         requires few { leaves ≤ 4096 }
         ensures { IfOk result (λ m. m ≡ replicate leaves None) }
     {
-        let Ok(tree) = Tree::open(alloc, leaves) else {
-            return Err(NoMemory);
-        };
+        let tree = Tree::open(alloc, leaves)?;
         let marks = vec![in alloc; false; leaves as usize]?;
         Ok(Marked { tree, marks })
     }

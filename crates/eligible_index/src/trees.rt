@@ -5,9 +5,8 @@ ghost use Rattle.eligible_index.specs.Trees.{empty_trees, cleared, with_noted, F
 use crate::keys::{by_finish, is_due, keys_in_trees};
 use crate::marked::Marked;
 use crate::noted::Noted;
-use rival_policies::chooser::NoMemory;
 use rival_policies::turn::Turn;
-use std::alloc::Global;
+use std::alloc::{AllocError, Global};
 use std::marker::Model;
 use tag_rules::parts::Keys;
 use winner_tree::Tree;
@@ -34,7 +33,7 @@ impl Model for WorkerTrees {
 
 impl WorkerTrees {
     /// Trees for so many tenants, none of which has a key or is noted. All memory is taken here.
-    pub fn open(alloc: Global, tenants: u32) -> Result<WorkerTrees, NoMemory>
+    pub fn open(alloc: Global, tenants: u32) -> Result<WorkerTrees, AllocError>
         requires some { 1 ≤ tenants }
         requires few { tenants ≤ 4096 }
         ensures { IfOk result (λ w. w ≡ empty_trees tenants) }

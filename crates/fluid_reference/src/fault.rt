@@ -4,7 +4,6 @@ ghost use Rattle.fluid_reference.specs.declared.fault.FluidFault.TheVariants as 
 
 use fq_model::limits::MOST_CELLS;
 use std::alloc::{AllocError, AllocFailed};
-use water_level::levels::NoMemory;
 
 /// Why there is no table.
 #[derive(Clone, Copy, Debug, PartialEq, Eq, thiserror::Error)]
@@ -29,14 +28,6 @@ impl<T: Drop> From<AllocFailed<T>> for FluidFault {
     ghost from_gives = { λ _ fault. fault ≡ faults.NoMemory };
 
     fn from(_fault: AllocFailed<T>) -> FluidFault {
-        FluidFault::NoMemory
-    }
-}
-
-impl From<NoMemory> for FluidFault {
-    ghost from_gives = { λ _ fault. fault ≡ faults.NoMemory };
-
-    fn from(_fault: NoMemory) -> FluidFault {
         FluidFault::NoMemory
     }
 }

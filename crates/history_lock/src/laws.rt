@@ -2,11 +2,11 @@
 ghost use Rattle.std.specs.Prelude.{◌≡◌, [], IfOk};
 ghost use Rattle.history_lock.specs.Laws.{OwnTurnsRound, PrefixTurnsRound, GrowthTurnsRound};
 
-use crate::lock::{HistoryLock, NoMemory};
+use crate::lock::HistoryLock;
 use crate::machine::Machine;
 use crate::pass::Pass;
 use fq_model::event::{Act, Entry};
-use std::alloc::Global;
+use std::alloc::{AllocError, Global};
 use std::marker::Model;
 
 // It stands here, and not among the tests, since a caller of the lock needs a machine to try it with, and tests above this
@@ -32,7 +32,7 @@ impl Model for Echo {
 
 impl Echo {
     /// An echo with no entry, which takes as many as `room`. All its memory is taken here.
-    pub fn open(alloc: Global, room: u32) -> Result<Echo, NoMemory>
+    pub fn open(alloc: Global, room: u32) -> Result<Echo, AllocError>
         ensures past { IfOk result (λ e. e.past ≡ []) }
         ensures room { IfOk result (λ e. e.room ≡ room) }
     {

@@ -14,6 +14,6 @@ mod plays;
 mod steps;
 mod table;
 
-pub use lock::{HistoryLock, NoMemory, Unsettled};
+pub use lock::{HistoryLock, Unsettled};
 pub use machine::Machine;
 pub use pass::Pass;

@@ -11,30 +11,12 @@ use crate::pass::Pass;
 use crate::plays::{Fork, Merge, Note};
 use crate::steps::{enter, leave};
 use crate::table::{LockTable, Place};
-use atomic_table::{Badge, Refused, Table};
+use atomic_table::{Badge, Table};
 use std::alloc::{AllocError, Global};
 use std::marker::Model;
 use std::mem;
 use std::snapshot::Snapshot;
 use std::sync::Wait;
-
-/// There is no memory for a lock.
-#[derive(Clone, Copy, Debug, PartialEq, Eq, thiserror::Error)]
-#[error("no memory for a lock")]
-pub struct NoMemory;
-
-impl From<AllocError> for NoMemory {
-    fn from(_: AllocError) -> Self {
-        NoMemory
-    }
-}
-
-// The slots of the table that there was no memory for are given up.
-impl<S: Drop> From<Refused<S, Global>> for NoMemory {
-    fn from(_: Refused<S, Global>) -> Self {
-        NoMemory
-    }
-}
 
 /// Turns were drawn that were not served, since a pass that waits or is served was not joined. Both counts are
 /// modulo 2^64.
@@ -155,7 +137,7 @@ fn slot_with<M: Drop>(alloc: Global, machine: M) -> Result<Vec<Option<M>>, Alloc
 impl<M: Machine + Drop> HistoryLock<M> {
     /// A lock round a machine with no past, and its first pass, which has number 0. The machine is given up where there is
     /// no memory.
-    pub fn open(alloc: Global, machine: M) -> Result<(HistoryLock<M>, Pass<M::Frame>), NoMemory>
+    pub fn open(alloc: Global, machine: M) -> Result<(HistoryLock<M>, Pass<M::Frame>), AllocError>
         requires { M.past machine ≡ [] }
         ensures frame { IfOk result (λ r. r.0.frame ≡ M.frame machine) }
         ensures lock { IfOk result (λ r. IsOf r.0 r.1) }
@@ -167,7 +149,9 @@ impl<M: Machine + Drop> HistoryLock<M> {
     {
         let like = Snapshot::of(&machine);
         let slots = slot_with(alloc, machine)?;
-        let (table, place) = Table::new(alloc, &[0, 0], slots, &like)?;
+        let Ok((table, place)) = Table::new(alloc, &[0, 0], slots, &like) else {
+            return Err(AllocError);
+        };
         let pass = Pass {
             number: 0,
             made: 0,

@@ -44,17 +44,6 @@ impl fmt::Debug for LineError {
     }
 }
 
-/// Memory ran out.
-#[derive(Clone, Copy, Debug, PartialEq, Eq, Error)]
-#[error("out of memory")]
-pub struct NoMemory;
-
-impl From<AllocError> for NoMemory {
-    fn from(_e: AllocError) -> NoMemory {
-        NoMemory
-    }
-}
-
 impl LineError {
     /// The same, with the line's number where it is a fault; that memory ran out has no line.
     pub fn at(self, line: u64) -> ScriptFault

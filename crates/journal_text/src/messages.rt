@@ -2,7 +2,6 @@
 ghost use Rattle.std.specs.Prelude.{◌≡◌, string_bytes, IfOk};
 ghost use Rattle.fq_model.specs.FaultTexts.{fault_text, placed_text};
 
-use crate::fault::NoMemory;
 use fq_model::fault::ScriptKind;
 use std::alloc::{AllocError, Global};
 
@@ -13,7 +12,7 @@ pub fn placed_fault(
     title: &str,
     line: u64,
     fault: ScriptKind,
-) -> Result<String, NoMemory>
+) -> Result<String, AllocError>
     ensures { IfOk result (λ text. string_bytes text ≡ placed_text line (fault_text title.now fault)) }
 {
     let fault = fault_text(alloc, title, fault)?;

@@ -8,7 +8,6 @@ ghost use Rattle.fq_model.specs.JournalText.{entry_line, entries_text, version_f
 ghost use Rattle.tenant_table.specs.Names.{names_of};
 ghost use Rattle.journal_text.specs.Printing.{row_text, IsKept};
 
-use crate::fault::NoMemory;
 use crate::rows::add_row;
 use fq_model::config::Checked;
 use fq_model::event::{Act, Entry};
@@ -25,7 +24,7 @@ pub fn print(
     config: &Checked,
     tenants: &Tenants,
     kinds: &Kinds,
-) -> Result<Vec<u8>, NoMemory>
+) -> Result<Vec<u8>, AllocError>
     ensures { IfOk result (λ text. text.items
         ≡ journal_text config.now (names_of tenants.now) kinds.now past.now) }
 {
@@ -42,7 +41,7 @@ pub fn add_journal(
     tenants: &Tenants,
     kinds: &Kinds,
     text: &mut Vec<u8>,
-) -> Result<(), NoMemory>
+) -> Result<(), AllocError>
     ensures added { OnOk result (text.new.items
         ≡ text.old.items ++ journal_text config.now (names_of tenants.now) kinds.now past.now) }
     ensures unchanged { OnErr result (text.new.items ≡ text.old.items) }
@@ -50,7 +49,7 @@ pub fn add_journal(
     let start = text.len();
     if add_lines(alloc, past, config, tenants, kinds, text).is_err() {
         text.truncate(start);
-        return Err(NoMemory);
+        return Err(AllocError);
     }
     Ok(())
 }
@@ -178,7 +177,7 @@ fn add_entries(past: &[Entry], text: &mut Vec<u8>) -> Result<(), AllocError>
 }
 
 /// Appends an entry's line. Where memory runs out, `out` stays as it was.
-pub fn entry_line(entry: Entry, out: &mut Vec<u8>) -> Result<(), NoMemory>
+pub fn entry_line(entry: Entry, out: &mut Vec<u8>) -> Result<(), AllocError>
     ensures added { OnOk result (out.new.items ≡ out.old.items ++ entry_line entry) }
     ensures unchanged { OnErr result (out.new.items ≡ out.old.items) }
 {

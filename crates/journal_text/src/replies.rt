@@ -2,13 +2,12 @@
 ghost use Rattle.std.specs.Prelude.{◌≡◌, ◌++◌, IfOk, OnOk, OnErr};
 ghost use Rattle.fq_model.specs.Texts.{refusal_line, reply_line, replies_text};
 
-use crate::fault::NoMemory;
 use crate::rows::{add_one, add_row, add_word};
 use fq_model::event::{Cause, Reply};
 use std::alloc::{AllocError, Global};
 
 /// Appends a reply's line. Where memory runs out, `out` stays as it was.
-pub fn reply_line(reply: Reply, out: &mut Vec<u8>) -> Result<(), NoMemory>
+pub fn reply_line(reply: Reply, out: &mut Vec<u8>) -> Result<(), AllocError>
     ensures added { OnOk result (out.new.items ≡ out.old.items ++ reply_line reply) }
     ensures unchanged { OnErr result (out.new.items ≡ out.old.items) }
 {
@@ -55,7 +54,7 @@ fn refusal_line(cause: Cause, out: &mut Vec<u8>) -> Result<(), AllocError>
 }
 
 /// The lines of replies, in order.
-pub fn replies_text(alloc: Global, replies: &[Reply]) -> Result<Vec<u8>, NoMemory>
+pub fn replies_text(alloc: Global, replies: &[Reply]) -> Result<Vec<u8>, AllocError>
     ensures { IfOk result (λ text. text.items ≡ replies_text replies.now) }
 {
     let mut text = Vec::new(alloc);

@@ -30,23 +30,6 @@ impl fmt::Debug for ReportFault {
     }
 }
 
-/// Memory ran out.
-#[derive(Clone, Copy, Debug, PartialEq, Eq, Error)]
-#[error("out of memory")]
-pub struct NoMemory;
-
-impl From<AllocError> for NoMemory {
-    fn from(_: AllocError) -> NoMemory {
-        NoMemory
-    }
-}
-
-impl<T: Drop> From<AllocFailed<T>> for NoMemory {
-    fn from(_: AllocFailed<T>) -> NoMemory {
-        NoMemory
-    }
-}
-
 impl From<AllocError> for ReportFault {
     ghost from_gives = { λ _ fault. fault ≡ faults.NoMemory };
 

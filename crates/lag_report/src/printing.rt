@@ -7,7 +7,6 @@ ghost use Rattle.fq_model.specs.ReportText.{lag_numbers, tenant_lag_line, tenant
 ghost use Rattle.lag_report.specs.Reports.{requests_of};
 ghost use Rattle.lag_report.specs.Texts.{with_counts, with_range, with_totals};
 
-use crate::fault::NoMemory;
 use crate::parts::Report;
 use fq_model::lag::TenantLag;
 use fq_model::limits::MOST_TENANTS;
@@ -16,7 +15,7 @@ use std::alloc::{AllocError, Global};
 use tenant_table::tenants::Tenants;
 
 /// A report as a text, with a line for each tenant.
-pub fn print(alloc: Global, report: &Report, tenants: &Tenants) -> Result<Vec<u8>, NoMemory>
+pub fn print(alloc: Global, report: &Report, tenants: &Tenants) -> Result<Vec<u8>, AllocError>
     requires { length tenants.now ≡ length report.now.rows }
     ensures { IfOk result (λ text. text.items ≡ lag_report_text (names_of tenants.now) report.now) }
 {
@@ -29,7 +28,7 @@ pub fn print(alloc: Global, report: &Report, tenants: &Tenants) -> Result<Vec<u8
 
 /// The summary of a report as a text: how many requests and entries there were, when the last entry came, and between
 /// what numbers all lags are.
-pub fn summary(alloc: Global, report: &Report) -> Result<Vec<u8>, NoMemory>
+pub fn summary(alloc: Global, report: &Report) -> Result<Vec<u8>, AllocError>
     ensures { IfOk result (λ text. text.items ≡ lag_summary_text (requests_of report.now.rows) report.now) }
 {
     let mut text = Vec::from_slice(alloc, b"summary 1\n")?;

@@ -5,7 +5,7 @@ use crate::histories::are_acts;
 use crate::rule_tests::Parity;
 use crate::samples::{configured, ended, opened};
 use desk::{Desk, Submitter};
-use fq_io::FixedClock;
+use fq_memory::FixedClock;
 use fq_model::event::{Act, Cause, Entry};
 use rival_policies::chooser::Chooser;
 use rival_policies::plain::PlainChooser;

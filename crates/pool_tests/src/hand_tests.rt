@@ -9,7 +9,7 @@ use crate::histories::{are_jobs, are_letters, are_next_jobs, count_of, makes_onl
 use crate::samples::{both, configured, ended_for_two, opened_for_two, two};
 use desk::{Desk, Submitter, Worker};
 use eligible_index::index::IndexChooser;
-use fq_io::FixedClock;
+use fq_memory::FixedClock;
 use fq_model::event::{Cause, Entry};
 use rival_policies::chooser::Chooser;
 use std::alloc::Global;

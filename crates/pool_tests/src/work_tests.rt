@@ -2,7 +2,7 @@
 ghost use Rattle.std.specs.Prelude.{None};
 
 use crate::samples::{configured, ended, opened};
-use fq_io::FixedClock;
+use fq_memory::FixedClock;
 use fq_model::event::{Act, Entry};
 use rival_policies::chooser::Chooser;
 use rival_policies::plain::PlainChooser;

@@ -3,10 +3,10 @@ ghost use Rattle.std.specs.Prelude.{◌≡◌, ◌≢◌, [], map};
 ghost use Rattle.std.specs.String.{string_bytes};
 ghost use Rattle.command_texts.specs.Commands.{Untold};
 ghost use Rattle.twodfq_main.specs.Asked.{asked, is_plain};
-ghost use Rattle.twodfq_main.specs.Laws.{AreOutputsShorter};
+ghost use Rattle.clean_runs.specs.Laws.{AreOutputsShorter};
 
 use crate::samples::{REPLIES, SCRIPT, bytes_of, owned};
-use fq_io::{CleanSink, CleanSource};
+use fq_memory::{CleanSink, CleanSource};
 use std::alloc::Global;
 use std::process::Abort;
 use twodfq_main::program::plain;

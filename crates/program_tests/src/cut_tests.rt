@@ -2,7 +2,7 @@
 use crate::samples::{
     NEVER, RUN, SCRIPT, TRACE, expect_stop, joined, run, run_failing, sink_failing,
 };
-use fq_io::MemSource;
+use fq_memory::MemSource;
 use std::alloc::Global;
 use std::process::Abort;
 

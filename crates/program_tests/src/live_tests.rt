@@ -1,6 +1,6 @@
 //! A pool of threads whose trace can't be read, or whose journal can't be written.
 use crate::samples::{Left, NEVER, TRACE, expect_stop, sink_failing, source_failing, words_of};
-use fq_io::FixedClock;
+use fq_memory::FixedClock;
 use std::alloc::Global;
 use std::process::Abort;
 use std::sync::Wait;

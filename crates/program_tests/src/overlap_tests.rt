@@ -1,7 +1,8 @@
 //! A trace that a pool of threads serves, at least two of them at once.
 use crate::samples::{TRACE, words_of};
 use crate::worked_tests::{sound_sink, sound_source};
-use fq_io::{Clock, MemSink};
+use fq_io::Clock;
+use fq_memory::MemSink;
 use std::alloc::Global;
 use std::process::Abort;
 use std::sync::Wait;

@@ -1,7 +1,7 @@
 //! A script, a trace, and runs of the program over memory that fails where it is told to.
 ghost use Rattle.std.specs.Prelude.{◌≤◌};
 
-use fq_io::{MemSink, MemSource};
+use fq_memory::{MemSink, MemSource};
 use std::alloc::Global;
 use std::process::Abort;
 use twodfq_main::program::plain;

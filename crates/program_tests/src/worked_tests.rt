@@ -1,6 +1,7 @@
 //! Worked examples of the program, from the bytes that come in to the bytes that go out.
 use crate::samples::{NEVER, REPLIES, SCRIPT, owned, sink_of, source_of};
-use fq_io::{FixedClock, MemSink, MemSource, read_all};
+use fq_io::read_all;
+use fq_memory::{FixedClock, MemSink, MemSource};
 use std::alloc::Global;
 use std::process::Abort;
 use std::sync::Wait;

@@ -4,27 +4,7 @@ ghost use Rattle.rival_policies.specs.Tables.{ChooserView, opened, with_keys, re
 
 use fq_model::config::Checked;
 use std::alloc::{AllocError, Global};
-use std::error::Error;
-use std::fmt;
 use tag_rules::parts::Keys;
-
-/// There was no memory for the keys.
-#[derive(Clone, Copy, Debug, PartialEq, Eq)]
-pub struct NoMemory;
-
-impl fmt::Display for NoMemory {
-    fn fmt<W: fmt::Write>(&self, f: &mut fmt::Formatter<W>) -> fmt::Result {
-        write!(f, "no memory for the keys")
-    }
-}
-
-impl Error for NoMemory {}
-
-impl From<AllocError> for NoMemory {
-    fn from(_fault: AllocError) -> NoMemory {
-        NoMemory
-    }
-}
 
 /// Chooses tenants by the keys of their heads. No call after `open` takes memory.
 pub trait Chooser: Sized {
@@ -33,7 +13,7 @@ pub trait Chooser: Sized {
     ghost seen: { Self → ChooserView };
 
     /// A chooser for this configuration in which no tenant has keys. All its memory is taken here.
-    fn open(alloc: Global, config: &Checked) -> Result<Self, NoMemory>
+    fn open(alloc: Global, config: &Checked) -> Result<Self, AllocError>
         ensures { IfOk result (λ c. seen c ≡ opened config.now) };
 
     /// Gives a tenant the keys of its head, or takes them from it where it has no head any more.

@@ -1,12 +1,12 @@
 //! A chooser that goes through all keys.
 ghost use Rattle.std.specs.Prelude.{length};
 
-use crate::chooser::{Chooser, NoMemory};
+use crate::chooser::Chooser;
 use crate::pass::Pass;
 use crate::scan::first_in;
 use crate::turn::Turn;
 use fq_model::config::{Checked, Policy};
-use std::alloc::Global;
+use std::alloc::{AllocError, Global};
 use std::marker::Model;
 use tag_rules::parts::Keys;
 
@@ -45,7 +45,7 @@ impl Model for PlainChooser {
 impl Chooser for PlainChooser {
     ghost seen = { λ c. c };
 
-    fn open(alloc: Global, config: &Checked) -> Result<Self, NoMemory> {
+    fn open(alloc: Global, config: &Checked) -> Result<Self, AllocError> {
         let table = vec![in alloc; None; config.tenants() as usize]?;
         Ok(PlainChooser {
             policy: config.policy(),

@@ -6,12 +6,12 @@ ghost use Rattle.fq_model.specs.Time.{last_moment, effective_moment};
 ghost use Rattle.fq_model.specs.Rules.{IsLegal};
 ghost use Rattle.sched_state.specs.Journal.{history, with_entry, IsRoomFor, RefusesSubmit, RefusesWeight, RefusesWorkers};
 
-use crate::replies::NoMemory;
+use crate::history::History;
 use crate::tally::Tally;
 use fq_model::config::Checked;
 use fq_model::event::{Cause, Entry};
 use fq_model::limits::{GREATEST_COST, GREATEST_MOMENT, GREATEST_WEIGHT};
-use std::alloc::Global;
+use std::alloc::{AllocError, Global};
 use std::marker::Model;
 
 /// The entries of one history in order of time, the configuration that it is kept under, and what it comes to in a few
@@ -36,7 +36,7 @@ impl Model for Journal {
 
 impl Journal {
     /// A journal without entries. All its memory is taken here.
-    pub fn open(alloc: Global, config: Checked) -> Result<Journal, NoMemory>
+    pub fn open(alloc: Global, config: Checked) -> Result<Journal, AllocError>
         ensures { IfOk result (λ j. j ≡ record { config = config; past = [] }) }
     {
         let past = Vec::with_capacity(alloc, config.entries() as usize)?;
@@ -161,5 +161,12 @@ impl Journal {
     {
         self.tally.count(entry.act);
         self.past.push_reserved(entry);
+    }
+
+    /// Its history, to which nothing is added any more.
+    pub fn into_history(self) -> History
+        ensures { result ≡ self }
+    {
+        History::of(self.config, self.past)
     }
 }

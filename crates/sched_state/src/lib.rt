@@ -2,6 +2,7 @@
 #![tactic(auto)]
 
 mod answering;
+mod history;
 mod journal;
 mod replies;
 mod scheduler;
@@ -9,5 +10,6 @@ mod tally;
 mod tracker;
 
 pub use answering::answer;
-pub use replies::{AlreadyClosed, NoMemory, Refused, Taken};
+pub use history::History;
+pub use replies::{AlreadyClosed, Refused, Taken};
 pub use scheduler::Scheduler;

@@ -1,63 +1,8 @@
 //! What the calls of a scheduler give.
 
 use fq_model::event::Cause;
-use std::alloc::AllocError;
 use std::error::Error;
 use std::fmt;
-
-/// There was not enough memory.
-#[derive(Clone, Copy, Debug, PartialEq, Eq)]
-pub struct NoMemory;
-
-impl fmt::Display for NoMemory {
-    fn fmt<W: fmt::Write>(&self, f: &mut fmt::Formatter<W>) -> fmt::Result {
-        write!(f, "out of memory")
-    }
-}
-
-impl Error for NoMemory {}
-
-impl From<AllocError> for NoMemory {
-    fn from(_fault: AllocError) -> NoMemory {
-        NoMemory
-    }
-}
-
-impl From<charge_book::refusal::NoMemory> for NoMemory {
-    fn from(_fault: charge_book::refusal::NoMemory) -> NoMemory {
-        NoMemory
-    }
-}
-
-impl From<cost_estimate::estimate::NoMemory> for NoMemory {
-    fn from(_fault: cost_estimate::estimate::NoMemory) -> NoMemory {
-        NoMemory
-    }
-}
-
-impl From<rival_policies::chooser::NoMemory> for NoMemory {
-    fn from(_fault: rival_policies::chooser::NoMemory) -> NoMemory {
-        NoMemory
-    }
-}
-
-impl From<tag_rules::accounts::NoMemory> for NoMemory {
-    fn from(_fault: tag_rules::accounts::NoMemory) -> NoMemory {
-        NoMemory
-    }
-}
-
-impl From<virtual_clock::idles::NoMemory> for NoMemory {
-    fn from(_fault: virtual_clock::idles::NoMemory) -> NoMemory {
-        NoMemory
-    }
-}
-
-impl From<waiting_lists::NoMemory> for NoMemory {
-    fn from(_fault: waiting_lists::NoMemory) -> NoMemory {
-        NoMemory
-    }
-}
 
 /// The history is closed already.
 #[derive(Clone, Copy, Debug, PartialEq, Eq)]

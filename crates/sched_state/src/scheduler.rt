@@ -7,14 +7,15 @@ ghost use Rattle.fq_model.specs.Rules.{IsLegal};
 ghost use Rattle.sched_state.specs.Lists.{HoldsWaiting};
 ghost use Rattle.sched_state.specs.Replies.{submit_reply, take_reply, change_reply, close_reply, AnswersCall, HandsOut};
 
+use crate::history::History;
 use crate::journal::Journal;
-use crate::replies::{AlreadyClosed, NoMemory, Refused, Taken};
+use crate::replies::{AlreadyClosed, Refused, Taken};
 use crate::tracker::Tracker;
 use fq_model::config::Checked;
 use fq_model::event::{Act, Cause, Entry};
 use fq_model::job::Job;
 use rival_policies::chooser::Chooser;
-use std::alloc::Global;
+use std::alloc::{AllocError, Global};
 use std::marker::Model;
 use waiting_lists::item::Item;
 
@@ -50,7 +51,7 @@ impl<J: Job, X: Chooser> Model for Scheduler<J, X> {
 
 impl<J: Job + Drop, X: Chooser> Scheduler<J, X> {
     /// Takes all the memory that the scheduler will use.
-    pub fn open(alloc: Global, config: Checked) -> Result<Scheduler<J, X>, NoMemory>
+    pub fn open(alloc: Global, config: Checked) -> Result<Scheduler<J, X>, AllocError>
         ensures { IfOk result (λ s. s ≡ record { config = config; past = []; jobs = map.empty }) }
     {
         let journal = Journal::open(alloc, config)?;
@@ -246,6 +247,16 @@ impl<J: Job + Drop, X: Chooser> Scheduler<J, X> {
         ensures held { HoldsWaiting J.label_of (history_of self.now.past) self.now.jobs }
     {
         self.journal.past()
+    }
+
+    /// Its history, to which nothing is added any more. The jobs of the requests that still wait are dropped.
+    pub fn into_history(self) -> History
+        ensures past { result.past ≡ self.past }
+        ensures config { result.config ≡ self.config }
+    {
+        let Scheduler { journal, tracker } = self;
+        drop(tracker);
+        journal.into_history()
     }
 
     /// What the scheduler was opened with.

@@ -12,7 +12,6 @@ ghost use Rattle.sched_state.specs.Lists.{jobs_in};
 ghost use Rattle.sched_state.specs.Tracker.{Mirrors, Tracks, TracksBut, TracksSomeBut, TracksAfter, submit_act, MayBegin, Begins, MayName, raised_first};
 
 use crate::journal::Journal;
-use crate::replies::NoMemory;
 use charge_book::book::Book;
 use charge_book::row::RunRow;
 use cost_estimate::any::AnyCost;
@@ -22,7 +21,7 @@ use fq_model::event::Cause;
 use fq_model::job::Job;
 use fq_model::limits::GREATEST_VIRTUAL_TIME;
 use rival_policies::chooser::Chooser;
-use std::alloc::Global;
+use std::alloc::{AllocError, Global};
 use tag_rules::accounts::Accounts;
 use tag_rules::keys::keys;
 use tag_rules::parts::Keys;
@@ -46,7 +45,7 @@ pub struct Tracker<J, X> {
 
 impl<J: Job + Drop, X: Chooser> Tracker<J, X> {
     /// What is kept of a history without entries. All its memory is taken here.
-    pub fn open(alloc: Global, config: &Checked) -> Result<Tracker<J, X>, NoMemory>
+    pub fn open(alloc: Global, config: &Checked) -> Result<Tracker<J, X>, AllocError>
         ensures tracked { IfOk result (Tracks J.label_of X.seen config.now []) }
         ensures jobs { IfOk result (λ k. jobs_in k.lists.lists ≡ map.empty) }
     {

@@ -9,7 +9,7 @@ use fq_model::event::{Act, Entry};
 use fq_model::trace::RunOptions;
 use rival_policies::chooser::Chooser;
 use rival_policies::plain::PlainChooser;
-use sched_state::Scheduler;
+use sched_state::History;
 use shared_order::chooser::SharedChooser;
 use std::alloc::Global;
 use std::process::Abort;
@@ -73,21 +73,20 @@ fn trace_in<R: Abort>(rt: &R, alloc: Global, text: &str) -> Trace
     trace
 }
 
-// The scheduler that has served a trace.
+// The simulated history of a trace.
 fn served<X: Chooser + Drop, R: Abort>(
     rt: &R,
     alloc: Global,
     trace: &Trace,
     options: RunOptions,
-) -> Scheduler<u64, X>
+) -> History
     requires lawful { IsLawfulTrace trace.now }
     requires options { AreInRange options }
 {
-    let scheduler = simulate::<X>(alloc, trace, options);
-    let Ok(scheduler) = scheduler else {
+    let Ok(history) = simulate::<X>(alloc, trace, options) else {
         panic!(rt; "no memory for a simulation")
     };
-    scheduler
+    history
 }
 
 // A scheduler had room for so many entries and requests.
@@ -110,9 +109,9 @@ fn expect_entries<X: Chooser + Drop, R: Abort>(
         initial: 1000,
         refresh: 0,
     };
-    let scheduler = served::<X, R>(rt, alloc, &trace, options);
-    assert!(rt; scheduler.past() == wanted, "of {text:?}");
-    expect_room(rt, scheduler.config(), 10, 3);
+    let history = served::<X, R>(rt, alloc, &trace, options);
+    assert!(rt; history.past() == wanted, "of {text:?}");
+    expect_room(rt, history.config(), 10, 3);
 }
 
 #[test]
@@ -210,10 +209,10 @@ fn expect_needed<X: Chooser + Drop, R: Abort>(
 ) {
     let trace = trace_in(rt, alloc, text);
     assert_eq!(rt; needed(&trace, DEFAULTS.refresh), u64::from(entries));
-    let scheduler = served::<X, R>(rt, alloc, &trace, DEFAULTS);
-    assert_eq!(rt; scheduler.past().len(), entries as usize);
-    assert_eq!(rt; scheduler.config().entries(), entries);
-    expect_reports(rt, scheduler.past(), reports);
+    let history = served::<X, R>(rt, alloc, &trace, DEFAULTS);
+    assert_eq!(rt; history.past().len(), entries as usize);
+    assert_eq!(rt; history.config().entries(), entries);
+    expect_reports(rt, history.past(), reports);
 }
 
 #[test]
@@ -228,7 +227,7 @@ fn expect_too_many<X: Chooser + Drop, R: Abort>(rt: &R, alloc: Global, text: &st
         refresh: 1,
         ..DEFAULTS
     };
-    let outcome: Result<Scheduler<u64, X>, SimFault> = simulate(alloc, &trace, options);
+    let outcome = simulate::<X>(alloc, &trace, options);
     assert_eq!(rt; outcome.err(), Some(SimFault::TooManyEntries(needed)));
 }
 
@@ -248,8 +247,8 @@ fn past_by<X: Chooser + Drop, R: Abort>(
     requires { IsLawfulTrace trace.now }
 {
     let options = RunOptions { policy, ..DEFAULTS };
-    let scheduler = served::<X, R>(rt, alloc, trace, options);
-    let past = scheduler.past().to_vec(alloc);
+    let history = served::<X, R>(rt, alloc, trace, options);
+    let past = history.past().to_vec(alloc);
     let Ok(past) = past else {
         panic!(rt; "no memory for entries")
     };

@@ -8,9 +8,9 @@ use crate::head::Head;
 use crate::order::Order;
 use crate::search::choice;
 use fq_model::config::{Checked, Policy};
-use rival_policies::chooser::{Chooser, NoMemory};
+use rival_policies::chooser::Chooser;
 use rival_policies::turn::Turn;
-use std::alloc::Global;
+use std::alloc::{AllocError, Global};
 use std::marker::Model;
 use tag_rules::parts::Keys;
 
@@ -52,7 +52,7 @@ impl Model for SharedChooser {
 impl Chooser for SharedChooser {
     ghost seen = { λ c. c };
 
-    fn open(alloc: Global, config: &Checked) -> Result<Self, NoMemory> {
+    fn open(alloc: Global, config: &Checked) -> Result<Self, AllocError> {
         let table = vec![in alloc; None; config.tenants() as usize]?;
         let order = Order::open(alloc, config.tenants())?;
         Ok(SharedChooser {

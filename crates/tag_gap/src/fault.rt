@@ -2,9 +2,7 @@
 ghost use Rattle.std.specs.Prelude.{◌≡◌};
 ghost use Rattle.tag_gap.specs.declared.fault.GapFault.TheVariants as faults;
 
-use std::alloc::{AllocError, AllocFailed};
-use tag_rules::accounts;
-use virtual_clock::idles;
+use std::alloc::AllocError;
 
 /// Why no gap of two tenants is told.
 #[derive(Clone, Copy, Debug, PartialEq, Eq, thiserror::Error)]
@@ -27,22 +25,6 @@ impl From<AllocError> for GapFault {
     ghost from_gives = { λ _ fault. fault ≡ faults.NoMemory };
 
     fn from(_fault: AllocError) -> GapFault {
-        GapFault::NoMemory
-    }
-}
-
-impl From<idles::NoMemory> for GapFault {
-    ghost from_gives = { λ _ fault. fault ≡ faults.NoMemory };
-
-    fn from(_fault: idles::NoMemory) -> GapFault {
-        GapFault::NoMemory
-    }
-}
-
-impl From<accounts::NoMemory> for GapFault {
-    ghost from_gives = { λ _ fault. fault ≡ faults.NoMemory };
-
-    fn from(_fault: accounts::NoMemory) -> GapFault {
         GapFault::NoMemory
     }
 }

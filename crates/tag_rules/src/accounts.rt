@@ -4,27 +4,7 @@ ghost use Rattle.tag_rules.specs.Accounts.{at_first, charge_of, base_of, raised,
 
 use fq_model::limits::{GREATEST_VIRTUAL_CHARGE, GREATEST_VIRTUAL_TIME};
 use std::alloc::{AllocError, Global};
-use std::error::Error;
-use std::fmt;
 use std::marker::Model;
-
-/// There was no memory for the accounts.
-#[derive(Clone, Copy, Debug, PartialEq, Eq)]
-pub struct NoMemory;
-
-impl fmt::Display for NoMemory {
-    fn fmt<W: fmt::Write>(&self, f: &mut fmt::Formatter<W>) -> fmt::Result {
-        write!(f, "no memory for the accounts")
-    }
-}
-
-impl Error for NoMemory {}
-
-impl From<AllocError> for NoMemory {
-    fn from(_fault: AllocError) -> NoMemory {
-        NoMemory
-    }
-}
 
 /// The virtual charge of each tenant and the base of its tag, in steps. In fair queuing the tag of a tenant is where
 /// its next request starts: the greater of virtual time and the finish of the request before (Demers and others,
@@ -48,7 +28,7 @@ impl Model for Accounts {
 
 impl Accounts {
     /// No tenant is charged anything, and each tag is 0. All memory is taken here.
-    pub fn open(alloc: Global, tenants: u32) -> Result<Accounts, NoMemory>
+    pub fn open(alloc: Global, tenants: u32) -> Result<Accounts, AllocError>
         ensures { IfOk result (λ a. a ≡ at_first tenants) }
     {
         let charges = vec![in alloc; 0; tenants as usize]?;

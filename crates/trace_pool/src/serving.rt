@@ -25,7 +25,7 @@ use fq_model::config::Checked;
 use fq_model::limits::{LEAST_ENTRIES, MOST_ENTRIES};
 use fq_model::trace::{RunOptions, TraceRow};
 use rival_policies::chooser::Chooser;
-use sched_state::Scheduler;
+use sched_state::History;
 use std::alloc::Global;
 use std::collections::VecDeque;
 use std::sync::Wait;
@@ -66,7 +66,7 @@ fn serve_rows<X: Chooser + Drop + Send, K: Clock + Sync, R: Threads + Wait + Syn
     hands.destroy_empty();
 }
 
-// Opens a desk, has the callers of all its tokens serve the trace's rows, and gives its scheduler.
+// Opens a desk, has the callers of all its tokens serve the trace's rows, and gives their history.
 fn serve_at_desk<X: Chooser + Drop + Send, K: Clock + Sync, R: Threads + Wait + Sync>(
     rt: &R,
     alloc: Global,
@@ -77,16 +77,16 @@ fn serve_at_desk<X: Chooser + Drop + Send, K: Clock + Sync, R: Threads + Wait + 
     count: u32,
     queues: Vec<VecDeque<Row<u64>>>,
     hands: Vec<Hand<u64>>,
-) -> Result<Scheduler<u64, X>, PoolFault>
+) -> Result<History, PoolFault>
     requires trace { IsLawfulTrace trace.now × AreInRange options × (count ≡ submitters trace.now.rows)
         × (needed_pool_entries trace.now.rows options.refresh ≤ MOST_ENTRIES) }
     requires config { config ≡ pool_config trace.now options }
     requires queues { HoldsFrom (λ j q. AreRowsOf trace.now.rows j q.items) 0 queues.items
         × (length queues.items ≡ count) }
     requires hands { (hands.items ≡ []) × (count + options.workers ≤ vec_capacity hands) }
-    ensures history { IfOk result (λ s. IsPoolHistory trace.now options (history_of s.past)
-        × HasToldMoments (K.tells clock.now) (history_of s.past)) }
-    ensures config { IfOk result (λ s. s.config ≡ pool_config trace.now options) }
+    ensures history { IfOk result (λ h. IsPoolHistory trace.now options (history_of h.past)
+        × HasToldMoments (K.tells clock.now) (history_of h.past)) }
+    ensures config { IfOk result (λ h. h.config ≡ pool_config trace.now options) }
     ensures fault { IfErr result (λ f. f ≡ faults.NoMemory) }
 {
     let Ok((desk, mut submitters, mut workers)) = DeskOf::open(alloc, config, count) else {
@@ -107,11 +107,11 @@ fn serve_at_desk<X: Chooser + Drop + Send, K: Clock + Sync, R: Threads + Wait + 
     let Ok(scheduler) = desk.finish(submitters, workers) else {
         unreachable!()
     };
-    Ok(scheduler)
+    Ok(scheduler.into_history())
 }
 
-/// Serves a trace by a pool of threads, one for each submitter and one for each worker, and gives the scheduler that they
-/// shared. Rows come when their submitter comes to them: their moments are not used. The clock is asked by the threads
+/// Serves a trace by a pool of threads, one for each submitter and one for each worker, and gives the history that they
+/// made. Rows come when their submitter comes to them: their moments are not used. The clock is asked by the threads
 /// alone, before each call that they make, and labels are the rows' numbers from 0. All memory is taken before the first
 /// call, and none where there would be too many entries.
 pub fn serve<X: Chooser + Drop + Send, K: Clock + Sync, R: Threads + Wait + Sync>(
@@ -120,12 +120,12 @@ pub fn serve<X: Chooser + Drop + Send, K: Clock + Sync, R: Threads + Wait + Sync
     trace: &Trace,
     options: RunOptions,
     clock: &K,
-) -> Result<Scheduler<u64, X>, PoolFault>
+) -> Result<History, PoolFault>
     requires lawful { IsLawfulTrace trace.now }
     requires options { AreInRange options }
-    ensures history { IfOk result (λ s. IsPoolHistory trace.now options (history_of s.past)
-        × HasToldMoments (K.tells clock.now) (history_of s.past)) }
-    ensures config { IfOk result (λ s. s.config ≡ pool_config trace.now options) }
+    ensures history { IfOk result (λ h. IsPoolHistory trace.now options (history_of h.past)
+        × HasToldMoments (K.tells clock.now) (history_of h.past)) }
+    ensures config { IfOk result (λ h. h.config ≡ pool_config trace.now options) }
     ensures too_many { IsTooLong trace.now options → result ≡ Err (too_long trace.now options) }
     ensures fault { IfErr result (λ f. (f ≡ faults.NoMemory)
         ⊎ ((f ≡ too_long trace.now options) × IsTooLong trace.now options)) }

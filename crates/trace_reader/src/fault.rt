@@ -66,17 +66,6 @@ impl From<AllocError> for GenFault {
     }
 }
 
-/// There was no memory for a trace's text.
-#[derive(Clone, Copy, Debug, PartialEq, Eq, Error)]
-#[error("out of memory")]
-pub struct NoMemory;
-
-impl From<AllocError> for NoMemory {
-    fn from(_: AllocError) -> NoMemory {
-        NoMemory
-    }
-}
-
 /// Why a record was not read.
 #[derive(Clone, Copy, Error)]
 pub(crate) enum RecordError {

@@ -2,12 +2,11 @@
 ghost use Rattle.std.specs.Prelude.{◌≡◌, string_bytes, IfOk};
 ghost use Rattle.fq_model.specs.FaultTexts.{placed_text, trace_fault_text};
 
-use crate::fault::NoMemory;
 use fq_model::fault::TraceKind;
 use std::alloc::{AllocError, Global};
 
 /// What is told of a fault at a record of a trace. Records and fields are counted from 1.
-pub fn placed_fault(alloc: Global, line: u64, fault: TraceKind) -> Result<String, NoMemory>
+pub fn placed_fault(alloc: Global, line: u64, fault: TraceKind) -> Result<String, AllocError>
     ensures { IfOk result (λ text. string_bytes text ≡ placed_text line (trace_fault_text fault)) }
 {
     let fault = fault_text(alloc, fault)?;

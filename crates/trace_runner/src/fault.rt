@@ -39,19 +39,3 @@ impl<T: Drop> From<AllocFailed<T>> for SimFault {
         SimFault::NoMemory
     }
 }
-
-impl From<winner_tree::NoMemory> for SimFault {
-    ghost from_gives = { λ _ fault. fault ≡ faults.NoMemory };
-
-    fn from(_fault: winner_tree::NoMemory) -> SimFault {
-        SimFault::NoMemory
-    }
-}
-
-impl From<sched_state::NoMemory> for SimFault {
-    ghost from_gives = { λ _ fault. fault ≡ faults.NoMemory };
-
-    fn from(_fault: sched_state::NoMemory) -> SimFault {
-        SimFault::NoMemory
-    }
-}

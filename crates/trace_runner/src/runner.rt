@@ -17,11 +17,11 @@ use crate::staff::Work;
 use fq_model::limits::{LEAST_ENTRIES, MOST_ENTRIES};
 use fq_model::trace::RunOptions;
 use rival_policies::chooser::Chooser;
-use sched_state::{Scheduler, Taken};
+use sched_state::{History, Scheduler, Taken};
 use std::alloc::Global;
 use trace_reader::trace::Trace;
 
-/// The simulated history of a trace, on the scheduler that made it. Each request comes at its row's moment, runs for
+/// The simulated history of a trace. Each request comes at its row's moment, runs for
 /// its cost from its Take on, and is reported after each `refresh` microseconds of that. At one moment Reports are
 /// before Dones, Dones before Submits, and Submits before Takes; these go by worker, and Submits by row. No worker is
 /// idle while a request waits. Submitters are the callers from 0 on, workers those that follow, and labels are the
@@ -31,11 +31,11 @@ pub fn simulate<X: Chooser + Drop>(
     alloc: Global,
     trace: &Trace,
     options: RunOptions,
-) -> Result<Scheduler<u64, X>, SimFault>
+) -> Result<History, SimFault>
     requires lawful { IsLawfulTrace trace.now }
     requires options { AreInRange options }
-    ensures simulated { IfOk result (λ s. IsSimulated trace.now options (history_of s.past)) }
-    ensures config { IfOk result (λ s. s.config ≡ run_config trace.now options) }
+    ensures simulated { IfOk result (λ h. IsSimulated trace.now options (history_of h.past)) }
+    ensures config { IfOk result (λ h. h.config ≡ run_config trace.now options) }
     ensures too_many { IsTooLong trace.now options → result ≡ Err (too_long trace.now options) }
     ensures fault { IfErr result (λ f. (f ≡ faults.NoMemory)
         ⊎ ((f ≡ too_long trace.now options) × IsTooLong trace.now options)) }
@@ -52,7 +52,7 @@ pub fn simulate<X: Chooser + Drop>(
         step(&mut scheduler, &mut agenda, trace, options, event);
     }
     match scheduler.close(0, agenda.moment) {
-        Ok(()) => Ok(scheduler),
+        Ok(()) => Ok(scheduler.into_history()),
         Err(_) => unreachable!(),
     }
 }

@@ -6,7 +6,7 @@ ghost use Rattle.twodfq_c.specs.Opening.{status, fault_status, policy_number, es
 
 use crate::handle::Handle;
 use fq_model::config::{Config, ConfigFault, Estimator, Policy, Weights};
-use sched_state::{NoMemory, Scheduler};
+use sched_state::Scheduler;
 use std::alloc::{AllocError, Global};
 
 /// A configuration without its weights. `policy` is 0 for wfq, 1 for wf2q, 2 for msf2q, 3 for 2dfq; `estimate` is 0 for
@@ -42,14 +42,6 @@ impl From<AllocError> for Refusal {
     ghost from_gives = { λ _ why. why ≡ refusal.NoMemory };
 
     fn from(_fault: AllocError) -> Refusal {
-        Refusal::NoMemory
-    }
-}
-
-impl From<NoMemory> for Refusal {
-    ghost from_gives = { λ _ why. why ≡ refusal.NoMemory };
-
-    fn from(_fault: NoMemory) -> Refusal {
         Refusal::NoMemory
     }
 }

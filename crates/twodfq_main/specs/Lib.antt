@@ -2,4 +2,3 @@ pub mod Asked
 pub mod Pools
 pub mod Program
 pub mod Causes
-pub mod Laws

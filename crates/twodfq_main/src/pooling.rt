@@ -16,7 +16,6 @@ use eligible_index::index::IndexChooser;
 use fq_io::Clock;
 use fq_model::command::HistoryPrint;
 use fq_model::trace::RunOptions;
-use sched_state::Scheduler;
 use std::alloc::Global;
 use std::sync::Wait;
 use std::thread::Threads;
@@ -68,13 +67,10 @@ fn pool_text<T: Wait + Threads + Sync, K: Clock + Sync>(
     ensures { MatchResult result (λ text. IsPoolOutput (K.tells clock.now) trace.now options slot what text.items)
         (IsPoolStop (K.tells clock.now) trace.now options slot what) }
 {
-    let served: Result<Scheduler<u64, IndexChooser>, PoolFault> = serve(
-        rt, alloc, trace, options, clock,
-    );
-    match served {
-        Ok(scheduler) => {
+    match serve::<IndexChooser, K, R>(rt, alloc, trace, options, clock) {
+        Ok(history) => {
             let (tenants, kinds) = (trace.tenants(), trace.kinds());
-            last_history_text(alloc, what, slot, scheduler, tenants, kinds)
+            last_history_text(alloc, what, slot, history, tenants, kinds)
         }
         Err(PoolFault::TooManyEntries(needed)) => Err(entries_stop(alloc, needed)),
         Err(PoolFault::NoMemory) => Err(Stop::NoMemory),

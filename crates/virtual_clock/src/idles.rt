@@ -6,17 +6,6 @@ use fq_model::limits::GREATEST_VIRTUAL_TIME;
 use std::alloc::{AllocError, Global};
 use std::marker::Model;
 
-/// There was no memory for the idle times.
-#[derive(Clone, Copy, Debug, PartialEq, Eq, thiserror::Error)]
-#[error("no memory for the idle times")]
-pub struct NoMemory;
-
-impl From<AllocError> for NoMemory {
-    fn from(_fault: AllocError) -> NoMemory {
-        NoMemory
-    }
-}
-
 /// The idle time of one tenant.
 #[derive(Clone, Copy, Debug, PartialEq, Eq)]
 pub struct Idle {
@@ -48,7 +37,7 @@ impl Model for Idles {
 
 impl Idles {
     /// All tenants are asleep since virtual time 0. All memory is taken here.
-    pub fn open(alloc: Global, tenants: u32) -> Result<Idles, NoMemory>
+    pub fn open(alloc: Global, tenants: u32) -> Result<Idles, AllocError>
         ensures { IfOk result (λ i. i ≡ replicate tenants asleep_at_first) }
     {
         let asleep = Idle {

@@ -6,11 +6,11 @@ ghost use Rattle.virtual_clock.specs.Idles.{idle_of};
 ghost use Rattle.virtual_clock.specs.Histories.{TimesAre, PassOn, IsTimeOf, IsIdleTimeOf, IsWeightOf, IsPoolOf};
 
 use crate::clock::{Clock128, GREATEST_SHOWN};
-use crate::idles::{Idles, NoMemory};
+use crate::idles::Idles;
 use crate::weights::WeightsNow;
 use fq_model::config::Checked;
 use fq_model::limits::{GREATEST_MOMENT, GREATEST_WEIGHT, MOST_WORKERS};
-use std::alloc::Global;
+use std::alloc::{AllocError, Global};
 
 /// Virtual time at the last entry of a history, with the number of workers and the weights there, by which it goes on, and
 /// the idle times at that time.
@@ -23,7 +23,7 @@ pub struct Times {
 
 impl Times {
     /// Those of a history without entries. All their memory is taken here.
-    pub fn open(alloc: Global, config: &Checked) -> Result<Times, NoMemory>
+    pub fn open(alloc: Global, config: &Checked) -> Result<Times, AllocError>
         ensures { IfOk result (TimesAre config.now []) }
     {
         Ok(Times {

@@ -2,9 +2,8 @@
 ghost use Rattle.std.specs.Prelude.{◌≡◌, ◌<◌, length, slice_index, slice_set, IfOk};
 ghost use Rattle.fq_model.specs.Limits.{IsWeight};
 
-use crate::idles::NoMemory;
 use fq_model::config::Checked;
-use std::alloc::Global;
+use std::alloc::{AllocError, Global};
 use std::marker::Model;
 
 /// The weight of each tenant, as it was set last. Contracts see them by number.
@@ -26,7 +25,7 @@ impl Model for WeightsNow {
 
 impl WeightsNow {
     /// Those of the configuration. All their memory is taken here.
-    pub fn open(alloc: Global, config: &Checked) -> Result<WeightsNow, NoMemory>
+    pub fn open(alloc: Global, config: &Checked) -> Result<WeightsNow, AllocError>
         ensures { IfOk result (λ w. w ≡ config.now.weights) }
     {
         Ok(WeightsNow {

@@ -6,4 +6,4 @@ mod links;
 pub mod lists;
 
 pub use item::Item;
-pub use lists::{Lists, NoMemory};
+pub use lists::Lists;

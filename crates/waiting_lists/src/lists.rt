@@ -7,17 +7,6 @@ use crate::links::{Ends, Slot, append, make_free, take_first};
 use std::alloc::{AllocError, Global};
 use std::marker::Model;
 
-/// There is no memory for the lists.
-#[derive(Clone, Copy, Debug, PartialEq, Eq, thiserror::Error)]
-#[error("no memory for the waiting requests")]
-pub struct NoMemory;
-
-impl From<AllocError> for NoMemory {
-    fn from(_: AllocError) -> Self {
-        NoMemory
-    }
-}
-
 /// One list of waiting items a tenant, in the order in which they came. All share a fixed number of slots. Memory for
 /// them is set aside at opening, and used only for as many as ever had items at once.
 #[derive(Drop)]
@@ -50,7 +39,7 @@ impl<J> Model for Lists<J> {
 
 impl<J: Drop> Lists<J> {
     /// Empty lists for so many tenants, with room for so many items in all.
-    pub fn open(alloc: Global, tenants: u32, slots: u32) -> Result<Lists<J>, NoMemory>
+    pub fn open(alloc: Global, tenants: u32, slots: u32) -> Result<Lists<J>, AllocError>
         ensures { IfOk result (λ l. l ≡ record { lists = replicate tenants []; slots = slots }) }
     {
         let ends = empty_ends(alloc, tenants)?;

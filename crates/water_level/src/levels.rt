@@ -9,21 +9,10 @@ use fq_model::level::{Backlog, Level};
 use fq_model::limits::MOST_TENANTS;
 use std::alloc::{AllocError, Global};
 
-/// There was no memory for the backlogs in order.
-#[derive(Clone, Copy, Debug, PartialEq, Eq, thiserror::Error)]
-#[error("no memory for the backlogs in order")]
-pub struct NoMemory;
-
-impl From<AllocError> for NoMemory {
-    fn from(_fault: AllocError) -> NoMemory {
-        NoMemory
-    }
-}
-
 /// The level at which a capacity is shared, in microseconds of work: all are served whole where they fit, and else up
 /// to the greatest level whose gifts fit. It is found by break points, the levels from which on a backlog is served
 /// whole; nothing here takes a step for each level between them.
-pub fn level(alloc: Global, cap: u64, rows: &[Backlog]) -> Result<Level, NoMemory>
+pub fn level(alloc: Global, cap: u64, rows: &[Backlog]) -> Result<Level, AllocError>
     requires few { length rows.now ≤ MOST_TENANTS }
     requires in_range { All IsBacklog rows.now }
     ensures level { IfOk result (IsLevel cap rows.now) }

@@ -10,4 +10,4 @@ mod replay;
 pub mod tree;
 
 pub use key::Key;
-pub use tree::{NoMemory, Tree};
+pub use tree::Tree;

@@ -5,26 +5,8 @@ ghost use Rattle.winner_tree.specs.Winners.{AreWinners};
 
 use crate::key::Key;
 use crate::replay::set_leaf;
-use std::alloc::{AllocError, AllocFailed, Global};
+use std::alloc::{AllocError, Global};
 use std::marker::Model;
-use thiserror::Error;
-
-/// There is no memory for a tree.
-#[derive(Clone, Copy, Debug, PartialEq, Eq, Error)]
-#[error("out of memory")]
-pub struct NoMemory;
-
-impl From<AllocError> for NoMemory {
-    fn from(_: AllocError) -> NoMemory {
-        NoMemory
-    }
-}
-
-impl<T: Drop> From<AllocFailed<T>> for NoMemory {
-    fn from(_: AllocFailed<T>) -> NoMemory {
-        NoMemory
-    }
-}
 
 /// Leaves, numbered from 0, of which each has a key or none. Contracts see the keys as a list by leaf.
 #[derive(Drop)]
@@ -48,7 +30,7 @@ impl Model for Tree {
 
 impl Tree {
     /// A tree of 1 to 4,096 leaves of which none has a key.
-    pub fn open(alloc: Global, leaves: u32) -> Result<Tree, NoMemory>
+    pub fn open(alloc: Global, leaves: u32) -> Result<Tree, AllocError>
         requires at_least_one { 1 ≤ leaves }
         requires in_range { leaves ≤ 4096 }
         ensures { IfOk result (λ t. t ≡ replicate leaves None) }

@@ -9,6 +9,6 @@ last_history_text-requires-clause-done c = none_unfinished c.args.trace.now c.ar
 
 pub returns-in-Ok : goal.returns-in-Ok
 returns-in-Ok c =
-    let few = few_entries (needed_entries c.args.trace.now.rows c.args.options.refresh) c.in-Ok.scheduler (too_long c.args.trace.now c.args.options) c.in-Ok.ensures.too_many in
-    of_trace (λ v. v.items) c.args.trace.now c.args.options c.args.slot c.args.what c.in-Ok.scheduler.config c.in-Ok.scheduler.past c.last_history_text.result
+    let few = few_entries (needed_entries c.args.trace.now.rows c.args.options.refresh) c.in-Ok.history (too_long c.args.trace.now c.args.options) c.in-Ok.ensures.too_many in
+    of_trace (λ v. v.items) c.args.trace.now c.args.options c.args.slot c.args.what c.in-Ok.history.config c.in-Ok.history.past c.last_history_text.result
     c.in-Ok.ensures.config (record { few = few; simulated = c.in-Ok.ensures.simulated }) (rw (c.tenants-tenants.ensures.names, c.kinds-kinds.ensures) at c.last_history_text.ensures)

@@ -1,5 +1,5 @@
 use Rattle.std.proofs.Common.{refl, ◌∙◌, sym}
-use Rattle.twodfq_main.proofs.CleanRuns.{never_writes}
+use Rattle.clean_runs.proofs.CleanRuns.{never_writes}
 use Rattle.program_tests.proofs.clean_tests.clean_run.Goals as goal
 
 pub returns-clause-writes : goal.returns-clause-writes

@@ -2,7 +2,7 @@ use Rattle.std.proofs.Common.{◌≡◌, ◌∙◌, ap, refl, subst, sym}
 use Rattle.std.proofs.lemmas.Bool.{false≢true}
 use Rattle.fq_model.specs.History.{history_of}
 use Rattle.fq_model.specs.Rules.{IsLegal}
-use Rattle.fq_model.specs.PoolHistory.{pool_config}
+use Rattle.fq_model.specs.PoolHistory.{IsPoolHistory, HasToldMoments, pool_config}
 use Rattle.trace_pool.specs.Parts.{AreRowsOf, HaveDone}
 use Rattle.trace_pool.specs.Places.{HoldsFrom}
 use Rattle.trace_pool.proofs.Tokens.{are_of, are_all}
@@ -35,5 +35,6 @@ returns-clause-history g c =
     let crew = crew_is T T.rows c.args.count lock c.in-Ok.ensures.tokens.frame c.requires.trace.2 refl in
     let done : HaveDone T.rows lock O.refresh (g.K.Clock.tells c.args.clock.now) c.serve_rows.new.submitters.items c.serve_rows.new.workers.items = subst (λ rows. HaveDone rows lock O.refresh (g.K.Clock.tells c.args.clock.now) c.serve_rows.new.submitters.items c.serve_rows.new.workers.items) c.rows.ensures c.serve_rows.ensures in
     let opened : lock.frame.config ≡ pool_config T O = ap (λ f. f.config) c.in-Ok.ensures.tokens.frame ∙ c.requires.config in
-    served_so T O lock (g.K.Clock.tells c.args.clock.now) c.in-Ok-finish.scheduler.past c.serve_rows.new.submitters.items c.serve_rows.new.workers.items done c.in-Ok-finish.ensures.tokens opened crew (crew_some T lock crew)
-    (subst (λ C. IsLegal C (history_of c.in-Ok-finish.scheduler.past)) opened c.in-Ok-finish.ensures.given_back.legal) c.in-Ok-finish.ensures.above c.requires.trace.0 c.requires.trace.1 c.requires.trace.3
+    subst (λ past. IsPoolHistory T O (history_of past) × HasToldMoments (g.K.Clock.tells c.args.clock.now) (history_of past)) (sym c.into_history.ensures.past)
+    (served_so T O lock (g.K.Clock.tells c.args.clock.now) c.in-Ok-finish.scheduler.past c.serve_rows.new.submitters.items c.serve_rows.new.workers.items done c.in-Ok-finish.ensures.tokens opened crew (crew_some T lock crew)
+    (subst (λ C. IsLegal C (history_of c.in-Ok-finish.scheduler.past)) opened c.in-Ok-finish.ensures.given_back.legal) c.in-Ok-finish.ensures.above c.requires.trace.0 c.requires.trace.1 c.requires.trace.3)

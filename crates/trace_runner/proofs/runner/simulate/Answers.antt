@@ -1,7 +1,8 @@
-use Rattle.std.proofs.Common.{arith, ap, subst, ◌≡◌, ◌≤◌, ◌∙◌, max}
+use Rattle.std.proofs.Common.{arith, ap, subst, sym, ◌≡◌, ◌≤◌, ◌∙◌, max}
 use Rattle.fq_model.specs.declared.limits.TheConstants.{LEAST_ENTRIES, MOST_ENTRIES}
 use Rattle.fq_model.specs.Courses.{submitters, trace_config}
-use Rattle.fq_model.specs.Simulated.{needed_entries}
+use Rattle.fq_model.specs.History.{history_of}
+use Rattle.fq_model.specs.Simulated.{needed_entries, IsSimulated}
 use Rattle.sched_state.specs.Scheduler.{SchedulerView}
 use Rattle.trace_runner.specs.Agenda.{NothingNext, opened_agenda}
 use Rattle.trace_runner.specs.Plan.{IsPlan}
@@ -24,4 +25,5 @@ events-smaller g c = omega (arith, past_low c.args.trace.now c.args.options _ _ 
 pub returns-clause-simulated : goal.returns-clause-simulated
 returns-clause-simulated g c =
     let nothing : NothingNext c.events.agenda c.args.trace.now.rows = subst (NothingNext c.events.agenda) c.rows-in-events.ensures c.in_default.ensures in
-    simulated c.args.trace.now c.args.options c.events.scheduler _ c.events.agenda c.events.invariant nothing c.in-Ok.ensures.answers
+    subst (λ past. IsSimulated c.args.trace.now c.args.options (history_of past)) (sym c.into_history.ensures.past)
+    (simulated c.args.trace.now c.args.options c.events.scheduler _ c.events.agenda c.events.invariant nothing c.in-Ok.ensures.answers)

@@ -1,6 +1,6 @@
 //! Laws of runs over memory that never fails, whatever is asked. Nothing here runs.
 ghost use Rattle.command_texts.specs.Commands.{Untold};
-ghost use Rattle.twodfq_main.specs.Laws.{NeverFailsReading, NeverFailsWriting};
+ghost use Rattle.clean_runs.specs.Laws.{NeverFailsReading, NeverFailsWriting};
 
 use fq_io::Clock;
 

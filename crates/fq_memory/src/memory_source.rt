@@ -3,10 +3,9 @@ ghost use Rattle.std.specs.Prelude.{◌≡◌, ◌≤◌, ◌↔◌, length, dro
 ghost use Rattle.std.specs.Io.{ReadsAtMost};
 ghost use Rattle.fq_io.specs.Faults.{HasCause};
 ghost use Rattle.fq_io.specs.Sources.{Reads};
-ghost use Rattle.fq_io.specs.Memory.{MemorySource, fails_at, read_count, after_read, buffer_after_read};
+ghost use Rattle.fq_memory.specs.Memory.{MemorySource, fails_at, read_count, after_read, buffer_after_read};
 
-use crate::fault::Failed;
-use crate::source::Source;
+use fq_io::{Failed, Source};
 use std::marker::Model;
 
 /// Bytes in memory that come in pieces, and the numbers of the calls that fail.

@@ -4,8 +4,7 @@ ghost use Rattle.std.specs.Io.{ReadsAtMost};
 ghost use Rattle.fq_io.specs.Faults.{HasCause};
 ghost use Rattle.fq_io.specs.Sources.{Reads};
 
-use crate::fault::Failed;
-use crate::source::Source;
+use fq_io::{Failed, Source};
 use std::marker::Model;
 
 /// Bytes in memory, for tools and tests that read a text which they already have: a status that comes only where

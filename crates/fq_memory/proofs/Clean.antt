@@ -1,7 +1,7 @@
 -- A clean source and a clean sink with enough room have no fault.
 use Rattle.std.proofs.Common.{arith, ℕ, ◌<◌, ◌≡◌, List, length, take, ap}
 use Rattle.std.proofs.lemmas.List.{length-take}
-use Rattle.fq_io.specs.Clean.{IsClean}
+use Rattle.fq_memory.specs.Clean.{IsClean}
 use Rattle.fq_io.specs.Faults.{Rose}
 
 -- a count that stays 0 did not rise

@@ -1,10 +1,10 @@
 -- Runs over memory that never fails.
 use Rattle.std.proofs.Common.{ℕ, ◌<◌, ◌≡◌, ◌≢◌, ◌∙◌, sym, ap, subst, refl, arith, List, [], length, Option, Some, None, Result, Ok, Err}
-use Rattle.fq_io.specs.Clean.{CleanMemory, IsClean}
+use Rattle.fq_memory.specs.Clean.{CleanMemory, IsClean}
 use Rattle.fq_io.specs.Faults.{Rose}
 use Rattle.fq_io.specs.Sinks.{AppendsPart}
 use Rattle.fq_io.specs.Sources.{GaveAll}
-use Rattle.fq_io.proofs.Clean.{stays_zero, never_full}
+use Rattle.fq_memory.proofs.Clean.{stays_zero, never_full}
 use Rattle.fq_model.specs.declared.command.Command.{Command}
 use Rattle.fq_model.specs.declared.command.Command.TheVariants as commands
 use Rattle.command_texts.specs.Commands.{Outputs}
@@ -12,7 +12,7 @@ use Rattle.command_texts.specs.Stops.{status_of}
 use Rattle.command_texts.specs.declared.stop.Stop.{Stop}
 use Rattle.command_texts.specs.declared.stop.Stop.TheVariants.{Words, TooLong, Fault, Reading, Writing, NoMemory, TooManyEntries, TooManyCells}
 use Rattle.twodfq_main.specs.Program.{Move, Device, Fails, ReadsInput, Ends, IsRun}
-use Rattle.twodfq_main.specs.Laws.{NeverFailsReading, NeverFailsWriting, AreOutputsShorter, IsCleanSink}
+use Rattle.clean_runs.specs.Laws.{NeverFailsReading, NeverFailsWriting, AreOutputsShorter, IsCleanSink}
 use Rattle.twodfq_main.proofs.Runs.{run_means}
 
 pub no_reading : (Told : ℕ → Type 0) → NeverFailsReading Told

@@ -1,6 +1,6 @@
 -- What follows for whoever reads a clean source, or writes a text to a clean sink.
 use Rattle.std.specs.Prelude.{ℕ, ◌<◌, ◌≡◌, List, length, take}
-use Rattle.fq_io.specs.Clean.{IsClean}
+use Rattle.fq_memory.specs.Clean.{IsClean}
 use Rattle.fq_io.specs.Faults.{Rose}
 
 -- the faults of a clean source, which are 0 before and after, did not rise

@@ -1,5 +1,5 @@
 //! Laws of sources and sinks that fail only where they must, for proofs above this crate. Nothing here runs.
-ghost use Rattle.fq_io.specs.Laws.{CleanSourceNeverFails, CleanSinkNeverFails};
+ghost use Rattle.fq_memory.specs.Laws.{CleanSourceNeverFails, CleanSinkNeverFails};
 
 /// Reading a clean source never fails.
 pub fn clean_source_never_fails()

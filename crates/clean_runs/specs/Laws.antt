@@ -1,6 +1,6 @@
 -- What follows for a run over memory that never fails.
 use Rattle.std.specs.Prelude.{ℕ, ◌<◌, ◌≡◌, ◌≢◌, List, [], length, Option, Some}
-use Rattle.fq_io.specs.Clean.{IsClean}
+use Rattle.fq_memory.specs.Clean.{IsClean}
 use Rattle.fq_model.specs.declared.command.Command.{Command}
 use Rattle.command_texts.specs.Commands.{Outputs}
 use Rattle.twodfq_main.specs.Program.{Move, IsRun}

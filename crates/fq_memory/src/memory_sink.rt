@@ -3,11 +3,10 @@ ghost use Rattle.std.specs.Prelude.{◌≡◌, ◌≤◌, ◌↔◌, [], length,
 ghost use Rattle.std.specs.Io.KnownBytes.{WriteAppends};
 ghost use Rattle.fq_io.specs.Faults.{HasCause};
 ghost use Rattle.fq_io.specs.Sinks.{TakesSome};
-ghost use Rattle.fq_io.specs.Memory.{MemorySink, refuses, write_count, after_write};
+ghost use Rattle.fq_memory.specs.Memory.{MemorySink, refuses, write_count, after_write};
 
-use crate::fault::{Failed, NoMemory};
-use crate::sink::Sink;
-use std::alloc::Global;
+use fq_io::{Failed, Sink};
+use std::alloc::{AllocError, Global};
 use std::marker::Model;
 
 /// Room for bytes in memory, filled in pieces, and the numbers of the calls that fail.
@@ -45,7 +44,7 @@ impl MemSink {
         room: usize,
         chunk: usize,
         fails: Vec<u64>,
-    ) -> Result<MemSink, NoMemory>
+    ) -> Result<MemSink, AllocError>
         requires { 1 ≤ chunk }
         ensures { IfOk result (λ sink. sink ≡ record {
           written = [];

@@ -3,11 +3,10 @@ ghost use Rattle.std.specs.Prelude.{◌≡◌, ◌≤◌, [], length, Some, IfOk
 ghost use Rattle.std.specs.Io.KnownBytes.{WriteAppends};
 ghost use Rattle.fq_io.specs.Faults.{HasCause};
 ghost use Rattle.fq_io.specs.Sinks.{TakesSome};
-ghost use Rattle.fq_io.specs.Clean.{CleanMemory, Fills, IsClean};
+ghost use Rattle.fq_memory.specs.Clean.{CleanMemory, Fills, IsClean};
 
-use crate::fault::{Failed, NoMemory};
-use crate::sink::Sink;
-use std::alloc::Global;
+use fq_io::{Failed, Sink};
+use std::alloc::{AllocError, Global};
 use std::marker::Model;
 
 /// Room for bytes in memory, for tools and tests that want a whole text: a status that comes only where writing failed
@@ -29,7 +28,7 @@ impl Model for CleanSink {
 
 impl CleanSink {
     /// Takes `room` bytes of memory at once, and later none.
-    pub fn with_room(alloc: Global, room: usize) -> Result<CleanSink, NoMemory>
+    pub fn with_room(alloc: Global, room: usize) -> Result<CleanSink, AllocError>
         ensures { IfOk result (λ sink. sink ≡ record { written = []; room = room; faults = 0 }) }
     {
         Ok(CleanSink {

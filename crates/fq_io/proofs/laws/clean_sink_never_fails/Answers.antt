@@ -1,5 +1,0 @@
-use Rattle.fq_io.proofs.Clean.{never_full}
-use Rattle.fq_io.proofs.laws.clean_sink_never_fails.Goals as goal
-
-pub returns : goal.returns
-returns c = never_full
