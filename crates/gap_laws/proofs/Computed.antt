@@ -11,8 +11,8 @@ use Rattle.fq_model.specs.Sums.{least_below}
 use Rattle.fq_model.specs.Gap.{is_as_declared, not_declared, is_shared, start_difference, shared_differences, first_differences, longest_length, lengths_in_bound, greatest_with, greatest_of, largest_difference, difference_bound, TagGap, tag_gap}
 use Rattle.fq_laws.proofs.Sums.{least_by, least_none}
 use Rattle.fq_laws.proofs.History.Requests.{fresh}
-use Rattle.fq_laws.proofs.Computed.Histories.{IsShort, shorter, head_within, head_is, start_within, start_is, computing}
-use Rattle.fq_laws.proofs.Computed.Legal.{legal_test, legal_is, limits_test, limits_are}
+use Rattle.worked_histories.proofs.Computed.Histories.{IsShort, shorter, head_within, head_is, start_within, start_is, computing}
+use Rattle.worked_histories.proofs.Computed.Legal.{legal_test, legal_is, limits_test, limits_are}
 use Rattle.gap_laws.specs.Words.{HasDeclaredCosts}
 
 -- ---- requests that are as declared

@@ -8,7 +8,7 @@ use Rattle.fq_model.specs.declared.config.Estimator.TheVariants.{Declared}
 use Rattle.fq_model.specs.declared.event.Act.TheVariants.{Submit, Take, Done, Weight}
 use Rattle.fq_model.specs.History.{History}
 use Rattle.fq_model.specs.Gap.{TagGap}
-use Rattle.fq_laws.specs.Examples.{entry, units}
+use Rattle.worked_histories.specs.Examples.{entry, units}
 
 -- a gap of so many units, below a bound of so many
 abbrev pub gap_of : ℕ → ℕ → TagGap

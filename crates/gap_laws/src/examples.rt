@@ -4,7 +4,7 @@
 //! workers count from 0.
 ghost use Rattle.std.specs.Prelude.{◌≡◌, Some};
 ghost use Rattle.fq_model.specs.Gap.{longest_length, tag_gap};
-ghost use Rattle.fq_laws.specs.Examples.{units};
+ghost use Rattle.worked_histories.specs.Examples.{units};
 ghost use Rattle.gap_laws.specs.Words.{HasDeclaredCosts};
 ghost use Rattle.gap_laws.specs.Examples.{gap_of, stagger_config, stagger_history, begun_config, begun_history, weights_config, weights_history};
 

@@ -4,8 +4,8 @@ use Rattle.fq_model.specs.declared.event.Act.TheVariants.{Submit, Take, Done, Cl
 use Rattle.fq_model.specs.declared.event.Entry.{Entry}
 use Rattle.fq_model.specs.History.{history_of}
 use Rattle.fq_model.specs.Rules.{IsLegal}
-use Rattle.fq_laws.proofs.Computed.Histories.{computing}
-use Rattle.fq_laws.proofs.Computed.Legal.{legal_is}
+use Rattle.worked_histories.proofs.Computed.Histories.{computing}
+use Rattle.worked_histories.proofs.Computed.Legal.{legal_is}
 use Rattle.text_tests.specs.Worked.{worked_config}
 
 -- two workers, one of which runs a long request

@@ -1,6 +1,6 @@
 use Rattle.std.proofs.Common.{refl, arith}
 use Rattle.gap_laws.specs.Examples.{begun_config, begun_history}
-use Rattle.fq_laws.proofs.Computed.Histories.{IsShort, computing}
+use Rattle.worked_histories.proofs.Computed.Histories.{IsShort, computing}
 use Rattle.gap_laws.proofs.Computed.{premises_are, gap_is, computing_gap}
 use Rattle.gap_laws.proofs.examples.begun.Goals as goal
 

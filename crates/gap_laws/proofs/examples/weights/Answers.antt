@@ -1,6 +1,6 @@
 use Rattle.std.proofs.Common.{refl, arith}
 use Rattle.gap_laws.specs.Examples.{weights_config, weights_history}
-use Rattle.fq_laws.proofs.Computed.Histories.{IsShort, computing}
+use Rattle.worked_histories.proofs.Computed.Histories.{IsShort, computing}
 use Rattle.gap_laws.proofs.Computed.{premises_are, gap_is, computing_gap}
 use Rattle.gap_laws.proofs.examples.weights.Goals as goal
 

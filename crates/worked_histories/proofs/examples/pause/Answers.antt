@@ -1,10 +1,10 @@
 use Rattle.std.proofs.Common.{refl, arith}
 use Rattle.fq_model.specs.declared.config.Policy.TheVariants.{Wfq, Wf2q, Msf2q, TwoDfq}
-use Rattle.fq_laws.specs.Examples.{pause_config, pause_history}
-use Rattle.fq_laws.proofs.Computed.Histories.{IsShort, virtual_time_is, start_is, keys_are, computing}
-use Rattle.fq_laws.proofs.Computed.Choice.{choice_is}
-use Rattle.fq_laws.proofs.Computed.Legal.{legal_is, limits_are}
-use Rattle.fq_laws.proofs.examples.pause.Goals as goal
+use Rattle.worked_histories.specs.Examples.{pause_config, pause_history}
+use Rattle.worked_histories.proofs.Computed.Histories.{IsShort, virtual_time_is, start_is, keys_are, computing}
+use Rattle.worked_histories.proofs.Computed.Choice.{choice_is}
+use Rattle.worked_histories.proofs.Computed.Legal.{legal_is, limits_are}
+use Rattle.worked_histories.proofs.examples.pause.Goals as goal
 
 short : IsShort 4 2 pause_history
 unfolding pause_history

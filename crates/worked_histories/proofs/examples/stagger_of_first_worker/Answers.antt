@@ -1,9 +1,9 @@
 use Rattle.std.proofs.Common.{refl, arith}
-use Rattle.fq_laws.specs.Examples.{stagger_config, sixth_ended}
-use Rattle.fq_laws.proofs.Computed.Histories.{IsShort, virtual_time_is, keys_are, computing}
-use Rattle.fq_laws.proofs.Computed.Choice.{choice_is, choice_is_not, none_is_eligible}
-use Rattle.fq_laws.proofs.Computed.Legal.{legal_is}
-use Rattle.fq_laws.proofs.examples.stagger_of_first_worker.Goals as goal
+use Rattle.worked_histories.specs.Examples.{stagger_config, sixth_ended}
+use Rattle.worked_histories.proofs.Computed.Histories.{IsShort, virtual_time_is, keys_are, computing}
+use Rattle.worked_histories.proofs.Computed.Choice.{choice_is, choice_is_not, none_is_eligible}
+use Rattle.worked_histories.proofs.Computed.Legal.{legal_is}
+use Rattle.worked_histories.proofs.examples.stagger_of_first_worker.Goals as goal
 
 short : IsShort 10 2 sixth_ended
 unfolding sixth_ended

@@ -13,8 +13,8 @@ use Rattle.fq_model.specs.Time.{last_moment}
 use Rattle.fq_model.specs.Limits.{IsWithin, IsWeight, InLimits}
 use Rattle.vt_fixed.specs.declared.limits.TheConstants.{GREATEST_WEIGHT, GREATEST_COST, MOST_WORKERS, GREATEST_MOMENT}
 use Rattle.fq_model.specs.declared.limits.TheConstants.{MOST_ENTRIES, MOST_REQUESTS, MOST_PAIRS, MOST_TENANTS, MOST_KINDS, LEAST_ENTRIES}
-use Rattle.fq_laws.proofs.Computed.Histories.{waiting_within, running_within, IsShort, waiting_is, running_is, keys_within, turn_within, shorter}
-use Rattle.fq_laws.proofs.Computed.Choice.{choice_test, choice_is}
+use Rattle.worked_histories.proofs.Computed.Histories.{waiting_within, running_within, IsShort, waiting_is, running_is, keys_within, turn_within, shorter}
+use Rattle.worked_histories.proofs.Computed.Choice.{choice_test, choice_is}
 use Rattle.fq_laws.proofs.History.Workers.{running_nothing}
 use Rattle.fq_laws.proofs.Keys.Choices.{chosen_keys}
 

@@ -1,9 +1,9 @@
 use Rattle.std.proofs.Common.{refl, arith}
-use Rattle.fq_laws.specs.Examples.{stagger_config, long_ended}
-use Rattle.fq_laws.proofs.Computed.Histories.{IsShort, virtual_time_is, keys_are, computing}
-use Rattle.fq_laws.proofs.Computed.Choice.{choice_is, choice_is_not}
-use Rattle.fq_laws.proofs.Computed.Legal.{legal_is, limits_are}
-use Rattle.fq_laws.proofs.examples.stagger.Goals as goal
+use Rattle.worked_histories.specs.Examples.{stagger_config, long_ended}
+use Rattle.worked_histories.proofs.Computed.Histories.{IsShort, virtual_time_is, keys_are, computing}
+use Rattle.worked_histories.proofs.Computed.Choice.{choice_is, choice_is_not}
+use Rattle.worked_histories.proofs.Computed.Legal.{legal_is, limits_are}
+use Rattle.worked_histories.proofs.examples.stagger.Goals as goal
 
 short : IsShort 10 2 long_ended
 unfolding long_ended

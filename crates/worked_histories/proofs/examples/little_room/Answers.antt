@@ -1,8 +1,8 @@
 use Rattle.std.proofs.Common.{refl, arith}
-use Rattle.fq_laws.specs.Examples.{small_config, small_history, small_ended, small_reported, small_crowded}
-use Rattle.fq_laws.proofs.Computed.Histories.{IsShort, waiting_is, running_is, computing}
-use Rattle.fq_laws.proofs.Computed.Legal.{legal_is, limits_are}
-use Rattle.fq_laws.proofs.examples.little_room.Goals as goal
+use Rattle.worked_histories.specs.Examples.{small_config, small_history, small_ended, small_reported, small_crowded}
+use Rattle.worked_histories.proofs.Computed.Histories.{IsShort, waiting_is, running_is, computing}
+use Rattle.worked_histories.proofs.Computed.Legal.{legal_is, limits_are}
+use Rattle.worked_histories.proofs.examples.little_room.Goals as goal
 
 short : IsShort 1 1 small_ended
 unfolding small_ended

@@ -13,7 +13,7 @@ ghost use Rattle.fq_model.specs.declared.event.Call.TheVariants.{Take};
 ghost use Rattle.fq_model.specs.declared.event.Reply.TheVariants.{Retired};
 ghost use Rattle.fq_model.specs.declared.event.Act.TheVariants as Act;
 ghost use Rattle.fq_model.specs.Rules.{IsLegal, Answers, submit_refusal, workers_refusal};
-ghost use Rattle.fq_laws.specs.Examples.{entry, units, keys, NoneIsEligibleAt, weights_config, weights_history, workers_config, workers_history, stagger_config, long_ended, sixth_ended, fallback_config, fallback_history, fallback_taken, refund_config, refund_history, pause_config, pause_history, single_config, single_reported, single_ended, recent_config, recent_history, small_config, small_history, small_ended, small_reported, small_crowded};
+ghost use Rattle.worked_histories.specs.Examples.{entry, units, keys, NoneIsEligibleAt, weights_config, weights_history, workers_config, workers_history, stagger_config, long_ended, sixth_ended, fallback_config, fallback_history, fallback_taken, refund_config, refund_history, pause_config, pause_history, single_config, single_reported, single_ended, recent_config, recent_history, small_config, small_history, small_ended, small_reported, small_crowded};
 
 /// The stagger example, where worker 1 is free. Two workers over two weights make one unit a microsecond. Tenant 0 was
 /// charged 8, and tenant 1 six times 1. Worker 1 of 2 takes half a head's length off its start: tenant 0 is eligible at

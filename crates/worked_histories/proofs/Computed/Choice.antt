@@ -6,7 +6,7 @@ use Rattle.std.proofs.lemmas.Bool.Decides.{Decides-int_eq}
 use Rattle.fq_model.specs.Keys.{HeadKeys, Turn, eligible_key, finish, FinishBefore, EligibleBefore, NoneIsEligible, IsChoice, HasKeys, keys_at, IsChoiceAt, turn_at}
 use Rattle.fq_model.specs.declared.config.Config.{Config}
 use Rattle.fq_model.specs.History.{History}
-use Rattle.fq_laws.proofs.Computed.Histories.{IsShort, keys_within, keys_are, keys_none, turn_within, turn_is}
+use Rattle.worked_histories.proofs.Computed.Histories.{IsShort, keys_within, keys_are, keys_none, turn_within, turn_is}
 use Rattle.fq_laws.proofs.Keys.Choices.{is_eligible, eligible_true, eligible_false, chosen_one}
 
 -- ---- eligibility, and the two orders

@@ -1,10 +1,10 @@
 use Rattle.std.proofs.Common.{ℕ, ◌≡◌, nat_lt, true, refl, arith}
 use Rattle.std.proofs.lemmas.Bool.{and_from}
-use Rattle.fq_laws.specs.Examples.{fallback_config, fallback_history, fallback_taken}
-use Rattle.fq_laws.proofs.Computed.Histories.{IsShort, virtual_time_is, keys_are, computing}
-use Rattle.fq_laws.proofs.Computed.Choice.{choice_is, none_is_eligible}
-use Rattle.fq_laws.proofs.Computed.Legal.{legal_is, other_take_unfit, limits_are}
-use Rattle.fq_laws.proofs.examples.fallback.Goals as goal
+use Rattle.worked_histories.specs.Examples.{fallback_config, fallback_history, fallback_taken}
+use Rattle.worked_histories.proofs.Computed.Histories.{IsShort, virtual_time_is, keys_are, computing}
+use Rattle.worked_histories.proofs.Computed.Choice.{choice_is, none_is_eligible}
+use Rattle.worked_histories.proofs.Computed.Legal.{legal_is, other_take_unfit, limits_are}
+use Rattle.worked_histories.proofs.examples.fallback.Goals as goal
 
 short : IsShort 4 2 fallback_history
 unfolding fallback_history

@@ -1,9 +1,9 @@
 use Rattle.std.proofs.Common.{refl, arith, ◌∷◌}
 use Rattle.fq_model.specs.declared.event.Act.TheVariants.{Take}
-use Rattle.fq_laws.specs.Examples.{entry, workers_config, workers_history}
-use Rattle.fq_laws.proofs.Computed.Histories.{IsShort, virtual_time_is, waiting_is, running_is, computing}
-use Rattle.fq_laws.proofs.Computed.Legal.{legal_is, limits_are}
-use Rattle.fq_laws.proofs.examples.workers.Goals as goal
+use Rattle.worked_histories.specs.Examples.{entry, workers_config, workers_history}
+use Rattle.worked_histories.proofs.Computed.Histories.{IsShort, virtual_time_is, waiting_is, running_is, computing}
+use Rattle.worked_histories.proofs.Computed.Legal.{legal_is, limits_are}
+use Rattle.worked_histories.proofs.examples.workers.Goals as goal
 
 short : IsShort 2 2 workers_history
 unfolding workers_history

@@ -1,8 +1,8 @@
 use Rattle.std.proofs.Common.{refl, arith}
-use Rattle.fq_laws.specs.Examples.{recent_config, recent_history}
-use Rattle.fq_laws.proofs.Computed.Histories.{IsShort, computing}
-use Rattle.fq_laws.proofs.Computed.Legal.{legal_is, limits_are}
-use Rattle.fq_laws.proofs.examples.recent_costs.Goals as goal
+use Rattle.worked_histories.specs.Examples.{recent_config, recent_history}
+use Rattle.worked_histories.proofs.Computed.Histories.{IsShort, computing}
+use Rattle.worked_histories.proofs.Computed.Legal.{legal_is, limits_are}
+use Rattle.worked_histories.proofs.examples.recent_costs.Goals as goal
 
 short : IsShort 9 1 recent_history
 unfolding recent_history

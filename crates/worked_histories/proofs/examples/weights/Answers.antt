@@ -1,9 +1,9 @@
 use Rattle.std.proofs.Common.{refl, arith}
-use Rattle.fq_laws.specs.Examples.{weights_config, weights_history}
-use Rattle.fq_laws.proofs.Computed.Histories.{IsShort, virtual_time_is, tag_is, keys_are, computing}
-use Rattle.fq_laws.proofs.Computed.Choice.{choice_is}
-use Rattle.fq_laws.proofs.Computed.Legal.{legal_is, limits_are}
-use Rattle.fq_laws.proofs.examples.weights.Goals as goal
+use Rattle.worked_histories.specs.Examples.{weights_config, weights_history}
+use Rattle.worked_histories.proofs.Computed.Histories.{IsShort, virtual_time_is, tag_is, keys_are, computing}
+use Rattle.worked_histories.proofs.Computed.Choice.{choice_is}
+use Rattle.worked_histories.proofs.Computed.Legal.{legal_is, limits_are}
+use Rattle.worked_histories.proofs.examples.weights.Goals as goal
 
 short : IsShort 3 2 weights_history
 unfolding weights_history

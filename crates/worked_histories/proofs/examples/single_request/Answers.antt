@@ -1,8 +1,8 @@
 use Rattle.std.proofs.Common.{ℕ, refl, arith}
-use Rattle.fq_laws.specs.Examples.{single_config, single_reported, single_ended}
-use Rattle.fq_laws.proofs.Computed.Histories.{IsShort, computing}
-use Rattle.fq_laws.proofs.Computed.Legal.{legal_is, limits_are}
-use Rattle.fq_laws.proofs.examples.single_request.Goals as goal
+use Rattle.worked_histories.specs.Examples.{single_config, single_reported, single_ended}
+use Rattle.worked_histories.proofs.Computed.Histories.{IsShort, computing}
+use Rattle.worked_histories.proofs.Computed.Legal.{legal_is, limits_are}
+use Rattle.worked_histories.proofs.examples.single_request.Goals as goal
 
 short : (cost : ℕ) → IsShort 1 1 (single_ended cost)
 unfolding single_ended

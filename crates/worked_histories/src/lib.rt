@@ -1,0 +1,4 @@
+//! What the definitions give on worked histories, small enough to find each number by hand.
+#![tactic(auto)]
+
+pub mod examples;
