@@ -4,5 +4,3 @@ pub mod Rule
 pub mod Plays
 pub mod Passes
 pub mod Last
-pub mod Echoes
-pub mod Laws

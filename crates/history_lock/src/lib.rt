@@ -6,7 +6,6 @@
 //! overtaken often enough.
 #![tactic(auto)]
 
-pub mod laws;
 pub mod lock;
 pub mod machine;
 pub mod pass;

@@ -249,6 +249,15 @@ impl<J: Job + Drop, X: Chooser> Scheduler<J, X> {
         self.journal.past()
     }
 
+    /// What the scheduler was opened with.
+    pub fn config(&self) -> &Checked
+        ensures { result.now ≡ self.now.config }
+    {
+        self.journal.config()
+    }
+}
+
+impl<J: Job + Drop, X: Chooser + Drop> Scheduler<J, X> {
     /// Its history, to which nothing is added any more. The jobs of the requests that still wait are dropped.
     pub fn into_history(self) -> History
         ensures past { result.past ≡ self.past }
@@ -257,12 +266,5 @@ impl<J: Job + Drop, X: Chooser> Scheduler<J, X> {
         let Scheduler { journal, tracker } = self;
         drop(tracker);
         journal.into_history()
-    }
-
-    /// What the scheduler was opened with.
-    pub fn config(&self) -> &Checked
-        ensures { result.now ≡ self.now.config }
-    {
-        self.journal.config()
     }
 }

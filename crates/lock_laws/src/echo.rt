@@ -1,16 +1,11 @@
-//! Laws of the lock that callers rest on, and a machine to try it with. The laws do nothing when they run.
+//! A machine to try a lock with.
 ghost use Rattle.std.specs.Prelude.{◌≡◌, [], IfOk};
-ghost use Rattle.history_lock.specs.Laws.{OwnTurnsRound, PrefixTurnsRound, GrowthTurnsRound};
 
-use crate::lock::HistoryLock;
-use crate::machine::Machine;
-use crate::pass::Pass;
 use fq_model::event::{Act, Entry};
+use history_lock::Machine;
 use std::alloc::{AllocError, Global};
 use std::marker::Model;
 
-// It stands here, and not among the tests, since a caller of the lock needs a machine to try it with, and tests above this
-// crate use it.
 /// A machine that answers how many entries it has, and writes each call down while it has room. A call is any number, and
 /// becomes the moment of its entry.
 #[derive(Drop)]
@@ -21,7 +16,7 @@ pub struct Echo {
 
 impl Model for Echo {
     ghost use Rattle.std.specs.Prelude.{◌≤◌, vec_capacity};
-    ghost use Rattle.history_lock.specs.Echoes.{EchoView};
+    ghost use Rattle.lock_laws.specs.Echoes.{EchoView};
 
     ghost Value = { EchoView };
 
@@ -49,7 +44,7 @@ impl Echo {
 }
 
 impl Machine for Echo {
-    ghost use Rattle.history_lock.specs.Echoes.{EchoAnswers, echo_grows};
+    ghost use Rattle.lock_laws.specs.Echoes.{EchoAnswers, echo_grows};
 
     type Call = u64;
 
@@ -78,34 +73,4 @@ impl Machine for Echo {
         }
         length as u64
     }
-}
-
-/// The own entries of a history with its newest entry first are those in order of time, turned round.
-pub fn own_turns_round()
-    ensures { OwnTurnsRound }
-{}
-
-/// A front part in order of time is what is left of the history with its newest entry first once newer ones are dropped.
-pub fn prefix_turns_round()
-    ensures { PrefixTurnsRound }
-{}
-
-/// One entry more in order of time is one entry more at the front of the history with its newest entry first.
-pub fn growth_turns_round()
-    ensures { GrowthTurnsRound }
-{}
-
-fn may_be_sent<T: Send>() {}
-
-fn may_be_shared<T: Sync>() {}
-
-/// A lock may be sent to another thread, and threads may share it, where its machine may be sent.
-pub fn lock_crosses_threads<M: Machine + Send>() {
-    may_be_sent::<HistoryLock<M>>();
-    may_be_shared::<HistoryLock<M>>();
-}
-
-/// A pass may be sent to another thread, whatever its frame.
-pub fn pass_crosses_threads<F>() {
-    may_be_sent::<Pass<F>>();
 }
