@@ -16,6 +16,8 @@ pub struct History {
 }
 
 impl Model for History {
+    ghost use Rattle.fq_model.specs.History.{history_of};
+    ghost use Rattle.fq_model.specs.Rules.{IsLegal};
     ghost use Rattle.sched_state.specs.Journal.{JournalView};
 
     ghost Value = { JournalView };
