@@ -93,7 +93,7 @@ fn serve_at_desk<X: Chooser + Drop + Send, K: Clock + Sync, R: Threads + Wait + 
         hands.destroy_empty();
         return Err(PoolFault::NoMemory);
     };
-    serve_rows(
+    serve_rows::<X, K, R>(
         rt,
         &desk,
         trace.rows(),
@@ -139,7 +139,7 @@ pub fn serve<X: Chooser + Drop + Send, K: Clock + Sync, R: Threads + Wait + Sync
     let count = submitters(rows);
     let queues = deal(alloc, rows, count)?;
     let hands = Vec::with_capacity(alloc, (count + options.workers) as usize)?;
-    serve_at_desk(
+    serve_at_desk::<X, K, R>(
         rt, alloc, config, trace, options, clock, count, queues, hands,
     )
 }

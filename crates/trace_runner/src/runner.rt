@@ -47,7 +47,7 @@ pub fn simulate<X: Chooser + Drop>(
     let entries = (needed as u32).max(LEAST_ENTRIES);
     let config = config_of(alloc, trace, options, entries)?;
     let mut agenda = Agenda::open(alloc, options.workers, submitters(trace.rows()))?;
-    let mut scheduler = Scheduler::open(alloc, config)?;
+    let mut scheduler: Scheduler<u64, X> = Scheduler::open(alloc, config)?;
     'events: while let Some(event) = agenda.next(trace.rows()) {
         step(&mut scheduler, &mut agenda, trace, options, event);
     }
