@@ -30,7 +30,7 @@ module _ (T : Trace) (O : RunOptions) (H : History) (s : IsPoolHistory T O H) wh
   unfolding unfinished
   none_unfinished = least_by (is_unfinished H) request_bound None (λ r _. not_unfinished r (is_submitted H r) refl)
 
--- what is asked for of the history of a scheduler that a pool shared is asked for of the trace
+-- what is asked for of the history that a pool made is asked for of the trace
 pub of_pool : {A : Type 0} (bytes : A → List ℕ) (Told : ℕ → Type 0) (T : Trace) (O : RunOptions) (slot : ℕ) (print : HistoryPrint) (C : Config) (past : List Entry) (answer : Result A Stop) → C ≡ pool_config T O → PoolServes Told T O past
     → MatchResult answer (λ a. IsHistoryOutput print slot C T.tenants T.kinds past (bytes a)) (IsCellsStop print slot C (history_of past))
     → MatchResult answer (λ a. IsPoolOutput Told T O slot print (bytes a)) (IsPoolStop Told T O slot print)

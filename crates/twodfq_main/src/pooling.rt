@@ -67,7 +67,7 @@ fn pool_text<T: Wait + Threads + Sync, K: Clock + Sync>(
     ensures { MatchResult result (λ text. IsPoolOutput (K.tells clock.now) trace.now options slot what text.items)
         (IsPoolStop (K.tells clock.now) trace.now options slot what) }
 {
-    match serve::<IndexChooser, K, R>(rt, alloc, trace, options, clock) {
+    match serve::<IndexChooser, K, T>(rt, alloc, trace, options, clock) {
         Ok(history) => {
             let (tenants, kinds) = (trace.tenants(), trace.kinds());
             last_history_text(alloc, what, slot, history, tenants, kinds)
