@@ -1,9 +1,9 @@
 //! Sources, sinks and the clock that stands, one call after the other.
 use crate::samples::{bytes_of, sink_with_room, source_of};
 use fq_io::{
-    CleanSink, CleanSource, Clock, FixedClock, ReadAllFault, Sink, Source, StdSink, StdSource,
-    WriteFault, read_all, write_all,
+    Clock, ReadAllFault, Sink, Source, StdSink, StdSource, WriteFault, read_all, write_all,
 };
+use fq_memory::{CleanSink, CleanSource, FixedClock};
 use std::alloc::Global;
 use std::io::{self, ErrorKind, Read, Write};
 use std::process::Abort;
