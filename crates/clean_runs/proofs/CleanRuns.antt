@@ -5,15 +5,15 @@ use Rattle.fq_io.specs.Faults.{Rose}
 use Rattle.fq_io.specs.Sinks.{AppendsPart}
 use Rattle.fq_io.specs.Sources.{GaveAll}
 use Rattle.fq_memory.proofs.Clean.{stays_zero, never_full}
-use Rattle.fq_model.specs.declared.command.Command.{Command}
-use Rattle.fq_model.specs.declared.command.Command.TheVariants as commands
+use Rattle.program_model.specs.declared.command.Command.{Command}
+use Rattle.program_model.specs.declared.command.Command.TheVariants as commands
 use Rattle.command_texts.specs.Commands.{Outputs}
 use Rattle.command_texts.specs.Stops.{status_of}
 use Rattle.command_texts.specs.declared.stop.Stop.{Stop}
 use Rattle.command_texts.specs.declared.stop.Stop.TheVariants.{Words, TooLong, Fault, Reading, Writing, NoMemory, TooManyEntries, TooManyCells}
-use Rattle.twodfq_main.specs.Program.{Move, Device, Fails, ReadsInput, Ends, IsRun}
+use Rattle.plain_commands.specs.Program.{Move, Device, Fails, ReadsInput, Ends, IsRun}
 use Rattle.clean_runs.specs.Laws.{NeverFailsReading, NeverFailsWriting, AreOutputsShorter, IsCleanSink}
-use Rattle.twodfq_main.proofs.Runs.{run_means}
+use Rattle.plain_commands.proofs.Runs.{run_means}
 
 pub no_reading : (Told : ℕ → Type 0) → NeverFailsReading Told
 no_reading Told ask source sink errs status run clean four =

@@ -1,9 +1,9 @@
 -- What follows for a run over memory that never fails.
 use Rattle.std.specs.Prelude.{ℕ, ◌<◌, ◌≡◌, ◌≢◌, List, [], length, Option, Some}
 use Rattle.fq_memory.specs.Clean.{IsClean}
-use Rattle.fq_model.specs.declared.command.Command.{Command}
+use Rattle.program_model.specs.declared.command.Command.{Command}
 use Rattle.command_texts.specs.Commands.{Outputs}
-use Rattle.twodfq_main.specs.Program.{Move, IsRun}
+use Rattle.plain_commands.specs.Program.{Move, IsRun}
 
 -- a clean source was read: its faults are 0 before and after
 abbrev pub IsCleanSource : Move → Type 0

@@ -3,7 +3,7 @@ use Rattle.std.proofs.Common.{ℕ, ◌+◌, ◌<◌, ◌≤◌, ◌≡◌, List,
 use Rattle.std.proofs.Math.ListN.{set}
 use Rattle.std.proofs.lemmas.List.{get_or-map, take_more_set, drop-set-lt, take_all, drop_all, append-nil}
 use Rattle.command_line.specs.declared.options.OptionRow as code
-use Rattle.fq_model.specs.Options.{OptionRow, Value}
+use Rattle.program_model.specs.Options.{OptionRow, Value}
 use Rattle.command_line.specs.Rows.{seen_row, or_absent}
 use Rattle.command_line.proofs.Lists.{length_map}
 use Rattle.command_line.proofs.Numbers.{with_value, with_absent}

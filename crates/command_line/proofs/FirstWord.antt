@@ -3,7 +3,7 @@ use Rattle.std.proofs.Common.{ℕ, ◌≡◌, ◌≢◌, false, List, [], ◌∷
 use Rattle.std.specs.Option.{option_and_then}
 use Rattle.std.proofs.lemmas.Bool.{false_from_ne_true}
 use Rattle.std.proofs.lemmas.Slice.Eq.{bytes_eq-Decides}
-use Rattle.fq_model.specs.Options.{CommandRow, command_by, command_of}
+use Rattle.program_model.specs.Options.{CommandRow, command_by, command_of}
 
 -- no words are no command
 pub command_none : {C : Type 0} (table : List (CommandRow C)) (words : List (String Global)) → length words ≡ 0 → command_of table (map string_bytes words) ≡ None

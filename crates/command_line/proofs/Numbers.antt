@@ -8,8 +8,8 @@ use Rattle.std.proofs.lemmas.Bool.{false≢true, false_from_ne_true}
 use Rattle.std.proofs.lemmas.List.Folds.{list_any_at}
 use Rattle.std.proofs.lemmas.List.Quantifiers.{position-Some}
 use Rattle.std.proofs.lemmas.Slice.Eq.{bytes_eq-Decides}
-use Rattle.fq_model.specs.Lines.{Words}
-use Rattle.fq_model.specs.Options.{OptionRow, Given, Value, options_of, are_known, texts_for, number_for, value_of, values_of, values_in}
+use Rattle.program_model.specs.Lines.{Words}
+use Rattle.program_model.specs.Options.{OptionRow, Given, Value, options_of, are_known, texts_for, number_for, value_of, values_of, values_in}
 use Rattle.command_line.specs.Given.{first_option, is_end}
 use Rattle.command_line.specs.Rows.{has_name, are_distinct, or_absent}
 use Rattle.command_line.proofs.Lists.{none_has}

@@ -1,8 +1,8 @@
 -- Words that are read option by option, and what the definitions say of them as a whole.
 use Rattle.std.proofs.Common.{ℕ, suc, ◌<◌, ◌≡◌, Bool, true, false, if◌then◌else◌, List, [], ◌∷◌, map, length, Option, Some, None, option_map, unwrap_or, bytes_eq, codes, position, Bor, refl, sym, ap, ◌∙◌, arith}
 use Rattle.std.specs.List.{list_any}
-use Rattle.fq_model.specs.Lines.{Words}
-use Rattle.fq_model.specs.Options.{Among, Given, is_equals, given_by, options_of, is_value, number_for}
+use Rattle.program_model.specs.Lines.{Words}
+use Rattle.program_model.specs.Options.{Among, Given, is_equals, given_by, options_of, is_value, number_for}
 use Rattle.command_line.specs.Given.{first_option, is_end}
 use Rattle.command_line.proofs.Lists.{position-map}
 

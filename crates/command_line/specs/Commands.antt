@@ -1,13 +1,14 @@
 -- The commands that there are.
 use Rattle.std.specs.Prelude.{ℕ, ◌≤◌, List, [], ◌∷◌}
-use Rattle.fq_model.specs.declared.command.Command.{Command}
-use Rattle.fq_model.specs.declared.command.Command.TheVariants as commands
-use Rattle.fq_model.specs.declared.command.HistoryPrint.{HistoryPrint}
+use Rattle.program_model.specs.declared.command.Command.{Command}
+use Rattle.program_model.specs.declared.command.Command.TheVariants as commands
+use Rattle.program_model.specs.declared.command.HistoryPrint.{HistoryPrint}
 use Rattle.fq_model.specs.declared.limits.TheConstants.{MOST_TENANTS, MOST_ROWS, GREATEST_SLOT}
-use Rattle.fq_model.specs.declared.trace.RunOptions.{RunOptions}
-use Rattle.fq_model.specs.Limits.{IsWithin, AreInRange}
-use Rattle.fq_model.specs.Options.{CommandRow}
-use Rattle.fq_model.specs.Command.{script_row, run_row, live_row, gen_row}
+use Rattle.program_model.specs.declared.trace.RunOptions.{RunOptions}
+use Rattle.fq_model.specs.Limits.{IsWithin}
+use Rattle.program_model.specs.RunLimits.{AreInRange}
+use Rattle.program_model.specs.Options.{CommandRow}
+use Rattle.program_model.specs.Command.{script_row, run_row, live_row, gen_row}
 
 -- the table by which the program's words are read
 abbrev pub built_commands : List (CommandRow Command)

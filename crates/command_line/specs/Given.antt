@@ -2,8 +2,8 @@
 use Rattle.std.specs.Prelude.{ℕ, Bool, true, false, if◌then◌else◌, List, [], ◌∷◌, Option, Some, None, codes, bytes_eq}
 use Rattle.std.specs.List.{list_any}
 use Rattle.command_line.specs.declared.given.Given as code
-use Rattle.fq_model.specs.Lines.{Words}
-use Rattle.fq_model.specs.Options.{Given, is_equals, given_by}
+use Rattle.program_model.specs.Lines.{Words}
+use Rattle.program_model.specs.Options.{Given, is_equals, given_by}
 
 -- an option as it is given
 abbrev pub seen_given : code.Given → Given

@@ -6,7 +6,7 @@ use Rattle.command_line.specs.declared.options.Values.TheVariants as values
 use Rattle.command_line.specs.declared.options.Absent as code_absent
 use Rattle.command_line.specs.declared.options.Absent.TheVariants as absent
 use Rattle.command_line.specs.declared.options.OptionRow as code_row
-use Rattle.fq_model.specs.Options.{Values, Within, Among, Absent, Required, Nothing, Default, OptionRow, Value, absent_value}
+use Rattle.program_model.specs.Options.{Values, Within, Among, Absent, Required, Nothing, Default, OptionRow, Value, absent_value}
 
 -- what may be written as a value
 abbrev pub seen_values : code_values.Values → Values

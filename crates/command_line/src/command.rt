@@ -1,8 +1,8 @@
 //! The commands.
 ghost use Rattle.std.specs.Prelude.{◌≡◌, IfSome, map, option_map, unwrap_or, slice_index_or};
 ghost use Rattle.std.specs.String.{string_bytes};
-ghost use Rattle.fq_model.specs.Options.{command_of, command_by};
-ghost use Rattle.fq_model.specs.Command.{script_row, run_row, live_row, gen_row};
+ghost use Rattle.program_model.specs.Options.{command_of, command_by};
+ghost use Rattle.program_model.specs.Command.{script_row, run_row, live_row, gen_row};
 ghost use Rattle.command_line.specs.Commands.{built_commands, IsInRange, run_by, live_by};
 
 use crate::options::{Value, values_in};
@@ -10,9 +10,9 @@ use crate::table::{
     ESTIMATORS, GEN_OPTIONS, GEN_PRINTS, HISTORY_PRINTS, POLICIES, RUN_OPTIONS, SCRIPT_OPTIONS,
     SCRIPT_PRINTS,
 };
-use fq_model::command::{Command, GenPrint, HistoryPrint, ScriptPrint};
 use fq_model::config::{Estimator, Policy};
-use fq_model::trace::RunOptions;
+use program_model::command::{Command, GenPrint, HistoryPrint, ScriptPrint};
+use program_model::trace::RunOptions;
 
 /// The command that words ask for, without the program's name before them. None where they are no line of the table of
 /// commands. Takes no memory.

@@ -1,11 +1,11 @@
 //! The options of a command, and what words say of them.
 ghost use Rattle.std.specs.Prelude.{◌≡◌, IsTrue, IfSome, length, map, position, bytes_eq};
 ghost use Rattle.std.specs.String.{string_bytes};
-ghost use Rattle.fq_model.specs.Options.{Within, is_value, number_among, number_for, absent_value, values_in};
+ghost use Rattle.program_model.specs.Options.{Within, is_value, number_among, number_for, absent_value, values_in};
 ghost use Rattle.command_line.specs.Rows.{seen_values, seen_row, are_distinct, or_absent, AreValuesOf};
 
 use crate::given::{first_option, is_end};
-use fq_model::words::number;
+use program_model::numbers::number;
 
 /// What may be written as the value of an option. It is never empty, and never begins with `-`.
 pub enum Values {

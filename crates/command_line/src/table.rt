@@ -1,9 +1,9 @@
 //! The options of the commands, and what the words that they list stand for.
 
 use crate::options::{Absent, OptionRow, Values};
-use fq_model::command::{GenPrint, HistoryPrint, ScriptPrint};
 use fq_model::config::{Estimator, Policy};
 use fq_model::limits::{GREATEST_COST, GREATEST_SLOT, MOST_ROWS, MOST_TENANTS, MOST_WORKERS};
+use program_model::command::{GenPrint, HistoryPrint, ScriptPrint};
 
 /// The policies, in the order of the words for them.
 pub const POLICIES: [Policy; 4] = [Policy::Wfq, Policy::Wf2q, Policy::Msf2q, Policy::TwoDfq];

@@ -3,25 +3,25 @@ use Rattle.std.proofs.Common.{ℕ, ◌<◌, ◌≤◌, ◌≡◌, ◌∙◌, sym
 use Rattle.std.specs.Prelude.{MatchResult}
 use Rattle.std.proofs.lemmas.Bool.{ltb-true, ltb-false}
 use Rattle.fluid_reference.proofs.Lists.{list_length}
-use Rattle.fq_model.specs.declared.command.Command.TheVariants.{Run}
-use Rattle.fq_model.specs.declared.command.HistoryPrint.{HistoryPrint}
-use Rattle.fq_model.specs.declared.command.HistoryPrint.TheVariants as prints
-use Rattle.fq_model.specs.declared.command.GenPrint.{GenPrint}
-use Rattle.fq_model.specs.declared.command.GenPrint.TheVariants as gen
+use Rattle.program_model.specs.declared.command.Command.TheVariants.{Run}
+use Rattle.program_model.specs.declared.command.HistoryPrint.{HistoryPrint}
+use Rattle.program_model.specs.declared.command.HistoryPrint.TheVariants as prints
+use Rattle.program_model.specs.declared.command.GenPrint.{GenPrint}
+use Rattle.program_model.specs.declared.command.GenPrint.TheVariants as gen
 use Rattle.fq_model.specs.declared.config.Config.{Config}
 use Rattle.fq_model.specs.declared.event.Entry.{Entry}
-use Rattle.fq_model.specs.declared.trace.RunOptions.{RunOptions}
-use Rattle.fq_model.specs.Command.{default_run_options}
-use Rattle.fq_model.specs.Generator.{generated_trace}
+use Rattle.program_model.specs.declared.trace.RunOptions.{RunOptions}
+use Rattle.program_model.specs.Command.{default_run_options}
+use Rattle.program_model.specs.Generator.{generated_trace}
 use Rattle.fq_model.specs.History.{History, history_of}
 use Rattle.fq_model.specs.Limits.{IsWithin}
 use Rattle.fq_model.specs.Report.{LagReport, lag_report, slot_for, tenant_lag}
-use Rattle.fq_model.specs.ReportText.{lag_summary_text}
+use Rattle.program_model.specs.ReportText.{lag_summary_text}
 use Rattle.fq_model.specs.Rules.{IsLegal}
 use Rattle.fq_model.specs.declared.limits.TheConstants.{MOST_ENTRIES, MOST_TENANTS, MOST_ROWS}
-use Rattle.fq_model.specs.Simulated.{needed_entries, run_config}
-use Rattle.fq_model.specs.Trace.{Trace}
-use Rattle.fq_model.specs.TraceGrammar.{trace_of}
+use Rattle.program_model.specs.Simulated.{needed_entries, run_config}
+use Rattle.program_model.specs.Trace.{Trace}
+use Rattle.program_model.specs.TraceGrammar.{trace_of}
 use Rattle.lag_report.specs.Reports.{requests_of}
 use Rattle.lag_report.proofs.TenantLines.{rows_count_submits}
 use Rattle.trace_reader.proofs.Generated.{generated_short}
@@ -53,7 +53,7 @@ few_entries needed s fault over = go (nat_lt MOST_ENTRIES needed) refl
     go true e = let clash : Ok s ≡ Err fault = over (ltb-true MOST_ENTRIES needed e) in absurd (cc)
     go false e = omega (arith, ltb-false MOST_ENTRIES needed e)
 
--- what is asked for of the history of a scheduler that simulated a trace is asked for of the trace
+-- what is asked for of a history that simulates a trace is asked for of the trace
 pub of_trace : {A : Type 0} (bytes : A → List ℕ) (T : Trace) (O : RunOptions) (slot : ℕ) (print : HistoryPrint) (C : Config) (past : List Entry) (answer : Result A Stop) → C ≡ run_config T O → Simulates T O past
     → MatchResult answer (λ a. IsHistoryOutput print slot C T.tenants T.kinds past (bytes a)) (IsCellsStop print slot C (history_of past))
     → MatchResult answer (λ a. IsSimulatedOutput T O slot print (bytes a)) (IsSimulationStop T O slot print)

@@ -3,27 +3,27 @@ use Rattle.std.proofs.Common.{ℕ, ◌≡◌, ◌∙◌, refl, sym, ap, subst, B
 use Rattle.std.specs.Prelude.{is_err, codes, OnOk, IfOk, IfErr, MatchResult}
 use Rattle.std.proofs.lemmas.Bool.{false≢true}
 use Rattle.std.proofs.lemmas.List.{append_assoc, append-nil}
-use Rattle.fq_model.specs.declared.command.ScriptPrint.{ScriptPrint}
-use Rattle.fq_model.specs.declared.command.ScriptPrint.TheVariants.{Replies, Journal, Both}
+use Rattle.program_model.specs.declared.command.ScriptPrint.{ScriptPrint}
+use Rattle.program_model.specs.declared.command.ScriptPrint.TheVariants.{Replies, Journal, Both}
 use Rattle.fq_model.specs.declared.config.Config.{Config}
 use Rattle.fq_model.specs.declared.event.Call.{Call}
 use Rattle.fq_model.specs.declared.event.Entry.{Entry}
 use Rattle.fq_model.specs.declared.event.Reply.{Reply}
-use Rattle.fq_model.specs.declared.fault.ScriptKind.{ScriptKind}
-use Rattle.fq_model.specs.Document.{config_of, document_of}
+use Rattle.program_model.specs.declared.fault.ScriptKind.{ScriptKind}
+use Rattle.program_model.specs.Document.{config_of, document_of}
 use Rattle.fq_model.specs.History.{history_of}
-use Rattle.fq_model.specs.JournalText.{journal_text}
-use Rattle.fq_model.specs.Output.{script_output_text}
+use Rattle.program_model.specs.JournalText.{journal_text}
+use Rattle.program_model.specs.Output.{script_output_text}
 use Rattle.fq_model.specs.Rules.{Answers}
-use Rattle.fq_model.specs.Script.{Script, script_of, call_of_words}
-use Rattle.fq_model.specs.Texts.{reply_line, replies_text}
+use Rattle.program_model.specs.Script.{Script, script_of, call_of_words}
+use Rattle.program_model.specs.Texts.{reply_line, replies_text}
 use Rattle.fq_laws.proofs.Outcome.{outcome_snoc}
 use Rattle.journal_text.proofs.Bodies.{with_more}
 use Rattle.journal_text.specs.Body.{Below, with_first, said_below, with_body_lines, IsHeadFault}
 use Rattle.journal_text.specs.Reading.{IsFirstFault}
 use Rattle.journal_text.specs.declared.fault.ScriptFault.{ScriptFault}
 use Rattle.journal_text.specs.declared.fault.ScriptFault.TheVariants as faults
-use Rattle.fq_model.specs.declared.command.Command.TheVariants as commands
+use Rattle.program_model.specs.declared.command.Command.TheVariants as commands
 use Rattle.command_texts.specs.Commands.{IsServed, Untold}
 use Rattle.command_texts.specs.Stops.{IsFaultStop, IsOutputStop}
 use Rattle.command_texts.specs.declared.stop.Stop.{Stop}

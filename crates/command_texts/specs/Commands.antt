@@ -1,33 +1,33 @@
 -- What each command writes for an input, and what is told of an input for which it has nothing to write.
 use Rattle.std.specs.Prelude.{ℕ, ◌<◌, ◌≡◌, Bool, true, false, List, is_ok, Result, Err, Ok}
-use Rattle.fq_model.specs.declared.command.Command.{Command}
-use Rattle.fq_model.specs.declared.command.Command.TheVariants.{Script, Run, Live, Gen}
-use Rattle.fq_model.specs.declared.command.ScriptPrint.{ScriptPrint}
-use Rattle.fq_model.specs.declared.command.HistoryPrint.{HistoryPrint}
-use Rattle.fq_model.specs.declared.command.HistoryPrint.TheVariants.{Summary}
-use Rattle.fq_model.specs.declared.command.GenPrint.{GenPrint}
-use Rattle.fq_model.specs.declared.command.GenPrint.TheVariants as gen
+use Rattle.program_model.specs.declared.command.Command.{Command}
+use Rattle.program_model.specs.declared.command.Command.TheVariants.{Script, Run, Live, Gen}
+use Rattle.program_model.specs.declared.command.ScriptPrint.{ScriptPrint}
+use Rattle.program_model.specs.declared.command.HistoryPrint.{HistoryPrint}
+use Rattle.program_model.specs.declared.command.HistoryPrint.TheVariants.{Summary}
+use Rattle.program_model.specs.declared.command.GenPrint.{GenPrint}
+use Rattle.program_model.specs.declared.command.GenPrint.TheVariants as gen
 use Rattle.fq_model.specs.declared.event.Entry.{Entry}
 use Rattle.fq_model.specs.declared.event.Reply.{Reply}
-use Rattle.fq_model.specs.declared.fault.ScriptKind.{ScriptKind}
-use Rattle.fq_model.specs.declared.fault.TraceKind.{TraceKind}
+use Rattle.program_model.specs.declared.fault.ScriptKind.{ScriptKind}
+use Rattle.program_model.specs.declared.fault.TraceKind.{TraceKind}
 use Rattle.fq_model.specs.declared.limits.TheConstants.{MOST_ENTRIES}
-use Rattle.fq_model.specs.declared.trace.RunOptions.{RunOptions}
+use Rattle.program_model.specs.declared.trace.RunOptions.{RunOptions}
 use Rattle.fq_model.specs.History.{history_of}
 use Rattle.fq_model.specs.Outcome.{Outcome}
-use Rattle.fq_model.specs.Command.{default_run_options}
-use Rattle.fq_model.specs.Document.{config_of}
-use Rattle.fq_model.specs.Generator.{generated_trace}
-use Rattle.fq_model.specs.PoolHistory.{needed_pool_entries}
-use Rattle.fq_model.specs.Script as scripts
-use Rattle.fq_model.specs.Simulated.{needed_entries}
-use Rattle.fq_model.specs.Texts.{replies_text}
-use Rattle.fq_model.specs.Trace.{Trace}
-use Rattle.fq_model.specs.TraceGrammar.{trace_of}
-use Rattle.fq_model.specs.TraceText.{trace_text}
-use Rattle.fq_model.specs.JournalText.{journal_text}
-use Rattle.fq_model.specs.FaultTexts.{script_fault_text, trace_fault_text, placed_text}
-use Rattle.fq_model.specs.Output.{script_output_text}
+use Rattle.program_model.specs.Command.{default_run_options}
+use Rattle.program_model.specs.Document.{config_of}
+use Rattle.program_model.specs.Generator.{generated_trace}
+use Rattle.program_model.specs.PoolHistory.{needed_pool_entries}
+use Rattle.program_model.specs.Script as scripts
+use Rattle.program_model.specs.Simulated.{needed_entries}
+use Rattle.program_model.specs.Texts.{replies_text}
+use Rattle.program_model.specs.Trace.{Trace}
+use Rattle.program_model.specs.TraceGrammar.{trace_of}
+use Rattle.program_model.specs.TraceText.{trace_text}
+use Rattle.program_model.specs.JournalText.{journal_text}
+use Rattle.program_model.specs.FaultTexts.{script_fault_text, trace_fault_text, placed_text}
+use Rattle.program_model.specs.Output.{script_output_text}
 use Rattle.command_texts.specs.Histories.{message_line, entries_message, cells_message, IsSimulatedOutput, SimulatesManyCells, simulated_cells, IsPoolOutput, PoolMakesManyCells, pool_cells}
 
 -- what a clock tells that is not asked

@@ -1,18 +1,18 @@
 -- What is written of histories: of any that is finished, of a trace's simulated history, and of one that a pool makes.
 use Rattle.std.specs.Prelude.{ℕ, ◌<◌, ◌≤◌, ◌≡◌, Bool, true, false, List, ◌++◌, codes}
 use Rattle.std.specs.Fmt.{decimal}
-use Rattle.fq_model.specs.declared.command.HistoryPrint.{HistoryPrint}
-use Rattle.fq_model.specs.declared.command.HistoryPrint.TheVariants as history
+use Rattle.program_model.specs.declared.command.HistoryPrint.{HistoryPrint}
+use Rattle.program_model.specs.declared.command.HistoryPrint.TheVariants as history
 use Rattle.fq_model.specs.declared.config.Config.{Config}
 use Rattle.fq_model.specs.declared.event.Entry.{Entry}
 use Rattle.fq_model.specs.declared.limits.TheConstants.{MOST_CELLS, MOST_ENTRIES}
-use Rattle.fq_model.specs.declared.trace.RunOptions.{RunOptions}
+use Rattle.program_model.specs.declared.trace.RunOptions.{RunOptions}
 use Rattle.fq_model.specs.History.{History, history_of}
-use Rattle.fq_model.specs.Output.{history_output}
-use Rattle.fq_model.specs.PoolHistory.{needed_pool_entries, pool_config, IsPoolHistory, HasToldMoments}
+use Rattle.program_model.specs.Output.{history_output}
+use Rattle.program_model.specs.PoolHistory.{needed_pool_entries, pool_config, IsPoolHistory, HasToldMoments}
 use Rattle.fq_model.specs.Report.{LagReport, lag_report, slot_for, cells_of}
-use Rattle.fq_model.specs.Simulated.{needed_entries, run_config, IsSimulated}
-use Rattle.fq_model.specs.Trace.{Trace}
+use Rattle.program_model.specs.Simulated.{needed_entries, run_config, IsSimulated}
+use Rattle.program_model.specs.Trace.{Trace}
 
 -- a message: one line, after the program's name
 abbrev pub message_line : List ℕ → List ℕ

@@ -1,17 +1,17 @@
 -- What is left of a script whose calls are answered as they are read.
 use Rattle.std.specs.Prelude.{ℕ, ◌≡◌, Bool, true, false, if◌then◌else◌, codes, List, [], ◌++◌, Result, Ok}
-use Rattle.fq_model.specs.declared.command.ScriptPrint.{ScriptPrint}
-use Rattle.fq_model.specs.declared.command.ScriptPrint.TheVariants.{Replies, Journal}
+use Rattle.program_model.specs.declared.command.ScriptPrint.{ScriptPrint}
+use Rattle.program_model.specs.declared.command.ScriptPrint.TheVariants.{Replies, Journal}
 use Rattle.fq_model.specs.declared.config.Config.{Config}
 use Rattle.fq_model.specs.declared.event.Call.{Call}
 use Rattle.fq_model.specs.declared.event.Entry.{Entry}
 use Rattle.fq_model.specs.declared.event.Reply.{Reply}
-use Rattle.fq_model.specs.declared.fault.ScriptKind.{ScriptKind}
-use Rattle.fq_model.specs.Document.{Document, document_of}
+use Rattle.program_model.specs.declared.fault.ScriptKind.{ScriptKind}
+use Rattle.program_model.specs.Document.{Document, document_of}
 use Rattle.fq_model.specs.History.{history_of}
 use Rattle.fq_model.specs.Outcome.{Outcome}
-use Rattle.fq_model.specs.Texts.{replies_text}
-use Rattle.fq_model.specs.JournalText.{journal_text}
+use Rattle.program_model.specs.Texts.{replies_text}
+use Rattle.program_model.specs.JournalText.{journal_text}
 use Rattle.journal_text.specs.Body.{Below, IsOpened}
 use Rattle.journal_text.specs.declared.fault.ScriptFault.{ScriptFault}
 use Rattle.journal_text.specs.Reading.{IsFirstFault}

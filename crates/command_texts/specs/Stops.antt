@@ -4,16 +4,16 @@ use Rattle.std.specs.Prelude.{ℕ, ◌<◌, ◌≡◌, List, Result, Ok, Err, co
 use Rattle.std.specs.String.{string_bytes}
 use Rattle.fq_io.specs.declared.reading.ReadAllFault.{ReadAllFault}
 use Rattle.fq_io.specs.declared.reading.ReadAllFault.TheVariants as reading
-use Rattle.fq_model.specs.declared.command.Command.{Command}
-use Rattle.fq_model.specs.declared.command.HistoryPrint.{HistoryPrint}
+use Rattle.program_model.specs.declared.command.Command.{Command}
+use Rattle.program_model.specs.declared.command.HistoryPrint.{HistoryPrint}
 use Rattle.fq_model.specs.declared.config.Config.{Config}
 use Rattle.fq_model.specs.declared.limits.TheConstants.{MOST_ENTRIES}
-use Rattle.fq_model.specs.declared.trace.RunOptions.{RunOptions}
-use Rattle.fq_model.specs.FaultTexts.{script_fault_text, trace_fault_text, placed_text}
+use Rattle.program_model.specs.declared.trace.RunOptions.{RunOptions}
+use Rattle.program_model.specs.FaultTexts.{script_fault_text, trace_fault_text, placed_text}
 use Rattle.fq_model.specs.History.{History}
 use Rattle.fq_model.specs.Report.{cells_of}
-use Rattle.fq_model.specs.Simulated.{needed_entries}
-use Rattle.fq_model.specs.Trace.{Trace}
+use Rattle.program_model.specs.Simulated.{needed_entries}
+use Rattle.program_model.specs.Trace.{Trace}
 use Rattle.journal_text.specs.declared.fault.ScriptFault.{ScriptFault}
 use Rattle.journal_text.specs.declared.fault.ScriptFault.TheVariants as script
 use Rattle.trace_reader.specs.declared.fault.TraceFault.{TraceFault}

@@ -1,17 +1,17 @@
 //! `gen`: a generated trace, or the summary of its simulated history.
 ghost use Rattle.std.specs.Prelude.{◌≡◌, ◌≤◌, MatchResult};
 ghost use Rattle.fq_model.specs.declared.limits.TheConstants.{MOST_TENANTS, MOST_ROWS};
-ghost use Rattle.fq_model.specs.Command.{default_run_options};
-ghost use Rattle.fq_model.specs.Generator.{generated_trace};
+ghost use Rattle.program_model.specs.Command.{default_run_options};
+ghost use Rattle.program_model.specs.Generator.{generated_trace};
 ghost use Rattle.fq_model.specs.Limits.{IsWithin};
 ghost use Rattle.command_texts.specs.Commands.{IsGeneratedOutput};
 ghost use Rattle.command_texts.specs.declared.stop.Stop.TheVariants.{NoMemory};
 
 use crate::simulation::simulated_text;
 use crate::stop::Stop;
-use fq_model::command::{GenPrint, HistoryPrint};
 use fq_model::config::{Estimator, Policy};
-use fq_model::trace::RunOptions;
+use program_model::command::{GenPrint, HistoryPrint};
+use program_model::trace::RunOptions;
 use std::alloc::Global;
 use trace_reader::generating::generate;
 use trace_reader::printing::print;

@@ -1,9 +1,9 @@
 //! What is asked for of a history whose requests are all done: its journal, its lag report, both, or its summary.
 ghost use Rattle.std.specs.Prelude.{◌≡◌, ◌≤◌, ◌*◌, [], None, string_bytes, length, MatchResult, IfOk};
-ghost use Rattle.fq_model.specs.declared.command.HistoryPrint.TheVariants as prints;
+ghost use Rattle.program_model.specs.declared.command.HistoryPrint.TheVariants as prints;
 ghost use Rattle.fq_model.specs.declared.limits.TheConstants.{GREATEST_SLOT};
 ghost use Rattle.fq_model.specs.History.{history_of};
-ghost use Rattle.fq_model.specs.JournalText.{journal_text};
+ghost use Rattle.program_model.specs.JournalText.{journal_text};
 ghost use Rattle.fq_model.specs.Report.{unfinished};
 ghost use Rattle.fq_model.specs.Rules.{IsLegal};
 ghost use Rattle.tenant_table.specs.Names.{names_of};
@@ -12,20 +12,20 @@ ghost use Rattle.command_texts.specs.declared.stop.Stop.TheVariants as stops;
 ghost use Rattle.command_texts.specs.Stops.{IsCellsStop, IsManyCellsStop};
 
 use crate::stop::Stop;
-use fq_model::command::HistoryPrint;
 use journal_text::printing::print as print_journal;
 use lag_report::automatic::auto_slot;
 use lag_report::fault::ReportFault;
 use lag_report::parts::Report;
 use lag_report::printing::{print as print_report, summary};
 use lag_report::reporting::report;
-use sched_state::History;
+use program_model::command::HistoryPrint;
+use sched_journal::History;
 use std::alloc::{AllocError, Global};
 use tenant_table::kinds::Kinds;
 use tenant_table::tenants::Tenants;
 
 /// What is asked for of a history. Slot 0 asks for the automatic slot.
-pub fn history_text(
+fn history_text(
     alloc: Global,
     what: HistoryPrint,
     slot: u64,

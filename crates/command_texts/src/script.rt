@@ -1,9 +1,9 @@
 //! `script`: the calls of a script, and what is printed of them.
 ghost use Rattle.std.specs.Prelude.{ℕ, ◌≡◌, List, ◌++◌, [], if◌then◌else◌, string_bytes, MatchResult, IfOk, IfErr, OnOk};
-ghost use Rattle.fq_model.specs.declared.command.Command.TheVariants.{Script};
-ghost use Rattle.fq_model.specs.FaultTexts.{script_fault_text, placed_text};
-ghost use Rattle.fq_model.specs.JournalText.{journal_text};
-ghost use Rattle.fq_model.specs.Script.{call_of_words};
+ghost use Rattle.program_model.specs.declared.command.Command.TheVariants.{Script};
+ghost use Rattle.program_model.specs.FaultTexts.{script_fault_text, placed_text};
+ghost use Rattle.program_model.specs.JournalText.{journal_text};
+ghost use Rattle.program_model.specs.Script.{call_of_words};
 ghost use Rattle.journal_text.specs.Body.{said_below};
 ghost use Rattle.tenant_table.specs.Names.{names_of};
 ghost use Rattle.command_texts.specs.Commands.{IsServed, Untold};
@@ -13,19 +13,19 @@ ghost use Rattle.command_texts.specs.Stops.{IsFaultStop, IsOutputStop};
 
 use crate::serve::{Served, serve};
 use crate::stop::Stop;
-use fq_model::command::ScriptPrint;
 use fq_model::config::Checked;
 use fq_model::event::Call;
-use fq_model::fault::ScriptKind;
 use journal_text::body::Body;
 use journal_text::calls::{OpenScript, open_script};
 use journal_text::fault::ScriptFault;
 use journal_text::messages::placed_fault;
 use journal_text::printing::add_journal;
 use journal_text::reading::Opened;
-use rival_policies::chooser::Chooser;
-use sched_state::History;
+use program_model::command::ScriptPrint;
+use program_model::fault::ScriptKind;
+use sched_journal::History;
 use std::alloc::{AllocError, Global};
+use tag_rules::chooser::Chooser;
 use tenant_table::kinds::Kinds;
 use tenant_table::tenants::Tenants;
 

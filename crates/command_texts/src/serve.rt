@@ -1,6 +1,6 @@
 //! The calls of a script, answered as they are read.
 ghost use Rattle.std.specs.Prelude.{◌≡◌, [], IfOk, IfErr, OnOk};
-ghost use Rattle.fq_model.specs.Script.{call_of_words};
+ghost use Rattle.program_model.specs.Script.{call_of_words};
 ghost use Rattle.journal_text.specs.Body.{said_below};
 ghost use Rattle.journal_text.specs.Reading.{IsFirstFault};
 ghost use Rattle.command_texts.specs.Serving.{IsBodyAnswered};
@@ -10,9 +10,10 @@ use fq_model::event::Call;
 use journal_text::body::Body;
 use journal_text::fault::ScriptFault;
 use journal_text::replies::reply_line;
-use rival_policies::chooser::Chooser;
-use sched_state::{History, Scheduler, answer};
+use sched_journal::History;
+use sched_state::{Scheduler, answer};
 use std::alloc::Global;
+use tag_rules::chooser::Chooser;
 
 /// The history of the calls of a script, and the text of their replies, or none.
 #[derive(Drop)]
@@ -35,10 +36,8 @@ pub fn serve<'a, X: Chooser + Drop>(
     ensures same { IfOk result (λ s. s.history.config ≡ config) }
     ensures fault { IfErr result (λ f. IsFirstFault f (said_below call_of_words body.entry)) }
 {
-    match Scheduler::open(alloc, config) {
-        Ok(scheduler) => serve_by::<X>(alloc, scheduler, body, tells),
-        Err(_) => Err(ScriptFault::NoMemory),
-    }
+    let scheduler = Scheduler::open(alloc, config)?;
+    serve_by::<X>(alloc, scheduler, body, tells)
 }
 
 // The same, on a scheduler that was just opened.

@@ -1,10 +1,10 @@
 //! `run`: what is asked for of the simulated history of a trace.
 ghost use Rattle.std.specs.Prelude.{◌≡◌, ◌≤◌, string_bytes, MatchResult, IfOk};
-ghost use Rattle.fq_model.specs.declared.command.Command.TheVariants.{Run};
+ghost use Rattle.program_model.specs.declared.command.Command.TheVariants.{Run};
 ghost use Rattle.fq_model.specs.declared.limits.TheConstants.{GREATEST_SLOT};
-ghost use Rattle.fq_model.specs.FaultTexts.{placed_text, trace_fault_text};
-ghost use Rattle.fq_model.specs.Limits.{AreInRange};
-ghost use Rattle.fq_model.specs.TraceText.{IsLawfulTrace};
+ghost use Rattle.program_model.specs.FaultTexts.{placed_text, trace_fault_text};
+ghost use Rattle.program_model.specs.RunLimits.{AreInRange};
+ghost use Rattle.program_model.specs.TraceText.{IsLawfulTrace};
 ghost use Rattle.command_texts.specs.Commands.{IsRunOutput, Untold};
 ghost use Rattle.command_texts.specs.Histories.{IsSimulatedOutput, entries_message, message_line};
 ghost use Rattle.command_texts.specs.Stops.{IsTraceFaultStop, IsEntriesStop, IsSimulationStop, IsOutputStop};
@@ -12,9 +12,9 @@ ghost use Rattle.command_texts.specs.Stops.{IsTraceFaultStop, IsEntriesStop, IsS
 use crate::reporting::last_history_text;
 use crate::stop::Stop;
 use eligible_index::index::IndexChooser;
-use fq_model::command::HistoryPrint;
-use fq_model::fault::TraceKind;
-use fq_model::trace::RunOptions;
+use program_model::command::HistoryPrint;
+use program_model::fault::TraceKind;
+use program_model::trace::RunOptions;
 use std::alloc::{AllocError, Global};
 use trace_reader::fault::TraceFault;
 use trace_reader::messages::placed_fault;

@@ -17,9 +17,9 @@ use crate::told::{Ask, Told};
 use fq_model::event::Cause;
 use fq_model::job::Job;
 use history_lock::Pass;
-use rival_policies::chooser::Chooser;
 use sched_state::{AlreadyClosed, Refused, Taken};
 use std::sync::Wait;
+use tag_rules::chooser::Chooser;
 
 // What a worker that asked for work is given, by what it was told.
 fn took<J: Job + Drop>(pass: Pass<Crew>, worker: u32, taken: Taken<J>) -> Took<J>

@@ -8,8 +8,8 @@ use crate::floor::{Crew, Floor};
 use crate::tokens::{Submitter, Worker};
 use fq_model::job::Job;
 use history_lock::{HistoryLock, Pass, Unsettled};
-use rival_policies::chooser::Chooser;
 use sched_state::Scheduler;
+use tag_rules::chooser::Chooser;
 
 fn join_submitters<J: Job + Drop, X: Chooser>(
     lock: &HistoryLock<Floor<J, X>>,

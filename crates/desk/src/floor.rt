@@ -7,10 +7,10 @@ use crate::told::{Ask, Told};
 use fq_model::config::Checked;
 use fq_model::job::Job;
 use history_lock::Machine;
-use rival_policies::chooser::Chooser;
 use sched_state::Scheduler;
 use std::alloc::{AllocError, Global};
 use std::marker::Model;
+use tag_rules::chooser::Chooser;
 
 /// What no call changes: what the scheduler was opened with, and how many submitters there are. No value of it is ever made:
 /// it stands in contracts alone.

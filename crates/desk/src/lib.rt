@@ -6,7 +6,6 @@ mod calls;
 mod desk;
 mod ending;
 mod floor;
-pub mod laws;
 mod opening;
 mod refusals;
 mod tokens;

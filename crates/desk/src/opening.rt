@@ -12,8 +12,8 @@ use crate::tokens::{Submitter, Worker};
 use fq_model::config::Checked;
 use fq_model::job::Job;
 use history_lock::{HistoryLock, Pass};
-use rival_policies::chooser::Chooser;
 use std::alloc::Global;
+use tag_rules::chooser::Chooser;
 
 // Room for the tokens, taken first, so that no token is stranded for want of memory.
 fn room(alloc: Global, submitters: u32, workers: u32) -> Option<(Vec<Submitter>, Vec<Worker>)>

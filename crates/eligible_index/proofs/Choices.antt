@@ -2,7 +2,7 @@
 use Rattle.std.proofs.Common.{ℕ, ◌≡◌, ◌≢◌, Option, List, arith, refl, ap, subst, inl, inr}
 use Rattle.std.proofs.lemmas.Int.{ints}
 use Rattle.fq_model.specs.Keys.{HeadKeys, Turn, IsEligible, FinishBefore, EligibleBefore, IsChoice, NoneIsEligible}
-use Rattle.rival_policies.specs.Tables.{Table, Has, NoneHas, RequestsDiffer}
+use Rattle.tag_rules.specs.Tables.{Table, Has, NoneHas, RequestsDiffer}
 use Rattle.winner_tree.specs.declared.key.Key.{Key}
 use Rattle.winner_tree.specs.Order.{key_of, HasKey, HasNoKey, Precedes}
 use Rattle.winner_tree.specs.Order as tree

@@ -6,7 +6,7 @@ use Rattle.std.proofs.lemmas.List.{get_or-set_same, get_or-set_other, length-set
 use Rattle.std.proofs.lemmas.Option.{slice_get-get_or, slice_get_within, get_or_from_slice_get}
 use Rattle.fq_model.specs.declared.config.Policy.{Policy}
 use Rattle.fq_model.specs.Keys.{HeadKeys, Turn}
-use Rattle.rival_policies.specs.Tables.{Table, Has, RequestsDiffer, IsNewTo}
+use Rattle.tag_rules.specs.Tables.{Table, Has, RequestsDiffer, IsNewTo}
 use Rattle.winner_tree.specs.declared.key.Key.{Key}
 use Rattle.winner_tree.specs.Order.{key_of, HasNoKey}
 use Rattle.winner_tree.proofs.Least.{none_not_some}

@@ -6,8 +6,8 @@ use Rattle.std.proofs.lemmas.List.{length-set}
 use Rattle.std.proofs.lemmas.Option.{slice_get-get_or, slice_get_within, get_or_from_slice_get}
 use Rattle.fq_model.specs.Keys.{HeadKeys, Turn, eligible_key, IsEligible}
 use Rattle.fq_model.specs.declared.config.Policy.TheVariants.{Wfq}
-use Rattle.rival_policies.specs.Tables.{Table, Has}
-use Rattle.rival_policies.proofs.Comparing.{not_so}
+use Rattle.tag_rules.specs.Tables.{Table, Has}
+use Rattle.tag_rules.proofs.Comparing.{not_so}
 use Rattle.winner_tree.specs.declared.key.Key.{Key}
 use Rattle.winner_tree.specs.Order.{key_of, HasKey, HasNoKey, IsFirst, Precedes}
 use Rattle.winner_tree.proofs.Least.{none_not_some, key_within, one_key}

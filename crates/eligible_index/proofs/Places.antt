@@ -3,7 +3,7 @@ use Rattle.std.proofs.Common.{ℕ, ◌+◌, ◌≡◌, ◌≢◌, ◌<◌, ◌�
 use Rattle.std.proofs.lemmas.Bool.{cases_eq, cases_Bool, false≢true}
 use Rattle.std.proofs.lemmas.List.{get_or-set_same, get_or-set_other, get_or_default}
 use Rattle.fq_model.specs.Keys.{Turn}
-use Rattle.rival_policies.specs.Tables.{Table}
+use Rattle.tag_rules.specs.Tables.{Table}
 use Rattle.winner_tree.specs.declared.key.Key.{Key}
 use Rattle.winner_tree.specs.Order.{key_of}
 use Rattle.eligible_index.specs.Noted.{IsNoted}

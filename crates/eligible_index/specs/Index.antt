@@ -2,7 +2,7 @@
 use Rattle.std.specs.Prelude.{ℕ, ◌≡◌, ◌<◌, ◌≤◌, ℤ, List, [], length, slice_index_or}
 use Rattle.fq_model.specs.declared.config.Policy.{Policy}
 use Rattle.fq_model.specs.declared.limits.TheConstants.{MOST_TENANTS}
-use Rattle.rival_policies.specs.Tables.{Table, ChooserView, RequestsDiffer, turn_of}
+use Rattle.tag_rules.specs.Tables.{Table, ChooserView, RequestsDiffer, turn_of}
 use Rattle.eligible_index.specs.Trees.{TreesView, Follow, HaveNoKey, AreExact, cleared, with_noted}
 
 -- what contracts see of an index: the chooser that it is, and the trees by worker

@@ -2,7 +2,7 @@
 use Rattle.std.specs.Prelude.{ℕ, ◌≡◌, ◌≢◌, ◌<◌, ◌⊎◌, ◌↔◌, Bool, true, false, List, Option, Some, None, Contains, length, replicate, slice_index_or, slice_set, pos}
 use Rattle.fq_model.specs.declared.config.Policy.TheVariants.{Wfq}
 use Rattle.fq_model.specs.Keys.{HeadKeys, Turn, finish, eligible_key, IsEligible}
-use Rattle.rival_policies.specs.Tables.{Table, Has}
+use Rattle.tag_rules.specs.Tables.{Table, Has}
 use Rattle.winner_tree.specs.declared.key.Key.{Key}
 use Rattle.winner_tree.specs.Order.{key_of, HasKey, HasNoKey, IsFirst}
 use Rattle.eligible_index.specs.Noted.{IsNoted}

@@ -1,16 +1,16 @@
 //! A chooser that keeps trees.
 ghost use Rattle.std.specs.Prelude.{◌≡◌, ◌<◌, ◌≤◌, ◌≤ℤ◌, All, IfOk, IfSome, IfNone, length, replicate};
-ghost use Rattle.rival_policies.specs.Tables.{asked_at, NoneHas, IsTableChoice};
+ghost use Rattle.tag_rules.specs.Tables.{asked_at, NoneHas, IsTableChoice};
 ghost use Rattle.eligible_index.specs.Trees.{empty_trees};
 ghost use Rattle.eligible_index.specs.Index.{trees_of, IsExactFor, AreNoted, AreCleared};
 
 use crate::trees::WorkerTrees;
 use fq_model::config::{Checked, Policy};
-use rival_policies::chooser::Chooser;
-use rival_policies::turn::Turn;
 use std::alloc::{AllocError, Global};
 use std::marker::Model;
+use tag_rules::chooser::Chooser;
 use tag_rules::parts::Keys;
+use tag_rules::turn::Turn;
 use winner_tree::Tree;
 
 /// Keeps the keys by tenant, and two trees a worker. A change of a tenant's keys costs a note a worker; a choice costs

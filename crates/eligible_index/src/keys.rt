@@ -3,8 +3,8 @@ ghost use Rattle.std.specs.Prelude.{◌≡◌, ◌↔◌, ◌≤ℤ◌, IsTrue, 
 ghost use Rattle.eligible_index.specs.Trees.{later_key, Stands};
 
 use fq_model::config::Policy;
-use rival_policies::turn::Turn;
 use tag_rules::parts::Keys;
+use tag_rules::turn::Turn;
 use winner_tree::Key;
 
 /// The keys that the head of these keys, or none, has in the tree of those that are not eligible, and in the other.

@@ -5,10 +5,10 @@ ghost use Rattle.eligible_index.specs.Trees.{empty_trees, cleared, with_noted, F
 use crate::keys::{by_finish, is_due, keys_in_trees};
 use crate::marked::Marked;
 use crate::noted::Noted;
-use rival_policies::turn::Turn;
 use std::alloc::{AllocError, Global};
 use std::marker::Model;
 use tag_rules::parts::Keys;
+use tag_rules::turn::Turn;
 use winner_tree::Tree;
 
 /// The trees of one worker, whose leaves are the tenants, and the tenants that are noted: those whose keys have changed

@@ -3,7 +3,7 @@ ghost use Rattle.std.specs.Prelude.{◌≡◌};
 ghost use Rattle.fluid_reference.specs.declared.fault.FluidFault.TheVariants as faults;
 
 use fq_model::limits::MOST_CELLS;
-use std::alloc::{AllocError, AllocFailed};
+use std::alloc::AllocError;
 
 /// Why there is no table.
 #[derive(Clone, Copy, Debug, PartialEq, Eq, thiserror::Error)]
@@ -20,14 +20,6 @@ impl From<AllocError> for FluidFault {
     ghost from_gives = { λ _ fault. fault ≡ faults.NoMemory };
 
     fn from(_fault: AllocError) -> FluidFault {
-        FluidFault::NoMemory
-    }
-}
-
-impl<T: Drop> From<AllocFailed<T>> for FluidFault {
-    ghost from_gives = { λ _ fault. fault ≡ faults.NoMemory };
-
-    fn from(_fault: AllocFailed<T>) -> FluidFault {
         FluidFault::NoMemory
     }
 }

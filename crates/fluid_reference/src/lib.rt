@@ -3,7 +3,6 @@
 
 pub mod fault;
 pub mod joining;
-pub mod laws;
 pub mod setting;
 pub mod sharing;
 pub mod slots;

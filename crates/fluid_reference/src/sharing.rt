@@ -1,9 +1,7 @@
 //! What a slot gives each tenant.
-ghost use Rattle.std.specs.Prelude.{◌≡◌, ◌<◌, length, map, filter, IfOk, IfErr, All};
+ghost use Rattle.std.specs.Prelude.{◌≡◌, ◌<◌, length, map, filter, IfOk, All};
 ghost use Rattle.fluid_reference.specs.Slots.{CanShare, AreBacklogged, want_of, served_next, has_backlog};
-ghost use Rattle.fluid_reference.specs.declared.fault.FluidFault.TheVariants as faults;
 
-use crate::fault::FluidFault;
 use fq_model::level::Backlog;
 use std::alloc::{AllocError, Global};
 use water_level::gifts::give;
@@ -18,12 +16,11 @@ pub fn share(
     served: &mut [u64],
     weights: &[u32],
     backlogged: &[u32],
-) -> Result<Vec<u32>, FluidFault>
+) -> Result<Vec<u32>, AllocError>
     requires in_range { CanShare costs.now served.old weights.now }
     requires backlogged { AreBacklogged costs.now served.old backlogged.now }
     ensures next { IfOk result (λ _. served.new ≡ served_next cap costs.now served.old weights.now) }
     ensures backlogged { IfOk result (λ v. AreBacklogged costs.now served.new v.items) }
-    ensures fault { IfErr result (λ f. f ≡ faults.NoMemory) }
 {
     let wants = wants(alloc, costs, served, weights, backlogged)?;
     let level = level(alloc, cap, wants.as_slice())?;

@@ -1,5 +1,2 @@
-//! Laws of the definitions: what follows from them, for the crates that stand on them.
+//! Words and lemmas about the definitions, for proofs of the crates above. Nothing here runs; the laws are told in `law_book`.
 #![tactic(auto)]
-
-pub mod account_laws;
-pub mod laws;

@@ -2,12 +2,12 @@
 use std::fmt;
 
 /// A text without numbers.
-pub(crate) fn plain<W: fmt::Write>(f: &mut fmt::Formatter<W>, text: &str) -> fmt::Result {
+pub fn plain<W: fmt::Write>(f: &mut fmt::Formatter<W>, text: &str) -> fmt::Result {
     f.write_str(text)
 }
 
 /// A number between two texts.
-pub(crate) fn numbered<W: fmt::Write>(
+pub fn numbered<W: fmt::Write>(
     f: &mut fmt::Formatter<W>,
     before: &str,
     number: u64,
@@ -19,7 +19,7 @@ pub(crate) fn numbered<W: fmt::Write>(
 }
 
 /// Two numbers with texts around them.
-pub(crate) fn two_numbers<W: fmt::Write>(
+pub fn two_numbers<W: fmt::Write>(
     f: &mut fmt::Formatter<W>,
     before: &str,
     first: u64,
@@ -32,7 +32,7 @@ pub(crate) fn two_numbers<W: fmt::Write>(
 }
 
 /// So many of something, of which there may be another number.
-pub(crate) fn out_of_range<W: fmt::Write>(
+pub fn out_of_range<W: fmt::Write>(
     f: &mut fmt::Formatter<W>,
     number: u64,
     what: &str,

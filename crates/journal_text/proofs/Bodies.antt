@@ -4,12 +4,12 @@ use Rattle.std.proofs.lemmas.List.{append-nil}
 use Rattle.std.proofs.lemmas.Bool.{eqb-true}
 use Rattle.std.specs.Prelude.{codes}
 use Rattle.fq_laws.proofs.Faults.{no_fault}
-use Rattle.fq_model.specs.declared.fault.ScriptKind.{ScriptKind}
-use Rattle.fq_model.specs.declared.fault.ScriptKind.TheVariants.{Missing}
-use Rattle.fq_model.specs.declared.version.Version.{Version}
-use Rattle.fq_model.specs.Document.{Document, LineReader, config_of, with_body, with_line, with_lines}
-use Rattle.fq_model.specs.Lines.{Words, words_of, lines_of}
-use Rattle.fq_model.specs.Reading.{◌>>=◌, at_line, begins_with, is_empty}
+use Rattle.program_model.specs.declared.fault.ScriptKind.{ScriptKind}
+use Rattle.program_model.specs.declared.fault.ScriptKind.TheVariants.{Missing}
+use Rattle.program_model.specs.declared.version.Version.{Version}
+use Rattle.program_model.specs.Document.{Document, LineReader, config_of, with_body, with_line, with_lines}
+use Rattle.program_model.specs.Lines.{Words, words_of, lines_of}
+use Rattle.program_model.specs.Reading.{◌>>=◌, at_line, begins_with, is_empty}
 use Rattle.journal_text.specs.Body.{Below, below_at, with_first, body_of, said_below, with_body_lines, Reads, IsOpened, IsHeadFault, SaysFirst, IsStuck}
 use Rattle.journal_text.specs.Reading.{ends_before, with_head_line, Fails, IsFirstFault, fault_at}
 use Rattle.journal_text.specs.declared.fault.LineError.{LineError}
@@ -185,7 +185,7 @@ pub fault_in_head : {A : Type 0} (text : Reads A) (version : Version) (place : �
     → Fails e (with_head_line d (words_of line)) → IsHeadFault (fault_at place e) text
 fault_in_head text version place d line rest below (errors.Fault kind) same kept first goes_on fails reader =
     sym (same reader) ∙ (next_in_head (reader version) place d line rest below kept first goes_on ∙ ap (λ r. at_line place r >>= λ more. with_lines (reader version) (place + 1) more (lines_of below)) fails)
-fault_in_head text version place d line rest below errors.Memory same kept first goes_on fails reader = tt
+fault_in_head text version place d line rest below errors.NoMemory same kept first goes_on fails reader = tt
 
 -- what a first line says is said before what the others say
 pub said_first : {A : Type 0} (reader : Version → LineReader A) (old : Below) (said : A) (new : Below) → SaysFirst reader old said new
@@ -217,7 +217,7 @@ reads_first reader version place rest line below old new said was is first says 
 
 fails_at : {A : Type 0} (place : ℕ) (e : LineError) (read : Result A ScriptKind) → Fails e read → IsFirstFault (fault_at place e) (at_line place read)
 fails_at place (errors.Fault kind) read fails = ap (at_line place) fails
-fails_at place errors.Memory read fails = tt
+fails_at place errors.NoMemory read fails = tt
 
 -- it was not
 pub stays_at_first : {A : Type 0} (reader : Version → LineReader A) (version : Version) (place : ℕ) (rest line below : List ℕ) (old new : Below) (e : LineError)

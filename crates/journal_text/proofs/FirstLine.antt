@@ -6,7 +6,7 @@ use Rattle.std.proofs.lemmas.List.{take_rest, drop_all}
 use Rattle.std.proofs.lemmas.List.Sums.{position_or_len_is}
 use Rattle.std.proofs.lemmas.Bool.{false_from_ne_true, cond_below, cond_above}
 use Rattle.memchr.specs.Find.{IsFirstByte, is_byte}
-use Rattle.fq_model.specs.Lines.{lines_of}
+use Rattle.program_model.specs.Lines.{lines_of}
 use Rattle.journal_text.specs.Reading.{IsFirstLine}
 
 abbrev pub end_of : List ℕ → ℕ

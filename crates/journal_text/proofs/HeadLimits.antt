@@ -7,11 +7,11 @@ use Rattle.std.proofs.lemmas.List.Elements.{All-append}
 use Rattle.fq_model.specs.Limits.{IsWithin, IsWeight, InLimits}
 use Rattle.vt_fixed.specs.declared.limits.TheConstants.{GREATEST_COST, GREATEST_WEIGHT, MOST_WORKERS}
 use Rattle.fq_model.specs.declared.limits.TheConstants.{MOST_TENANTS, MOST_KINDS, MOST_PAIRS, LEAST_ENTRIES, MOST_ENTRIES, MOST_REQUESTS}
-use Rattle.fq_model.specs.declared.fault.ScriptKind.{ScriptKind}
-use Rattle.fq_model.specs.declared.fault.ScriptKind.TheVariants.{TooMany}
-use Rattle.fq_model.specs.Document.{Settings, Document, config_of, settings_of, new_among, not_too_many, with_tenant, with_kind, opened, config_line}
-use Rattle.fq_model.specs.Reading.{◌>>=◌, begins_with, is_empty}
-use Rattle.fq_model.specs.Lines.{Words, number_at, ranged_at, policy_at, estimator_at, with_count, name_at}
+use Rattle.program_model.specs.declared.fault.ScriptKind.{ScriptKind}
+use Rattle.program_model.specs.declared.fault.ScriptKind.TheVariants.{TooMany}
+use Rattle.program_model.specs.Document.{Settings, Document, config_of, settings_of, new_among, not_too_many, with_tenant, with_kind, opened, config_line}
+use Rattle.program_model.specs.Reading.{◌>>=◌, begins_with, is_empty}
+use Rattle.program_model.specs.Lines.{Words, number_at, ranged_at, policy_at, estimator_at, with_count, name_at}
 use Rattle.journal_text.specs.Reading.{with_head_line}
 
 -- what a first step gave, where both steps gave something

@@ -5,7 +5,7 @@ use Rattle.std.proofs.lemmas.List.{append-nil}
 use Rattle.std.specs.Prelude.{codes}
 use Rattle.std.proofs.Math.Seq.{drop-length}
 use Rattle.journal_text.specs.Printing.{row_text}
-use Rattle.fq_model.specs.JournalText.{tenants_text, kinds_text}
+use Rattle.program_model.specs.JournalText.{tenants_text, kinds_text}
 
 kind_at : (kinds : List (List ℕ)) (k : ℕ) (name : List ℕ) → slice_get kinds k ≡ Some name
     → kinds_text (drop k kinds) ≡ codes "kind " ++ (row_text name [] ++ kinds_text (drop (suc k) kinds))

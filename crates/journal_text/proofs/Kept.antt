@@ -4,7 +4,7 @@ use Rattle.std.specs.Prelude.{codes}
 use Rattle.std.specs.Fmt.{decimal}
 use Rattle.std.proofs.lemmas.List.{append-nil, at_drop_more, at_drop_all, drop_all}
 use Rattle.std.proofs.Math.Seq.{take-append_seam}
-use Rattle.fq_model.specs.JournalText.{numbers_text}
+use Rattle.program_model.specs.JournalText.{numbers_text}
 use Rattle.journal_text.specs.Printing.{IsKept}
 
 pub kept_all : (old : List ℕ) → IsKept old old

@@ -5,5 +5,3 @@ mod WordEnds
 mod Names
 pub mod HeadLimits
 pub mod Bodies
-mod Telling
-mod Histories

@@ -9,8 +9,8 @@ use Rattle.std.proofs.lemmas.Bool.{ltb-true, ltb-false, lt-ltb, leb-true, eqb-tr
 use Rattle.std.proofs.lemmas.Slice.Eq.{bytes_eq-Decides}
 use Rattle.fq_model.specs.Numbers.{is_digit, is_name_byte, is_name, policy_of, estimator_of}
 use Rattle.fq_model.specs.Names.{number_among}
-use Rattle.fq_model.specs.Document.{new_among}
-use Rattle.fq_model.specs.declared.fault.ScriptKind.TheVariants.{Twice}
+use Rattle.program_model.specs.Document.{new_among}
+use Rattle.program_model.specs.declared.fault.ScriptKind.TheVariants.{Twice}
 
 -- what a word names, and no text is no word
 pub named : {A E : Type 0} (o : Option A) (e : E) (r : Result A E) → r ≡ ok_or o e → result_ok r ≡ o

@@ -7,7 +7,7 @@ use Rattle.std.proofs.lemmas.List.{get_or-drop, drop-drop, take_rest}
 use Rattle.std.proofs.lemmas.List.Sums.{position_or_len_is}
 use Rattle.std.proofs.lemmas.List.Splits.{slice_split_first}
 use Rattle.std.proofs.lemmas.List.{map-append}
-use Rattle.fq_model.specs.Lines.{words_of}
+use Rattle.program_model.specs.Lines.{words_of}
 use Rattle.journal_text.specs.Reading.{words_in}
 
 -- no space stands from start up to end

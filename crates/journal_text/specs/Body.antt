@@ -1,11 +1,11 @@
 -- The body of a document, which is read one line at a time below its head.
 use Rattle.std.specs.Prelude.{ℕ, ◌+◌, ◌≡◌, List, [], ◌∷◌, Option, Some, None, Result, Ok, Err}
-use Rattle.fq_model.specs.declared.fault.ScriptKind.{ScriptKind}
-use Rattle.fq_model.specs.declared.version.Version.{Version}
-use Rattle.fq_model.specs.Document.{Document, LineReader, config_of}
+use Rattle.program_model.specs.declared.fault.ScriptKind.{ScriptKind}
+use Rattle.program_model.specs.declared.version.Version.{Version}
+use Rattle.program_model.specs.Document.{Document, LineReader, config_of}
 use Rattle.fq_model.specs.Limits.{config_fault}
-use Rattle.fq_model.specs.Lines.{lines_of, words_of}
-use Rattle.fq_model.specs.Reading.{◌>>=◌, at_line}
+use Rattle.program_model.specs.Lines.{lines_of, words_of}
+use Rattle.program_model.specs.Reading.{◌>>=◌, at_line}
 use Rattle.journal_text.specs.declared.fault.ScriptFault.{ScriptFault}
 use Rattle.journal_text.specs.Reading.{IsFirstFault}
 

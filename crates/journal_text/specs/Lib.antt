@@ -1,4 +1,3 @@
 pub mod Reading
 pub mod Body
 pub mod Printing
-pub mod Laws

@@ -1,6 +1,6 @@
 -- What printing adds to a text, and what it leaves of it.
 use Rattle.std.specs.Prelude.{ℕ, ◌≡◌, List, ◌++◌}
-use Rattle.fq_model.specs.JournalText.{numbers_text}
+use Rattle.program_model.specs.JournalText.{numbers_text}
 
 -- a line: a word, and numbers, each after a space
 abbrev pub row_text : List ℕ → List ℕ → List ℕ

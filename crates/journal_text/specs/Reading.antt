@@ -1,13 +1,13 @@
 -- What the reader returns, against what a text says.
 use Rattle.std.specs.Prelude.{ℕ, ◌*◌, ◌<◌, ◌≡◌, nat_lt, Bool, not, ◌&&◌, ◌||◌, if◌then◌else◌, codes, List, ◌∷◌, length, map, Result, Ok, Err}
 use Rattle.std.specs.Borrow.{Bor}
-use Rattle.fq_model.specs.declared.fault.ScriptKind.{ScriptKind}
+use Rattle.program_model.specs.declared.fault.ScriptKind.{ScriptKind}
 use Rattle.fq_model.specs.declared.config.Config.{Config}
 use Rattle.fq_model.specs.declared.limits.TheConstants.{MOST_TENANTS, MOST_KINDS, MOST_PAIRS}
-use Rattle.fq_model.specs.Document.{Settings, Document, with_tenant, with_kind, config_line}
-use Rattle.fq_model.specs.declared.fault.ScriptKind.TheVariants.{Word}
-use Rattle.fq_model.specs.Reading.{begins_with, is_empty}
-use Rattle.fq_model.specs.Lines.{Words, lines_of}
+use Rattle.program_model.specs.Document.{Settings, Document, with_tenant, with_kind, config_line}
+use Rattle.program_model.specs.declared.fault.ScriptKind.TheVariants.{Word}
+use Rattle.program_model.specs.Reading.{begins_with, is_empty}
+use Rattle.program_model.specs.Lines.{Words, lines_of}
 use Rattle.tenant_table.specs.Names.{names_of, weights_of}
 use Rattle.journal_text.specs.declared.fault.LineError.{LineError}
 use Rattle.journal_text.specs.declared.fault.LineError.TheVariants as errors
@@ -21,7 +21,7 @@ words_in words = map (λ w. w.now) words
 -- reading has this fault, unless memory ran out
 abbrev pub Fails : {Y : Type 0} → LineError → Result Y ScriptKind → Type 0
 Fails (errors.Fault kind) read = read ≡ Err kind
-Fails errors.Memory read = Unit {0}
+Fails errors.NoMemory read = Unit {0}
 
 -- what was returned is, seen by `view`, what reading gives
 abbrev pub Gives : {X Y : Type 0} → (X → Y) → Result X LineError → Result Y ScriptKind → Type 0
@@ -35,7 +35,7 @@ IsFirstFault faults.NoMemory read = Unit {0}
 
 abbrev pub fault_at : ℕ → LineError → ScriptFault
 fault_at line (errors.Fault kind) = faults.At line kind
-fault_at line errors.Memory = faults.NoMemory
+fault_at line errors.NoMemory = faults.NoMemory
 
 -- the text is this line, and then the text below it
 pub record IsFirstLine (text line below : List ℕ) : Type 0 where

@@ -1,15 +1,15 @@
 //! What stands below the head of a document, and how it is read.
 ghost use Rattle.std.specs.Prelude.{◌≡◌, ◌+◌, ◌^◌, ◌<◌, List, ℕ, Result, length, IfOk, IfErr};
-ghost use Rattle.fq_model.specs.declared.fault.ScriptKind.{ScriptKind};
-ghost use Rattle.fq_model.specs.declared.version.Version.{Version};
-ghost use Rattle.fq_model.specs.Lines.{Words, lines_of, words_of};
-ghost use Rattle.fq_model.specs.Document.{version_of};
+ghost use Rattle.program_model.specs.declared.fault.ScriptKind.{ScriptKind};
+ghost use Rattle.program_model.specs.declared.version.Version.{Version};
+ghost use Rattle.program_model.specs.Lines.{Words, lines_of, words_of};
+ghost use Rattle.program_model.specs.Document.{version_of};
 ghost use Rattle.journal_text.specs.Reading.{Gives, IsFirstFault, words_in};
 ghost use Rattle.journal_text.specs.Body.{ReadsNext, below_at, said_below};
 
 use crate::fault::{LineError, ScriptFault};
 use crate::lines::{next_line, split_words};
-use fq_model::version::Version;
+use program_model::version::Version;
 use std::alloc::Global;
 use std::marker::{Model, PhantomData};
 
@@ -45,7 +45,7 @@ pub struct Body<'a, A: Line> {
 
 impl<'a, A: Line> Model for Body<'a, A> {
     ghost use Rattle.std.specs.Prelude.{◌+◌, ◌<◌, ◌^◌, length};
-    ghost use Rattle.fq_model.specs.Lines.{lines_of};
+    ghost use Rattle.program_model.specs.Lines.{lines_of};
     ghost use Rattle.journal_text.specs.Body.{Below, below_at};
 
     ghost Value = { Below };

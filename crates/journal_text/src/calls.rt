@@ -1,7 +1,7 @@
 //! Scripts, whose lines below the head are calls.
 ghost use Rattle.std.specs.Prelude.{◌≡◌, ◌<◌, length, codes, Ok, IfOk, IfErr};
-ghost use Rattle.fq_model.specs.Document.{document_of};
-ghost use Rattle.fq_model.specs.Script.{submit_of, take_of, report_of, done_of, close_of, weight_of, workers_of, fixed_call_of, changing_call_of, call_of_words, script_of};
+ghost use Rattle.program_model.specs.Document.{document_of};
+ghost use Rattle.program_model.specs.Script.{submit_of, take_of, report_of, done_of, close_of, weight_of, workers_of, fixed_call_of, changing_call_of, call_of_words, script_of};
 ghost use Rattle.journal_text.specs.Body.{IsOpened, IsHeadFault};
 ghost use Rattle.journal_text.specs.Reading.{Gives, IsFirstFault, words_in};
 
@@ -11,14 +11,14 @@ use crate::fault::{LineError, ScriptFault};
 use crate::reading::{Opened, open_document, read_document};
 use crate::words::{begins_with, expect_count, index_at, number_at};
 use fq_model::event::Call;
-use fq_model::fault::ScriptKind;
-use fq_model::version::Version;
+use program_model::fault::ScriptKind;
+use program_model::version::Version;
 use std::alloc::Global;
 
 /// A script: a document whose body is the calls in order.
 pub type Script = Document<Call>;
 
-#[tactic(auto, unfolding(fq_model::specs::Script::submit_of))]
+#[tactic(auto, unfolding(program_model::specs::Script::submit_of))]
 fn submit(words: &[&[u8]]) -> Result<Call, LineError>
     ensures { Gives (λ c. c) result (submit_of (words_in words.now)) }
 {
@@ -39,7 +39,7 @@ fn submit(words: &[&[u8]]) -> Result<Call, LineError>
     })
 }
 
-#[tactic(auto, unfolding(fq_model::specs::Script::take_of))]
+#[tactic(auto, unfolding(program_model::specs::Script::take_of))]
 fn take(words: &[&[u8]]) -> Result<Call, LineError>
     ensures { Gives (λ c. c) result (take_of (words_in words.now)) }
 {
@@ -54,7 +54,7 @@ fn take(words: &[&[u8]]) -> Result<Call, LineError>
     })
 }
 
-#[tactic(auto, unfolding(fq_model::specs::Script::report_of))]
+#[tactic(auto, unfolding(program_model::specs::Script::report_of))]
 fn report(words: &[&[u8]]) -> Result<Call, LineError>
     ensures { Gives (λ c. c) result (report_of (words_in words.now)) }
 {
@@ -71,7 +71,7 @@ fn report(words: &[&[u8]]) -> Result<Call, LineError>
     })
 }
 
-#[tactic(auto, unfolding(fq_model::specs::Script::done_of))]
+#[tactic(auto, unfolding(program_model::specs::Script::done_of))]
 fn done(words: &[&[u8]]) -> Result<Call, LineError>
     ensures { Gives (λ c. c) result (done_of (words_in words.now)) }
 {
@@ -88,7 +88,7 @@ fn done(words: &[&[u8]]) -> Result<Call, LineError>
     })
 }
 
-#[tactic(auto, unfolding(fq_model::specs::Script::close_of))]
+#[tactic(auto, unfolding(program_model::specs::Script::close_of))]
 fn close(words: &[&[u8]]) -> Result<Call, LineError>
     ensures { Gives (λ c. c) result (close_of (words_in words.now)) }
 {
@@ -98,7 +98,7 @@ fn close(words: &[&[u8]]) -> Result<Call, LineError>
     Ok(Call::Close { who, moment })
 }
 
-#[tactic(auto, unfolding(fq_model::specs::Script::weight_of))]
+#[tactic(auto, unfolding(program_model::specs::Script::weight_of))]
 fn weight(words: &[&[u8]]) -> Result<Call, LineError>
     ensures { Gives (λ c. c) result (weight_of (words_in words.now)) }
 {
@@ -115,7 +115,7 @@ fn weight(words: &[&[u8]]) -> Result<Call, LineError>
     })
 }
 
-#[tactic(auto, unfolding(fq_model::specs::Script::workers_of))]
+#[tactic(auto, unfolding(program_model::specs::Script::workers_of))]
 fn workers(words: &[&[u8]]) -> Result<Call, LineError>
     ensures { Gives (λ c. c) result (workers_of (words_in words.now)) }
 {
@@ -127,7 +127,7 @@ fn workers(words: &[&[u8]]) -> Result<Call, LineError>
 }
 
 // The call of a line, where neither weights nor the number of workers change.
-#[tactic(auto, unfolding(fq_model::specs::Script::fixed_call_of))]
+#[tactic(auto, unfolding(program_model::specs::Script::fixed_call_of))]
 fn fixed_call(words: &[&[u8]]) -> Result<Call, LineError>
     ensures { Gives (λ c. c) result (fixed_call_of (words_in words.now)) }
 {
@@ -147,7 +147,7 @@ fn fixed_call(words: &[&[u8]]) -> Result<Call, LineError>
 }
 
 // The call of a line, where they may change.
-#[tactic(auto, unfolding(fq_model::specs::Script::changing_call_of))]
+#[tactic(auto, unfolding(program_model::specs::Script::changing_call_of))]
 fn changing_call(words: &[&[u8]]) -> Result<Call, LineError>
     ensures { Gives (λ c. c) result (changing_call_of (words_in words.now)) }
 {

@@ -1,6 +1,6 @@
 //! Documents: what a script or a journal says.
 ghost use Rattle.std.specs.Prelude.{◌≡◌, length};
-ghost use Rattle.fq_model.specs.Document.{config_of};
+ghost use Rattle.program_model.specs.Document.{config_of};
 ghost use Rattle.tenant_table.specs.Names.{names_of, weights_of};
 ghost use Rattle.journal_text.specs.Reading.{IsAbout, document_in};
 
@@ -20,7 +20,7 @@ pub struct Document<A: Drop> {
 }
 
 impl<A: Drop> Model for Document<A> {
-    ghost use Rattle.fq_model.specs.Document.{Document};
+    ghost use Rattle.program_model.specs.Document.{Document};
     ghost use Rattle.journal_text.specs.Reading.{IsAbout, document_in};
 
     ghost Value = { Document A };

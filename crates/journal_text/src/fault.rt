@@ -1,9 +1,9 @@
 //! Why a script or a journal was not read.
 ghost use Rattle.std.specs.Prelude.{◌≡◌};
-ghost use Rattle.journal_text.specs.declared.fault.LineError.TheVariants.{Memory};
+ghost use Rattle.journal_text.specs.declared.fault.LineError.TheVariants.{NoMemory};
 ghost use Rattle.journal_text.specs.Reading.{fault_at};
 
-use fq_model::fault::ScriptKind;
+use program_model::fault::ScriptKind;
 use std::alloc::{AllocError, AllocFailed};
 use std::fmt;
 use thiserror::Error;
@@ -34,7 +34,7 @@ pub enum LineError {
     Fault(ScriptKind),
     /// Memory ran out.
     #[error("out of memory")]
-    Memory,
+    NoMemory,
 }
 
 // A failed `unwrap` or assertion then tells the message.
@@ -51,16 +51,16 @@ impl LineError {
     {
         match self {
             LineError::Fault(kind) => ScriptFault::At { line, kind },
-            LineError::Memory => ScriptFault::NoMemory,
+            LineError::NoMemory => ScriptFault::NoMemory,
         }
     }
 }
 
 impl From<AllocError> for LineError {
-    ghost from_gives = { λ _ e. e ≡ Memory };
+    ghost from_gives = { λ _ e. e ≡ NoMemory };
 
     fn from(_e: AllocError) -> LineError {
-        LineError::Memory
+        LineError::NoMemory
     }
 }
 
@@ -71,14 +71,6 @@ impl From<AllocError> for ScriptFault {
 
     fn from(_e: AllocError) -> ScriptFault {
         ScriptFault::NoMemory
-    }
-}
-
-impl<T: Drop> From<AllocFailed<T>> for LineError {
-    ghost from_gives = { λ _ e. e ≡ Memory };
-
-    fn from(_e: AllocFailed<T>) -> LineError {
-        LineError::Memory
     }
 }
 

@@ -1,6 +1,6 @@
 //! The config line.
 ghost use Rattle.std.specs.Prelude.{◌≡◌};
-ghost use Rattle.fq_model.specs.Document.{settings_of};
+ghost use Rattle.program_model.specs.Document.{settings_of};
 ghost use Rattle.journal_text.specs.Reading.{Gives, words_in};
 
 use crate::fault::LineError;
@@ -25,7 +25,7 @@ pub struct Settings {
 }
 
 impl Model for Settings {
-    ghost use Rattle.fq_model.specs.Document.{Settings};
+    ghost use Rattle.program_model.specs.Document.{Settings};
 
     ghost Value = { Settings };
 
@@ -40,7 +40,7 @@ impl Model for Settings {
 }
 
 /// Reads the words of a config line. Takes no memory.
-#[tactic(auto, unfolding(fq_model::specs::Document::settings_of))]
+#[tactic(auto, unfolding(program_model::specs::Document::settings_of))]
 pub fn read_settings(words: &[&[u8]]) -> Result<Settings, LineError>
     ensures { Gives (λ s. s) result (settings_of (words_in words.now)) }
 {

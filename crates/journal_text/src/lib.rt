@@ -6,7 +6,6 @@ pub mod calls;
 pub mod document;
 pub mod fault;
 mod head;
-pub mod laws;
 mod lines;
 pub mod messages;
 mod named;

@@ -1,6 +1,6 @@
 //! Lines of a text, and words of a line.
 ghost use Rattle.std.specs.Prelude.{◌≡◌, ◌==◌, [], MatchOption, OnOk, position};
-ghost use Rattle.fq_model.specs.Lines.{words_of};
+ghost use Rattle.program_model.specs.Lines.{words_of};
 ghost use Rattle.journal_text.specs.Reading.{IsFirstLine, words_in};
 
 use memchr::memchr;

@@ -1,8 +1,8 @@
 //! What is told of the faults of scripts and journals.
 ghost use Rattle.std.specs.Prelude.{◌≡◌, string_bytes, IfOk};
-ghost use Rattle.fq_model.specs.FaultTexts.{fault_text, placed_text};
+ghost use Rattle.program_model.specs.FaultTexts.{fault_text, placed_text};
 
-use fq_model::fault::ScriptKind;
+use program_model::fault::ScriptKind;
 use std::alloc::{AllocError, Global};
 
 /// What is told of a fault at a line of a text with this title, `script` or `journal`. Lines and words

@@ -4,14 +4,14 @@ ghost use Rattle.std.specs.Fmt.{decimal};
 ghost use Rattle.std.specs.List.{list_any};
 ghost use Rattle.fq_model.specs.History.{is_change};
 ghost use Rattle.fq_model.specs.Numbers.{policy_word, estimator_word};
-ghost use Rattle.fq_model.specs.JournalText.{entry_line, entries_text, version_for, header_line, tenants_text, kinds_text, head_text, journal_text};
+ghost use Rattle.program_model.specs.JournalText.{entry_line, entries_text, version_for, header_line, tenants_text, kinds_text, head_text, journal_text};
 ghost use Rattle.tenant_table.specs.Names.{names_of};
 ghost use Rattle.journal_text.specs.Printing.{row_text, IsKept};
 
 use crate::rows::add_row;
 use fq_model::config::Checked;
 use fq_model::event::{Act, Entry};
-use fq_model::version::Version;
+use program_model::version::Version;
 use std::alloc::{AllocError, Global};
 use tenant_table::kinds::Kinds;
 use tenant_table::tenants::Tenants;
@@ -55,7 +55,7 @@ pub fn add_journal(
 }
 
 // Appends its lines. Where memory runs out, what stood there stands still, perhaps with more after it.
-#[tactic(auto, unfolding(fq_model::specs::JournalText::journal_text))]
+#[tactic(auto, unfolding(program_model::specs::JournalText::journal_text))]
 fn add_lines(
     alloc: Global,
     past: &[Entry],
@@ -171,20 +171,13 @@ fn add_entries(past: &[Entry], text: &mut Vec<u8>) -> Result<(), AllocError>
     ensures kept { IsKept text.old.items text.new.items }
 {
     for entry in past {
-        add_entry(*entry, text)?;
+        entry_line(*entry, text)?;
     }
     Ok(())
 }
 
 /// Appends an entry's line. Where memory runs out, `out` stays as it was.
 pub fn entry_line(entry: Entry, out: &mut Vec<u8>) -> Result<(), AllocError>
-    ensures added { OnOk result (out.new.items ≡ out.old.items ++ entry_line entry) }
-    ensures unchanged { OnErr result (out.new.items ≡ out.old.items) }
-{
-    Ok(add_entry(entry, out)?)
-}
-
-fn add_entry(entry: Entry, out: &mut Vec<u8>) -> Result<(), AllocError>
     ensures added { OnOk result (out.new.items ≡ out.old.items ++ entry_line entry) }
     ensures unchanged { OnErr result (out.new.items ≡ out.old.items) }
 {

@@ -1,8 +1,8 @@
 //! The reader of documents.
 ghost use Rattle.std.specs.Prelude.{◌≡◌, ◌+◌, ◌≤◌, length, None, Ok, IfOk, IfErr};
-ghost use Rattle.fq_model.specs.declared.version.Version.{Version};
-ghost use Rattle.fq_model.specs.Lines.{words_of, lines_of};
-ghost use Rattle.fq_model.specs.Document.{new_among, with_tenant, with_kind, with_lines, opened, config_line, below_header, config_of, document_of};
+ghost use Rattle.program_model.specs.declared.version.Version.{Version};
+ghost use Rattle.program_model.specs.Lines.{words_of, lines_of};
+ghost use Rattle.program_model.specs.Document.{new_among, with_tenant, with_kind, with_lines, opened, config_line, below_header, config_of, document_of};
 ghost use Rattle.fq_model.specs.Limits.{config_fault};
 ghost use Rattle.fq_model.specs.Names.{number_among};
 ghost use Rattle.tenant_table.specs.Names.{names_of};
@@ -16,9 +16,9 @@ use crate::head::{Settings, read_settings};
 use crate::lines::{next_line, split_words};
 use crate::words::{begins_with, expect_count, name_at, small_at};
 use fq_model::config::{Config, Weights};
-use fq_model::fault::ScriptKind;
 use fq_model::limits::{GREATEST_WEIGHT, MOST_KINDS, MOST_PAIRS, MOST_TENANTS};
-use fq_model::version::Version;
+use program_model::fault::ScriptKind;
+use program_model::version::Version;
 use std::alloc::{AllocError, Global};
 use std::marker::{Model, PhantomData};
 use tenant_table::kinds_builder::KindsBuilder;
@@ -43,7 +43,7 @@ struct Draft<A: Drop> {
 
 impl<A: Drop> Model for Draft<A> {
     ghost use Rattle.std.specs.Prelude.{[]};
-    ghost use Rattle.fq_model.specs.Document.{Document};
+    ghost use Rattle.program_model.specs.Document.{Document};
     ghost use Rattle.tenant_table.specs.Names.{names_of, weights_of};
 
     ghost Value = { Document A };
@@ -96,7 +96,7 @@ impl<A: Line> Draft<A> {
         Ok(Document::new(config.check().unwrap(), tenants, kinds, body))
     }
 
-    #[tactic(auto, unfolding(fq_model::specs::Document::with_tenant))]
+    #[tactic(auto, unfolding(program_model::specs::Document::with_tenant))]
     fn add_tenant(&mut self, words: &[&[u8]]) -> Result<(), LineError>
         ensures { Gives (λ _. self.new) result (with_tenant self.old (words_in words.now)) }
     {
@@ -111,7 +111,7 @@ impl<A: Line> Draft<A> {
         Ok(())
     }
 
-    #[tactic(auto, unfolding(fq_model::specs::Document::with_kind))]
+    #[tactic(auto, unfolding(program_model::specs::Document::with_kind))]
     fn add_kind(&mut self, words: &[&[u8]]) -> Result<(), LineError>
         ensures { Gives (λ _. self.new) result (with_kind self.old (words_in words.now)) }
     {
@@ -175,7 +175,7 @@ fn are_too_many(tenants: u32, kinds: u32) -> bool
     tenants > MOST_TENANTS || kinds > MOST_KINDS || tenants as u64 * kinds as u64 > MOST_PAIRS
 }
 
-#[tactic(auto, unfolding(fq_model::specs::Document::config_line))]
+#[tactic(auto, unfolding(program_model::specs::Document::config_line))]
 fn config_words<A: Line>(alloc: Global, words: &[&[u8]]) -> Result<Draft<A>, LineError>
     ensures { Gives (λ d. d) result (config_line (words_in words.now)) }
 {
@@ -273,7 +273,7 @@ fn below_header<'a, A: Line>(
     }
 }
 
-#[tactic(auto, unfolding(fq_model::specs::Document::document_of))]
+#[tactic(auto, unfolding(program_model::specs::Document::document_of))]
 fn read_draft<'a, A: Line>(
     alloc: Global,
     bytes: &'a [u8],

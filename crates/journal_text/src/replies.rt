@@ -1,6 +1,6 @@
 //! Replies as lines of text.
 ghost use Rattle.std.specs.Prelude.{◌≡◌, ◌++◌, IfOk, OnOk, OnErr};
-ghost use Rattle.fq_model.specs.Texts.{refusal_line, reply_line, replies_text};
+ghost use Rattle.program_model.specs.Texts.{refusal_line, reply_line, replies_text};
 
 use crate::rows::{add_one, add_row, add_word};
 use fq_model::event::{Cause, Reply};
@@ -8,13 +8,6 @@ use std::alloc::{AllocError, Global};
 
 /// Appends a reply's line. Where memory runs out, `out` stays as it was.
 pub fn reply_line(reply: Reply, out: &mut Vec<u8>) -> Result<(), AllocError>
-    ensures added { OnOk result (out.new.items ≡ out.old.items ++ reply_line reply) }
-    ensures unchanged { OnErr result (out.new.items ≡ out.old.items) }
-{
-    Ok(add_reply(reply, out)?)
-}
-
-fn add_reply(reply: Reply, out: &mut Vec<u8>) -> Result<(), AllocError>
     ensures added { OnOk result (out.new.items ≡ out.old.items ++ reply_line reply) }
     ensures unchanged { OnErr result (out.new.items ≡ out.old.items) }
 {

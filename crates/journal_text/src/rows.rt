@@ -1,7 +1,7 @@
 //! Lines of a word and numbers.
 ghost use Rattle.std.specs.Prelude.{◌≡◌, ◌++◌, [], ◌∷◌, codes, OnOk, OnErr};
 ghost use Rattle.std.specs.Fmt.{decimal};
-ghost use Rattle.fq_model.specs.JournalText.{numbers_text};
+ghost use Rattle.program_model.specs.JournalText.{numbers_text};
 ghost use Rattle.journal_text.specs.Printing.{row_text, IsKept};
 
 use itoa::Buffer;

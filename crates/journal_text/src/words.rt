@@ -1,15 +1,15 @@
 //! What single words say. The first word is word 0; faults count from 1.
 ghost use Rattle.std.specs.Prelude.{◌≡◌, ◌<◌, ◌≤◌, IsTrue, length, IfOk};
-ghost use Rattle.fq_model.specs.Reading.{begins_with};
+ghost use Rattle.program_model.specs.Reading.{begins_with};
 ghost use Rattle.fq_model.specs.Numbers.{is_name};
-ghost use Rattle.fq_model.specs.Lines.{with_count, number_at, ranged_at, index_at, name_at, policy_at, estimator_at};
+ghost use Rattle.program_model.specs.Lines.{with_count, number_at, ranged_at, index_at, name_at, policy_at, estimator_at};
 ghost use Rattle.journal_text.specs.Reading.{Gives, words_in};
 
 use crate::fault::LineError;
 use crate::named::{estimator, name, policy};
 use fq_model::config::{Estimator, Policy};
-use fq_model::fault::ScriptKind;
-use fq_model::words::number;
+use program_model::fault::ScriptKind;
+use program_model::numbers::number;
 
 /// Whether a line's first word is this.
 pub fn begins_with(words: &[&[u8]], first: &[u8]) -> bool
@@ -32,7 +32,7 @@ pub fn expect_count(words: &[&[u8]], count: usize) -> Result<(), LineError>
 }
 
 /// A number.
-#[tactic(auto, unfolding(fq_model::specs::Lines::number_at))]
+#[tactic(auto, unfolding(program_model::specs::Lines::number_at))]
 pub fn number_at(words: &[&[u8]], k: u32) -> Result<u64, LineError>
     requires there { k < length words.now }
     requires small { k < 8 }
@@ -42,7 +42,7 @@ pub fn number_at(words: &[&[u8]], k: u32) -> Result<u64, LineError>
 }
 
 /// A number from `low` to `high`.
-#[tactic(auto, unfolding(fq_model::specs::Lines::ranged_at))]
+#[tactic(auto, unfolding(program_model::specs::Lines::ranged_at))]
 pub fn ranged_at(words: &[&[u8]], k: u32, low: u64, high: u64) -> Result<u64, LineError>
     requires there { k < length words.now }
     requires small { k < 8 }
@@ -58,7 +58,7 @@ pub fn ranged_at(words: &[&[u8]], k: u32, low: u64, high: u64) -> Result<u64, Li
 }
 
 /// A number of 32 bits: of a caller, a tenant, a kind or a worker, a weight, or a count.
-#[tactic(auto, unfolding(fq_model::specs::Lines::index_at))]
+#[tactic(auto, unfolding(program_model::specs::Lines::index_at))]
 pub fn index_at(words: &[&[u8]], k: u32) -> Result<u32, LineError>
     requires there { k < length words.now }
     requires small { k < 8 }
@@ -80,7 +80,7 @@ pub fn small_at(words: &[&[u8]], k: u32, low: u32, high: u32) -> Result<u32, Lin
 }
 
 /// A name.
-#[tactic(auto, unfolding(fq_model::specs::Lines::name_at))]
+#[tactic(auto, unfolding(program_model::specs::Lines::name_at))]
 pub fn name_at<'a>(words: &[&'a [u8]], k: u32) -> Result<&'a str, LineError>
     requires { k < length words.now }
     ensures given { Gives (λ n. n.now) result (name_at (words_in words.now) k) }
@@ -90,7 +90,7 @@ pub fn name_at<'a>(words: &[&'a [u8]], k: u32) -> Result<&'a str, LineError>
 }
 
 /// A policy.
-#[tactic(auto, unfolding(fq_model::specs::Lines::policy_at))]
+#[tactic(auto, unfolding(program_model::specs::Lines::policy_at))]
 pub fn policy_at(words: &[&[u8]], k: u32) -> Result<Policy, LineError>
     requires { k < length words.now }
     ensures { Gives (λ p. p) result (policy_at (words_in words.now) k) }
@@ -99,7 +99,7 @@ pub fn policy_at(words: &[&[u8]], k: u32) -> Result<Policy, LineError>
 }
 
 /// An estimator.
-#[tactic(auto, unfolding(fq_model::specs::Lines::estimator_at))]
+#[tactic(auto, unfolding(program_model::specs::Lines::estimator_at))]
 pub fn estimator_at(words: &[&[u8]], k: u32) -> Result<Estimator, LineError>
     requires { k < length words.now }
     ensures { Gives (λ e. e) result (estimator_at (words_in words.now) k) }

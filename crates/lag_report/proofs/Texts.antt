@@ -5,7 +5,7 @@ use Rattle.std.proofs.lemmas.List.{get_or-map, length-map}
 use Rattle.std.proofs.lemmas.List.Elements.{All-map}
 use Rattle.std.proofs.Math.ListN.{drop_of_length-le}
 use Rattle.fq_model.specs.declared.lag.TenantLag.{TenantLag}
-use Rattle.fq_model.specs.ReportText.{tenant_lag_line, tenant_lag_lines}
+use Rattle.program_model.specs.ReportText.{tenant_lag_line, tenant_lag_lines}
 use Rattle.std.specs.Prelude.{codes}
 use Rattle.std.specs.Fmt.{decimal, signed_decimal}
 use Rattle.fq_model.specs.Report.{LagReport, least_lag, greatest_lag}

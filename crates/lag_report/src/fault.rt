@@ -5,7 +5,7 @@ ghost use Rattle.lag_report.specs.Faults.{fault_from};
 
 use fluid_reference::fault::FluidFault;
 use fq_model::limits::MOST_CELLS;
-use std::alloc::{AllocError, AllocFailed};
+use std::alloc::AllocError;
 use std::fmt;
 use thiserror::Error;
 
@@ -46,13 +46,5 @@ impl From<FluidFault> for ReportFault {
             FluidFault::TooLong { slots, tenants } => ReportFault::TooLong { slots, tenants },
             FluidFault::NoMemory => ReportFault::NoMemory,
         }
-    }
-}
-
-impl<T: Drop> From<AllocFailed<T>> for ReportFault {
-    ghost from_gives = { λ _ fault. fault ≡ faults.NoMemory };
-
-    fn from(_: AllocFailed<T>) -> ReportFault {
-        ReportFault::NoMemory
     }
 }

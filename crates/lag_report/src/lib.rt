@@ -4,7 +4,6 @@
 pub mod automatic;
 mod course;
 pub mod fault;
-pub mod laws;
 mod lines;
 pub mod parts;
 pub mod printing;

@@ -3,7 +3,7 @@ ghost use Rattle.std.specs.Prelude.{◌≡◌, ◌≤◌, ◌++◌, length, IfOk
 ghost use Rattle.std.specs.Fmt.{decimal, signed_decimal};
 ghost use Rattle.tenant_table.specs.Names.{names_of};
 ghost use Rattle.fq_model.specs.Report.{least_lag, greatest_lag};
-ghost use Rattle.fq_model.specs.ReportText.{lag_numbers, tenant_lag_line, tenant_lag_lines, slot_line, end_line, lag_report_text, lag_summary_text};
+ghost use Rattle.program_model.specs.ReportText.{lag_numbers, tenant_lag_line, tenant_lag_lines, slot_line, end_line, lag_report_text, lag_summary_text};
 ghost use Rattle.lag_report.specs.Reports.{requests_of};
 ghost use Rattle.lag_report.specs.Texts.{with_counts, with_range, with_totals};
 

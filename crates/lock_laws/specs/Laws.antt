@@ -1,4 +1,4 @@
--- Histories in order of time, as they are here, and with the newest entry first, as the definitions of fq_model have them.
+-- Histories in order of time, as a lock keeps them, and with the newest entry first, as definitions have them.
 use Rattle.std.specs.Prelude.{◌≡◌, ℕ, List, [], ◌∷◌, ◌++◌}
 use Rattle.fq_model.specs.declared.event.Entry.{Entry}
 use Rattle.fq_model.specs.History.{History, history_of}

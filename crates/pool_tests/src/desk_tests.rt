@@ -7,12 +7,12 @@ use crate::samples::{configured, ended, ended_for_two, opened, opened_for_two};
 use desk::{Desk, DoneRefusal, LiveRefusal, Running, Submitter, Took, Worker};
 use eligible_index::index::IndexChooser;
 use fq_model::event::{Cause, Entry};
-use rival_policies::chooser::Chooser;
 use sched_state::{AlreadyClosed, Refused};
 use std::alloc::Global;
 use std::process::Abort;
 use std::sync::Wait;
 use std::thread::{Threads, join_mut};
+use tag_rules::chooser::Chooser;
 
 // Submits a job that is declared to cost 5.
 fn submit<X: Chooser, R: Wait>(

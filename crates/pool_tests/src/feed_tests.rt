@@ -7,15 +7,15 @@ use crate::samples::{configured, ended, opened};
 use desk::{Desk, Submitter};
 use fq_memory::FixedClock;
 use fq_model::event::{Act, Cause, Entry};
-use rival_policies::chooser::Chooser;
+use gate_rules::kind_rule::KindRule;
+use gate_rules::rows::{Fed, Row};
 use rival_policies::plain::PlainChooser;
 use std::alloc::Global;
 use std::collections::VecDeque;
 use std::process::Abort;
 use std::sync::Wait;
+use tag_rules::chooser::Chooser;
 use worker_gate::feed::{feed, feed_by};
-use worker_gate::kind_rule::KindRule;
-use worker_gate::rows::{Fed, Row};
 
 // Rows of jobs 4 and 5 that name a kind 9.
 fn two_rows<R: Abort>(rt: &R, alloc: Global) -> VecDeque<Row<u64>> {

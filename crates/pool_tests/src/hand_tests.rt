@@ -11,7 +11,10 @@ use desk::{Desk, Submitter, Worker};
 use eligible_index::index::IndexChooser;
 use fq_memory::FixedClock;
 use fq_model::event::{Cause, Entry};
-use rival_policies::chooser::Chooser;
+use gate_rules::cost_rule::{CostRule, WorkCost};
+use gate_rules::counters::Counters;
+use gate_rules::gate::{Gate, Slice};
+use gate_rules::rows::{Fed, Row};
 use std::alloc::Global;
 use std::collections::VecDeque;
 use std::ops::Range;
@@ -20,12 +23,9 @@ use std::sync::Wait;
 use std::sync::atomic::{AtomicU64, Ordering};
 use std::thread;
 use std::thread::{Threads, join_mut};
-use worker_gate::cost_rule::{CostRule, WorkCost};
-use worker_gate::counters::Counters;
+use tag_rules::chooser::Chooser;
 use worker_gate::feed::feed;
-use worker_gate::gate::{Gate, Slice};
 use worker_gate::pool::{Hand, pool};
-use worker_gate::rows::{Fed, Row};
 
 // Job 0 ends once job 1 has begun, or is marked where that takes too many turns. Each other job ends at once.
 #[derive(Drop)]

@@ -1,8 +1,8 @@
-use worker_gate::cost_rule::{CostRule, WorkCost};
-use worker_gate::counters::{Counters, NO_COUNTERS};
-use worker_gate::gate::{Gate, Slice};
-use worker_gate::kind_rule::{Kind, KindRule};
-use worker_gate::steps::Steps;
+use gate_rules::cost_rule::{CostRule, WorkCost};
+use gate_rules::counters::{Counters, NO_COUNTERS};
+use gate_rules::gate::{Gate, Slice};
+use gate_rules::kind_rule::{Kind, KindRule};
+use gate_rules::steps::Steps;
 
 fn work(work: u64) -> Counters {
     Counters {

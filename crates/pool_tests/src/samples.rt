@@ -6,10 +6,10 @@ ghost use Rattle.desk.specs.Ending.{HoldsOfEach};
 use desk::{Desk, Submitter, Worker};
 use fq_model::config::{Checked, Config, Estimator, Policy, Weights};
 use fq_model::event::Entry;
-use rival_policies::chooser::Chooser;
 use sched_state::Scheduler;
 use std::alloc::Global;
 use std::process::Abort;
+use tag_rules::chooser::Chooser;
 
 /// One tenant of weight 1, and costs as declared.
 pub fn configured<R: Abort>(

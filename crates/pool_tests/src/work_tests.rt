@@ -4,14 +4,14 @@ ghost use Rattle.std.specs.Prelude.{None};
 use crate::samples::{configured, ended, opened};
 use fq_memory::FixedClock;
 use fq_model::event::{Act, Entry};
-use rival_policies::chooser::Chooser;
+use gate_rules::cost_rule::{CostRule, WorkCost};
+use gate_rules::counters::Counters;
+use gate_rules::gate::{Gate, Slice};
 use rival_policies::plain::PlainChooser;
 use std::alloc::Global;
 use std::process::Abort;
 use std::sync::Wait;
-use worker_gate::cost_rule::{CostRule, WorkCost};
-use worker_gate::counters::Counters;
-use worker_gate::gate::{Gate, Slice};
+use tag_rules::chooser::Chooser;
 use worker_gate::work::work;
 
 // A job that never ends, and comes to one more of work with each slice.

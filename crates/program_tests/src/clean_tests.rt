@@ -2,14 +2,14 @@
 ghost use Rattle.std.specs.Prelude.{◌≡◌, ◌≢◌, [], map};
 ghost use Rattle.std.specs.String.{string_bytes};
 ghost use Rattle.command_texts.specs.Commands.{Untold};
-ghost use Rattle.twodfq_main.specs.Asked.{asked, is_plain};
+ghost use Rattle.plain_commands.specs.Asked.{asked, is_plain};
 ghost use Rattle.clean_runs.specs.Laws.{AreOutputsShorter};
 
 use crate::samples::{REPLIES, SCRIPT, bytes_of, owned};
 use fq_memory::{CleanSink, CleanSource};
+use plain_commands::plain::plain;
 use std::alloc::Global;
 use std::process::Abort;
-use twodfq_main::program::plain;
 
 // Where the sink has more room than the output has bytes, neither reading nor writing can fail.
 fn clean_run(

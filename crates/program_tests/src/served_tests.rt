@@ -2,12 +2,12 @@
 use crate::samples::{REPLIES, SCRIPT, joined};
 use crate::worked_tests::{Wanted, check, sound_sink, sound_source};
 use command_texts::script::served_text;
-use fq_model::command::ScriptPrint;
-use rival_policies::chooser::Chooser;
+use program_model::command::ScriptPrint;
 use rival_policies::plain::PlainChooser;
 use shared_order::chooser::SharedChooser;
 use std::alloc::Global;
 use std::process::Abort;
+use tag_rules::chooser::Chooser;
 
 const HEAD: &str =
     "script 1\nconfig 1 2dfq declared 1000 100 10\ntenant a 1\ntenant b 1\nkind get\n";

@@ -3,7 +3,7 @@ use Rattle.std.proofs.Common.{ℕ, ◌+◌, ◌≡◌, ◌≢◌, inl, inr, sym,
 use Rattle.std.proofs.lemmas.Bool.{cases_eq}
 use Rattle.fq_model.specs.Keys.{HeadKeys, Turn}
 use Rattle.fq_laws.proofs.Keys.Choices.{IsOrder, by_finish, by_eligible}
-use Rattle.rival_policies.specs.Tables.{Table, Has}
+use Rattle.tag_rules.specs.Tables.{Table, Has}
 use Rattle.rival_policies.specs.declared.pass.Pass.{Pass}
 use Rattle.rival_policies.specs.declared.pass.Pass.TheVariants.{Eligible, Fallback}
 use Rattle.rival_policies.specs.Passes.{BeforeIn}

@@ -1,4 +1,2 @@
-pub mod Tables
-pub mod Orders
 pub mod Passes
 pub mod Scan

@@ -3,7 +3,7 @@ use Rattle.std.specs.Prelude.{ℕ}
 use Rattle.fq_model.specs.Keys.{HeadKeys, Turn, IsEligible, FinishBefore, EligibleBefore, Every, IsFirst}
 use Rattle.rival_policies.specs.declared.pass.Pass.{Pass}
 use Rattle.rival_policies.specs.declared.pass.Pass.TheVariants.{Eligible, Fallback}
-use Rattle.rival_policies.specs.Tables.{Table, Has}
+use Rattle.tag_rules.specs.Tables.{Table, Has}
 
 abbrev pub GoesIn : Pass → Turn → HeadKeys → Type 0
 GoesIn Eligible at = IsEligible at

@@ -1,7 +1,7 @@
 -- The first of the tenants below a number, as a scan over a table keeps it.
 use Rattle.std.specs.Prelude.{ℕ, ◌+◌, ◌<◌, ◌≢◌, Option, Some, None}
 use Rattle.fq_model.specs.Keys.{HeadKeys}
-use Rattle.rival_policies.specs.Tables.{Table, Has, RequestsDiffer}
+use Rattle.tag_rules.specs.Tables.{Table, Has, RequestsDiffer}
 use Rattle.rival_policies.specs.declared.scan.Found.{Found}
 
 -- of the tenants below n whose keys pass, t has the first

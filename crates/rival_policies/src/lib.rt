@@ -1,8 +1,6 @@
-//! Which tenant's head a worker takes: a choice over the keys of the heads, and four policies of it.
+//! A chooser that looks at the keys of all heads, under each of the four policies.
 #![tactic(auto)]
 
-pub mod chooser;
 mod pass;
 pub mod plain;
 mod scan;
-pub mod turn;

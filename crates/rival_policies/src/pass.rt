@@ -2,8 +2,8 @@
 ghost use Rattle.std.specs.Prelude.{◌↔◌, IsTrue};
 ghost use Rattle.rival_policies.specs.Passes.{GoesIn, BeforeIn};
 
-use crate::turn::{Turn, finishes_before};
 use tag_rules::parts::Keys;
+use tag_rules::turn::{Turn, finishes_before};
 
 /// A pass over the tenants' heads. The second is made where the first finds none.
 #[derive(Clone, Copy, Debug, PartialEq, Eq)]

@@ -1,14 +1,14 @@
 //! A chooser that goes through all keys.
 ghost use Rattle.std.specs.Prelude.{length};
 
-use crate::chooser::Chooser;
 use crate::pass::Pass;
 use crate::scan::first_in;
-use crate::turn::Turn;
 use fq_model::config::{Checked, Policy};
 use std::alloc::{AllocError, Global};
 use std::marker::Model;
+use tag_rules::chooser::Chooser;
 use tag_rules::parts::Keys;
+use tag_rules::turn::Turn;
 
 /// Keeps the keys by tenant, and looks at each at a choice.
 #[derive(Drop)]
@@ -24,7 +24,7 @@ pub struct PlainChooser {
 impl Model for PlainChooser {
     ghost use Rattle.std.specs.Prelude.{◌≤◌, length};
     ghost use Rattle.fq_model.specs.declared.limits.TheConstants.{MOST_TENANTS};
-    ghost use Rattle.rival_policies.specs.Tables.{ChooserView, RequestsDiffer};
+    ghost use Rattle.tag_rules.specs.Tables.{ChooserView, RequestsDiffer};
 
     ghost Value = { ChooserView };
 

@@ -1,13 +1,13 @@
 //! The first of the tenants in a table.
 ghost use Rattle.std.specs.Prelude.{◌≤◌, ◌↔◌, length, IsTrue, IfSome, IfNone};
-ghost use Rattle.rival_policies.specs.Tables.{RequestsDiffer};
+ghost use Rattle.tag_rules.specs.Tables.{RequestsDiffer};
 ghost use Rattle.rival_policies.specs.Passes.{GoesIn, BeforeIn, IsFirstIn, NoneGoesIn};
 ghost use Rattle.rival_policies.specs.Scan.{TakesIn, ComesFirst};
 
 use crate::pass::Pass;
-use crate::turn::Turn;
 use fq_model::limits::MOST_TENANTS;
 use tag_rules::parts::Keys;
+use tag_rules::turn::Turn;
 
 /// A tenant that has a head.
 #[derive(Clone, Copy, Debug, PartialEq, Eq)]

@@ -22,14 +22,14 @@ use Rattle.fq_laws.specs.Words.{one_more}
 use Rattle.fq_laws.proofs.Rules.Refusals.{all_false, submit_fits, report_fits, done_fits, weight_fits, workers_fits, request_on_is}
 use Rattle.charge_book.specs.declared.row.RunRow.{RunRow}
 use Rattle.charge_book.proofs.Refusals.{row_of}
-use Rattle.rival_policies.specs.Tables.{ChooserView}
+use Rattle.tag_rules.specs.Tables.{ChooserView}
 use Rattle.sched_state.specs.declared.tracker.Tracker.{Tracker}
-use Rattle.sched_state.specs.Journal.{JournalView, history, with_entry}
+use Rattle.sched_journal.specs.Journal.{JournalView, history, with_entry}
 use Rattle.sched_state.specs.Lists.{JobMap}
 use Rattle.sched_state.specs.Replies.{AnswersCall}
 use Rattle.sched_state.specs.Scheduler.{SchedulerView}
 use Rattle.sched_state.specs.Tracker.{Tracks, MayName}
-use Rattle.sched_state.proofs.JournalLemmas.{history_with}
+use Rattle.sched_journal.proofs.JournalLemmas.{history_with}
 use Rattle.sched_state.proofs.RefusalLemmas.{report_unless_full}
 
 -- ---- what a call leaves

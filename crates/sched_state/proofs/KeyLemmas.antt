@@ -18,7 +18,7 @@ use Rattle.fq_laws.proofs.Time.Clock.{virtual_time_rises}
 use Rattle.fq_laws.proofs.Keys.Choices.{keys_differ, keys_tenant_known, head_has_keys, no_head_no_keys}
 use Rattle.fq_laws.proofs.Keys.Others.{keys_still, keys_unconcerned}
 use Rattle.fq_laws.proofs.History.Heads.{heads_none_waiting, waits_none, waits_none_head}
-use Rattle.rival_policies.specs.Tables.{Setting, Table, Has, NoneHas, IsNewTo, turn_of, IsTableChoice, ChooserView, setting_at, opened, with_keys}
+use Rattle.tag_rules.specs.Tables.{Setting, Table, Has, NoneHas, IsNewTo, turn_of, IsTableChoice, ChooserView, setting_at, opened, with_keys}
 use Rattle.sched_state.specs.Keys.{HasKeysOf, ChooserIs, ChooserIsBut}
 
 -- ---- places of a table

@@ -1,5 +1,3 @@
-pub mod TallyLemmas
-pub mod JournalLemmas
 pub mod JobMaps
 pub mod JobLists
 pub mod ListLemmas

@@ -33,7 +33,7 @@ use Rattle.charge_book.specs.declared.row.RunRow.{RunRow}
 use Rattle.charge_book.specs.Book.{row_of_run, begun, reported, report_change, finished, finish_change}
 use Rattle.charge_book.proofs.Steps.{book_submit, book_quiet}
 use Rattle.tag_rules.proofs.AccountSteps.{accounts_quiet}
-use Rattle.rival_policies.specs.Tables.{ChooserView, Setting, setting_at, with_workers, resized, NoneHas, IsTableChoice, asked_at}
+use Rattle.tag_rules.specs.Tables.{ChooserView, Setting, setting_at, with_workers, resized, NoneHas, IsTableChoice, asked_at}
 use Rattle.tag_rules.specs.Accounts.{raised, charged}
 use Rattle.virtual_clock.specs.declared.times.Times.{Times}
 use Rattle.virtual_clock.specs.Histories.{TimesAre, PassOn, IsTimeOf, IsWeightOf}

@@ -4,7 +4,7 @@ use Rattle.fq_model.specs.declared.config.Config.{Config}
 use Rattle.fq_model.specs.History.{History, pool_at}
 use Rattle.fq_model.specs.Time.{last_moment, virtual_time}
 use Rattle.fq_model.specs.Keys.{keys_at}
-use Rattle.rival_policies.specs.Tables.{ChooserView, setting_at}
+use Rattle.tag_rules.specs.Tables.{ChooserView, setting_at}
 
 -- the chooser is the configuration's, for the number of workers now, has the keys of these tenants' heads, and was asked for no later virtual time
 pub record HasKeysOf (C : Config) (P : History) (Tenants : ℕ → Type 0) (x : ChooserView) : Type 0 where

@@ -1,5 +1,3 @@
-pub mod Tally
-pub mod Journal
 pub mod Lists
 pub mod Costs
 pub mod Keys

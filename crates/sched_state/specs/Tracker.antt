@@ -13,13 +13,13 @@ use Rattle.fq_laws.specs.Words.{one_more}
 use Rattle.charge_book.specs.declared.row.RunRow.{RunRow}
 use Rattle.charge_book.specs.Book.{MayUse}
 use Rattle.charge_book.specs.Histories.{BookIs}
-use Rattle.rival_policies.specs.Tables.{ChooserView}
+use Rattle.tag_rules.specs.Tables.{ChooserView}
 use Rattle.tag_rules.specs.Accounts.{AccountsView, AccountsAre, raised}
 use Rattle.virtual_clock.specs.Histories.{TimesAre}
 use Rattle.waiting_lists.specs.Lists.{ListsView, list_of}
 use Rattle.waiting_lists.specs.declared.item.Item.{Item}
 use Rattle.sched_state.specs.declared.tracker.Tracker.{Tracker}
-use Rattle.sched_state.specs.Journal.{JournalView, history}
+use Rattle.sched_journal.specs.Journal.{JournalView, history}
 use Rattle.sched_state.specs.Lists.{ListsAre, jobs_in}
 use Rattle.sched_state.specs.Costs.{CostsAre}
 use Rattle.sched_state.specs.Keys.{ChooserIs, ChooserIsBut}

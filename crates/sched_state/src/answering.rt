@@ -5,7 +5,7 @@ ghost use Rattle.sched_state.specs.Replies.{AnswersCall, submit_reply, take_repl
 use crate::replies::{AlreadyClosed, Refused, Taken};
 use crate::scheduler::Scheduler;
 use fq_model::event::{Call, Cause, Reply};
-use rival_policies::chooser::Chooser;
+use tag_rules::chooser::Chooser;
 
 /// What the scheduler answers to a call, whose label is the job of what is submitted.
 pub fn answer<X: Chooser>(scheduler: &mut Scheduler<u64, X>, call: Call) -> Reply

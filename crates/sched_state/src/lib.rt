@@ -2,14 +2,10 @@
 #![tactic(auto)]
 
 mod answering;
-mod history;
-mod journal;
 mod replies;
 mod scheduler;
-mod tally;
 mod tracker;
 
 pub use answering::answer;
-pub use history::History;
 pub use replies::{AlreadyClosed, Refused, Taken};
 pub use scheduler::Scheduler;

@@ -7,16 +7,15 @@ ghost use Rattle.fq_model.specs.Rules.{IsLegal};
 ghost use Rattle.sched_state.specs.Lists.{HoldsWaiting};
 ghost use Rattle.sched_state.specs.Replies.{submit_reply, take_reply, change_reply, close_reply, AnswersCall, HandsOut};
 
-use crate::history::History;
-use crate::journal::Journal;
 use crate::replies::{AlreadyClosed, Refused, Taken};
 use crate::tracker::Tracker;
 use fq_model::config::Checked;
 use fq_model::event::{Act, Cause, Entry};
 use fq_model::job::Job;
-use rival_policies::chooser::Chooser;
+use sched_journal::{History, Journal};
 use std::alloc::{AllocError, Global};
 use std::marker::Model;
+use tag_rules::chooser::Chooser;
 use waiting_lists::item::Item;
 
 /// One history, from its opening on, and the jobs of the requests that wait in it. Contracts see the entries in
@@ -32,7 +31,7 @@ pub struct Scheduler<J: Job, X: Chooser> {
 
 impl<J: Job, X: Chooser> Model for Scheduler<J, X> {
     ghost use Rattle.sched_state.specs.Scheduler.{SchedulerView, scheduler_code};
-    ghost use Rattle.sched_state.specs.Journal.{history};
+    ghost use Rattle.sched_journal.specs.Journal.{history};
     ghost use Rattle.sched_state.specs.Lists.{jobs_in};
     ghost use Rattle.sched_state.specs.Tracker.{Tracks};
 

@@ -3,7 +3,7 @@ use Rattle.std.proofs.Common.{ℕ, ◌≡◌, ◌≢◌, ◌∙◌, inl, inr, sy
 use Rattle.std.proofs.lemmas.Bool.{cases_eq, cases_lt}
 use Rattle.std.proofs.lemmas.List.{set_past}
 use Rattle.fq_model.specs.Keys.{HeadKeys}
-use Rattle.rival_policies.specs.Tables.{Table, Has, IsNewTo}
+use Rattle.tag_rules.specs.Tables.{Table, Has, IsNewTo}
 use Rattle.scheduler_tests.specs.ByTenant.{IsByTenant}
 use Rattle.shared_order.proofs.Mirroring.{has_same, has_other}
 

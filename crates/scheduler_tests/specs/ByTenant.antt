@@ -1,7 +1,7 @@
 -- Tables of the tests.
 use Rattle.std.specs.Prelude.{ℕ, ◌≡◌}
 use Rattle.fq_model.specs.Keys.{HeadKeys}
-use Rattle.rival_policies.specs.Tables.{Table, Has}
+use Rattle.tag_rules.specs.Tables.{Table, Has}
 
 -- the head of each tenant has its number
 abbrev pub IsByTenant : Table → Type 0

@@ -1,12 +1,12 @@
 use crate::samples::send_away;
 use fq_model::config::{Checked, Config, Estimator, Policy, Weights};
 use fq_model::event::{Act, Entry};
-use rival_policies::chooser::Chooser;
 use rival_policies::plain::PlainChooser;
 use sched_state::{Scheduler, Taken};
 use std::alloc::Global;
 use std::marker::Send;
 use std::process::Abort;
+use tag_rules::chooser::Chooser;
 
 // Two tenants of the weights 1 and 2 share one worker.
 fn shared_worker<R: Abort>(rt: &R, alloc: Global) -> Checked {

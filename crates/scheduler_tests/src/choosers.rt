@@ -5,10 +5,10 @@ ghost use Rattle.scheduler_tests.specs.ByTenant.{IsByTenant};
 use crate::samples::{configured, send_away};
 use fq_model::config::Policy;
 use fq_model::limits::MOST_WORKERS;
-use rival_policies::chooser::Chooser;
 use std::alloc::Global;
 use std::marker::Send;
 use std::process::Abort;
+use tag_rules::chooser::Chooser;
 use tag_rules::keys::keys;
 use tag_rules::parts::Keys;
 

@@ -4,9 +4,9 @@ use crate::choosers::{opened, with_heads};
 use crate::samples::send_away;
 use eligible_index::index::IndexChooser;
 use fq_model::config::Policy;
-use rival_policies::chooser::Chooser;
 use std::alloc::Global;
 use std::process::Abort;
+use tag_rules::chooser::Chooser;
 use tag_rules::keys::keys;
 use winner_tree::Key;
 

@@ -4,10 +4,10 @@ ghost use Rattle.scheduler_tests.specs.ByTenant.{IsByTenant};
 
 use crate::choosers::{UNIT, expect_lesser_first, expect_resized, opened, with_heads};
 use fq_model::config::Policy;
-use rival_policies::chooser::Chooser;
 use shared_order::chooser::SharedChooser;
 use std::alloc::Global;
 use std::process::Abort;
+use tag_rules::chooser::Chooser;
 use tag_rules::keys::keys;
 use tag_rules::parts::Keys;
 

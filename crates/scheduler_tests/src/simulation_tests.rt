@@ -1,18 +1,18 @@
 //! Traces whose simulated histories were made by hand.
 ghost use Rattle.std.specs.Prelude.{◌≡◌, ◌<◌};
-ghost use Rattle.fq_model.specs.Limits.{AreInRange};
-ghost use Rattle.fq_model.specs.TraceText.{IsLawfulTrace};
+ghost use Rattle.program_model.specs.RunLimits.{AreInRange};
+ghost use Rattle.program_model.specs.TraceText.{IsLawfulTrace};
 
 use eligible_index::index::IndexChooser;
 use fq_model::config::{Checked, Estimator, Policy};
 use fq_model::event::{Act, Entry};
-use fq_model::trace::RunOptions;
-use rival_policies::chooser::Chooser;
+use program_model::trace::RunOptions;
 use rival_policies::plain::PlainChooser;
-use sched_state::History;
+use sched_journal::History;
 use shared_order::chooser::SharedChooser;
 use std::alloc::Global;
 use std::process::Abort;
+use tag_rules::chooser::Chooser;
 use trace_reader::generating::generate;
 use trace_reader::reading::read;
 use trace_reader::trace::Trace;
@@ -89,7 +89,7 @@ fn served<X: Chooser + Drop, R: Abort>(
     history
 }
 
-// A scheduler had room for so many entries and requests.
+// A history was kept under a configuration with room for so many entries and requests.
 fn expect_room<R: Abort>(rt: &R, config: &Checked, entries: u32, requests: u32) {
     assert_eq!(rt; (config.entries(), config.requests()), (entries, requests));
 }

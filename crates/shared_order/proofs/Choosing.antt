@@ -5,7 +5,7 @@ use Rattle.std.proofs.lemmas.Int.{ints}
 use Rattle.std.proofs.lemmas.List.Elements.{All-contains, Contains-append_cases}
 use Rattle.vt_fixed.specs.declared.limits.TheConstants.{GREATEST_LENGTH}
 use Rattle.fq_model.specs.Keys.{HeadKeys, Turn, finish, eligible_key, IsEligible, FinishBefore, EligibleBefore, IsFirst, Every, IsChoice}
-use Rattle.rival_policies.specs.Tables.{Table, Has, NoneHas}
+use Rattle.tag_rules.specs.Tables.{Table, Has, NoneHas}
 use Rattle.order_laws.specs.Reach.{key_by_finish, IsInReach}
 use Rattle.order_laws.proofs.Reach.{eligible_in_reach, key_by_its_finish}
 use Rattle.shared_order.specs.Heads.{HeadView, head_of, HeadBefore, IsSorted}

@@ -11,7 +11,7 @@ use Rattle.std.proofs.lemmas.Option.{slice_get_read, slice_get_within}
 use Rattle.vt_fixed.specs.declared.limits.TheConstants.{GREATEST_LENGTH}
 use Rattle.tag_rules.specs.Keys.{IsInRange}
 use Rattle.fq_model.specs.Keys.{HeadKeys}
-use Rattle.rival_policies.specs.Tables.{Table, Has, IsNewTo, RequestsDiffer}
+use Rattle.tag_rules.specs.Tables.{Table, Has, IsNewTo, RequestsDiffer}
 use Rattle.shared_order.specs.Heads.{HeadView, head_of, Gains}
 use Rattle.shared_order.specs.Blocks.{OrderView}
 use Rattle.shared_order.specs.Search.{AreInRange}

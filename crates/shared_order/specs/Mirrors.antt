@@ -2,7 +2,7 @@
 use Rattle.std.specs.Prelude.{ℕ, ◌≡◌, ◌≢◌, ◌⊎◌, List, Option, is_some, length, ◌≤◌, ℤ, pos, ◌-ℤ◌, ◌≤ℤ◌}
 use Rattle.std.specs.List.{All, AllPairs, Contains, count_by}
 use Rattle.fq_model.specs.Keys.{HeadKeys, Turn}
-use Rattle.rival_policies.specs.Tables.{Table, Has, RequestsDiffer}
+use Rattle.tag_rules.specs.Tables.{Table, Has, RequestsDiffer}
 use Rattle.shared_order.specs.Heads.{HeadView, head_of}
 use Rattle.shared_order.specs.Blocks.{OrderView}
 use Rattle.shared_order.specs.Search.{AreInRange, IsReached, IsSooner, IsFirstThat, IsLeast}

@@ -8,11 +8,11 @@ use crate::head::Head;
 use crate::order::Order;
 use crate::search::choice;
 use fq_model::config::{Checked, Policy};
-use rival_policies::chooser::Chooser;
-use rival_policies::turn::Turn;
 use std::alloc::{AllocError, Global};
 use std::marker::Model;
+use tag_rules::chooser::Chooser;
 use tag_rules::parts::Keys;
+use tag_rules::turn::Turn;
 
 /// Keeps the heads in one order for all workers. A change of one tenant's keys costs the search of its block and the
 /// moves within it, whatever the number of workers; a choice looks at the blocks in order, and into few of them.
@@ -29,7 +29,7 @@ pub struct SharedChooser {
 
 impl Model for SharedChooser {
     ghost use Rattle.std.specs.Prelude.{length};
-    ghost use Rattle.rival_policies.specs.Tables.{ChooserView};
+    ghost use Rattle.tag_rules.specs.Tables.{ChooserView};
 
     ghost Value = { ChooserView };
 

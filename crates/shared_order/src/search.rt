@@ -10,7 +10,7 @@ use crate::block::Block;
 use crate::head::Head;
 use fq_model::config::Policy;
 use fq_model::limits::{GREATEST_LENGTH, GREATEST_START};
-use rival_policies::turn::Turn;
+use tag_rules::turn::Turn;
 use vt_fixed::part;
 
 /// The head that is chosen: the first eligible one, or, where none is eligible, the one that becomes eligible soonest.

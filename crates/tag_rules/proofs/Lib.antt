@@ -1,2 +1,3 @@
 pub mod AccountSteps
 pub mod Ranges
+pub mod Comparing

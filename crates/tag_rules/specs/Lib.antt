@@ -1,2 +1,4 @@
 pub mod Keys
 pub mod Accounts
+pub mod Tables
+pub mod Orders

@@ -3,7 +3,7 @@ ghost use Rattle.std.specs.Prelude.{◌≡◌};
 ghost use Rattle.tenant_table.specs.declared.fault.NameFault.TheVariants.{NoMemory};
 
 use fq_model::limits::GREATEST_WEIGHT;
-use std::alloc::{AllocError, AllocFailed};
+use std::alloc::AllocError;
 use std::fmt;
 use thiserror::Error;
 
@@ -39,14 +39,6 @@ impl From<AllocError> for NameFault {
     ghost from_gives = { λ _ fault. fault ≡ NoMemory };
 
     fn from(_: AllocError) -> NameFault {
-        NameFault::NoMemory
-    }
-}
-
-impl<T: Drop> From<AllocFailed<T>> for NameFault {
-    ghost from_gives = { λ _ fault. fault ≡ NoMemory };
-
-    fn from(_: AllocFailed<T>) -> NameFault {
         NameFault::NoMemory
     }
 }

@@ -4,7 +4,6 @@
 pub mod fault;
 pub mod kinds;
 pub mod kinds_builder;
-pub mod laws;
 pub mod name;
 pub mod tenants;
 pub mod tenants_builder;

@@ -1,9 +1,9 @@
 //! Command lines, and what they ask for.
 use command_line::command::command;
 use command_line::options::{Absent, OptionRow, Value, Values, values_in};
-use fq_model::command::{Command, GenPrint, HistoryPrint, ScriptPrint};
 use fq_model::config::{Estimator, Policy};
-use fq_model::trace::RunOptions;
+use program_model::command::{Command, GenPrint, HistoryPrint, ScriptPrint};
+use program_model::trace::RunOptions;
 use std::alloc::Global;
 use std::process::Abort;
 

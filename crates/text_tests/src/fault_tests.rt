@@ -1,7 +1,7 @@
 //! Texts that are no scripts, with the first fault of each.
-use fq_model::fault::ScriptKind;
 use journal_text::calls::read_script;
 use journal_text::fault::ScriptFault;
+use program_model::fault::ScriptKind;
 use std::alloc::Global;
 use std::process::Abort;
 

@@ -1,8 +1,8 @@
 //! The messages of faults, for people to read.
 use fq_model::config::ConfigFault;
 use fq_model::event::Cause;
-use fq_model::fault::{ScriptKind, TraceKind};
 use fq_model::words::UnknownWord;
+use program_model::fault::{ScriptKind, TraceKind};
 use std::alloc::Global;
 use std::fmt::Display;
 use std::process::Abort;

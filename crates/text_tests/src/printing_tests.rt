@@ -1,11 +1,11 @@
 //! Texts written by hand, and what they say.
 use crate::samples::{expect_text, joined};
 use fq_model::event::{Act, Cause, Entry, Reply};
-use fq_model::fault::ScriptKind;
 use journal_text::calls::{Script, read_script};
 use journal_text::messages::placed_fault;
 use journal_text::printing::{entry_line, print};
 use journal_text::replies::{replies_text, reply_line};
+use program_model::fault::ScriptKind;
 use std::alloc::Global;
 use std::process::Abort;
 

@@ -1,9 +1,9 @@
 //! Traces written by hand, with what the grammar says of them.
-ghost use Rattle.fq_model.specs.TraceText.{IsLawfulTrace};
+ghost use Rattle.program_model.specs.TraceText.{IsLawfulTrace};
 
 use crate::samples::expect_text;
-use fq_model::fault::TraceKind;
-use fq_model::trace::TraceRow;
+use program_model::fault::TraceKind;
+use program_model::trace::TraceRow;
 use std::alloc::Global;
 use std::process::Abort;
 use trace_reader::fault::{GenFault, TraceFault};

@@ -3,12 +3,12 @@ use Rattle.std.proofs.Common.{◌≡◌, ◌<◌, ◌≤◌, ◌+◌, ℕ, Bool,
 use Rattle.std.proofs.lemmas.Bool.{or_parts, false≢true}
 use Rattle.fq_model.specs.declared.event.Act.{Act}
 use Rattle.fq_model.specs.declared.event.Act.TheVariants.{Report, Weight, Workers}
-use Rattle.fq_model.specs.declared.trace.RunOptions.{RunOptions}
-use Rattle.fq_model.specs.Courses.{submitters}
+use Rattle.program_model.specs.declared.trace.RunOptions.{RunOptions}
+use Rattle.program_model.specs.Courses.{submitters}
 use Rattle.fq_model.specs.History.{History, has_act, is_change}
 use Rattle.fq_model.specs.Outcome.{own_entries}
-use Rattle.fq_model.specs.PoolHistory.{is_submit_or_close}
-use Rattle.fq_model.specs.Trace.{Trace}
+use Rattle.program_model.specs.PoolHistory.{is_submit_or_close}
+use Rattle.program_model.specs.Trace.{Trace}
 use Rattle.trace_pool.proofs.Callers.{has_none, who_is}
 use Rattle.trace_pool.proofs.Parts.{acts, PoolParts}
 use Rattle.trace_pool.proofs.Runs.{MakesNothing, tally, tally_none}

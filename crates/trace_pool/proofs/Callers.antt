@@ -5,7 +5,7 @@ use Rattle.std.proofs.lemmas.Bool.{eq-eqb, ne_eqb, cases_eq, cases_lt, or_parts,
 use Rattle.std.proofs.lemmas.List.Elements.{filter-append}
 use Rattle.fq_model.specs.declared.event.Act.{Act}
 use Rattle.fq_model.specs.declared.event.Entry.{Entry}
-use Rattle.fq_model.specs.Courses.{Each}
+use Rattle.program_model.specs.Courses.{Each}
 use Rattle.fq_model.specs.History.{History, has_act, history_of}
 use Rattle.fq_model.specs.Outcome.{own_entries}
 use Rattle.history_lock.specs.Histories.{IsPrefix}

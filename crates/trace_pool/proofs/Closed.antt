@@ -5,18 +5,18 @@ use Rattle.fq_model.specs.declared.config.Config.{Config}
 use Rattle.fq_model.specs.declared.event.Act.{Act}
 use Rattle.fq_model.specs.declared.event.Act.TheVariants.{Submit}
 use Rattle.fq_model.specs.declared.event.Cause.{Cause}
-use Rattle.fq_model.specs.declared.trace.RunOptions.{RunOptions}
-use Rattle.fq_model.specs.declared.trace.TraceRow.{TraceRow}
-use Rattle.fq_model.specs.Courses.{submitters, Each}
+use Rattle.program_model.specs.declared.trace.RunOptions.{RunOptions}
+use Rattle.program_model.specs.declared.trace.TraceRow.{TraceRow}
+use Rattle.program_model.specs.Courses.{submitters, Each}
 use Rattle.fq_model.specs.History.{History, has_act, is_close, is_closed, is_submit, is_submit_of, is_submitted, submits, with_submit}
 use Rattle.fq_model.specs.Limits.{InLimits}
 use Rattle.fq_model.specs.Outcome.{own_entries}
-use Rattle.fq_model.specs.PoolHistory.{pool_config, requests_from, IsFed, ClosesOnce}
+use Rattle.program_model.specs.PoolHistory.{pool_config, requests_from, IsFed, ClosesOnce}
 use Rattle.fq_model.specs.Rules.{IsLegal, Fits}
-use Rattle.fq_model.specs.Trace.{Trace}
-use Rattle.fq_model.specs.TraceText.{IsLawfulTrace}
+use Rattle.program_model.specs.Trace.{Trace}
+use Rattle.program_model.specs.TraceText.{IsLawfulTrace}
 use Rattle.fq_laws.proofs.Sums.{sum_same}
-use Rattle.worker_gate.specs.declared.rows.Row.{Row}
+use Rattle.gate_rules.specs.declared.rows.Row.{Row}
 use Rattle.worker_gate.specs.Feeding.{Splits, is_last_submit}
 use Rattle.trace_pool.specs.PoolEnd.{row_asks}
 use Rattle.trace_pool.proofs.Balance.{closes_once}

@@ -3,20 +3,21 @@ use Rattle.std.proofs.Common.{◌≡◌, ◌<◌, ◌≤◌, ◌*◌, min, ℕ, 
 use Rattle.vt_fixed.specs.declared.limits.TheConstants.{GREATEST_COST}
 use Rattle.fq_model.specs.declared.event.Act.{Act}
 use Rattle.fq_model.specs.declared.event.Act.TheVariants.{Take, Report, Done}
-use Rattle.fq_model.specs.declared.trace.RunOptions.{RunOptions}
-use Rattle.fq_model.specs.Courses.{worker_caller, reports_below, with_reports, course_acts}
+use Rattle.program_model.specs.declared.trace.RunOptions.{RunOptions}
+use Rattle.program_model.specs.Courses.{worker_caller, reports_below, with_reports, course_acts}
 use Rattle.fq_model.specs.History.{History}
-use Rattle.fq_model.specs.Limits.{InLimits, AreInRange}
+use Rattle.fq_model.specs.Limits.{InLimits}
+use Rattle.program_model.specs.RunLimits.{AreInRange}
 use Rattle.fq_model.specs.Outcome.{own_entries}
-use Rattle.fq_model.specs.PoolHistory.{pool_config, step_of, Served, AllCameFromRows, courses_acts, IsServing}
-use Rattle.fq_model.specs.Trace.{Trace}
-use Rattle.fq_model.specs.TraceText.{IsLawfulTrace, IsLawfulRow}
-use Rattle.worker_gate.specs.declared.counters.Counters.{Counters}
-use Rattle.worker_gate.specs.Rules.{work_cost}
+use Rattle.program_model.specs.PoolHistory.{pool_config, step_of, Served, AllCameFromRows, courses_acts, IsServing}
+use Rattle.program_model.specs.Trace.{Trace}
+use Rattle.program_model.specs.TraceText.{IsLawfulTrace, IsLawfulRow}
+use Rattle.gate_rules.specs.declared.counters.Counters.{Counters}
+use Rattle.gate_rules.specs.Rules.{work_cost}
 use Rattle.worker_gate.specs.Running.{Use, JobRun, with_uses, with_run, with_runs, uses_after, FollowsCourse}
-use Rattle.worker_gate.specs.Slices.{counters_after}
-use Rattle.worker_gate.specs.Stepping.{step_course, CountsUp, work_only}
-use Rattle.worker_gate.proofs.Stepping.{course_counters, steps_count_up}
+use Rattle.gate_rules.specs.Slices.{counters_after}
+use Rattle.gate_rules.specs.Stepping.{step_course, CountsUp, work_only}
+use Rattle.gate_rules.proofs.Stepping.{course_counters, steps_count_up}
 use Rattle.trace_pool.proofs.Labels.{AllRunRows, follows_few, run_rows}
 use Rattle.trace_pool.proofs.Parts.{PoolParts}
 use Rattle.trace_pool.proofs.Refused.{lawful_row}

@@ -2,11 +2,11 @@
 use Rattle.std.proofs.Common.{ℕ, suc, ◌+◌, ◌<◌, ◌≡◌, ◌==◌, Bool, true, false, cond, List, [], ◌∷◌, ◌++◌, length, drop, get_or, map, append_assoc, append-nil, sym, ap, ◌∙◌, add-one}
 use Rattle.std.proofs.lemmas.List.{map-append}
 use Rattle.std.proofs.Math.Seq.{drop-cons, drop-length}
-use Rattle.fq_model.specs.declared.trace.TraceRow.{TraceRow}
-use Rattle.fq_model.specs.Courses.{row_request}
+use Rattle.program_model.specs.declared.trace.TraceRow.{TraceRow}
+use Rattle.program_model.specs.Courses.{row_request}
 use Rattle.fq_model.specs.History.{Request}
-use Rattle.fq_model.specs.PoolHistory.{requests_from}
-use Rattle.worker_gate.specs.declared.rows.Row.{Row}
+use Rattle.program_model.specs.PoolHistory.{requests_from}
+use Rattle.gate_rules.specs.declared.rows.Row.{Row}
 use Rattle.trace_pool.specs.PoolEnd.{row_asks}
 
 -- what was dealt of the rows before row r, and what is left to be dealt of row r and the rows after it, are all rows

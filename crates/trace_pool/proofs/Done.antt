@@ -2,7 +2,7 @@
 use Rattle.std.proofs.Common.{ℕ, suc, ◌+◌, ◌<◌, ◌≡◌, List, [], ◌∷◌, ◌++◌, length, slice_index_or, take, drop, append-nil, Some, All, sym, ap, ◌∙◌, subst, refl, arith}
 use Rattle.std.proofs.Math.Seq.{drop-length, take-length}
 use Rattle.std.proofs.lemmas.List.Elements.{All-nil, All-cons, All-append}
-use Rattle.fq_model.specs.declared.trace.TraceRow.{TraceRow}
+use Rattle.program_model.specs.declared.trace.TraceRow.{TraceRow}
 use Rattle.history_lock.specs.Passes.{LockView}
 use Rattle.desk.specs.declared.floor.Crew.{Crew}
 use Rattle.desk.specs.declared.tokens.Worker.{Worker}
@@ -10,7 +10,7 @@ use Rattle.worker_gate.specs.declared.pool.Hand.{Hand}
 use Rattle.worker_gate.specs.declared.pool.Hand.TheVariants.{Feed, Work}
 use Rattle.worker_gate.specs.Feeding.{Feeds}
 use Rattle.worker_gate.specs.Hands.{IsHandOf, HandDid, HandsDid}
-use Rattle.worker_gate.specs.Rules.{work_cost}
+use Rattle.gate_rules.specs.Rules.{work_cost}
 use Rattle.trace_pool.specs.PoolEnd.{trace_course}
 use Rattle.trace_pool.specs.Parts.{IsFeedOf, IsWorkOf, AreHands, HasFed, HasWorked, HasFedHand, HasWorkedHand, AreDone}
 use Rattle.trace_pool.specs.Places.{HoldsFrom}
@@ -83,7 +83,7 @@ module _ (rows : List TraceRow) (lock : LockView Crew) (refresh : ℕ) (Tells : 
       let same : is.0 ≡ did.0 = (let both : Some is.0 ≡ Some did.0 = sym is.1 ∙ did.2 in cc) in
       let done : HasWorked rows lock refresh Tells i did.1 = record {
         begun = did.0;
-        new = subst (λ (t : Worker). Rattle.desk.specs.Opening.IsNew lock (Rattle.fq_model.specs.Courses.worker_caller rows i) t.pass) same is.2;
+        new = subst (λ (t : Worker). Rattle.desk.specs.Opening.IsNew lock (Rattle.program_model.specs.Courses.worker_caller rows i) t.pass) same is.2;
         numbered = subst (λ (t : Worker). t.worker ≡ i) same is.3;
         worked = did.4;
       } in

@@ -2,16 +2,16 @@
 use Rattle.std.proofs.Common.{ℕ, ◌<◌, ◌≤◌, ◌≡◌, List, [], ◌∷◌, length, ap, ◌∙◌, arith}
 use Rattle.fq_model.specs.declared.config.Config.{Config}
 use Rattle.fq_model.specs.declared.event.Entry.{Entry}
-use Rattle.fq_model.specs.declared.trace.RunOptions.{RunOptions}
-use Rattle.fq_model.specs.declared.trace.TraceRow.{TraceRow}
-use Rattle.fq_model.specs.Courses.{submitters}
+use Rattle.program_model.specs.declared.trace.RunOptions.{RunOptions}
+use Rattle.program_model.specs.declared.trace.TraceRow.{TraceRow}
+use Rattle.program_model.specs.Courses.{submitters}
 use Rattle.fq_model.specs.History.{history_of}
-use Rattle.fq_model.specs.Limits.{AreInRange}
-use Rattle.fq_model.specs.PoolHistory.{IsPoolHistory, HasToldMoments, needed_pool_entries, pool_config}
+use Rattle.program_model.specs.RunLimits.{AreInRange}
+use Rattle.program_model.specs.PoolHistory.{IsPoolHistory, HasToldMoments, needed_pool_entries, pool_config}
 use Rattle.fq_model.specs.declared.limits.TheConstants.{MOST_ENTRIES}
 use Rattle.fq_model.specs.Rules.{IsLegal}
-use Rattle.fq_model.specs.Trace.{Trace}
-use Rattle.fq_model.specs.TraceText.{IsLawfulTrace}
+use Rattle.program_model.specs.Trace.{Trace}
+use Rattle.program_model.specs.TraceText.{IsLawfulTrace}
 use Rattle.history_lock.specs.Passes.{LockView, HasNoneAbove}
 use Rattle.desk.specs.declared.floor.Crew.{Crew}
 use Rattle.desk.specs.declared.tokens.Submitter.{Submitter}

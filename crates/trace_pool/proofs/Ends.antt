@@ -8,7 +8,7 @@ use Rattle.trace_pool.proofs.Absent.{no_change}
 use Rattle.trace_pool.proofs.Parts.{pool_parts, parts_told}
 use Rattle.trace_pool.proofs.Served.{is_served}
 use Rattle.trace_pool.proofs.Courses.{is_serving}
-use Rattle.fq_model.specs.Courses.{worker_caller}
+use Rattle.program_model.specs.Courses.{worker_caller}
 
 pub pool_history : (Tells : ℕ → Type 0) → PoolHistoryIs Tells
 pool_history Tells T O lock past law range lim ends =

@@ -1,7 +1,7 @@
 -- Tokens that become hands one by one.
 use Rattle.std.proofs.Common.{ℕ, suc, ◌+◌, ◌<◌, ◌≡◌, List, [], ◌∷◌, ◌++◌, length, get_or, take, drop, sym, ap, ◌∙◌, subst, refl, arith, append_assoc}
 use Rattle.std.proofs.lemmas.List.{length-append}
-use Rattle.fq_model.specs.declared.trace.TraceRow.{TraceRow}
+use Rattle.program_model.specs.declared.trace.TraceRow.{TraceRow}
 use Rattle.history_lock.specs.Passes.{LockView}
 use Rattle.desk.specs.declared.floor.Crew.{Crew}
 use Rattle.desk.specs.declared.tokens.Submitter.{Submitter}

@@ -6,18 +6,18 @@ use Rattle.fq_model.specs.declared.config.Config.{Config}
 use Rattle.fq_model.specs.declared.event.Act.{Act}
 use Rattle.fq_model.specs.declared.event.Act.TheVariants.{Submit}
 use Rattle.fq_model.specs.declared.event.Entry.{Entry}
-use Rattle.fq_model.specs.declared.trace.RunOptions.{RunOptions}
-use Rattle.fq_model.specs.declared.trace.TraceRow.{TraceRow}
-use Rattle.fq_model.specs.Courses.{sum_over, reports_below}
+use Rattle.program_model.specs.declared.trace.RunOptions.{RunOptions}
+use Rattle.program_model.specs.declared.trace.TraceRow.{TraceRow}
+use Rattle.program_model.specs.Courses.{sum_over, reports_below}
 use Rattle.fq_model.specs.History.{History, Request, request_at, request_in, history_of}
-use Rattle.fq_model.specs.PoolHistory.{pool_config, row_reports, step_of}
+use Rattle.program_model.specs.PoolHistory.{pool_config, row_reports, step_of}
 use Rattle.fq_model.specs.Rules.{IsLegal}
-use Rattle.fq_model.specs.Trace.{Trace}
-use Rattle.worker_gate.specs.declared.counters.Counters.{Counters}
-use Rattle.worker_gate.specs.Rules.{work_cost}
+use Rattle.program_model.specs.Trace.{Trace}
+use Rattle.gate_rules.specs.declared.counters.Counters.{Counters}
+use Rattle.gate_rules.specs.Rules.{work_cost}
 use Rattle.worker_gate.specs.Running.{Use, JobRun, AreRuns, IsRun, IsAsTold, FollowsCourse, uses_after, with_runs}
-use Rattle.worker_gate.specs.Stepping.{step_course}
-use Rattle.worker_gate.proofs.Stepping.{course_length}
+use Rattle.gate_rules.specs.Stepping.{step_course}
+use Rattle.gate_rules.proofs.Stepping.{course_length}
 use Rattle.trace_pool.specs.PoolEnd.{trace_course}
 use Rattle.trace_pool.proofs.Balance.{known_weight, asked_within_history}
 use Rattle.trace_pool.proofs.Parts.{acts, Sees, PoolParts}

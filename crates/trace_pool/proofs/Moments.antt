@@ -2,7 +2,7 @@
 use Rattle.std.proofs.Common.{◌≡◌, ℕ, [], ◌∷◌, ◌++◌, refl, arith}
 use Rattle.fq_model.specs.History.{History}
 use Rattle.fq_model.specs.Outcome.{own_entries}
-use Rattle.fq_model.specs.PoolHistory.{HasToldMoments}
+use Rattle.program_model.specs.PoolHistory.{HasToldMoments}
 use Rattle.worker_gate.specs.Moments.{HasToldMomentsFrom}
 use Rattle.trace_pool.proofs.Callers.{not_by, none_older}
 

@@ -6,20 +6,20 @@ use Rattle.fq_model.specs.declared.event.Call.TheVariants as call
 use Rattle.fq_model.specs.declared.event.Cause.{Cause}
 use Rattle.fq_model.specs.declared.event.Entry.{Entry}
 use Rattle.fq_model.specs.declared.event.Reply.{Reply}
-use Rattle.fq_model.specs.declared.trace.RunOptions.{RunOptions}
-use Rattle.fq_model.specs.Courses.{submitters, worker_caller}
+use Rattle.program_model.specs.declared.trace.RunOptions.{RunOptions}
+use Rattle.program_model.specs.Courses.{submitters, worker_caller}
 use Rattle.fq_model.specs.History.{History, history_of}
 use Rattle.fq_model.specs.Outcome.{own_entries}
-use Rattle.fq_model.specs.PoolHistory.{pool_config, requests_from, HasToldMoments}
+use Rattle.program_model.specs.PoolHistory.{pool_config, requests_from, HasToldMoments}
 use Rattle.fq_model.specs.Rules.{IsLegal, Answers}
-use Rattle.fq_model.specs.Trace.{Trace}
+use Rattle.program_model.specs.Trace.{Trace}
 use Rattle.history_lock.specs.Histories.{IsPrefix}
 use Rattle.history_lock.specs.Passes.{LockView}
 use Rattle.desk.specs.declared.floor.Crew.{Crew}
-use Rattle.worker_gate.specs.declared.rows.Row.{Row}
+use Rattle.gate_rules.specs.declared.rows.Row.{Row}
 use Rattle.worker_gate.specs.Feeding.{IsFeed, HasClosed, Splits, IsRefused}
 use Rattle.worker_gate.specs.Moments.{HasToldMomentsFrom}
-use Rattle.worker_gate.specs.Rules.{work_cost}
+use Rattle.gate_rules.specs.Rules.{work_cost}
 use Rattle.worker_gate.specs.Running.{JobRun, AreRuns, with_runs, acts_of, EndsWork}
 use Rattle.trace_pool.specs.PoolEnd.{FeedEnds, WorkEnds, PoolEnds, row_asks, trace_course}
 use Rattle.trace_pool.proofs.Callers.{own_turns, front_turns, none_newer, who_is}

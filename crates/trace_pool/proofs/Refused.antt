@@ -9,21 +9,21 @@ use Rattle.fq_model.specs.declared.event.Act.{Act}
 use Rattle.fq_model.specs.declared.event.Act.TheVariants.{Submit, Take, Report, Done, Close, Weight, Workers}
 use Rattle.fq_model.specs.declared.event.Cause.{Cause}
 use Rattle.fq_model.specs.declared.event.Reply.TheVariants as answer
-use Rattle.fq_model.specs.declared.trace.RunOptions.{RunOptions}
-use Rattle.fq_model.specs.declared.trace.TraceRow.{TraceRow}
-use Rattle.fq_model.specs.Courses.{submitters, Each}
+use Rattle.program_model.specs.declared.trace.RunOptions.{RunOptions}
+use Rattle.program_model.specs.declared.trace.TraceRow.{TraceRow}
+use Rattle.program_model.specs.Courses.{submitters, Each}
 use Rattle.fq_model.specs.History.{History, Request, has_act, is_close, is_closed, is_submit_of, is_submitted, submits, waiting}
 use Rattle.fq_model.specs.Limits.{InLimits}
 use Rattle.fq_model.specs.Outcome.{own_entries}
-use Rattle.fq_model.specs.PoolHistory.{pool_config, requests_from}
+use Rattle.program_model.specs.PoolHistory.{pool_config, requests_from}
 use Rattle.fq_model.specs.Rules.{IsLegal, Fits, IsAccepted, RefusedOrElse, submit_refusal, needed_room}
-use Rattle.fq_model.specs.Trace.{Trace}
-use Rattle.fq_model.specs.TraceText.{IsLawfulTrace, IsLawfulRow}
+use Rattle.program_model.specs.Trace.{Trace}
+use Rattle.program_model.specs.TraceText.{IsLawfulTrace, IsLawfulRow}
 use Rattle.fq_laws.specs.Words.{one_more}
 use Rattle.fq_laws.proofs.History.Counts.{waiting_report, waiting_done, waiting_quiet, waiting_none}
 use Rattle.fq_laws.proofs.History.Numbers.{waiting_submitted, waiting_taken}
 use Rattle.fq_laws.proofs.History.Requests.{IsKnown, submitted_below}
-use Rattle.worker_gate.specs.declared.rows.Row.{Row}
+use Rattle.gate_rules.specs.declared.rows.Row.{Row}
 use Rattle.worker_gate.specs.Feeding.{Splits, IsRefused, ClosesAt, is_last_submit}
 use Rattle.trace_pool.specs.PoolEnd.{row_asks}
 use Rattle.trace_pool.proofs.Callers.{has_own}

@@ -1,13 +1,13 @@
 -- A pool has room for all Reports of its rows.
 use Rattle.std.proofs.Common.{◌≡◌, ◌<◌, ◌≤◌, ◌+◌, ℕ, List, ◌++◌, sym, ap, ◌∙◌, subst, arith, inl, inr, append_assoc}
 use Rattle.fq_model.specs.declared.event.Entry.{Entry}
-use Rattle.fq_model.specs.declared.trace.RunOptions.{RunOptions}
-use Rattle.fq_model.specs.Courses.{submitters, worker_caller, sum_over}
+use Rattle.program_model.specs.declared.trace.RunOptions.{RunOptions}
+use Rattle.program_model.specs.Courses.{submitters, worker_caller, sum_over}
 use Rattle.fq_model.specs.History.{History, history_of, submits, count_acts, is_close, has_act, is_change}
 use Rattle.fq_model.specs.Limits.{InLimits}
-use Rattle.fq_model.specs.PoolHistory.{pool_config, row_reports}
+use Rattle.program_model.specs.PoolHistory.{pool_config, row_reports}
 use Rattle.fq_model.specs.Rules.{IsLegal}
-use Rattle.fq_model.specs.Trace.{Trace}
+use Rattle.program_model.specs.Trace.{Trace}
 use Rattle.trace_pool.proofs.Balance.{Balanced, balanced, reports, legal_older, closes_once, taken_covered, asked_sum}
 use Rattle.trace_pool.proofs.Callers.{front_turns, who_is}
 use Rattle.trace_pool.proofs.Absent.{no_change, no_reports}

@@ -2,10 +2,10 @@
 use Rattle.std.proofs.Common.{◌≡◌, ◌≢◌, ◌<◌, ◌≤◌, ◌+◌, ℕ, suc, List, [], ◌∷◌, length, refl, sym, ap, ◌∙◌, arith, Option, Some}
 use Rattle.std.specs.Prelude.{slice_get}
 use Rattle.std.proofs.lemmas.Bool.{eq-eqb, ne_eqb}
-use Rattle.fq_model.specs.declared.trace.TraceRow.{TraceRow}
-use Rattle.fq_model.specs.Courses.{submitters, sum_over, row_request}
+use Rattle.program_model.specs.declared.trace.TraceRow.{TraceRow}
+use Rattle.program_model.specs.Courses.{submitters, sum_over, row_request}
 use Rattle.fq_model.specs.History.{Request}
-use Rattle.fq_model.specs.PoolHistory.{requests_from}
+use Rattle.program_model.specs.PoolHistory.{requests_from}
 use Rattle.fq_model.specs.Sums.{sum_below}
 use Rattle.fq_laws.proofs.Sums.{sum_at, sum_zero}
 use Rattle.trace_pool.proofs.Sums.{request_sum, one_each}

@@ -9,14 +9,15 @@ use Rattle.fq_model.specs.declared.event.Act.TheVariants.{Submit, Workers, Take}
 use Rattle.fq_model.specs.declared.event.Cause.{Cause}
 use Rattle.fq_model.specs.declared.event.Reply.{Reply}
 use Rattle.fq_model.specs.declared.event.Reply.TheVariants as answer
-use Rattle.fq_model.specs.declared.trace.RunOptions.{RunOptions}
-use Rattle.fq_model.specs.Courses.{submitters, worker_caller}
+use Rattle.program_model.specs.declared.trace.RunOptions.{RunOptions}
+use Rattle.program_model.specs.Courses.{submitters, worker_caller}
 use Rattle.fq_model.specs.History.{History, history_of, has_act, is_change, is_close, is_closed, is_submit_of, is_submitted, is_take_of, is_taken, is_done_of, is_done, is_waiting, waiting, pool_at, pool_after, request_bound}
-use Rattle.fq_model.specs.Limits.{InLimits, AreInRange}
+use Rattle.fq_model.specs.Limits.{InLimits}
+use Rattle.program_model.specs.RunLimits.{AreInRange}
 use Rattle.fq_model.specs.Outcome.{own_entries}
-use Rattle.fq_model.specs.PoolHistory.{pool_config, IsServedOnce}
+use Rattle.program_model.specs.PoolHistory.{pool_config, IsServedOnce}
 use Rattle.fq_model.specs.Rules.{IsLegal, Fits, AnswersFree, AnswersPooled, RefusedOrElse, RunsChosen, take_refusal}
-use Rattle.fq_model.specs.Trace.{Trace}
+use Rattle.program_model.specs.Trace.{Trace}
 use Rattle.fq_laws.proofs.Sums.{count_some}
 use Rattle.fq_laws.proofs.History.Numbers.{submitted_small}
 use Rattle.fq_laws.proofs.History.Once.{taken_once}

@@ -2,13 +2,13 @@
 use Rattle.std.proofs.Common.{◌≡◌, ◌<◌, ◌≤◌, ◌+◌, ℕ, List, [], ◌∷◌, ◌++◌, map, length, refl, sym, ap, ◌∙◌, subst, arith, inl, inr, Option, Some, None}
 use Rattle.fq_model.specs.declared.event.Act.{Act}
 use Rattle.fq_model.specs.declared.event.Cause.{Cause}
-use Rattle.fq_model.specs.declared.trace.RunOptions.{RunOptions}
-use Rattle.fq_model.specs.Courses.{submitters}
+use Rattle.program_model.specs.declared.trace.RunOptions.{RunOptions}
+use Rattle.program_model.specs.Courses.{submitters}
 use Rattle.fq_model.specs.History.{History, Request, submits}
 use Rattle.fq_model.specs.Outcome.{own_entries}
 use Rattle.fq_model.specs.Sums.{sum_below}
-use Rattle.fq_model.specs.Trace.{Trace}
-use Rattle.worker_gate.specs.declared.rows.Row.{Row}
+use Rattle.program_model.specs.Trace.{Trace}
+use Rattle.gate_rules.specs.declared.rows.Row.{Row}
 use Rattle.worker_gate.specs.Feeding.{Splits}
 use Rattle.trace_pool.specs.PoolEnd.{row_asks}
 use Rattle.trace_pool.proofs.Callers.{who_is}

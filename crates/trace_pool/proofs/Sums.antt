@@ -7,7 +7,7 @@ use Rattle.fq_model.specs.declared.event.Act.TheVariants.{Submit, Take, Report}
 use Rattle.fq_model.specs.declared.event.Entry.{Entry}
 use Rattle.fq_model.specs.History.{History, Request, has_act, count_acts, submits, with_submit}
 use Rattle.fq_model.specs.Outcome.{own_entries}
-use Rattle.fq_model.specs.PoolHistory.{submitted_requests, with_request}
+use Rattle.program_model.specs.PoolHistory.{submitted_requests, with_request}
 use Rattle.fq_model.specs.Sums.{sum_below}
 use Rattle.fq_laws.proofs.Sums.{sum_at, sum_zero}
 use Rattle.trace_pool.proofs.Callers.{own_here, own_else, not_by, none_older}

@@ -1,12 +1,13 @@
 -- What follows at the end of a pool.
 use Rattle.std.specs.Prelude.{ℕ, List}
 use Rattle.fq_model.specs.declared.event.Entry.{Entry}
-use Rattle.fq_model.specs.declared.trace.RunOptions.{RunOptions}
+use Rattle.program_model.specs.declared.trace.RunOptions.{RunOptions}
 use Rattle.fq_model.specs.History.{history_of}
-use Rattle.fq_model.specs.Limits.{InLimits, AreInRange}
-use Rattle.fq_model.specs.PoolHistory.{IsPoolHistory, HasToldMoments, pool_config}
-use Rattle.fq_model.specs.Trace.{Trace}
-use Rattle.fq_model.specs.TraceText.{IsLawfulTrace}
+use Rattle.fq_model.specs.Limits.{InLimits}
+use Rattle.program_model.specs.RunLimits.{AreInRange}
+use Rattle.program_model.specs.PoolHistory.{IsPoolHistory, HasToldMoments, pool_config}
+use Rattle.program_model.specs.Trace.{Trace}
+use Rattle.program_model.specs.TraceText.{IsLawfulTrace}
 use Rattle.history_lock.specs.Passes.{LockView}
 use Rattle.desk.specs.declared.floor.Crew.{Crew}
 use Rattle.trace_pool.specs.PoolEnd.{PoolEnds}

@@ -1,9 +1,9 @@
 -- The parts of the submitters and workers of a trace, before and after they are done.
 use Rattle.std.specs.Prelude.{ℕ, ◌+◌, ◌≡◌, List, [], ◌∷◌, ◌++◌, map, length, Option, Some, None}
 use Rattle.fq_model.specs.declared.event.Cause.{Cause}
-use Rattle.fq_model.specs.declared.trace.TraceRow.{TraceRow}
-use Rattle.fq_model.specs.Courses.{submitters, worker_caller}
-use Rattle.fq_model.specs.PoolHistory.{requests_from}
+use Rattle.program_model.specs.declared.trace.TraceRow.{TraceRow}
+use Rattle.program_model.specs.Courses.{submitters, worker_caller}
+use Rattle.program_model.specs.PoolHistory.{requests_from}
 use Rattle.history_lock.specs.Passes.{LockView}
 use Rattle.desk.specs.declared.floor.Crew.{Crew}
 use Rattle.desk.specs.declared.tokens.Submitter.{Submitter}
@@ -11,9 +11,9 @@ use Rattle.desk.specs.declared.tokens.Worker.{Worker}
 use Rattle.desk.specs.Opening.{IsNew}
 use Rattle.worker_gate.specs.declared.pool.Hand.{Hand}
 use Rattle.worker_gate.specs.declared.pool.Hand.TheVariants.{Feed, Work}
-use Rattle.worker_gate.specs.declared.rows.Row.{Row}
+use Rattle.gate_rules.specs.declared.rows.Row.{Row}
 use Rattle.worker_gate.specs.Feeding.{Feeds}
-use Rattle.worker_gate.specs.Rules.{work_cost}
+use Rattle.gate_rules.specs.Rules.{work_cost}
 use Rattle.worker_gate.specs.Running.{Worked}
 use Rattle.trace_pool.specs.PoolEnd.{trace_course, row_asks}
 use Rattle.trace_pool.specs.Places.{HoldsFrom}

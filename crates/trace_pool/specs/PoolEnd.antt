@@ -2,26 +2,26 @@
 use Rattle.std.specs.Prelude.{ℕ, ◌<◌, ◌≤◌, ◌≡◌, List, [], map, length, slice_get, Option, option_map}
 use Rattle.fq_model.specs.declared.event.Cause.{Cause}
 use Rattle.fq_model.specs.declared.event.Entry.{Entry}
-use Rattle.fq_model.specs.declared.trace.RunOptions.{RunOptions}
-use Rattle.fq_model.specs.declared.trace.TraceRow.{TraceRow}
-use Rattle.fq_model.specs.Courses.{submitters, worker_caller}
+use Rattle.program_model.specs.declared.trace.RunOptions.{RunOptions}
+use Rattle.program_model.specs.declared.trace.TraceRow.{TraceRow}
+use Rattle.program_model.specs.Courses.{submitters, worker_caller}
 use Rattle.fq_model.specs.History.{history_of, Request}
 use Rattle.fq_model.specs.Outcome.{own_entries}
-use Rattle.fq_model.specs.PoolHistory.{step_of, pool_config, requests_from}
+use Rattle.program_model.specs.PoolHistory.{step_of, pool_config, requests_from}
 use Rattle.fq_model.specs.Rules.{IsLegal}
-use Rattle.fq_model.specs.Trace.{Trace}
+use Rattle.program_model.specs.Trace.{Trace}
 use Rattle.history_lock.specs.Passes.{LockView}
 use Rattle.desk.specs.declared.floor.Crew.{Crew}
 use Rattle.desk.specs.declared.tokens.Submitter.{Submitter}
 use Rattle.desk.specs.declared.tokens.Worker.{Worker}
 use Rattle.desk.specs.Ending.{IsIn}
 use Rattle.desk.specs.Opening.{IsNew}
-use Rattle.worker_gate.specs.declared.counters.Counters.{Counters}
-use Rattle.worker_gate.specs.declared.rows.Row.{Row}
+use Rattle.gate_rules.specs.declared.counters.Counters.{Counters}
+use Rattle.gate_rules.specs.declared.rows.Row.{Row}
 use Rattle.worker_gate.specs.Feeding.{Feeds, request_of}
-use Rattle.worker_gate.specs.Rules.{work_cost}
+use Rattle.gate_rules.specs.Rules.{work_cost}
 use Rattle.worker_gate.specs.Running.{Worked}
-use Rattle.worker_gate.specs.Stepping.{step_course}
+use Rattle.gate_rules.specs.Stepping.{step_course}
 
 -- the course of the row that a label names: its cost in steps
 abbrev pub trace_course : ℕ → List TraceRow → ℕ → Option (List Counters)

@@ -1,9 +1,9 @@
 -- What a pool that serves a trace needs.
 use Rattle.std.specs.Prelude.{◌<◌}
 use Rattle.fq_model.specs.declared.limits.TheConstants.{MOST_ENTRIES}
-use Rattle.fq_model.specs.declared.trace.RunOptions.{RunOptions}
-use Rattle.fq_model.specs.PoolHistory.{needed_pool_entries}
-use Rattle.fq_model.specs.Trace.{Trace}
+use Rattle.program_model.specs.declared.trace.RunOptions.{RunOptions}
+use Rattle.program_model.specs.PoolHistory.{needed_pool_entries}
+use Rattle.program_model.specs.Trace.{Trace}
 use Rattle.trace_pool.specs.declared.fault.PoolFault.{PoolFault}
 use Rattle.trace_pool.specs.declared.fault.PoolFault.TheVariants.{TooManyEntries}
 

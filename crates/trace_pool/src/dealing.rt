@@ -4,10 +4,10 @@ ghost use Rattle.fq_model.specs.declared.limits.TheConstants.{MOST_ROWS};
 ghost use Rattle.trace_pool.specs.Parts.{AreRowsOf};
 ghost use Rattle.trace_pool.specs.Places.{HoldsFrom};
 
-use fq_model::trace::TraceRow;
+use gate_rules::rows::Row;
+use program_model::trace::TraceRow;
 use std::alloc::{AllocError, Global};
 use std::collections::VecDeque;
-use worker_gate::rows::Row;
 
 /// The rows of each of so many submitters, in order. A row's job is its number.
 pub fn deal(

@@ -5,11 +5,11 @@ ghost use Rattle.fq_model.specs.Limits.{IsWithin};
 ghost use Rattle.trace_pool.specs.PoolEnd.{trace_course};
 ghost use Rattle.trace_runner.specs.Plan.{AreCosts};
 
-use fq_model::trace::TraceRow;
+use gate_rules::counters::Counters;
+use gate_rules::gate::{Gate, Slice};
+use gate_rules::steps::Steps;
+use program_model::trace::TraceRow;
 use std::marker::Model;
-use worker_gate::counters::Counters;
-use worker_gate::gate::{Gate, Slice};
-use worker_gate::steps::Steps;
 
 /// Counts the cost of the row that a job names up, by its step. A job is a row's number.
 #[derive(Drop)]

@@ -6,11 +6,11 @@ ghost use Rattle.trace_pool.specs.Parts.{AreRowsOf, IsCrewOf, IsFeedOf, AreHands
 ghost use Rattle.trace_pool.specs.Places.{HoldsFrom};
 
 use desk::{DeskOf, Floor, Submitter, Worker};
-use fq_model::trace::TraceRow;
-use rival_policies::chooser::Chooser;
+use gate_rules::rows::Row;
+use program_model::trace::TraceRow;
 use std::collections::VecDeque;
+use tag_rules::chooser::Chooser;
 use worker_gate::pool::Hand;
-use worker_gate::rows::Row;
 
 /// Each submitter with its rows, and then each worker.
 pub fn hand_out<X: Chooser>(

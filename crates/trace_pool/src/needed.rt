@@ -2,14 +2,14 @@
 ghost use Rattle.std.specs.Prelude.{◌≡◌, ◌≤◌, ◌*◌, length};
 ghost use Rattle.vt_fixed.specs.declared.limits.TheConstants.{GREATEST_COST};
 ghost use Rattle.fq_model.specs.declared.limits.TheConstants.{MOST_ROWS, MOST_SLICES};
-ghost use Rattle.fq_model.specs.Courses.{sum_over};
-ghost use Rattle.fq_model.specs.PoolHistory.{needed_pool_entries, row_reports};
-ghost use Rattle.fq_model.specs.TraceText.{IsLawfulTrace};
+ghost use Rattle.program_model.specs.Courses.{sum_over};
+ghost use Rattle.program_model.specs.PoolHistory.{needed_pool_entries, row_reports};
+ghost use Rattle.program_model.specs.TraceText.{IsLawfulTrace};
 ghost use Rattle.trace_runner.specs.Plan.{AreCosts};
 
-use fq_model::trace::TraceRow;
+use gate_rules::steps::Steps;
+use program_model::trace::TraceRow;
 use trace_reader::trace::Trace;
-use worker_gate::steps::Steps;
 
 /// The number of entries that the history of a pool may need, where running requests are reported after each `refresh`
 /// microseconds, or more where a request would have too many slices, or not at all where that is 0: a Submit, a Take and

@@ -2,11 +2,11 @@
 ghost use Rattle.std.specs.Prelude.{◌≡◌, ◌≤◌, ◌+◌, ◌⊎◌, [], length, vec_capacity, Err, IfOk, IfErr};
 ghost use Rattle.vt_fixed.specs.declared.limits.TheConstants.{GREATEST_COST};
 ghost use Rattle.fq_model.specs.declared.limits.TheConstants.{MOST_ENTRIES, MOST_ROWS};
-ghost use Rattle.fq_model.specs.Courses.{submitters};
+ghost use Rattle.program_model.specs.Courses.{submitters};
 ghost use Rattle.fq_model.specs.History.{history_of};
-ghost use Rattle.fq_model.specs.Limits.{AreInRange};
-ghost use Rattle.fq_model.specs.PoolHistory.{IsPoolHistory, HasToldMoments, needed_pool_entries, pool_config};
-ghost use Rattle.fq_model.specs.TraceText.{IsLawfulTrace};
+ghost use Rattle.program_model.specs.RunLimits.{AreInRange};
+ghost use Rattle.program_model.specs.PoolHistory.{IsPoolHistory, HasToldMoments, needed_pool_entries, pool_config};
+ghost use Rattle.program_model.specs.TraceText.{IsLawfulTrace};
 ghost use Rattle.desk.specs.Opening.{AreTokens};
 ghost use Rattle.trace_runner.specs.Plan.{AreCosts};
 ghost use Rattle.trace_pool.specs.Parts.{IsCrewOf, AreRowsOf, HaveDone};
@@ -23,18 +23,18 @@ use desk::{DeskOf, Floor, Submitter, Worker};
 use fq_io::Clock;
 use fq_model::config::Checked;
 use fq_model::limits::{LEAST_ENTRIES, MOST_ENTRIES};
-use fq_model::trace::{RunOptions, TraceRow};
-use rival_policies::chooser::Chooser;
-use sched_state::History;
+use gate_rules::cost_rule::{CostRule, WorkCost};
+use gate_rules::rows::Row;
+use program_model::trace::{RunOptions, TraceRow};
+use sched_journal::History;
 use std::alloc::Global;
 use std::collections::VecDeque;
 use std::sync::Wait;
 use std::thread::Threads;
+use tag_rules::chooser::Chooser;
 use trace_reader::trace::Trace;
 use trace_runner::opening::{config_of, submitters};
-use worker_gate::cost_rule::{CostRule, WorkCost};
 use worker_gate::pool::{Hand, pool};
-use worker_gate::rows::Row;
 
 // The callers of all tokens serve the rows, each in a thread of its own, and the tokens come back.
 fn serve_rows<X: Chooser + Drop + Send, K: Clock + Sync, R: Threads + Wait + Sync>(

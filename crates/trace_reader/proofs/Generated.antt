@@ -16,18 +16,18 @@ use Rattle.rand_pcg.specs.Lcg.{Lcg}
 use Rattle.rand_pcg.specs.Pcg.{pcg32}
 use Rattle.vt_fixed.specs.declared.limits.TheConstants.{GREATEST_COST}
 use Rattle.fq_model.specs.declared.limits.TheConstants.{MOST_TENANTS, MOST_KINDS, MOST_ROWS, MOST_ENTRIES}
-use Rattle.fq_model.specs.declared.trace.TraceRow.{TraceRow}
-use Rattle.fq_model.specs.Command.{default_run_options}
-use Rattle.fq_model.specs.Courses.{sum_over, reports_below}
-use Rattle.fq_model.specs.Generator.{after_draws, draw, generated_tenants, generated_kind, generated_declared, mixed_cost, generated_cost, with_generated, generated_requests, generated_trace}
+use Rattle.program_model.specs.declared.trace.TraceRow.{TraceRow}
+use Rattle.program_model.specs.Command.{default_run_options}
+use Rattle.program_model.specs.Courses.{sum_over, reports_below}
+use Rattle.program_model.specs.Generator.{after_draws, draw, generated_tenants, generated_kind, generated_declared, mixed_cost, generated_cost, with_generated, generated_requests, generated_trace}
 use Rattle.fq_model.specs.Limits.{IsWithin}
 use Rattle.fq_model.specs.Names.{AreNames, number_among, number_by_appearance, with_appearance}
 use Rattle.fq_model.specs.Numbers.{is_name}
-use Rattle.fq_model.specs.Reading.{is_empty}
-use Rattle.fq_model.specs.Simulated.{needed_entries}
-use Rattle.fq_model.specs.Trace.{Trace, last_row_moment, with_some_kind}
-use Rattle.fq_model.specs.TraceGrammar.{trace_of}
-use Rattle.fq_model.specs.TraceText.{IsLawfulTrace, KindsAppear, HasKindsInOrder, trace_text}
+use Rattle.program_model.specs.Reading.{is_empty}
+use Rattle.program_model.specs.Simulated.{needed_entries}
+use Rattle.program_model.specs.Trace.{Trace, last_row_moment, with_some_kind}
+use Rattle.program_model.specs.TraceGrammar.{trace_of}
+use Rattle.program_model.specs.TraceText.{IsLawfulTrace, KindsAppear, HasKindsInOrder, trace_text}
 use Rattle.trace_reader.specs.Generating.{HasRoomForOne}
 use Rattle.trace_reader.proofs.GeneratedTenants.{are_names, are_weights, as_many, count}
 use Rattle.trace_reader.proofs.Lawful.{IsKept, IsFew, with_row-kept, lawful_at_end, no_names}

@@ -7,7 +7,7 @@ use Rattle.std.proofs.lemmas.List.{length-map, map-append}
 use Rattle.std.proofs.lemmas.Fmt.{decimal_injective, length-decimal-le}
 use Rattle.std.proofs.lemmas.List.FromFn.{get_or-map-range_with_len, length-map-range_with_len, map-range_with_len_more}
 use Rattle.fq_model.specs.declared.limits.TheConstants.{MOST_TENANTS}
-use Rattle.fq_model.specs.Generator.{generated_name, generated_weight}
+use Rattle.program_model.specs.Generator.{generated_name, generated_weight}
 use Rattle.fq_model.specs.Limits.{IsWeight}
 use Rattle.fq_model.specs.Names.{AreNames, number_among}
 use Rattle.fq_model.specs.Numbers.{is_name}

@@ -13,15 +13,15 @@ use Rattle.std.proofs.lemmas.List.Sorted.{IsNonDecreasingBy-push}
 use Rattle.csv.specs.Reading.{default_config, records, strip_bom}
 use Rattle.vt_fixed.specs.declared.limits.TheConstants.{GREATEST_COST, GREATEST_WEIGHT}
 use Rattle.fq_model.specs.declared.limits.TheConstants.{MOST_TENANTS, MOST_KINDS, MOST_PAIRS, MOST_ROWS, GREATEST_TRACE_MOMENT, GREATEST_SUBMITTER}
-use Rattle.fq_model.specs.declared.fault.TraceKind.TheVariants.{Word, Range, UnknownTenant, Twice, Backward, TooMany, NoTenants}
-use Rattle.fq_model.specs.declared.trace.TraceRow.{TraceRow}
+use Rattle.program_model.specs.declared.fault.TraceKind.TheVariants.{Word, Range, UnknownTenant, Twice, Backward, TooMany, NoTenants}
+use Rattle.program_model.specs.declared.trace.TraceRow.{TraceRow}
 use Rattle.fq_model.specs.Limits.{IsWithin, IsWeight, is_outside}
 use Rattle.fq_model.specs.Names.{AreNames, number_among, number_by_appearance, with_appearance}
 use Rattle.fq_model.specs.Numbers.{is_name}
-use Rattle.fq_model.specs.Reading.{◌>>=◌, at_line, begins_with, is_empty, or_fault}
-use Rattle.fq_model.specs.Trace.{Trace, last_row_moment, with_row, with_some_kind}
-use Rattle.fq_model.specs.TraceGrammar.{Record, field, with_count, number_at, ranged_at, moment_at, name_at, new_name_at, tenant_at, not_too_many, with_tenant, with_request, with_record, with_records, no_records, trace_of}
-use Rattle.fq_model.specs.TraceText.{IsLawfulRow, IsLawfulTrace}
+use Rattle.program_model.specs.Reading.{◌>>=◌, at_line, begins_with, is_empty, or_fault}
+use Rattle.program_model.specs.Trace.{Trace, last_row_moment, with_row, with_some_kind}
+use Rattle.program_model.specs.TraceGrammar.{Record, field, with_count, number_at, ranged_at, moment_at, name_at, new_name_at, tenant_at, not_too_many, with_tenant, with_request, with_record, with_records, no_records, trace_of}
+use Rattle.program_model.specs.TraceText.{IsLawfulRow, IsLawfulTrace}
 use Rattle.tenant_table.proofs.Tables.{names_push}
 
 -- ---- steps that gave something

@@ -5,6 +5,6 @@ mod Printed
 mod Plain
 mod Numerals
 mod Texts
-mod ReadBack
+pub mod ReadBack
 mod GeneratedTenants
 pub mod Generated

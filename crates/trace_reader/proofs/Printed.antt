@@ -1,6 +1,6 @@
 -- The lines of a trace, one after the other.
 use Rattle.std.proofs.Common.{ℕ, zero, suc, ◌+◌, ◌<◌, ◌≡◌, List, [], ◌∷◌, ◌++◌, length, drop, get_or, Some, slice_get, refl, sym, ap, ◌∙◌, arith, append_assoc}
-use Rattle.fq_model.specs.TraceText.{tenant_record, tenant_records}
+use Rattle.program_model.specs.TraceText.{tenant_record, tenant_records}
 use Rattle.tenant_table.specs.Names.{names_of, weights_of}
 
 -- the lines of the tenants from number t on

@@ -7,9 +7,9 @@ use Rattle.csv.specs.Reading.{ReadRecord, source_of, Reached, default_config, re
 use Rattle.csv.specs.declared.parser.Config.{Config}
 use Rattle.csv.specs.declared.parser.State.{State}
 use Rattle.csv.specs.declared.parser.State.TheVariants as st
-use Rattle.fq_model.specs.declared.fault.TraceKind.{TraceKind}
-use Rattle.fq_model.specs.Trace.{Trace}
-use Rattle.fq_model.specs.TraceGrammar.{Record, no_records, with_record, with_records, at_end, trace_of_records}
+use Rattle.program_model.specs.declared.fault.TraceKind.{TraceKind}
+use Rattle.program_model.specs.Trace.{Trace}
+use Rattle.program_model.specs.TraceGrammar.{Record, no_records, with_record, with_records, at_end, trace_of_records}
 use Rattle.trace_reader.specs.declared.fault.RecordError.{RecordError}
 use Rattle.trace_reader.specs.declared.fault.RecordError.TheVariants as errors
 use Rattle.trace_reader.specs.Reading.{Fails, IsFirstFault, fault_at}
@@ -132,7 +132,7 @@ place_at_most text t place s s2 xs ys fields at reached =
 pub first_fault : (text : List ℕ) (t : Trace) (place : ℕ) (s s2 : State) (xs ys : List ℕ) (fields : Record) (e : RecordError)
     → IsAt text t place s xs → Reached default_config s xs (fields ∷ []) s2 ys → Fails e (with_record t fields)
     → IsFirstFault (fault_at place e) (trace_of_records (records default_config text))
-first_fault text t place s s2 xs ys fields errors.Memory at reached fails = tt
+first_fault text t place s s2 xs ys fields errors.NoMemory at reached fails = tt
 first_fault text t place s s2 xs ys fields (errors.Fault kind) at reached fails =
     let next = next_is at.left s s2 xs ys fields reached at.enough in
     at.same ∙ (ap (with_records place t) next.records ∙ next_faulty place t kind fields (records_from default_config next.left s2 ys) fails)

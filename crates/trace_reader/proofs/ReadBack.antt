@@ -7,7 +7,7 @@ use borrow.Author.Tests.{ltb-true}
 use Rattle.std.specs.List.{position_or_len}
 use Rattle.std.specs.List.Sorted.{IsNonDecreasing}
 use Rattle.tenant_table.proofs.Tables.{finds}
-use Rattle.fq_model.specs.TraceText.{AreKindsOf, HasKindsInOrder, IsLawfulRow, IsLawfulTrace, KindsAppear, tenant_records, request_records, trace_text}
+use Rattle.program_model.specs.TraceText.{AreKindsOf, HasKindsInOrder, IsLawfulRow, IsLawfulTrace, KindsAppear, tenant_records, request_records, trace_text}
 use Rattle.trace_reader.proofs.Lawful.{last-moment}
 use Rattle.std.proofs.Math.Seq.{get_or-append_seam}
 use Rattle.std.proofs.lemmas.List.{append-nil, length-map, map-append, get_or-take, get_or_append_left, length-take-le, take_all, take_more}
@@ -16,12 +16,12 @@ use Rattle.std.proofs.lemmas.List.Sums.{position_or_len_is}
 use Rattle.std.proofs.lemmas.Slice.Eq.{bytes_eq-Decides}
 use Rattle.vt_fixed.specs.declared.limits.TheConstants.{GREATEST_COST, GREATEST_WEIGHT}
 use Rattle.fq_model.specs.declared.limits.TheConstants.{MOST_TENANTS, MOST_KINDS, MOST_PAIRS, MOST_ROWS, GREATEST_TRACE_MOMENT, GREATEST_SUBMITTER}
-use Rattle.fq_model.specs.declared.trace.TraceRow.{TraceRow}
+use Rattle.program_model.specs.declared.trace.TraceRow.{TraceRow}
 use Rattle.fq_model.specs.Limits.{IsWithin, IsWeight, is_outside}
 use Rattle.fq_model.specs.Names.{AreNames, number_among, number_by_appearance, with_appearance}
 use Rattle.fq_model.specs.Numbers.{is_name}
-use Rattle.fq_model.specs.Trace.{Trace, last_row_moment, with_row}
-use Rattle.fq_model.specs.TraceGrammar.{Record, field, number_at, ranged_at, moment_at, name_at, new_name_at, tenant_at, not_too_many, with_tenant, with_request, with_record, with_records, trace_of, trace_of_records}
+use Rattle.program_model.specs.Trace.{Trace, last_row_moment, with_row}
+use Rattle.program_model.specs.TraceGrammar.{Record, field, number_at, ranged_at, moment_at, name_at, new_name_at, tenant_at, not_too_many, with_tenant, with_request, with_record, with_records, trace_of, trace_of_records}
 use Rattle.csv.proofs.RoundTrip.{rows_text}
 use Rattle.csv.specs.Reading.{default_config, records, strip_bom}
 use Rattle.trace_reader.proofs.Plain.{rows-read, name-plain, decimal-plain, plain-utf8}

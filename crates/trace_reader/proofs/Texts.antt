@@ -4,9 +4,9 @@ use Rattle.std.specs.Prelude.{codes}
 use Rattle.std.specs.Fmt.{decimal}
 use Rattle.csv.proofs.RoundTrip.{rows_text}
 use Rattle.csv.specs.Writing.{default_writer, field_text, fields_text, is_blank, row_text}
-use Rattle.fq_model.specs.declared.trace.TraceRow.{TraceRow}
-use Rattle.fq_model.specs.TraceGrammar.{Record}
-use Rattle.fq_model.specs.TraceText.{tenant_record, tenant_records, request_record, request_records}
+use Rattle.program_model.specs.declared.trace.TraceRow.{TraceRow}
+use Rattle.program_model.specs.TraceGrammar.{Record}
+use Rattle.program_model.specs.TraceText.{tenant_record, tenant_records, request_record, request_records}
 use Rattle.trace_reader.proofs.Plain.{IsPlain, HaveFields, decimal-plain, plain-text}
 
 abbrev pub tenant_fields : List ℕ → ℕ → Record

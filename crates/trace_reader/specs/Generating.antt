@@ -3,7 +3,7 @@ use Rattle.std.specs.Prelude.{ℕ, ◌<◌, ◌≤◌, ◌≡◌, nat_lt, [], �
 use Rattle.fq_model.specs.declared.limits.TheConstants.{MOST_TENANTS, MOST_KINDS, MOST_ROWS, GREATEST_TRACE_MOMENT}
 use Rattle.fq_model.specs.Limits.{is_outside}
 use Rattle.fq_model.specs.Rows.{first_true}
-use Rattle.fq_model.specs.Trace.{Trace, last_row_moment}
+use Rattle.program_model.specs.Trace.{Trace, last_row_moment}
 use Rattle.trace_reader.specs.declared.fault.GenFault.{GenFault}
 use Rattle.trace_reader.specs.declared.fault.GenFault.TheVariants.{Tenants, Requests, NoMemory}
 

@@ -1,9 +1,9 @@
 -- What the reader returns, against what a trace's text says.
 use Rattle.std.specs.Prelude.{ℕ, ◌*◌, ◌≡◌, nat_lt, Bool, ◌||◌, List, Result, Ok, Err}
-use Rattle.fq_model.specs.declared.fault.TraceKind.{TraceKind}
-use Rattle.fq_model.specs.declared.trace.TraceRow.{TraceRow}
+use Rattle.program_model.specs.declared.fault.TraceKind.{TraceKind}
+use Rattle.program_model.specs.declared.trace.TraceRow.{TraceRow}
 use Rattle.fq_model.specs.declared.limits.TheConstants.{MOST_TENANTS, MOST_KINDS, MOST_PAIRS, MOST_ROWS}
-use Rattle.fq_model.specs.Trace.{Trace}
+use Rattle.program_model.specs.Trace.{Trace}
 use Rattle.tenant_table.specs.Names.{names_of, weights_of}
 use Rattle.trace_reader.specs.declared.fault.RecordError.{RecordError}
 use Rattle.trace_reader.specs.declared.fault.RecordError.TheVariants as errors
@@ -22,7 +22,7 @@ are_too_many tenants kinds rows =
 -- reading has this fault, unless memory ran out
 abbrev pub Fails : {Y : Type 0} → RecordError → Result Y TraceKind → Type 0
 Fails (errors.Fault kind) read = read ≡ Err kind
-Fails errors.Memory read = Unit {0}
+Fails errors.NoMemory read = Unit {0}
 
 -- what was returned is, seen by `view`, what reading gives
 abbrev pub Gives : {X Y : Type 0} → (X → Y) → Result X RecordError → Result Y TraceKind → Type 0
@@ -37,4 +37,4 @@ IsFirstFault faults.NoMemory read = Unit {0}
 -- a record's fault, with its place
 abbrev pub fault_at : ℕ → RecordError → TraceFault
 fault_at line (errors.Fault kind) = faults.At line kind
-fault_at line errors.Memory = faults.NoMemory
+fault_at line errors.NoMemory = faults.NoMemory

@@ -1,11 +1,11 @@
 //! Traces while their requests are added.
 ghost use Rattle.std.specs.Prelude.{◌≡◌, [], IfOk};
-ghost use Rattle.fq_model.specs.Trace.{with_some_kind};
-ghost use Rattle.fq_model.specs.TraceGrammar.{no_records};
+ghost use Rattle.program_model.specs.Trace.{with_some_kind};
+ghost use Rattle.program_model.specs.TraceGrammar.{no_records};
 ghost use Rattle.trace_reader.specs.Reading.{trace_in};
 
 use crate::trace::Trace;
-use fq_model::trace::TraceRow;
+use program_model::trace::TraceRow;
 use std::alloc::{AllocError, Global};
 use std::marker::Model;
 use tenant_table::kinds_builder::KindsBuilder;
@@ -20,7 +20,7 @@ pub(crate) struct Draft {
 }
 
 impl Model for Draft {
-    ghost use Rattle.fq_model.specs.Trace.{Trace};
+    ghost use Rattle.program_model.specs.Trace.{Trace};
     ghost use Rattle.trace_reader.specs.Reading.{trace_in};
 
     ghost Value = { Trace };

@@ -1,12 +1,12 @@
 //! Why a trace was not read, or not generated.
 ghost use Rattle.std.specs.Prelude.{◌≡◌};
-ghost use Rattle.trace_reader.specs.declared.fault.RecordError.TheVariants.{Memory};
+ghost use Rattle.trace_reader.specs.declared.fault.RecordError.TheVariants.{NoMemory};
 ghost use Rattle.trace_reader.specs.declared.fault.TraceFault.TheVariants as trace_faults;
 ghost use Rattle.trace_reader.specs.declared.fault.GenFault.TheVariants as gen_faults;
 ghost use Rattle.trace_reader.specs.Reading.{fault_at};
 
-use fq_model::fault::TraceKind;
 use fq_model::limits::{MOST_ROWS, MOST_TENANTS};
+use program_model::fault::TraceKind;
 use std::alloc::{AllocError, AllocFailed};
 use std::fmt;
 use thiserror::Error;
@@ -74,7 +74,7 @@ pub(crate) enum RecordError {
     Fault(TraceKind),
     /// Memory ran out.
     #[error("out of memory")]
-    Memory,
+    NoMemory,
 }
 
 // A failed `unwrap` or assertion then tells the message.
@@ -91,23 +91,23 @@ impl RecordError {
     {
         match self {
             RecordError::Fault(kind) => TraceFault::At { line, kind },
-            RecordError::Memory => TraceFault::NoMemory,
+            RecordError::NoMemory => TraceFault::NoMemory,
         }
     }
 }
 
 impl From<AllocError> for RecordError {
-    ghost from_gives = { λ _ e. e ≡ Memory };
+    ghost from_gives = { λ _ e. e ≡ NoMemory };
 
     fn from(_: AllocError) -> RecordError {
-        RecordError::Memory
+        RecordError::NoMemory
     }
 }
 
 impl<T: Drop> From<AllocFailed<T>> for RecordError {
-    ghost from_gives = { λ _ e. e ≡ Memory };
+    ghost from_gives = { λ _ e. e ≡ NoMemory };
 
     fn from(_: AllocFailed<T>) -> RecordError {
-        RecordError::Memory
+        RecordError::NoMemory
     }
 }

@@ -5,18 +5,18 @@ ghost use Rattle.std.specs.Str.{is_utf8};
 ghost use Rattle.csv.specs.Records.{fields_of};
 ghost use Rattle.fq_model.specs.Names.{number_among};
 ghost use Rattle.fq_model.specs.Numbers.{is_name};
-ghost use Rattle.fq_model.specs.Reading.{begins_with};
-ghost use Rattle.fq_model.specs.Trace.{last_row_moment};
-ghost use Rattle.fq_model.specs.TraceGrammar.{field, with_count, number_at, ranged_at, moment_at, name_at, new_name_at, tenant_at};
+ghost use Rattle.program_model.specs.Reading.{begins_with};
+ghost use Rattle.program_model.specs.Trace.{last_row_moment};
+ghost use Rattle.program_model.specs.TraceGrammar.{field, with_count, number_at, ranged_at, moment_at, name_at, new_name_at, tenant_at};
 ghost use Rattle.tenant_table.specs.Names.{names_of};
 ghost use Rattle.trace_reader.specs.Reading.{Gives};
 
 use crate::fault::RecordError;
 use csv::{ByteRecord, StringRecord};
-use fq_model::fault::TraceKind;
 use fq_model::limits::GREATEST_TRACE_MOMENT;
-use fq_model::trace::TraceRow;
-use fq_model::words::number;
+use program_model::fault::TraceKind;
+use program_model::numbers::number;
+use program_model::trace::TraceRow;
 use tenant_table::name::is_name;
 use tenant_table::tenants_builder::TenantsBuilder;
 
@@ -60,7 +60,7 @@ fn field(fields: &StringRecord, k: u32) -> &str
 }
 
 /// A number.
-#[tactic(auto, unfolding(fq_model::specs::TraceGrammar::number_at))]
+#[tactic(auto, unfolding(program_model::specs::TraceGrammar::number_at))]
 pub fn number_at(fields: &StringRecord, k: u32) -> Result<u64, RecordError>
     requires there { k < length (fields_of fields.now) }
     requires small { k < 7 }
@@ -70,7 +70,7 @@ pub fn number_at(fields: &StringRecord, k: u32) -> Result<u64, RecordError>
 }
 
 /// A number from `low` to `high`.
-#[tactic(auto, unfolding(fq_model::specs::TraceGrammar::ranged_at))]
+#[tactic(auto, unfolding(program_model::specs::TraceGrammar::ranged_at))]
 pub fn ranged_at(fields: &StringRecord, k: u32, low: u64, high: u64) -> Result<u64, RecordError>
     requires there { k < length (fields_of fields.now) }
     requires small { k < 7 }
@@ -98,7 +98,7 @@ pub fn small_at(fields: &StringRecord, k: u32, low: u32, high: u32) -> Result<u3
 }
 
 /// A moment that is not before that of the last of these rows.
-#[tactic(auto, unfolding(fq_model::specs::TraceGrammar::moment_at))]
+#[tactic(auto, unfolding(program_model::specs::TraceGrammar::moment_at))]
 pub fn moment_at(rows: &[TraceRow], fields: &StringRecord, k: u32) -> Result<u64, RecordError>
     requires there { k < length (fields_of fields.now) }
     requires small { k < 7 }
@@ -122,7 +122,7 @@ pub fn last_moment(rows: &[TraceRow]) -> u64
 }
 
 /// A name.
-#[tactic(auto, unfolding(fq_model::specs::TraceGrammar::name_at))]
+#[tactic(auto, unfolding(program_model::specs::TraceGrammar::name_at))]
 pub fn name_at(fields: &StringRecord, k: u32) -> Result<&str, RecordError>
     requires { k < length (fields_of fields.now) }
     ensures given { Gives (λ n. n.now) result (name_at (fields_of fields.now) k) }
@@ -136,7 +136,7 @@ pub fn name_at(fields: &StringRecord, k: u32) -> Result<&str, RecordError>
 }
 
 /// A name that no tenant has.
-#[tactic(auto, unfolding(fq_model::specs::TraceGrammar::new_name_at))]
+#[tactic(auto, unfolding(program_model::specs::TraceGrammar::new_name_at))]
 pub fn new_name_at<'a>(
     tenants: &TenantsBuilder,
     fields: &'a StringRecord,
@@ -155,7 +155,7 @@ pub fn new_name_at<'a>(
 }
 
 /// The number of the tenant that is named.
-#[tactic(auto, unfolding(fq_model::specs::TraceGrammar::tenant_at))]
+#[tactic(auto, unfolding(program_model::specs::TraceGrammar::tenant_at))]
 pub fn tenant_at(
     tenants: &TenantsBuilder,
     fields: &StringRecord,

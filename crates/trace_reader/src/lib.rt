@@ -6,7 +6,6 @@ mod draft;
 pub mod fault;
 mod fields;
 pub mod generating;
-pub mod laws;
 pub mod messages;
 pub mod printing;
 pub mod reading;

@@ -1,8 +1,8 @@
 //! What is told of the faults of traces.
 ghost use Rattle.std.specs.Prelude.{◌≡◌, string_bytes, IfOk};
-ghost use Rattle.fq_model.specs.FaultTexts.{placed_text, trace_fault_text};
+ghost use Rattle.program_model.specs.FaultTexts.{placed_text, trace_fault_text};
 
-use fq_model::fault::TraceKind;
+use program_model::fault::TraceKind;
 use std::alloc::{AllocError, Global};
 
 /// What is told of a fault at a record of a trace. Records and fields are counted from 1.

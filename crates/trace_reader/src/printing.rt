@@ -1,16 +1,16 @@
 //! The printer of traces.
 ghost use Rattle.std.specs.Prelude.{◌≡◌, ◌<◌, ◌++◌, length, codes, string_bytes, IfOk, OnOk};
 ghost use Rattle.std.specs.Fmt.{decimal};
-ghost use Rattle.fq_model.specs.TraceText.{IsLawfulRow, IsLawfulTrace, tenant_record, tenant_records, request_record, request_records, trace_text};
+ghost use Rattle.program_model.specs.TraceText.{IsLawfulRow, IsLawfulTrace, tenant_record, tenant_records, request_record, request_records, trace_text};
 ghost use Rattle.tenant_table.specs.Names.{names_of, weights_of};
 
 use crate::trace::Trace;
-use fq_model::trace::TraceRow;
+use program_model::trace::TraceRow;
 use std::alloc::{AllocError, Global};
 use tenant_table::tenants::Tenants;
 
 /// A trace as a text: a line for each tenant, by number, and then a line for each request, in order.
-#[tactic(auto, unfolding(fq_model::specs::TraceText::trace_text))]
+#[tactic(auto, unfolding(program_model::specs::TraceText::trace_text))]
 pub fn print(alloc: Global, trace: &Trace) -> Result<Vec<u8>, AllocError>
     requires { IsLawfulTrace trace.now }
     ensures { IfOk result (λ text. text.items ≡ trace_text trace.now) }

@@ -3,8 +3,8 @@ ghost use Rattle.std.specs.Prelude.{◌≡◌, ◌+◌, IsTrue, length, Ok, IfOk
 ghost use Rattle.std.specs.List.{list_all};
 ghost use Rattle.std.specs.Str.{is_utf8};
 ghost use Rattle.csv.specs.Records.{fields_of};
-ghost use Rattle.fq_model.specs.TraceGrammar.{no_records, with_tenant, with_request, with_record, at_end, trace_of};
-ghost use Rattle.fq_model.specs.TraceText.{IsLawfulTrace};
+ghost use Rattle.program_model.specs.TraceGrammar.{no_records, with_tenant, with_request, with_record, at_end, trace_of};
+ghost use Rattle.program_model.specs.TraceText.{IsLawfulTrace};
 ghost use Rattle.trace_reader.specs.Reading.{Gives, IsFirstFault, are_too_many};
 
 use crate::draft::Draft;
@@ -15,12 +15,12 @@ use crate::fields::{
 };
 use crate::trace::Trace;
 use csv::{ByteRecord, ReaderBuilder, StringRecord};
-use fq_model::fault::TraceKind;
 use fq_model::limits::{
     GREATEST_COST, GREATEST_SUBMITTER, GREATEST_WEIGHT, MOST_KINDS, MOST_PAIRS, MOST_ROWS,
     MOST_TENANTS,
 };
-use fq_model::trace::TraceRow;
+use program_model::fault::TraceKind;
+use program_model::trace::TraceRow;
 use std::alloc::Global;
 
 fn are_too_many(tenants: u32, kinds: u32, rows: usize) -> bool
@@ -32,7 +32,7 @@ fn are_too_many(tenants: u32, kinds: u32, rows: usize) -> bool
         || tenants as u64 * kinds as u64 > MOST_PAIRS
 }
 
-#[tactic(auto, unfolding(fq_model::specs::TraceGrammar::with_tenant))]
+#[tactic(auto, unfolding(program_model::specs::TraceGrammar::with_tenant))]
 fn add_tenant(draft: &mut Draft, fields: &StringRecord) -> Result<(), RecordError>
     ensures { Gives (λ _. draft.new) result (with_tenant draft.old (fields_of fields.now)) }
 {
@@ -46,7 +46,7 @@ fn add_tenant(draft: &mut Draft, fields: &StringRecord) -> Result<(), RecordErro
     Ok(())
 }
 
-#[tactic(auto, unfolding(fq_model::specs::TraceGrammar::with_request))]
+#[tactic(auto, unfolding(program_model::specs::TraceGrammar::with_request))]
 fn add_request(draft: &mut Draft, fields: &StringRecord) -> Result<(), RecordError>
     ensures { Gives (λ _. draft.new) result (with_request draft.old (fields_of fields.now)) }
 {
@@ -81,7 +81,7 @@ fn add_request(draft: &mut Draft, fields: &StringRecord) -> Result<(), RecordErr
     Ok(())
 }
 
-#[tactic(auto, unfolding(fq_model::specs::TraceGrammar::with_record))]
+#[tactic(auto, unfolding(program_model::specs::TraceGrammar::with_record))]
 fn add_texts(draft: &mut Draft, fields: &StringRecord) -> Result<(), RecordError>
     requires { IsTrue (list_all is_utf8 (fields_of fields.now)) }
     ensures { Gives (λ _. draft.new) result (with_record draft.old (fields_of fields.now)) }
@@ -96,7 +96,7 @@ fn add_texts(draft: &mut Draft, fields: &StringRecord) -> Result<(), RecordError
 }
 
 // Adds a record.
-#[tactic(auto, unfolding(fq_model::specs::TraceGrammar::with_record))]
+#[tactic(auto, unfolding(program_model::specs::TraceGrammar::with_record))]
 fn add_record(draft: &mut Draft, bytes: ByteRecord) -> Result<(), RecordError>
     ensures { Gives (λ _. draft.new) result (with_record draft.old (fields_of bytes)) }
 {

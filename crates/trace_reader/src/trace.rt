@@ -3,7 +3,7 @@ ghost use Rattle.std.specs.Prelude.{◌≡◌};
 ghost use Rattle.tenant_table.specs.Names.{names_of, weights_of};
 ghost use Rattle.trace_reader.specs.Reading.{trace_in};
 
-use fq_model::trace::TraceRow;
+use program_model::trace::TraceRow;
 use std::marker::Model;
 use tenant_table::kinds::Kinds;
 use tenant_table::tenants::Tenants;
@@ -17,7 +17,7 @@ pub struct Trace {
 }
 
 impl Model for Trace {
-    ghost use Rattle.fq_model.specs.Trace.{Trace};
+    ghost use Rattle.program_model.specs.Trace.{Trace};
     ghost use Rattle.trace_reader.specs.Reading.{trace_in};
 
     ghost Value = { Trace };

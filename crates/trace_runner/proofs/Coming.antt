@@ -5,12 +5,12 @@ use Rattle.std.proofs.lemmas.Bool.{cases_lt}
 use Rattle.std.proofs.lemmas.List.{reverse-append}
 use Rattle.fq_model.specs.declared.event.Act.TheVariants.{Submit}
 use Rattle.fq_model.specs.declared.event.Entry.{Entry}
-use Rattle.fq_model.specs.declared.trace.RunOptions.{RunOptions}
-use Rattle.fq_model.specs.declared.trace.TraceRow.{TraceRow}
+use Rattle.program_model.specs.declared.trace.RunOptions.{RunOptions}
+use Rattle.program_model.specs.declared.trace.TraceRow.{TraceRow}
 use Rattle.fq_model.specs.History.{History, history_of, is_closed, is_done, submits, waiting}
 use Rattle.fq_model.specs.Rules.{FitsSubmit}
-use Rattle.fq_model.specs.Simulated.{run_config, row_submits}
-use Rattle.fq_model.specs.Trace.{Trace}
+use Rattle.program_model.specs.Simulated.{run_config, row_submits}
+use Rattle.program_model.specs.Trace.{Trace}
 use Rattle.fq_laws.proofs.History.Numbers.{waiting_submitted}
 use Rattle.trace_runner.specs.declared.agenda.Agenda.{Agenda}
 use Rattle.trace_runner.specs.Plan.{IsPlan}

@@ -7,13 +7,13 @@ use Rattle.fq_model.specs.declared.event.Entry.{Entry}
 use Rattle.fq_model.specs.declared.event.Call.TheVariants as call
 use Rattle.fq_model.specs.declared.event.Reply.{Reply}
 use Rattle.fq_model.specs.declared.event.Reply.TheVariants as answer
-use Rattle.fq_model.specs.declared.trace.RunOptions.{RunOptions}
-use Rattle.fq_model.specs.Courses.{submitters}
+use Rattle.program_model.specs.declared.trace.RunOptions.{RunOptions}
+use Rattle.program_model.specs.Courses.{submitters}
 use Rattle.fq_model.specs.History.{History, history_of, is_closed, is_submitted, is_taken, is_done, is_waiting, submits, waiting, request_bound}
 use Rattle.fq_model.specs.Rules.{Answers}
-use Rattle.fq_model.specs.Simulated.{run_config, row_submits, IsSimulated, InTurn, needed_entries}
+use Rattle.program_model.specs.Simulated.{run_config, row_submits, IsSimulated, InTurn, needed_entries}
 use Rattle.fq_model.specs.Time.{last_moment}
-use Rattle.fq_model.specs.Trace.{Trace}
+use Rattle.program_model.specs.Trace.{Trace}
 use Rattle.fq_laws.proofs.History.Counts.{waiting_none}
 use Rattle.fq_laws.proofs.Rules.Limits.{last_moment_small, length_entries}
 use Rattle.fq_laws.proofs.Sums.{count_some}

@@ -7,14 +7,14 @@ use Rattle.fq_model.specs.declared.event.Entry.{Entry}
 use Rattle.fq_model.specs.declared.event.Call.TheVariants as call
 use Rattle.fq_model.specs.declared.event.Reply.{Reply}
 use Rattle.fq_model.specs.declared.event.Reply.TheVariants as answer
-use Rattle.fq_model.specs.declared.trace.RunOptions.{RunOptions}
-use Rattle.fq_model.specs.declared.trace.TraceRow.{TraceRow}
-use Rattle.fq_model.specs.Courses.{worker_caller}
+use Rattle.program_model.specs.declared.trace.RunOptions.{RunOptions}
+use Rattle.program_model.specs.declared.trace.TraceRow.{TraceRow}
+use Rattle.program_model.specs.Courses.{worker_caller}
 use Rattle.fq_model.specs.History.{History, history_of, submits}
 use Rattle.fq_model.specs.Rules.{Answers, FitsTake}
-use Rattle.fq_model.specs.Simulated.{run_config}
+use Rattle.program_model.specs.Simulated.{run_config}
 use Rattle.fq_model.specs.Time.{last_moment}
-use Rattle.fq_model.specs.Trace.{Trace}
+use Rattle.program_model.specs.Trace.{Trace}
 use Rattle.sched_state.specs.Scheduler.{SchedulerView}
 use Rattle.sched_state.specs.Replies.{AnswersCall, take_reply}
 use Rattle.sched_state.specs.declared.replies.Taken.{Taken}

@@ -1,10 +1,10 @@
 -- A simulated history leaves no request undone.
 use Rattle.std.proofs.Common.{ℕ, ◌≡◌, Bool, true, false, not, ◌&&◌, None, arith, refl, ap}
-use Rattle.fq_model.specs.declared.trace.RunOptions.{RunOptions}
+use Rattle.program_model.specs.declared.trace.RunOptions.{RunOptions}
 use Rattle.fq_model.specs.History.{History, is_submitted, is_done, request_bound}
 use Rattle.fq_model.specs.Report.{unfinished, is_unfinished}
-use Rattle.fq_model.specs.Simulated.{run_config, IsSimulated}
-use Rattle.fq_model.specs.Trace.{Trace}
+use Rattle.program_model.specs.Simulated.{run_config, IsSimulated}
+use Rattle.program_model.specs.Trace.{Trace}
 use Rattle.fq_laws.proofs.History.Requests.{submitted_below}
 use Rattle.fq_laws.proofs.Sums.{least_by}
 use Rattle.trace_runner.specs.Plan.{row_at}

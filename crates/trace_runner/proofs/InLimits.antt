@@ -1,14 +1,15 @@
 -- The configuration of a trace is in its limits.
 use Rattle.std.proofs.Common.{ℕ, ◌*◌, ◌≤◌, ◌≡◌, max, length, arith, List, subst, sym, ap, refl, ◌∙◌, Some, None}
 use Rattle.fq_model.specs.declared.config.Config.{Config}
-use Rattle.fq_model.specs.declared.trace.RunOptions.{RunOptions}
+use Rattle.program_model.specs.declared.trace.RunOptions.{RunOptions}
 use Rattle.fq_model.specs.declared.limits.TheConstants.{MOST_PAIRS, LEAST_ENTRIES, MOST_ENTRIES}
 use Rattle.fq_model.specs.declared.config.ConfigFault.{ConfigFault}
-use Rattle.fq_model.specs.Courses.{trace_config}
-use Rattle.fq_model.specs.Limits.{InLimits, AreInRange, IsWithin, config_fault}
-use Rattle.fq_model.specs.Simulated.{run_config}
-use Rattle.fq_model.specs.Trace.{Trace}
-use Rattle.fq_model.specs.TraceText.{IsLawfulTrace}
+use Rattle.program_model.specs.Courses.{trace_config}
+use Rattle.fq_model.specs.Limits.{InLimits, IsWithin, config_fault}
+use Rattle.program_model.specs.RunLimits.{AreInRange}
+use Rattle.program_model.specs.Simulated.{run_config}
+use Rattle.program_model.specs.Trace.{Trace}
+use Rattle.program_model.specs.TraceText.{IsLawfulTrace}
 use Rattle.trace_runner.specs.Plan.{IsPlan}
 use Rattle.fq_laws.proofs.Faults.{no_fault}
 

@@ -14,7 +14,5 @@ pub mod Events
 pub mod Ending
 pub mod Rests
 pub mod Only
-pub mod Exists
-pub mod Entries
 pub mod Finished
 pub mod InLimits

@@ -5,14 +5,14 @@ use Rattle.std.proofs.lemmas.List.{reverse-reverse}
 use Rattle.fq_model.specs.declared.event.Act.{Act}
 use Rattle.fq_model.specs.declared.event.Act.TheVariants.{Submit, Take, Report, Done, Close, Weight, Workers}
 use Rattle.fq_model.specs.declared.event.Entry.{Entry}
-use Rattle.fq_model.specs.declared.trace.RunOptions.{RunOptions}
-use Rattle.fq_model.specs.declared.trace.TraceRow.{TraceRow}
-use Rattle.fq_model.specs.Courses.{worker_caller, course, serves}
+use Rattle.program_model.specs.declared.trace.RunOptions.{RunOptions}
+use Rattle.program_model.specs.declared.trace.TraceRow.{TraceRow}
+use Rattle.program_model.specs.Courses.{worker_caller, course, serves}
 use Rattle.fq_model.specs.History.{History, has_act, is_close, is_closed, is_change, is_submit, is_taken, is_done, is_done_of, is_waiting, submits, with_submit, waiting, Runs, request_bound}
 use Rattle.fq_model.specs.Rules.{IsLegal, Fits, FitsTake}
-use Rattle.fq_model.specs.Simulated.{run_config, row_submits, timed, time_served, rank, RankBefore, InTurn, IsServed, IsSimulated, KeepsBusy, AllRun, IsSettled, ClosesLast, RunsSomething}
+use Rattle.program_model.specs.Simulated.{run_config, row_submits, timed, time_served, rank, RankBefore, InTurn, IsServed, IsSimulated, KeepsBusy, AllRun, IsSettled, ClosesLast, RunsSomething}
 use Rattle.fq_model.specs.Time.{last_moment}
-use Rattle.fq_model.specs.Trace.{Trace}
+use Rattle.program_model.specs.Trace.{Trace}
 use Rattle.fq_laws.proofs.History.Asked.{waits_submitted, waits_untaken}
 use Rattle.fq_laws.proofs.History.Requests.{submitted_below, taken_submitted, use_taken, done_taken}
 use Rattle.fq_laws.proofs.History.Workers.{runs_running}
@@ -51,7 +51,7 @@ after_take : (T : Trace) (O : RunOptions) (P : History) (m i r estimate : ℕ) (
 after_take T O P m i r estimate f b known fit low h (inl l) = unsettled T O P m i r estimate b known fit (h.busy.settled (inl (omega arith)))
 after_take T O P m i r estimate f b known fit low h (inr s) = by_act f.act refl h.busy.lower_run s.1
   where
-    by_act : (a : Act) → f.act ≡ a → Rattle.fq_model.specs.Simulated.TakesInTurn P a → RankBefore (3, i) (rank a) → ⊥
+    by_act : (a : Act) → f.act ≡ a → Rattle.program_model.specs.Simulated.TakesInTurn P a → RankBefore (3, i) (rank a) → ⊥
     by_act (Submit q t k d l) is run k2 = low_rank 2 i q k2 (omega arith)
     by_act (Take j q c) is run k2 = let w = run i (lower 3 i j k2 (omega arith)).1 in fit.free w.0 w.1
     by_act (Report w q u) is run k2 = low_rank 0 i w k2 (omega arith)

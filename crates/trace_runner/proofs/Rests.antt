@@ -6,13 +6,13 @@ use Rattle.fq_model.specs.declared.config.Config.{Config}
 use Rattle.fq_model.specs.declared.event.Act.{Act}
 use Rattle.fq_model.specs.declared.event.Act.TheVariants.{Submit, Take, Report, Done, Close, Weight, Workers}
 use Rattle.fq_model.specs.declared.event.Entry.{Entry}
-use Rattle.fq_model.specs.declared.trace.RunOptions.{RunOptions}
-use Rattle.fq_model.specs.declared.trace.TraceRow.{TraceRow}
-use Rattle.fq_model.specs.Courses.{Each, worker_caller, course, serves, with_reports, course_acts, reports_below}
+use Rattle.program_model.specs.declared.trace.RunOptions.{RunOptions}
+use Rattle.program_model.specs.declared.trace.TraceRow.{TraceRow}
+use Rattle.program_model.specs.Courses.{Each, worker_caller, course, serves, with_reports, course_acts, reports_below}
 use Rattle.fq_model.specs.History.{History, has_act, is_close, is_closed, is_change, is_submit, is_taken, is_take_of, submits, with_submit}
 use Rattle.fq_model.specs.Rules.{IsLegal}
-use Rattle.fq_model.specs.Simulated.{run_config, row_submits, timed, rank, RankBefore, InTurn, IsServed, IsSimulated, KeepsBusy, ClosesLast}
-use Rattle.fq_model.specs.Trace.{Trace}
+use Rattle.program_model.specs.Simulated.{run_config, row_submits, timed, rank, RankBefore, InTurn, IsServed, IsSimulated, KeepsBusy, ClosesLast}
+use Rattle.program_model.specs.Trace.{Trace}
 use Rattle.fq_laws.proofs.History.Requests.{submitted_below, taken_submitted}
 use Rattle.trace_runner.specs.Plan.{row_at}
 use Rattle.trace_runner.specs.Staff.{ComesBefore}

@@ -4,14 +4,14 @@ use Rattle.std.proofs.lemmas.Bool.{cases_eq, eq-eqb, ne_eqb, cond-true, cond-fal
 use Rattle.std.proofs.Math.Nat.{div-eq_of_lt-le}
 use Rattle.std.proofs.lemmas.Nat.{le-div}
 use Rattle.fq_model.specs.declared.event.Act.TheVariants.{Take}
-use Rattle.fq_model.specs.declared.trace.RunOptions.{RunOptions}
-use Rattle.fq_model.specs.declared.trace.TraceRow.{TraceRow}
-use Rattle.fq_model.specs.Courses.{reports_below, with_reports, worker_caller}
+use Rattle.program_model.specs.declared.trace.RunOptions.{RunOptions}
+use Rattle.program_model.specs.declared.trace.TraceRow.{TraceRow}
+use Rattle.program_model.specs.Courses.{reports_below, with_reports, worker_caller}
 use Rattle.fq_model.specs.History.{History, is_taken, is_done, submits, waiting, running, Runs, running_on}
 use Rattle.fq_model.specs.Rules.{HasRoom}
-use Rattle.fq_model.specs.Simulated.{run_config, timed, IsServed}
+use Rattle.program_model.specs.Simulated.{run_config, timed, IsServed}
 use Rattle.fq_model.specs.Sums.{sum_below}
-use Rattle.fq_model.specs.Trace.{Trace}
+use Rattle.program_model.specs.Trace.{Trace}
 use Rattle.fq_laws.proofs.History.Workers.{runs_running}
 use Rattle.trace_runner.specs.declared.agenda.Agenda.{Agenda}
 use Rattle.trace_runner.specs.declared.staff.Work.{Work}

@@ -3,9 +3,9 @@ use Rattle.std.proofs.Common.{ℕ, ◌<◌, ◌≤◌, ◌≡◌, List, length, 
 use Rattle.std.proofs.lemmas.Option.{slice_get-get_or, get_or_from_slice_get, slice_get_within}
 use Rattle.std.proofs.lemmas.List.{get_or-map, length-map}
 use Rattle.std.specs.Prelude.{slice_get}
-use Rattle.fq_model.specs.declared.trace.TraceRow.{TraceRow}
-use Rattle.fq_model.specs.Trace.{Trace}
-use Rattle.fq_model.specs.TraceText.{IsLawfulTrace, IsLawfulRow}
+use Rattle.program_model.specs.declared.trace.TraceRow.{TraceRow}
+use Rattle.program_model.specs.Trace.{Trace}
+use Rattle.program_model.specs.TraceText.{IsLawfulTrace, IsLawfulRow}
 use Rattle.trace_runner.specs.Plan.{row_at}
 
 pub row_there : (rows : List TraceRow) (r : ℕ) → r < length rows → slice_get rows r ≡ Some (row_at rows r)

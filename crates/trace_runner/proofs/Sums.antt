@@ -1,7 +1,7 @@
 -- Sums over rows.
 use Rattle.std.proofs.Common.{ℕ, zero, suc, ◌+◌, ◌<◌, ◌≤◌, ◌≡◌, max, List, [], ◌∷◌, length, take, arith, refl, ap, ◌∙◌}
-use Rattle.fq_model.specs.declared.trace.TraceRow.{TraceRow}
-use Rattle.fq_model.specs.Courses.{sum_over, submitters}
+use Rattle.program_model.specs.declared.trace.TraceRow.{TraceRow}
+use Rattle.program_model.specs.Courses.{sum_over, submitters}
 use Rattle.fq_model.specs.Sums.{sum_below}
 use Rattle.trace_runner.specs.Plan.{row_at}
 

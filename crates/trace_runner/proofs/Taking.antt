@@ -3,13 +3,13 @@ use Rattle.std.proofs.Common.{ℕ, zero, suc, ◌+◌, ◌-◌, ◌*◌, ◌<◌
 use Rattle.std.proofs.lemmas.Bool.{cases_eq, eq-eqb, ne_eqb, both_ways, cond-true, cond-false}
 use Rattle.fq_model.specs.declared.event.Act.TheVariants.{Take}
 use Rattle.fq_model.specs.declared.event.Entry.{Entry}
-use Rattle.fq_model.specs.declared.trace.RunOptions.{RunOptions}
-use Rattle.fq_model.specs.Courses.{worker_caller}
+use Rattle.program_model.specs.declared.trace.RunOptions.{RunOptions}
+use Rattle.program_model.specs.Courses.{worker_caller}
 use Rattle.fq_model.specs.History.{History, is_closed, is_done, is_taken, submits, waiting, running_on}
 use Rattle.fq_model.specs.Rules.{FitsTake}
-use Rattle.fq_model.specs.Simulated.{run_config, timed}
+use Rattle.program_model.specs.Simulated.{run_config, timed}
 use Rattle.fq_model.specs.Time.{last_moment}
-use Rattle.fq_model.specs.Trace.{Trace}
+use Rattle.program_model.specs.Trace.{Trace}
 use Rattle.fq_laws.proofs.History.Asked.{waits_submitted, waits_untaken}
 use Rattle.fq_laws.proofs.History.Numbers.{waiting_taken}
 use Rattle.fq_laws.proofs.History.Requests.{submitted_below, done_taken}

@@ -1,6 +1,6 @@
 -- What a simulation does next.
 use Rattle.std.specs.Prelude.{ℕ, ◌+◌, ◌-◌, ◌<◌, ◌≤◌, ◌≡◌, ◌⊎◌, nat_lt, nat_le, Bool, false, if◌then◌else◌, List, Option, Some, None, length, replicate, slice_get, slice_set}
-use Rattle.fq_model.specs.declared.trace.TraceRow.{TraceRow}
+use Rattle.program_model.specs.declared.trace.TraceRow.{TraceRow}
 use Rattle.trace_runner.specs.declared.agenda.Agenda.{Agenda}
 use Rattle.trace_runner.specs.declared.agenda.Event.{Event}
 use Rattle.trace_runner.specs.declared.agenda.What.{What}

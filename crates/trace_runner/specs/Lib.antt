@@ -2,4 +2,3 @@ pub mod Plan
 pub mod Staff
 pub mod Agenda
 pub mod Simulation
-pub mod Laws

@@ -2,13 +2,14 @@
 use Rattle.std.specs.Prelude.{ℕ, ◌<◌, ◌≤◌, List, All, slice_index_or}
 use Rattle.vt_fixed.specs.declared.limits.TheConstants.{GREATEST_COST}
 use Rattle.fq_model.specs.declared.limits.TheConstants.{MOST_ENTRIES}
-use Rattle.fq_model.specs.declared.trace.RunOptions.{RunOptions}
-use Rattle.fq_model.specs.declared.trace.TraceRow.{TraceRow}
-use Rattle.fq_model.specs.Courses.{sum_over, reports_below}
-use Rattle.fq_model.specs.Limits.{IsWithin, AreInRange}
-use Rattle.fq_model.specs.Simulated.{needed_entries}
-use Rattle.fq_model.specs.Trace.{Trace}
-use Rattle.fq_model.specs.TraceText.{IsLawfulTrace}
+use Rattle.program_model.specs.declared.trace.RunOptions.{RunOptions}
+use Rattle.program_model.specs.declared.trace.TraceRow.{TraceRow}
+use Rattle.program_model.specs.Courses.{sum_over, reports_below}
+use Rattle.fq_model.specs.Limits.{IsWithin}
+use Rattle.program_model.specs.RunLimits.{AreInRange}
+use Rattle.program_model.specs.Simulated.{needed_entries}
+use Rattle.program_model.specs.Trace.{Trace}
+use Rattle.program_model.specs.TraceText.{IsLawfulTrace}
 use Rattle.trace_runner.specs.declared.fault.SimFault.{SimFault}
 use Rattle.trace_runner.specs.declared.fault.SimFault.TheVariants.{TooManyEntries}
 

@@ -3,14 +3,14 @@ use Rattle.std.specs.Prelude.{ℕ, suc, ◌+◌, ◌*◌, ◌<◌, ◌≤◌, �
 use Rattle.vt_fixed.specs.declared.limits.TheConstants.{GREATEST_COST}
 use Rattle.fq_model.specs.declared.limits.TheConstants.{GREATEST_TRACE_MOMENT}
 use Rattle.fq_model.specs.declared.event.Act.TheVariants.{Take}
-use Rattle.fq_model.specs.declared.trace.RunOptions.{RunOptions}
-use Rattle.fq_model.specs.declared.trace.TraceRow.{TraceRow}
-use Rattle.fq_model.specs.Courses.{Each, submitters, worker_caller, course, with_reports}
+use Rattle.program_model.specs.declared.trace.RunOptions.{RunOptions}
+use Rattle.program_model.specs.declared.trace.TraceRow.{TraceRow}
+use Rattle.program_model.specs.Courses.{Each, submitters, worker_caller, course, with_reports}
 use Rattle.fq_model.specs.History.{History, history_of, has_act, is_submit, is_change, is_closed, is_done, submits, waiting, running_on, last_use}
 use Rattle.fq_model.specs.Rules.{IsLegal}
-use Rattle.fq_model.specs.Simulated.{run_config, row_submits, timed, rank, IsServed, InTurn, KeepsBusy}
+use Rattle.program_model.specs.Simulated.{run_config, row_submits, timed, rank, IsServed, InTurn, KeepsBusy}
 use Rattle.fq_model.specs.Time.{last_moment}
-use Rattle.fq_model.specs.Trace.{Trace}
+use Rattle.program_model.specs.Trace.{Trace}
 use Rattle.sched_state.specs.Scheduler.{SchedulerView}
 use Rattle.trace_runner.specs.declared.agenda.Agenda.{Agenda}
 use Rattle.trace_runner.specs.declared.staff.Work.{Work}

@@ -3,7 +3,7 @@ use Rattle.std.specs.Prelude.{ℕ, ◌+◌, ◌<◌, ◌≤◌, ◌≡◌, ◌�
 use Rattle.vt_fixed.specs.declared.limits.TheConstants.{GREATEST_MOMENT}
 use Rattle.winner_tree.specs.declared.key.Key.{Key}
 use Rattle.trace_runner.specs.declared.staff.Work.{Work}
-use Rattle.fq_model.specs.Simulated.{RankBefore}
+use Rattle.program_model.specs.Simulated.{RankBefore}
 
 -- what a worker serves that takes a request at the start: its first Report is at refresh, if that is below the cost
 abbrev pub new_work : ℕ → ℕ → ℕ → Work

@@ -1,16 +1,14 @@
 //! What a simulation is about to do.
-ghost use Rattle.std.specs.Prelude.{◌≡◌, ◌+◌, ◌<◌, ◌≤◌, IfOk, IfErr, IfSome, MatchOption, length};
-ghost use Rattle.trace_runner.specs.declared.fault.SimFault.TheVariants as faults;
+ghost use Rattle.std.specs.Prelude.{◌≡◌, ◌+◌, ◌<◌, ◌≤◌, IfOk, IfSome, MatchOption, length};
 ghost use Rattle.trace_runner.specs.Staff.{IsSmall};
 ghost use Rattle.trace_runner.specs.Agenda.{opened_agenda, after_work, after_submit, after_take};
 ghost use Rattle.trace_runner.specs.Agenda.{event_of_work, event_of_row, comes_by};
 ghost use Rattle.trace_runner.specs.Agenda.{IsTimed, NothingTimed, IsNext, NothingNext};
 
-use crate::fault::SimFault;
 use crate::staff::{Staff, Work};
 use fq_model::limits::{GREATEST_SUBMITTER, MOST_ROWS, MOST_WORKERS};
-use fq_model::trace::TraceRow;
-use std::alloc::Global;
+use program_model::trace::TraceRow;
+use std::alloc::{AllocError, Global};
 
 /// What the simulation does at an event.
 #[derive(Clone, Copy)]
@@ -49,11 +47,10 @@ pub struct Agenda {
 
 impl Agenda {
     /// The agenda of a simulation that begins, with so many workers.
-    pub fn open(alloc: Global, workers: u32, first_caller: u32) -> Result<Agenda, SimFault>
+    pub fn open(alloc: Global, workers: u32, first_caller: u32) -> Result<Agenda, AllocError>
         requires some { 1 ≤ workers }
         requires few { workers ≤ MOST_WORKERS }
         ensures opened { IfOk result (λ a. a ≡ opened_agenda workers first_caller) }
-        ensures fault { IfErr result (λ f. f ≡ faults.NoMemory) }
     {
         Ok(Agenda {
             staff: Staff::open(alloc, workers)?,

@@ -3,7 +3,7 @@ ghost use Rattle.std.specs.Prelude.{◌≡◌};
 ghost use Rattle.trace_runner.specs.declared.fault.SimFault.TheVariants as faults;
 
 use fq_model::limits::MOST_ENTRIES;
-use std::alloc::{AllocError, AllocFailed};
+use std::alloc::AllocError;
 use std::fmt;
 
 /// Why a trace is not simulated.
@@ -28,14 +28,6 @@ impl From<AllocError> for SimFault {
     ghost from_gives = { λ _ fault. fault ≡ faults.NoMemory };
 
     fn from(_fault: AllocError) -> SimFault {
-        SimFault::NoMemory
-    }
-}
-
-impl<T: Drop> From<AllocFailed<T>> for SimFault {
-    ghost from_gives = { λ _ fault. fault ≡ faults.NoMemory };
-
-    fn from(_fault: AllocFailed<T>) -> SimFault {
         SimFault::NoMemory
     }
 }

@@ -4,7 +4,6 @@
 
 mod agenda;
 pub mod fault;
-pub mod laws;
 pub mod needed;
 pub mod opening;
 pub mod runner;

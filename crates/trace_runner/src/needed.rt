@@ -1,12 +1,12 @@
 //! How many entries the simulated history of a trace has.
 ghost use Rattle.std.specs.Prelude.{◌≡◌, ◌≤◌, ◌*◌, length};
-ghost use Rattle.fq_model.specs.Courses.{reports_below};
-ghost use Rattle.fq_model.specs.Simulated.{needed_entries};
-ghost use Rattle.fq_model.specs.TraceText.{IsLawfulTrace};
+ghost use Rattle.program_model.specs.Courses.{reports_below};
+ghost use Rattle.program_model.specs.Simulated.{needed_entries};
+ghost use Rattle.program_model.specs.TraceText.{IsLawfulTrace};
 ghost use Rattle.trace_runner.specs.Plan.{AreCosts, planned_reports};
 
 use fq_model::limits::{GREATEST_COST, MOST_ROWS};
-use fq_model::trace::TraceRow;
+use program_model::trace::TraceRow;
 use trace_reader::trace::Trace;
 
 /// The number of entries of the simulated history of a trace, where running requests are reported after each
@@ -35,7 +35,7 @@ fn planned(rows: &[TraceRow], refresh: u64) -> u64
 }
 
 // How many a request of this cost has: there is none at the cost itself, where the Done stands.
-#[tactic(auto, unfolding(fq_model::specs::Courses::reports_below))]
+#[tactic(auto, unfolding(program_model::specs::Courses::reports_below))]
 fn reports_below(refresh: u64, cost: u64) -> u64
     requires low { 1 ≤ cost }
     requires high { cost ≤ GREATEST_COST }

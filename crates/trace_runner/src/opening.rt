@@ -1,14 +1,15 @@
 //! What the scheduler of a trace is opened with.
 ghost use Rattle.std.specs.Prelude.{ℕ, ◌≡◌, ◌+◌, ◌≤◌, ◌<◌, length, IfOk};
 ghost use Rattle.fq_model.specs.declared.limits.TheConstants.{LEAST_ENTRIES, MOST_ENTRIES};
-ghost use Rattle.fq_model.specs.Courses.{submitters, trace_config};
-ghost use Rattle.fq_model.specs.TraceText.{IsLawfulTrace};
-ghost use Rattle.fq_model.specs.Limits.{AreInRange, IsWithin};
+ghost use Rattle.program_model.specs.Courses.{submitters, trace_config};
+ghost use Rattle.program_model.specs.TraceText.{IsLawfulTrace};
+ghost use Rattle.fq_model.specs.Limits.{IsWithin};
+ghost use Rattle.program_model.specs.RunLimits.{AreInRange};
 ghost use Rattle.trace_runner.specs.Plan.{row_at};
 
 use fq_model::config::{Checked, Config, Weights};
 use fq_model::limits::GREATEST_SUBMITTER;
-use fq_model::trace::{RunOptions, TraceRow};
+use program_model::trace::{RunOptions, TraceRow};
 use std::alloc::{AllocError, Global};
 use trace_reader::trace::Trace;
 

@@ -1,10 +1,10 @@
 //! The simulation.
 ghost use Rattle.std.specs.Prelude.{◌≡◌, ◌+◌, ◌<◌, ◌⊎◌, length, IfOk, IfErr, Err};
 ghost use Rattle.fq_model.specs.History.{history_of};
-ghost use Rattle.fq_model.specs.Simulated.{run_config, IsSimulated};
-ghost use Rattle.fq_model.specs.TraceText.{IsLawfulTrace};
+ghost use Rattle.program_model.specs.Simulated.{run_config, IsSimulated};
+ghost use Rattle.program_model.specs.TraceText.{IsLawfulTrace};
 ghost use Rattle.trace_runner.specs.Agenda.{IsNext};
-ghost use Rattle.fq_model.specs.Limits.{AreInRange};
+ghost use Rattle.program_model.specs.RunLimits.{AreInRange};
 ghost use Rattle.trace_runner.specs.Plan.{IsTooLong, too_long};
 ghost use Rattle.trace_runner.specs.Simulation.{Simulates};
 ghost use Rattle.trace_runner.specs.declared.fault.SimFault.TheVariants as faults;
@@ -15,10 +15,11 @@ use crate::needed::needed;
 use crate::opening::{config_of, submitters};
 use crate::staff::Work;
 use fq_model::limits::{LEAST_ENTRIES, MOST_ENTRIES};
-use fq_model::trace::RunOptions;
-use rival_policies::chooser::Chooser;
-use sched_state::{History, Scheduler, Taken};
+use program_model::trace::RunOptions;
+use sched_journal::History;
+use sched_state::{Scheduler, Taken};
 use std::alloc::Global;
+use tag_rules::chooser::Chooser;
 use trace_reader::trace::Trace;
 
 /// The simulated history of a trace. Each request comes at its row's moment, runs for

@@ -1,12 +1,10 @@
 //! What each worker serves, and which of them comes next.
-ghost use Rattle.std.specs.Prelude.{◌≡◌, ◌<◌, ◌≤◌, None, IfOk, IfErr, IfSome, MatchOption, length, replicate, slice_set};
-ghost use Rattle.trace_runner.specs.declared.fault.SimFault.TheVariants as faults;
+ghost use Rattle.std.specs.Prelude.{◌≡◌, ◌<◌, ◌≤◌, None, IfOk, IfSome, MatchOption, length, replicate, slice_set};
 ghost use Rattle.trace_runner.specs.Staff.{busy_key, idle_key, new_work, reported_work, work_key, work_moment, IsSmall};
 ghost use Rattle.trace_runner.specs.Staff.{NoneWorks, NoneIdle, IsFirstWork, IsFirstIdle};
 
-use crate::fault::SimFault;
 use fq_model::limits::{GREATEST_COST, MOST_WORKERS};
-use std::alloc::Global;
+use std::alloc::{AllocError, Global};
 use std::marker::Model;
 use winner_tree::{Key, Tree};
 
@@ -112,11 +110,10 @@ impl Model for Staff {
 
 impl Staff {
     /// So many workers, all of them idle.
-    pub fn open(alloc: Global, workers: u32) -> Result<Staff, SimFault>
+    pub fn open(alloc: Global, workers: u32) -> Result<Staff, AllocError>
         requires some { 1 ≤ workers }
         requires few { workers ≤ MOST_WORKERS }
         ensures opened { IfOk result (λ s. s ≡ replicate workers None) }
-        ensures fault { IfErr result (λ f. f ≡ faults.NoMemory) }
     {
         let works = vec![in alloc; None; workers as usize]?;
         let busy = Tree::open(alloc, workers)?;

@@ -4,10 +4,11 @@
 
 use command_texts::stop::Stop;
 use fq_io::{ProcessClock, StdSink, StdSource};
+use plain_commands::ending::tell;
 use std::env;
 use std::io::ErrorKind;
 use std::process::ExitCode;
-use twodfq_main::program::{tell, twodfq};
+use twodfq_main::program::twodfq;
 
 // The words after the program's name.
 fn words(rt: &HostRuntime) -> Result<Vec<String>, Stop> {

@@ -3,7 +3,7 @@ use Rattle.std.specs.Prelude.{Option, Some, None}
 use Rattle.std_heap.specs.contracts.GlobalAllocator.TheImpl as heap_impl
 use Rattle.std.specs.Box.Ownership.{box_owns}
 use Rattle.sched_state.specs.contracts.scheduler.Scheduler.{the_row}
-use Rattle.rival_policies.specs.declared.chooser.Chooser.{Ghosts}
+use Rattle.tag_rules.specs.declared.chooser.Chooser.{Ghosts}
 use Rattle.shared_order.specs.contracts.chooser.SharedChooser as chooser
 use Rattle.shared_order.specs.contracts.chooser.SharedChooserChooser.TheImpl as choosing
 use Rattle.fq_model.specs.contracts.job.U64Job.TheImpl as job

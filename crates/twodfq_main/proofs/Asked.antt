@@ -2,13 +2,13 @@
 use Rattle.std.proofs.Common.{ℕ, ◌≡◌, refl, sym, true, false, List, Option, Some, None, is_some, Result, Ok, Err}
 use Rattle.std.proofs.lemmas.Bool.{false≢true}
 use Rattle.std.specs.String.{string_bytes}
-use Rattle.fq_model.specs.declared.command.Command.{Command}
-use Rattle.fq_model.specs.declared.command.Command.TheVariants as commands
+use Rattle.program_model.specs.declared.command.Command.{Command}
+use Rattle.program_model.specs.declared.command.Command.TheVariants as commands
 use Rattle.command_texts.specs.Commands.{Outputs, TellsCells}
 use Rattle.command_texts.specs.declared.stop.Stop.{Stop}
 use Rattle.command_texts.specs.declared.stop.Stop.TheVariants.{Words, TooLong, Fault, Reading, Writing, NoMemory, TooManyEntries, TooManyCells}
-use Rattle.twodfq_main.specs.Asked.{if_one_of, is_plain, is_live, is_served}
-use Rattle.twodfq_main.specs.Program.{Move, IsAnswered, IsOversized, Ends, EndsCommand}
+use Rattle.plain_commands.specs.Asked.{if_one_of, is_plain, is_live, is_served}
+use Rattle.plain_commands.specs.Program.{Move, IsAnswered, IsOversized, Ends, EndsCommand}
 
 -- whatever the clocks A and B tell
 module _ (A B : ℕ → Type 0) where

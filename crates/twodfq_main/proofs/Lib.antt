@@ -1,4 +1,2 @@
-pub mod Runs
 pub mod Pools
 pub mod Asked
-pub mod Written

@@ -1,22 +1,22 @@
 -- Histories of a pool that serves a trace: all that is submitted is done, and what is asked for of one.
 use Rattle.std.proofs.Common.{ℕ, ◌<◌, ◌≡◌, ◌∙◌, sym, ap, subst, refl, Bool, true, false, not, ◌&&◌, None, List, Result, Ok, Err, is_ok}
 use Rattle.std.specs.Prelude.{MatchResult}
-use Rattle.fq_model.specs.declared.command.Command.TheVariants.{Live}
-use Rattle.fq_model.specs.declared.command.HistoryPrint.{HistoryPrint}
+use Rattle.program_model.specs.declared.command.Command.TheVariants.{Live}
+use Rattle.program_model.specs.declared.command.HistoryPrint.{HistoryPrint}
 use Rattle.fq_model.specs.declared.config.Config.{Config}
 use Rattle.fq_model.specs.declared.event.Entry.{Entry}
 use Rattle.fq_model.specs.declared.limits.TheConstants.{MOST_ENTRIES}
-use Rattle.fq_model.specs.declared.trace.RunOptions.{RunOptions}
+use Rattle.program_model.specs.declared.trace.RunOptions.{RunOptions}
 use Rattle.fq_model.specs.History.{History, history_of, is_submitted, is_done, request_bound}
-use Rattle.fq_model.specs.PoolHistory.{pool_config, IsPoolHistory}
+use Rattle.program_model.specs.PoolHistory.{pool_config, IsPoolHistory}
 use Rattle.fq_model.specs.Report.{unfinished, is_unfinished}
-use Rattle.fq_model.specs.Trace.{Trace}
-use Rattle.fq_model.specs.TraceGrammar.{trace_of}
+use Rattle.program_model.specs.Trace.{Trace}
+use Rattle.program_model.specs.TraceGrammar.{trace_of}
 use Rattle.fq_laws.proofs.Sums.{least_by}
 use Rattle.command_texts.specs.Commands.{IsLiveOutput, pool_entries}
 use Rattle.command_texts.specs.Histories.{IsHistoryOutput, PoolServes, IsPoolOutput, entries_message}
 use Rattle.command_texts.specs.Stops.{IsCellsStop, IsOutputStop}
-use Rattle.twodfq_main.specs.Pools.{IsPoolStop}
+use Rattle.plain_commands.specs.Pools.{IsPoolStop}
 use Rattle.command_texts.specs.declared.stop.Stop.{Stop}
 use Rattle.command_texts.specs.declared.stop.Stop.TheVariants.{Words, TooLong, Fault, Reading, Writing, NoMemory, TooManyEntries, TooManyCells}
 

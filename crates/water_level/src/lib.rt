@@ -2,5 +2,4 @@
 #![tactic(auto)]
 
 pub mod gifts;
-pub mod laws;
 pub mod levels;

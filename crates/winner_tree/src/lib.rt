@@ -5,7 +5,6 @@
 #![tactic(auto)]
 
 pub mod key;
-pub mod laws;
 mod replay;
 pub mod tree;
 

@@ -4,7 +4,7 @@ use Rattle.std.specs.List.{ReversedBelow}
 use Rattle.history_lock.specs.Passes.{LockView}
 use Rattle.desk.specs.declared.floor.Crew.{Crew}
 use Rattle.desk.specs.declared.tokens.Worker.{Worker}
-use Rattle.worker_gate.specs.declared.counters.Counters.{Counters}
+use Rattle.gate_rules.specs.declared.counters.Counters.{Counters}
 use Rattle.worker_gate.specs.declared.pool.Hand.{Hand}
 use Rattle.worker_gate.specs.declared.pool.Hand.TheVariants.{Work}
 use Rattle.worker_gate.specs.Running.{Worked}

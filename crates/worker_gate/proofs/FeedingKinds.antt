@@ -9,7 +9,7 @@ use Rattle.fq_model.specs.declared.event.Cause.TheVariants as cause
 use Rattle.fq_model.specs.declared.event.Reply.TheVariants as answer
 use Rattle.fq_model.specs.History.{History}
 use Rattle.fq_model.specs.Rules.{IsAccepted, RefusedOrElse, first_true}
-use Rattle.worker_gate.specs.declared.rows.Row.{Row}
+use Rattle.gate_rules.specs.declared.rows.Row.{Row}
 use Rattle.worker_gate.specs.Feeding.{IsRefused, NotByKind}
 
 -- of these rows the one of the kind is not the first that is true

@@ -13,7 +13,7 @@ use Rattle.history_lock.specs.Passes.{LockView, IsOf}
 use Rattle.desk.specs.declared.floor.Crew.{Crew}
 use Rattle.desk.specs.declared.tokens.Submitter.{Submitter}
 use Rattle.desk.specs.Tokens.{Stays, IsAnswered}
-use Rattle.worker_gate.specs.declared.rows.Row.{Row}
+use Rattle.gate_rules.specs.declared.rows.Row.{Row}
 use Rattle.worker_gate.specs.Feeding.{is_last_submit, ClosesAt, HasClosed, request_of, Feeds}
 use Rattle.worker_gate.proofs.Seen.{seen_on}
 use Rattle.worker_gate.proofs.Feeding.{closed_on, HasFed, fed_none, fed_submit, fed_refused, fed_close}

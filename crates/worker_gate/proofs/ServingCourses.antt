@@ -1,13 +1,13 @@
 -- A course as far as a worker has followed it.
 use Rattle.std.proofs.Common.{◌≡◌, ℕ, suc, ◌<◌, List, [], ◌∷◌, map, length, Option, Some, None, ap, ◌∙◌, refl, arith}
 use Rattle.fq_model.specs.declared.limits.TheConstants.{MOST_SLICES}
-use Rattle.worker_gate.specs.declared.counters.Counters.{Counters}
-use Rattle.worker_gate.specs.declared.counters.TheConstants.{NO_COUNTERS}
-use Rattle.worker_gate.specs.declared.gate.Slice.{Slice}
-use Rattle.worker_gate.specs.declared.gate.Slice.TheVariants.{More, End}
-use Rattle.worker_gate.specs.Slices.{counters_after, counters_before, IsCourse, Follows, FollowsIfTold, GoesOn}
+use Rattle.gate_rules.specs.declared.counters.Counters.{Counters}
+use Rattle.gate_rules.specs.declared.counters.TheConstants.{NO_COUNTERS}
+use Rattle.gate_rules.specs.declared.gate.Slice.{Slice}
+use Rattle.gate_rules.specs.declared.gate.Slice.TheVariants.{More, End}
+use Rattle.gate_rules.specs.Slices.{counters_after, counters_before, IsCourse, Follows, FollowsIfTold, GoesOn}
 use Rattle.worker_gate.specs.Running.{Use, JobRun, uses_after, IsAsTold}
-use Rattle.worker_gate.proofs.Slices.{slices_go_on}
+use Rattle.gate_rules.proofs.Slices.{slices_go_on}
 
 module _ (cost_of : Counters → ℕ) where
   -- there is a slice k, these are the counters before it, and these the uses of the slices before

@@ -8,7 +8,7 @@ use Rattle.desk.specs.declared.tokens.Took.TheVariants as took
 use Rattle.desk.specs.declared.tokens.Worker.{Worker}
 use Rattle.desk.specs.Replies.{took_reply, took_pass, took_worker}
 use Rattle.desk.specs.Tokens.{Stays, IsAnswered}
-use Rattle.worker_gate.specs.declared.counters.Counters.{Counters}
+use Rattle.gate_rules.specs.declared.counters.Counters.{Counters}
 use Rattle.worker_gate.specs.Running.{Worked}
 use Rattle.worker_gate.specs.Serving.{Serves}
 use Rattle.worker_gate.proofs.ServingRuns.{worked}

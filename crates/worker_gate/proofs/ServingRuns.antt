@@ -17,7 +17,7 @@ use Rattle.history_lock.proofs.Histories.{prefix_through}
 use Rattle.desk.specs.declared.floor.Crew.{Crew}
 use Rattle.desk.specs.declared.tokens.Running.{Running}
 use Rattle.desk.specs.declared.tokens.Worker.{Worker}
-use Rattle.worker_gate.specs.declared.counters.Counters.{Counters}
+use Rattle.gate_rules.specs.declared.counters.Counters.{Counters}
 use Rattle.worker_gate.specs.Moments.{HasToldMomentsFrom}
 use Rattle.worker_gate.specs.Running.{Use, JobRun, with_uses, with_runs, acts_of, LackedRoom, AreKeptWhereRoom, HasLabel, IsAsTold, IsRun, AreRuns, EndsWork, Worked}
 use Rattle.worker_gate.specs.Serving.{run_of, Goes, HasNamed, HasRun, Serves}

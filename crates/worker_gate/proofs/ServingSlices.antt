@@ -13,15 +13,15 @@ use Rattle.desk.specs.declared.tokens.Worker.{Worker}
 use Rattle.desk.specs.Replies.{done_cause, done_reply}
 use Rattle.desk.specs.Tokens.{Stays, IsAnswered}
 use Rattle.vt_fixed.specs.declared.limits.TheConstants.{GREATEST_COST}
-use Rattle.worker_gate.specs.declared.counters.Counters.{Counters}
-use Rattle.worker_gate.specs.declared.counters.TheConstants.{NO_COUNTERS}
-use Rattle.worker_gate.specs.declared.gate.Slice.{Slice}
-use Rattle.worker_gate.specs.declared.gate.Slice.TheVariants.{More, End}
-use Rattle.worker_gate.specs.Counting.{IsAtMost}
-use Rattle.worker_gate.specs.Rules.{NeverFalls}
+use Rattle.gate_rules.specs.declared.counters.Counters.{Counters}
+use Rattle.gate_rules.specs.declared.counters.TheConstants.{NO_COUNTERS}
+use Rattle.gate_rules.specs.declared.gate.Slice.{Slice}
+use Rattle.gate_rules.specs.declared.gate.Slice.TheVariants.{More, End}
+use Rattle.gate_rules.specs.Counting.{IsAtMost}
+use Rattle.gate_rules.specs.Rules.{NeverFalls}
 use Rattle.worker_gate.specs.Running.{Use}
 use Rattle.worker_gate.specs.Serving.{run_of, HasNamed, IsAtStart, HasRunSlices, HasRun}
-use Rattle.worker_gate.specs.Slices.{FollowsIfTold, counters_of}
+use Rattle.gate_rules.specs.Slices.{FollowsIfTold, counters_of}
 use Rattle.worker_gate.proofs.ServingCourses.{IsAtIfTold, at_first, at_next, at_end, at_most}
 use Rattle.worker_gate.proofs.ServingRuns.{named_none, named_more, named_up, run_ends}
 use Rattle.worker_gate.proofs.ServingSteps.{Ended, done_step}

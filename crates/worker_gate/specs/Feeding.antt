@@ -8,18 +8,18 @@ use Rattle.fq_model.specs.declared.event.Cause.{Cause}
 use Rattle.fq_model.specs.declared.event.Cause.TheVariants as cause
 use Rattle.fq_model.specs.declared.event.Entry.{Entry}
 use Rattle.fq_model.specs.declared.event.Reply.TheVariants as answer
-use Rattle.fq_model.specs.Courses.{Each}
+use Rattle.program_model.specs.Courses.{Each}
 use Rattle.fq_model.specs.History.{History, history_of, Request, has_act, count_acts, is_close, is_closed}
-use Rattle.fq_model.specs.PoolHistory.{submitted_requests, is_submit_or_close}
+use Rattle.program_model.specs.PoolHistory.{submitted_requests, is_submit_or_close}
 use Rattle.fq_model.specs.Rules.{Answers}
 use Rattle.history_lock.specs.Histories.{IsPrefix}
 use Rattle.history_lock.specs.Passes.{LockView}
 use Rattle.desk.specs.declared.floor.Crew.{Crew}
 use Rattle.desk.specs.declared.tokens.Submitter.{Submitter}
 use Rattle.desk.specs.Tokens.{Stays}
-use Rattle.worker_gate.specs.declared.rows.Fed.{Fed}
-use Rattle.worker_gate.specs.declared.rows.Fed.TheVariants.{All, Stopped}
-use Rattle.worker_gate.specs.declared.rows.Row.{Row}
+use Rattle.gate_rules.specs.declared.rows.Fed.{Fed}
+use Rattle.gate_rules.specs.declared.rows.Fed.TheVariants.{All, Stopped}
+use Rattle.gate_rules.specs.declared.rows.Row.{Row}
 use Rattle.worker_gate.specs.Moments.{HasToldMomentsFrom}
 
 -- the act is the Submit of the last of so many requests

@@ -1,7 +1,7 @@
 -- Moments that a clock tells.
 use Rattle.std.specs.Prelude.{ℕ, ◌≤◌, ◌≡◌, length}
 use Rattle.fq_model.specs.declared.event.Entry.{Entry}
-use Rattle.fq_model.specs.Courses.{Each}
+use Rattle.program_model.specs.Courses.{Each}
 use Rattle.fq_model.specs.History.{History}
 use Rattle.fq_model.specs.Time.{effective_moment}
 

@@ -16,9 +16,9 @@ use Rattle.history_lock.specs.Passes.{LockView}
 use Rattle.desk.specs.declared.floor.Crew.{Crew}
 use Rattle.desk.specs.declared.tokens.Worker.{Worker}
 use Rattle.desk.specs.Tokens.{Stays}
-use Rattle.worker_gate.specs.declared.counters.Counters.{Counters}
+use Rattle.gate_rules.specs.declared.counters.Counters.{Counters}
 use Rattle.worker_gate.specs.Moments.{HasToldMomentsFrom}
-use Rattle.worker_gate.specs.Slices.{counters_after, total, IsCourse}
+use Rattle.gate_rules.specs.Slices.{counters_after, total, IsCourse}
 
 -- a use that a worker named of a request, and whether its Report stands in the history
 pub record Use : Type 0 where

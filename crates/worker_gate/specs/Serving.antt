@@ -11,7 +11,7 @@ use Rattle.desk.specs.declared.tokens.Running.{Running}
 use Rattle.desk.specs.declared.tokens.Worker.{Worker}
 use Rattle.desk.specs.Replies.{SameRun}
 use Rattle.desk.specs.Tokens.{Stays}
-use Rattle.worker_gate.specs.declared.counters.Counters.{Counters}
+use Rattle.gate_rules.specs.declared.counters.Counters.{Counters}
 use Rattle.worker_gate.specs.declared.work.Turn.{Turn}
 use Rattle.worker_gate.specs.declared.work.Turn.TheVariants.{On, Over}
 use Rattle.worker_gate.specs.Moments.{HasToldMomentsFrom}

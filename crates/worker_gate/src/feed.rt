@@ -4,19 +4,19 @@ ghost use Rattle.fq_model.specs.declared.event.Call.TheVariants as call;
 ghost use Rattle.fq_model.specs.declared.event.Reply.{Reply};
 ghost use Rattle.history_lock.specs.Passes.{IsOf};
 ghost use Rattle.desk.specs.Tokens.{Stays, IsAnswered};
-ghost use Rattle.worker_gate.specs.declared.rows.Row.{Row};
+ghost use Rattle.gate_rules.specs.declared.rows.Row.{Row};
 ghost use Rattle.worker_gate.specs.Feeding.{Feeds, NotByKind, fed_stopped, fed_rest};
 
-use crate::kind_rule::{Kind, KindRule};
-use crate::rows::{Fed, Row};
 use desk::{DeskOf, Floor, Submitter};
 use fq_io::Clock;
 use fq_model::event::Cause;
 use fq_model::job::Job;
-use rival_policies::chooser::Chooser;
+use gate_rules::kind_rule::{Kind, KindRule};
+use gate_rules::rows::{Fed, Row};
 use sched_state::Refused;
 use std::collections::VecDeque;
 use std::sync::Wait;
+use tag_rules::chooser::Chooser;
 
 // Of which kind a row is submitted.
 pub(crate) trait KindFor<J> {

@@ -1,20 +1,20 @@
 //! Hands that work at once, each in a thread of its own.
 ghost use Rattle.worker_gate.specs.Hands.{AreHandsOf, HandDid, IsHandOf, HandsDid};
 
-use crate::cost_rule::{Cost, CostRule};
 use crate::feed::{OwnKind, feed_rows};
-use crate::gate::Gate;
-use crate::rows::Row;
 use crate::work::work;
 use desk::{DeskOf, Floor, Submitter, Worker};
 use fq_io::Clock;
 use fq_model::event::Cause;
 use fq_model::job::Job;
-use rival_policies::chooser::Chooser;
+use gate_rules::cost_rule::{Cost, CostRule};
+use gate_rules::gate::Gate;
+use gate_rules::rows::Row;
 use std::collections::VecDeque;
 use std::sync::Wait;
 use std::thread;
 use std::thread::Threads;
+use tag_rules::chooser::Chooser;
 
 /// What one thread of a pool does, and what is left of it then.
 pub enum Hand<J> {

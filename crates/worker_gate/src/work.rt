@@ -6,15 +6,15 @@ ghost use Rattle.worker_gate.specs.Running.{Worked};
 ghost use Rattle.desk.specs.declared.tokens.Worker.{Worker};
 ghost use Rattle.worker_gate.specs.Serving.{IsAtStart, HasNamed, HasRunSlices, HasRun, Serves, HasTurned};
 
-use crate::cost_rule::{Cost, CostRule};
-use crate::counters::NO_COUNTERS;
-use crate::gate::{Gate, Slice};
 use desk::{DeskOf, Floor, LiveRefusal, Running, Took, Worker};
 use fq_io::Clock;
 use fq_model::job::Job;
 use fq_model::limits::{GREATEST_COST, MOST_SLICES};
-use rival_policies::chooser::Chooser;
+use gate_rules::cost_rule::{Cost, CostRule};
+use gate_rules::counters::NO_COUNTERS;
+use gate_rules::gate::{Gate, Slice};
 use std::sync::Wait;
+use tag_rules::chooser::Chooser;
 
 // Reports what the request has used so far, or lets it go where the history has no room for it.
 fn report_use<J: Job + Drop, X: Chooser, K: Clock, R: Wait>(

@@ -1,8 +1,8 @@
 use Rattle.std.proofs.Common.{◌≡◌, map, option_map, sym, ap, ◌∙◌}
 use Rattle.std.specs.String.{string_bytes}
-use Rattle.fq_model.specs.Command.{gen_of_values}
-use Rattle.fq_model.specs.CommandOptions.{gen_options}
-use Rattle.fq_model.specs.Options.{values_in}
+use Rattle.program_model.specs.Command.{gen_of_values}
+use Rattle.program_model.specs.CommandOptions.{gen_options}
+use Rattle.program_model.specs.Options.{values_in}
 use Rattle.command_line.proofs.command.gen_command.Goals as goal
 
 pub returns-in_err-seed-clause-asked : goal.returns-in_err-seed-clause-asked

@@ -1,10 +1,10 @@
 use Rattle.std.proofs.Common.{◌≡◌, List, map, Some, option_map, sym, ap, ◌∙◌, arith}
 use Rattle.std.specs.String.{string_bytes}
-use Rattle.fq_model.specs.declared.command.Command.TheVariants.{Live}
-use Rattle.fq_model.specs.Lines.{Words}
-use Rattle.fq_model.specs.Options.{Value, values_in}
-use Rattle.fq_model.specs.Command.{value_at, run_options_of, history_print_at, run_of_values, live_of_values}
-use Rattle.fq_model.specs.CommandOptions.{run_options}
+use Rattle.program_model.specs.declared.command.Command.TheVariants.{Live}
+use Rattle.program_model.specs.Lines.{Words}
+use Rattle.program_model.specs.Options.{Value, values_in}
+use Rattle.program_model.specs.Command.{value_at, run_options_of, history_print_at, run_of_values, live_of_values}
+use Rattle.program_model.specs.CommandOptions.{run_options}
 use Rattle.command_line.proofs.Ranges.{none_behind}
 use Rattle.command_line.proofs.command.history_parts.Goals as goal
 

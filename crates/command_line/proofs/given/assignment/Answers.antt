@@ -1,6 +1,6 @@
 use Rattle.std.proofs.Common.{None, refl, lit<}
 use Rattle.std.proofs.lemmas.Str.Pattern.{split_once_first}
-use Rattle.fq_model.specs.Options.{is_equals}
+use Rattle.program_model.specs.Options.{is_equals}
 use Rattle.command_line.proofs.Lists.{none_passes}
 use Rattle.command_line.proofs.given.assignment.Goals as goal
 

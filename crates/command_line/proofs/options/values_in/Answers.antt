@@ -3,7 +3,7 @@ use Rattle.std.proofs.Math.ListN.{set, length-set, get_or-map}
 use Rattle.std.proofs.lemmas.List.{length-replicate}
 use Rattle.std.specs.String.{string_bytes}
 use Rattle.command_line.specs.declared.options.OptionRow as code
-use Rattle.fq_model.specs.Options.{Within, Required, OptionRow, number_for}
+use Rattle.program_model.specs.Options.{Within, Required, OptionRow, number_for}
 use Rattle.command_line.specs.Given.{seen_given}
 use Rattle.command_line.specs.Rows.{seen_row, has_name}
 use Rattle.command_line.proofs.Lists.{length_map, position-map}

@@ -1,8 +1,8 @@
 use Rattle.std.proofs.Common.{◌≡◌, ◌∙◌, ap, subst, sym, Ok, Option, ◌++◌, [], if◌then◌else◌}
 use Rattle.std.specs.Prelude.{OnOk}
 use Rattle.fq_model.specs.declared.event.Call.{Call}
-use Rattle.fq_model.specs.Script.{call_of_words}
-use Rattle.fq_model.specs.Texts.{reply_line}
+use Rattle.program_model.specs.Script.{call_of_words}
+use Rattle.program_model.specs.Texts.{reply_line}
 use Rattle.journal_text.specs.Body.{said_below, ReadsNext}
 use Rattle.journal_text.proofs.Bodies.{said_first}
 use Rattle.command_texts.proofs.Serving.{one_more_answered, line_is_told, no_line_is_told}

@@ -1,5 +1,5 @@
 use Rattle.std.proofs.Common.{◌≡◌, length}
-use Rattle.fq_model.specs.Script.{call_of_words}
+use Rattle.program_model.specs.Script.{call_of_words}
 use Rattle.journal_text.specs.Body.{said_below}
 use Rattle.command_texts.proofs.Serving.{IsPartAnswered}
 use Rattle.command_texts.proofs.serve.answer_all.Given as goal

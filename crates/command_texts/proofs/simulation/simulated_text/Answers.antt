@@ -1,4 +1,4 @@
-use Rattle.fq_model.specs.Simulated.{needed_entries}
+use Rattle.program_model.specs.Simulated.{needed_entries}
 use Rattle.trace_runner.specs.Plan.{too_long}
 use Rattle.trace_runner.proofs.Finished.{none_unfinished}
 use Rattle.command_texts.proofs.Reports.{few_entries, of_trace}

@@ -1,5 +1,5 @@
 use Rattle.std.proofs.Common.{arith, ◌≡◌, ◌+◌, drop, length, subst}
-use Rattle.fq_model.specs.Lines.{words_of}
+use Rattle.program_model.specs.Lines.{words_of}
 use Rattle.journal_text.proofs.WordEnds.{HasNoSpace, HasNoSpace-more, word_ended, word_open, word_pushed, word_all}
 use Rattle.journal_text.proofs.lines.split_words.Goals.{then-line-end-eq32+in_ok-push, else-line-end-eq32}
 use Rattle.journal_text.proofs.lines.split_words.Goals as goal

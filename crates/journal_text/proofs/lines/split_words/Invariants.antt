@@ -1,5 +1,5 @@
 use Rattle.std.proofs.Common.{◌≡◌, ◌≤◌, ◌++◌, drop}
-use Rattle.fq_model.specs.Lines.{words_of}
+use Rattle.program_model.specs.Lines.{words_of}
 use Rattle.journal_text.specs.Reading.{words_in}
 use Rattle.journal_text.proofs.WordEnds.{HasNoSpace}
 use Rattle.journal_text.proofs.lines.split_words.Given as goal

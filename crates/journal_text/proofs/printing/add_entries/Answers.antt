@@ -1,7 +1,7 @@
 use Rattle.std.proofs.Common.{arith, refl}
 use Rattle.fq_model.specs.declared.event.Act.TheVariants.{Submit}
 use Rattle.fq_model.specs.declared.event.Entry.{Entry}
-use Rattle.fq_model.specs.JournalText.{entries_text}
+use Rattle.program_model.specs.JournalText.{entries_text}
 use Rattle.journal_text.proofs.Kept.{kept_all, kept_more, kept_still, one_more, all_told}
 use Rattle.journal_text.proofs.printing.add_entries.Goals as goal
 
@@ -14,14 +14,14 @@ loop-entry-init c = record { so_far = refl; kept = kept_all c.args.text.now.item
 
 pub loop-entry-preserved : goal.loop-entry-preserved
 loop-entry-preserved c = record {
-  so_far = one_more entries_text c.args.past.now c.loop-entry.entry-index none _ c.loop-entry.text.items c.add_entry.new.out.items _ c.loop-entry-test.true refl
-      c.in_ok-add_entry.ensures.added c.loop-entry.invariant.so_far;
-  kept = kept_more c.args.text.now.items c.loop-entry.text.items _ c.add_entry.new.out.items c.loop-entry.invariant.kept c.in_ok-add_entry.ensures.added;
+  so_far = one_more entries_text c.args.past.now c.loop-entry.entry-index none _ c.loop-entry.text.items c.entry_line.new.out.items _ c.loop-entry-test.true refl
+      c.in_ok-entry_line.ensures.added c.loop-entry.invariant.so_far;
+  kept = kept_more c.args.text.now.items c.loop-entry.text.items _ c.entry_line.new.out.items c.loop-entry.invariant.kept c.in_ok-entry_line.ensures.added;
 }
 
-pub returns-in_err-add_entry-clause-kept : goal.returns-in_err-add_entry-clause-kept
-returns-in_err-add_entry-clause-kept c =
-    kept_still c.args.text.now.items c.loop-entry.text.items c.add_entry.new.out.items c.loop-entry.invariant.kept c.in_err-add_entry.ensures.unchanged
+pub returns-in_err-entry_line-clause-kept : goal.returns-in_err-entry_line-clause-kept
+returns-in_err-entry_line-clause-kept c =
+    kept_still c.args.text.now.items c.loop-entry.text.items c.entry_line.new.out.items c.loop-entry.invariant.kept c.in_err-entry_line.ensures.unchanged
 
 pub returns : goal.returns
 returns c = record {

@@ -1,5 +1,5 @@
 use Rattle.std.proofs.Common.{◌≡◌, ◌++◌, drop}
-use Rattle.fq_model.specs.JournalText.{entries_text}
+use Rattle.program_model.specs.JournalText.{entries_text}
 use Rattle.journal_text.specs.Printing.{IsKept}
 use Rattle.journal_text.proofs.printing.add_entries.Given as goal
 

@@ -1,6 +1,6 @@
 use Rattle.std.proofs.Common.{refl, ◌≡◌, ◌++◌, ◌+◌, [], drop, rules, arith, ap, ◌∙◌, append_assoc}
 use Rattle.std.specs.Prelude.{codes}
-use Rattle.fq_model.specs.JournalText.{kinds_text}
+use Rattle.program_model.specs.JournalText.{kinds_text}
 use Rattle.journal_text.specs.Printing.{row_text}
 use Rattle.journal_text.proofs.Kept.{kept_all, kept_more, kept_still}
 use Rattle.journal_text.proofs.Heads.{longer, next_kind}

@@ -1,6 +1,6 @@
 use Rattle.std.proofs.Common.{refl, ◌≡◌, ◌++◌, ◌+◌, [], ◌∷◌, length, drop, rules, arith, ap, ◌∙◌, append_assoc}
 use Rattle.std.specs.Prelude.{codes}
-use Rattle.fq_model.specs.JournalText.{tenants_text}
+use Rattle.program_model.specs.JournalText.{tenants_text}
 use Rattle.tenant_table.specs.Names.{names_of}
 use Rattle.journal_text.specs.Printing.{row_text}
 use Rattle.tenant_table.proofs.Tables.{length_names}

@@ -1,5 +1,5 @@
 use Rattle.std.proofs.Common.{◌≡◌, ◌≤◌, ◌++◌, length, drop}
-use Rattle.fq_model.specs.JournalText.{tenants_text}
+use Rattle.program_model.specs.JournalText.{tenants_text}
 use Rattle.tenant_table.specs.Names.{names_of}
 use Rattle.journal_text.specs.Printing.{IsKept}
 use Rattle.journal_text.proofs.printing.add_tenants.Given as goal

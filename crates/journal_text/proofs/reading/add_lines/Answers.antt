@@ -1,5 +1,5 @@
 use Rattle.std.proofs.Common.{◌≡◌, Ok, arith, refl, rules, true, false, sym, ◌∙◌, ap, subst}
-use Rattle.fq_model.specs.Lines.{words_of}
+use Rattle.program_model.specs.Lines.{words_of}
 use Rattle.journal_text.specs.Reading.{words_in, ends_before, with_head_line, Fails}
 use Rattle.journal_text.proofs.HeadLimits.{config_line-kept, with_head_line-kept}
 use Rattle.journal_text.proofs.Bodies.{opened_before, opened_at_end, added_to_head, fault_in_head}

@@ -1,7 +1,7 @@
 use Rattle.std.proofs.Common.{◌+◌, ◌≤◌, length}
-use Rattle.fq_model.specs.declared.version.Version.{Version}
-use Rattle.fq_model.specs.Document.{with_lines}
-use Rattle.fq_model.specs.Lines.{lines_of}
+use Rattle.program_model.specs.declared.version.Version.{Version}
+use Rattle.program_model.specs.Document.{with_lines}
+use Rattle.program_model.specs.Lines.{lines_of}
 use Rattle.journal_text.proofs.Bodies.{IsReadAt}
 use Rattle.journal_text.proofs.HeadLimits.{IsKept}
 use Rattle.journal_text.proofs.reading.add_lines.Given as goal

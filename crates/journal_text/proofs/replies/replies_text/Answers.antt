@@ -1,7 +1,7 @@
 use Rattle.std.proofs.Common.{arith, refl}
 use Rattle.fq_model.specs.declared.event.Reply.{Reply}
 use Rattle.fq_model.specs.declared.event.Reply.TheVariants.{Request}
-use Rattle.fq_model.specs.Texts.{replies_text}
+use Rattle.program_model.specs.Texts.{replies_text}
 use Rattle.journal_text.proofs.Kept.{one_more, all_told}
 use Rattle.journal_text.proofs.replies.replies_text.Goals as goal
 

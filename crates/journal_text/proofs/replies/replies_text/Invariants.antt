@@ -1,5 +1,5 @@
 use Rattle.std.proofs.Common.{◌≡◌, ◌++◌, drop}
-use Rattle.fq_model.specs.Texts.{replies_text}
+use Rattle.program_model.specs.Texts.{replies_text}
 use Rattle.journal_text.proofs.replies.replies_text.Given as goal
 
 abbrev pub invariant-loop-reply : goal.invariant-loop-reply

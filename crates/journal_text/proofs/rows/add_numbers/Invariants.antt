@@ -1,5 +1,5 @@
 use Rattle.std.proofs.Common.{◌≡◌, ◌++◌, drop}
-use Rattle.fq_model.specs.JournalText.{numbers_text}
+use Rattle.program_model.specs.JournalText.{numbers_text}
 use Rattle.journal_text.specs.Printing.{IsKept}
 use Rattle.journal_text.proofs.rows.add_numbers.Given as goal
 

@@ -1,6 +1,6 @@
 use Rattle.std.proofs.Common.{◌∙◌, ap, ◌++◌}
 use Rattle.std.specs.Prelude.{codes}
-use Rattle.fq_model.specs.ReportText.{lag_numbers}
+use Rattle.program_model.specs.ReportText.{lag_numbers}
 use Rattle.lag_report.proofs.Texts.{longer, all_counts}
 use Rattle.lag_report.proofs.printing.add_tenant.Goals as goal
 

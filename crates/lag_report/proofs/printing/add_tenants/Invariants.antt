@@ -1,5 +1,5 @@
 use Rattle.std.proofs.Common.{◌≡◌, ◌≤◌, ◌++◌, length, drop}
-use Rattle.fq_model.specs.ReportText.{tenant_lag_lines}
+use Rattle.program_model.specs.ReportText.{tenant_lag_lines}
 use Rattle.tenant_table.specs.Names.{names_of}
 use Rattle.lag_report.proofs.printing.add_tenants.Given as goal
 

@@ -1,5 +1,5 @@
 use Rattle.rival_policies.specs.Passes.{GoesIn, BeforeIn}
-use Rattle.rival_policies.proofs.Comparing.{not_so}
+use Rattle.tag_rules.proofs.Comparing.{not_so}
 use Rattle.rival_policies.proofs.Scanning.{order_in, takes_new, takes_old, takes_none}
 use Rattle.rival_policies.proofs.scan.with_next.Goals as goal
 use Rattle.rival_policies.proofs.scan.with_next.Goals.{else-comes_first-via-then-comes_first+else-takes, else-comes_first-via-else-comes_first}

@@ -1,5 +1,5 @@
 use Rattle.std.proofs.Common.{sym, subst}
-use Rattle.rival_policies.specs.Tables.{ChooserView}
+use Rattle.tag_rules.specs.Tables.{ChooserView}
 use Rattle.scheduler_tests.specs.ByTenant.{IsByTenant}
 use Rattle.scheduler_tests.proofs.ByTenant.{new_by_tenant, by_tenant_set}
 use Rattle.scheduler_tests.proofs.shared_tests.give.Goals as goal

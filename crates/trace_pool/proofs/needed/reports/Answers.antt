@@ -2,10 +2,10 @@ use Rattle.std.proofs.Common.{arith, add-one, ◌∙◌, ap, length}
 use Rattle.std.proofs.lemmas.List.Elements.{All-get_or}
 use Rattle.vt_fixed.specs.declared.limits.TheConstants.{GREATEST_COST}
 use Rattle.fq_model.specs.Limits.{IsWithin}
-use Rattle.fq_model.specs.PoolHistory.{row_reports}
+use Rattle.program_model.specs.PoolHistory.{row_reports}
 use Rattle.trace_runner.specs.Plan.{row_at}
 use Rattle.trace_runner.proofs.Sums.{sum_over_take}
-use Rattle.worker_gate.proofs.Stepping.{steps_count_up}
+use Rattle.gate_rules.proofs.Stepping.{steps_count_up}
 use Rattle.trace_pool.proofs.needed.reports.Goals as goal
 
 pub loop-row-preserved : goal.loop-row-preserved

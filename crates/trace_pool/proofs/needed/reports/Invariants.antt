@@ -1,6 +1,6 @@
 use Rattle.std.proofs.Common.{◌≡◌, ◌≤◌, ◌*◌, take}
-use Rattle.fq_model.specs.Courses.{sum_over}
-use Rattle.fq_model.specs.PoolHistory.{row_reports}
+use Rattle.program_model.specs.Courses.{sum_over}
+use Rattle.program_model.specs.PoolHistory.{row_reports}
 use Rattle.trace_pool.proofs.needed.reports.Given as goal
 
 abbrev pub invariant-loop-row : goal.invariant-loop-row

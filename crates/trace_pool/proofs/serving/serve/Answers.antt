@@ -1,7 +1,7 @@
 use Rattle.std.proofs.Common.{◌≡◌, ◌∙◌, ap, arith, max, subst}
 use Rattle.fq_model.specs.declared.limits.TheConstants.{LEAST_ENTRIES}
-use Rattle.fq_model.specs.Courses.{trace_config}
-use Rattle.fq_model.specs.PoolHistory.{needed_pool_entries}
+use Rattle.program_model.specs.Courses.{trace_config}
+use Rattle.program_model.specs.PoolHistory.{needed_pool_entries}
 use Rattle.trace_pool.specs.Parts.{AreRowsOf}
 use Rattle.trace_pool.specs.Places.{HoldsFrom}
 use Rattle.trace_pool.proofs.serving.serve.Goals as goal

@@ -2,7 +2,7 @@ use Rattle.std.proofs.Common.{◌≡◌, ◌∙◌, ap, refl, subst, sym}
 use Rattle.std.proofs.lemmas.Bool.{false≢true}
 use Rattle.fq_model.specs.History.{history_of}
 use Rattle.fq_model.specs.Rules.{IsLegal}
-use Rattle.fq_model.specs.PoolHistory.{IsPoolHistory, HasToldMoments, pool_config}
+use Rattle.program_model.specs.PoolHistory.{IsPoolHistory, HasToldMoments, pool_config}
 use Rattle.trace_pool.specs.Parts.{AreRowsOf, HaveDone}
 use Rattle.trace_pool.specs.Places.{HoldsFrom}
 use Rattle.trace_pool.proofs.Tokens.{are_of, are_all}

@@ -1,7 +1,7 @@
 use Rattle.std.proofs.Common.{◌∙◌, sym, ap}
 use Rattle.std.proofs.lemmas.List.{length-map}
 use Rattle.fq_model.specs.Names.{number_by_appearance, with_appearance}
-use Rattle.fq_model.specs.Trace.{last_row_moment}
+use Rattle.program_model.specs.Trace.{last_row_moment}
 use Rattle.trace_reader.specs.Reading.{trace_in}
 use Rattle.trace_reader.proofs.Generated.{row_added}
 use Rattle.trace_reader.proofs.generating.add_request.Goals as goal

@@ -1,5 +1,5 @@
 use Rattle.std.proofs.Common.{◌≡◌, ◌∙◌, length, ap, subst, arith}
-use Rattle.fq_model.specs.Generator.{after_draws, generated_requests, generated_trace}
+use Rattle.program_model.specs.Generator.{after_draws, generated_requests, generated_trace}
 use Rattle.trace_reader.proofs.Generated.{three_drawn, has_room, as_many_as_asked, request_more}
 use Rattle.trace_reader.proofs.generating.generated.Goals as goal
 

@@ -1,5 +1,5 @@
 use Rattle.std.proofs.Common.{◌≡◌, ◌*◌}
-use Rattle.fq_model.specs.Generator.{after_draws, generated_requests}
+use Rattle.program_model.specs.Generator.{after_draws, generated_requests}
 use Rattle.trace_reader.proofs.generating.generated.Given as goal
 
 abbrev pub invariant-loop-j : goal.invariant-loop-j

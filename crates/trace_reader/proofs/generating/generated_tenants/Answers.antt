@@ -1,5 +1,5 @@
 use Rattle.std.proofs.Common.{◌≡◌, ◌∙◌, arith}
-use Rattle.fq_model.specs.Generator.{generated_name}
+use Rattle.program_model.specs.Generator.{generated_name}
 use Rattle.trace_reader.proofs.GeneratedTenants.{name_spelled, name_absent, as_many_tenants, names_more, weights_more}
 use Rattle.trace_reader.proofs.generating.generated_tenants.Goals as goal
 

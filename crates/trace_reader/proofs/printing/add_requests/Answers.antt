@@ -1,7 +1,7 @@
 use Rattle.std.proofs.Common.{◌≡◌, ◌++◌, ◌+◌, drop, get_or, rules}
 use Rattle.std.proofs.lemmas.List.{at_drop_more}
-use Rattle.fq_model.specs.declared.trace.TraceRow.{TraceRow}
-use Rattle.fq_model.specs.TraceText.{request_record, request_records}
+use Rattle.program_model.specs.declared.trace.TraceRow.{TraceRow}
+use Rattle.program_model.specs.TraceText.{request_record, request_records}
 use Rattle.trace_reader.proofs.Printed.{longer}
 use Rattle.trace_reader.proofs.printing.add_requests.Goals as goal
 

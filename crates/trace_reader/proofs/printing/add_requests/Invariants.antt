@@ -1,5 +1,5 @@
 use Rattle.std.proofs.Common.{◌≡◌, ◌++◌, drop}
-use Rattle.fq_model.specs.TraceText.{request_records}
+use Rattle.program_model.specs.TraceText.{request_records}
 use Rattle.trace_reader.proofs.printing.add_requests.Given as goal
 
 abbrev pub invariant-loop-row : goal.invariant-loop-row

@@ -1,5 +1,5 @@
 use Rattle.std.proofs.Common.{◌≡◌, ◌++◌, ◌+◌, rules, arith}
-use Rattle.fq_model.specs.TraceText.{tenant_record, tenant_records}
+use Rattle.program_model.specs.TraceText.{tenant_record, tenant_records}
 use Rattle.tenant_table.specs.Names.{names_of, weights_of}
 use Rattle.trace_reader.proofs.Printed.{lines_from, next_tenant, longer}
 use Rattle.trace_reader.proofs.printing.tenants_text.Goals as goal

@@ -2,7 +2,7 @@ use Rattle.std.proofs.Common.{Bor, List, ℕ, ◌∙◌, ◌≤◌, length, refl
 use Rattle.csv.proofs.ReadFacts.{rows-end}
 use Rattle.csv.specs.Reading.{default_config, strip_bom}
 use Rattle.csv.specs.Records.{fields_of}
-use Rattle.fq_model.specs.TraceGrammar.{trace_of}
+use Rattle.program_model.specs.TraceGrammar.{trace_of}
 use Rattle.trace_reader.proofs.Reached.{one_read, at_start, next_at, place_at_most, first_fault, at_its_end, stripped}
 use Rattle.trace_reader.proofs.reading.add_all.Goals as goal
 

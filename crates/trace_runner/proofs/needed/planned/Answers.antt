@@ -1,5 +1,5 @@
 use Rattle.std.proofs.Common.{arith, add-one}
-use Rattle.fq_model.specs.Courses.{reports_below}
+use Rattle.program_model.specs.Courses.{reports_below}
 use Rattle.trace_runner.proofs.Sums.{sum_over_take}
 use Rattle.trace_runner.proofs.needed.planned.Goals as goal
 

@@ -1,5 +1,5 @@
 use Rattle.std.proofs.Common.{◌≡◌, ◌≤◌, take}
-use Rattle.fq_model.specs.Courses.{submitters}
+use Rattle.program_model.specs.Courses.{submitters}
 use Rattle.trace_runner.proofs.opening.submitters.Given as goal
 
 abbrev pub invariant-loop-row : goal.invariant-loop-row

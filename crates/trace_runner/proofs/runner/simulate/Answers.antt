@@ -1,8 +1,8 @@
 use Rattle.std.proofs.Common.{arith, ap, subst, sym, ◌≡◌, ◌≤◌, ◌∙◌, max}
 use Rattle.fq_model.specs.declared.limits.TheConstants.{LEAST_ENTRIES, MOST_ENTRIES}
-use Rattle.fq_model.specs.Courses.{submitters, trace_config}
+use Rattle.program_model.specs.Courses.{submitters, trace_config}
 use Rattle.fq_model.specs.History.{history_of}
-use Rattle.fq_model.specs.Simulated.{needed_entries, IsSimulated}
+use Rattle.program_model.specs.Simulated.{needed_entries, IsSimulated}
 use Rattle.sched_state.specs.Scheduler.{SchedulerView}
 use Rattle.trace_runner.specs.Agenda.{NothingNext, opened_agenda}
 use Rattle.trace_runner.specs.Plan.{IsPlan}

@@ -1,5 +1,5 @@
 use Rattle.std.proofs.Common.{◌-◌, length, max}
-use Rattle.fq_model.specs.Simulated.{needed_entries}
+use Rattle.program_model.specs.Simulated.{needed_entries}
 use Rattle.trace_runner.specs.Simulation.{Simulates}
 use Rattle.trace_runner.proofs.runner.simulate.Given as goal
 

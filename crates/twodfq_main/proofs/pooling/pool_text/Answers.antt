@@ -1,4 +1,4 @@
-use Rattle.fq_model.specs.PoolHistory.{needed_pool_entries}
+use Rattle.program_model.specs.PoolHistory.{needed_pool_entries}
 use Rattle.trace_pool.specs.Serving.{too_long}
 use Rattle.twodfq_main.proofs.Pools.{none_unfinished, of_pool}
 use Rattle.command_texts.proofs.Reports.{few_entries}

@@ -1,5 +1,5 @@
-use Rattle.twodfq_main.specs.Asked.{is_live}
-use Rattle.twodfq_main.proofs.Runs.{run_is, run_means}
+use Rattle.plain_commands.specs.Asked.{is_live}
+use Rattle.plain_commands.proofs.Runs.{run_is, run_means}
 use Rattle.twodfq_main.proofs.program.live.Goals as goal
 
 pub returns-clause-status : goal.returns-clause-status

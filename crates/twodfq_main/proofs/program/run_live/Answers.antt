@@ -1,5 +1,5 @@
-use Rattle.fq_model.specs.declared.command.Command.TheVariants.{Live}
-use Rattle.twodfq_main.proofs.Written.{text_ends}
+use Rattle.program_model.specs.declared.command.Command.TheVariants.{Live}
+use Rattle.plain_commands.proofs.Written.{text_ends}
 use Rattle.twodfq_main.proofs.program.run_live.Goals as goal
 
 pub returns-clause-ends : goal.returns-clause-ends

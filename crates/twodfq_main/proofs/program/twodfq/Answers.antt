@@ -1,8 +1,8 @@
 use Rattle.std.proofs.Common.{sym, ◌∙◌}
 use Rattle.command_texts.specs.Commands.{Untold}
-use Rattle.twodfq_main.specs.Asked.{is_served}
+use Rattle.plain_commands.specs.Asked.{is_served}
 use Rattle.twodfq_main.proofs.Asked.{plain_ends, live_ends}
-use Rattle.twodfq_main.proofs.Runs.{run_is, run_means}
+use Rattle.plain_commands.proofs.Runs.{run_is, run_means}
 use Rattle.twodfq_main.proofs.program.twodfq.Goals as goal
 
 pub returns-then-waits-clause-run : goal.returns-then-waits-clause-run

@@ -1,5 +1,5 @@
 use Rattle.std.proofs.Common.{None, Some, sym, ap, ◌∙◌, rules}
-use Rattle.fq_model.specs.Options.{number_for}
+use Rattle.program_model.specs.Options.{number_for}
 use Rattle.command_line.specs.Rows.{seen_values}
 use Rattle.command_line.proofs.Words.{number_among_words}
 use Rattle.command_line.proofs.options.Values.number_for.Goals as goal

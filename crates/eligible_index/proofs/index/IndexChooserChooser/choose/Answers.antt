@@ -2,8 +2,8 @@ use Rattle.std.proofs.Common.{ℕ, ◌<◌, ◌≡◌, ℤ, ◌≤ℤ◌, List, 
 use Rattle.std.proofs.lemmas.List.{get_or_read, get_or-set_same}
 use Rattle.fq_model.specs.declared.config.Policy.{Policy}
 use Rattle.fq_model.specs.Keys.{HeadKeys, Turn, IsChoice}
-use Rattle.rival_policies.specs.Tables.{Table, Has, NoneHas, RequestsDiffer, IsTableChoice}
-use Rattle.rival_policies.proofs.Comparing.{read}
+use Rattle.tag_rules.specs.Tables.{Table, Has, NoneHas, RequestsDiffer, IsTableChoice}
+use Rattle.tag_rules.proofs.Comparing.{read}
 use Rattle.eligible_index.specs.Trees.{TreesView, Follow, AreExact, IsFirstIn, HaveNoKey}
 use Rattle.eligible_index.specs.Index.{IndexView, trees_of}
 use Rattle.eligible_index.proofs.Kept.{keeps_chosen, follow_now}

@@ -1,5 +1,5 @@
 use Rattle.std.proofs.Common.{sym, subst, IfSome, List}
-use Rattle.rival_policies.specs.Tables.{IsNewTo}
+use Rattle.tag_rules.specs.Tables.{IsNewTo}
 use Rattle.eligible_index.specs.Trees.{TreesView}
 use Rattle.eligible_index.specs.Index.{IndexView, AreNoted}
 use Rattle.eligible_index.proofs.Kept.{keeps_set, differ_set, whole}

@@ -1,5 +1,5 @@
 use Rattle.std.proofs.Common.{arith, refl, sym, ap}
-use Rattle.sched_state.specs.Journal.{history}
+use Rattle.sched_journal.specs.Journal.{history}
 use Rattle.sched_state.proofs.CallLemmas.{unmoved, moved, entered, refused_close, answered_close}
 use Rattle.sched_state.proofs.TrackerLemmas.{close_tracks}
 use Rattle.sched_state.specs.Scheduler.{SchedulerView}

@@ -1,5 +1,5 @@
 use Rattle.std.proofs.Common.{ap, ◌∙◌}
-use Rattle.sched_state.specs.Journal.{history}
+use Rattle.sched_journal.specs.Journal.{history}
 use Rattle.sched_state.proofs.CallLemmas.{entered, moved, legal_done, answered_done}
 use Rattle.waiting_lists.specs.Lists.{ListsView}
 use Rattle.sched_state.specs.Lists.{jobs_in}

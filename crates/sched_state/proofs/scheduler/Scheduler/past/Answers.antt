@@ -2,7 +2,7 @@ use Rattle.std.proofs.Common.{subst}
 use Rattle.fq_model.specs.History.{history_of}
 use Rattle.sched_state.specs.Lists.{HoldsWaiting}
 use Rattle.sched_state.specs.Scheduler.{SchedulerView}
-use Rattle.sched_state.specs.Journal.{history}
+use Rattle.sched_journal.specs.Journal.{history}
 use Rattle.sched_state.proofs.ListLemmas.{holds_waiting}
 use Rattle.sched_state.proofs.scheduler.Scheduler.past.Goals as goal
 

@@ -3,7 +3,7 @@ use Rattle.std.proofs.Common.{◌≡◌, ◌∙◌, refl, sym, ap, Some}
 use Rattle.fq_model.specs.declared.event.Cause.{Cause}
 use Rattle.fq_model.specs.declared.event.Cause.TheVariants as cause
 use Rattle.fq_model.specs.declared.config.Config.{Config}
-use Rattle.sched_state.specs.Journal.{history}
+use Rattle.sched_journal.specs.Journal.{history}
 use Rattle.sched_state.proofs.CallLemmas.{unmoved, moved, entered, refused, report_refused_by, legal_report, answered_report}
 use Rattle.sched_state.proofs.RefusalLemmas.{report_refused}
 use Rattle.waiting_lists.specs.Lists.{ListsView}

@@ -1,7 +1,7 @@
 use Rattle.std.proofs.Common.{◌≡◌, ◌∙◌, sym, ap, None}
 use Rattle.std.specs.FinMap as map
 use Rattle.fq_model.specs.Rules.{submit_refusal}
-use Rattle.sched_state.specs.Journal.{history}
+use Rattle.sched_journal.specs.Journal.{history}
 use Rattle.sched_state.specs.Scheduler.{SchedulerView}
 use Rattle.sched_state.proofs.CallLemmas.{unmoved, moved, entered, refused, legal_submit, answered_submit}
 use Rattle.sched_state.proofs.scheduler.Scheduler.submit.Given as given

@@ -5,7 +5,7 @@ use Rattle.fq_model.specs.History.{waiting, pool_at}
 use Rattle.fq_model.specs.Rules.{take_refusal}
 use Rattle.charge_book.proofs.Refusals.{busy, take_refused}
 use Rattle.std.specs.FinMap as map
-use Rattle.sched_state.specs.Journal.{history}
+use Rattle.sched_journal.specs.Journal.{history}
 use Rattle.sched_state.specs.Scheduler.{SchedulerView}
 use Rattle.sched_state.proofs.CallLemmas.{unmoved, moved, entered, refused, retired, rested, took}
 use Rattle.sched_state.proofs.scheduler.Scheduler.take.Given as given

@@ -1,7 +1,7 @@
 use Rattle.std.proofs.Common.{◌≡◌, ◌∙◌, sym, ap, None}
 use Rattle.fq_model.specs.Rules.{weight_refusal}
 use Rattle.waiting_lists.specs.Lists.{ListsView}
-use Rattle.sched_state.specs.Journal.{history}
+use Rattle.sched_journal.specs.Journal.{history}
 use Rattle.sched_state.specs.Lists.{jobs_in}
 use Rattle.sched_state.specs.Scheduler.{SchedulerView}
 use Rattle.sched_state.proofs.CallLemmas.{unmoved, moved, entered, refused, legal_weight, answered_weight}

@@ -2,8 +2,8 @@ use Rattle.std.proofs.Common.{◌≡◌, ◌≤◌, ◌∙◌, refl, sym, ap, su
 use Rattle.fq_model.specs.declared.event.Act.TheVariants.{Workers}
 use Rattle.fq_model.specs.Rules.{IsLegal, workers_refusal}
 use Rattle.fq_laws.specs.Words.{one_more}
-use Rattle.rival_policies.specs.Tables.{Setting}
-use Rattle.sched_state.specs.Journal.{history}
+use Rattle.tag_rules.specs.Tables.{Setting}
+use Rattle.sched_journal.specs.Journal.{history}
 use Rattle.sched_state.proofs.CallLemmas.{unmoved, moved, entered, refused, legal_workers, answered_workers}
 use Rattle.sched_state.proofs.TrackerLemmas.{workers_tracks}
 use Rattle.sched_state.specs.Scheduler.{SchedulerView}

@@ -2,7 +2,7 @@ use Rattle.std.proofs.Common.{ℕ, arith, refl}
 use Rattle.fq_model.specs.declared.event.Act.TheVariants.{Done}
 use Rattle.fq_model.specs.Charge.{completed}
 use Rattle.fq_laws.specs.Words.{one_more}
-use Rattle.sched_state.specs.Journal.{history}
+use Rattle.sched_journal.specs.Journal.{history}
 use Rattle.sched_state.specs.Tracker.{TracksBut}
 use Rattle.sched_state.proofs.ChargeLemmas.{finish_step, step_sized, step_charge}
 use Rattle.sched_state.proofs.CostLemmas.{costs_learned}

@@ -1,7 +1,7 @@
 use Rattle.std.proofs.Common.{ℕ, arith, refl}
 use Rattle.fq_model.specs.declared.event.Act.TheVariants.{Report}
 use Rattle.fq_laws.specs.Words.{one_more}
-use Rattle.sched_state.specs.Journal.{history}
+use Rattle.sched_journal.specs.Journal.{history}
 use Rattle.sched_state.specs.Tracker.{TracksBut}
 use Rattle.sched_state.proofs.ChargeLemmas.{report_step, step_sized, step_charge}
 use Rattle.sched_state.proofs.TrackerLemmas.{report_but, some_but, renewed}

@@ -1,7 +1,7 @@
 use Rattle.std.proofs.Common.{ℕ, refl}
 use Rattle.fq_model.specs.declared.event.Act.TheVariants.{Weight}
 use Rattle.fq_laws.specs.Words.{one_more}
-use Rattle.sched_state.specs.Journal.{history}
+use Rattle.sched_journal.specs.Journal.{history}
 use Rattle.sched_state.specs.Tracker.{TracksBut}
 use Rattle.sched_state.proofs.TrackerLemmas.{reweigh_but, some_but, renewed}
 use Rattle.sched_state.proofs.tracker.Tracker.reweigh.Given as given

@@ -4,7 +4,7 @@ use Rattle.fq_model.specs.Rules.{done_refusal}
 use Rattle.charge_book.specs.Book.{use_refusal}
 use Rattle.charge_book.specs.Refusal.{cause_of}
 use Rattle.charge_book.proofs.Refusals.{cause_if, use_refused}
-use Rattle.sched_state.specs.Journal.{history}
+use Rattle.sched_journal.specs.Journal.{history}
 use Rattle.sched_state.proofs.RefusalLemmas.{told_error}
 use Rattle.sched_state.proofs.tracker.Tracker.row_for.Given as given
 use Rattle.sched_state.proofs.tracker.Tracker.row_for.Goals as goal

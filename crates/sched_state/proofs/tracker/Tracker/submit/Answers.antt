@@ -5,7 +5,7 @@ use mir.Val.{to_z, of_z}
 use Rattle.std.specs.Int.{w128}
 use Rattle.fq_model.specs.declared.event.Entry.{Entry}
 use Rattle.fq_laws.specs.Words.{one_more}
-use Rattle.sched_state.specs.Journal.{history}
+use Rattle.sched_journal.specs.Journal.{history}
 use Rattle.sched_state.specs.Tracker.{TracksBut, submit_act}
 use Rattle.tag_rules.specs.Accounts.{raised}
 use Rattle.waiting_lists.specs.Lists.{ListsView, list_of}

@@ -5,7 +5,7 @@ use Rattle.fq_model.specs.Charge.{completed}
 use Rattle.fq_model.specs.Rules.{IsChosen}
 use Rattle.fq_laws.specs.Words.{one_more}
 use Rattle.waiting_lists.specs.Lists.{ListsView}
-use Rattle.sched_state.specs.Journal.{history}
+use Rattle.sched_journal.specs.Journal.{history}
 use Rattle.sched_state.specs.Lists.{jobs_in}
 use Rattle.sched_state.specs.Tracker.{TracksBut}
 use Rattle.sched_state.proofs.ListLemmas.{taken}

@@ -2,7 +2,7 @@ use Rattle.std.proofs.Common.{◌≡◌, ◌<◌, sym, subst, ap, arith, List, �
 use mir.Syntax.{w128}
 use Rattle.std.proofs.lemmas.Int.{to_z-of_z}
 use Rattle.fq_model.specs.Keys.{Turn, IsChoice}
-use Rattle.rival_policies.specs.Tables.{ChooserView, Has}
+use Rattle.tag_rules.specs.Tables.{ChooserView, Has}
 use Rattle.shared_order.specs.Heads.{HeadView}
 use Rattle.shared_order.specs.Blocks.{all_heads}
 use Rattle.shared_order.specs.Search.{AreInOrder}

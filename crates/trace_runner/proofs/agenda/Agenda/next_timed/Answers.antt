@@ -1,6 +1,6 @@
 use Rattle.std.proofs.Common.{◌≡◌, ◌≤◌, ◌<◌, subst, Some, arith}
 use Rattle.std.specs.Prelude.{slice_get}
-use Rattle.fq_model.specs.declared.trace.TraceRow.{TraceRow}
+use Rattle.program_model.specs.declared.trace.TraceRow.{TraceRow}
 use Rattle.trace_runner.specs.Staff.{work_moment}
 use Rattle.trace_runner.proofs.Order.{timed_work, timed_row, all_later, read_row, read_same, past_rows}
 use Rattle.trace_runner.proofs.agenda.Agenda.next_timed.Goals as goal

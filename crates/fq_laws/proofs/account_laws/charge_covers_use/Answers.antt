@@ -1,5 +1,0 @@
-use Rattle.fq_laws.proofs.Charge.Requests.{charge_covers_use}
-use Rattle.fq_laws.proofs.account_laws.charge_covers_use.Goals as goal
-
-pub returns : goal.returns
-returns c = charge_covers_use

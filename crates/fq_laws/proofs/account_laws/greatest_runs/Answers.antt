@@ -1,5 +1,0 @@
-use Rattle.fq_laws.proofs.Charge.Estimates.{greatest_first, greatest_next}
-use Rattle.fq_laws.proofs.account_laws.greatest_runs.Goals as goal
-
-pub returns : goal.returns
-returns c = λ initial. (greatest_first initial, λ cost costs. greatest_next initial cost costs)

@@ -1,5 +1,0 @@
-use Rattle.fq_laws.proofs.Keys.Tags.{start_within}
-use Rattle.fq_laws.proofs.account_laws.start_limit.Goals as goal
-
-pub returns : goal.returns
-returns c = start_within

@@ -1,5 +1,0 @@
-use Rattle.fq_laws.proofs.Time.Clock.{virtual_time_low}
-use Rattle.fq_laws.proofs.account_laws.time_limit.Goals as goal
-
-pub returns : goal.returns
-returns c = virtual_time_low

@@ -1,5 +1,0 @@
-use Rattle.fq_laws.proofs.Rules.Answers.{answer_legal}
-use Rattle.fq_laws.proofs.laws.answers_keep_legality.Goals as goal
-
-pub returns : goal.returns
-returns c = λ C P H c r lim l x. answer_legal C P c r H lim l x

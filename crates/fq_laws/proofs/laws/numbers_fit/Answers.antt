@@ -1,5 +1,0 @@
-use Rattle.fq_laws.proofs.History.Numbers.{submitted_small}
-use Rattle.fq_laws.proofs.laws.numbers_fit.Goals as goal
-
-pub returns : goal.returns
-returns c = submitted_small

@@ -1,5 +1,0 @@
-use Rattle.fq_laws.proofs.Keys.Choices.{chosen_one, chosen_keys}
-use Rattle.fq_laws.proofs.laws.one_choice.Goals as goal
-
-pub returns : goal.returns
-returns c = λ C P m i t u k l a b. (chosen_one C P m i t u k l a b, chosen_keys C P m i t u k l a b)

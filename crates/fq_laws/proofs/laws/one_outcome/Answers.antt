@@ -1,5 +1,0 @@
-use Rattle.fq_laws.proofs.Outcome.{outcome_one}
-use Rattle.fq_laws.proofs.laws.one_outcome.Goals as goal
-
-pub returns : goal.returns
-returns c = outcome_one

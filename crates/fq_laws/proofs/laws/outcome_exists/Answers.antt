@@ -1,5 +1,0 @@
-use Rattle.fq_laws.proofs.Outcome.{outcome_exists}
-use Rattle.fq_laws.proofs.laws.outcome_exists.Goals as goal
-
-pub returns : goal.returns
-returns c = outcome_exists

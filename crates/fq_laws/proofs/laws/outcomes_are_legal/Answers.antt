@@ -1,5 +1,0 @@
-use Rattle.fq_laws.proofs.Outcome.{outcome_legal}
-use Rattle.fq_laws.proofs.laws.outcomes_are_legal.Goals as goal
-
-pub returns : goal.returns
-returns c = outcome_legal

@@ -1,5 +1,0 @@
-use Rattle.fq_laws.proofs.Rules.Limits.{room_now}
-use Rattle.fq_laws.proofs.laws.room_remains.Goals as goal
-
-pub returns : goal.returns
-returns c = room_now

@@ -1,5 +1,0 @@
-use Rattle.fq_laws.proofs.History.Workers.{runs_worker_known}
-use Rattle.fq_laws.proofs.laws.runners_known.Goals as goal
-
-pub returns : goal.returns
-returns c = runs_worker_known

@@ -1,6 +1,0 @@
-use Rattle.std.proofs.Common.{◌≡◌, drop}
-use Rattle.fq_model.specs.Numbers.{with_digits}
-use Rattle.fq_model.proofs.words.many_digits.Given as goal
-
-abbrev pub invariant-loop-byte : goal.invariant-loop-byte
-invariant-loop-byte l = with_digits l.number (drop l.byte-index l.text) ≡ with_digits 0 l.text

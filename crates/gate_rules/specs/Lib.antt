@@ -1,0 +1,4 @@
+pub mod Counting
+pub mod Rules
+pub mod Slices
+pub mod Stepping

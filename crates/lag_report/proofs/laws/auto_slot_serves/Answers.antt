@@ -1,5 +1,0 @@
-use Rattle.lag_report.proofs.Doublings.{auto_slot_serves}
-use Rattle.lag_report.proofs.laws.auto_slot_serves.Goals as goal
-
-pub returns : goal.returns
-returns c = auto_slot_serves

@@ -1,5 +1,0 @@
-use Rattle.lag_report.proofs.Ranks.{one_at_rank}
-use Rattle.lag_report.proofs.laws.one_at_rank.Goals as goal
-
-pub returns : goal.returns
-returns c = one_at_rank

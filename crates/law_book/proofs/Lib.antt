@@ -1,0 +1,4 @@
+mod Telling
+mod Apart
+mod Exists
+mod Entries

@@ -1,0 +1,5 @@
+use Rattle.fq_laws.proofs.Time.Clock.{virtual_time_rises}
+use Rattle.law_book.proofs.accounts.time_rises.Goals as goal
+
+pub returns : goal.returns
+returns c = virtual_time_rises

@@ -1,0 +1,4 @@
+pub mod Names
+pub mod Journals
+pub mod Traces
+pub mod Simulations

@@ -1,0 +1,83 @@
+//! Laws of charges, estimates, virtual time and tags.
+ghost use Rattle.fq_laws.specs.AccountLaws.{ChargeSteps, FinalCharge, ChargeCoversUse, ChargeLimit, TenantSteps, TenantLimits, EstimateRange, GreatestRuns, TimeSteps, TimeRises, TimeLimit, IdleSteps, IdleLimit, BaseRises, TagCatchesUp, StartLimit};
+
+/// A Take charges its request the estimate, a Report raises the charge to the use, and a Done makes it the cost.
+pub fn charge_steps()
+    ensures { ChargeSteps }
+{}
+
+/// The charge of a request that is done is its measured cost.
+pub fn final_charge()
+    ensures { FinalCharge }
+{}
+
+/// A running request is charged its greatest reported use at least.
+pub fn charge_covers_use()
+    ensures { ChargeCoversUse }
+{}
+
+/// A request is never charged more than the greatest cost.
+pub fn charge_limit()
+    ensures { ChargeLimit }
+{}
+
+/// What each act changes of a tenant's open requests, its virtual charge and its net charge.
+pub fn tenant_steps()
+    ensures { TenantSteps }
+{}
+
+/// A tenant has no more open requests than were submitted, and is charged the greatest cost of each at most.
+pub fn tenant_limits()
+    ensures { TenantLimits }
+{}
+
+/// Each estimate is at least 1 and at most the greatest cost, whichever the estimator.
+pub fn estimate_range()
+    ensures { EstimateRange }
+{}
+
+/// The greatest decayed cost can be kept as one number for each tenant and kind.
+pub fn greatest_runs()
+    ensures { GreatestRuns }
+{}
+
+/// Virtual time makes one advance from each entry to the next.
+pub fn time_steps()
+    ensures { TimeSteps }
+{}
+
+/// Virtual time never falls.
+pub fn time_rises()
+    ensures { TimeRises }
+{}
+
+/// Virtual time, in steps, is at most 64 units for each microsecond.
+pub fn time_limit()
+    ensures { TimeLimit }
+{}
+
+/// The virtual time that passed while a tenant was not active stays while the tenant is active, and else moves along
+/// with virtual time.
+pub fn idle_steps()
+    ensures { IdleSteps }
+{}
+
+/// It is at most virtual time.
+pub fn idle_limit()
+    ensures { IdleLimit }
+{}
+
+/// What the tag of a tenant adds to its virtual charge never falls.
+pub fn base_rises()
+    ensures { BaseRises }
+{}
+
+/// A tenant that submits with nothing waiting is not behind virtual time.
+pub fn tag_catches_up()
+    ensures { TagCatchesUp }
+{}
+
+/// Where a tenant starts fits 128 bits by far.
+pub fn start_limit()
+    ensures { StartLimit }
+{}

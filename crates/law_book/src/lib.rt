@@ -1,0 +1,17 @@
+//! The laws: what follows from the definitions, and from what each part promises. The contract of each function is a law,
+//! and its body is empty.
+#![tactic(auto)]
+
+pub mod accounts;
+pub mod histories;
+pub mod journals;
+pub mod leaves;
+pub mod levels;
+pub mod names;
+pub mod pools;
+pub mod reports;
+pub mod rounding;
+pub mod services;
+pub mod simulations;
+pub mod slices;
+pub mod traces;

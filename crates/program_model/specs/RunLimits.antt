@@ -1,0 +1,11 @@
+-- The limits of the numbers that a trace is run with.
+use Rattle.std.specs.Prelude.{◌≤◌}
+use Rattle.program_model.specs.declared.trace.RunOptions.{RunOptions}
+use Rattle.fq_model.specs.Limits.{IsWithin}
+use Rattle.vt_fixed.specs.declared.limits.TheConstants.{GREATEST_COST, MOST_WORKERS}
+
+-- the numbers that a trace is run with are within their limits
+pub record AreInRange (O : RunOptions) : Type 0 where
+  pub workers : IsWithin 1 MOST_WORKERS O.workers
+  pub initial : IsWithin 1 GREATEST_COST O.initial
+  pub refresh : O.refresh ≤ GREATEST_COST

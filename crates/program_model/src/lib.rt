@@ -1,0 +1,9 @@
+//! What the program is asked for, what scripts, journals and traces hold, and what it writes: what all of these mean.
+#![tactic(auto)]
+
+pub mod command;
+pub mod compare;
+pub mod fault;
+pub mod numbers;
+pub mod trace;
+pub mod version;

@@ -1,0 +1,9 @@
+//! The journal of a scheduler: its entries in order of time, what they come to in numbers, and what they leave room for.
+#![tactic(auto)]
+
+mod history;
+mod journal;
+mod tally;
+
+pub use history::History;
+pub use journal::Journal;

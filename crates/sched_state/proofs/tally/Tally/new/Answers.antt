@@ -1,5 +1,0 @@
-use Rattle.sched_state.proofs.TallyLemmas.{tally_nil}
-use Rattle.sched_state.proofs.tally.Tally.new.Goals as goal
-
-pub returns : goal.returns
-returns c = tally_nil

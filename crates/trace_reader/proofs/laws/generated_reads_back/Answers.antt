@@ -1,5 +1,0 @@
-use Rattle.trace_reader.proofs.Generated.{generated_read}
-use Rattle.trace_reader.proofs.laws.generated_reads_back.Goals as goal
-
-pub returns : goal.returns
-returns c = λ seed tenants requests within few. generated_read seed tenants requests within.0 within.1 few

@@ -1,5 +1,0 @@
-use Rattle.trace_runner.proofs.Only.{one_simulated}
-use Rattle.trace_runner.proofs.laws.one_simulated.Goals as goal
-
-pub returns : goal.returns
-returns c = λ T O H K l s t. one_simulated T O H K l.few s t

@@ -1,5 +1,0 @@
-use Rattle.vt_fixed.proofs.Bounds.{length_is_least}
-use Rattle.vt_fixed.proofs.laws.length_covers.Goals as goal
-
-pub returns : goal.returns
-returns c = length_is_least

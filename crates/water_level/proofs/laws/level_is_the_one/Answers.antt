@@ -1,5 +1,0 @@
-use Rattle.water_level.proofs.TheOne.{the_one}
-use Rattle.water_level.proofs.laws.level_is_the_one.Goals as goal
-
-pub returns : goal.returns
-returns c = the_one

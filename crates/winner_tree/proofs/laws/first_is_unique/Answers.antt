@@ -1,5 +1,0 @@
-use Rattle.winner_tree.proofs.Orders as orders
-use Rattle.winner_tree.proofs.laws.first_is_unique.Goals as goal
-
-pub returns : goal.returns
-returns c = orders.first_is_unique
