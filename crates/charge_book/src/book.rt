@@ -1,5 +1,5 @@
 //! The book of running requests and net charges.
-ghost use Rattle.std.specs.Prelude.{◌≡◌, ◌+◌, ◌-◌, ◌<◌, ◌≤◌, ◌^◌, pos, length, Some, None, IfOk, IfErr, OnErr, OnOk, replicate, slice_index, slice_set};
+ghost use Rattle.std.specs.Prelude.{◌≡◌, ◌+◌, ◌-◌, ◌<◌, ◌≤◌, ◌^◌, pos, length, Some, None, IfOk, IfErr, OnErr, OnOk, replicate, slice_index};
 ghost use Rattle.vt_fixed.specs.Rounding.{length_of};
 ghost use Rattle.fq_laws.specs.Changes.{length_change};
 ghost use Rattle.charge_book.specs.Rows.{row_charge};

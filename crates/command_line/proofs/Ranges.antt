@@ -4,7 +4,7 @@ use Rattle.std.specs.Option.{option_and_then}
 use Rattle.std.proofs.lemmas.Bool.{ltb-false}
 use Rattle.std.proofs.lemmas.List.{get_or_past}
 use Rattle.program_model.specs.Command.{value_at}
-use Rattle.fq_model.specs.Numbers.{number_of}
+use Rattle.program_model.specs.Numbers.{number_of}
 use Rattle.program_model.specs.Lines.{Words}
 use Rattle.program_model.specs.Options.{Values, Within, Among, Absent, Required, Nothing, Default, OptionRow, Given, Value, options_of, are_known, texts_for, is_value, within, number_among, number_for, absent_value, value_of, values_of, values_in}
 use Rattle.command_line.specs.Rows.{IsWithin, IsValueOf, AreValuesOf}

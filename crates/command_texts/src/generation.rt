@@ -1,7 +1,6 @@
 //! `gen`: a generated trace, or the summary of its simulated history.
 ghost use Rattle.std.specs.Prelude.{◌≡◌, ◌≤◌, MatchResult};
 ghost use Rattle.fq_model.specs.declared.limits.TheConstants.{MOST_TENANTS, MOST_ROWS};
-ghost use Rattle.program_model.specs.Command.{default_run_options};
 ghost use Rattle.program_model.specs.Generator.{generated_trace};
 ghost use Rattle.fq_model.specs.Limits.{IsWithin};
 ghost use Rattle.command_texts.specs.Commands.{IsGeneratedOutput};

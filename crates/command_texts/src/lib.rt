@@ -1,4 +1,5 @@
-//! What a command writes for an input, or why it has nothing to write. Nothing here reads or writes, or starts a thread.
+//! What a command writes for an input, or why it has nothing to write. Nothing here reads or writes, or starts a
+//! thread.
 //!
 //! Large values are let go by `drop`: what that does is then proved once, and not anew on each path of each function.
 #![tactic(auto)]

@@ -22,9 +22,9 @@ pub struct Served {
     pub history: History,
 }
 
-/// Opens a scheduler, and makes the calls of a script's body on it as they are read. Their replies are kept as text if
-/// they are told. Where a line is no call, nothing is left of the calls before it. An answer that memory ran out says nothing
-/// of the text.
+/// Opens a scheduler, and makes the calls of a script's body on it as they are read. Their replies are kept as text
+/// if they are told. Where a line is no call, nothing is left of the calls before it. An answer that memory ran out
+/// says nothing of the text.
 pub fn serve<'a, X: Chooser + Drop>(
     alloc: Global,
     config: Checked,

@@ -1,4 +1,5 @@
--- A worker's own entries tell what it runs, since in a staffed history all Takes and Dones of a worker are its caller's.
+-- A worker's own entries tell what it runs, since in a staffed history all Takes and Dones of a worker are its
+-- caller's.
 use Rattle.std.proofs.Common.{◌≡◌, ℕ, ◌+◌, ◌==◌, eqb, cond, Bool, true, false, Option, Some, None, List, [], ◌∷◌, ◌++◌, sym, ap, ◌∙◌, refl, inl, inr, eq-eqb}
 use Rattle.std.proofs.lemmas.Bool.{eqb-false, eqb-true}
 use Rattle.std.proofs.lemmas.List.Elements.{filter-append}

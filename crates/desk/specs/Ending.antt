@@ -84,7 +84,8 @@ HasTakenIn lock (token ∷ tokens) workers pass = (between : PassView Crew)
     × HasJoined lock (λ (t : Submitter). t.pass) token.pass tokens between
     × HasJoined lock (λ (t : Worker). t.pass) between workers pass
 
--- The last moment of a desk's lock, when no call is under way: the pass that took in all that were handed in is one of its
+-- The last moment of a desk's lock, when no call is under way: the pass that took in all that were handed in is one of
+-- its
 -- views, and so many turns were drawn and so many served, modulo 2^64. J is what contracts see of a job
 pub record LastMoment (J : Type 0) (lock : LockView Crew) (submitters : List Submitter) (workers : List Worker)
     (drawn served : ℕ) : Type 0 where

@@ -43,7 +43,8 @@ abbrev pub HasMade : ℕ → List Submitter → Type 0
 HasMade callers [] = ⊥
 HasMade callers (token ∷ tokens) = (token.pass.made + 1 ≡ callers) × (token.pass.ended ≡ [])
 
--- All tokens of a desk that was just opened: submitter j has number j, and worker i the number that follows those of the submitters by i
+-- All tokens of a desk that was just opened: submitter j has number j, and worker i the number that follows those of
+-- the submitters by i
 pub record AreTokens (config : Config) (submitters : ℕ) (lock : LockView Crew) (first : List Submitter) (second : List Worker) : Type 0 where
   pub frame : lock.frame ≡ record { config = config; submitters = submitters }
   pub submitters_are : AreSubmitters lock 0 first

@@ -34,7 +34,8 @@ pub record Stays (lock : LockView Crew) (old new : PassView Crew) : Type 0 where
   pub made : new.made ≡ old.made
   pub ended : new.ended ≡ old.ended
 
--- The call is answered so at one history P, which begins with all that the pass had seen; it has then seen what follows P, and its own entries have gained the new one, if there is one
+-- The call is answered so at one history P, which begins with all that the pass had seen; it has then seen what follows
+-- P, and its own entries have gained the new one, if there is one
 pub record IsAnswered (crew : Crew) (old : PassView Crew) (c : Call) (reply : Reply) (new : PassView Crew) : Type 0 where
   pub P : List Entry
   pub begins : IsPrefix old.seen P

@@ -8,10 +8,10 @@ pub struct Heard {
     news: u64,
 }
 
-// A ring writes `news` and then reads `sleepers`; a sleeper writes `sleepers` and then reads `news`, and the system looks
-// at `news` once more before it lets it sleep. All threads see these in one order, so either the ring finds the sleeper
-// or the sleeper the news, and no ring is lost. The system looks at the low 32 bits alone, which is enough: each ring
-// belongs to an entry of the history, which has fewer than 2^32.
+// A ring writes `news` and then reads `sleepers`; a sleeper writes `sleepers` and then reads `news`, and the system
+// looks at `news` once more before it lets it sleep. All threads see these in one order, so either the ring finds the
+// sleeper or the sleeper the news, and no ring is lost. The system looks at the low 32 bits alone, which is enough:
+// each ring belongs to an entry of the history, which has fewer than 2^32.
 /// Counts news, modulo 2^64, and wakes those that sleep until there is some.
 #[derive(Drop)]
 pub(crate) struct Bell {

@@ -218,7 +218,8 @@ impl<J: Job + Drop, X: Chooser> DeskOf<Floor<J, X>> {
         }
     }
 
-    /// The request has ended, and this is its measured cost, in microseconds. Where that is refused the request runs on.
+    /// The request has ended, and this is its measured cost, in microseconds. Where that is refused the request runs
+    /// on.
     pub fn done<R: Wait>(
         &self,
         rt: &R,

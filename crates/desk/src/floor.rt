@@ -12,15 +12,15 @@ use std::alloc::{AllocError, Global};
 use std::marker::Model;
 use tag_rules::chooser::Chooser;
 
-/// What no call changes: what the scheduler was opened with, and how many submitters there are. No value of it is ever made:
-/// it stands in contracts alone.
+/// What no call changes: what the scheduler was opened with, and how many submitters there are. No value of it is
+/// ever made: it stands in contracts alone.
 pub struct Crew {
     pub config: Checked,
     pub submitters: u32,
 }
 
-/// A scheduler and the number of its submitters. Submitters come before workers in the numbers of callers: with s submitters
-/// these are the callers 0 to s - 1, and worker i is the caller s + i.
+/// A scheduler and the number of its submitters. Submitters come before workers in the numbers of callers: with s
+/// submitters these are the callers 0 to s - 1, and worker i is the caller s + i.
 #[derive(Drop)]
 pub struct Floor<J: Job, X: Chooser> {
     scheduler: Scheduler<J, X>,

@@ -40,10 +40,7 @@ fn locked<J: Job + Drop, X: Chooser + Drop>(
     ensures { IfSome result (λ r. IsFresh config submitters r.0 r.1) }
 {
     let floor = Floor::open(alloc, config, submitters).ok()?;
-    match HistoryLock::open(alloc, floor) {
-        Ok(both) => Some(both),
-        Err(_) => None,
-    }
+    HistoryLock::open(alloc, floor).ok()
 }
 
 // The tokens of all submitters but the first, who keeps the first pass.
@@ -91,8 +88,8 @@ fn split_workers<J: Job + Drop, X: Chooser>(
 }
 
 impl<J: Job + Drop, X: Chooser + Drop> DeskOf<Floor<J, X>> {
-    /// A desk with no past, for 1 to `MOST_SUBMITTERS` submitters, and its tokens: those of the submitters, and those of
-    /// as many workers as the configuration has. All memory of the desk is taken here.
+    /// A desk with no past, for 1 to `MOST_SUBMITTERS` submitters, and its tokens: those of the submitters, and those
+    /// of as many workers as the configuration has. All memory of the desk is taken here.
     pub fn open(
         alloc: Global,
         config: Checked,

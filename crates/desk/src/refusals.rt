@@ -13,7 +13,7 @@ pub enum OpenFault {
     /// So many submitters; there may be 1 to `MOST_SUBMITTERS`.
     #[error("{0} submitters, and there may be 1 to {MOST_SUBMITTERS}")]
     Submitters(u32),
-    #[error("no memory for a desk")]
+    #[error("out of memory")]
     NoMemory,
 }
 

@@ -12,7 +12,7 @@ pub enum FluidFault {
     #[error("{slots} slots for {tenants} tenants, and there may be {MOST_CELLS} cells")]
     TooLong { slots: u64, tenants: u32 },
     /// There was no memory.
-    #[error("no memory for the fluid service")]
+    #[error("out of memory")]
     NoMemory,
 }
 

@@ -1,5 +1,5 @@
 //! Writing a text to its end.
-ghost use Rattle.std.specs.Prelude.{◌≡◌, ◌≤◌, length, OnOk, OnErr};
+ghost use Rattle.std.specs.Prelude.{◌≡◌, ◌≤◌, OnOk, OnErr};
 ghost use Rattle.std.specs.Io.KnownBytes.{Appends};
 ghost use Rattle.fq_io.specs.Faults.{Rose};
 ghost use Rattle.fq_io.specs.Sinks.{AppendsPart};

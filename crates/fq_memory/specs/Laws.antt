@@ -7,7 +7,8 @@ use Rattle.fq_io.specs.Faults.{Rose}
 abbrev pub CleanSourceNeverFails : Type 0
 CleanSourceNeverFails = ¬ Rose 0 0
 
--- where a front part of a text, or all of it, stands written in a clean sink that has more room than the text has bytes,
+-- where a front part of a text, or all of it, stands written in a clean sink that has more room than the text has
+-- bytes,
 -- its faults did not rise above the 0 of a fresh one
 abbrev pub CleanSinkNeverFails : Type 0
 CleanSinkNeverFails = (room n faults : ℕ) (text written : List ℕ) → IsClean room written faults → length text < room → written ≡ take n text → ¬ Rose 0 faults

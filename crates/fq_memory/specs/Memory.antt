@@ -3,7 +3,8 @@ use Rattle.std.specs.Prelude.{ℕ, ◌-◌, Bool, ◌||◌, ◌&&◌, nat_eq, na
 use Rattle.std.specs.List.{list_any}
 use Rattle.fq_io.specs.Faults.{next_count}
 
--- the bytes still to come, the most that a call moves, the calls that fail by their numbers from 0, and how many calls and faults there were
+-- the bytes still to come, the most that a call moves, the calls that fail by their numbers from 0, and how many calls
+-- and faults there were
 pub record MemorySource : Type 0 where
   pub left : List ℕ
   pub chunk : ℕ
@@ -33,7 +34,8 @@ buffer_after_read s before =
     then before
     else take (read_count s (length before)) s.left ++ drop (read_count s (length before)) before
 
--- the bytes that were taken, how many fit in all, the most that a call takes, the calls that fail by their numbers from 0, and how many calls and faults there were
+-- the bytes that were taken, how many fit in all, the most that a call takes, the calls that fail by their numbers from
+-- 0, and how many calls and faults there were
 pub record MemorySink : Type 0 where
   pub written : List ℕ
   pub room : ℕ

@@ -1,5 +1,5 @@
 //! A sink into memory that was taken before, which fails only where it is full.
-ghost use Rattle.std.specs.Prelude.{◌≡◌, ◌≤◌, [], length, Some, IfOk, vec_capacity};
+ghost use Rattle.std.specs.Prelude.{◌≡◌, ◌≤◌, [], Some, IfOk, vec_capacity};
 ghost use Rattle.std.specs.Io.KnownBytes.{WriteAppends};
 ghost use Rattle.fq_io.specs.Faults.{HasCause};
 ghost use Rattle.fq_io.specs.Sinks.{TakesSome};

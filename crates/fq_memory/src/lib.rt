@@ -1,4 +1,5 @@
-//! Sources and sinks of bytes over memory, and a clock that stands still, for tests and tools; the program uses none of them.
+//! Sources and sinks of bytes over memory, and a clock that stands still, for tests and tools; the program uses none
+//! of them.
 #![tactic(auto)]
 
 mod clean_sink;

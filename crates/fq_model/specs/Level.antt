@@ -54,7 +54,8 @@ LevelIsTheOne = (cap : ℕ) (rows : List Backlog) (l : Level) → All (λ b. 1 �
 abbrev pub with_backlog : List Backlog → ℕ
 with_backlog rows = count_by (λ b. nat_lt 0 b.units) rows
 
--- where not all are served whole and no weight is above 1024, fewer units of cap are left than there are backlogs (a law)
+-- where not all are served whole and no weight is above 1024, fewer units of cap are left than there are backlogs (a
+-- law)
 abbrev pub LeavesFewUnits : ℕ → List Backlog → Level → Type 0
 LeavesFewUnits cap rows levels.All = Unit {0}
 LeavesFewUnits cap rows (levels.At x) = cap < gifts_at x rows + with_backlog rows

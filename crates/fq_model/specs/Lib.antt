@@ -1,6 +1,6 @@
 pub mod Rows
 pub mod Limits
-pub mod Numbers
+pub mod Spelling
 pub mod Names
 pub mod Sums
 pub mod History

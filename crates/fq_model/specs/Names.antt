@@ -1,6 +1,6 @@
 -- Names of tenants or of kinds, numbered from 0 in their order.
 use Rattle.std.specs.Prelude.{ℕ, ◌≢◌, ◌≤◌, IsTrue, if◌then◌else◌, List, [], ◌∷◌, ◌++◌, length, position, All, AllPairs, Option, is_some, unwrap_or, bytes_eq}
-use Rattle.fq_model.specs.Numbers.{is_name}
+use Rattle.fq_model.specs.Spelling.{is_name}
 
 -- the number that has a name, if one has it
 abbrev pub number_among : List (List ℕ) → List ℕ → Option ℕ

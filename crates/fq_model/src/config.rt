@@ -32,8 +32,8 @@ pub enum Estimator {
     Declared,
     /// The mean of its tenant's and kind's last eight costs, rounded down and at least 1; the initial value before any.
     Recent,
-    /// The greatest of 1 and its tenant's and kind's costs, each decayed once for each that came later; the initial value
-    /// counts as the oldest cost.
+    /// The greatest of 1 and its tenant's and kind's costs, each decayed once for each that came later; the initial
+    /// value counts as the oldest cost.
     Pessimistic,
 }
 

@@ -1,5 +1,5 @@
-//! What a scheduler is opened with, what it is asked and answers, what a report of its history holds, and what all of these
-//! mean.
+//! What a scheduler is opened with, what it is asked and answers, what a report of its history holds, and what all of
+//! these mean.
 #![tactic(auto)]
 
 pub mod config;

@@ -1,6 +1,6 @@
 //! The words for policies and estimators.
 ghost use Rattle.std.specs.Prelude.{◌≡◌, ok_or, Some};
-ghost use Rattle.fq_model.specs.Numbers.{policy_of, estimator_of, policy_word, estimator_word};
+ghost use Rattle.fq_model.specs.Spelling.{policy_of, estimator_of, policy_word, estimator_word};
 
 use crate::config::{Estimator, Policy};
 use std::error::Error;

@@ -1,4 +1,5 @@
--- The largest difference is at most the bound: it is one at a shared prefix, and the bound is above where its run begins.
+-- The largest difference is at most the bound: it is one at a shared prefix, and the bound is above where its run
+-- begins.
 use Rattle.std.proofs.Common.{◌≡◌, ◌++◌, arith, append_assoc, ap, sym, ◌∙◌, ℤ, ◌≤ℤ◌}
 use Rattle.std.specs.Int.{int_max}
 use Rattle.std.proofs.lemmas.Int.{ints, clamps}

@@ -1,5 +1,5 @@
 //! Work that is counted up step by step.
-ghost use Rattle.std.specs.Prelude.{◌≡◌, ◌≤◌, ◌*◌, ℕ, List, Some, length};
+ghost use Rattle.std.specs.Prelude.{◌≡◌, ◌≤◌, ◌*◌, List, Some, length};
 ghost use Rattle.program_model.specs.PoolHistory.{step_of};
 ghost use Rattle.gate_rules.specs.declared.counters.Counters.{Counters};
 ghost use Rattle.gate_rules.specs.Counting.{IsAtMost};

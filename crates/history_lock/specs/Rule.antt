@@ -20,8 +20,10 @@ abbrev pub total : {A : Type 0} → (A → ℕ) → List A → ℕ
 total count [] = 0
 total count (x ∷ xs) = count x + total count xs
 
--- What the rule says there is. `drawn` and `served` count all turns ever, `made` is the greatest number given to a pass, and `history` is the one history: the past of the machine, or what it was when the turn began that is under way
--- `holder` names for each turn the seat that drew it, `owner` for each number the seat of its view, and `closed` is 1 at each number whose pass was joined
+-- What the rule says there is. `drawn` and `served` count all turns ever, `made` is the greatest number given to a
+-- pass, and `history` is the one history: the past of the machine, or what it was when the turn began that is under way
+-- `holder` names for each turn the seat that drew it, `owner` for each number the seat of its view, and `closed` is 1
+-- at each number whose pass was joined
 pub record Marks : Type 0 where
   pub drawn : ℕ
   pub served : ℕ
@@ -31,7 +33,8 @@ pub record Marks : Type 0 where
   pub owner : ℕ → ℕ
   pub closed : ℕ → ℕ
 
--- a turn that is held is one of those drawn and not served, and its holder's alone; the turn under way is the one that is served
+-- a turn that is held is one of those drawn and not served, and its holder's alone; the turn under way is the one that
+-- is served
 module _ (k : Marks) (seat : ℕ) where
   abbrev pub Staged : Stage → Type 0
   Staged Spent = Unit {0}
@@ -45,8 +48,10 @@ Unless Known Spent = Unit {0}
 Unless Known _ = Known
 
 module _ {F : Type 0} (like : F) (k : Marks) (seat : ℕ) where
-  -- A view has the machine's frame. What it has seen is a front part of the history, and its own entries are all that the history has of its number
-  -- Its number is no other view's, and none that was joined. Number 0 knows how many were made, and what each joined number has in the history
+  -- A view has the machine's frame. What it has seen is a front part of the history, and its own entries are all that
+  -- the history has of its number
+  -- Its number is no other view's, and none that was joined. Number 0 knows how many were made, and what each joined
+  -- number has in the history
   pub record Fits (v : View F) : Type 0 where
     pub framed : v.frame ≡ Some like
     pub sees : IsPrefix v.seen k.history

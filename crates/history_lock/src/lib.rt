@@ -1,9 +1,9 @@
 //! One history for all threads: a ticket lock round a machine, whose callers each know what they have seen and what is
 //! their own.
 //!
-//! Turns are served in the order in which they were drawn (a ticket lock: Mellor-Crummey and Scott, Algorithms for Scalable
-//! Synchronization on Shared-Memory Multiprocessors, 1991). A caller draws one once it finds nobody in line, or has been
-//! overtaken often enough.
+//! Turns are served in the order in which they were drawn (a ticket lock: Mellor-Crummey and Scott, Algorithms for
+//! Scalable Synchronization on Shared-Memory Multiprocessors, 1991). A caller draws one once it finds nobody in line,
+//! or has been overtaken often enough.
 #![tactic(auto)]
 
 pub mod lock;

@@ -45,8 +45,8 @@ impl<M: Machine> Model for HistoryLock<M> {
 }
 
 impl<M: Machine> HistoryLock<M> {
-    /// Draws a turn, waits until all turns drawn before are served, and makes one step of the machine as this pass's caller.
-    /// While there is a line it first lets others run, for some thousands of their turns at most.
+    /// Draws a turn, waits until all turns drawn before are served, and makes one step of the machine as this pass's
+    /// caller. While there is a line it first lets others run, for some thousands of their turns at most.
     pub fn turn<R: Wait>(&self, rt: &R, pass: &mut Pass<M::Frame>, call: M::Call) -> M::Reply
         requires own { IsOf self.now pass.old }
         requires allowed { M.allowed self.now.frame pass.old.number call }
@@ -135,8 +135,8 @@ fn slot_with<M: Drop>(alloc: Global, machine: M) -> Result<Vec<Option<M>>, Alloc
 }
 
 impl<M: Machine + Drop> HistoryLock<M> {
-    /// A lock round a machine with no past, and its first pass, which has number 0. The machine is given up where there is
-    /// no memory.
+    /// A lock round a machine with no past, and its first pass, which has number 0. The machine is given up where
+    /// there is no memory.
     pub fn open(alloc: Global, machine: M) -> Result<(HistoryLock<M>, Pass<M::Frame>), AllocError>
         requires { M.past machine ≡ [] }
         ensures frame { IfOk result (λ r. r.0.frame ≡ M.frame machine) }
@@ -160,8 +160,8 @@ impl<M: Machine + Drop> HistoryLock<M> {
         Ok((HistoryLock { table }, pass))
     }
 
-    /// Ends the lock, and gives its machine where every turn that was drawn was served; else the machine is given up. Both
-    /// counts are those of the lock's last moment, at which the pass was one of its views.
+    /// Ends the lock, and gives its machine where every turn that was drawn was served; else the machine is given up.
+    /// Both counts are those of the lock's last moment, at which the pass was one of its views.
     pub fn close(self, pass: Pass<M::Frame>) -> Result<M, Unsettled>
         requires own { IsOf self pass }
         requires first { pass.number ≡ 0 }

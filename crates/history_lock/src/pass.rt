@@ -6,8 +6,8 @@ use crate::table::View;
 use atomic_table::Badge;
 use std::marker::Model;
 
-/// A right to take turns at one lock, by a caller with a number. It is no copy of another, and must be spent: by `join`, or
-/// the last one by `close`. F is the frame of the lock's machine. It has no bytes but for two numbers.
+/// A right to take turns at one lock, by a caller with a number. It is no copy of another, and must be spent: by
+/// `join`, or the last one by `close`. F is the frame of the lock's machine. It has no bytes but for two numbers.
 pub struct Pass<F> {
     pub(crate) number: u32,
     pub(crate) made: u32,

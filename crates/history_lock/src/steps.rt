@@ -28,8 +28,8 @@ const PATIENCE: u64 = 4000;
 // How often the next in line looks before it lets others run.
 const LOOKS: u32 = 100;
 
-// Lets others run while there are turns that were drawn and have not ended, until it has been overtaken often enough. A line
-// moves in order, so each thread in it has to run before it moves on; who stays out of it costs nobody a wait.
+// Lets others run while there are turns that were drawn and have not ended, until it has been overtaken often enough.
+// A line moves in order, so each thread in it has to run before it moves on; who stays out of it costs nobody a wait.
 fn stand_aside<M: Machine, R: Wait>(table: &LockTable<M>, rt: &R)
     requires own { table.now.shared.table_id.words ≡ word_count }
 {

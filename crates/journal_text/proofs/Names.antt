@@ -7,7 +7,7 @@ use Rattle.std.proofs.lemmas.Str.{IsUtf8-from_ascii}
 use Rattle.std.specs.List.{list_any, list_all, position_or_len}
 use Rattle.std.proofs.lemmas.Bool.{ltb-true, ltb-false, lt-ltb, leb-true, eqb-true, false≢true}
 use Rattle.std.proofs.lemmas.Slice.Eq.{bytes_eq-Decides}
-use Rattle.fq_model.specs.Numbers.{is_digit, is_name_byte, is_name, policy_of, estimator_of}
+use Rattle.fq_model.specs.Spelling.{is_digit, is_name_byte, is_name, policy_of, estimator_of}
 use Rattle.fq_model.specs.Names.{number_among}
 use Rattle.program_model.specs.Document.{new_among}
 use Rattle.program_model.specs.declared.fault.ScriptKind.TheVariants.{Twice}

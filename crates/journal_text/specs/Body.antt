@@ -41,8 +41,10 @@ with_body_lines head said = said >>= λ body. Ok (record head { body = body })
 abbrev pub Reads : Type 0 → Type 0
 Reads A = (Version → LineReader A) → Result (Document A) (ℕ × ScriptKind)
 
--- What is read is this head with what stands below it, however the lines of the body are read: so the head has no fault, and each
--- line of the body is there, as far as a way to read lines can tell. The head by itself is a document that a scheduler can be opened
+-- What is read is this head with what stands below it, however the lines of the body are read: so the head has no
+-- fault, and each
+-- line of the body is there, as far as a way to read lines can tell. The head by itself is a document that a scheduler
+-- can be opened
 -- with.
 pub record IsOpened {A : Type 0} (read : Reads A) (head : Document A) (below : Below) : Type 0 where
   pub means : (reader : Version → LineReader A) → read reader ≡ with_body_lines head (said_below reader below)
@@ -68,7 +70,8 @@ pub record IsStuck {A : Type 0} (reader : Version → LineReader A) (old : Below
   pub fails : IsFirstFault fault (at_line old.place (reader old.version (words_of line)))
   pub same : new ≡ old
 
--- what reading the next line of a body returns and leaves: what the line says, nothing where no line is left, or the line's fault
+-- what reading the next line of a body returns and leaves: what the line says, nothing where no line is left, or the
+-- line's fault
 abbrev pub ReadsNext : {A : Type 0} → (Version → LineReader A) → Below → Result (Option A) ScriptFault → Below → Type 0
 ReadsNext reader old (Ok (Some said)) new = SaysFirst reader old said new
 ReadsNext reader old (Ok None) new = (old.lines ≡ []) × (new ≡ old)

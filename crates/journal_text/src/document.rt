@@ -1,5 +1,5 @@
 //! Documents: what a script or a journal says.
-ghost use Rattle.std.specs.Prelude.{◌≡◌, length};
+ghost use Rattle.std.specs.Prelude.{◌≡◌};
 ghost use Rattle.program_model.specs.Document.{config_of};
 ghost use Rattle.tenant_table.specs.Names.{names_of, weights_of};
 ghost use Rattle.journal_text.specs.Reading.{IsAbout, document_in};

@@ -1,5 +1,4 @@
 //! The config line.
-ghost use Rattle.std.specs.Prelude.{◌≡◌};
 ghost use Rattle.program_model.specs.Document.{settings_of};
 ghost use Rattle.journal_text.specs.Reading.{Gives, words_in};
 

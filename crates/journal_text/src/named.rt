@@ -1,6 +1,6 @@
 //! What single words name.
 ghost use Rattle.std.specs.Prelude.{◌≡◌, is_some, IfSome};
-ghost use Rattle.fq_model.specs.Numbers.{is_name, policy_of, estimator_of};
+ghost use Rattle.fq_model.specs.Spelling.{is_name, policy_of, estimator_of};
 
 use fq_model::config::{Estimator, Policy};
 use tenant_table::name::is_name;

@@ -3,7 +3,7 @@ ghost use Rattle.std.specs.Prelude.{◌≡◌, ◌++◌, [], ◌∷◌, codes, s
 ghost use Rattle.std.specs.Fmt.{decimal};
 ghost use Rattle.std.specs.List.{list_any};
 ghost use Rattle.fq_model.specs.History.{is_change};
-ghost use Rattle.fq_model.specs.Numbers.{policy_word, estimator_word};
+ghost use Rattle.fq_model.specs.Spelling.{policy_word, estimator_word};
 ghost use Rattle.program_model.specs.JournalText.{entry_line, entries_text, version_for, header_line, tenants_text, kinds_text, head_text, journal_text};
 ghost use Rattle.tenant_table.specs.Names.{names_of};
 ghost use Rattle.journal_text.specs.Printing.{row_text, IsKept};

@@ -1,7 +1,7 @@
 //! What single words say. The first word is word 0; faults count from 1.
 ghost use Rattle.std.specs.Prelude.{◌≡◌, ◌<◌, ◌≤◌, IsTrue, length, IfOk};
 ghost use Rattle.program_model.specs.Reading.{begins_with};
-ghost use Rattle.fq_model.specs.Numbers.{is_name};
+ghost use Rattle.fq_model.specs.Spelling.{is_name};
 ghost use Rattle.program_model.specs.Lines.{with_count, number_at, ranged_at, index_at, name_at, policy_at, estimator_at};
 ghost use Rattle.journal_text.specs.Reading.{Gives, words_in};
 

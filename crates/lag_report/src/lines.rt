@@ -14,7 +14,8 @@ use fq_model::limits::{
 };
 use std::alloc::{AllocError, Global};
 
-/// What a report says of each tenant, by number: of requests in the order of their tenants, where tenants are served so.
+/// What a report says of each tenant, by number: of requests in the order of their tenants, where tenants are served
+/// so.
 pub fn lines(
     alloc: Global,
     courses: &[Course],

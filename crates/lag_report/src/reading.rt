@@ -1,5 +1,5 @@
 //! What a history says of its requests and of its changes.
-ghost use Rattle.std.specs.Prelude.{◌≡◌, ◌<◌, ◌^◌, length, IfOk, OnOk, not, position, map};
+ghost use Rattle.std.specs.Prelude.{◌≡◌, ◌<◌, length, IfOk, OnOk, not, position};
 ghost use Rattle.fq_model.specs.History.{history_of};
 ghost use Rattle.fq_model.specs.Fluid.{changes_of, with_change};
 ghost use Rattle.lag_report.specs.Courses.{NamesOneOf, NamesSubmitted, courses_after, courses_of, rows_after, rows_of, submitted};

@@ -18,8 +18,8 @@ use fq_model::event::Entry;
 use fq_model::limits::GREATEST_SLOT;
 use std::alloc::Global;
 
-/// What each tenant of a history was served against its fluid service, in slots of so many microseconds from moment 0 on,
-/// the last of which holds the last entry's moment.
+/// What each tenant of a history was served against its fluid service, in slots of so many microseconds from moment 0
+/// on, the last of which holds the last entry's moment.
 pub fn report(
     alloc: Global,
     past: &[Entry],

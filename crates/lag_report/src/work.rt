@@ -1,6 +1,6 @@
 //! The work done on requests, by slot.
-ghost use Rattle.std.specs.Prelude.{◌≡◌, ◌≤◌, ◌<◌, ◌+◌, ◌*◌, length, take, sum, sum_by, All, IfOk, ℕ};
-ghost use Rattle.vt_fixed.specs.declared.limits.TheConstants.{GREATEST_COST, GREATEST_MOMENT};
+ghost use Rattle.std.specs.Prelude.{◌≡◌, ◌≤◌, ◌<◌, ◌+◌, ◌*◌, length, take, sum, All, IfOk, ℕ};
+ghost use Rattle.vt_fixed.specs.declared.limits.TheConstants.{GREATEST_COST};
 ghost use Rattle.lag_report.specs.Work.{worked, work_in, EndsWithin, GainsAre};
 
 use crate::course::Course;

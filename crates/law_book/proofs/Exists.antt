@@ -22,7 +22,6 @@ use Rattle.trace_runner.specs.Staff.{work_at, work_moment, work_rank, ComesBefor
 use Rattle.fq_model.specs.Rules.{FitsTake}
 use Rattle.fq_laws.proofs.History.Workers.{running_nothing}
 use Rattle.std.proofs.lemmas.List.{get_or_past}
-use Rattle.std.proofs.lemmas.Option.{slice_get_past}
 use Rattle.trace_runner.proofs.Coming.{keeps_submit}
 use Rattle.trace_runner.proofs.Ending.{begins, first_agenda, ends, close_entry}
 use Rattle.trace_runner.proofs.Events.{at_report, at_done, at_submit, at_take}

@@ -1,5 +1,5 @@
-//! The laws: what follows from the definitions, and from what each part promises. The contract of each function is a law,
-//! and its body is empty.
+//! The laws: what follows from the definitions, and from what each part promises. The contract of each function is a
+//! law, and its body is empty.
 #![tactic(auto)]
 
 pub mod accounts;

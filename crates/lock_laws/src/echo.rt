@@ -6,8 +6,8 @@ use history_lock::Machine;
 use std::alloc::{AllocError, Global};
 use std::marker::Model;
 
-/// A machine that answers how many entries it has, and writes each call down while it has room. A call is any number, and
-/// becomes the moment of its entry.
+/// A machine that answers how many entries it has, and writes each call down while it has room. A call is any number,
+/// and becomes the moment of its entry.
 #[derive(Drop)]
 pub struct Echo {
     entries: Vec<Entry>,

@@ -6,7 +6,8 @@ pub fn own_turns_round()
     ensures { OwnTurnsRound }
 {}
 
-/// A front part in order of time is what is left of the history with its newest entry first once newer ones are dropped.
+/// A front part in order of time is what is left of the history with its newest entry first once newer ones are
+/// dropped.
 pub fn prefix_turns_round()
     ensures { PrefixTurnsRound }
 {}

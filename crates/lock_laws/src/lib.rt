@@ -1,5 +1,5 @@
-//! Laws of the lock: how histories in order of time and those with the newest entry first meet, and what may cross threads;
-//! and a machine to try the lock with.
+//! Laws of the lock: how histories in order of time and those with the newest entry first meet, and what may cross
+//! threads; and a machine to try the lock with.
 #![tactic(auto)]
 
 pub mod crossing;

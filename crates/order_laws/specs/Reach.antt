@@ -5,7 +5,8 @@ use Rattle.fq_model.specs.declared.config.Policy.{Policy}
 use Rattle.fq_model.specs.declared.config.Policy.TheVariants.{Wfq, TwoDfq}
 use Rattle.fq_model.specs.Keys.{Turn}
 
--- how far before its finish a head of this length is eligible: its length, and under 2dfq also the part of worker i of n
+-- how far before its finish a head of this length is eligible: its length, and under 2dfq also the part of worker i of
+-- n
 abbrev pub reach : Policy → ℕ → ℕ → ℕ → ℕ
 reach TwoDfq len i n = floor_div ((n + i) * len) n
 reach _ len i n = len

@@ -13,7 +13,7 @@ use Rattle.fq_model.specs.declared.config.Estimator.TheVariants.{Declared, Recen
 use Rattle.vt_fixed.specs.declared.limits.TheConstants.{GREATEST_COST, MOST_WORKERS}
 use Rattle.fq_model.specs.declared.limits.TheConstants.{MOST_TENANTS, MOST_ROWS, GREATEST_SLOT, MOST_STATUSES, GREATEST_RATE, GREATEST_BURST}
 use Rattle.program_model.specs.Lines.{Words}
-use Rattle.fq_model.specs.Numbers.{policy_word, estimator_word}
+use Rattle.fq_model.specs.Spelling.{policy_word, estimator_word}
 use Rattle.program_model.specs.Options.{Within, Among, Required, Nothing, Default, OptionRow}
 
 -- the policies, in the order in which an option lists their words

@@ -9,7 +9,7 @@ use Rattle.fq_model.specs.declared.event.Act.TheVariants.{Submit, Take, Report, 
 use Rattle.fq_model.specs.declared.event.Entry.{Entry}
 use Rattle.program_model.specs.declared.version.Version.{Version}
 use Rattle.program_model.specs.declared.version.Version.TheVariants.{First, Second}
-use Rattle.fq_model.specs.Numbers.{policy_word, estimator_word}
+use Rattle.fq_model.specs.Spelling.{policy_word, estimator_word}
 
 -- the rest of a line: these numbers, each after a space
 abbrev pub numbers_text : List ℕ → List ℕ

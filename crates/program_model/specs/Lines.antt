@@ -6,7 +6,8 @@ use Rattle.fq_model.specs.declared.config.Estimator.{Estimator}
 use Rattle.program_model.specs.declared.fault.ScriptKind.{ScriptKind}
 use Rattle.program_model.specs.declared.fault.ScriptKind.TheVariants.{Word, Fields, Number, Range}
 use Rattle.program_model.specs.Reading.{◌>>=◌, or_fault}
-use Rattle.fq_model.specs.Numbers.{number_of, is_name, policy_of, estimator_of}
+use Rattle.program_model.specs.Numbers.{number_of}
+use Rattle.fq_model.specs.Spelling.{is_name, policy_of, estimator_of}
 
 -- the pieces between LF bytes; an LF at the very end starts no further line (`onto_first b []` is the one line b)
 abbrev pub lines_of : List ℕ → List (List ℕ)
@@ -41,7 +42,8 @@ number_at words k = or_fault (Number (k + 1)) (number_of (word words k))
 unfoldable pub ranged_at : Words → ℕ → ℕ → ℕ → Result ℕ ScriptKind
 ranged_at words k low high = number_at words k >>= in_range k low high
 
--- word k is a number of 32 bits: that of a caller, request, tenant, kind or worker, which need not be there, a weight, or a
+-- word k is a number of 32 bits: that of a caller, request, tenant, kind or worker, which need not be there, a weight,
+-- or a
 -- count
 unfoldable pub index_at : Words → ℕ → Result ℕ ScriptKind
 index_at words k = ranged_at words k 0 4294967295

@@ -3,7 +3,7 @@ use Rattle.std.specs.Prelude.{ℕ, ◌==◌, Bool, false, not, if◌then◌else�
 use Rattle.std.specs.List.{list_any, list_all, before_first, after_first}
 use Rattle.program_model.specs.Lines.{Words}
 use Rattle.fq_model.specs.Limits.{is_outside}
-use Rattle.fq_model.specs.Numbers.{number_of}
+use Rattle.program_model.specs.Numbers.{number_of}
 
 -- what may be written as the value of an option: a number from low to high, or one of these words, which stands for its
 -- place among them, counted from 0
@@ -49,7 +49,8 @@ is_equals b = b == 61
 abbrev pub given_by : List ℕ → Given
 given_by word = record { name = before_first is_equals word; text = after_first is_equals word }
 
--- the options of words, in order, where the words are nothing but options, `<name>=<text>` in one word or `<name> <text>`
+-- the options of words, in order, where the words are nothing but options, `<name>=<text>` in one word or `<name>
+-- <text>`
 -- in two, and then perhaps one word `--`
 abbrev pub options_of : Words → Option (List Given)
 options_of [] = Some []

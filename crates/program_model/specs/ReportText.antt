@@ -4,7 +4,7 @@ use Rattle.std.specs.Fmt.{decimal, signed_decimal}
 use Rattle.fq_model.specs.declared.config.Config.{Config}
 use Rattle.fq_model.specs.declared.lag.TenantLag.{TenantLag}
 use Rattle.program_model.specs.declared.compare.CompareRow.{CompareRow}
-use Rattle.fq_model.specs.Numbers.{policy_word, estimator_word}
+use Rattle.fq_model.specs.Spelling.{policy_word, estimator_word}
 use Rattle.fq_model.specs.History.{History, submits}
 use Rattle.fq_model.specs.Report.{LagReport, lag_report, least_lag, greatest_lag}
 use Rattle.program_model.specs.Compare.{best}

@@ -11,7 +11,8 @@ use Rattle.vt_fixed.specs.declared.limits.TheConstants.{GREATEST_COST, GREATEST_
 use Rattle.fq_model.specs.declared.limits.TheConstants.{MOST_TENANTS, MOST_KINDS, MOST_PAIRS, MOST_ROWS, GREATEST_TRACE_MOMENT, GREATEST_SUBMITTER}
 use Rattle.fq_model.specs.Limits.{is_outside}
 use Rattle.fq_model.specs.Names.{number_among}
-use Rattle.fq_model.specs.Numbers.{number_of, is_name}
+use Rattle.program_model.specs.Numbers.{number_of}
+use Rattle.fq_model.specs.Spelling.{is_name}
 use Rattle.program_model.specs.Reading.{◌>>=◌, or_fault, at_line, begins_with, is_empty}
 use Rattle.program_model.specs.Trace.{Trace, last_row_moment, with_row, with_some_kind}
 
@@ -106,7 +107,8 @@ with_record t fields =
 
 -- The whole text.
 
--- all records are read: a tenant is there, and a kind where no request names one; `place` is one more than the number of
+-- all records are read: a tenant is there, and a kind where no request names one; `place` is one more than the number
+-- of
 -- records
 abbrev pub at_end : ℕ → Trace → Result Trace (ℕ × TraceKind)
 at_end place t = if is_empty t.tenants then Err (place, NoTenants) else Ok (with_some_kind t)

@@ -1,6 +1,6 @@
 //! Numbers in a text.
 ghost use Rattle.std.specs.Prelude.{◌≡◌, ◌<◌, length};
-ghost use Rattle.fq_model.specs.Numbers.{with_digit, with_digits, number_of};
+ghost use Rattle.program_model.specs.Numbers.{with_digit, with_digits, number_of};
 
 /// The number that a text spells, if it spells one: `0`, or digits of which the first is not `0`, with 64 bits at most.
 pub fn number(text: &[u8]) -> Option<u64>

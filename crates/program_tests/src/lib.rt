@@ -1,5 +1,5 @@
-//! Tests of the program and its devices: worked examples, devices that fail at any one of their calls, and inputs that are cut off at any
-//! byte or are too long.
+//! Tests of the program and its devices: worked examples, devices that fail at any one of their calls, and inputs
+//! that are cut off at any byte or are too long.
 #![tactic(auto)]
 
 #[cfg(test)]

@@ -15,8 +15,8 @@ use twodfq_main::program::twodfq;
 const HEAD: &str =
     "journal 1\nconfig 2 2dfq pessimistic 1000 11 3\ntenant a 1\ntenant b 1\nkind scan\nkind get\n";
 
-// A clock that stands at 7. Whoever asks it first is answered once another asks too, or after so many turns, which leaves
-// a mark; so the mark stays unset where two threads make calls at once.
+// A clock that stands at 7. Whoever asks it first is answered once another asks too, or after so many turns, which
+// leaves a mark; so the mark stays unset where two threads make calls at once.
 #[derive(Drop)]
 struct MeetingClock {
     asked: AtomicU64,

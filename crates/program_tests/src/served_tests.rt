@@ -163,7 +163,8 @@ fn serves_under_each_policy(rt: HostRuntime) {
     comes_back(&rt, rt.alloc(), "msf2q", BY_IDLE_TIME);
 }
 
-// A submit that names an earlier moment than the entry before it takes effect at that entry's: at 4 it would be served first.
+// A submit that names an earlier moment than the entry before it takes effect at that entry's: at 4 it would be
+// served first.
 #[test]
 fn keeps_moments_in_order(rt: HostRuntime) {
     let input = "script 1\nconfig 1 wf2q declared 1000 100 10\ntenant a 1\ntenant b 1\nkind get\n\
@@ -235,8 +236,8 @@ fn refuses_calls(rt: HostRuntime) {
     );
 }
 
-// The request that runs was charged by the weight before its take, 2, and so its tenant starts at 4 and finishes at 6; by
-// the later weight it would finish at 4, before the other at 5.
+// The request that runs was charged by the weight before its take, 2, and so its tenant starts at 4 and finishes at
+// 6; by the later weight it would finish at 4, before the other at 5.
 #[test]
 fn changes_weights(rt: HostRuntime) {
     let head = "script 2\nconfig 1 2dfq declared 1000 100 10\ntenant a 1\ntenant b 1\nkind get\n";
@@ -276,11 +277,11 @@ fn changes_workers(rt: HostRuntime) {
     );
 }
 
-// Up to 4 there are four workers over the weight 2, and virtual time comes to 4 units; up to 6 two over 2 and 1, and it
-// comes to 5 1/3; then two over 1 and 1, so that it is 2/3 below the moment. At 6 tenant 0 starts at 5 1/3 by its tag (at
-// half a unit by its charge of 1 at the weight 2) and needs 8 units by its weight of then; by its old weight it would
-// finish before tenant 1, at 12. At 11, which is 10 1/3 units, it starts at 13 1/3, and the second of two workers may
-// begin its 10 units at 8 1/3; of four it might at 10 5/6.
+// Up to 4 there are four workers over the weight 2, and virtual time comes to 4 units; up to 6 two over 2 and 1, and
+// it comes to 5 1/3; then two over 1 and 1, so that it is 2/3 below the moment. At 6 tenant 0 starts at 5 1/3 by its
+// tag (at half a unit by its charge of 1 at the weight 2) and needs 8 units by its weight of then; by its old weight
+// it would finish before tenant 1, at 12. At 11, which is 10 1/3 units, it starts at 13 1/3, and the second of two
+// workers may begin its 10 units at 8 1/3; of four it might at 10 5/6.
 const WITH_CHANGES: &str = "declared 1000 100 10\ntenant a 2\ntenant b 1\nkind get\n\
     submit 0 2 0 0 1 100\nworkers 9 4 2\nsubmit 1 4 1 0 8 200\ntake 11 6 1\nweight 9 6 0 1\n\
     submit 0 6 0 0 8 101\nsubmit 0 6 0 0 10 102\ntake 10 6 0\ndone 11 6 1 1\n\

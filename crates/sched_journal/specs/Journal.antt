@@ -44,7 +44,8 @@ RefusesWeight j backlog tenant weight cause = backlog ≡ waiting (history j) �
 abbrev pub RefusesWorkers : JournalView → ℕ → ℕ → Option Cause → Type 0
 RefusesWorkers j backlog count cause = backlog ≡ waiting (history j) → cause ≡ workers_refusal j.config (history j) count
 
--- its configuration is in its limits, it keeps a legal history and has room for all entries that may come, and its tally is that of the history
+-- its configuration is in its limits, it keeps a legal history and has room for all entries that may come, and its
+-- tally is that of the history
 pub record KeepsJournal (C : Config) (past : List Entry) (capacity : ℕ) (tally : Tally) : Type 0 where
   pub limits : InLimits C
   pub legal : IsLegal C (history_of past)

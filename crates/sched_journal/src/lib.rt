@@ -1,4 +1,5 @@
-//! The journal of a scheduler: its entries in order of time, what they come to in numbers, and what they leave room for.
+//! The journal of a scheduler: its entries in order of time, what they come to in numbers, and what they leave room
+//! for.
 #![tactic(auto)]
 
 mod history;

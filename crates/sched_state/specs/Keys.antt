@@ -6,7 +6,8 @@ use Rattle.fq_model.specs.Time.{last_moment, virtual_time}
 use Rattle.fq_model.specs.Keys.{keys_at}
 use Rattle.tag_rules.specs.Tables.{ChooserView, setting_at}
 
--- the chooser is the configuration's, for the number of workers now, has the keys of these tenants' heads, and was asked for no later virtual time
+-- the chooser is the configuration's, for the number of workers now, has the keys of these tenants' heads, and was
+-- asked for no later virtual time
 pub record HasKeysOf (C : Config) (P : History) (Tenants : ℕ → Type 0) (x : ChooserView) : Type 0 where
   pub setting_is : x.setting ≡ setting_at C (pool_at C P)
   pub sized : length x.table ≡ length C.weights

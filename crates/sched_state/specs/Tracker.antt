@@ -70,7 +70,8 @@ pub record MayBegin (j : JournalView) (m worker : ℕ) : Type 0 where
   pub pooled : worker < pool_at j.config (history j)
   pub some_waits : waiting (history j) ≢ 0
 
--- the worker takes this item, which is its turn at m, at this estimate: it waits no longer, and all else follows its Take
+-- the worker takes this item, which is its turn at m, at this estimate: it waits no longer, and all else follows its
+-- Take
 pub record Begins {J X : Type 0} (label : J → ℕ) (seen : X → ChooserView) (j : JournalView) (m worker : ℕ) (old : Tracker J X) (i : Item J) (estimate : ℕ) (new : Tracker J X) : Type 0 where
   pub asked : Request
   pub label_is : asked.label ≡ label i.job

@@ -100,8 +100,8 @@ impl<J: Job + Drop, X: Chooser> Scheduler<J, X> {
         Ok(request)
     }
 
-    /// A worker asks for work, and gets the job of the request that is its turn, if one waits and the worker is below the
-    /// number of workers now.
+    /// A worker asks for work, and gets the job of the request that is its turn, if one waits and the worker is below
+    /// the number of workers now.
     pub fn take(&mut self, who: u32, moment: u64, worker: u32) -> Taken<J>
         ensures answers { AnswersCall self.old (call.Take who moment worker) (take_reply J.label_of result) self.new }
         ensures jobs { HandsOut self.old result self.new }
@@ -198,10 +198,10 @@ impl<J: Job + Drop, X: Chooser> Scheduler<J, X> {
         Ok(())
     }
 
-    /// The tenant has this weight from here on, 1 to 1,000. What it runs stays charged at the weight that it had at the
-    /// Take; its heads are measured by the new one. May be called after a close, too. Refused, by the first of these that is
-    /// so: where no tenant has this number, where the weight is out of its range, and where the entries that are left are
-    /// needed for what is submitted.
+    /// The tenant has this weight from here on, 1 to 1,000. What it runs stays charged at the weight that it had at
+    /// the Take; its heads are measured by the new one. May be called after a close, too. Refused, by the first of
+    /// these that is so: where no tenant has this number, where the weight is out of its range, and where the entries
+    /// that are left are needed for what is submitted.
     pub fn weight(&mut self, who: u32, moment: u64, tenant: u32, weight: u32) -> Result<(), Cause>
         ensures answers { AnswersCall self.old (call.Weight who moment tenant weight) (change_reply result) self.new }
         ensures jobs { self.new.jobs ≡ self.old.jobs }
@@ -218,10 +218,10 @@ impl<J: Job + Drop, X: Chooser> Scheduler<J, X> {
         Ok(())
     }
 
-    /// There are so many workers from here on: those with lower numbers. There may be 1 to as many as the scheduler was
-    /// opened with. A worker above them ends what it runs, and is then told that it is retired. May be called after a
-    /// close, too. Refused, by the first of these that is so: where the number is out of its range, and where the entries
-    /// that are left are needed for what is submitted.
+    /// There are so many workers from here on: those with lower numbers. There may be 1 to as many as the scheduler
+    /// was opened with. A worker above them ends what it runs, and is then told that it is retired. May be called
+    /// after a close, too. Refused, by the first of these that is so: where the number is out of its range, and where
+    /// the entries that are left are needed for what is submitted.
     pub fn workers(&mut self, who: u32, moment: u64, count: u32) -> Result<(), Cause>
         ensures answers { AnswersCall self.old (call.Workers who moment count) (change_reply result) self.new }
         ensures jobs { self.new.jobs ≡ self.old.jobs }

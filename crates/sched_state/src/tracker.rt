@@ -6,7 +6,7 @@ ghost use Rattle.fq_model.specs.History.{History};
 ghost use Rattle.fq_model.specs.Time.{last_moment};
 ghost use Rattle.fq_model.specs.Keys.{keys_at, start};
 ghost use Rattle.fq_model.specs.Rules.{done_refusal};
-ghost use Rattle.charge_book.specs.Book.{row_on, MayUse};
+ghost use Rattle.charge_book.specs.Book.{MayUse};
 ghost use Rattle.sched_journal.specs.Journal.{history, MayGain};
 ghost use Rattle.sched_state.specs.Lists.{jobs_in};
 ghost use Rattle.sched_state.specs.Tracker.{Mirrors, Tracks, TracksBut, TracksSomeBut, TracksAfter, submit_act, MayBegin, Begins, MayName, raised_first};
@@ -29,10 +29,10 @@ use virtual_clock::times::Times;
 use waiting_lists::item::Item;
 use waiting_lists::lists::Lists;
 
-/// The waiting requests and their jobs, what runs and what is charged for it, the estimator, virtual time, and a chooser
-/// with the keys of every tenant's head: at each call what the definitions say of the history, so that nothing looks back
-/// at its entries. Each call is told the journal as it is before the call's entry. A Close changes `times` alone, and a
-/// Workers `times` and `chooser`, by calls of these parts.
+/// The waiting requests and their jobs, what runs and what is charged for it, the estimator, virtual time, and a
+/// chooser with the keys of every tenant's head: at each call what the definitions say of the history, so that
+/// nothing looks back at its entries. Each call is told the journal as it is before the call's entry. A Close changes
+/// `times` alone, and a Workers `times` and `chooser`, by calls of these parts.
 #[derive(Drop)]
 pub struct Tracker<J, X> {
     pub lists: Lists<J>,
@@ -87,8 +87,8 @@ impl<J: Job + Drop, X: Chooser> Tracker<J, X> {
         self.renew(journal.config(), tenant);
     }
 
-    /// A worker that runs nothing takes the request that is its turn at this moment, in microseconds. Gives what waited,
-    /// and the estimate that is charged.
+    /// A worker that runs nothing takes the request that is its turn at this moment, in microseconds. Gives what
+    /// waited, and the estimate that is charged.
     pub fn take(&mut self, journal: &Journal, moment: u64, worker: u32) -> (Item<J>, u64)
         requires tracked { Tracks J.label_of X.seen journal.now.config (history journal.now) self.old }
         requires may { MayBegin journal.now moment worker }

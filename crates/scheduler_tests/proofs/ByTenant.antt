@@ -1,5 +1,5 @@
 -- Tables in which the head of each tenant has its number.
-use Rattle.std.proofs.Common.{ℕ, ◌≡◌, ◌≢◌, ◌∙◌, inl, inr, sym, subst, ap, List, length, slice_set, Option, Some}
+use Rattle.std.proofs.Common.{ℕ, ◌≡◌, ◌∙◌, inl, inr, sym, subst, ap, length, slice_set, Some}
 use Rattle.std.proofs.lemmas.Bool.{cases_eq, cases_lt}
 use Rattle.std.proofs.lemmas.List.{set_past}
 use Rattle.fq_model.specs.Keys.{HeadKeys}

@@ -98,8 +98,8 @@ fn expect_fewer<R: Abort>(
     expect_blocks(rt, order.blocks(), third);
 }
 
-// 8 heads and the 16 of the next block stay apart; they are joined once 8 of those are gone too. A block whose last head
-// goes is no more.
+// 8 heads and the 16 of the next block stay apart; they are joined once 8 of those are gone too. A block whose last
+// head goes is no more.
 #[test]
 fn blocks_join_and_empty(rt: HostRuntime) {
     let first = [(8, 92, 8), (16, 84, 16), (16, 68, 32), (22, 52, 48)];

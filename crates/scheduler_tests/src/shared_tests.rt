@@ -21,8 +21,9 @@ fn equal_finishes(rt: HostRuntime) {
     expect_lesser_first::<SharedChooser, HostRuntime>(&rt, rt.alloc());
 }
 
-// The first head starts at 2 and finishes at 3, the second starts at 1 and finishes at 10. At 0 neither is eligible, though one
-// that finishes at 3 and is 9 long would be: the second becomes eligible soonest. At 1 it alone is eligible, at 2 both are.
+// The first head starts at 2 and finishes at 3, the second starts at 1 and finishes at 10. At 0 neither is eligible,
+// though one that finishes at 3 and is 9 long would be: the second becomes eligible soonest. At 1 it alone is
+// eligible, at 2 both are.
 fn expect_not_misled<X: Chooser + Drop, R: Abort>(rt: &R, alloc: Global) {
     let short = keys(2 * UNIT, 1, 1, 0);
     let long = keys(UNIT, 9, 1, 1);
@@ -50,8 +51,8 @@ fn give<X: Chooser>(chooser: &mut X, tenant: u32, keys: Keys)
     chooser.set(tenant, Some(keys));
 }
 
-// Tenants 0 to 39 finish at 10, 11 and so on and are 1 long, more than a block holds; the last one starts at 0 and finishes
-// at 60. Tenant 10, which finishes at 20, is then 15 long.
+// Tenants 0 to 39 finish at 10, 11 and so on and are 1 long, more than a block holds; the last one starts at 0 and
+// finishes at 60. Tenant 10, which finishes at 20, is then 15 long.
 fn many_heads<X: Chooser, R: Abort>(rt: &R, alloc: Global) -> X
     ensures setting { (X.seen result).setting
         ≡ record { policy = policies.Wf2q; most_workers = 1; workers = 1; tenants = 41 } }
@@ -79,8 +80,9 @@ fn take_out<X: Chooser>(chooser: &mut X, before: u32)
     }
 }
 
-// At 0 the first block holds no eligible head, though one that finishes at 10 and is 15 long would be: the choice comes from a
-// later block. Without it none is eligible, and tenant 10 is soonest, which starts at 5; without that one tenant 0, at 9.
+// At 0 the first block holds no eligible head, though one that finishes at 10 and is 15 long would be: the choice
+// comes from a later block. Without it none is eligible, and tenant 10 is soonest, which starts at 5; without that
+// one tenant 0, at 9.
 fn expect_later_blocks<X: Chooser + Drop, R: Abort>(rt: &R, alloc: Global) {
     let mut chooser = many_heads::<X, R>(rt, alloc);
     let of_all = chooser.choose(0, 0);

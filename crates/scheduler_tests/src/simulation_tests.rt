@@ -1,5 +1,5 @@
 //! Traces whose simulated histories were made by hand.
-ghost use Rattle.std.specs.Prelude.{◌≡◌, ◌<◌};
+ghost use Rattle.std.specs.Prelude.{◌<◌};
 ghost use Rattle.program_model.specs.RunLimits.{AreInRange};
 ghost use Rattle.program_model.specs.TraceText.{IsLawfulTrace};
 

@@ -1,20 +1,18 @@
 -- What a head more or less makes of an order and its table.
-use Rattle.std.proofs.Common.{ℕ, zero, suc, ◌+◌, ◌<◌, ◌≤◌, ◌≡◌, ◌≢◌, ◌⊎◌, inl, inr, arith, refl, sym, ◌∙◌, ap, subst, Bool, true, false, cond, List, [], ◌∷◌, ◌++◌, length, slice_get, slice_set, slice_index_or, get_or, replicate, length-append, length-set, Option, Some, None, is_some, IfSome, MatchOption, ℤ, pos, ◌+ℤ◌, ◌-ℤ◌, ◌≤ℤ◌}
+use Rattle.std.proofs.Common.{ℕ, zero, suc, ◌+◌, ◌<◌, ◌≤◌, ◌≡◌, ◌≢◌, ◌⊎◌, inl, inr, arith, refl, sym, ◌∙◌, ap, subst, cond, List, [], ◌∷◌, ◌++◌, length, slice_get, slice_set, slice_index_or, get_or, replicate, length-append, length-set, Option, Some, None, is_some, IfSome, MatchOption, ℤ, pos, ◌+ℤ◌, ◌-ℤ◌, ◌≤ℤ◌}
 use Rattle.std.specs.List.{All, AllPairs, Contains, count_by}
 use Rattle.std.proofs.lemmas.Int.{ints}
 use Rattle.std.proofs.lemmas.Bool.{cases_eq}
 use Rattle.std.proofs.lemmas.List.{length-replicate, set-set, set-get_or, get_or-set_same}
 use Rattle.std.proofs.lemmas.List.Kept.{AllPairs-cons}
-use Rattle.std.proofs.lemmas.List.Elements.{All-nil, All-cons, All-append, All-weaker, All-head, All-tail, All-contains, All-same, Contains-append_left, Contains-append_right, Contains-append_cases}
+use Rattle.std.proofs.lemmas.List.Elements.{All-nil, All-cons, All-append, All-head, All-tail, Contains-append_left, Contains-append_right, Contains-append_cases}
 use Rattle.std.proofs.lemmas.List.Sums.{sum_by-set, count_by-le-length, sum_by-cons}
-use Rattle.std.proofs.lemmas.Option.{slice_get_read, slice_get_within}
 use Rattle.vt_fixed.specs.declared.limits.TheConstants.{GREATEST_LENGTH}
 use Rattle.tag_rules.specs.Keys.{IsInRange}
 use Rattle.fq_model.specs.Keys.{HeadKeys}
 use Rattle.tag_rules.specs.Tables.{Table, Has, IsNewTo, RequestsDiffer}
 use Rattle.shared_order.specs.Heads.{HeadView, head_of, Gains}
 use Rattle.shared_order.specs.Blocks.{OrderView}
-use Rattle.shared_order.specs.Search.{AreInRange}
 use Rattle.shared_order.specs.Mirrors.{keys_of, Mirrors, KeepsChooser}
 use Rattle.shared_order.proofs.Pieces.{all_front, all_back, all_middle, holds_middle}
 

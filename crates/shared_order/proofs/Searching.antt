@@ -1,15 +1,14 @@
 -- Looking among heads in order.
-use Rattle.std.proofs.Common.{ℕ, zero, suc, ◌+◌, ◌<◌, ◌≡◌, ◌⊎◌, ◌↔◌, inl, inr, arith, refl, sym, ◌∙◌, ap, subst, Bool, true, false, IsTrue, List, [], ◌∷◌, ◌++◌, length, take, drop, get_or, slice_get, append_assoc, append-nil, Option, Some, None, is_some, IfSome, IfNone, ℤ, pos, ◌-ℤ◌, ◌≤ℤ◌, ◌<ℤ◌, to_z, of_z, FitsSigned}
+use Rattle.std.proofs.Common.{ℕ, suc, ◌+◌, ◌<◌, ◌≡◌, ◌↔◌, inl, inr, arith, refl, sym, ◌∙◌, ap, subst, Bool, true, false, IsTrue, List, [], ◌∷◌, ◌++◌, length, take, drop, get_or, slice_get, append_assoc, append-nil, Option, Some, None, is_some, IfNone, ℤ, pos, ◌-ℤ◌, ◌≤ℤ◌, ◌<ℤ◌, to_z, of_z, FitsSigned}
 use mir.Syntax.{w128}
 use lib.Signed.{lt_z, le_z}
-use Rattle.std.specs.List.{All, AllPairs, Contains}
+use Rattle.std.specs.List.{All, Contains}
 use Rattle.std.specs.Int.{int_max}
 use Rattle.std.proofs.lemmas.Int.{ints, clamps, by_lt_z, to_z-of_z}
 use Rattle.std.proofs.lemmas.Bool.{false≢true}
 use Rattle.std.proofs.lemmas.List.{drop_more, take-append-drop}
-use Rattle.std.proofs.lemmas.List.Elements.{All-nil, All-cons, All-append, All-weaker, All-head, All-tail, All-contains, All-same}
+use Rattle.std.proofs.lemmas.List.Elements.{All-nil, All-cons, All-append, All-weaker, All-tail, All-same}
 use Rattle.vt_fixed.specs.declared.limits.TheConstants.{GREATEST_LENGTH}
-use Rattle.fq_model.specs.declared.limits.TheConstants.{GREATEST_START}
 use Rattle.tag_rules.specs.Keys.{IsInRange}
 use Rattle.fq_model.specs.Keys.{Turn}
 use Rattle.order_laws.specs.Reach.{key_by_finish, IsInReach}
@@ -19,7 +18,7 @@ use Rattle.shared_order.specs.Heads.{HeadView, HeadBefore, IsSorted, greatest_le
 use Rattle.shared_order.specs.Blocks.{all_heads}
 use Rattle.shared_order.specs.Search.{AreInRange, AreInLimits, IsReached, key_of, IsSooner, IsFirstThat, IsLeast, IsSoonest, TakesSoonest}
 use Rattle.shared_order.specs.declared.search.Candidate.{Candidate}
-use Rattle.shared_order.proofs.Pieces.{front_pairs, back_pairs, across_pairs, all_front, all_middle, holds_middle, blocks_more, blocks_cut, so_far_pairs}
+use Rattle.shared_order.proofs.Pieces.{front_pairs, back_pairs, across_pairs, all_middle, holds_middle, blocks_more, blocks_cut, so_far_pairs}
 
 -- ---- a number that fits, read back
 

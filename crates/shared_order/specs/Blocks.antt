@@ -49,7 +49,8 @@ pub record BlocksView : Type 0 where
 abbrev pub block_count : BlocksView → ℕ
 block_count row = length row.used + row.spare
 
--- how many heads always fit into so many blocks: two neighbours have more than half a block, so all but one have half of
+-- how many heads always fit into so many blocks: two neighbours have more than half a block, so all but one have half
+-- of
 -- that on average
 abbrev pub room_in : ℕ → ℕ
 room_in blocks = 8 * (blocks - 1)

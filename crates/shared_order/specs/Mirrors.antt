@@ -1,5 +1,5 @@
 -- An order of the heads whose keys a table has, and the choice over it.
-use Rattle.std.specs.Prelude.{ℕ, ◌≡◌, ◌≢◌, ◌⊎◌, List, Option, is_some, length, ◌≤◌, ℤ, pos, ◌-ℤ◌, ◌≤ℤ◌}
+use Rattle.std.specs.Prelude.{ℕ, ◌≡◌, ◌≢◌, ◌⊎◌, List, is_some, length, ◌≤◌, ℤ, pos, ◌-ℤ◌, ◌≤ℤ◌}
 use Rattle.std.specs.List.{All, AllPairs, Contains, count_by}
 use Rattle.fq_model.specs.Keys.{HeadKeys, Turn}
 use Rattle.tag_rules.specs.Tables.{Table, Has, RequestsDiffer}

@@ -1,5 +1,5 @@
 //! A block of heads.
-ghost use Rattle.std.specs.Prelude.{◌≡◌, ◌≢◌, ◌≤◌, ◌<◌, ◌+◌, ◌++◌, ◌↔◌, [], IfOk, IfSome, IsTrue, length, take, drop, slice_get};
+ghost use Rattle.std.specs.Prelude.{◌≡◌, ◌≢◌, ◌≤◌, ◌<◌, ◌+◌, ◌++◌, ◌↔◌, [], IfOk, IsTrue, length, take, drop, slice_get};
 ghost use Rattle.std.specs.Int.{int_max};
 ghost use Rattle.std.specs.List.{All, Contains};
 ghost use Rattle.shared_order.specs.Heads.{HeadBefore, IsSorted, IsPlaceOf, Gains, greatest_length};

@@ -17,7 +17,7 @@ pub enum GapFault {
     #[error("request {0} is not as declared")]
     NotDeclared(u32),
     /// There was no memory.
-    #[error("no memory for the gap")]
+    #[error("out of memory")]
     NoMemory,
 }
 

@@ -1,5 +1,5 @@
 //! What the differences of two starts come to.
-ghost use Rattle.std.specs.Prelude.{◌≡◌, option_map};
+ghost use Rattle.std.specs.Prelude.{◌≡◌};
 ghost use Rattle.tag_gap.specs.Found.{nothing, with_difference, at_least, gap_from};
 
 use crate::gap::Gap;

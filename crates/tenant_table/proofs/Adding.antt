@@ -5,7 +5,7 @@ use Rattle.std.specs.Result.{IsErr, IsErrAnd}
 use Rattle.std.proofs.lemmas.Bool.{le-leb, lt-leb}
 use Rattle.std.proofs.lemmas.List.{take_more}
 use Rattle.fq_model.specs.Limits.{IsWeight, is_outside}
-use Rattle.fq_model.specs.Numbers.{is_name}
+use Rattle.fq_model.specs.Spelling.{is_name}
 use Rattle.tenant_table.specs.declared.fault.NameFault.{NameFault}
 use Rattle.tenant_table.specs.declared.fault.NameFault.TheVariants.{Word, Twice, TooMany, NoMemory}
 use Rattle.tenant_table.specs.Names.{names_of, weights_of, number_among, kind_refusal, tenant_refusal, IsReason, IsAnswer}

@@ -4,7 +4,7 @@ use Rattle.vt_fixed.specs.declared.limits.TheConstants.{GREATEST_WEIGHT}
 use Rattle.fq_model.specs.declared.limits.TheConstants.{MOST_TENANTS, MOST_KINDS}
 use Rattle.fq_model.specs.Rows.{first_true}
 use Rattle.fq_model.specs.Limits.{IsWeight, is_outside}
-use Rattle.fq_model.specs.Numbers.{is_name}
+use Rattle.fq_model.specs.Spelling.{is_name}
 pub use Rattle.fq_model.specs.Names.{number_among, AreNames}
 use Rattle.tenant_table.specs.declared.fault.NameFault.{NameFault}
 use Rattle.tenant_table.specs.declared.fault.NameFault.TheVariants.{Word, Weight, Twice, TooMany, NoMemory}

@@ -1,6 +1,6 @@
 //! Kinds while they are added.
 ghost use Rattle.std.specs.Prelude.{◌≡◌, ◌<◌, ◌==◌, ◌++◌, [], ◌∷◌, IsTrue, length, Some, None, IfOk, OnOk, OnErr, IfSome, IfNone, Contains, slice_get};
-ghost use Rattle.fq_model.specs.Numbers.{is_name};
+ghost use Rattle.fq_model.specs.Spelling.{is_name};
 ghost use Rattle.tenant_table.specs.Names.{number_among, AreNames, kind_refusal, IsAnswer};
 ghost use Rattle.tenant_table.specs.Rows.{kinds_of};
 

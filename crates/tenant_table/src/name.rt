@@ -1,7 +1,7 @@
 //! What is a name.
 ghost use Rattle.std.specs.Prelude.{◌≡◌};
 ghost use Rattle.std.specs.List.{list_all};
-ghost use Rattle.fq_model.specs.Numbers.{is_name_byte, is_name};
+ghost use Rattle.fq_model.specs.Spelling.{is_name_byte, is_name};
 
 /// Whether a text is a name of a tenant or a kind: 1 to 64 bytes, each an ASCII letter, a digit, `_`,
 /// `-` or `.`.

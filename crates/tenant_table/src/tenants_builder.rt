@@ -1,7 +1,7 @@
 //! Tenants while they are added.
 ghost use Rattle.std.specs.Prelude.{◌≡◌, ◌<◌, ◌==◌, ◌++◌, [], ◌∷◌, IsTrue, length, Some, None, IfOk, OnOk, OnErr, IfSome, IfNone, Contains, slice_get};
 ghost use Rattle.fq_model.specs.Limits.{IsWeight};
-ghost use Rattle.fq_model.specs.Numbers.{is_name};
+ghost use Rattle.fq_model.specs.Spelling.{is_name};
 ghost use Rattle.tenant_table.specs.Names.{names_of, number_among, AreTenants, tenant_refusal, IsAnswer};
 ghost use Rattle.tenant_table.specs.Rows.{tenants_of};
 

@@ -1,4 +1,5 @@
-//! Tests of virtual time, command lines, scripts, journals, traces, names, the fluid reference and lag reports, as callers use them.
+//! Tests of virtual time, command lines, scripts, journals, traces, names, the fluid reference and lag reports, as
+//! callers use them.
 #![tactic(auto)]
 
 #[cfg(test)]

@@ -6,7 +6,7 @@ use Rattle.history_lock.specs.Passes.{LockView}
 use Rattle.desk.specs.declared.floor.Crew.{Crew}
 use Rattle.desk.specs.declared.tokens.Submitter.{Submitter}
 use Rattle.desk.specs.declared.tokens.Worker.{Worker}
-use Rattle.desk.specs.Opening.{AreSubmitters, AreWorkers, HasMade}
+use Rattle.desk.specs.Opening.{AreWorkers, HasMade}
 use Rattle.worker_gate.specs.declared.pool.Hand.{Hand}
 use Rattle.worker_gate.specs.declared.pool.Hand.TheVariants.{Work}
 use Rattle.trace_pool.specs.Parts.{KnowsAll, IsCrewOf, IsWorkOf}

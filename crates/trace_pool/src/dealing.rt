@@ -1,6 +1,5 @@
 //! Whose rows are whose.
-ghost use Rattle.std.specs.Prelude.{◌≡◌, ◌≤◌, ◌<◌, ◌+◌, length, All, IfOk};
-ghost use Rattle.fq_model.specs.declared.limits.TheConstants.{MOST_ROWS};
+ghost use Rattle.std.specs.Prelude.{◌≡◌, ◌<◌, length, IfOk};
 ghost use Rattle.trace_pool.specs.Parts.{AreRowsOf};
 ghost use Rattle.trace_pool.specs.Places.{HoldsFrom};
 

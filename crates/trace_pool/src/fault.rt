@@ -12,7 +12,7 @@ pub enum PoolFault {
     #[error("the history would have {0} entries, and there may be {MOST_ENTRIES}")]
     TooManyEntries(u64),
     /// There was no memory.
-    #[error("no memory for the pool")]
+    #[error("out of memory")]
     NoMemory,
 }
 

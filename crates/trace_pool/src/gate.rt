@@ -9,7 +9,6 @@ use gate_rules::counters::Counters;
 use gate_rules::gate::{Gate, Slice};
 use gate_rules::steps::Steps;
 use program_model::trace::TraceRow;
-use std::marker::Model;
 
 /// Counts the cost of the row that a job names up, by its step. A job is a row's number.
 #[derive(Drop)]

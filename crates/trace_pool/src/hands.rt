@@ -1,5 +1,5 @@
 //! Tokens as hands, and back.
-ghost use Rattle.std.specs.Prelude.{◌≡◌, ◌≤◌, ◌+◌, [], ◌++◌, length, All, vec_capacity};
+ghost use Rattle.std.specs.Prelude.{◌≡◌, ◌≤◌, ◌+◌, [], length, All, vec_capacity};
 ghost use Rattle.fq_model.specs.declared.limits.TheConstants.{MOST_ROWS};
 ghost use Rattle.desk.specs.Opening.{AreSubmitters, AreWorkers, HasMade};
 ghost use Rattle.trace_pool.specs.Parts.{AreRowsOf, IsCrewOf, IsFeedOf, AreHands, HoldsToken, submitters_in, workers_in};

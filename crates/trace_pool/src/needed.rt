@@ -11,9 +11,10 @@ use gate_rules::steps::Steps;
 use program_model::trace::TraceRow;
 use trace_reader::trace::Trace;
 
-/// The number of entries that the history of a pool may need, where running requests are reported after each `refresh`
-/// microseconds, or more where a request would have too many slices, or not at all where that is 0: a Submit, a Take and
-/// a Done of each request, its Reports, the Close, and one that stays free. It may be more than a history can have.
+/// The number of entries that the history of a pool may need, where running requests are reported after each
+/// `refresh` microseconds, or more where a request would have too many slices, or not at all where that is 0: a
+/// Submit, a Take and a Done of each request, its Reports, the Close, and one that stays free. It may be more than a
+/// history can have.
 pub fn needed(trace: &Trace, refresh: u64) -> u64
     requires lawful { IsLawfulTrace trace.now }
     requires refresh { refresh ≤ GREATEST_COST }

@@ -110,10 +110,10 @@ fn serve_at_desk<X: Chooser + Drop + Send, K: Clock + Sync, R: Threads + Wait + 
     Ok(scheduler.into_history())
 }
 
-/// Serves a trace by a pool of threads, one for each submitter and one for each worker, and gives the history that they
-/// made. Rows come when their submitter comes to them: their moments are not used. The clock is asked by the threads
-/// alone, before each call that they make, and labels are the rows' numbers from 0. All memory is taken before the first
-/// call, and none where there would be too many entries.
+/// Serves a trace by a pool of threads, one for each submitter and one for each worker, and gives the history that
+/// they made. Rows come when their submitter comes to them: their moments are not used. The clock is asked by the
+/// threads alone, before each call that they make, and labels are the rows' numbers from 0. All memory is taken
+/// before the first call, and none where there would be too many entries.
 pub fn serve<X: Chooser + Drop + Send, K: Clock + Sync, R: Threads + Wait + Sync>(
     rt: &R,
     alloc: Global,

@@ -22,7 +22,7 @@ use Rattle.program_model.specs.Courses.{sum_over, reports_below}
 use Rattle.program_model.specs.Generator.{after_draws, draw, generated_tenants, generated_kind, generated_declared, mixed_cost, generated_cost, with_generated, generated_requests, generated_trace}
 use Rattle.fq_model.specs.Limits.{IsWithin}
 use Rattle.fq_model.specs.Names.{AreNames, number_among, number_by_appearance, with_appearance}
-use Rattle.fq_model.specs.Numbers.{is_name}
+use Rattle.fq_model.specs.Spelling.{is_name}
 use Rattle.program_model.specs.Reading.{is_empty}
 use Rattle.program_model.specs.Simulated.{needed_entries}
 use Rattle.program_model.specs.Trace.{Trace, last_row_moment, with_some_kind}

@@ -10,7 +10,7 @@ use Rattle.fq_model.specs.declared.limits.TheConstants.{MOST_TENANTS}
 use Rattle.program_model.specs.Generator.{generated_name, generated_weight}
 use Rattle.fq_model.specs.Limits.{IsWeight}
 use Rattle.fq_model.specs.Names.{AreNames, number_among}
-use Rattle.fq_model.specs.Numbers.{is_name}
+use Rattle.fq_model.specs.Spelling.{is_name}
 use Rattle.tenant_table.specs.Names.{names_of, weights_of}
 use Rattle.trace_reader.proofs.Plain.{decimal-plain}
 use Rattle.trace_reader.proofs.ReadBack.{none_among}

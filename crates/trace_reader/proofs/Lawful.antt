@@ -17,7 +17,7 @@ use Rattle.program_model.specs.declared.fault.TraceKind.TheVariants.{Word, Range
 use Rattle.program_model.specs.declared.trace.TraceRow.{TraceRow}
 use Rattle.fq_model.specs.Limits.{IsWithin, IsWeight, is_outside}
 use Rattle.fq_model.specs.Names.{AreNames, number_among, number_by_appearance, with_appearance}
-use Rattle.fq_model.specs.Numbers.{is_name}
+use Rattle.fq_model.specs.Spelling.{is_name}
 use Rattle.program_model.specs.Reading.{◌>>=◌, at_line, begins_with, is_empty, or_fault}
 use Rattle.program_model.specs.Trace.{Trace, last_row_moment, with_row, with_some_kind}
 use Rattle.program_model.specs.TraceGrammar.{Record, field, with_count, number_at, ranged_at, moment_at, name_at, new_name_at, tenant_at, not_too_many, with_tenant, with_request, with_record, with_records, no_records, trace_of}

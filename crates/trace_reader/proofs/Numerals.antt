@@ -4,7 +4,7 @@ use Rattle.std.specs.Fmt.{decimal}
 use Rattle.std.specs.Option.{option_and_then}
 use Rattle.std.proofs.lemmas.Bool.{eqb-true, false_from_ne_true, le-leb}
 use Rattle.std.proofs.lemmas.Fmt.{decimal_by_steps, decimal_nonempty, first_decimal, length-decimal-le_succ}
-use Rattle.fq_model.specs.Numbers.{number_of, with_digit, with_digits}
+use Rattle.program_model.specs.Numbers.{number_of, with_digit, with_digits}
 
 digit_more : (n m d : ℕ) → d < 10 → m ≡ 10 * n + d → m ≤ 18446744073709551615 → with_digit n (48 + d) ≡ Some m
 digit_more n m d below is fits =

@@ -11,7 +11,7 @@ use Rattle.csv.specs.Machine.{next_record}
 use Rattle.csv.specs.Reading.{default_config, records, records_from}
 use Rattle.csv.specs.Writing.{default_writer, field_text, needs_byte, read_back, row_body, row_text}
 use Rattle.csv.specs.declared.parser.State.TheVariants as st
-use Rattle.fq_model.specs.Numbers.{is_name, is_name_byte}
+use Rattle.fq_model.specs.Spelling.{is_name, is_name_byte}
 use Rattle.program_model.specs.TraceGrammar.{Record}
 use Rattle.trace_reader.proofs.Reached.{none_left}
 

@@ -19,7 +19,7 @@ use Rattle.fq_model.specs.declared.limits.TheConstants.{MOST_TENANTS, MOST_KINDS
 use Rattle.program_model.specs.declared.trace.TraceRow.{TraceRow}
 use Rattle.fq_model.specs.Limits.{IsWithin, IsWeight, is_outside}
 use Rattle.fq_model.specs.Names.{AreNames, number_among, number_by_appearance, with_appearance}
-use Rattle.fq_model.specs.Numbers.{is_name}
+use Rattle.fq_model.specs.Spelling.{is_name}
 use Rattle.program_model.specs.Trace.{Trace, last_row_moment, with_row}
 use Rattle.program_model.specs.TraceGrammar.{Record, field, number_at, ranged_at, moment_at, name_at, new_name_at, tenant_at, not_too_many, with_tenant, with_request, with_record, with_records, trace_of, trace_of_records}
 use Rattle.csv.proofs.RoundTrip.{rows_text}

@@ -4,7 +4,7 @@ ghost use Rattle.std.specs.List.{list_all};
 ghost use Rattle.std.specs.Str.{is_utf8};
 ghost use Rattle.csv.specs.Records.{fields_of};
 ghost use Rattle.fq_model.specs.Names.{number_among};
-ghost use Rattle.fq_model.specs.Numbers.{is_name};
+ghost use Rattle.fq_model.specs.Spelling.{is_name};
 ghost use Rattle.program_model.specs.Reading.{begins_with};
 ghost use Rattle.program_model.specs.Trace.{last_row_moment};
 ghost use Rattle.program_model.specs.TraceGrammar.{field, with_count, number_at, ranged_at, moment_at, name_at, new_name_at, tenant_at};

@@ -1,10 +1,10 @@
-//! Traces of random numbers: of four tenants in turn two have small requests, one a few large ones among small ones, and
-//! one large ones. The rule is this program's own, and is taken from no measured load.
+//! Traces of random numbers: of four tenants in turn two have small requests, one a few large ones among small ones,
+//! and one large ones. The rule is this program's own, and is taken from no measured load.
 ghost use Rattle.std.specs.Prelude.{◌≡◌, ◌<◌, ◌≤◌, IsTrue, [], length, IfOk, OnOk};
-ghost use Rattle.program_model.specs.Generator.{generated_name, generated_weight, generated_tenants, generated_kind, generated_declared, mixed_cost, generated_cost, with_generated, generated_trace};
+ghost use Rattle.program_model.specs.Generator.{generated_tenants, generated_kind, generated_declared, mixed_cost, generated_cost, with_generated, generated_trace};
 ghost use Rattle.fq_model.specs.Limits.{IsWithin};
 ghost use Rattle.fq_model.specs.Names.{number_by_appearance, with_appearance};
-ghost use Rattle.fq_model.specs.Numbers.{is_name};
+ghost use Rattle.fq_model.specs.Spelling.{is_name};
 ghost use Rattle.program_model.specs.TraceText.{IsLawfulTrace};
 ghost use Rattle.trace_reader.specs.Generating.{gen_refusal, FaultsOnly, HasRoomForOne};
 ghost use Rattle.trace_reader.specs.Reading.{trace_in};

@@ -1,5 +1,5 @@
 //! The reader of traces.
-ghost use Rattle.std.specs.Prelude.{◌≡◌, ◌+◌, IsTrue, length, Ok, IfOk, IfErr};
+ghost use Rattle.std.specs.Prelude.{◌≡◌, ◌+◌, IsTrue, Ok, IfOk, IfErr};
 ghost use Rattle.std.specs.List.{list_all};
 ghost use Rattle.std.specs.Str.{is_utf8};
 ghost use Rattle.csv.specs.Records.{fields_of};

@@ -11,7 +11,7 @@ use Rattle.fq_model.specs.declared.event.Reply.{Reply}
 use Rattle.fq_model.specs.declared.event.Reply.TheVariants as answer
 use Rattle.fq_model.specs.declared.event.Cause.{Cause}
 use Rattle.fq_model.specs.History.{History, history_of, submits, waiting, running_on, last_use, is_closed, pool_at}
-use Rattle.fq_model.specs.Rules.{RefusedOrElse, Answers, FitsUse, FitsSubmit, FitsTake, HasRoom, report_refusal, done_refusal, submit_refusal, take_refusal, close_refusal, request_on, needed_room, RunsChosen, AnswersFree, AnswersPooled}
+use Rattle.fq_model.specs.Rules.{RefusedOrElse, Answers, FitsUse, FitsSubmit, FitsTake, HasRoom, report_refusal, done_refusal, submit_refusal, take_refusal, close_refusal, needed_room, RunsChosen, AnswersFree, AnswersPooled}
 use Rattle.fq_model.specs.Time.{last_moment, effective_moment}
 use Rattle.fq_laws.proofs.History.Workers.{running_nothing}
 use Rattle.fq_laws.proofs.Rules.Refusals.{request_on_is}

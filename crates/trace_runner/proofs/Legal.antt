@@ -6,7 +6,7 @@ use Rattle.fq_model.specs.declared.event.Act.{Act}
 use Rattle.fq_model.specs.declared.event.Act.TheVariants.{Submit, Take, Report, Done, Close, Weight, Workers}
 use Rattle.fq_model.specs.declared.event.Entry.{Entry}
 use Rattle.program_model.specs.Courses.{course, serves}
-use Rattle.fq_model.specs.History.{History, has_act, count_acts, is_submitted, is_taken, is_done, is_closed, is_change, is_close, is_take_of, is_take_by, is_submit_of, is_waiting, is_running, waiting, running, submits, with_submit, last_use, use_in, Runs, pool_at, request_bound}
+use Rattle.fq_model.specs.History.{History, has_act, count_acts, is_submitted, is_taken, is_done, is_closed, is_change, is_take_of, is_take_by, is_submit_of, is_waiting, waiting, running, submits, with_submit, last_use, use_in, Runs, pool_at, request_bound}
 use Rattle.fq_model.specs.Limits.{InLimits}
 use Rattle.fq_model.specs.Rules.{IsLegal, Fits}
 use Rattle.fq_model.specs.Sums.{sum_below}

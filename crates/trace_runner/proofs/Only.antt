@@ -10,7 +10,7 @@ use Rattle.program_model.specs.declared.trace.TraceRow.{TraceRow}
 use Rattle.program_model.specs.Courses.{worker_caller, course, serves}
 use Rattle.fq_model.specs.History.{History, has_act, is_close, is_closed, is_change, is_submit, is_taken, is_done, is_done_of, is_waiting, submits, with_submit, waiting, Runs, request_bound}
 use Rattle.fq_model.specs.Rules.{IsLegal, Fits, FitsTake}
-use Rattle.program_model.specs.Simulated.{run_config, row_submits, timed, time_served, rank, RankBefore, InTurn, IsServed, IsSimulated, KeepsBusy, AllRun, IsSettled, ClosesLast, RunsSomething}
+use Rattle.program_model.specs.Simulated.{run_config, rank, RankBefore, IsServed, IsSimulated, IsSettled, ClosesLast}
 use Rattle.fq_model.specs.Time.{last_moment}
 use Rattle.program_model.specs.Trace.{Trace}
 use Rattle.fq_laws.proofs.History.Asked.{waits_submitted, waits_untaken}

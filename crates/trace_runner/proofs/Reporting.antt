@@ -6,7 +6,7 @@ use Rattle.fq_model.specs.declared.event.Act.TheVariants.{Report}
 use Rattle.fq_model.specs.declared.event.Entry.{Entry}
 use Rattle.program_model.specs.declared.trace.RunOptions.{RunOptions}
 use Rattle.program_model.specs.Courses.{course, worker_caller}
-use Rattle.fq_model.specs.History.{History, is_closed, is_done, is_taken, submits, waiting, Runs, running_on, last_use}
+use Rattle.fq_model.specs.History.{History, is_closed, is_done, waiting, running_on}
 use Rattle.program_model.specs.Trace.{Trace}
 use Rattle.fq_laws.proofs.History.Counts.{waiting_report}
 use Rattle.trace_runner.specs.declared.agenda.Agenda.{Agenda}

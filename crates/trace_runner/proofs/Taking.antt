@@ -1,5 +1,5 @@
 -- What the simulation keeps at a Take.
-use Rattle.std.proofs.Common.{ℕ, zero, suc, ◌+◌, ◌-◌, ◌*◌, ◌<◌, ◌≤◌, ◌≡◌, ◌≢◌, ◌==◌, ◌⊎◌, Bool, true, false, cond, max, min, List, [], ◌∷◌, length, Option, Some, None, arith, refl, ap, sym, ◌∙◌, subst, inl, inr, if◌then◌else◌, get_or, set, length-set, filter}
+use Rattle.std.proofs.Common.{ℕ, suc, ◌+◌, ◌-◌, ◌*◌, ◌<◌, ◌≤◌, ◌≡◌, ◌==◌, true, false, cond, min, [], ◌∷◌, length, Some, None, arith, refl, ap, sym, ◌∙◌, subst, inl, inr, get_or, set, length-set}
 use Rattle.std.proofs.lemmas.Bool.{cases_eq, eq-eqb, ne_eqb, both_ways, cond-true, cond-false}
 use Rattle.fq_model.specs.declared.event.Act.TheVariants.{Take}
 use Rattle.fq_model.specs.declared.event.Entry.{Entry}

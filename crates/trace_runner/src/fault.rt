@@ -13,7 +13,7 @@ pub enum SimFault {
     #[error("the history would have {0} entries, and there may be {MOST_ENTRIES}")]
     TooManyEntries(u64),
     /// There was no memory.
-    #[error("no memory for the simulation")]
+    #[error("out of memory")]
     NoMemory,
 }
 

@@ -8,7 +8,8 @@ use Rattle.fq_model.specs.Rules.{IsLegal}
 use Rattle.twodfq_c.specs.declared.entry.PlainEntry.{PlainEntry}
 use Rattle.twodfq_c.specs.Held.{Held}
 
--- an act, of nobody and at no moment, that has these numbers: its kind, request, tenant, kind of request, worker, amount, label
+-- an act, of nobody and at no moment, that has these numbers: its kind, request, tenant, kind of request, worker,
+-- amount, label
 abbrev pub numbers : ℕ → ℕ → ℕ → ℕ → ℕ → ℕ → ℕ → PlainEntry
 numbers kind request tenant request_kind worker amount label = record {
   kind = kind;

@@ -26,7 +26,8 @@ clock_time C P e c is =
     let next : virtual_time C (e ∷ P) e.moment ≡ virtual_time C P (last_moment P) + advance_of (e.moment - last_moment P) (pool_at C P) (active_weight C P) = virtual_time_next C P e ∙ ap (λ x. virtual_time C P (last_moment P) + x) (virtual_advance_is C P e.moment) in
     rw (is.time, is.moment, is.workers, is.weights) (omega (arith, ints, next))
 
--- so it is the clock of the history with the entry, once its workers are those and its weights are those active after the
+-- so it is the clock of the history with the entry, once its workers are those and its weights are those active after
+-- the
 -- entry
 pub clock_next : (C : Config) (P : History) (e : Entry) (c : ClockView) (workers weights : ℕ) → workers ≡ pool_at C (e ∷ P) → weights ≡ active_weight C (e ∷ P) → ClockIs C P c → ClockIs C (e ∷ P) (record { workers = workers; moment = e.moment; weights = weights; time = (moved_to c e.moment).time })
 clock_next C P e c workers weights staffed after is = record {

@@ -1,4 +1,5 @@
--- Which entries open a request of a tenant, close one, or change a weight or the number of workers, and the active weight
+-- Which entries open a request of a tenant, close one, or change a weight or the number of workers, and the active
+-- weight
 -- after them.
 use Rattle.std.proofs.Common.{ℕ, ◌+◌, ◌<◌, ◌≤◌, ◌≡◌, ◌≢◌, true, false, cond, arith, refl, ap, sym, subst, ◌∙◌, ◌∷◌, length, Some}
 use Rattle.std.proofs.lemmas.Bool.{eq-eqb, ne_eqb}

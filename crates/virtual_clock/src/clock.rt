@@ -6,7 +6,8 @@ use fq_model::limits::{GREATEST_ACTIVE_WEIGHT, GREATEST_MOMENT, GREATEST_WEIGHT,
 use std::marker::Model;
 use vt_fixed::advance;
 
-/// The greatest virtual time that a clock shows, in steps: the greatest moment, by the most workers, at active weight 1.
+/// The greatest virtual time that a clock shows, in steps: the greatest moment, by the most workers, at active weight
+/// 1.
 pub const GREATEST_SHOWN: i128 = 67108864000000000000000;
 
 /// Virtual time along a history, in steps. It rises at the rate of generalized processor sharing (Parekh and

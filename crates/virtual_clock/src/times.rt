@@ -1,6 +1,5 @@
 //! The virtual time of a history, the weights at its end, and for how long each tenant was not active.
-ghost use Rattle.std.specs.Prelude.{◌≡◌, ◌<◌, ◌≤◌, [], pos, ◌≤ℤ◌, length, IfOk};
-ghost use Rattle.fq_model.specs.Limits.{IsWeight};
+ghost use Rattle.std.specs.Prelude.{◌<◌, ◌≤◌, [], pos, ◌≤ℤ◌, length, IfOk};
 ghost use Rattle.fq_laws.specs.Steps.{Awaits, Follows, Submits, Completes, Reweighs, Staffs};
 ghost use Rattle.virtual_clock.specs.Idles.{idle_of};
 ghost use Rattle.virtual_clock.specs.Histories.{TimesAre, PassOn, IsTimeOf, IsIdleTimeOf, IsWeightOf, IsPoolOf};
@@ -12,8 +11,8 @@ use fq_model::config::Checked;
 use fq_model::limits::{GREATEST_MOMENT, GREATEST_WEIGHT, MOST_WORKERS};
 use std::alloc::{AllocError, Global};
 
-/// Virtual time at the last entry of a history, with the number of workers and the weights there, by which it goes on, and
-/// the idle times at that time.
+/// Virtual time at the last entry of a history, with the number of workers and the weights there, by which it goes
+/// on, and the idle times at that time.
 #[derive(Drop)]
 pub struct Times {
     clock: Clock128,

@@ -81,7 +81,8 @@ module _ {J : Type 0} where
     pub within : length slots ≤ room
     pub reserved : room ≤ capacity
 
-  -- A slot was made free if none was, or there are as many as there may be; the lists are as before, whichever ends they have.
+  -- A slot was made free if none was, or there are as many as there may be; the lists are as before, whichever ends
+  -- they have.
   pub record IsMadeFree (slots : List (Slot J)) (free : Option ℕ) (room : ℕ) (slots2 : List (Slot J)) (free2 : Option ℕ) : Type 0 where
     pub keeps : (ends : List (Option Ends)) → Keeps slots ends free → Keeps slots2 ends free2
     pub same : (ends : List (Option Ends)) → Keeps slots ends free → lists_of slots2 ends ≡ lists_of slots ends

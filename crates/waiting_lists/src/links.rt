@@ -1,5 +1,5 @@
 //! Slots, and how they are linked to lists.
-ghost use Rattle.std.specs.Prelude.{◌≡◌, ◌<◌, ◌≤◌, ◌++◌, [], ◌∷◌, drop, length, None, Some, OnOk, OnErr, IfErr, IfSome, MatchOption, slice_get, slice_set, slice_index_or, vec_capacity};
+ghost use Rattle.std.specs.Prelude.{◌≡◌, ◌<◌, ◌≤◌, [], length, None, Some, OnOk, OnErr, IfErr, IfSome, MatchOption, slice_get, slice_index_or, vec_capacity};
 ghost use Rattle.waiting_lists.specs.Linked.{lists_of, count_of, Keeps, IsMadeFree, IsAppended, IsTakenOff, IsLinkedBehind};
 
 use crate::item::Item;

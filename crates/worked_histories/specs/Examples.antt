@@ -1,4 +1,5 @@
--- Worked histories, the newest entry first, small enough to find by hand what the definitions give on them. The numbers of
+-- Worked histories, the newest entry first, small enough to find by hand what the definitions give on them. The numbers
+-- of
 -- an act stand in the order of its fields: Submit request tenant kind declared label, Take worker request estimate,
 -- Report worker request used, Done worker request cost, Weight tenant weight.
 use Rattle.std.specs.Prelude.{ℕ, ◌*◌, [], ◌∷◌, pos}
@@ -35,7 +36,8 @@ NoneIsEligibleAt C P m i = NoneIsEligible (turn_at C P m i) (HasKeys C P m)
 unfoldable pub stagger_config : Config
 stagger_config = record { workers = 2; weights = 1 ∷ 1 ∷ []; kinds = 1; entries = 100; requests = 10; policy = TwoDfq; estimate = Declared; initial = 1000 }
 
--- worker 1 runs a request of tenant 0 that is 8 long, while worker 0 runs requests of tenant 1 that are 1 long: the sixth
+-- worker 1 runs a request of tenant 0 that is 8 long, while worker 0 runs requests of tenant 1 that are 1 long: the
+-- sixth
 -- of them has just begun
 unfoldable pub stagger_history : History
 stagger_history =
@@ -102,7 +104,8 @@ fallback_taken request estimate = entry 10 1 (Take 0 request estimate) ∷ fallb
 unfoldable pub refund_config : Config
 refund_config = record { workers = 1; weights = 1 ∷ 2 ∷ []; kinds = 1; entries = 100; requests = 10; policy = TwoDfq; estimate = Pessimistic; initial = 990 }
 
--- a request of tenant 0 that was estimated at 990 cost 3, and then one of tenant 1 cost the 990 that it was estimated at
+-- a request of tenant 0 that was estimated at 990 cost 3, and then one of tenant 1 cost the 990 that it was estimated
+-- at
 unfoldable pub refund_history : History
 refund_history =
     entry 1 993 (Submit 3 1 0 1 4)

@@ -1,7 +1,7 @@
-//! The definitions computed on worked histories, one function an example: its contract says what they give there, and its
-//! body is empty. Each number can be found by hand, as the comments do. A unit of virtual time is 2^20 steps; tenants,
-//! requests and workers count from 0.
-ghost use Rattle.std.specs.Prelude.{ℕ, ◌/◌, ◌≡◌, ◌∷◌, pos, Some, None};
+//! The definitions computed on worked histories, one function an example: its contract says what they give there, and
+//! its body is empty. Each number can be found by hand, as the comments do. A unit of virtual time is 2^20 steps;
+//! tenants, requests and workers count from 0.
+ghost use Rattle.std.specs.Prelude.{◌/◌, ◌≡◌, ◌∷◌, pos, Some, None};
 ghost use Rattle.fq_model.specs.declared.config.Policy.{Policy};
 ghost use Rattle.fq_model.specs.declared.config.Policy.TheVariants.{Wfq, Wf2q, Msf2q, TwoDfq};
 ghost use Rattle.fq_model.specs.Limits.{InLimits};
@@ -30,8 +30,8 @@ pub fn stagger()
     ensures no_other { (k : HeadKeys) → ¬ IsChoiceAt stagger_config long_ended 5 1 1 k }
 {}
 
-/// The stagger example, where worker 0 is free. It takes nothing off a start: none is eligible at 5, and tenant 1, at 6,
-/// comes before tenant 0, at 8. The head of tenant 1 is the older of its two waiting requests, 8 and 9.
+/// The stagger example, where worker 0 is free. It takes nothing off a start: none is eligible at 5, and tenant 1, at
+/// 6, comes before tenant 0, at 8. The head of tenant 1 is the older of its two waiting requests, 8 and 9.
 pub fn stagger_of_first_worker()
     ensures legal { IsLegal stagger_config sixth_ended }
     ensures time { virtual_time stagger_config sixth_ended 5 ≡ units 5 }
@@ -44,9 +44,9 @@ pub fn stagger_of_first_worker()
     ensures no_other { (k : HeadKeys) → ¬ IsChoiceAt stagger_config sixth_ended 5 0 0 k }
 {}
 
-/// The fallback example. Tenant 0 was charged 2 and tenant 1 is charged 3, and the time is 1: none is eligible. Tenant 0
-/// comes first by its start, though it finishes at 2 + 10, and tenant 1 at 3 + 1. A take of tenant 1's request is not
-/// legal.
+/// The fallback example. Tenant 0 was charged 2 and tenant 1 is charged 3, and the time is 1: none is eligible.
+/// Tenant 0 comes first by its start, though it finishes at 2 + 10, and tenant 1 at 3 + 1. A take of tenant 1's
+/// request is not legal.
 pub fn fallback()
     ensures in_limits { InLimits fallback_config }
     ensures time { virtual_time fallback_config fallback_history 1 ≡ units 1 }
@@ -73,10 +73,10 @@ pub fn refund()
     ensures choice { IsChoiceAt refund_config refund_history 993 0 0 (keys 3 980 1) }
 {}
 
-/// The pause example. One worker makes half a unit a microsecond while both tenants are active, and one while tenant 1
-/// alone is: 1010 / 2 + 1000 units. Tenant 0 was charged 10. When it comes back its tag is raised to the time, but under
-/// msf2q it starts at its charge and the 1000 units that it was away. Tenant 1 finishes at 1000 + 300; tenant 0 finishes
-/// later, at 1505 + 200, and under msf2q sooner, at 1010 + 200.
+/// The pause example. One worker makes half a unit a microsecond while both tenants are active, and one while tenant
+/// 1 alone is: 1010 / 2 + 1000 units. Tenant 0 was charged 10. When it comes back its tag is raised to the time, but
+/// under msf2q it starts at its charge and the 1000 units that it was away. Tenant 1 finishes at 1000 + 300; tenant 0
+/// finishes later, at 1505 + 200, and under msf2q sooner, at 1010 + 200.
 pub fn pause()
     ensures in_limits { (p : Policy) → InLimits (pause_config p) }
     ensures legal { (p : Policy) → IsLegal (pause_config p) pause_history }
@@ -93,8 +93,9 @@ pub fn pause()
     ensures choice_2dfq { IsChoiceAt (pause_config TwoDfq) pause_history 2010 0 1 (keys 1000 300 2) }
 {}
 
-/// The weights example. One worker over the weights 4 and 1 makes a unit in 5 microseconds, and 4 in 20. The request of
-/// tenant 0 cost 8, and is charged by the weight 2 that its tenant had at the Take: 4 units, where the weight 4 would make
+/// The weights example. One worker over the weights 4 and 1 makes a unit in 5 microseconds, and 4 in 20. The request
+/// of tenant 0 cost 8, and is charged by the weight 2 that its tenant had at the Take: 4 units, where the weight 4
+/// would make
 /// 2. Its next head is measured by the weight now: 8 at the weight 4 is 2 units, so that it finishes at 6, after tenant
 /// 1's at 5.
 pub fn weights()
@@ -107,9 +108,9 @@ pub fn weights()
     ensures choice { IsChoiceAt weights_config weights_history 20 0 1 (keys 0 5 2) }
 {}
 
-/// The workers example. From moment 0 on there is one worker, over one weight: 4 microseconds are 4 units. Worker 1 ends
-/// what it runs, is told that it is retired though a request waits, and may not take; worker 0 may. There may be 2 workers
-/// again, and not 3.
+/// The workers example. From moment 0 on there is one worker, over one weight: 4 microseconds are 4 units. Worker 1
+/// ends what it runs, is told that it is retired though a request waits, and may not take; worker 0 may. There may be
+/// 2 workers again, and not 3.
 pub fn workers()
     ensures in_limits { InLimits workers_config }
     ensures legal { IsLegal workers_config workers_history }
@@ -121,9 +122,9 @@ pub fn workers()
     ensures again { workers_refusal workers_config workers_history 2 ≡ None }
 {}
 
-/// One request, submitted, taken, reported and done, and the history then closed. It was taken at an estimate of 5, and
-/// its greatest reported use is 6: it is charged 6 while it runs. It may end at the cost 6, but not at 5. Once it is done
-/// its charge is its cost.
+/// One request, submitted, taken, reported and done, and the history then closed. It was taken at an estimate of 5,
+/// and its greatest reported use is 6: it is charged 6 while it runs. It may end at the cost 6, but not at 5. Once it
+/// is done its charge is its cost.
 pub fn single_request()
     ensures in_limits { InLimits single_config }
     ensures reported { charge single_reported 0 ≡ 6 }
@@ -132,8 +133,8 @@ pub fn single_request()
     ensures cost_below_the_use { ¬ IsLegal single_config (single_ended 5) }
 {}
 
-/// Recent costs. Nine requests of one tenant and kind cost 100, 2, 3, 4, 5, 6, 7, 8 and 9. Each was taken at the mean of
-/// those before it, and the next is estimated at that of the last eight, which is 44 / 8, rounded down.
+/// Recent costs. Nine requests of one tenant and kind cost 100, 2, 3, 4, 5, 6, 7, 8 and 9. Each was taken at the mean
+/// of those before it, and the next is estimated at that of the last eight, which is 44 / 8, rounded down.
 pub fn recent_costs()
     ensures in_limits { InLimits recent_config }
     ensures legal { IsLegal recent_config recent_history }

@@ -121,7 +121,8 @@ abbrev pub IsTurnedAway : Config → Worker → Type 0
 IsTurnedAway C worker = (moment : ℕ) × (reply : Reply) × EndsWork reply
     × Answers C (history_of worker.pass.seen) (call.Take worker.pass.number moment worker.worker) reply (history_of worker.pass.seen)
 
--- What the worker has done: it is turned away now, and what it has added to its own entries are the Take, the Reports and
+-- What the worker has done: it is turned away now, and what it has added to its own entries are the Take, the Reports
+-- and
 -- the Done of one job after another, at moments that the clock tells
 pub record Worked (lock : LockView Crew) (course_of : ℕ → Option (List Counters)) (cost_of : Counters → ℕ) (Tells : ℕ → Type 0) (old new : Worker) : Type 0 where
   pub stays : Stays lock old.pass new.pass

@@ -18,8 +18,8 @@ use tag_rules::chooser::Chooser;
 
 /// What one thread of a pool does, and what is left of it then.
 pub enum Hand<J> {
-    /// A submitter hands in rows, of so many in all. Afterwards `rows` are those that are left, and `stopped` is the row
-    /// before them that was refused, with its cause, if one was.
+    /// A submitter hands in rows, of so many in all. Afterwards `rows` are those that are left, and `stopped` is the
+    /// row before them that was refused, with its cause, if one was.
     Feed {
         who: Submitter,
         rows: VecDeque<Row<J>>,

@@ -120,10 +120,10 @@ fn take_turn<J: Job + Drop, X: Chooser, G: Gate<J>, K: Clock, F: Cost, R: Wait>(
     }
 }
 
-/// Takes one job after another and runs each to its end, until nothing waits and nothing more will come, or the pool has
-/// no place for the worker. Each job's gate is asked for slice after slice; what a slice has used is reported, at the
-/// cost that the rule makes of it, and is let go where the history has no room for it. Slice 9,999 is the last, whatever
-/// the gate says. It asks the clock before each call, and sleeps while nothing waits.
+/// Takes one job after another and runs each to its end, until nothing waits and nothing more will come, or the pool
+/// has no place for the worker. Each job's gate is asked for slice after slice; what a slice has used is reported, at
+/// the cost that the rule makes of it, and is let go where the history has no room for it. Slice 9,999 is the last,
+/// whatever the gate says. It asks the clock before each call, and sleeps while nothing waits.
 pub fn work<J: Job + Drop, X: Chooser, G: Gate<J>, K: Clock, F: Cost, R: Wait>(
     desk: &DeskOf<Floor<J, X>>,
     rt: &R,

@@ -1,4 +1,5 @@
--- The definitions count and sum over all numbers of 32 bits, and so many do not compute. On a history whose requests are
+-- The definitions count and sum over all numbers of 32 bits, and so many do not compute. On a history whose requests
+-- are
 -- below n the numbers below n come to the same: here each definition stands once more over these, with `within` in its
 -- name, and with a lemma that it is the same.
 use Rattle.std.proofs.Common.{ℕ, nat_lt, Bool, true, ◌&&◌, [], ◌∷◌, ◌≤◌, ◌≡◌, ◌-◌, ◌<◌, arith, Option, None, refl, false, nat_eq, inl, inr, zero, suc, ◌∙◌, Some, ap, if◌then◌else◌, length, ◌+◌, ap₂, max, is_none, pos}

@@ -1,5 +1,5 @@
 use Rattle.std.proofs.Common.{◌∙◌}
-use Rattle.fq_model.specs.Numbers.{estimator_of}
+use Rattle.fq_model.specs.Spelling.{estimator_of}
 use Rattle.journal_text.proofs.Names.{named, no_estimator}
 use Rattle.journal_text.proofs.named.estimator.Goals as goal
 

@@ -1,5 +1,5 @@
 use Rattle.std.proofs.Common.{◌∙◌}
-use Rattle.fq_model.specs.Numbers.{policy_of}
+use Rattle.fq_model.specs.Spelling.{policy_of}
 use Rattle.journal_text.proofs.Names.{named, no_policy}
 use Rattle.journal_text.proofs.named.policy.Goals as goal
 

@@ -1,7 +1,7 @@
 use Rattle.std.proofs.Common.{ℕ, ◌+◌, ◌-◌, ◌*◌, ◌^◌, ◌<◌, ◌≤◌, ◌≡◌, ◌∙◌, List, ◌∷◌, drop, slice_index, nat_le, true, sym, arith, refl, add-one}
 use Rattle.std.proofs.lemmas.Bool.{le-leb}
 use Rattle.std.proofs.lemmas.List.{at_drop_more}
-use Rattle.fq_model.specs.Numbers.{with_digits}
+use Rattle.program_model.specs.Numbers.{with_digits}
 use Rattle.std.proofs.Math.Nat.{pow-le-pow_right, pow-suc}
 use Rattle.program_model.proofs.numbers.few_digits.Goals as goal
 

@@ -1,5 +1,5 @@
 use Rattle.std.proofs.Common.{◌≡◌, drop}
-use Rattle.fq_model.specs.Numbers.{with_digits}
+use Rattle.program_model.specs.Numbers.{with_digits}
 use Rattle.program_model.proofs.numbers.many_digits.Given as goal
 
 abbrev pub invariant-loop-byte : goal.invariant-loop-byte

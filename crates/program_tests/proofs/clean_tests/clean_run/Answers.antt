@@ -1,4 +1,3 @@
-use Rattle.std.proofs.Common.{refl, ◌∙◌, sym}
 use Rattle.clean_runs.proofs.CleanRuns.{never_writes}
 use Rattle.program_tests.proofs.clean_tests.clean_run.Goals as goal
 

@@ -3,7 +3,6 @@ use mir.Syntax.{w128}
 use Rattle.std.proofs.lemmas.Int.{ints, to_z-of_z}
 use Rattle.vt_fixed.specs.Rounding.{part_of}
 use Rattle.vt_fixed.proofs.Bounds.{part_le, abs_bound}
-use Rattle.fq_model.specs.declared.config.Policy.{Policy}
 use Rattle.fq_model.specs.declared.config.Policy.TheVariants.{TwoDfq}
 use Rattle.fq_model.specs.Keys.{Turn, stagger}
 use Rattle.order_laws.specs.Reach.{key_by_finish}

@@ -1,4 +1,4 @@
-use Rattle.std.proofs.Common.{sym, ◌∙◌, ◌≡◌, ap, subst, rules, Some, slice_get, ℤ, to_z, of_z, FitsSigned}
+use Rattle.std.proofs.Common.{sym, ◌∙◌, ◌≡◌, ap, subst, rules, Some, slice_get, to_z, of_z, FitsSigned}
 use mir.Syntax.{w128}
 use Rattle.order_laws.specs.Reach.{key_by_finish}
 use Rattle.shared_order.specs.Heads.{HeadView, greatest_length}

@@ -1,9 +1,6 @@
-use Rattle.std.proofs.Common.{subst, refl, ℤ, pos, ◌≤ℤ◌}
-use Rattle.std.proofs.lemmas.List.{take_all}
+use Rattle.std.proofs.Common.{refl, ℤ, pos, ◌≤ℤ◌}
 use Rattle.vt_fixed.specs.declared.limits.TheConstants.{GREATEST_LENGTH}
 use Rattle.shared_order.specs.Heads.{HeadView}
-use Rattle.shared_order.specs.Blocks.{all_heads}
-use Rattle.shared_order.specs.Search.{IsSoonest}
 use Rattle.shared_order.proofs.Pieces.{block_all}
 use Rattle.shared_order.proofs.Searching.{soonest_more}
 use Rattle.shared_order.proofs.search.soonest.Goals as goal

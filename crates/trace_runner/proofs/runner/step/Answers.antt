@@ -6,7 +6,7 @@ use Rattle.trace_runner.specs.Staff.{new_work}
 use Rattle.trace_runner.proofs.Events.{Stepped, report_stepped, done_stepped, submit_stepped, take_stepped, report_answered, done_answered, submit_answered, callers_few, due_low, rows_few, taken_small, refused_not, refused_no_request, take_known, take_runs}
 use Rattle.trace_runner.proofs.runner.step.Given as given
 use Rattle.trace_runner.proofs.runner.step.Goals as goal
-use Rattle.trace_runner.proofs.runner.step.Goals.{In-Report, In-Done, In-Submit, In-Take, After-new, After-worked, After-worked-in-Ok-done, After-came, After-taken}
+use Rattle.trace_runner.proofs.runner.step.Goals.{In-Report, In-Done, In-Submit, In-Take, After-worked, After-worked-in-Ok-done, After-came, After-taken}
 
 -- the next event, by its kind
 next_report : (g : given.Over) (c : In-Report g) → IsNext c.args.agenda.now c.args.trace.now.rows (record { moment = c.args.event.moment; what = what.Report c.in-Report.worker c.in-Report.work })

@@ -4,7 +4,6 @@ use Rattle.std.proofs.lemmas.List.Sums.{length-filter, count_by-le-length}
 use Rattle.std.proofs.lemmas.List.Sorted.{All-permutation, length_permutation, IsNonDecreasingBy-from_sort_by_key}
 use Rattle.std.specs.List.Sorted.{IsPermutation, IsNonDecreasingBy}
 use Rattle.fq_model.specs.declared.level.Level.TheVariants as levels
-use Rattle.fq_model.specs.Level.{IsLevel}
 use Rattle.water_level.specs.Backlogs.{IsBacklog, break_point, wants}
 use Rattle.water_level.proofs.Wanting.{units_wanting, level_wanting, leaves_few}
 use Rattle.water_level.proofs.levels.level.Goals as goal

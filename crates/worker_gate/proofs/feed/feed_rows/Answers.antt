@@ -1,6 +1,6 @@
 use Rattle.std.proofs.Common.{rules, ◌≡◌, [], sym, ◌∙◌}
 use Rattle.worker_gate.proofs.FeedingRows.{begins_open, begins_closed, row_submitted, row_closed, row_refused, all_submitted}
-use Rattle.worker_gate.proofs.feed.feed_rows.Goals.{then-total-eq0+then-number-eq0, else-total-eq0, else-total-eq0-via-then-total-eq0+else-number-eq0, else-total-eq0-via-else-total-eq0}
+use Rattle.worker_gate.proofs.feed.feed_rows.Goals.{then-total-eq0+then-number-eq0, else-total-eq0}
 use Rattle.worker_gate.proofs.feed.feed_rows.Goals as goal
 
 pub loop-row-init : goal.loop-row-init

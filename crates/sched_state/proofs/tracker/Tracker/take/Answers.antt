@@ -15,7 +15,7 @@ use Rattle.sched_state.proofs.KeyLemmas.{latest_at, worker_in}
 use Rattle.sched_state.proofs.TrackerLemmas.{Turns, turns, time_at, has_item, item_chosen, legal_take, some_chosen, kind_known, was_asked, weighed_there, weight_there, take_but, some_but, renewed}
 use Rattle.sched_state.proofs.tracker.Tracker.take.Given as given
 use Rattle.sched_state.proofs.tracker.Tracker.take.Goals as goal
-use Rattle.sched_state.proofs.tracker.Tracker.take.Goals.{After-unwrap-tenant, After-unwrap-item, After-weight-weight, After-charge}
+use Rattle.sched_state.proofs.tracker.Tracker.take.Goals.{After-unwrap-tenant, After-weight-weight, After-charge}
 
 pub pass-requires-clause-later : goal.pass-requires-clause-later
 pass-requires-clause-later g c = omega (arith, c.requires.may.later, c.requires.tracked.mirrors.times_are.clock_is.moment)

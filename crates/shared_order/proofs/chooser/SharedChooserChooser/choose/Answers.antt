@@ -1,4 +1,4 @@
-use Rattle.std.proofs.Common.{◌≡◌, ◌<◌, sym, subst, ap, arith, List, ℤ}
+use Rattle.std.proofs.Common.{◌<◌, sym, subst, ap, arith, List, ℤ}
 use mir.Syntax.{w128}
 use Rattle.std.proofs.lemmas.Int.{to_z-of_z}
 use Rattle.fq_model.specs.Keys.{Turn, IsChoice}

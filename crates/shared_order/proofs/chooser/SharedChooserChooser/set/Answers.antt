@@ -1,5 +1,5 @@
 use Rattle.std.proofs.Common.{◌<◌, ◌≤◌, sym, subst, ap, arith, length, IfSome, None, slice_set, length-set}
-use Rattle.tag_rules.specs.Tables.{ChooserView, Table, IsNewTo}
+use Rattle.tag_rules.specs.Tables.{ChooserView, IsNewTo}
 use Rattle.shared_order.specs.Mirrors.{Mirrors}
 use Rattle.shared_order.proofs.Mirroring.{taken_out, has_room, new_to_heads, taken_in, differ_set}
 use Rattle.shared_order.proofs.chooser.SharedChooserChooser.set.Goals as goal

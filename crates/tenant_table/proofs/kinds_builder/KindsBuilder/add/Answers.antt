@@ -1,5 +1,5 @@
 use Rattle.std.proofs.Common.{sym, ap, ◌∙◌}
-use Rattle.fq_model.specs.Numbers.{is_name}
+use Rattle.fq_model.specs.Spelling.{is_name}
 use Rattle.tenant_table.specs.Names.{kind_refusal}
 use Rattle.tenant_table.proofs.Adding.{kind_word, kind_twice, kind_full, kind_new, no_memory}
 use Rattle.tenant_table.proofs.kinds_builder.KindsBuilder.add.Goals as goal

@@ -1,5 +1,5 @@
 use Rattle.std.proofs.Common.{sym, ap, ◌∙◌}
-use Rattle.fq_model.specs.Numbers.{is_name}
+use Rattle.fq_model.specs.Spelling.{is_name}
 use Rattle.tenant_table.specs.Names.{tenant_refusal}
 use Rattle.tenant_table.proofs.Adding.{tenant_word, tenant_twice, tenant_full, tenant_new, no_memory}
 use Rattle.tenant_table.proofs.tenants_builder.TenantsBuilder.add.Goals as goal

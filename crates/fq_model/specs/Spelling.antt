@@ -1,7 +1,6 @@
--- Numbers, names, and the words for policies and estimators, as bytes of a text.
-use Rattle.std.specs.Prelude.{ℕ, ◌+◌, ◌-◌, ◌*◌, ◌==◌, nat_le, Bool, ◌&&◌, ◌||◌, if◌then◌else◌, List, [], ◌∷◌, length, Option, Some, None, codes, bytes_eq}
+-- Names, and the words for policies and estimators, as bytes of a text.
+use Rattle.std.specs.Prelude.{ℕ, ◌==◌, nat_le, Bool, ◌&&◌, ◌||◌, if◌then◌else◌, List, length, Option, Some, None, codes, bytes_eq}
 use Rattle.std.specs.List.{list_all}
-use Rattle.std.specs.Option.{option_and_then}
 use Rattle.fq_model.specs.declared.config.Policy.{Policy}
 use Rattle.fq_model.specs.declared.config.Policy.TheVariants.{Wfq, Wf2q, Msf2q, TwoDfq}
 use Rattle.fq_model.specs.declared.config.Estimator.{Estimator}
@@ -10,21 +9,6 @@ use Rattle.fq_model.specs.declared.config.Estimator.TheVariants.{Declared, Recen
 -- the bytes of `0` to `9`
 abbrev pub is_digit : ℕ → Bool
 is_digit b = nat_le 48 b && nat_le b 57
-
--- the number n with the digit b at its end; none where b is no digit or the number passes 2^64 - 1
-abbrev pub with_digit : ℕ → ℕ → Option ℕ
-with_digit n b = if is_digit b && nat_le (10 * n + (b - 48)) 18446744073709551615 then Some (10 * n + (b - 48)) else None
-
--- the number n with these digits more at its end
-abbrev pub with_digits : ℕ → List ℕ → Option ℕ
-with_digits n [] = Some n
-with_digits n (b ∷ bs) = option_and_then (λ m. with_digits m bs) (with_digit n b)
-
--- the number that a text spells: `0`, or digits of which the first is not `0`, with 64 bits at most
-abbrev pub number_of : List ℕ → Option ℕ
-number_of [] = None
-number_of (b ∷ []) = with_digits 0 (b ∷ [])
-number_of (b ∷ c ∷ bs) = if b == 48 then None else with_digits 0 (b ∷ c ∷ bs)
 
 -- an ASCII letter, a digit, `_`, `-` or `.`
 abbrev pub is_name_byte : ℕ → Bool
