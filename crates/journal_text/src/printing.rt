@@ -165,11 +165,15 @@ fn add_kinds(kinds: &Kinds, text: &mut Vec<u8>) -> Result<(), AllocError>
     Ok(())
 }
 
-// Appends a line for each entry.
+// What is set aside for an entry's line, in bytes: more than most lines take. What is left of it is never touched.
+const ROOM: usize = 48;
+
+// Appends a line for each entry. Room for all is taken at once, so that a long text need not be moved as it grows.
 fn add_entries(past: &[Entry], text: &mut Vec<u8>) -> Result<(), AllocError>
     ensures added { OnOk result (text.new.items ≡ text.old.items ++ entries_text past.now) }
     ensures kept { IsKept text.old.items text.new.items }
 {
+    text.reserve(past.len().saturating_mul(ROOM))?;
     for entry in past {
         entry_line(*entry, text)?;
     }

@@ -1,4 +1,4 @@
-use Rattle.std.proofs.Common.{arith, refl}
+use Rattle.std.proofs.Common.{◌++◌, arith, refl, ap}
 use Rattle.fq_model.specs.declared.event.Act.TheVariants.{Submit}
 use Rattle.fq_model.specs.declared.event.Entry.{Entry}
 use Rattle.program_model.specs.JournalText.{entries_text}
@@ -10,7 +10,10 @@ abbrev none : Entry
 none = record { who = 0; moment = 0; act = Submit 0 0 0 0 0 }
 
 pub loop-entry-init : goal.loop-entry-init
-loop-entry-init c = record { so_far = refl; kept = kept_all c.args.text.now.items }
+loop-entry-init c = record {
+  so_far = ap (λ t. t ++ entries_text c.args.past.now) c.reserve.ensures.items;
+  kept = kept_still c.args.text.now.items c.args.text.now.items c.reserve.new.self.items (kept_all c.args.text.now.items) c.reserve.ensures.items;
+}
 
 pub loop-entry-preserved : goal.loop-entry-preserved
 loop-entry-preserved c = record {
