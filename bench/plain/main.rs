@@ -1,0 +1,109 @@
+//! What `twodfq script` does under `2dfq` and `pessimistic`, for scripts of the first version, written in Rust as one would
+//! without contracts: the same design, memory that never runs out, and a reader that walks each line once.
+//! `bench/run --plain` measures the program against it.
+mod entry;
+mod scheduler;
+mod text;
+mod tree;
+
+use entry::Refusal;
+use scheduler::{Scheduler, Tenant};
+use std::io::{Read, Write};
+use std::process::exit;
+use text::{Cursor, fail, refused, row};
+
+/// A scheduler by the head of a script, and where its body begins.
+fn open(input: &[u8]) -> (Scheduler, Cursor<'_>) {
+    let mut c = Cursor {
+        bytes: input,
+        at: 0,
+        line: 1,
+    };
+    if c.word() != b"script" || c.number() != 1 {
+        fail(1)
+    }
+    c.end_line();
+    if c.word() != b"config" {
+        fail(2)
+    }
+    let workers = c.small();
+    if c.next_word() != b"2dfq" || c.next_word() != b"pessimistic" {
+        fail(2)
+    }
+    let (initial, entries, requests) = (c.number(), c.small(), c.small());
+    c.end_line();
+    let (tenants, kinds) = names(&mut c);
+    (
+        Scheduler::open([workers, entries, requests, kinds], initial, tenants),
+        c,
+    )
+}
+
+/// Reads the tenants with their weights, and counts the kinds.
+fn names(c: &mut Cursor) -> (Vec<Tenant>, u32) {
+    let (mut tenants, mut kinds) = (Vec::new(), 0);
+    loop {
+        let begin = c.at;
+        match c.word() {
+            b"tenant" => {
+                c.next_word();
+                tenants.push(Tenant {
+                    weight: c.small(),
+                    ..Tenant::default()
+                });
+            }
+            b"kind" => {
+                c.next_word();
+                kinds += 1;
+            }
+            _ => {
+                c.at = begin;
+                return (tenants, kinds);
+            }
+        }
+        c.end_line();
+    }
+}
+
+/// Answers the call of a line.
+fn answer(s: &mut Scheduler, c: &mut Cursor, out: &mut Vec<u8>) {
+    let word = c.word();
+    let (who, moment) = (c.small(), c.number());
+    match word {
+        b"submit" => {
+            let (tenant, kind, declared, label) = (c.small(), c.small(), c.number(), c.number());
+            match s.submit(who, moment, tenant, kind, declared, label) {
+                Ok(request) => row(out, "request", &[request as u64]),
+                Err(why) => refused(out, why),
+            }
+        }
+        b"take" => match s.take(who, moment, c.small()) {
+            Ok(Some((request, estimate, label))) => row(out, "run", &[request as u64, estimate, label]),
+            Ok(None) => row(out, if s.closed { "drained" } else { "idle" }, &[]),
+            Err(why) => refused(out, why),
+        },
+        b"report" => accepted(out, s.report(who, moment, c.small(), c.number())),
+        b"done" => accepted(out, s.done(who, moment, c.small(), c.number())),
+        b"close" => accepted(out, s.close(who, moment)),
+        _ => fail(c.line),
+    }
+}
+
+fn accepted(out: &mut Vec<u8>, answer: Result<(), Refusal>) {
+    match answer {
+        Ok(()) => row(out, "ok", &[]),
+        Err(why) => refused(out, why),
+    }
+}
+
+fn main() {
+    let mut input = Vec::new();
+    std::io::stdin().read_to_end(&mut input).unwrap_or_else(|_| exit(4));
+    let (mut s, mut c) = open(&input);
+    let mut out = Vec::new();
+    while c.at < input.len() {
+        answer(&mut s, &mut c, &mut out);
+        c.end_line();
+    }
+    std::io::stdout().write_all(&out).unwrap_or_else(|_| exit(5));
+}
