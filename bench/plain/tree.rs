@@ -37,14 +37,14 @@ impl Tree {
             if node == 1 {
                 return;
             }
-            node /= 2;
-            winner = match (self.winners[2 * node], self.winners[2 * node + 1]) {
+            winner = match (winner, self.winners[node ^ 1]) {
                 (Some(l), Some(r)) => {
                     let (x, y) = (self.keys[l as usize].unwrap(), self.keys[r as usize].unwrap());
                     Some(if (x, l) < (y, r) { l } else { r })
                 }
                 (l, r) => l.or(r),
             };
+            node /= 2;
         }
     }
     pub fn first(&self) -> Option<(u32, Key)> {

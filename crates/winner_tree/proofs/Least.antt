@@ -1,12 +1,12 @@
 -- The first of the leaves under an item.
-use Rattle.std.proofs.Common.{◌≡◌, ◌≢◌, ℕ, zero, suc, ◌+◌, ◌*◌, ◌<◌, ◌≤◌, List, Option, None, Some, length, get_or, is_some, cond, arith, refl, sym, ap, ◌∙◌, subst, inl, inr, ◌⊎◌}
+use Rattle.std.proofs.Common.{◌≡◌, ◌≢◌, ℕ, zero, suc, ◌+◌, ◌*◌, ◌/◌, ◌<◌, ◌≤◌, List, Option, None, Some, length, get_or, is_some, cond, arith, refl, sym, ap, ◌∙◌, subst, inl, inr, ◌⊎◌}
 use Rattle.std.proofs.lemmas.Bool.{cases_eq, cases_lt}
 use Rattle.std.proofs.lemmas.List.{get_or_past, get_or_read}
 use Rattle.std.proofs.lemmas.Nat.{pow_pos}
 use Rattle.std.specs.Int.{IsNextPowerOfTwo}
 use Rattle.winner_tree.specs.declared.key.Key.{Key}
 use Rattle.winner_tree.specs.Order.{Precedes, key_of, HasKey, HasNoKey, IsAhead, IsFirst}
-use Rattle.winner_tree.specs.Winners.{name_at, Reaches, IsLesser, AreWinners, LeadsUnder, IsLeastUnder, Keeps}
+use Rattle.winner_tree.specs.Winners.{name_at, Reaches, IsLesser, AreNeighbours, AreWinners, LeadsUnder, IsLeastUnder, Keeps}
 use Rattle.winner_tree.proofs.Orders.{one_comes_first, not_both_come_first, order_goes_on, some_is}
 use Rattle.winner_tree.proofs.Paths.{reaches_self, reaches_half, reaches_by, reaches_one, reaches_root, reaches_leaf}
 
@@ -88,6 +88,36 @@ module _ (map : List (Option Key)) (width item : ℕ) (low : 1 ≤ item) (inner 
   lesser_least (Some l) None winner a b h = subst (IsLeastUnder map width item) (sym h) (left_leads l a (λ u other ne has s. absurd (none_not_some (key_of map u) other (b u s) has)))
   lesser_least (Some l) (Some r) winner a b (inl h) = subst (IsLeastUnder map width item) (sym h.0) (left_leads l a (λ u other ne has s. ahead_of_all (2 * item + 1) l r b h.1 u other has s))
   lesser_least (Some l) (Some r) winner a b (inr h) = subst (IsLeastUnder map width item) (sym h.0) (right_leads r b (λ u other ne has s. ahead_of_all (2 * item) r l a h.1 u other has s))
+
+-- it is the same who is named first
+lesser_turned : (map : List (Option Key)) (one other winner : Option ℕ) → IsLesser map one other winner → IsLesser map other one winner
+lesser_turned map None None winner h = h
+lesser_turned map None (Some r) winner h = h
+lesser_turned map (Some l) None winner h = h
+lesser_turned map (Some l) (Some r) winner (inl h) = inr h
+lesser_turned map (Some l) (Some r) winner (inr h) = inl h
+
+-- two neighbours: the one is the left of the two below their item, and the other the right
+sides : (child other : ℕ) → AreNeighbours child other → ((child ≡ 2 * (child / 2)) × (other ≡ 2 * (child / 2) + 1)) ⊎ ((child ≡ 2 * (child / 2) + 1) × (other ≡ 2 * (child / 2)))
+sides child other beside = elim (cases_eq child (2 * (child / 2))) [
+  | inl even ↦ inl (even, omega (arith, beside.0, beside.1))
+  | inr odd ↦ inr (omega arith, omega (arith, beside.0, beside.1))
+]
+
+module _ (map : List (Option Key)) (width child beside : ℕ) (low : 1 ≤ child / 2) (inner : child / 2 < width) (are : AreNeighbours child beside) where
+  -- two neighbours name leaves that differ
+  pub neighbours_apart : (one other : Option ℕ) → IsLeastUnder map width child one → IsLeastUnder map width beside other → (l : ℕ) → one ≡ Some l → other ≡ Some l → ⊥
+  neighbours_apart one other a b l p q = elim (sides child beside are) [
+    | inl s ↦ least_apart map width (child / 2) low inner one other (subst (λ v. IsLeastUnder map width v one) s.0 a) (subst (λ v. IsLeastUnder map width v other) s.1 b) l p q
+    | inr s ↦ least_apart map width (child / 2) low inner other one (subst (λ v. IsLeastUnder map width v other) s.1 b) (subst (λ v. IsLeastUnder map width v one) s.0 a) l q p
+  ]
+
+  -- the lesser of two neighbours is the first under the item above them
+  pub lesser_above : (one other winner : Option ℕ) → IsLeastUnder map width child one → IsLeastUnder map width beside other → IsLesser map one other winner → IsLeastUnder map width (child / 2) winner
+  lesser_above one other winner a b h = elim (sides child beside are) [
+    | inl s ↦ lesser_least map width (child / 2) low inner one other winner (subst (λ v. IsLeastUnder map width v one) s.0 a) (subst (λ v. IsLeastUnder map width v other) s.1 b) h
+    | inr s ↦ lesser_least map width (child / 2) low inner other one winner (subst (λ v. IsLeastUnder map width v other) s.1 b) (subst (λ v. IsLeastUnder map width v one) s.0 a) (lesser_turned map one other winner h)
+  ]
 
 -- an item names at most one leaf
 pub least_is_unique : (map : List (Option Key)) (width item : ℕ) (a b : Option ℕ) → IsLeastUnder map width item a → IsLeastUnder map width item b → a ≡ b

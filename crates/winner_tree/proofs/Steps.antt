@@ -5,10 +5,10 @@ use Rattle.std.proofs.lemmas.List.{get_or-set_same, get_or-set_other, length-set
 use Rattle.std.specs.Int.{IsNextPowerOfTwo}
 use Rattle.winner_tree.specs.declared.key.Key.{Key}
 use Rattle.winner_tree.specs.Order.{Precedes, key_of, HasKey}
-use Rattle.winner_tree.specs.Winners.{name_at, Reaches, IsLesser, LeadsUnder, IsLeastUnder, Keeps}
+use Rattle.winner_tree.specs.Winners.{name_at, Reaches, IsLesser, AreNeighbours, LeadsUnder, IsLeastUnder, Keeps}
 use Rattle.winner_tree.proofs.Orders.{order_goes_on, not_both_come_first}
 use Rattle.winner_tree.proofs.Paths.{reaches_self, reaches_le, reaches_up, reaches_rest, reaches_goes_on, reaches_leaf, reaches_cases}
-use Rattle.winner_tree.proofs.Least.{none_or_key, none_not_some, key_within, one_key, lesser_least, least_apart, width_low}
+use Rattle.winner_tree.proofs.Least.{none_or_key, none_not_some, key_within, one_key, lesser_above, neighbours_apart, width_low}
 
 -- On the way from a leaf whose key has changed: the name is right for the item at which it stands. The items on the
 -- rest of the way are right for the old keys, and all others for the new ones.
@@ -149,28 +149,32 @@ module _ (old map : List (Option Key)) (winners : List (Option ℕ)) (leaf item 
     least = λ k low high. written_fresh k low high (λ r. omega (arith, reaches_le (item / 2) k r));
   }
 
-  module _ (ne : item ≢ 1) where
+  -- where a match follows, between the name and that of the item's neighbour
+  module _ (ne : item ≢ 1) (beside : ℕ) (are : AreNeighbours item beside) where
     half_low : 1 ≤ item / 2
     half_low = omega (arith, h.low, ne)
 
-    left_fresh : IsLeastUnder map h.width (2 * (item / 2)) (name_at (set winners item name) (2 * (item / 2)))
-    left_fresh = written_fresh (2 * (item / 2)) (omega (arith, half_low)) (omega (arith, h.high)) (λ r. omega (arith, half_low, reaches_le (item / 2) (2 * (item / 2)) r))
+    half_high : item / 2 < h.width
+    half_high = omega (arith, h.high)
 
-    right_fresh : IsLeastUnder map h.width (2 * (item / 2) + 1) (name_at (set winners item name) (2 * (item / 2) + 1))
-    right_fresh = written_fresh (2 * (item / 2) + 1) (omega arith) (omega (arith, h.high)) (λ r. omega (arith, half_low, reaches_le (item / 2) (2 * (item / 2) + 1) r))
+    pub beside_high : beside < length (set winners item name)
+    beside_high = omega (arith, written_size, half_high, are.0)
 
-    -- the two below the next item can play: they have keys, and differ
-    pub left_has_key : IfSome (name_at (set winners item name) (2 * (item / 2))) (λ l. IsSome (key_of map l))
-    left_has_key = least_has_key map h.width (2 * (item / 2)) (name_at (set winners item name) (2 * (item / 2))) left_fresh
+    beside_fresh : IsLeastUnder map h.width beside (name_at (set winners item name) beside)
+    beside_fresh = written_fresh beside (omega (arith, half_low, are.0)) (omega (arith, half_high, are.0)) (λ r. omega (arith, half_low, are.0, reaches_le (item / 2) beside r))
 
-    pub right_has_key : IfSome (name_at (set winners item name) (2 * (item / 2) + 1)) (λ l. IsSome (key_of map l))
-    right_has_key = least_has_key map h.width (2 * (item / 2) + 1) (name_at (set winners item name) (2 * (item / 2) + 1)) right_fresh
+    -- the two can play: they have keys, and differ
+    pub name_has_key : IfSome name (λ l. IsSome (key_of map l))
+    name_has_key = least_has_key map h.width item name h.next
 
-    pub names_differ : (l : ℕ) → name_at (set winners item name) (2 * (item / 2)) ≡ Some l → name_at (set winners item name) (2 * (item / 2) + 1) ≢ Some l
-    names_differ l p q = least_apart map h.width (item / 2) half_low (omega (arith, h.high)) (name_at (set winners item name) (2 * (item / 2))) (name_at (set winners item name) (2 * (item / 2) + 1)) left_fresh right_fresh l p q
+    pub beside_has_key : IfSome (name_at (set winners item name) beside) (λ l. IsSome (key_of map l))
+    beside_has_key = least_has_key map h.width beside (name_at (set winners item name) beside) beside_fresh
+
+    pub names_differ : (l : ℕ) → name ≡ Some l → name_at (set winners item name) beside ≢ Some l
+    names_differ = neighbours_apart map h.width item beside half_low half_high are name (name_at (set winners item name) beside) h.next beside_fresh
 
     -- one match further
-    pub way_goes_on : (winner : Option ℕ) → IsLesser map (name_at (set winners item name) (2 * (item / 2))) (name_at (set winners item name) (2 * (item / 2) + 1)) winner → IsOnWay old map (set winners item name) leaf (item / 2) winner
+    pub way_goes_on : (winner : Option ℕ) → IsLesser map name (name_at (set winners item name) beside) winner → IsOnWay old map (set winners item name) leaf (item / 2) winner
     way_goes_on winner lesser = record {
       width = h.width;
       rounded = h.rounded;
@@ -179,7 +183,7 @@ module _ (old map : List (Option Key)) (winners : List (Option ℕ)) (leaf item 
       low = half_low;
       high = omega (arith, h.high);
       under = reaches_up (h.width + leaf) item h.under;
-      next = lesser_least map h.width (item / 2) half_low (omega (arith, h.high)) (name_at (set winners item name) (2 * (item / 2))) (name_at (set winners item name) (2 * (item / 2) + 1)) winner left_fresh right_fresh lesser;
+      next = lesser_above map h.width item beside half_low half_high are name (name_at (set winners item name) beside) winner h.next beside_fresh lesser;
       fresh = written_fresh;
       stale = λ k low high r. subst (IsLeastUnder old h.width k) (sym (name_other winners item k name (λ e. omega (arith, half_low, e, reaches_le (item / 2) k r)))) (h.stale k low high (suc r.0, r.1));
     }

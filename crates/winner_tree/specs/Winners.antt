@@ -15,6 +15,10 @@ IsLesser map (Some l) None winner = winner ≡ Some l
 IsLesser map (Some l) (Some r) winner =
     ((winner ≡ Some l) × IsAhead map l r) ⊎ ((winner ≡ Some r) × IsAhead map r l)
 
+-- two items below the same one, so that each stands beside the other (as beside the root item 0, which is not used)
+abbrev pub AreNeighbours : ℕ → ℕ → Type 0
+AreNeighbours item other = (item / 2 ≡ other / 2) × (item ≢ other)
+
 -- There are twice as many items as the least power of two that is at least the number of leaves. Its second half are
 -- the leaves in order, with a name exactly where the leaf has a key. Item k of the first half names the lesser of
 -- what items 2k and 2k + 1 name, so item 1 is the root. Item 0 is not used.

@@ -1,14 +1,15 @@
 //! The matches on the way from a leaf to the root.
 ghost use Rattle.std.specs.Prelude.{◌≡◌, ◌≢◌, ◌<◌, ◌↔◌, ℕ, false, None, Some, IsTrue, IfSome, IsSome, length, slice_set};
 ghost use Rattle.winner_tree.specs.Order.{key_of, IsAhead};
-ghost use Rattle.winner_tree.specs.Winners.{IsLesser, Keeps};
+ghost use Rattle.winner_tree.specs.Winners.{AreNeighbours, IsLesser, Keeps};
 
 use crate::key::Key;
 
 /// Gives a leaf a key or takes it away, and plays its matches again.
 ///
 /// The way ends at the root, or where another leaf wins a match that it had won before: what stands above has not
-/// changed then.
+/// changed then. (It is inlined so that giving a key and taking it away have each what it needs.)
+#[inline(always)]
 pub fn set_leaf(keys: &mut [Option<Key>], winners: &mut [Option<u32>], leaf: u32, key: Option<Key>)
     requires known { leaf < length keys.old }
     requires kept { Keeps keys.old winners.old }
@@ -23,9 +24,17 @@ pub fn set_leaf(keys: &mut [Option<Key>], winners: &mut [Option<u32>], leaf: u32
         if node == 1 {
             return;
         }
+        winner = lesser(keys, winner, winners[neighbour(node)]);
         node /= 2;
-        winner = lesser(keys, winners[2 * node], winners[2 * node + 1]);
     }
+}
+
+/// The item that stands beside another, below the same one: a match is between two such. (Beside the root, item 0.)
+#[inline]
+fn neighbour(item: usize) -> usize
+    ensures { AreNeighbours item result }
+{
+    if item % 2 == 0 { item + 1 } else { item - 1 }
 }
 
 /// Whether a match goes to the leaf to which it went before, and that is not the leaf that has changed.
@@ -42,16 +51,16 @@ fn stands(before: Option<u32>, winner: Option<u32>, changed: u32) -> bool
 
 /// Of the leaves that two items name, the one that comes before the other.
 #[inline]
-fn lesser(keys: &[Option<Key>], left: Option<u32>, right: Option<u32>) -> Option<u32>
-    requires left_has_key { IfSome left (λ l. IsSome (key_of keys.now l)) }
-    requires right_has_key { IfSome right (λ r. IsSome (key_of keys.now r)) }
-    requires apart { (l : ℕ) → left ≡ Some l → right ≢ Some l }
-    ensures { IsLesser keys.now left right result }
+fn lesser(keys: &[Option<Key>], one: Option<u32>, other: Option<u32>) -> Option<u32>
+    requires has_key { IfSome one (λ l. IsSome (key_of keys.now l)) }
+    requires other_has_key { IfSome other (λ r. IsSome (key_of keys.now r)) }
+    requires apart { (l : ℕ) → one ≡ Some l → other ≢ Some l }
+    ensures { IsLesser keys.now one other result }
 {
-    match (left, right) {
-        (Some(l), Some(r)) if is_ahead(keys, l, r) => left,
-        (Some(_), None) => left,
-        _ => right,
+    match (one, other) {
+        (Some(l), Some(r)) if is_ahead(keys, l, r) => one,
+        (Some(_), None) => one,
+        _ => other,
     }
 }
 

@@ -1,5 +1,5 @@
 //! The tree.
-ghost use Rattle.std.specs.Prelude.{◌≡◌, ◌<◌, ◌≤◌, None, IfOk, MatchOption, length, replicate, slice_set};
+ghost use Rattle.std.specs.Prelude.{◌≡◌, ◌<◌, ◌≤◌, None, Some, IfOk, MatchOption, length, replicate, slice_set};
 ghost use Rattle.winner_tree.specs.Order.{IsFirst, HasNoKey};
 ghost use Rattle.winner_tree.specs.Winners.{AreWinners};
 
@@ -42,11 +42,39 @@ impl Tree {
     }
 
     /// Gives a leaf a key or takes it away.
+    #[inline(always)]
     pub fn set(&mut self, leaf: u32, key: Option<Key>)
         requires { leaf < length self.old }
         ensures { self.new ≡ slice_set self.old leaf key }
     {
-        set_leaf(&mut self.keys, &mut self.winners, leaf, key);
+        match key {
+            Some(Key { a, b, c }) => self.put(leaf, a, b, c),
+            None => self.take_out(leaf),
+        }
+    }
+
+    // Gives a leaf a key. (Its parts are passed one by one: a key that was written to memory part by part, and is read
+    // there as a whole at once, makes a processor wait.)
+    #[inline(never)]
+    fn put(&mut self, leaf: u32, a: i128, b: i128, c: u32)
+        requires { leaf < length self.old }
+        ensures { self.new ≡ slice_set self.old leaf (Some (record { a = a; b = b; c = c })) }
+    {
+        set_leaf(
+            &mut self.keys,
+            &mut self.winners,
+            leaf,
+            Some(Key { a, b, c }),
+        );
+    }
+
+    // Takes a leaf's key away.
+    #[inline(never)]
+    fn take_out(&mut self, leaf: u32)
+        requires { leaf < length self.old }
+        ensures { self.new ≡ slice_set self.old leaf None }
+    {
+        set_leaf(&mut self.keys, &mut self.winners, leaf, None);
     }
 
     /// The leaf with the least key, of equal keys the least leaf, and its key.
