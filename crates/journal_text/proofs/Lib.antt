@@ -2,6 +2,7 @@ mod Heads
 mod Kept
 mod FirstLine
 mod WordEnds
+mod AtOnce
 mod Names
 pub mod HeadLimits
 pub mod Bodies

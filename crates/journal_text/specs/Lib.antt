@@ -1,3 +1,4 @@
 pub mod Reading
 pub mod Body
 pub mod Printing
+pub mod AtOnce

@@ -1,10 +1,11 @@
 //! What stands below the head of a document, and how it is read.
-ghost use Rattle.std.specs.Prelude.{◌≡◌, ◌+◌, ◌^◌, ◌<◌, List, ℕ, Result, length, IfOk, IfErr};
+ghost use Rattle.std.specs.Prelude.{◌≡◌, ◌+◌, ◌^◌, ◌<◌, List, ℕ, Result, length, IfOk, IfErr, IfSome};
 ghost use Rattle.program_model.specs.declared.fault.ScriptKind.{ScriptKind};
 ghost use Rattle.program_model.specs.declared.version.Version.{Version};
 ghost use Rattle.program_model.specs.Lines.{Words, lines_of, words_of};
 ghost use Rattle.program_model.specs.Document.{version_of};
 ghost use Rattle.journal_text.specs.Reading.{Gives, IsFirstFault, words_in};
+ghost use Rattle.journal_text.specs.AtOnce.{TellsFirst};
 ghost use Rattle.journal_text.specs.Body.{ReadsNext, below_at, said_below};
 
 use crate::fault::{LineError, ScriptFault};
@@ -24,6 +25,11 @@ pub trait Line: Drop + Sized {
     /// The version that a first line names, if it names one.
     fn version(line: &[u8]) -> Option<Version>
         ensures { result ≡ version_of title line.now };
+
+    /// What the first line of a text says, where that can be told in one pass over it, and the text below. None where
+    /// it can't, as where the line has a fault: its words are to be read then. Takes no memory.
+    fn at_once(text: &[u8]) -> Option<(Self, &[u8])>
+        ensures { IfSome result (λ r. TellsFirst reader text.now r.0 r.1.now) };
 
     /// Reads the words of a line. Takes no memory.
     fn read(version: Version, words: &[&[u8]]) -> Result<Self, LineError>
@@ -82,6 +88,11 @@ impl<'a, A: Line> Body<'a, A> {
     pub fn read_next(&mut self) -> Result<Option<A>, ScriptFault>
         ensures { ReadsNext A.reader self.old result self.new }
     {
+        if let Some((said, below)) = A::at_once(self.rest) {
+            self.rest = below;
+            self.place += 1;
+            return Ok(Some(said));
+        }
         let Some((line, below)) = next_line(self.rest) else {
             return Ok(None);
         };

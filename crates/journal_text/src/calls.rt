@@ -5,6 +5,7 @@ ghost use Rattle.program_model.specs.Script.{submit_of, take_of, report_of, done
 ghost use Rattle.journal_text.specs.Body.{IsOpened, IsHeadFault};
 ghost use Rattle.journal_text.specs.Reading.{Gives, IsFirstFault, words_in};
 
+use crate::at_once::call_at_once;
 use crate::body::Line;
 use crate::document::Document;
 use crate::fault::{LineError, ScriptFault};
@@ -173,6 +174,10 @@ impl Line for Call {
         } else {
             None
         }
+    }
+
+    fn at_once(text: &[u8]) -> Option<(Call, &[u8])> {
+        call_at_once(text)
     }
 
     fn read(version: Version, words: &[&[u8]]) -> Result<Call, LineError> {

@@ -1,6 +1,7 @@
 //! Texts of a scheduler: scripts, up to their first fault; replies; and journals.
 #![tactic(auto)]
 
+mod at_once;
 pub mod body;
 pub mod calls;
 pub mod document;

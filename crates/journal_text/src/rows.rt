@@ -58,5 +58,9 @@ fn add_number(number: u64, buffer: &mut Buffer, text: &mut Vec<u8>) -> Result<()
     ensures kept { IsKept text.old.items text.new.items }
 {
     text.push(b' ')?;
+    if number < 10 {
+        text.push(b'0' + number as u8)?;
+        return Ok(());
+    }
     text.extend_from_slice(buffer.format(number).as_bytes())
 }

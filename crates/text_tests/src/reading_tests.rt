@@ -104,16 +104,37 @@ fn expect_call_by_call<R: Abort>(rt: &R, alloc: Global, text: &str, calls: &[Cal
     assert!(rt; script.body.read_next() == Ok(None), "after the calls");
 }
 
+// A worker's take at this moment.
+fn take_at(moment: u64) -> Call {
+    Call::Take {
+        who: 9,
+        moment,
+        worker: 3,
+    }
+}
+
 #[test]
 fn reads_a_script_call_by_call(rt: HostRuntime) {
     let text = "script 1\nconfig 1 2dfq declared 1000 100 10\ntenant a 1\nkind get\nkind put\n\
         take 9 0 3\nclose 7 5";
-    let take = Call::Take {
-        who: 9,
-        moment: 0,
-        worker: 3,
-    };
-    let calls = [take, Call::Close { who: 7, moment: 5 }];
+    let calls = [take_at(0), Call::Close { who: 7, moment: 5 }];
+    expect_call_by_call(&rt, rt.alloc(), text, &calls);
+}
+
+// Numbers of up to 18 digits are read as they are passed, longer ones by their words.
+#[test]
+fn reads_numbers_of_every_length(rt: HostRuntime) {
+    let text = "script 1\nconfig 1 2dfq declared 1000 100 10\ntenant a 1\nkind get\nkind put\n\
+        take 9 0 3\ntake 9 10 3\ntake 9 999999999999999999 3\ntake 9 1000000000000000000 3\n\
+        take 9 9999999999999999999 3\ntake 9 18446744073709551615 3\n";
+    let calls = [
+        take_at(0),
+        take_at(10),
+        take_at(999999999999999999),
+        take_at(1000000000000000000),
+        take_at(9999999999999999999),
+        take_at(18446744073709551615),
+    ];
     expect_call_by_call(&rt, rt.alloc(), text, &calls);
 }
 
