@@ -1,6 +1,5 @@
 //! What is kept of each call, and why one is refused.
 
-#[allow(dead_code)]
 #[derive(Clone, Copy)]
 pub enum Act {
     Submit {
@@ -28,7 +27,6 @@ pub enum Act {
     Close,
 }
 
-#[allow(dead_code)]
 #[derive(Clone, Copy)]
 pub struct Entry {
     pub who: u32,

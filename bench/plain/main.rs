@@ -1,6 +1,6 @@
 //! What `twodfq script` does under `2dfq` and `pessimistic`, for scripts of the first version, written in Rust as one would
-//! without contracts: the same design, memory that never runs out, and a reader that walks each line once.
-//! `bench/run --plain` measures the program against it.
+//! without contracts: the same design, and memory that never runs out. With the word `journal` it prints the journal in place
+//! of the replies. `bench/run --plain` measures the program against it.
 mod entry;
 mod scheduler;
 mod text;
@@ -10,7 +10,7 @@ use entry::Refusal;
 use scheduler::{Scheduler, Tenant};
 use std::io::{Read, Write};
 use std::process::exit;
-use text::{Cursor, fail, refused, row};
+use text::{Cursor, fail, line_of, refused, row};
 
 /// A scheduler by the head of a script, and where its body begins.
 fn open(input: &[u8]) -> (Scheduler, Cursor<'_>) {
@@ -65,22 +65,41 @@ fn names(c: &mut Cursor) -> (Vec<Tenant>, u32) {
     }
 }
 
+/// What is printed, and whether replies are.
+struct Output {
+    text: Vec<u8>,
+    replies: bool,
+}
+
+impl Output {
+    fn reply(&mut self, word: &str, numbers: &[u64]) {
+        if self.replies {
+            row(&mut self.text, word, numbers);
+        }
+    }
+    fn refuse(&mut self, why: Refusal) {
+        if self.replies {
+            refused(&mut self.text, why);
+        }
+    }
+}
+
 /// Answers the call of a line.
-fn answer(s: &mut Scheduler, c: &mut Cursor, out: &mut Vec<u8>) {
+fn answer(s: &mut Scheduler, c: &mut Cursor, out: &mut Output) {
     let word = c.word();
     let (who, moment) = (c.small(), c.number());
     match word {
         b"submit" => {
             let (tenant, kind, declared, label) = (c.small(), c.small(), c.number(), c.number());
             match s.submit(who, moment, tenant, kind, declared, label) {
-                Ok(request) => row(out, "request", &[request as u64]),
-                Err(why) => refused(out, why),
+                Ok(request) => out.reply("request", &[request as u64]),
+                Err(why) => out.refuse(why),
             }
         }
         b"take" => match s.take(who, moment, c.small()) {
-            Ok(Some((request, estimate, label))) => row(out, "run", &[request as u64, estimate, label]),
-            Ok(None) => row(out, if s.closed { "drained" } else { "idle" }, &[]),
-            Err(why) => refused(out, why),
+            Ok(Some((request, estimate, label))) => out.reply("run", &[request as u64, estimate, label]),
+            Ok(None) => out.reply(if s.closed { "drained" } else { "idle" }, &[]),
+            Err(why) => out.refuse(why),
         },
         b"report" => accepted(out, s.report(who, moment, c.small(), c.number())),
         b"done" => accepted(out, s.done(who, moment, c.small(), c.number())),
@@ -89,21 +108,33 @@ fn answer(s: &mut Scheduler, c: &mut Cursor, out: &mut Vec<u8>) {
     }
 }
 
-fn accepted(out: &mut Vec<u8>, answer: Result<(), Refusal>) {
+fn accepted(out: &mut Output, answer: Result<(), Refusal>) {
     match answer {
-        Ok(()) => row(out, "ok", &[]),
-        Err(why) => refused(out, why),
+        Ok(()) => out.reply("ok", &[]),
+        Err(why) => out.refuse(why),
     }
 }
 
 fn main() {
+    let journal = std::env::args().nth(1).is_some_and(|word| word == "journal");
     let mut input = Vec::new();
     std::io::stdin().read_to_end(&mut input).unwrap_or_else(|_| exit(4));
     let (mut s, mut c) = open(&input);
-    let mut out = Vec::new();
+    // below their first lines the heads of a script and of its journal are the same
+    let head = &input[b"script 1\n".len()..c.at];
+    let mut out = Output {
+        text: Vec::new(),
+        replies: !journal,
+    };
     while c.at < input.len() {
         answer(&mut s, &mut c, &mut out);
         c.end_line();
     }
-    std::io::stdout().write_all(&out).unwrap_or_else(|_| exit(5));
+    if journal {
+        out.text.reserve(48 * s.past.len());
+        out.text.extend_from_slice(b"journal 1\n");
+        out.text.extend_from_slice(head);
+        s.past.iter().for_each(|entry| line_of(&mut out.text, entry));
+    }
+    std::io::stdout().write_all(&out.text).unwrap_or_else(|_| exit(5));
 }

@@ -1,5 +1,5 @@
 //! Words and numbers of lines.
-use crate::entry::Refusal;
+use crate::entry::{Act, Entry, Refusal};
 use std::process::exit;
 
 pub struct Cursor<'a> {
@@ -73,6 +73,32 @@ pub fn add(out: &mut Vec<u8>, mut n: u64) {
         }
     }
     out.extend_from_slice(&digits[at..]);
+}
+
+pub fn line_of(out: &mut Vec<u8>, entry: &Entry) {
+    let (who, moment) = (entry.who as u64, entry.moment);
+    match entry.act {
+        Act::Submit {
+            request,
+            tenant,
+            kind,
+            declared,
+            label,
+        } => {
+            let numbers = [who, moment, request as u64, tenant as u64, kind as u64, declared, label];
+            row(out, "submit", &numbers)
+        }
+        Act::Take {
+            worker,
+            request,
+            estimate,
+        } => row(out, "take", &[who, moment, worker as u64, request as u64, estimate]),
+        Act::Report { worker, request, used } => {
+            row(out, "report", &[who, moment, worker as u64, request as u64, used])
+        }
+        Act::Done { worker, request, cost } => row(out, "done", &[who, moment, worker as u64, request as u64, cost]),
+        Act::Close => row(out, "close", &[who, moment]),
+    }
 }
 
 pub fn refused(out: &mut Vec<u8>, why: Refusal) {
