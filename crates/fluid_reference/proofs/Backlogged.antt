@@ -174,12 +174,16 @@ given_low l costs served weights w now k can backlogged some are =
       can.served_low T known,
     )
 
+-- the level of those that have a backlog is that of all tenants
+pub level_is : (cap : ℕ) (l : Level) (costs served weights w : List ℕ) → CanShare costs served weights → AreBacklogged costs served w → IsLevel cap (map (want_of costs served weights) w) l → l ≡ level cap (wants_of costs served weights)
+level_is cap l costs served weights w can backlogged is = level_of_wants cap (wants_of costs served weights) l (wants_in_range costs served weights can.costs_low can.weights_len can.in_range) (level_of_all cap costs served weights w l backlogged is)
+
 -- when all were given theirs
 pub served_is : (cap : ℕ) (l : Level) (costs served weights w now : List ℕ) → CanShare costs served weights → AreBacklogged costs served w → IsLevel cap (map (want_of costs served weights) w) l → length now ≡ length served → IsGiven l costs served weights w now →
     now ≡ served_next cap costs served weights
 served_is cap l costs served weights w now can backlogged is same are =
     let wants : List Backlog = wants_of costs served weights in
-    let at : l ≡ level cap wants = level_of_wants cap wants l (wants_in_range costs served weights can.costs_low can.weights_len can.in_range) (level_of_all cap costs served weights w l backlogged is) in
+    let at : l ≡ level cap wants = level_is cap l costs served weights w can backlogged is in
     let len : length now ≡ length (served_next cap costs served weights) = same ∙ can.served_len ∙ sym (list_length (served_after (level cap wants) wants served) (length costs)) in
     ext_get_or 0 now (served_next cap costs served weights) len (λ t here.
     (let known : t < length costs = omega (arith, here, same, can.served_len) in

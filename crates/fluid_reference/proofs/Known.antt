@@ -1,5 +1,5 @@
 -- What is known at a slot's start gives what is served by its end.
-use Rattle.std.proofs.Common.{ℕ, suc, ◌+◌, ◌-◌, ◌*◌, ◌<◌, ◌≤◌, ◌≡◌, List, [], ◌∷◌, ◌++◌, length, arith, refl, ap, ap₂, sym, ◌∙◌, subst, All, take, drop, zero, replicate, append-nil}
+use Rattle.std.proofs.Common.{ℕ, suc, ◌+◌, ◌-◌, ◌*◌, ◌<◌, ◌≤◌, ◌≡◌, List, ◌++◌, length, arith, refl, ap, ap₂, sym, ◌∙◌, subst, All, take, drop, zero, replicate, append-nil}
 use Rattle.std.proofs.lemmas.List.{get_or-replicate, length-replicate, take_all}
 use Rattle.std.proofs.Math.ListN.{drop_of_length-le}
 use Rattle.std.proofs.Math.Nat.{add-mul}
@@ -17,9 +17,9 @@ use Rattle.fq_model.specs.Limits.{IsWeight}
 use Rattle.fq_model.specs.Level.{gift, level, IsLevel}
 use Rattle.water_level.specs.Backlogs.{IsBacklog}
 use Rattle.water_level.proofs.TheOne.{the_one}
-use Rattle.fq_model.specs.Fluid.{prefix_at, history_of_changes, fluid, slot_gift, slot_level, backlog_at, backlogs_at, costs_by, cost_by, fluid_table}
-use Rattle.fluid_reference.specs.Slots.{IsRowOf, CostsAre, SettingIs, row_of, change_of, number_at, want_of, wants_of, served_after, served_next}
-use Rattle.fluid_reference.proofs.Lists.{list_same, list_at, list_length, list_more, list_none}
+use Rattle.fq_model.specs.Fluid.{prefix_at, history_of_changes, fluid, slot_gift, backlog_at, backlogs_at, costs_by, cost_by}
+use Rattle.fluid_reference.specs.Slots.{IsRowOf, CostsAre, SettingIs, row_of, change_of, number_at, want_of, wants_of, served_after, served_next, level_of_slot}
+use Rattle.fluid_reference.proofs.Lists.{list_same, list_at, list_length}
 use Rattle.fluid_reference.proofs.Places.{prefix_to, costs_to}
 use Rattle.fluid_reference.proofs.Within.{within}
 
@@ -51,28 +51,30 @@ pub record IsServed (C : Config) (rows : List FluidRow) (H : History) (Q k : ℕ
   pub each : (t : ℕ) → t < length C.weights → number_at served t ≡ fluid C rows H Q t k
 
 -- one slot more
-fluid_more : (C : Config) (rows : List FluidRow) (H : History) (Q t k : ℕ) → fluid C rows H Q t (suc k) ≡ fluid C rows H Q t k + slot_gift C rows H Q (k * Q) (λ u. fluid C rows H Q u k) t
+pub fluid_more : (C : Config) (rows : List FluidRow) (H : History) (Q t k : ℕ) → fluid C rows H Q t (suc k) ≡ fluid C rows H Q t k + slot_gift C rows H Q (k * Q) (λ u. fluid C rows H Q u k) t
 unfolding fluid
 fluid_more C rows H Q t k = refl
+
+-- what tenants want then, and its level
+wants_are : (C : Config) (rows : List FluidRow) (H : History) (Q k : ℕ) (costs weights served : List ℕ) (workers t : ℕ) → IsKnown C rows H Q k costs weights workers → IsServed C rows H Q k served → t < length C.weights → want_of costs served weights t ≡ backlog_at C rows H (k * Q) (λ u. fluid C rows H Q u k) t
+wants_are C rows H Q k costs weights served workers t p s l = ap₂ (λ (n : ℕ) (w : ℕ). record { units = n; weight = w }) (ap₂ ◌-◌ (p.costs_are t l) (s.each t l)) (p.weights_are t l)
+
+pub level_known : (C : Config) (rows : List FluidRow) (H : History) (Q k : ℕ) (costs weights served : List ℕ) (workers : ℕ) → IsKnown C rows H Q k costs weights workers → IsServed C rows H Q k served → level (workers * Q) (wants_of costs served weights) ≡ level_of_slot C rows H Q k
+level_known C rows H Q k costs weights served workers p s =
+    let all : wants_of costs served weights ≡ backlogs_at C rows H (k * Q) (λ u. fluid C rows H Q u k) = ap (list_below (want_of costs served weights)) p.tenants ∙ list_same _ _ (length C.weights) (λ t l. wants_are C rows H Q k costs weights served workers t p s l) in
+    ap₂ (λ n bs. level (n * Q) bs) p.workers_are all
 
 pub row_is : (C : Config) (rows : List FluidRow) (H : History) (Q k : ℕ) (costs weights served : List ℕ) (workers : ℕ) → IsKnown C rows H Q k costs weights workers → IsServed C rows H Q k served →
     served_next (workers * Q) costs served weights ≡ list_below (λ t. fluid C rows H Q t (suc k)) (length C.weights)
 row_is C rows H Q k costs weights served workers p s =
-    let want : (t : ℕ) → t < length C.weights → want_of costs served weights t ≡ backlog_at C rows H (k * Q) (λ u. fluid C rows H Q u k) t = λ t l. ap₂ (λ (n : ℕ) (w : ℕ). record { units = n; weight = w }) (ap₂ ◌-◌ (p.costs_are t l) (s.each t l)) (p.weights_are t l) in
-    let all : wants_of costs served weights ≡ backlogs_at C rows H (k * Q) (λ u. fluid C rows H Q u k) = ap (list_below (want_of costs served weights)) p.tenants ∙ list_same _ _ (length C.weights) want in
-    let at : level (workers * Q) (wants_of costs served weights) ≡ slot_level C rows H Q (k * Q) (λ u. fluid C rows H Q u k) = ap₂ (λ n bs. level (n * Q) bs) p.workers_are all in
     ap (list_below (served_after (level (workers * Q) (wants_of costs served weights)) (wants_of costs served weights) served)) p.tenants
-    ∙ list_same _ _ (length C.weights) (λ t l. ap₂ ◌+◌ (s.each t l) (ap₂ gift at (list_at (want_of costs served weights) (length costs) t _ (omega (arith, l, p.tenants)) ∙ want t l)) ∙ sym (fluid_more C rows H Q t k))
+    ∙ list_same _ _ (length C.weights) (λ t l. ap₂ ◌+◌ (s.each t l) (ap₂ gift (level_known C rows H Q k costs weights served workers p s) (list_at (want_of costs served weights) (length costs) t _ (omega (arith, l, p.tenants)) ∙ wants_are C rows H Q k costs weights served workers t p s l)) ∙ sym (fluid_more C rows H Q t k))
 
 pub served_then : (C : Config) (rows : List FluidRow) (H : History) (Q k : ℕ) (after : List ℕ) → after ≡ list_below (λ t. fluid C rows H Q t (suc k)) (length C.weights) → IsServed C rows H Q (k + 1) after
 served_then C rows H Q k after is = record {
   tenants = ap length is ∙ list_length (λ t. fluid C rows H Q t (suc k)) (length C.weights);
   each = λ t l. ap (λ xs. number_at xs t) is ∙ list_at (λ u. fluid C rows H Q u (suc k)) (length C.weights) t 0 l ∙ ap (fluid C rows H Q t) (omega arith);
 }
-
--- the table of one slot more
-pub table_more : (C : Config) (rows : List FluidRow) (H : History) (Q k : ℕ) → fluid_table C rows H Q (k + 1) ≡ fluid_table C rows H Q k ++ list_below (λ t. fluid C rows H Q t (suc k)) (length C.weights) ∷ []
-table_more C rows H Q k = list_more (λ j. list_below (λ t. fluid C rows H Q t (suc j)) (length C.weights)) k
 
 -- ---- bounds
 
@@ -112,9 +114,6 @@ served_none C rows H Q served is = record {
   tenants = ap length is ∙ length-replicate (length C.weights) 0;
   each = λ t l. ap (λ xs. number_at xs t) is ∙ get_or-replicate (length C.weights) t 0 0 l;
 }
-
-pub table_none : (C : Config) (rows : List FluidRow) (H : History) (Q : ℕ) → fluid_table C rows H Q 0 ≡ []
-table_none C rows H Q = list_none (λ j. list_below (λ t. fluid C rows H Q t (suc j)) (length C.weights))
 
 -- what came by a slot's start came by the next one's
 pub still_before : {X : Type 0} (n : X → ℕ) (xs : List X) (k Q : ℕ) → All (λ x. n x ≤ k * Q) xs → All (λ x. n x ≤ (k + 1) * Q) xs

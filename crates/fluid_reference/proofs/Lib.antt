@@ -5,3 +5,5 @@ pub mod Places
 pub mod Steps
 pub mod Known
 pub mod Backlogged
+pub mod OfTenants
+pub mod Replays

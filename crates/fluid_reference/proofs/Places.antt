@@ -27,7 +27,7 @@ all_append m [] Q h g = g
 all_append m (e ∷ P) Q h g = let p = and_parts _ _ h in and_from _ _ p.0 (all_append m P Q p.1 g)
 
 -- all that came by m
-all_by : (m : ℕ) (cs : List Change) → All (λ c. c.moment ≤ m) cs → is_all_by m (history_of_changes cs) ≡ true
+pub all_by : (m : ℕ) (cs : List Change) → All (λ c. c.moment ≤ m) cs → is_all_by m (history_of_changes cs) ≡ true
 all_by m [] h = refl
 all_by m (c ∷ cs) h = subst (λ P. is_all_by m P ≡ true) (sym (one_before c cs)) (all_append m (history_of_changes cs) (change_entry c ∷ []) (all_by m cs (λ k d l. h (suc k) d (omega (arith, l)))) (and_from _ _ (le-leb _ _ (h 0 c (omega arith))) refl))
 

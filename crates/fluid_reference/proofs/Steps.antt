@@ -57,7 +57,7 @@ next_low n sorted j a few some = omega (
 
 -- ---- changes
 
-weight_more : (C : Config) (older : List Change) (c : Change) (t : ℕ) → weight_at C (history_of_changes (older ++ c ∷ [])) t ≡ weight_after t (change_act c.what) (weight_at C (history_of_changes older) t)
+pub weight_more : (C : Config) (older : List Change) (c : Change) (t : ℕ) → weight_at C (history_of_changes (older ++ c ∷ [])) t ≡ weight_after t (change_act c.what) (weight_at C (history_of_changes older) t)
 unfolding weight_at
 weight_more C older c t = ap (λ P. weight_at C P t) (one_more older c)
 

@@ -1,7 +1,8 @@
--- Requests and changes in their limits, and what is known of them at a slot's start.
-use Rattle.std.specs.Prelude.{ℕ, suc, ◌+◌, ◌-◌, ◌*◌, ◌<◌, ◌≤◌, ◌≡◌, ◌==◌, nat_lt, Bool, if◌then◌else◌, List, length, All, take, sum_by, count_by, slice_index_or}
+-- Requests and changes in their limits, what is known of them at a slot's start, and what the levels of slots give.
+use Rattle.std.specs.Prelude.{ℕ, zero, suc, ◌+◌, ◌-◌, ◌*◌, ◌<◌, ◌≤◌, ◌≡◌, ◌==◌, nat_lt, Bool, if◌then◌else◌, List, [], filter, length, All, take, sum_by, count_by, slice_index_or}
+use Rattle.std.specs.List.Sorted.{IsNonDecreasingBy}
 use Rattle.vt_fixed.specs.declared.limits.TheConstants.{GREATEST_COST, MOST_WORKERS}
-use Rattle.fq_model.specs.declared.limits.TheConstants.{MOST_CELLS, MOST_TENANTS, GREATEST_BACKLOG}
+use Rattle.fq_model.specs.declared.limits.TheConstants.{MOST_CELLS, MOST_TENANTS, MOST_FLUID_ROWS, GREATEST_BACKLOG}
 use Rattle.fq_model.specs.declared.config.Config.{Config}
 use Rattle.fq_model.specs.declared.fluid.FluidRow.{FluidRow}
 use Rattle.fq_model.specs.declared.fluid.Change.{Change}
@@ -9,13 +10,14 @@ use Rattle.fq_model.specs.declared.fluid.What.{What}
 use Rattle.fq_model.specs.declared.fluid.What.TheVariants as changed
 use Rattle.fq_model.specs.declared.level.Backlog.{Backlog}
 use Rattle.fq_model.specs.declared.level.Level.{Level}
+use Rattle.fq_model.specs.declared.level.Level.TheVariants as levels
 use Rattle.fluid_reference.specs.declared.fault.FluidFault.{FluidFault}
 use Rattle.fluid_reference.specs.declared.fault.FluidFault.TheVariants.{TooLong}
 use Rattle.fq_model.specs.Limits.{IsWeight, IsWithin}
 use Rattle.fq_model.specs.History.{History, weight_at, pool_at}
 use Rattle.fq_model.specs.Level.{gift, level}
 use Rattle.fq_model.specs.Sums.{list_below}
-use Rattle.fq_model.specs.Fluid.{history_of_changes, fluid, fluid_table, costs_by}
+use Rattle.fq_model.specs.Fluid.{history_of_changes, fluid, fluid_table, slot_level, backlog_at, costs_by}
 
 -- the numbers of a request are in their limits, where there are so many tenants
 pub record IsRowOf (tenants : ℕ) (row : FluidRow) : Type 0 where
@@ -103,6 +105,13 @@ served_next cap costs served weights = served_by cap (wants_of costs served weig
 abbrev pub table_of_changes : Config → List FluidRow → List Change → ℕ → ℕ → List (List ℕ)
 table_of_changes C rows changes Q slots = fluid_table C rows (history_of_changes changes) Q slots
 
+-- the level of slot k, and those of the first slots where these changes say the weights and the workers
+abbrev pub level_of_slot : Config → List FluidRow → History → ℕ → ℕ → Level
+level_of_slot C rows H Q k = slot_level C rows H Q (k * Q) (λ u. fluid C rows H Q u k)
+
+abbrev pub levels_of : Config → List FluidRow → List Change → ℕ → ℕ → List Level
+levels_of C rows changes Q slots = list_below (level_of_slot C rows (history_of_changes changes) Q) slots
+
 -- a table has too many cells, and the fault that says so
 abbrev pub IsTooLong : Config → ℕ → Type 0
 IsTooLong C slots = MOST_CELLS < slots * length C.weights
@@ -114,3 +123,60 @@ too_long C slots = TooLong slots (length C.weights)
 abbrev pub ServesWhatCame : Type 0
 ServesWhatCame = (C : Config) (rows : List FluidRow) (H : History) (Q t k : ℕ) →
     fluid C rows H Q t (suc k) ≤ costs_by rows (k * Q) t
+
+-- what the table says of a slot, and what of a tenant
+abbrev pub slot_at : List (List ℕ) → ℕ → List ℕ
+slot_at table k = slice_index_or table k []
+
+abbrev pub column_of : List (List ℕ) → ℕ → List ℕ
+column_of table t = list_below (λ k. number_at (slot_at table k) t) (length table)
+
+-- ---- what the levels of slots give
+
+-- whose weight a change sets; a number that no tenant has, where it sets none
+abbrev pub owner_of_set : What → ℕ
+owner_of_set (changed.Weight tenant weight) = tenant
+owner_of_set (changed.Workers count) = MOST_TENANTS
+
+abbrev pub owner_of : Change → ℕ
+owner_of change = owner_of_set change.what
+
+-- the requests of tenant t, and the changes of its weight
+abbrev pub rows_for : ℕ → List FluidRow → List FluidRow
+rows_for t rows = filter (λ row. row.tenant == t) rows
+
+abbrev pub changes_for : ℕ → List Change → List Change
+changes_for t changes = filter (λ c. owner_of c == t) changes
+
+-- the requests of a tenant up to a place came by a moment, and this is what they cost
+pub record CameBy (own : List FluidRow) (at place cost : ℕ) : Type 0 where
+  pub in_list : place ≤ length own
+  pub theirs : cost ≡ sum_by (λ row. row.cost) (take place own)
+  pub before : All (λ row. row.submit ≤ at) (take place own)
+
+abbrev pub level_in : List Level → ℕ → Level
+level_in slots k = slice_index_or slots k levels.All
+
+-- what tenant t still wants at m, where so much of each tenant was served before, by the changes of its own weight
+abbrev pub own_backlog : Config → List FluidRow → List Change → ℕ → (ℕ → ℕ) → ℕ → Backlog
+own_backlog C rows changes m served t = backlog_at C rows (history_of_changes (changes_for t changes)) m served t
+
+-- what tenant t is served in the first k slots of length Q, if these are their levels
+unfoldable pub replayed : Config → List FluidRow → List Change → List Level → ℕ → ℕ → ℕ → ℕ
+replayed C rows changes levels Q t zero = 0
+replayed C rows changes levels Q t (suc k) = replayed C rows changes levels Q t k
+    + gift (level_in levels k) (own_backlog C rows changes (k * Q) (λ u. replayed C rows changes levels Q u k) t)
+
+-- so for each tenant, by number, up to the end of each slot
+abbrev pub replayed_table : Config → List FluidRow → List Change → List Level → ℕ → List (List ℕ)
+replayed_table C rows changes levels Q =
+    list_below (λ k. list_below (λ t. replayed C rows changes levels Q t (suc k)) (length C.weights)) (length levels)
+
+-- requests and changes are in the order of so many tenants, those of a tenant in order of time
+pub record CanReplay (tenants : ℕ) (rows : List FluidRow) (changes : List Change) : Type 0 where
+  pub few : length rows ≤ MOST_FLUID_ROWS
+  pub in_range : All (IsRowOf tenants) rows
+  pub rows_by_tenant : IsNonDecreasingBy (λ row. row.tenant) rows
+  pub submits_rise : (t : ℕ) → IsNonDecreasingBy (λ row. row.submit) (rows_for t rows)
+  pub changes_by_tenant : IsNonDecreasingBy owner_of changes
+  pub moments_rise : (t : ℕ) → IsNonDecreasingBy (λ c. c.moment) (changes_for t changes)

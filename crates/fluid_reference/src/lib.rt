@@ -3,7 +3,9 @@
 
 pub mod fault;
 pub mod joining;
+pub mod owned;
+pub mod reference;
+mod replaying;
 pub mod setting;
 pub mod sharing;
 pub mod slots;
-pub mod table;

@@ -3,7 +3,7 @@ use Rattle.std.proofs.lemmas.List.{get_or-map, length-map, take_all}
 use Rattle.fq_model.specs.Level.{gift, IsLevel}
 use Rattle.water_level.specs.Backlogs.{IsBacklog}
 use Rattle.fluid_reference.specs.Slots.{want_of, AreBacklogged}
-use Rattle.fluid_reference.proofs.Backlogged.{IsGiven, known_tenants, no_more, backlogs_in_range, given_one, given_low, served_is, still_are}
+use Rattle.fluid_reference.proofs.Backlogged.{IsGiven, known_tenants, no_more, backlogs_in_range, given_one, given_low, level_is, served_is, still_are}
 use Rattle.fluid_reference.proofs.sharing.share.Goals as goal
 use Rattle.fluid_reference.proofs.sharing.share.Goals.{After-as_slice, After-give}
 
@@ -47,7 +47,12 @@ returns-clause-next c =
     served_is c.args.cap c.in_ok-level.level c.args.costs.now c.args.served.now c.args.weights.now c.args.backlogged.now c.loop-k.served c.requires.in_range c.requires.backlogged
     (subst (λ bs. IsLevel c.args.cap bs c.in_ok-level.level) (wants_are (goal.at.returns-clause-next c).After-as_slice) c.in_ok-level.ensures.level) c.loop-k.invariant.len all
 
+pub returns-clause-level : goal.returns-clause-level
+returns-clause-level c =
+    level_is c.args.cap c.in_ok-level.level c.args.costs.now c.args.served.now c.args.weights.now c.args.backlogged.now c.requires.in_range c.requires.backlogged
+    (subst (λ bs. IsLevel c.args.cap bs c.in_ok-level.level) (wants_are (goal.at.returns-clause-level c).After-as_slice) c.in_ok-level.ensures.level)
+
 pub returns-clause-backlogged : goal.returns-clause-backlogged
 returns-clause-backlogged c =
     let all : IsGiven c.in_ok-level.level c.args.costs.now c.args.served.now c.args.weights.now c.args.backlogged.now c.loop-k.served = subst (λ w. IsGiven c.in_ok-level.level c.args.costs.now c.args.served.now c.args.weights.now w c.loop-k.served) (take_all c.loop-k.k c.args.backlogged.now (omega (arith, c.loop-k-test.false))) c.loop-k.invariant.given in
-    subst (AreBacklogged c.args.costs.now c.loop-k.served) (sym c.in_ok-left.ensures) (still_are c.in_ok-level.level c.args.costs.now c.args.served.now c.args.weights.now c.args.backlogged.now c.loop-k.served c.requires.in_range.served_len c.requires.backlogged all)
+    subst (AreBacklogged c.args.costs.now c.loop-k.served) (sym c.in_ok-backlogged.ensures) (still_are c.in_ok-level.level c.args.costs.now c.args.served.now c.args.weights.now c.args.backlogged.now c.loop-k.served c.requires.in_range.served_len c.requires.backlogged all)
