@@ -1,5 +1,6 @@
 -- The work that requests gain in each slot.
 use Rattle.std.proofs.Common.{ℕ, zero, suc, ◌+◌, ◌-◌, ◌*◌, ◌/◌, ◌<◌, ◌≤◌, ◌≡◌, nat_le, min, List, length, take, get_or, slice_set, arith, refl, ap, sym, ◌∙◌, inl, inr, sum, sum_by, replicate, All, [], pos, ◌-ℤ◌}
+use Rattle.fluid_reference.specs.Slots.{number_at}
 use Rattle.std.proofs.lemmas.Bool.{cases_Bool, cond-true, cond-false, leb-true, leb-false, le-leb, lt-leb}
 use Rattle.std.proofs.lemmas.List.{take-set-le, length-take-le, get_or-take, length-take, length-replicate, get_or-replicate, take_all}
 use Rattle.std.proofs.lemmas.List.Sums.{sum_by-set, sum_by_more, sum_by-le}
@@ -9,7 +10,7 @@ use Rattle.std.proofs.Math.Nat.{div-le_of_le-mul, mul-le-mul_left, mul-le-mul_ri
 use Rattle.fluid_reference.proofs.Lists.{sum_none, list_same}
 use Rattle.fq_model.specs.Lag.{work_between}
 use Rattle.lag_report.specs.declared.course.Course.{Course}
-use Rattle.lag_report.specs.Work.{work_in, number_at, EndsWithin, GainsAre, samples_from, lags_from}
+use Rattle.lag_report.specs.Work.{work_in, EndsWithin, GainsAre, samples_from, lags_from}
 
 -- ---- the work on one request
 

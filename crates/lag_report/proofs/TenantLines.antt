@@ -6,7 +6,7 @@ use Rattle.std.proofs.lemmas.List.Sorted.{sum_by-IsPermutation}
 use Rattle.fluid_reference.proofs.Lists.{list_same, list_at, list_length}
 use Rattle.fluid_reference.proofs.Known.{served_low}
 use Rattle.fluid_reference.proofs.Changes.{changes_say_all}
-use Rattle.fluid_reference.specs.Slots.{IsRowOf, table_of_changes}
+use Rattle.fluid_reference.specs.Slots.{IsRowOf, table_of_changes, number_at, slot_at, column_of}
 use Rattle.fq_model.specs.declared.fluid.Change.{Change}
 use Rattle.fq_model.specs.declared.config.Config.{Config}
 use Rattle.fq_model.specs.declared.fluid.FluidRow.{FluidRow}
@@ -21,7 +21,7 @@ use Rattle.fq_model.specs.Ranks.{least_sample, percentile, greatest_sample}
 use Rattle.fq_model.specs.Report.{slots_of, samples_of, submits_for, tenant_lag, lag_report, LagReport}
 use Rattle.lag_report.specs.declared.course.Course.{Course}
 use Rattle.lag_report.specs.Courses.{courses_of, rows_of, own}
-use Rattle.lag_report.specs.Work.{number_at, slot_at, column_of, worked, lags_from, line_for, IsTable}
+use Rattle.lag_report.specs.Work.{worked, lags_from, line_for, IsTable}
 use Rattle.lag_report.specs.Laws.{RowsCountSubmits}
 use Rattle.lag_report.proofs.CoursesAre.{rows_are}
 use Rattle.lag_report.proofs.Ends.{in_order}

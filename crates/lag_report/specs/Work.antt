@@ -1,15 +1,13 @@
 -- Work by slots, and what a report says of a tenant by the courses of its requests.
-use Rattle.std.specs.Prelude.{ℕ, zero, suc, ◌-◌, ◌*◌, ◌/◌, ◌<◌, ◌≤◌, ◌≡◌, ◌==◌, List, [], length, take, sum, sum_by, filter, slice_index, slice_index_or, ℤ, pos, ◌-ℤ◌}
+use Rattle.std.specs.Prelude.{ℕ, zero, suc, ◌-◌, ◌*◌, ◌/◌, ◌<◌, ◌≤◌, ◌≡◌, ◌==◌, List, length, take, sum, sum_by, filter, slice_index, ℤ, pos, ◌-ℤ◌}
 use Rattle.vt_fixed.specs.declared.limits.TheConstants.{GREATEST_COST, GREATEST_MOMENT}
 use Rattle.fq_model.specs.declared.limits.TheConstants.{MOST_CELLS, GREATEST_BACKLOG}
 use Rattle.fq_model.specs.declared.lag.TenantLag.{TenantLag}
 use Rattle.fq_model.specs.Sums.{list_below}
+use Rattle.fluid_reference.specs.Slots.{number_at, slot_at, column_of}
 use Rattle.fq_model.specs.Lag.{work_between}
 use Rattle.fq_model.specs.Ranks.{least_sample, percentile, greatest_sample}
 use Rattle.lag_report.specs.declared.course.Course.{Course}
-
-abbrev pub number_at : List ℕ → ℕ → ℕ
-number_at numbers k = slice_index_or numbers k 0
 
 -- the work done on a request by m
 abbrev pub worked : ℕ → Course → ℕ
@@ -59,14 +57,6 @@ line_of weight served courses Q = record {
 }
 
 -- ---- all tenants
-
--- what the table says of a slot
-abbrev pub slot_at : List (List ℕ) → ℕ → List ℕ
-slot_at table k = slice_index_or table k []
-
--- what a tenant is served by the end of each slot
-abbrev pub column_of : List (List ℕ) → ℕ → List ℕ
-column_of table t = list_below (λ k. number_at (slot_at table k) t) (length table)
 
 -- a table of some slots, and no more cells than there may be, for so many tenants, with no number above the limit
 pub record IsTable (tenants : ℕ) (table : List (List ℕ)) : Type 0 where

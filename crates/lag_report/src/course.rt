@@ -1,5 +1,7 @@
 //! The course of a request.
 
+use fluid_reference::owned::Owned;
+
 /// When a request came, was taken and was done, in microseconds.
 #[derive(Clone, Copy)]
 pub struct Course {
@@ -14,4 +16,12 @@ pub struct Course {
     /// Its measured cost, or 0 where it is not done.
     pub cost: u64,
     pub is_done: bool,
+}
+
+impl Owned for Course {
+    ghost owner = { λ c. c.tenant };
+
+    fn owner(&self) -> u32 {
+        self.tenant
+    }
 }

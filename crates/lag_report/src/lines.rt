@@ -1,13 +1,14 @@
 //! What a report says of a tenant.
-ghost use Rattle.std.specs.Prelude.{◌≡◌, ◌≤◌, ◌<◌, ◌==◌, length, IfOk, All, filter, sum_by, ℕ};
+ghost use Rattle.std.specs.Prelude.{◌≡◌, ◌≤◌, length, IfOk, All, sum_by};
 ghost use Rattle.fq_model.specs.Sums.{list_below};
-ghost use Rattle.std.specs.List.Sorted.{IsNonDecreasingBy, IsPermutation};
-ghost use Rattle.lag_report.specs.Work.{EndsWithin, IsTable, slot_at, column_of, line_of, line_for};
+ghost use Rattle.std.specs.List.Sorted.{IsNonDecreasingBy};
+ghost use Rattle.lag_report.specs.Work.{EndsWithin, IsTable, line_of, line_for};
 
 use crate::course::Course;
 use crate::samples::{rank, samples};
 use crate::work::gains;
-use fluid_reference::table::FluidTable;
+use fluid_reference::owned::of_tenant;
+use fluid_reference::reference::FluidReference;
 use fq_model::lag::TenantLag;
 use fq_model::limits::{
     GREATEST_BACKLOG, GREATEST_SLOT, MOST_CELLS, MOST_FLUID_ROWS, MOST_TENANTS,
@@ -19,7 +20,7 @@ use std::alloc::{AllocError, Global};
 pub fn lines(
     alloc: Global,
     courses: &[Course],
-    fluid: &FluidTable,
+    fluid: &FluidReference,
     weights: &[u32],
     slot: u64,
 ) -> Result<Vec<TenantLag>, AllocError>
@@ -35,32 +36,12 @@ pub fn lines(
 {
     let mut lines = Vec::new(alloc);
     for t in 0..weights.len() {
-        let served = column(alloc, fluid, t)?;
+        let served = fluid.services(alloc, t as u32)?;
         let own = of_tenant(courses, t as u32);
         let line = line(alloc, weights[t], own, served.as_slice(), slot)?;
         lines.push(line)?;
     }
     Ok(lines)
-}
-
-// What a tenant is served up to the end of each slot.
-fn column(alloc: Global, fluid: &FluidTable, tenant: usize) -> Result<Vec<u64>, AllocError>
-    requires { (k : ℕ) → k < length fluid.now → tenant < length (slot_at fluid.now k) }
-    ensures { IfOk result (λ v. v.items ≡ column_of fluid.now tenant) }
-{
-    let mut column = Vec::new(alloc);
-    for k in 0..fluid.len() {
-        column.push(fluid.slot(k)[tenant])?;
-    }
-    Ok(column)
-}
-
-/// Puts courses in the order of their tenants.
-pub fn by_tenant(courses: &mut [Course])
-    ensures same { IsPermutation courses.old courses.new }
-    ensures order { IsNonDecreasingBy (λ c. c.tenant) courses.new }
-{
-    courses.sort_unstable_by_key(|course| course.tenant);
 }
 
 // What a report says of a tenant of this weight, whose requests have these courses, and which was served so much up to
@@ -103,14 +84,4 @@ fn charged(courses: &[Course]) -> u64
     ensures { result ≡ sum_by (λ c. c.cost) courses.now }
 {
     courses.iter().map(|course| course.cost).sum()
-}
-
-// The courses of a tenant's requests, of courses in the order of their tenants.
-fn of_tenant(courses: &[Course], tenant: u32) -> &[Course]
-    requires { IsNonDecreasingBy (λ c. c.tenant) courses.now }
-    ensures { result.now ≡ filter (λ c. c.tenant == tenant) courses.now }
-{
-    let from = courses.partition_point(|course| course.tenant < tenant);
-    let to = courses.partition_point(|course| course.tenant <= tenant);
-    &courses[from..to]
 }

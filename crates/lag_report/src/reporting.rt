@@ -9,9 +9,10 @@ ghost use Rattle.lag_report.specs.Reports.{report_refusal, IsReason};
 
 use crate::automatic::last_moment;
 use crate::fault::ReportFault;
-use crate::lines::{by_tenant, lines};
+use crate::lines::lines;
 use crate::parts::Report;
 use crate::reading::{Contents, read, unfinished};
+use fluid_reference::owned::by_tenant;
 use fluid_reference::slots::slots;
 use fq_model::config::Checked;
 use fq_model::event::Entry;
@@ -71,7 +72,7 @@ fn report_of(
         slot,
         count,
     )?;
-    by_tenant(contents.courses.as_mut_slice());
+    by_tenant(&mut contents.courses)?;
     let rows = lines(alloc, contents.courses.as_slice(), &fluid, weights, slot)?;
     Ok(Report::new(slot, count, rows, end, past.len() as u64))
 }

@@ -44,9 +44,9 @@ cost_is : (c : After-weigh) → c.join_own.result.1 ≡ costs_by c.args.rows.now
 cost_is c =
     c.join_own.ensures.came.theirs
     ∙ came_is c.args.rows.now c.of_tenant-own.result.now c.join_own.result.0 (c.loop-k.k * c.args.slot) c.args.tenant c.of_tenant-own.ensures
-        (subst (IsNonDecreasingBy (λ (r : FluidRow). r.submit)) (sym c.of_tenant-own.ensures) (c.requires.ready.submits_rise c.args.tenant))
-        (subst (All (λ (r : FluidRow). nat_eq r.tenant c.args.tenant ≡ true)) (sym c.of_tenant-own.ensures) (filter_passes (λ (r : FluidRow). nat_eq r.tenant c.args.tenant) c.args.rows.now))
-        c.join_own.ensures.came.before c.join_own.ensures.next
+    (subst (IsNonDecreasingBy (λ (r : FluidRow). r.submit)) (sym c.of_tenant-own.ensures) (c.requires.ready.submits_rise c.args.tenant))
+    (subst (All (λ (r : FluidRow). nat_eq r.tenant c.args.tenant ≡ true)) (sym c.of_tenant-own.ensures) (filter_passes (λ (r : FluidRow). nat_eq r.tenant c.args.tenant) c.args.rows.now))
+    c.join_own.ensures.came.before c.join_own.ensures.next
 
 -- its weight by now
 weight_set : (c : After-weigh) → c.weigh.result.1 ≡ weight_at c.args.config.now (history_of_changes (take c.weigh.result.0 c.of_tenant-changes.result.now)) c.args.tenant

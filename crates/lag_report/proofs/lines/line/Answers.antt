@@ -1,11 +1,12 @@
 use Rattle.std.proofs.Common.{ℕ, ◌-◌, ◌≡◌, length, sum, arith, rules, ap, ap₂, sym, ◌∙◌, subst, ℤ, w64}
+use Rattle.fluid_reference.specs.Slots.{number_at}
 use mir.Val.{SFits}
 use Rattle.std.proofs.lemmas.Int.{to_z-of_z}
 use Rattle.fluid_reference.proofs.Lists.{list_length}
 use Rattle.fq_model.specs.declared.lag.TenantLag.{TenantLag}
 use Rattle.lag_report.specs.declared.samples.Ranked.{Ranked}
 use Rattle.lag_report.specs.Ranked.{ranked}
-use Rattle.lag_report.specs.Work.{GainsAre, lags_from, number_at}
+use Rattle.lag_report.specs.Work.{GainsAre, lags_from}
 use Rattle.lag_report.proofs.Gains.{gains_low, costs_low, lags_are}
 use Rattle.lag_report.proofs.lines.line.Goals as goal
 use Rattle.lag_report.proofs.lines.line.Goals.{After-as_mut_slice}

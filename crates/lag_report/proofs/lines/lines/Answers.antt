@@ -1,11 +1,12 @@
 use Rattle.std.proofs.Common.{ℕ, ◌≡◌, ◌<◌, ◌≤◌, ◌++◌, ◌∷◌, [], List, length, All, arith, ap, ap₂, sym, ◌∙◌, subst, slice_index}
+use Rattle.fluid_reference.specs.Slots.{column_of, number_at, slot_at}
 use Rattle.std.proofs.lemmas.List.Elements.{All-filter}
 use Rattle.std.proofs.lemmas.List.Sums.{length-filter, count_by-le-length}
 use Rattle.fluid_reference.proofs.Lists.{list_none, list_more, list_length, list_at}
 use Rattle.fq_model.specs.Sums.{list_below}
 use Rattle.fq_model.specs.declared.lag.TenantLag.{TenantLag}
 use Rattle.lag_report.specs.declared.course.Course.{Course}
-use Rattle.lag_report.specs.Work.{EndsWithin, line_of, line_for, column_of, number_at, slot_at}
+use Rattle.lag_report.specs.Work.{EndsWithin, line_of, line_for}
 use Rattle.lag_report.proofs.Groups.{is_own}
 use Rattle.lag_report.proofs.lines.lines.Goals as goal
 use Rattle.lag_report.proofs.lines.lines.Goals.{After-as_slice}
@@ -46,8 +47,8 @@ loop-t-preserved c =
     ∙ ap₂ (λ (s : List ℕ) (cs : List Course). line_of (slice_index c.args.weights.now c.loop-t.t) s cs c.args.slot) (served_is b) c.of_tenant-own.ensures in
     c.in_ok-push.ensures.items ∙ ap₂ (λ (xs : List TenantLag) l. xs ++ l ∷ []) c.loop-t.invariant line ∙ sym (list_more (line_for c.args.weights.now c.args.courses.now c.args.fluid.now c.args.slot) c.loop-t.t)
 
-pub column-requires : goal.column-requires
-column-requires c = λ k l. subst (λ n. c.loop-t.t < n) (sym (c.requires.table.tenants_are k l)) c.loop-t-test.true
+pub services-requires : goal.services-requires
+services-requires c = λ k l. subst (λ n. c.loop-t.t < n) (sym (c.requires.table.tenants_are k l)) c.loop-t-test.true
 
 pub of_tenant-own-requires : goal.of_tenant-own-requires
 of_tenant-own-requires c = c.requires.order

@@ -19,7 +19,6 @@ use Rattle.lag_report.proofs.Ends.{courses_end}
 use Rattle.lag_report.proofs.Counts.{submits_few, rows_few, rows_in, changes_in, changes_order}
 use Rattle.lag_report.proofs.TenantLines.{is_table, lines_from, table_is, report_of}
 use Rattle.lag_report.proofs.Refusals.{small, for_request, for_none, for_fluid, few_slots, none_from, given_reason}
-use Rattle.fluid_reference.proofs.Known.{written_back}
 use Rattle.lag_report.specs.Faults.{fault_from}
 use Rattle.std.specs.List.Sorted.{IsPermutation}
 use Rattle.lag_report.proofs.reporting.report_of.Goals as goal
@@ -80,15 +79,12 @@ table_now c = table_is c.args.config.now (history_of c.args.past.now) c.args.slo
     c.in_ok-fluid.ensures.table
 
 -- the courses are those of the history, in another order
-sorted_now : (c : After-as_slice-4) → c.as_slice-4.result.now ≡ c.by_tenant.new.courses
-sorted_now c =
-    let items = c.args.contents.now.courses.items in
-    let same : length c.by_tenant.new.courses ≡ length items = length_permutation _ _ c.by_tenant.ensures.same ∙ ap length c.as_mut_slice.ensures.value in
-    c.as_slice-4.ensures.value ∙ written_back c.args.contents.now.courses.len items c.by_tenant.new.courses same c.args.contents.now.courses.ok.0
+sorted_now : (c : After-as_slice-4) → c.as_slice-4.result.now ≡ c.by_tenant.new.items.items
+sorted_now c = c.as_slice-4.ensures.value
 
 courses_now : (c : After-as_slice-4) → IsPermutation (courses_of (history_of c.args.past.now)) c.as_slice-4.result.now
 courses_now c =
-    subst (λ cs. IsPermutation cs c.as_slice-4.result.now) (c.as_mut_slice.ensures.value ∙ c.requires.courses) (subst (IsPermutation c.as_mut_slice.result.now) (sym (sorted_now c)) c.by_tenant.ensures.same)
+    subst (λ cs. IsPermutation cs c.as_slice-4.result.now) c.requires.courses (subst (IsPermutation c.args.contents.now.courses.items) (sym (sorted_now c)) c.in_ok-by_tenant.ensures.same)
 
 all_are_done : (c : After-as_slice-4) → (r : ℕ) → r < submits (history_of c.args.past.now) → is_done (history_of c.args.past.now) r ≡ true
 all_are_done c =
@@ -111,7 +107,7 @@ lines-requires-clause-table c =
 pub lines-requires-clause-order : goal.lines-requires-clause-order
 lines-requires-clause-order c =
     let b : After-as_slice-4 = (goal.at.lines-requires-clause-order c).After-as_slice-4 in
-    subst (IsNonDecreasingBy (λ (x : Course). x.tenant)) (sym (sorted_now b)) c.by_tenant.ensures.order
+    subst (IsNonDecreasingBy (λ (x : Course). x.tenant)) (sym (sorted_now b)) c.in_ok-by_tenant.ensures.order
 
 pub lines-requires-clause-requests : goal.lines-requires-clause-requests
 lines-requires-clause-requests c =
