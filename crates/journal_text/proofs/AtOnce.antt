@@ -108,7 +108,7 @@ one_number_more : (text rest below : List ℕ) (n : ℕ) (words : Words) (b : Be
 one_number_more text rest below n words b h = one_word_more text b.first rest below words (number_is_a_word b.first n b.spelled) b.split h
 
 told : (text below : List ℕ) (words : Words) (call : Call) → HasWords text words below → ((version : Version) → call_of_words version words ≡ Ok call) → TellsFirst call_of_words text call below
-told text below words call h says = record { line = h.line; first = h.first; says = λ version. ap (call_of_words version) h.split ∙ says version }
+told text below words call h says version = record { line = h.line; first = h.first; says = ap (call_of_words version) h.split ∙ says version }
 
 -- single words of a line
 number_is : (words : Words) (k n : ℕ) → number_of (word words k) ≡ Some n → number_at words k ≡ Ok n

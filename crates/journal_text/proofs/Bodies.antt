@@ -204,22 +204,11 @@ first_fault reader old (faults.At line kind) new stuck =
     rw stuck.there (ap (λ read. read >>= λ said. with_first said (body_of (reader old.version) (old.place + 1) stuck.more)) stuck.fails)
 first_fault reader old faults.NoMemory new stuck = tt
 
--- the first line of a text was read
-pub reads_first : {A : Type 0} (reader : Version → LineReader A) (version : Version) (place : ℕ) (rest line below : List ℕ) (old new : Below) (said : A)
-    → below_at version place rest ≡ old → below_at version (place + 1) below ≡ new → lines_of rest ≡ line ∷ lines_of below → reader version (words_of line) ≡ Ok said
-    → SaysFirst reader old said new
-reads_first reader version place rest line below old new said was is first says = rw (sym was, sym is) (record {
-  line = line;
-  there = first;
-  says = says;
-  left = refl;
-})
-
 fails_at : {A : Type 0} (place : ℕ) (e : LineError) (read : Result A ScriptKind) → Fails e read → IsFirstFault (fault_at place e) (at_line place read)
 fails_at place (errors.Fault kind) read fails = ap (at_line place) fails
 fails_at place errors.NoMemory read fails = tt
 
--- it was not
+-- the first line of a text was not read
 pub stays_at_first : {A : Type 0} (reader : Version → LineReader A) (version : Version) (place : ℕ) (rest line below : List ℕ) (old new : Below) (e : LineError)
     → below_at version place rest ≡ old → below_at version place rest ≡ new → lines_of rest ≡ line ∷ lines_of below → Fails e (reader version (words_of line))
     → IsStuck reader old (fault_at place e) new

@@ -1,13 +1,15 @@
 -- The body of a document, which is read one line at a time below its head.
 use Rattle.std.specs.Prelude.{ℕ, ◌+◌, ◌≡◌, List, [], ◌∷◌, Option, Some, None, Result, Ok, Err}
+use Rattle.std.specs.Borrow.{Bor}
 use Rattle.program_model.specs.declared.fault.ScriptKind.{ScriptKind}
 use Rattle.program_model.specs.declared.version.Version.{Version}
 use Rattle.program_model.specs.Document.{Document, LineReader, config_of}
 use Rattle.fq_model.specs.Limits.{config_fault}
 use Rattle.program_model.specs.Lines.{lines_of, words_of}
 use Rattle.program_model.specs.Reading.{◌>>=◌, at_line}
+use Rattle.journal_text.specs.declared.fault.LineError.{LineError}
 use Rattle.journal_text.specs.declared.fault.ScriptFault.{ScriptFault}
-use Rattle.journal_text.specs.Reading.{IsFirstFault}
+use Rattle.journal_text.specs.Reading.{Fails, IsFirstFault, IsFirstLine}
 
 -- what is left of a body: the version of its text, its lines, and the place of the first of them in the text
 pub record Below : Type 0 where
@@ -54,6 +56,26 @@ pub record IsOpened {A : Type 0} (read : Reads A) (head : Document A) (below : B
 -- this is the first fault however the lines of the body are read, so it is one of the head; unless memory ran out
 abbrev pub IsHeadFault : {A : Type 0} → ScriptFault → Reads A → Type 0
 IsHeadFault fault read = (reader : Version → LineReader _) → IsFirstFault fault (read reader)
+
+-- the first line of a text says this, and below it stands the rest
+pub record FirstLineSays {A : Type 0} (reader : LineReader A) (text : List ℕ) (said : A) (below : List ℕ) : Type 0 where
+  pub line : List ℕ
+  pub first : IsFirstLine text line below
+  pub says : reader (words_of line) ≡ Ok said
+
+-- a text has a first line, and this is its fault, unless memory ran out
+pub record FirstLineFails {A : Type 0} (reader : LineReader A) (text : List ℕ) (fault : LineError) : Type 0 where
+  pub line : List ℕ
+  pub below : List ℕ
+  pub first : IsFirstLine text line below
+  pub fails : Fails fault (reader (words_of line))
+
+-- what reading the first line of a text returns: what the line says and the text below it, nothing where the text is
+-- empty, or the line's fault
+abbrev pub ReadsFirst : {A : Type 0} → LineReader A → List ℕ → Result (Option (A × Bor (List ℕ))) LineError → Type 0
+ReadsFirst reader text (Ok (Some (said, below))) = FirstLineSays reader text said below.now
+ReadsFirst reader text (Ok None) = text ≡ []
+ReadsFirst reader text (Err fault) = FirstLineFails reader text fault
 
 -- the first line of a body says this, and was taken off
 pub record SaysFirst {A : Type 0} (reader : Version → LineReader A) (old : Below) (said : A) (new : Below) : Type 0 where

@@ -1,15 +1,13 @@
 //! What stands below the head of a document, and how it is read.
-ghost use Rattle.std.specs.Prelude.{◌≡◌, ◌+◌, ◌^◌, ◌<◌, List, ℕ, Result, length, IfOk, IfErr, IfSome};
+ghost use Rattle.std.specs.Prelude.{◌≡◌, ◌+◌, ◌^◌, ◌<◌, List, ℕ, Result, length, IfOk, IfErr};
 ghost use Rattle.program_model.specs.declared.fault.ScriptKind.{ScriptKind};
 ghost use Rattle.program_model.specs.declared.version.Version.{Version};
-ghost use Rattle.program_model.specs.Lines.{Words, lines_of, words_of};
+ghost use Rattle.program_model.specs.Lines.{Words, lines_of};
 ghost use Rattle.program_model.specs.Document.{version_of};
-ghost use Rattle.journal_text.specs.Reading.{Gives, IsFirstFault, words_in};
-ghost use Rattle.journal_text.specs.AtOnce.{TellsFirst};
-ghost use Rattle.journal_text.specs.Body.{ReadsNext, below_at, said_below};
+ghost use Rattle.journal_text.specs.Reading.{IsFirstFault};
+ghost use Rattle.journal_text.specs.Body.{ReadsFirst, ReadsNext, below_at, said_below};
 
 use crate::fault::{LineError, ScriptFault};
-use crate::lines::{next_line, split_words};
 use program_model::version::Version;
 use std::alloc::Global;
 use std::marker::{Model, PhantomData};
@@ -26,14 +24,15 @@ pub trait Line: Drop + Sized {
     fn version(line: &[u8]) -> Option<Version>
         ensures { result ≡ version_of title line.now };
 
-    /// What the first line of a text says, where that can be told in one pass over it, and the text below. None where
-    /// it can't, as where the line has a fault: its words are to be read then. Takes no memory.
-    fn at_once(text: &[u8]) -> Option<(Self, &[u8])>
-        ensures { IfSome result (λ r. TellsFirst reader text.now r.0 r.1.now) };
-
-    /// Reads the words of a line. Takes no memory.
-    fn read(version: Version, words: &[&[u8]]) -> Result<Self, LineError>
-        ensures { Gives (λ x. x) result (reader version (words_in words.now)) };
+    /// Reads the first line of a text: what it says, and the text below it; None where the text is empty. The words of
+    /// the line go into `words` where they have to be looked at one by one: only for a line of more words than it has
+    /// room for is memory taken.
+    fn read_first<'a>(
+        version: Version,
+        text: &'a [u8],
+        words: &mut Vec<&'a [u8]>,
+    ) -> Result<Option<(Self, &'a [u8])>, LineError>
+        ensures { ReadsFirst (reader version) text.now result };
 }
 
 /// What is left of a body, to be read one line at a time.
@@ -88,20 +87,13 @@ impl<'a, A: Line> Body<'a, A> {
     pub fn read_next(&mut self) -> Result<Option<A>, ScriptFault>
         ensures { ReadsNext A.reader self.old result self.new }
     {
-        if let Some((said, below)) = A::at_once(self.rest) {
-            self.rest = below;
-            self.place += 1;
-            return Ok(Some(said));
-        }
-        let Some((line, below)) = next_line(self.rest) else {
-            return Ok(None);
-        };
-        match read_line(self.version, line, &mut self.words) {
-            Ok(said) => {
+        match A::read_first(self.version, self.rest, &mut self.words) {
+            Ok(Some((said, below))) => {
                 self.rest = below;
                 self.place += 1;
                 Ok(Some(said))
             }
+            Ok(None) => Ok(None),
             Err(e) => Err(e.at(self.place)),
         }
     }
@@ -118,16 +110,4 @@ impl<'a, A: Line> Body<'a, A> {
         }
         Ok(said)
     }
-}
-
-// Reads a line of a body.
-fn read_line<'a, A: Line>(
-    version: Version,
-    line: &'a [u8],
-    words: &mut Vec<&'a [u8]>,
-) -> Result<A, LineError>
-    ensures { Gives (λ x. x) result (A.reader version (words_of line.now)) }
-{
-    split_words(line, words)?;
-    A::read(version, words.as_slice())
 }

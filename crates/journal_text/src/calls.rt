@@ -2,13 +2,14 @@
 ghost use Rattle.std.specs.Prelude.{◌≡◌, ◌<◌, codes, Ok, IfOk, IfErr};
 ghost use Rattle.program_model.specs.Document.{document_of};
 ghost use Rattle.program_model.specs.Script.{submit_of, take_of, report_of, done_of, close_of, weight_of, workers_of, fixed_call_of, changing_call_of, call_of_words, script_of};
-ghost use Rattle.journal_text.specs.Body.{IsOpened, IsHeadFault};
+ghost use Rattle.journal_text.specs.Body.{ReadsFirst, IsOpened, IsHeadFault};
 ghost use Rattle.journal_text.specs.Reading.{Gives, IsFirstFault, words_in};
 
 use crate::at_once::call_at_once;
 use crate::body::Line;
 use crate::document::Document;
 use crate::fault::{LineError, ScriptFault};
+use crate::lines::{next_line, split_words};
 use crate::reading::{Opened, open_document, read_document};
 use crate::words::{begins_with, expect_count, index_at, number_at};
 use fq_model::event::Call;
@@ -161,6 +162,32 @@ fn changing_call(words: &[&[u8]]) -> Result<Call, LineError>
     }
 }
 
+// The call of a line of this version.
+fn call(version: Version, words: &[&[u8]]) -> Result<Call, LineError>
+    ensures { Gives (λ c. c) result (call_of_words version (words_in words.now)) }
+{
+    match version {
+        Version::First => fixed_call(words),
+        Version::Second => changing_call(words),
+    }
+}
+
+// Reads the first line of a text by its words.
+fn read_by_words<'a>(
+    version: Version,
+    text: &'a [u8],
+    words: &mut Vec<&'a [u8]>,
+) -> Result<Option<(Call, &'a [u8])>, LineError>
+    ensures { ReadsFirst (call_of_words version) text.now result }
+{
+    let Some((line, below)) = next_line(text) else {
+        return Ok(None);
+    };
+    split_words(line, words)?;
+    let said = call(version, words.as_slice())?;
+    Ok(Some((said, below)))
+}
+
 impl Line for Call {
     ghost title = { codes "script" };
 
@@ -176,15 +203,15 @@ impl Line for Call {
         }
     }
 
-    fn at_once(text: &[u8]) -> Option<(Call, &[u8])> {
-        call_at_once(text)
-    }
-
-    fn read(version: Version, words: &[&[u8]]) -> Result<Call, LineError> {
-        match version {
-            Version::First => fixed_call(words),
-            Version::Second => changing_call(words),
+    fn read_first<'a>(
+        version: Version,
+        text: &'a [u8],
+        words: &mut Vec<&'a [u8]>,
+    ) -> Result<Option<(Call, &'a [u8])>, LineError> {
+        if let Some(told) = call_at_once(text) {
+            return Ok(Some(told));
         }
+        read_by_words(version, text, words)
     }
 }
 
