@@ -89,14 +89,14 @@ one_at_rank rank samples x at =
     let same : some.0 ≡ x = omega (arith, ints, less, more) in
     ap (λ o. unwrap_or o (pos 0)) some.1 ∙ same
 
--- ---- samples that are cut
+-- ---- where samples stand in order
 
 count_all : (test : ℤ → Bool) (xs : List ℤ) → All (λ x. test x ≡ true) xs → count_by test xs ≡ length xs
 count_all test [] h = refl
 count_all test (x ∷ xs) h = sum_by-cons _ x xs ∙ rw (h 0 x (omega arith)) (omega (arith, count_all test xs (λ k d l. h (suc k) d (omega (arith, l)))))
 
 -- a sample stands at the rank that follows those before it, where none of them is greater and none after it is less
-pub at_cut : (samples before after : List ℤ) (x : ℤ) → IsPermutation samples (before ++ x ∷ after) → All (λ y. y ≤ℤ x) before → All (λ y. x ≤ℤ y) after → x ≡ at_rank (length before + 1) samples
+at_cut : (samples before after : List ℤ) (x : ℤ) → IsPermutation samples (before ++ x ∷ after) → All (λ y. y ≤ℤ x) before → All (λ y. x ≤ℤ y) after → x ≡ at_rank (length before + 1) samples
 at_cut samples before after x moved low high =
     let whole : (f : ℤ → ℕ) → sum_by f samples ≡ sum_by f before + (f x + sum_by f after) = λ f. sym (sum_by-IsPermutation f samples (before ++ x ∷ after) moved) ∙ sum_by-append f before (x ∷ after) ∙ ap (λ n. sum_by f before + n) (sum_by-cons f x after) in
     let front : count_up_to x before ≡ length before = count_all (λ y. int_le y x) before (λ k d l. at_most _ _ (low k d l)) in
