@@ -1,10 +1,16 @@
--- Samples in ascending order, and what a report asks of samples.
-use Rattle.std.specs.Prelude.{ℕ, ◌<◌, ◌≤◌, List, length, ℤ, ◌≤ℤ◌, slice_index_or}
+-- Where samples stand in order, and what a report asks of samples.
+use Rattle.std.specs.Prelude.{ℕ, ◌≡◌, List, ◌∷◌, ◌++◌, length, ℤ, ◌≤ℤ◌, All}
+use Rattle.std.specs.List.Sorted.{IsPermutation}
 use Rattle.fq_model.specs.Ranks.{least_sample, percentile, greatest_sample}
 use Rattle.lag_report.specs.declared.samples.Ranked.{Ranked}
 
-abbrev pub Ascends : List ℤ → Type 0
-Ascends samples = (i j : ℕ) (d : ℤ) → i ≤ j → j < length samples → slice_index_or samples i d ≤ℤ slice_index_or samples j d
+-- where samples stand in order, x stands at this place, counted from 0, and these after it
+pub record StandsAt (samples : List ℤ) (at : ℕ) (x : ℤ) (after : List ℤ) : Type 0 where
+  pub before : List ℤ
+  pub same : IsPermutation samples (before ++ x ∷ after)
+  pub place : length before ≡ at
+  pub low : All (λ y. y ≤ℤ x) before
+  pub high : All (λ y. x ≤ℤ y) after
 
 -- the samples at the ranks that a report names
 abbrev pub ranked : List ℤ → Ranked

@@ -1,8 +1,9 @@
 //! Lags after each slot, and what stands at their ranks.
-ghost use Rattle.std.specs.Prelude.{◌≡◌, ◌≤◌, ◌<◌, ◌+◌, ◌*◌, length, take, sum, IfOk, All};
+ghost use Rattle.std.specs.Prelude.{◌≡◌, ◌≤◌, ◌<◌, ◌≤ℤ◌, ◌+◌, ◌*◌, ◌∷◌, length, take, sum, IfOk, All};
 ghost use Rattle.vt_fixed.specs.Rounding.{ceil_div};
+ghost use Rattle.fq_model.specs.Ranks.{least_sample};
 ghost use Rattle.lag_report.specs.Work.{samples_from};
-ghost use Rattle.lag_report.specs.Ranked.{ranked};
+ghost use Rattle.lag_report.specs.Ranked.{ranked, StandsAt};
 
 use fq_model::limits::{GREATEST_BACKLOG, MOST_CELLS};
 use std::alloc::{AllocError, Global};
@@ -33,24 +34,55 @@ pub struct Ranked {
     pub greatest: i64,
 }
 
-/// What stands at the ranks of samples that a report asks for. Leaves the samples in ascending order.
+/// What stands at the ranks of samples that a report asks for. Leaves the samples in some other order.
 pub fn rank(samples: &mut [i64]) -> Ranked
     requires some { 1 ≤ length samples.old }
     requires few { length samples.old ≤ MOST_CELLS }
     ensures { result ≡ ranked samples.old }
 {
-    samples.sort_unstable();
     let count = samples.len();
+    let (p50_at, p90_at, p99_at) = (place(50, count), place(90, count), place(99, count));
+    let least = least(samples);
+    let (_, middle, rest) = samples.select_nth_unstable(p50_at);
+    let p50 = *middle;
+    let (p90, rest) = select(p50, rest, p90_at - p50_at);
+    let (p99, rest) = select(p90, rest, p99_at - p90_at);
+    let (greatest, _) = select(p99, rest, count - 1 - p99_at);
     Ranked {
-        least: samples[0],
-        p50: samples[place(50, count)],
-        p90: samples[place(90, count)],
-        p99: samples[place(99, count)],
-        greatest: samples[count - 1],
+        least,
+        p50,
+        p90,
+        p99,
+        greatest,
     }
 }
 
-// The place of a percentile among so many samples in ascending order.
+// The least sample.
+fn least(samples: &[i64]) -> i64
+    requires { 1 ≤ length samples.now }
+    ensures { result ≡ least_sample samples.now }
+{
+    let mut least = samples[0];
+    for &sample in samples {
+        least = least.min(sample);
+    }
+    least
+}
+
+// What stands at a place, counted from 0, of a sample and the rest, none of which is less; and those after it.
+fn select(first: i64, rest: &mut [i64], at: usize) -> (i64, &mut [i64])
+    requires least { All (λ y. first ≤ℤ y) rest.old }
+    requires inside { at ≤ length rest.old }
+    ensures { StandsAt (first ∷ rest.old) at result.0 result.1.now }
+{
+    if at == 0 {
+        return (first, rest);
+    }
+    let (_, sample, after) = rest.select_nth_unstable(at - 1);
+    (*sample, after)
+}
+
+// The place of a percentile, where so many samples stand in order.
 fn place(p: usize, count: usize) -> usize
     requires low { 1 ≤ p }
     requires high { p ≤ 100 }

@@ -1,38 +1,64 @@
-use Rattle.std.proofs.Common.{ℕ, ◌+◌, ◌-◌, ◌*◌, ◌<◌, ◌≡◌, length, get_or, ℤ, pos, arith, rules, refl, ap, ◌∙◌, w64}
+use Rattle.std.proofs.Common.{◌+◌, ◌-◌, ◌≤◌, ◌≡◌, length, ℤ, arith, rules, refl, ◌∙◌, w64}
 use mir.Val.{SFits, to_z, of_z}
 use Rattle.std.proofs.lemmas.Int.{to_z-of_z}
-use Rattle.vt_fixed.specs.Rounding.{ceil_div}
-use Rattle.fq_model.specs.Ranks.{at_rank}
 use Rattle.lag_report.specs.declared.samples.Ranked.{Ranked}
-use Rattle.lag_report.specs.Ranked.{Ascends}
-use Rattle.lag_report.proofs.Ranks.{from_sort, at_place}
+use Rattle.lag_report.specs.Ranked.{StandsAt}
+use Rattle.lag_report.proofs.Ranks.{selected, further, those_after, rank_of}
 use Rattle.lag_report.proofs.samples.rank.Goals as goal
-use Rattle.lag_report.proofs.samples.rank.Goals.{After-place-3}
+use Rattle.lag_report.proofs.samples.rank.Goals.{After-select_nth_unstable-middle}
 
--- what is read at a place
-read : (c : After-place-3) (k rank : ℕ) → k + 1 ≡ rank → k < length c.sort_unstable.new.self → SFits w64 (get_or c.sort_unstable.new.self k (pos 0)) → to_z w64 (of_z w64 (get_or c.sort_unstable.new.self k (pos 0))) ≡ at_rank rank c.args.samples.now
-read c k rank is inside fits =
-    let up : Ascends c.sort_unstable.new.self = from_sort c.sort_unstable.new.self c.sort_unstable.ensures.sorted in
-    to_z-of_z w64 (get_or c.sort_unstable.new.self k (pos 0)) fits
-    ∙ ap (λ n. get_or c.sort_unstable.new.self n (pos 0)) (omega (arith, is))
-    ∙ at_place c.args.samples.now c.sort_unstable.new.self rank (pos 0) c.sort_unstable.ensures.permutation up (omega (arith, is)) (omega (arith, is, inside))
+-- what stands in the middle, as it is read
+middle : (c : After-select_nth_unstable-middle) (z : ℤ) → z ≡ c.select_nth_unstable-middle.result.1.now → StandsAt c.args.samples.now c.place-p50_at.result z c.select_nth_unstable-middle.result.2.now
+middle c z is =
+    let found = c.select_nth_unstable-middle in
+    selected c.args.samples.now found.result.0.now found.result.2.now c.place-p50_at.result found.result.1.now z found.ensures.permutation found.ensures.front_len found.ensures.partitioned is
+
+-- how many stand after it
+beyond : (c : After-select_nth_unstable-middle) → c.place-p50_at.result + 1 + length c.select_nth_unstable-middle.result.2.now ≡ length c.args.samples.now
+beyond c = those_after c.args.samples.now c.select_nth_unstable-middle.result.2.now c.place-p50_at.result c.select_nth_unstable-middle.result.1.now (middle c _ refl)
+
+-- places rise with the percentile
+up : (c : After-select_nth_unstable-middle) → c.place-p50_at.result ≤ c.place-p90_at.result
+up c = omega (arith, c.place-p50_at.ensures.rank, c.place-p90_at.ensures.rank)
+
+on : (c : After-select_nth_unstable-middle) → c.place-p90_at.result ≤ c.place-p99_at.result
+on c = omega (arith, c.place-p90_at.ensures.rank, c.place-p99_at.ensures.rank)
+
+pub select-p90-requires-clause-inside : goal.select-p90-requires-clause-inside
+select-p90-requires-clause-inside c = omega (arith, beyond (goal.at.select-p90-requires-clause-inside c).After-select_nth_unstable-middle, c.place-p90_at.ensures.within)
+
+pub select-p99-requires-clause-inside : goal.select-p99-requires-clause-inside
+select-p99-requires-clause-inside c =
+    let b : After-select_nth_unstable-middle = (goal.at.select-p99-requires-clause-inside c).After-select_nth_unstable-middle in
+    omega (arith, up b, beyond b, those_after _ _ _ _ c.select-p90.ensures, c.place-p99_at.ensures.within)
+
+pub select-greatest-requires-clause-inside : goal.select-greatest-requires-clause-inside
+select-greatest-requires-clause-inside c =
+    let b : After-select_nth_unstable-middle = (goal.at.select-greatest-requires-clause-inside c).After-select_nth_unstable-middle in
+    omega (arith, up b, on b, beyond b, those_after _ _ _ _ c.select-p90.ensures, those_after _ _ _ _ c.select-p99.ensures, c.place-p99_at.ensures.within)
 
 pub returns : goal.returns
 returns c =
-    let b : After-place-3 = (goal.at.returns c).After-place-3 in
-    let long : length c.sort_unstable.new.self ≡ length c.args.samples.now = c.sort_unstable.ensures.len in
-    let rank_of : (p k : ℕ) → k + 1 ≡ ceil_div (p * length c.sort_unstable.new.self) 100 → k + 1 ≡ ceil_div (p * length c.args.samples.now) 100 = λ p k e. e ∙ ap (λ n. ceil_div (p * n) 100) long in
-    let f0 : SFits w64 (get_or c.sort_unstable.new.self 0 (pos 0)) = search rules in
-    let f1 : SFits w64 (get_or c.sort_unstable.new.self c.place.result (pos 0)) = search rules in
-    let f2 : SFits w64 (get_or c.sort_unstable.new.self c.place-2.result (pos 0)) = search rules in
-    let f3 : SFits w64 (get_or c.sort_unstable.new.self c.place-3.result (pos 0)) = search rules in
-    let f4 : SFits w64 (get_or c.sort_unstable.new.self (length c.sort_unstable.new.self - 1) (pos 0)) = search rules in
+    let b : After-select_nth_unstable-middle = (goal.at.returns c).After-select_nth_unstable-middle in
+    let samples = c.args.samples.now in
+    let f0 : SFits w64 c.least-least.result = search rules in
+    let f50 : SFits w64 c.select_nth_unstable-middle.result.1.now = search rules in
+    let f90 : SFits w64 c.select-p90.result.0 = search rules in
+    let f99 : SFits w64 c.select-p99.result.0 = search rules in
+    let f100 : SFits w64 c.select-greatest.result.0 = search rules in
+    let p50 : StandsAt samples c.place-p50_at.result (to_z w64 (of_z w64 c.select_nth_unstable-middle.result.1.now)) c.select_nth_unstable-middle.result.2.now = middle b _ (to_z-of_z w64 _ f50) in
+    let p90 : StandsAt samples c.place-p90_at.result (to_z w64 (of_z w64 c.select-p90.result.0)) c.select-p90.result.1.now =
+    further _ _ _ _ _ _ _ _ _ p50 c.select-p90.ensures (omega (arith, up b)) (to_z-of_z w64 _ f90) in
+    let p99 : StandsAt samples c.place-p99_at.result (to_z w64 (of_z w64 c.select-p99.result.0)) c.select-p99.result.1.now =
+    further _ _ _ _ _ _ _ _ _ p90 c.select-p99.ensures (omega (arith, on b)) (to_z-of_z w64 _ f99) in
+    let last : StandsAt samples (length samples - 1) (to_z w64 (of_z w64 c.select-greatest.result.0)) c.select-greatest.result.1.now =
+    further _ _ _ _ _ _ _ _ _ p99 c.select-greatest.ensures (omega (arith, c.place-p99_at.ensures.within)) (to_z-of_z w64 _ f100) in
     five _ _ _ _ _ _ _ _ _ _
-    (read b 0 1 refl (omega (arith, long)) f0)
-    (read b _ _ (rank_of 50 _ c.place.ensures.rank) c.place.ensures.within f1)
-    (read b _ _ (rank_of 90 _ c.place-2.ensures.rank) c.place-2.ensures.within f2)
-    (read b _ _ (rank_of 99 _ c.place-3.ensures.rank) c.place-3.ensures.within f3)
-    (read b _ (length c.args.samples.now) (omega (arith, long)) (omega (arith, long)) f4)
+    (to_z-of_z w64 c.least-least.result f0 ∙ c.least-least.ensures)
+    (rank_of _ _ _ _ _ p50 c.place-p50_at.ensures.rank)
+    (rank_of _ _ _ _ _ p90 c.place-p90_at.ensures.rank)
+    (rank_of _ _ _ _ _ p99 c.place-p99_at.ensures.rank)
+    (rank_of _ _ _ _ _ last (omega (arith, c.requires.some)))
   where
     five : (a b c d e v w x y z : ℤ) → a ≡ v → b ≡ w → c ≡ x → d ≡ y → e ≡ z → (let r : Ranked = record { least = a; p50 = b; p90 = c; p99 = d; greatest = e } in r) ≡ record { least = v; p50 = w; p90 = x; p99 = y; greatest = z }
     five a b c d e v w x y z f g h i j = cc
