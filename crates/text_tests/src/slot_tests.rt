@@ -1,12 +1,12 @@
-ghost use Rattle.std.specs.Prelude.{◌≡◌, ◌≤◌, ◌<◌, ◌+◌, length, All};
+ghost use Rattle.std.specs.Prelude.{◌≡◌, ◌≤◌, ◌<◌, ◌+◌, ℕ, length, All};
 ghost use Rattle.std.specs.List.Sorted.{IsNonDecreasingBy};
 ghost use Rattle.fq_model.specs.Limits.{IsWeight};
-ghost use Rattle.fluid_reference.specs.Slots.{IsRowOf, IsChangeOf};
+ghost use Rattle.fluid_reference.specs.Slots.{IsRowOf, IsChangeOf, slot_at};
 
 use crate::samples::two_tenants;
 use fluid_reference::fault::FluidFault;
+use fluid_reference::reference::FluidReference;
 use fluid_reference::slots::slots;
-use fluid_reference::table::FluidTable;
 use fq_model::fluid::{Change, FluidRow, What};
 use std::alloc::Global;
 use std::process::Abort;
@@ -45,41 +45,32 @@ fn workers_set(moment: u64, count: u32) -> Change
     Change { moment, what }
 }
 
-// The slots of 10 microseconds, of which so many are asked for, with two tenants of weight 1.
-fn served<R: Abort>(
+// From one slot on a tenant is told these services, of those of both.
+fn expect_services<R: Abort>(
     rt: &R,
     alloc: Global,
-    workers: u32,
-    rows: &[FluidRow],
-    changes: &[Change],
-    count: u64,
-) -> FluidTable
-    requires few { length rows.now ≤ 3 }
-    requires rows { All (IsRowOf 2) rows.now }
-    requires changes { All (IsChangeOf 2) changes.now }
-    requires order { IsNonDecreasingBy (λ c. c.moment) changes.now }
-    ensures { length result ≡ count }
+    told: &FluidReference,
+    tenant: u32,
+    from: usize,
+    wanted: &[[u64; 2]],
+)
+    requires both { tenant < 2 }
+    requires known { (k : ℕ) → k < length told.now → tenant < length (slot_at told.now k) }
+    requires slots { from + length wanted.now ≤ 4 }
 {
-    let config = two_tenants(rt, alloc, workers);
-    let table = slots(alloc, rows, changes, &config, 10, count);
-    let Ok(table) = table else {
-        panic!(rt; "no memory for a table")
+    let services = told.services(alloc, tenant);
+    let Ok(services) = services else {
+        panic!(rt; "no memory for services")
     };
-    table
-}
-
-// They end with these services, from one slot on.
-fn expect_slots<R: Abort>(rt: &R, table: &FluidTable, from: usize, wanted: &[[u64; 2]]) {
-    let mut slot = from;
-    for services in wanted {
-        assert!(rt; slot < table.len());
-        assert_eq!(rt; table.slot(slot), services.as_slice(), "in slot {slot}");
-        slot += 1;
+    assert_eq!(rt; services.len(), told.len());
+    assert_eq!(rt; services.len(), from + wanted.len());
+    for k in 0..wanted.len() {
+        assert!(rt; from + k < services.len());
+        assert_eq!(rt; services[from + k], wanted[k][tenant as usize], "of tenant {tenant} in slot {from} + {k}");
     }
-    assert_eq!(rt; slot, table.len());
 }
 
-// With so many workers these slots are told, from one slot on.
+// With so many workers and two tenants of weight 1 these slots of 10 microseconds are told, from one slot on.
 fn expect_served<R: Abort>(
     rt: &R,
     alloc: Global,
@@ -95,15 +86,15 @@ fn expect_served<R: Abort>(
     requires order { IsNonDecreasingBy (λ c. c.moment) changes.now }
     requires slots { from + length wanted.now ≤ 4 }
 {
-    let table = served(
-        rt,
-        alloc,
-        workers,
-        rows,
-        changes,
-        (from + wanted.len()) as u64,
-    );
-    expect_slots(rt, &table, from, wanted);
+    let config = two_tenants(rt, alloc, workers);
+    let count = from + wanted.len();
+    let told = slots(alloc, rows, changes, &config, 10, count as u64);
+    let Ok(told) = told else {
+        panic!(rt; "no memory for levels")
+    };
+    for tenant in 0..2 {
+        expect_services(rt, alloc, &told, tenant, from, wanted);
+    }
 }
 
 #[test]
