@@ -53,7 +53,7 @@ fn wants(
     requires known { All (λ t. t < length costs.now) tenants.now }
     ensures { IfOk result (λ v. v.items ≡ map (want_of costs.now served.now weights.now) tenants.now) }
 {
-    let mut wants = Vec::new(alloc);
+    let mut wants = Vec::with_capacity(alloc, tenants.len())?;
     for t in tenants {
         let tenant = *t as usize;
         wants.push(Backlog {
@@ -75,7 +75,7 @@ fn still_backlogged(
     requires known { All (λ t. t < length costs.now) tenants.now }
     ensures { IfOk result (λ v. v.items ≡ filter (has_backlog costs.now served.now) tenants.now) }
 {
-    let mut backlogged = Vec::new(alloc);
+    let mut backlogged = Vec::with_capacity(alloc, tenants.len())?;
     for t in tenants {
         if served[*t as usize] < costs[*t as usize] {
             backlogged.push(*t)?;

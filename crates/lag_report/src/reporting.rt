@@ -62,6 +62,7 @@ fn report_of(
     if let Some(request) = unfinished(contents.courses.as_slice()) {
         return Err(ReportFault::Unfinished(request as u32));
     }
+    by_tenant(&mut contents.courses)?;
     let end = last_moment(past);
     let count = end / slot + 1;
     let fluid = slots(
@@ -72,7 +73,6 @@ fn report_of(
         slot,
         count,
     )?;
-    by_tenant(&mut contents.courses)?;
     let rows = lines(alloc, contents.courses.as_slice(), &fluid, weights, slot)?;
     Ok(Report::new(slot, count, rows, end, past.len() as u64))
 }

@@ -15,7 +15,7 @@ pub fn samples(alloc: Global, served: &[u64], gains: &[u64]) -> Result<Vec<i64>,
     requires gained { sum gains.now ≤ GREATEST_BACKLOG }
     ensures { IfOk result (λ v. v.items ≡ samples_from served.now (λ k. sum (take k gains.now))) }
 {
-    let mut samples = Vec::new(alloc);
+    let mut samples = Vec::with_capacity(alloc, served.len())?;
     let mut work = 0;
     for k in 0..served.len() {
         work += gains[k];

@@ -66,7 +66,11 @@ fn expect_services<R: Abort>(
     assert_eq!(rt; services.len(), from + wanted.len());
     for k in 0..wanted.len() {
         assert!(rt; from + k < services.len());
-        assert_eq!(rt; services[from + k], wanted[k][tenant as usize], "of tenant {tenant} in slot {from} + {k}");
+        assert_eq!(rt;
+            services[from + k],
+            wanted[k][tenant as usize],
+            "of tenant {tenant} in slot {from} + {k}"
+        );
     }
 }
 

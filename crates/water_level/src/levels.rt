@@ -31,7 +31,7 @@ pub fn level(alloc: Global, cap: u64, rows: &[Backlog]) -> Result<Level, AllocEr
 fn those_that_want(alloc: Global, rows: &[Backlog]) -> Result<Vec<Backlog>, AllocError>
     ensures { IfOk result (λ v. v.items ≡ filter wants rows.now) }
 {
-    let mut wanting = Vec::new(alloc);
+    let mut wanting = Vec::with_capacity(alloc, rows.len())?;
     for b in rows {
         if b.units > 0 {
             wanting.push(*b)?;

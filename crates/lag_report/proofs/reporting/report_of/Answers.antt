@@ -68,7 +68,7 @@ pub returns-in_err-fluid-clause-reason : goal.returns-in_err-fluid-clause-reason
 returns-in_err-fluid-clause-reason c =
     let b : After-as_slice-3 = (goal.at.returns-in_err-fluid-clause-reason c).After-as_slice-3 in
     let reason : IsReason (fault_from c.in_err-fluid.field-0.0) (report_refusal c.args.config.now (history_of c.args.past.now) c.args.slot) = for_fluid c.args.config.now (history_of c.args.past.now) c.args.slot (c.last_moment-end.result / c.args.slot + 1) c.in_err-fluid.field-0.0 (none b) (count_is b) c.in_err-fluid.ensures.fault in
-    given_reason _ _ _ c.from_residual.ensures.1 reason
+    given_reason _ _ _ c.from_residual-in_err-fluid.ensures.1 reason
 
 -- the table is that of the fluid service
 table_now : (c : After-as_slice-4) → c.in_ok-fluid.fluid ≡ fluid_table c.args.config.now (fluid_rows_of (history_of c.args.past.now)) (history_of c.args.past.now) c.args.slot (slots_of (history_of c.args.past.now) c.args.slot)

@@ -11,7 +11,7 @@ pub overflow_add-work : goal.overflow_add-work
 overflow_add-work c = omega (arith, c.loop-k.invariant.work, sum_by_more_le (λ x. x) c.args.gains.now c.loop-k.k 0 (omega (arith, c.requires.same, c.loop-k-test.true)), c.requires.gained)
 
 pub loop-k-init : goal.loop-k-init
-loop-k-init c = record { work = refl; samples = c.new-samples.ensures.items ∙ sym (list_none _) }
+loop-k-init c = record { work = refl; samples = c.in_ok-samples.ensures.items ∙ sym (list_none _) }
 
 -- what is pushed: a difference of numbers that are in their limits
 lag_is : (served work : ℕ) → served ≤ 2000000000000000 → work ≤ 2000000000000000 → to_z w64 (of_z w64 (to_z w64 served -ℤ to_z w64 work)) ≡ pos served -ℤ pos work
