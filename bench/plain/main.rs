@@ -1,9 +1,12 @@
 //! What `twodfq script` does under `2dfq` and `pessimistic`, for scripts of the first version, written in Rust as one would
 //! without contracts: the same design, and memory that never runs out. With the word `journal` it prints the journal in place
-//! of the replies. `bench/run --plain` measures the program against it.
+//! of the replies. With the words `run`, `journal` or `report`, and a number of workers, it does what `twodfq run` does of a
+//! trace. `bench/run --plain` measures the program against it.
 mod entry;
+mod report;
 mod scheduler;
 mod text;
+mod trace;
 mod tree;
 
 use entry::Refusal;
@@ -115,11 +118,17 @@ fn accepted(out: &mut Output, answer: Result<(), Refusal>) {
     }
 }
 
-fn main() {
-    let journal = std::env::args().nth(1).is_some_and(|word| word == "journal");
-    let mut input = Vec::new();
-    std::io::stdin().read_to_end(&mut input).unwrap_or_else(|_| exit(4));
-    let (mut s, mut c) = open(&input);
+/// Appends the journal of a scheduler under this head.
+fn add_journal(out: &mut Vec<u8>, head: &[u8], s: &Scheduler) {
+    out.reserve(48 * s.past.len());
+    out.extend_from_slice(b"journal 1\n");
+    out.extend_from_slice(head);
+    s.past.iter().for_each(|entry| line_of(out, entry));
+}
+
+/// What `script` prints.
+fn script(input: &[u8], journal: bool) -> Vec<u8> {
+    let (mut s, mut c) = open(input);
     // below their first lines the heads of a script and of its journal are the same
     let head = &input[b"script 1\n".len()..c.at];
     let mut out = Output {
@@ -131,10 +140,35 @@ fn main() {
         c.end_line();
     }
     if journal {
-        out.text.reserve(48 * s.past.len());
-        out.text.extend_from_slice(b"journal 1\n");
-        out.text.extend_from_slice(head);
-        s.past.iter().for_each(|entry| line_of(&mut out.text, entry));
+        add_journal(&mut out.text, head, &s);
     }
-    std::io::stdout().write_all(&out.text).unwrap_or_else(|_| exit(5));
+    out.text
+}
+
+/// What `run` prints.
+fn run(input: &[u8], journal: bool, workers: u32) -> Vec<u8> {
+    let trace = trace::read(std::str::from_utf8(input).unwrap_or_else(|_| exit(3)));
+    let s = trace::simulate(&trace, workers);
+    let mut text = Vec::new();
+    if journal {
+        let mut head = Vec::new();
+        trace::head(&mut head, &trace, &s);
+        add_journal(&mut text, &head, &s);
+    } else {
+        report::report(&mut text, &s.past, &trace, workers).unwrap_or_else(|_| exit(6));
+    }
+    text
+}
+
+fn main() {
+    let words: Vec<String> = std::env::args().skip(1).collect();
+    let mut input = Vec::new();
+    std::io::stdin().read_to_end(&mut input).unwrap_or_else(|_| exit(4));
+    let text = match words.iter().map(String::as_str).collect::<Vec<_>>()[..] {
+        [] => script(&input, false),
+        ["journal"] => script(&input, true),
+        ["run", what, workers] => run(&input, what == "journal", workers.parse().unwrap_or_else(|_| exit(2))),
+        _ => exit(2),
+    };
+    std::io::stdout().write_all(&text).unwrap_or_else(|_| exit(5));
 }

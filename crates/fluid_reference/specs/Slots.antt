@@ -124,7 +124,7 @@ abbrev pub ServesWhatCame : Type 0
 ServesWhatCame = (C : Config) (rows : List FluidRow) (H : History) (Q t k : ℕ) →
     fluid C rows H Q t (suc k) ≤ costs_by rows (k * Q) t
 
--- what the table says of a slot, and what of a tenant
+-- what a table by slots says of a slot, or nothing where it has none, and what it says of a tenant slot by slot
 abbrev pub slot_at : List (List ℕ) → ℕ → List ℕ
 slot_at table k = slice_index_or table k []
 
@@ -141,12 +141,16 @@ owner_of_set (changed.Workers count) = MOST_TENANTS
 abbrev pub owner_of : Change → ℕ
 owner_of change = owner_of_set change.what
 
+-- those that belong to tenant t
+abbrev pub owned_by : {A : Type 0} → (A → ℕ) → ℕ → List A → List A
+owned_by owner t items = filter (λ x. owner x == t) items
+
 -- the requests of tenant t, and the changes of its weight
 abbrev pub rows_for : ℕ → List FluidRow → List FluidRow
-rows_for t rows = filter (λ row. row.tenant == t) rows
+rows_for t rows = owned_by (λ row. row.tenant) t rows
 
 abbrev pub changes_for : ℕ → List Change → List Change
-changes_for t changes = filter (λ c. owner_of c == t) changes
+changes_for t changes = owned_by owner_of t changes
 
 -- the requests of a tenant up to a place came by a moment, and this is what they cost
 pub record CameBy (own : List FluidRow) (at place cost : ℕ) : Type 0 where
@@ -154,6 +158,12 @@ pub record CameBy (own : List FluidRow) (at place cost : ℕ) : Type 0 where
   pub theirs : cost ≡ sum_by (λ row. row.cost) (take place own)
   pub before : All (λ row. row.submit ≤ at) (take place own)
 
+-- the changes up to a place came by a moment
+pub record ChangedBy (changes : List Change) (at place : ℕ) : Type 0 where
+  pub in_list : place ≤ length changes
+  pub before : All (λ c. c.moment ≤ at) (take place changes)
+
+-- the level of slot k; a slot beyond the list serves all whole
 abbrev pub level_in : List Level → ℕ → Level
 level_in slots k = slice_index_or slots k levels.All
 
@@ -163,20 +173,21 @@ own_backlog C rows changes m served t = backlog_at C rows (history_of_changes (c
 
 -- what tenant t is served in the first k slots of length Q, if these are their levels
 unfoldable pub replayed : Config → List FluidRow → List Change → List Level → ℕ → ℕ → ℕ → ℕ
-replayed C rows changes levels Q t zero = 0
-replayed C rows changes levels Q t (suc k) = replayed C rows changes levels Q t k
-    + gift (level_in levels k) (own_backlog C rows changes (k * Q) (λ u. replayed C rows changes levels Q u k) t)
+replayed C rows changes slots Q t zero = 0
+replayed C rows changes slots Q t (suc k) = replayed C rows changes slots Q t k
+    + gift (level_in slots k) (own_backlog C rows changes (k * Q) (λ u. replayed C rows changes slots Q u k) t)
 
 -- so for each tenant, by number, up to the end of each slot
 abbrev pub replayed_table : Config → List FluidRow → List Change → List Level → ℕ → List (List ℕ)
-replayed_table C rows changes levels Q =
-    list_below (λ k. list_below (λ t. replayed C rows changes levels Q t (suc k)) (length C.weights)) (length levels)
+replayed_table C rows changes slots Q =
+    list_below (λ k. list_below (λ t. replayed C rows changes slots Q t (suc k)) (length C.weights)) (length slots)
 
--- requests and changes are in the order of so many tenants, those of a tenant in order of time
+-- no more requests than there may be, each in its limits for so many tenants; requests and changes in the order of their
+-- tenants, those of a tenant in order of time
 pub record CanReplay (tenants : ℕ) (rows : List FluidRow) (changes : List Change) : Type 0 where
   pub few : length rows ≤ MOST_FLUID_ROWS
   pub in_range : All (IsRowOf tenants) rows
   pub rows_by_tenant : IsNonDecreasingBy (λ row. row.tenant) rows
-  pub submits_rise : (t : ℕ) → IsNonDecreasingBy (λ row. row.submit) (rows_for t rows)
+  pub submits_in_order : (t : ℕ) → IsNonDecreasingBy (λ row. row.submit) (rows_for t rows)
   pub changes_by_tenant : IsNonDecreasingBy owner_of changes
-  pub moments_rise : (t : ℕ) → IsNonDecreasingBy (λ c. c.moment) (changes_for t changes)
+  pub moments_in_order : (t : ℕ) → IsNonDecreasingBy (λ c. c.moment) (changes_for t changes)

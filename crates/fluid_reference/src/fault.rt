@@ -5,7 +5,7 @@ ghost use Rattle.fluid_reference.specs.declared.fault.FluidFault.TheVariants as 
 use fq_model::limits::MOST_CELLS;
 use std::alloc::AllocError;
 
-/// Why there is no table.
+/// Why there is no fluid reference.
 #[derive(Clone, Copy, Debug, PartialEq, Eq, thiserror::Error)]
 pub enum FluidFault {
     /// So many slots for so many tenants; there may be 4,000,000 cells.

@@ -61,7 +61,8 @@ impl<'a> FluidReference<'a> {
         self.levels.len()
     }
 
-    /// What a tenant is served, in microseconds of work, up to the end of each slot.
+    /// What a tenant is served, in microseconds of work, up to the end of each slot. It is reckoned anew each time; the
+    /// error is that memory ran out.
     pub fn services(&self, alloc: Global, tenant: u32) -> Result<Vec<u64>, AllocError>
         requires { (k : ℕ) → k < length self.now → tenant < length (slot_at self.now k) }
         ensures { IfOk result (λ v. v.items ≡ column_of self.now tenant) }

@@ -6,7 +6,7 @@ ghost use Rattle.fq_model.specs.declared.config.Config.{Config};
 ghost use Rattle.fq_model.specs.History.{weight_at};
 ghost use Rattle.fq_model.specs.Fluid.{history_of_changes};
 ghost use Rattle.fq_model.specs.Sums.{list_below};
-ghost use Rattle.fluid_reference.specs.Slots.{CanReplay, CameBy, change_of, owner_of, replayed, row_of};
+ghost use Rattle.fluid_reference.specs.Slots.{CameBy, CanReplay, ChangedBy, change_of, owner_of, replayed, row_of};
 
 use crate::owned::of_tenant;
 use fq_model::config::Checked;
@@ -72,10 +72,8 @@ fn join_own(own: &[FluidRow], from: usize, cost: u64, at: u128) -> (usize, u64)
 // The place of the first change that comes later, of changes of a tenant's weight in order of time from a place on, and
 // the weight by then.
 fn weigh(changes: &[Change], from: usize, weight: u32, at: u128) -> (usize, u32)
-    requires from { from ≤ length changes.now }
-    requires before { All (λ c. c.moment ≤ at) (take from changes.now) }
-    ensures place { result.0 ≤ length changes.now }
-    ensures before { All (λ c. c.moment ≤ at) (take result.0 changes.now) }
+    requires came { ChangedBy changes.now at from }
+    ensures came { ChangedBy changes.now at result.0 }
     ensures next { result.0 < length changes.now → at < (change_of changes.now result.0).moment }
     ensures weight { (C : Config) (t : ℕ) → All (λ c. owner_of c ≡ t) changes.now
         → weight ≡ weight_at C (history_of_changes (take from changes.now)) t

@@ -37,7 +37,7 @@ abbrev pub fault_at : ℕ → LineError → ScriptFault
 fault_at line (errors.Fault kind) = faults.At line kind
 fault_at line errors.NoMemory = faults.NoMemory
 
--- the text is this line, and then the text below it
+-- the lines of the text are this one and those of the text below, which is shorter
 pub record IsFirstLine (text line below : List ℕ) : Type 0 where
   pub lines : lines_of text ≡ line ∷ lines_of below
   pub shorter : length below < length text

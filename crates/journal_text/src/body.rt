@@ -26,7 +26,7 @@ pub trait Line: Drop + Sized {
 
     /// Reads the first line of a text: what it says, and the text below it; None where the text is empty. The words of
     /// the line go into `words` where they have to be looked at one by one: only for a line of more words than it has
-    /// room for is memory taken.
+    /// room for is memory taken. The error is the line's fault, or that memory ran out.
     fn read_first<'a>(
         version: Version,
         text: &'a [u8],

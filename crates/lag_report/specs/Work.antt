@@ -4,7 +4,7 @@ use Rattle.vt_fixed.specs.declared.limits.TheConstants.{GREATEST_COST, GREATEST_
 use Rattle.fq_model.specs.declared.limits.TheConstants.{MOST_CELLS, GREATEST_BACKLOG}
 use Rattle.fq_model.specs.declared.lag.TenantLag.{TenantLag}
 use Rattle.fq_model.specs.Sums.{list_below}
-use Rattle.fluid_reference.specs.Slots.{number_at, slot_at, column_of}
+use Rattle.fluid_reference.specs.Slots.{column_of, number_at, owned_by, slot_at}
 use Rattle.fq_model.specs.Lag.{work_between}
 use Rattle.fq_model.specs.Ranks.{least_sample, percentile, greatest_sample}
 use Rattle.lag_report.specs.declared.course.Course.{Course}
@@ -68,4 +68,4 @@ pub record IsTable (tenants : ℕ) (table : List (List ℕ)) : Type 0 where
 -- what a report says of tenant t, of these weights, of requests with these courses and by this table
 abbrev pub line_for : List ℕ → List Course → List (List ℕ) → ℕ → ℕ → TenantLag
 line_for weights courses table Q t =
-    line_of (slice_index weights t) (column_of table t) (filter (λ c. c.tenant == t) courses) Q
+    line_of (slice_index weights t) (column_of table t) (owned_by (λ c. c.tenant) t courses) Q

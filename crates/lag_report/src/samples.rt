@@ -34,7 +34,7 @@ pub struct Ranked {
     pub greatest: i64,
 }
 
-/// What stands at the ranks of samples that a report asks for. Leaves the samples in some other order.
+/// What stands at the ranks of samples that a report asks for. Leaves the samples in any order.
 pub fn rank(samples: &mut [i64]) -> Ranked
     requires some { 1 ≤ length samples.old }
     requires few { length samples.old ≤ MOST_CELLS }

@@ -45,7 +45,7 @@ fn workers_set(moment: u64, count: u32) -> Change
     Change { moment, what }
 }
 
-// From one slot on a tenant is told these services, of those of both.
+// From one slot on these are what the tenant is served; both tenants are wanted, slot by slot.
 fn expect_services<R: Abort>(
     rt: &R,
     alloc: Global,

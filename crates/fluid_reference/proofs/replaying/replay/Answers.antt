@@ -22,8 +22,7 @@ use Rattle.fluid_reference.proofs.replaying.replay.Goals.{After-weigh}
 pub loop-k-init : goal.loop-k-init
 loop-k-init c = record {
   joined = record { in_list = omega arith; theirs = refl; before = λ k d l. absurd (omega (arith, l)) };
-  place = omega arith;
-  before = λ k d l. absurd (omega (arith, l));
+  changed = record { in_list = omega arith; before = λ k d l. absurd (omega (arith, l)) };
   weight = ap (λ ws. get_or ws c.args.tenant 0) c.weights.ensures.value ∙ sym (weight_none c.args.config.now c.args.tenant);
   served = sym (replayed_none c.args.config.now c.args.rows.now c.args.changes.now c.args.levels.now c.args.slot c.args.tenant);
   services = c.in_ok-services.ensures.items ∙ sym (list_none (λ k. replayed c.args.config.now c.args.rows.now c.args.changes.now c.args.levels.now c.args.slot c.args.tenant (suc k)));
@@ -44,7 +43,7 @@ cost_is : (c : After-weigh) → c.join_own.result.1 ≡ costs_by c.args.rows.now
 cost_is c =
     c.join_own.ensures.came.theirs
     ∙ came_is c.args.rows.now c.of_tenant-own.result.now c.join_own.result.0 (c.loop-k.k * c.args.slot) c.args.tenant c.of_tenant-own.ensures
-    (subst (IsNonDecreasingBy (λ (r : FluidRow). r.submit)) (sym c.of_tenant-own.ensures) (c.requires.ready.submits_rise c.args.tenant))
+    (subst (IsNonDecreasingBy (λ (r : FluidRow). r.submit)) (sym c.of_tenant-own.ensures) (c.requires.ready.submits_in_order c.args.tenant))
     (subst (All (λ (r : FluidRow). nat_eq r.tenant c.args.tenant ≡ true)) (sym c.of_tenant-own.ensures) (filter_passes (λ (r : FluidRow). nat_eq r.tenant c.args.tenant) c.args.rows.now))
     c.join_own.ensures.came.before c.join_own.ensures.next
 
@@ -57,9 +56,9 @@ weight_set c =
 
 weight_is : (c : After-weigh) → c.weigh.result.1 ≡ weight_at c.args.config.now (prefix_at (history_of_changes (changes_for c.args.tenant c.args.changes.now)) (c.loop-k.k * c.args.slot)) c.args.tenant
 weight_is c =
-    let rise : IsNonDecreasingBy (λ (x : Change). x.moment) c.of_tenant-changes.result.now = subst (IsNonDecreasingBy (λ (x : Change). x.moment)) (sym c.of_tenant-changes.ensures) (c.requires.ready.moments_rise c.args.tenant) in
+    let rise : IsNonDecreasingBy (λ (x : Change). x.moment) c.of_tenant-changes.result.now = subst (IsNonDecreasingBy (λ (x : Change). x.moment)) (sym c.of_tenant-changes.ensures) (c.requires.ready.moments_in_order c.args.tenant) in
     weight_set c
-    ∙ ap (λ P. weight_at c.args.config.now P c.args.tenant) (sym (prefix_to c.of_tenant-changes.result.now c.weigh.result.0 (c.loop-k.k * c.args.slot) rise c.weigh.ensures.before c.weigh.ensures.next))
+    ∙ ap (λ P. weight_at c.args.config.now P c.args.tenant) (sym (prefix_to c.of_tenant-changes.result.now c.weigh.result.0 (c.loop-k.k * c.args.slot) rise c.weigh.ensures.came.before c.weigh.ensures.next))
     ∙ ap (λ xs. weight_at c.args.config.now (prefix_at (history_of_changes xs) (c.loop-k.k * c.args.slot)) c.args.tenant) c.of_tenant-changes.ensures
 
 -- what it wants in this slot
@@ -84,8 +83,7 @@ loop-k-preserved c =
     let now : After-weigh = (goal.at.loop-k-preserved c).After-weigh in
     record {
       joined = record { in_list = c.join_own.ensures.came.in_list; theirs = c.join_own.ensures.came.theirs; before = still_before (λ (r : FluidRow). r.submit) _ c.loop-k.k c.args.slot c.join_own.ensures.came.before };
-      place = c.weigh.ensures.place;
-      before = still_before (λ (x : Change). x.moment) _ c.loop-k.k c.args.slot c.weigh.ensures.before;
+      changed = record { in_list = c.weigh.ensures.came.in_list; before = still_before (λ (x : Change). x.moment) _ c.loop-k.k c.args.slot c.weigh.ensures.came.before };
       weight = weight_set now;
       served = more c;
       services = c.in_ok-push.ensures.items ∙ ap₂ (λ xs n. xs ++ n ∷ []) c.loop-k.invariant.services (more c ∙ ap (replayed c.args.config.now c.args.rows.now c.args.changes.now c.args.levels.now c.args.slot c.args.tenant) (add-one c.loop-k.k))
