@@ -1,5 +1,5 @@
 -- Work by slots, and what a report says of a tenant by the courses of its requests.
-use Rattle.std.specs.Prelude.{ℕ, zero, suc, ◌-◌, ◌*◌, ◌/◌, ◌<◌, ◌≤◌, ◌≡◌, ◌==◌, List, length, take, sum, sum_by, filter, slice_index, ℤ, pos, ◌-ℤ◌}
+use Rattle.std.specs.Prelude.{ℕ, zero, suc, ◌-◌, ◌*◌, ◌/◌, ◌<◌, ◌≤◌, ◌≡◌, List, length, take, sum, sum_by, slice_index, ℤ, pos, ◌-ℤ◌}
 use Rattle.vt_fixed.specs.declared.limits.TheConstants.{GREATEST_COST, GREATEST_MOMENT}
 use Rattle.fq_model.specs.declared.limits.TheConstants.{MOST_CELLS, GREATEST_BACKLOG}
 use Rattle.fq_model.specs.declared.lag.TenantLag.{TenantLag}
