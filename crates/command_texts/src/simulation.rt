@@ -23,20 +23,22 @@ use trace_reader::trace::Trace;
 use trace_runner::fault::SimFault;
 use trace_runner::runner::simulate;
 
-/// What is asked for of the simulated history of a trace that has to be read.
+/// What is asked for of the simulated history of a trace that has to be read. Gives the input up before it simulates.
 pub fn run_text(
     alloc: Global,
     options: RunOptions,
     slot: u64,
     what: HistoryPrint,
-    input: &[u8],
+    input: Vec<u8>,
 ) -> Result<Vec<u8>, Stop>
     requires options { AreInRange options }
     requires slot { slot ≤ GREATEST_SLOT }
-    ensures { MatchResult result (λ text. IsRunOutput options slot what input.now text.items)
-        (IsOutputStop Untold (Run options slot what) input.now) }
+    ensures { MatchResult result (λ text. IsRunOutput options slot what input.items text.items)
+        (IsOutputStop Untold (Run options slot what) input.items) }
 {
-    match read(alloc, input) {
+    let trace = read(alloc, input.as_slice());
+    drop(input);
+    match trace {
         Ok(trace) => {
             let text = simulated_text(alloc, &trace, options, slot, what);
             drop(trace);

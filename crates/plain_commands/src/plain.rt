@@ -122,8 +122,7 @@ fn run_trace<R: Source, W: Sink>(
     ensures sink_room { W.room sink.new ≡ W.room sink.old }
 {
     let input = read_all(alloc, source, GREATEST_INPUT)?;
-    let text = run_text(alloc, options, slot, print, input.as_slice());
-    drop(input);
+    let text = run_text(alloc, options, slot, print, input);
     written(sink, text)
 }
 

@@ -24,24 +24,26 @@ use trace_pool::serving::serve;
 use trace_reader::reading::read;
 use trace_reader::trace::Trace;
 
-/// What is asked for of one history of a pool that serves a trace, which has to be read. The clock is asked by the
-/// pool's threads alone.
+/// What is asked for of one history of a pool that serves a trace, which has to be read. The input is given up before the
+/// pool begins. The clock is asked by the pool's threads alone.
 pub fn live_text<T: Wait + Threads + Sync, K: Clock + Sync>(
     rt: &T,
     alloc: Global,
     options: RunOptions,
     slot: u64,
     what: HistoryPrint,
-    input: &[u8],
+    input: Vec<u8>,
     clock: &K,
 ) -> Result<Vec<u8>, Stop>
     requires options { AreInRange options }
     requires slot { slot ≤ GREATEST_SLOT }
     ensures { (watch : ℕ) → MatchResult result
-        (λ text. IsLiveOutput (K.tells clock.now) options slot what input.now text.items)
-        (IsOutputStop (K.tells clock.now) (Live options slot what watch) input.now) }
+        (λ text. IsLiveOutput (K.tells clock.now) options slot what input.items text.items)
+        (IsOutputStop (K.tells clock.now) (Live options slot what watch) input.items) }
 {
-    match read(alloc, input) {
+    let trace = read(alloc, input.as_slice());
+    drop(input);
+    match trace {
         Ok(trace) => {
             let text = pool_text(rt, alloc, &trace, options, slot, what, clock);
             drop(trace);

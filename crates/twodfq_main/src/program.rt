@@ -131,7 +131,6 @@ fn run_live<T: Wait + Threads + Sync, R: Source, W: Sink, K: Clock + Sync>(
     ensures sink_room { W.room sink.new ≡ W.room sink.old }
 {
     let input = read_all(alloc, source, GREATEST_INPUT)?;
-    let text = live_text(rt, alloc, options, slot, print, input.as_slice(), clock);
-    drop(input);
+    let text = live_text(rt, alloc, options, slot, print, input, clock);
     written(sink, text)
 }
