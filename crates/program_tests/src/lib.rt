@@ -19,4 +19,6 @@ mod samples;
 #[cfg(test)]
 mod served_tests;
 #[cfg(test)]
+mod stop_tests;
+#[cfg(test)]
 mod worked_tests;

@@ -1,8 +1,8 @@
-use crate::samples::send_away;
+use crate::samples::{expect_told, send_away};
 use fq_model::config::{Checked, Config, Estimator, Policy, Weights};
-use fq_model::event::{Act, Entry};
+use fq_model::event::{Act, Cause, Entry};
 use rival_policies::plain::PlainChooser;
-use sched_state::{Scheduler, Taken};
+use sched_state::{AlreadyClosed, Refused, Scheduler, Taken};
 use std::alloc::Global;
 use std::marker::Send;
 use std::process::Abort;
@@ -77,4 +77,16 @@ fn call<X: Chooser + Drop + Send, R: Abort>(rt: &R, alloc: Global) {
 #[test]
 fn a_caller(rt: HostRuntime) {
     call::<PlainChooser, HostRuntime>(&rt, rt.alloc());
+}
+
+#[test]
+fn refusals_are_told(rt: HostRuntime) {
+    let closed = "the history is closed already";
+    expect_told(&rt, rt.alloc(), &AlreadyClosed, closed);
+    let refused = Refused {
+        job: 42,
+        cause: Cause::Tenant(7),
+    };
+    let cause = "no tenant has the number 7";
+    expect_told(&rt, rt.alloc(), &refused, cause);
 }

@@ -1,6 +1,6 @@
 ghost use Rattle.std.specs.Prelude.{◌≡◌, length, replicate, None};
 
-use crate::samples::{configured, send_away};
+use crate::samples::{configured, expect_told, send_away};
 use charge_book::book::Book;
 use charge_book::refusal::BookRefusal;
 use charge_book::row::RunRow;
@@ -96,32 +96,23 @@ fn what_runs_keeps_its_weight(rt: HostRuntime) {
     two_requests(&rt, rt.alloc());
 }
 
-// A refusal is told so.
-fn expect_told<R: Abort>(rt: &R, alloc: Global, refusal: BookRefusal, wanted: &str) {
-    let text = format!(in alloc; "{refusal}");
-    let Ok(text) = text else {
-        panic!(rt; "no memory for a text")
-    };
-    assert_eq!(rt; text.as_str(), wanted);
-}
-
 #[test]
 fn refusals_are_told(rt: HostRuntime) {
     expect_told(
         &rt,
         rt.alloc(),
-        BookRefusal::NotRunning,
+        &BookRefusal::NotRunning,
         "nothing runs on the worker",
     );
     let range = BookRefusal::CostRange(1000000001);
     expect_told(
         &rt,
         rt.alloc(),
-        range,
+        &range,
         "1000000001 microseconds are above 1000000000",
     );
     let falling = "11 microseconds are less than the 12 reported before";
-    expect_told(&rt, rt.alloc(), FALLING, falling);
+    expect_told(&rt, rt.alloc(), &FALLING, falling);
     let cause = Cause::Falling {
         last: 12,
         given: 11,

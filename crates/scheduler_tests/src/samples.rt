@@ -4,6 +4,7 @@ ghost use Rattle.std.specs.Prelude.{◌≡◌, ◌≤◌, length};
 use fq_model::config::{Checked, Config, Estimator, Policy, Weights};
 use fq_model::limits::MOST_WORKERS;
 use std::alloc::Global;
+use std::fmt::Display;
 use std::marker::Send;
 use std::process::Abort;
 
@@ -43,4 +44,13 @@ pub fn configured<R: Abort>(
         panic!(rt; "a number out of its limits")
     };
     checked
+}
+
+/// A fault is told so.
+pub fn expect_told<D: Display, R: Abort>(rt: &R, alloc: Global, fault: &D, wanted: &str) {
+    let text = format!(in alloc; "{fault}");
+    let Ok(text) = text else {
+        panic!(rt; "no memory for a text")
+    };
+    assert_eq!(rt; text.as_str(), wanted);
 }
