@@ -1,9 +1,7 @@
 -- What is read of options lies in their ranges.
-use Rattle.std.proofs.Common.{ℕ, suc, ◌≤◌, ◌≡◌, nat_lt, Bool, true, false, ◌||◌, if◌then◌else◌, List, [], ◌∷◌, length, Option, Some, None, option_map, unwrap_or, refl, ap, subst, arith}
+use Rattle.std.proofs.Common.{ℕ, ◌≤◌, ◌≡◌, nat_lt, Bool, true, false, ◌||◌, if◌then◌else◌, List, [], ◌∷◌, Option, Some, None, option_map, refl, subst, arith}
 use Rattle.std.specs.Option.{option_and_then}
 use Rattle.std.proofs.lemmas.Bool.{ltb-false}
-use Rattle.std.proofs.lemmas.List.{get_or_past}
-use Rattle.program_model.specs.Command.{value_at}
 use Rattle.program_model.specs.Numbers.{number_of}
 use Rattle.program_model.specs.Lines.{Words}
 use Rattle.program_model.specs.Options.{Values, Within, Among, Absent, Required, Nothing, Default, OptionRow, Given, Value, options_of, are_known, texts_for, is_value, within, number_among, number_for, absent_value, value_of, values_of, values_in}
@@ -74,32 +72,3 @@ given_range rows (Some given) vs e = known_range rows (are_known rows given) giv
 pub values_in-range : (rows : List OptionRow) (words : Words) (vs : List Value) → values_in rows words ≡ Some vs → AreValuesOf rows vs
 unfolding values_in
 values_in-range rows words vs e = given_range rows (options_of words) vs e
-
--- ---- how many values there are: one for each option
-
-pair_length : (rows : List OptionRow) (value : Option Value) (values : Option (List Value)) (vs : List Value) → ((ws : List Value) → values ≡ Some ws → length ws ≡ length rows) → option_and_then (λ v. option_map (λ ws. v ∷ ws) values) value ≡ Some vs → length vs ≡ suc (length rows)
-pair_length rows None values vs later e = absurd (cc)
-pair_length rows (Some v) None vs later e = absurd (cc)
-pair_length rows (Some v) (Some ws) vs later e =
-    let same : v ∷ ws ≡ vs = cc in
-    subst (λ us. length us ≡ suc (length rows)) same (ap suc (later ws refl))
-
-values_length : (rows : List OptionRow) (given : List Given) (vs : List Value) → values_of rows given ≡ Some vs → length vs ≡ length rows
-values_length [] given [] e = refl
-values_length [] given (v ∷ vs) e = absurd (cc)
-values_length (row ∷ rows) given vs e = pair_length rows (value_of row (texts_for row.name given)) (values_of rows given) vs (values_length rows given) e
-
-known_length : (rows : List OptionRow) (known : Bool) (given : List Given) (vs : List Value) → (if known then values_of rows given else None) ≡ Some vs → length vs ≡ length rows
-known_length rows true given vs e = values_length rows given vs e
-known_length rows false given vs e = absurd (cc)
-
-given_length : (rows : List OptionRow) (given : Option (List Given)) (vs : List Value) → option_and_then (λ g. if are_known rows g then values_of rows g else None) given ≡ Some vs → length vs ≡ length rows
-given_length rows None vs e = absurd (cc)
-given_length rows (Some given) vs e = known_length rows (are_known rows given) given vs e
-
--- so that behind the last there is none
-pub none_behind : (rows : List OptionRow) (words : Words) (vs : List Value) (k : ℕ) → values_in rows words ≡ Some vs → length rows ≤ k → value_at vs k ≡ 0
-unfolding values_in
-none_behind rows words vs k e behind =
-    let long : length vs ≡ length rows = given_length rows (options_of words) vs e in
-    ap (λ v. unwrap_or v 0) (get_or_past vs k None (omega (arith, long, behind)))

@@ -1,5 +1,5 @@
--- The commands that there are.
-use Rattle.std.specs.Prelude.{ℕ, ◌≤◌, List, [], ◌∷◌}
+-- What is known of a command that words ask for.
+use Rattle.std.specs.Prelude.{ℕ, ◌≤◌}
 use Rattle.program_model.specs.declared.command.Command.{Command}
 use Rattle.program_model.specs.declared.command.Command.TheVariants as commands
 use Rattle.program_model.specs.declared.command.HistoryPrint.{HistoryPrint}
@@ -7,17 +7,11 @@ use Rattle.fq_model.specs.declared.limits.TheConstants.{MOST_TENANTS, MOST_ROWS,
 use Rattle.program_model.specs.declared.trace.RunOptions.{RunOptions}
 use Rattle.fq_model.specs.Limits.{IsWithin}
 use Rattle.program_model.specs.RunLimits.{AreInRange}
-use Rattle.program_model.specs.Options.{CommandRow}
-use Rattle.program_model.specs.Command.{script_row, run_row, live_row, gen_row}
-
--- the table by which the program's words are read
-abbrev pub built_commands : List (CommandRow Command)
-built_commands = script_row ∷ run_row ∷ live_row ∷ gen_row ∷ []
 
 -- the numbers that a command is asked with are within their limits; a seed may be any number
 abbrev pub IsInRange : Command → Type 0
 IsInRange (commands.Run options slot print) = AreInRange options × (slot ≤ GREATEST_SLOT)
-IsInRange (commands.Live options slot print watch) = AreInRange options × (slot ≤ GREATEST_SLOT)
+IsInRange (commands.Live options slot print) = AreInRange options × (slot ≤ GREATEST_SLOT)
 IsInRange (commands.Gen seed tenants requests print) = IsWithin 1 MOST_TENANTS tenants × (requests ≤ MOST_ROWS)
 IsInRange _ = Unit {0}
 
@@ -29,6 +23,6 @@ HistoryParts = RunOptions × ℕ × HistoryPrint
 abbrev pub run_by : HistoryParts → Command
 run_by (options, slot, print) = commands.Run options slot print
 
--- the command `live` of these, which reads no status on the way
+-- the command `live` of these
 abbrev pub live_by : HistoryParts → Command
-live_by (options, slot, print) = commands.Live options slot print 0
+live_by (options, slot, print) = commands.Live options slot print

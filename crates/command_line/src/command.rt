@@ -2,13 +2,17 @@
 ghost use Rattle.std.specs.Prelude.{◌≡◌, IfSome, map, option_map, unwrap_or, slice_index_or};
 ghost use Rattle.std.specs.String.{string_bytes};
 ghost use Rattle.program_model.specs.Options.{command_of, command_by};
-ghost use Rattle.program_model.specs.Command.{script_row, run_row, live_row, gen_row};
-ghost use Rattle.command_line.specs.Commands.{built_commands, IsInRange, run_by, live_by};
+ghost use Rattle.program_model.specs.Commands.{built_commands};
+ghost use Rattle.program_model.specs.ScriptCommand.{script_row};
+ghost use Rattle.program_model.specs.RunCommand.{run_row};
+ghost use Rattle.program_model.specs.LiveCommand.{live_row};
+ghost use Rattle.program_model.specs.GenCommand.{gen_row};
+ghost use Rattle.command_line.specs.Commands.{IsInRange, run_by, live_by};
 
 use crate::options::{Value, values_in};
 use crate::table::{
-    ESTIMATORS, GEN_OPTIONS, GEN_PRINTS, HISTORY_PRINTS, POLICIES, RUN_OPTIONS, SCRIPT_OPTIONS,
-    SCRIPT_PRINTS,
+    ESTIMATORS, GEN_OPTIONS, GEN_PRINTS, HISTORY_PRINTS, POLICIES, SCRIPT_OPTIONS,
+    SCRIPT_PRINTS, TRACE_OPTIONS,
 };
 use fq_model::config::{Estimator, Policy};
 use program_model::command::{Command, GenPrint, HistoryPrint, ScriptPrint};
@@ -53,7 +57,7 @@ fn run_command(words: &[String]) -> Option<Command>
     })
 }
 
-// `live`, by the words after it. There is no option yet that asks for lines of status.
+// `live`, by the words after it.
 fn live_command(words: &[String]) -> Option<Command>
     ensures asked { result ≡ command_by (map string_bytes words.now) live_row }
     ensures range { IfSome result IsInRange }
@@ -63,7 +67,6 @@ fn live_command(words: &[String]) -> Option<Command>
         options,
         slot,
         print,
-        watch: 0,
     })
 }
 
@@ -74,7 +77,7 @@ fn history_parts(words: &[String]) -> Option<(RunOptions, u64, HistoryPrint)>
     ensures range { IfSome result (λ parts. IsInRange (run_by parts)) }
 {
     let [workers, policy, estimate, initial, refresh, slot, print] = values_in::<7>(
-        &RUN_OPTIONS,
+        &TRACE_OPTIONS,
         words,
     )?;
     let options = RunOptions {

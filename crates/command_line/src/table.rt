@@ -22,7 +22,7 @@ pub const SCRIPT_PRINTS: [ScriptPrint; 3] = [
     ScriptPrint::Both,
 ];
 
-/// The same for `run`.
+/// The same for `run` and `live`.
 pub const HISTORY_PRINTS: [HistoryPrint; 4] = [
     HistoryPrint::Journal,
     HistoryPrint::Report,
@@ -40,9 +40,9 @@ pub const SCRIPT_OPTIONS: [OptionRow; 1] = [OptionRow {
     absent: Absent::Default("replies"),
 }];
 
-/// The options of `run`. Costs and the slot are microseconds; refresh 0 asks for no reports, and slot 0 for the
+/// The options of `run` and `live`. Costs and the slot are microseconds; refresh 0 asks for no reports, and slot 0 for the
 /// automatic slot.
-pub const RUN_OPTIONS: [OptionRow; 7] = [
+pub const TRACE_OPTIONS: [OptionRow; 7] = [
     OptionRow {
         name: "--workers",
         values: Values::Within {

@@ -20,5 +20,14 @@ pub mod Journal
 pub mod FaultTexts
 pub mod Options
 pub mod CommandOptions
-pub mod Command
-pub mod Output
+pub mod Answer
+pub mod HistoryAnswer
+pub mod TraceCommand
+pub mod ScriptCommand
+pub mod RunCommand
+pub mod LiveCommand
+pub mod GenCommand
+pub mod Commands
+pub mod Ending
+pub mod Program
+pub mod Statuses

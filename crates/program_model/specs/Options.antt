@@ -28,11 +28,14 @@ pub record OptionRow : Type 0 where
 abbrev pub Value : Type 0
 Value = Option ℕ
 
--- a command: its word, its options, and what it means by the values of these, in this order
+-- a command: its word, its options, what it means by the values of these, in this order, and whether it reads an input and
+-- waits for threads
 pub record CommandRow (C : Type 0) : Type 0 where
   pub word : List ℕ
   pub options : List OptionRow
   pub means : List Value → C
+  pub reads_input : Bool
+  pub waits : Bool
 
 -- The options that words give.
 

@@ -48,12 +48,11 @@ pub enum Command {
         slot: u64,
         print: HistoryPrint,
     },
-    /// Runs a trace by a pool of threads, and reads its status so many times on the way.
+    /// Serves a trace by a pool of threads.
     Live {
         options: RunOptions,
         slot: u64,
         print: HistoryPrint,
-        watch: u32,
     },
     /// Generates a trace.
     Gen {
@@ -61,21 +60,5 @@ pub enum Command {
         tenants: u32,
         requests: u32,
         print: GenPrint,
-    },
-    /// Judges a journal, and explains why a request was taken when and where it was, if one is named.
-    Check {
-        explain: Option<u32>,
-    },
-    /// Simulates a trace under each policy and estimator.
-    Compare {
-        workers: u32,
-        initial: u64,
-        refresh: u64,
-        slot: u64,
-    },
-    /// Delays the requests of a trace until they keep to a token bucket for each tenant.
-    Shape {
-        rate: u64,
-        burst: u64,
     },
 }

@@ -3,6 +3,7 @@
 
 pub mod command;
 pub mod compare;
+pub mod ending;
 pub mod fault;
 pub mod numbers;
 pub mod trace;

@@ -1,5 +1,5 @@
 use Rattle.std.proofs.Common.{sym, ◌∙◌}
-use Rattle.command_line.specs.Commands.{built_commands}
+use Rattle.program_model.specs.Commands.{built_commands}
 use Rattle.command_line.proofs.FirstWord.{command_none, command_first, command_named, other_word}
 use Rattle.command_line.proofs.command.command.Goals as goal
 

@@ -1,7 +1,6 @@
 use Rattle.std.proofs.Common.{◌≡◌, map, option_map, sym, ap, ◌∙◌}
 use Rattle.std.specs.String.{string_bytes}
-use Rattle.program_model.specs.Command.{gen_of_values}
-use Rattle.program_model.specs.CommandOptions.{gen_options}
+use Rattle.program_model.specs.GenCommand.{gen_options, gen_of_values}
 use Rattle.program_model.specs.Options.{values_in}
 use Rattle.command_line.proofs.command.gen_command.Goals as goal
 

@@ -2,8 +2,7 @@ use Rattle.std.proofs.Common.{◌≡◌, map, Some, option_map, sym, ap, ◌∙�
 use Rattle.std.specs.String.{string_bytes}
 use Rattle.program_model.specs.declared.command.Command.TheVariants.{Script}
 use Rattle.program_model.specs.Options.{values_in}
-use Rattle.program_model.specs.Command.{script_of_values}
-use Rattle.program_model.specs.CommandOptions.{script_options}
+use Rattle.program_model.specs.ScriptCommand.{script_options, script_of_values}
 use Rattle.command_line.proofs.command.script_command.Goals as goal
 
 pub returns-in_err-print-clause-asked : goal.returns-in_err-print-clause-asked

@@ -1,0 +1,68 @@
+-- `script`: makes the calls of a script on a scheduler that was just opened.
+use Rattle.std.specs.Prelude.{ℕ, ◌≡◌, true, false, List, [], ◌∷◌, ◌++◌, map, Result, Ok, Err, slice_index_or, codes}
+use Rattle.fq_model.specs.declared.event.Entry.{Entry}
+use Rattle.fq_model.specs.declared.event.Reply.{Reply}
+use Rattle.fq_model.specs.History.{history_of}
+use Rattle.fq_model.specs.Outcome.{Outcome}
+use Rattle.program_model.specs.declared.command.Command.{Command}
+use Rattle.program_model.specs.declared.command.Command.TheVariants as commands
+use Rattle.program_model.specs.declared.command.ScriptPrint.{ScriptPrint}
+use Rattle.program_model.specs.declared.command.ScriptPrint.TheVariants.{Replies, Journal, Both}
+use Rattle.program_model.specs.declared.fault.ScriptKind.{ScriptKind}
+use Rattle.program_model.specs.Answer.{Answer, Text, fault_answer}
+use Rattle.program_model.specs.CommandOptions.{value_at, listed_option}
+use Rattle.program_model.specs.Document.{config_of}
+use Rattle.program_model.specs.FaultTexts.{script_fault_text}
+use Rattle.program_model.specs.JournalText.{journal_text}
+use Rattle.program_model.specs.Options.{OptionRow, Value, CommandRow}
+use Rattle.program_model.specs.Script.{Script, script_of}
+use Rattle.program_model.specs.Texts.{replies_text}
+
+-- what may be written, in the order of its words
+abbrev pub script_prints : List ScriptPrint
+script_prints = Replies ∷ Journal ∷ Both ∷ []
+
+-- the word for each
+abbrev pub script_print_word : ScriptPrint → List ℕ
+script_print_word Replies = codes "replies"
+script_print_word Journal = codes "journal"
+script_print_word Both = codes "both"
+
+-- what is printed of the calls
+abbrev pub script_options : List OptionRow
+script_options = listed_option (codes "--print") (map script_print_word script_prints) (codes "replies") ∷ []
+
+abbrev pub script_of_values : List Value → Command
+script_of_values values = commands.Script (slice_index_or script_prints (value_at values 0) Replies)
+
+abbrev pub script_row : CommandRow Command
+script_row = record {
+  word = codes "script";
+  options = script_options;
+  means = script_of_values;
+  reads_input = true;
+  waits = false;
+}
+
+-- what is written of the texts that there are
+abbrev pub script_output_text : ScriptPrint → (replies journal : List ℕ) → List ℕ
+script_output_text Replies replies journal = replies
+script_output_text Journal replies journal = journal
+script_output_text Both replies journal = replies ++ journal
+
+-- The calls of the script, made in order on a scheduler that was just opened, are answered by the replies, and the
+-- scheduler's entries are then these, in order of time. The text is the replies, the journal, or both.
+pub record IsServed (print : ScriptPrint) (script : Script) (answer : Answer) : Type 0 where
+  pub replies : List Reply
+  pub past : List Entry
+  pub outcome : Outcome (config_of script) script.body replies (history_of past)
+  pub answer_is : answer ≡ Text 0 (script_output_text print (replies_text replies)
+      (journal_text (config_of script) script.tenants script.kinds past))
+
+-- of an input that is no script its first fault, and else what is left of the script's calls
+abbrev pub IsReadAnswer : ScriptPrint → Result Script (ℕ × ScriptKind) → Answer → Type 0
+IsReadAnswer print (Ok script) answer = IsServed print script answer
+IsReadAnswer print (Err (line, fault)) answer = answer ≡ fault_answer line (script_fault_text fault)
+
+abbrev pub IsScriptAnswer : ScriptPrint → List ℕ → Answer → Type 0
+IsScriptAnswer print input answer = IsReadAnswer print (script_of input) answer
