@@ -1,2 +1,4 @@
-pub mod Serving
+pub mod Making
 pub mod Reports
+pub mod Serving
+pub mod Runs

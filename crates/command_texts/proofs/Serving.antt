@@ -1,6 +1,6 @@
 -- The calls of a body, answered one by one.
 use Rattle.std.proofs.Common.{ℕ, ◌≡◌, ◌∙◌, refl, sym, ap, subst, Bool, true, false, if◌then◌else◌, List, [], ◌∷◌, ◌++◌, Result, Ok, Err}
-use Rattle.std.specs.Prelude.{is_err, codes, OnOk, IfOk, IfErr, MatchResult}
+use Rattle.std.specs.Prelude.{is_err, codes, OnOk}
 use Rattle.std.proofs.lemmas.Bool.{false≢true}
 use Rattle.std.proofs.lemmas.List.{append_assoc, append-nil}
 use Rattle.program_model.specs.declared.command.ScriptPrint.{ScriptPrint}
@@ -13,7 +13,6 @@ use Rattle.program_model.specs.declared.fault.ScriptKind.{ScriptKind}
 use Rattle.program_model.specs.Document.{config_of, document_of}
 use Rattle.fq_model.specs.History.{history_of}
 use Rattle.program_model.specs.JournalText.{journal_text}
-use Rattle.program_model.specs.Output.{script_output_text}
 use Rattle.fq_model.specs.Rules.{Answers}
 use Rattle.program_model.specs.Script.{Script, script_of, call_of_words}
 use Rattle.program_model.specs.Texts.{reply_line, replies_text}
@@ -23,12 +22,13 @@ use Rattle.journal_text.specs.Body.{Below, with_first, said_below, with_body_lin
 use Rattle.journal_text.specs.Reading.{IsFirstFault}
 use Rattle.journal_text.specs.declared.fault.ScriptFault.{ScriptFault}
 use Rattle.journal_text.specs.declared.fault.ScriptFault.TheVariants as faults
-use Rattle.program_model.specs.declared.command.Command.TheVariants as commands
-use Rattle.command_texts.specs.Commands.{IsServed, Untold}
-use Rattle.command_texts.specs.Stops.{IsFaultStop, IsOutputStop}
-use Rattle.command_texts.specs.declared.stop.Stop.{Stop}
-use Rattle.command_texts.specs.declared.stop.Stop.TheVariants as stops
-use Rattle.command_texts.specs.Serving.{tells_replies, tells_journal, told_text, AreAnswered, IsBodyAnswered, OpensAs, IsBodyText, IsBodyStop}
+use Rattle.program_model.specs.declared.ending.Output.{Output}
+use Rattle.program_model.specs.declared.ending.Stop.{Stop}
+use Rattle.program_model.specs.Answer.{Answer, Text}
+use Rattle.program_model.specs.ScriptCommand.{script_output_text, IsServed, IsReadAnswer, IsScriptAnswer}
+use Rattle.command_texts.specs.Making.{Makes, IsStop}
+use Rattle.command_texts.specs.Serving.{tells_replies, tells_journal, told_text, AreAnswered, IsBodyAnswered, OpensAs, IsFaultAnswer, IsCallsAnswer, IsBodyAnswer}
+use Rattle.command_texts.proofs.Making.{stop_as, makes_as}
 
 -- what a body says, or its first fault
 abbrev pub Said : Type 0
@@ -104,67 +104,50 @@ output_is Replies replies journal = append-nil replies
 output_is Journal replies journal = refl
 output_is Both replies journal = refl
 
--- what is written of a script whose body is answered
-pub is_served : (what : ScriptPrint) (input : List ℕ) (head : Script) (below : Below) (C : Config) (names kinds : List (List ℕ)) (text : List ℕ)
-    → OpensAs input head below → C ≡ config_of head → names ≡ head.tenants → kinds ≡ head.kinds
-    → IsBodyText what C names kinds (said_below call_of_words below) text → IsServed what input text
-is_served what input head below C names kinds text opened c n k body =
-    let answered : IsBodyAnswered (config_of head) (said_below call_of_words below) (tells_replies what) body.told body.past =
-    subst (λ (x : Config). IsBodyAnswered x (said_below call_of_words below) (tells_replies what) body.told body.past) c body.answered in
-    let journal : journal_text C names kinds body.past ≡ journal_text (config_of head) head.tenants head.kinds body.past =
-    ap (λ (x : Config). journal_text x names kinds body.past) c
-    ∙ (ap (λ (x : List (List ℕ)). journal_text (config_of head) x kinds body.past) n ∙ ap (λ (x : List (List ℕ)). journal_text (config_of head) head.tenants x body.past) k) in
+-- what is answered to calls is what is left of the script that has them
+served_is : (what : ScriptPrint) (head : Script) (calls : List Call) (C : Config) (names kinds : List (List ℕ)) (answer : Answer)
+    → C ≡ config_of head → names ≡ head.tenants → kinds ≡ head.kinds → IsCallsAnswer what C names kinds calls answer → IsServed what (record head { body = calls }) answer
+served_is what head calls C names kinds answer c n k x =
+    let answered : AreAnswered (config_of head) (tells_replies what) calls x.told x.past = subst (λ (D : Config). AreAnswered D (tells_replies what) calls x.told x.past) c x.answered in
+    let journal : journal_text C names kinds x.past ≡ journal_text (config_of head) head.tenants head.kinds x.past =
+    ap (λ (D : Config). journal_text D names kinds x.past) c
+    ∙ (ap (λ (ns : List (List ℕ)). journal_text (config_of head) ns kinds x.past) n ∙ ap (λ (ks : List (List ℕ)). journal_text (config_of head) head.tenants ks x.past) k) in
     record {
-      script = record head { body = answered.calls };
-      read = opened.means call_of_words ∙ ap (with_body_lines head) answered.read;
-      replies = answered.answered.replies;
-      past = body.past;
-      outcome = answered.answered.outcome;
-      text_is = body.text_is ∙ (ap (λ (x : List ℕ). body.told ++ (if tells_journal what then x else [])) journal
-          ∙ (ap (λ t. t ++ (if tells_journal what then journal_text (config_of head) head.tenants head.kinds body.past else [])) answered.answered.told
-          ∙ output_is what (replies_text answered.answered.replies) (journal_text (config_of head) head.tenants head.kinds body.past)));
+      replies = answered.replies;
+      past = x.past;
+      outcome = answered.outcome;
+      answer_is =
+          x.answer_is
+          ∙ ap (Text 0) (ap (λ (j : List ℕ). x.told ++ (if tells_journal what then j else [])) journal
+          ∙ (ap (λ t. t ++ (if tells_journal what then journal_text (config_of head) head.tenants head.kinds x.past else [])) answered.told
+          ∙ output_is what (replies_text answered.replies) (journal_text (config_of head) head.tenants head.kinds x.past)));
     }
 
--- the first fault of a body is that of the script
-fault_below : (head : Script) (fault : ScriptFault) (said : Said) → IsFirstFault fault said → IsFirstFault fault (with_body_lines head said)
-fault_below head (faults.At line kind) said first = ap (with_body_lines head) first
-fault_below head faults.NoMemory said first = tt
+-- what is answered by what a body says is answered by what the script says
+body_is : (what : ScriptPrint) (head : Script) (C : Config) (names kinds : List (List ℕ)) (said : Said) (answer : Answer)
+    → C ≡ config_of head → names ≡ head.tenants → kinds ≡ head.kinds → IsBodyAnswer what C names kinds said answer → IsReadAnswer what (with_body_lines head said) answer
+body_is what head C names kinds (Ok calls) answer c n k x = served_is what head calls C names kinds answer c n k x
+body_is what head C names kinds (Err (line, fault)) answer c n k x = x
 
--- an input whose first fault this is has no output, and its message names the fault
-pub faulty_input : (Told : ℕ → Type 0) (what : ScriptPrint) (input : List ℕ) (fault : ScriptFault) (stop : Stop) → IsFirstFault fault (script_of input) → IsFaultStop fault stop
-    → IsOutputStop Told (commands.Script what) input stop
-faulty_input Told what input (faults.At line kind) (stops.Fault message) first tells = record { line = line; fault = kind; first = first; told = tells }
-faulty_input Told what input (faults.At line kind) stops.Words first tells = absurd tells
-faulty_input Told what input (faults.At line kind) stops.TooLong first tells = absurd tells
-faulty_input Told what input (faults.At line kind) stops.Reading first tells = absurd tells
-faulty_input Told what input (faults.At line kind) stops.Writing first tells = absurd tells
-faulty_input Told what input (faults.At line kind) stops.NoMemory first tells = tt
-faulty_input Told what input (faults.At line kind) (stops.TooManyEntries message) first tells = absurd tells
-faulty_input Told what input (faults.At line kind) (stops.TooManyCells message) first tells = absurd tells
-faulty_input Told what input faults.NoMemory stops.Words first tells = absurd tells
-faulty_input Told what input faults.NoMemory stops.TooLong first tells = absurd tells
-faulty_input Told what input faults.NoMemory (stops.Fault message) first tells = absurd tells
-faulty_input Told what input faults.NoMemory stops.Reading first tells = absurd tells
-faulty_input Told what input faults.NoMemory stops.Writing first tells = absurd tells
-faulty_input Told what input faults.NoMemory stops.NoMemory first tells = tt
-faulty_input Told what input faults.NoMemory (stops.TooManyEntries message) first tells = absurd tells
-faulty_input Told what input faults.NoMemory (stops.TooManyCells message) first tells = absurd tells
+-- and so to the input
+pub opened_is : (what : ScriptPrint) (head : Script) (below : Below) (C : Config) (names kinds : List (List ℕ)) (made : Result Output Stop)
+    → C ≡ config_of head → names ≡ head.tenants → kinds ≡ head.kinds → Makes (IsBodyAnswer what C names kinds (said_below call_of_words below)) made
+    → (input : List ℕ) → OpensAs input head below → Makes (IsScriptAnswer what input) made
+opened_is what head below C names kinds made c n k x input opened =
+    makes_as (IsBodyAnswer what C names kinds (said_below call_of_words below)) (IsScriptAnswer what input) made
+    (λ answer y. subst (λ read. IsReadAnswer what read answer) (sym (opened.means call_of_words)) (body_is what head C names kinds (said_below call_of_words below) answer c n k y)) x
 
--- a fault of the head
-pub faulty_head : (Told : ℕ → Type 0) (what : ScriptPrint) (input : List ℕ) (fault : ScriptFault) (stop : Stop) → IsHeadFault {A = Call} fault (λ reader. document_of (codes "script") reader input)
-    → IsFaultStop fault stop → IsOutputStop Told (commands.Script what) input stop
-faulty_head Told what input fault stop first tells = faulty_input Told what input fault stop (first call_of_words) tells
+-- what is told of the first fault of a body, or of a script
+body_fault : (what : ScriptPrint) (C : Config) (names kinds : List (List ℕ)) (fault : ScriptFault) (said : Said) (answer : Answer) → IsFirstFault fault said → IsFaultAnswer fault answer → IsBodyAnswer what C names kinds said answer
+body_fault what C names kinds (faults.At line kind) said answer first x = subst (λ s. IsBodyAnswer what C names kinds s answer) (sym first) x
+body_fault what C names kinds faults.NoMemory said answer first x = absurd x
 
--- a fault of the body
-pub faulty_body : (Told : ℕ → Type 0) (what : ScriptPrint) (input : List ℕ) (head : Script) (below : Below) (stop : Stop)
-    → OpensAs input head below → IsBodyStop (said_below call_of_words below) stop → IsOutputStop Told (commands.Script what) input stop
-faulty_body Told what input head below stop opened body =
-    faulty_input Told what input body.fault stop (subst (IsFirstFault body.fault) (sym (opened.means call_of_words)) (fault_below head body.fault (said_below call_of_words below) body.first)) body.stops
+pub body_stop : (what : ScriptPrint) (C : Config) (names kinds : List (List ℕ)) (fault : ScriptFault) (said : Said) (stop : Stop) → IsFirstFault fault said → IsStop (IsFaultAnswer fault) stop → IsStop (IsBodyAnswer what C names kinds said) stop
+body_stop what C names kinds fault said stop first x = stop_as (IsFaultAnswer fault) (IsBodyAnswer what C names kinds said) stop (λ answer y. body_fault what C names kinds fault said answer first y) x
 
--- what becomes of a script whose head is read
-pub opened_is : (A : Type 0) (bytes : A → List ℕ) (what : ScriptPrint) (head : Script) (below : Below) (C : Config) (names kinds : List (List ℕ)) (made : Result A Stop)
-    → C ≡ config_of head → names ≡ head.tenants → kinds ≡ head.kinds
-    → IfOk made (λ x. IsBodyText what C names kinds (said_below call_of_words below) (bytes x)) → IfErr made (IsBodyStop (said_below call_of_words below))
-    → (input : List ℕ) → OpensAs input head below → MatchResult made (λ x. IsServed what input (bytes x)) (IsOutputStop Untold (commands.Script what) input)
-opened_is A bytes what head below C names kinds (Ok x) c n k ok err input opened = is_served what input head below C names kinds (bytes x) opened c n k ok
-opened_is A bytes what head below C names kinds (Err stop) c n k ok err input opened = faulty_body Untold what input head below stop opened err
+head_fault : (what : ScriptPrint) (input : List ℕ) (fault : ScriptFault) (answer : Answer) → IsFirstFault fault (script_of input) → IsFaultAnswer fault answer → IsScriptAnswer what input answer
+head_fault what input (faults.At line kind) answer first x = subst (λ read. IsReadAnswer what read answer) (sym first) x
+head_fault what input faults.NoMemory answer first x = absurd x
+
+pub head_stop : (what : ScriptPrint) (input : List ℕ) (fault : ScriptFault) (stop : Stop) → IsHeadFault {A = Call} fault (λ reader. document_of (codes "script") reader input) → IsStop (IsFaultAnswer fault) stop → IsStop (IsScriptAnswer what input) stop
+head_stop what input fault stop first x = stop_as (IsFaultAnswer fault) (IsScriptAnswer what input) stop (λ answer y. head_fault what input fault answer (first call_of_words) y) x

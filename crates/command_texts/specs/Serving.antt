@@ -1,5 +1,5 @@
 -- What is left of a script whose calls are answered as they are read.
-use Rattle.std.specs.Prelude.{ℕ, ◌≡◌, Bool, true, false, if◌then◌else◌, codes, List, [], ◌++◌, Result, Ok}
+use Rattle.std.specs.Prelude.{ℕ, ◌≡◌, Bool, true, false, if◌then◌else◌, codes, List, [], ◌++◌, Result, Ok, Err}
 use Rattle.program_model.specs.declared.command.ScriptPrint.{ScriptPrint}
 use Rattle.program_model.specs.declared.command.ScriptPrint.TheVariants.{Replies, Journal}
 use Rattle.fq_model.specs.declared.config.Config.{Config}
@@ -14,9 +14,9 @@ use Rattle.program_model.specs.Texts.{replies_text}
 use Rattle.program_model.specs.JournalText.{journal_text}
 use Rattle.journal_text.specs.Body.{Below, IsOpened}
 use Rattle.journal_text.specs.declared.fault.ScriptFault.{ScriptFault}
-use Rattle.journal_text.specs.Reading.{IsFirstFault}
-use Rattle.command_texts.specs.declared.stop.Stop.{Stop}
-use Rattle.command_texts.specs.Stops.{IsFaultStop}
+use Rattle.journal_text.specs.declared.fault.ScriptFault.TheVariants.{At, NoMemory}
+use Rattle.program_model.specs.Answer.{Answer, Text, fault_answer}
+use Rattle.program_model.specs.FaultTexts.{script_fault_text}
 
 -- whether replies are asked for, and whether the journal is
 abbrev pub tells_replies : ScriptPrint → Bool
@@ -42,21 +42,25 @@ pub record AreAnswered (C : Config) (tells : Bool) (calls : List Call) (text : L
   pub outcome : Outcome C calls replies (history_of past)
   pub told : text ≡ told_text tells replies
 
+-- the answer is what is asked for of calls that were answered so, with these tenants and kinds
+pub record IsCallsAnswer (what : ScriptPrint) (C : Config) (tenants kinds : List (List ℕ)) (calls : List Call) (answer : Answer) : Type 0 where
+  pub told : List ℕ
+  pub past : List Entry
+  pub answered : AreAnswered C (tells_replies what) calls told past
+  pub answer_is : answer ≡ Text 0 (told ++ (if tells_journal what then journal_text C tenants kinds past else []))
+
 -- the body of a script is calls that were answered so
 pub record IsBodyAnswered (C : Config) (said : Result (List Call) (ℕ × ScriptKind)) (tells : Bool) (text : List ℕ) (past : List Entry) : Type 0 where
   pub calls : List Call
   pub read : said ≡ Ok calls
   pub answered : AreAnswered C tells calls text past
 
--- what is written of a script with this configuration and with these tenants and kinds, whose body says this
-pub record IsBodyText (what : ScriptPrint) (C : Config) (tenants kinds : List (List ℕ)) (said : Result (List Call) (ℕ × ScriptKind)) (text : List ℕ) : Type 0 where
-  pub told : List ℕ
-  pub past : List Entry
-  pub answered : IsBodyAnswered C said (tells_replies what) told past
-  pub text_is : text ≡ told ++ (if tells_journal what then journal_text C tenants kinds past else [])
+-- the answer names this fault of a script
+abbrev pub IsFaultAnswer : ScriptFault → Answer → Type 0
+IsFaultAnswer (At line kind) answer = answer ≡ fault_answer line (script_fault_text kind)
+IsFaultAnswer NoMemory answer = ⊥
 
--- why nothing is written of a script whose body says this: its first fault, unless memory ran out
-pub record IsBodyStop (said : Result (List Call) (ℕ × ScriptKind)) (stop : Stop) : Type 0 where
-  pub fault : ScriptFault
-  pub first : IsFirstFault fault said
-  pub stops : IsFaultStop fault stop
+-- what is answered to a script with this configuration and with these tenants and kinds, by what its body says
+abbrev pub IsBodyAnswer : ScriptPrint → Config → (tenants kinds : List (List ℕ)) → Result (List Call) (ℕ × ScriptKind) → Answer → Type 0
+IsBodyAnswer what C tenants kinds (Ok calls) answer = IsCallsAnswer what C tenants kinds calls answer
+IsBodyAnswer what C tenants kinds (Err (line, fault)) answer = answer ≡ fault_answer line (script_fault_text fault)

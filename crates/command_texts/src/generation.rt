@@ -1,15 +1,14 @@
 //! `gen`: a generated trace, or the summary of its simulated history.
-ghost use Rattle.std.specs.Prelude.{◌≡◌, ◌≤◌, MatchResult};
+ghost use Rattle.std.specs.Prelude.{◌≤◌};
 ghost use Rattle.fq_model.specs.declared.limits.TheConstants.{MOST_TENANTS, MOST_ROWS};
-ghost use Rattle.program_model.specs.Generator.{generated_trace};
 ghost use Rattle.fq_model.specs.Limits.{IsWithin};
-ghost use Rattle.command_texts.specs.Commands.{IsGeneratedOutput};
-ghost use Rattle.command_texts.specs.declared.stop.Stop.TheVariants.{NoMemory};
+ghost use Rattle.program_model.specs.GenCommand.{IsGenAnswer};
+ghost use Rattle.command_texts.specs.Making.{Makes};
 
-use crate::simulation::simulated_text;
-use crate::stop::Stop;
+use crate::run::simulated;
 use fq_model::config::{Estimator, Policy};
 use program_model::command::{GenPrint, HistoryPrint};
+use program_model::ending::{Output, Stop};
 use program_model::trace::RunOptions;
 use std::alloc::Global;
 use trace_reader::generating::generate;
@@ -24,19 +23,18 @@ const DEFAULT_OPTIONS: RunOptions = RunOptions {
     refresh: 10000,
 };
 
-/// The trace of a seed as a text, or the summary of its simulated history under the default options and the automatic
-/// slot.
-pub fn generated_text(
+/// What `gen` answers: the trace of a seed as a text, or the summary of its simulated history under the default options
+/// and the automatic slot.
+pub fn answer(
     alloc: Global,
     seed: u64,
     tenants: u32,
     requests: u32,
     what: GenPrint,
-) -> Result<Vec<u8>, Stop>
+) -> Result<Output, Stop>
     requires tenants { IsWithin 1 MOST_TENANTS tenants }
     requires requests { requests ≤ MOST_ROWS }
-    ensures { MatchResult result (λ text. IsGeneratedOutput what (generated_trace seed tenants requests) text.items)
-        (λ stop. stop ≡ NoMemory) }
+    ensures { Makes (IsGenAnswer seed tenants requests what) result }
 {
     let Ok(trace) = generate(alloc, seed, tenants, requests) else {
         return Err(Stop::NoMemory);
@@ -45,12 +43,12 @@ pub fn generated_text(
         GenPrint::Trace => {
             let text = print(alloc, &trace);
             drop(trace);
-            Ok(text?)
+            Ok(Output::success(text?))
         }
         GenPrint::Summary => {
-            let text = simulated_text(alloc, &trace, DEFAULT_OPTIONS, 0, HistoryPrint::Summary);
+            let output = simulated(alloc, &trace, DEFAULT_OPTIONS, 0, HistoryPrint::Summary);
             drop(trace);
-            text
+            output
         }
     }
 }

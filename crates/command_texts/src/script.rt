@@ -1,18 +1,15 @@
 //! `script`: the calls of a script, and what is printed of them.
-ghost use Rattle.std.specs.Prelude.{ℕ, ◌≡◌, List, ◌++◌, [], if◌then◌else◌, string_bytes, MatchResult, IfOk, IfErr, OnOk};
-ghost use Rattle.program_model.specs.declared.command.Command.TheVariants.{Script};
-ghost use Rattle.program_model.specs.FaultTexts.{script_fault_text, placed_text};
+ghost use Rattle.std.specs.Prelude.{ℕ, ◌≡◌, List, ◌++◌, [], if◌then◌else◌, IfOk, OnOk};
 ghost use Rattle.program_model.specs.JournalText.{journal_text};
 ghost use Rattle.program_model.specs.Script.{call_of_words};
+ghost use Rattle.program_model.specs.ScriptCommand.{IsScriptAnswer};
 ghost use Rattle.journal_text.specs.Body.{said_below};
 ghost use Rattle.tenant_table.specs.Names.{names_of};
-ghost use Rattle.command_texts.specs.Commands.{IsServed, Untold};
-ghost use Rattle.command_texts.specs.Histories.{message_line};
-ghost use Rattle.command_texts.specs.Serving.{OpensAs, IsBodyText, IsBodyStop, tells_replies, tells_journal};
-ghost use Rattle.command_texts.specs.Stops.{IsFaultStop, IsOutputStop};
+ghost use Rattle.command_texts.specs.Making.{Makes, IsStop};
+ghost use Rattle.command_texts.specs.Serving.{OpensAs, IsBodyAnswer, IsFaultAnswer, tells_replies, tells_journal};
 
+use crate::messages::told;
 use crate::serve::{Served, serve};
-use crate::stop::Stop;
 use fq_model::config::Checked;
 use fq_model::event::Call;
 use journal_text::body::Body;
@@ -22,61 +19,59 @@ use journal_text::messages::placed_fault;
 use journal_text::printing::add_journal;
 use journal_text::reading::Opened;
 use program_model::command::ScriptPrint;
-use program_model::fault::ScriptKind;
+use program_model::ending::{Output, Stop};
 use sched_journal::History;
 use std::alloc::{AllocError, Global};
 use tag_rules::chooser::Chooser;
 use tenant_table::kinds::Kinds;
 use tenant_table::tenants::Tenants;
 
-/// What is asked for of a script: the replies to its calls, the journal that they leave, or both. The scheduler is over
-/// any chooser.
-pub fn served_text<X: Chooser + Drop>(
+/// What `script` answers to its input: the replies to its calls, the journal that they leave, or both. The scheduler is
+/// over any chooser.
+pub fn answer<X: Chooser + Drop>(
     alloc: Global,
     what: ScriptPrint,
     input: &[u8],
-) -> Result<Vec<u8>, Stop>
-    ensures { MatchResult result (λ text. IsServed what input.now text.items)
-        (IsOutputStop Untold (Script what) input.now) }
+) -> Result<Output, Stop>
+    ensures { Makes (IsScriptAnswer what input.now) result }
 {
     match open_script(alloc, input) {
-        Ok(script) => opened_text::<X>(alloc, what, script),
+        Ok(script) => opened::<X>(alloc, what, script),
         Err(fault) => Err(fault_stop(alloc, fault)),
     }
 }
 
 // The same of a script whose head is read, whatever the input was.
-fn opened_text<X: Chooser + Drop>(
+fn opened<X: Chooser + Drop>(
     alloc: Global,
     what: ScriptPrint,
     script: OpenScript,
-) -> Result<Vec<u8>, Stop>
-    ensures { (input : List ℕ) → OpensAs input script.entry.head script.entry.body → MatchResult result
-        (λ text. IsServed what input text.items) (IsOutputStop Untold (Script what) input) }
+) -> Result<Output, Stop>
+    ensures { (input : List ℕ) → OpensAs input script.entry.head script.entry.body
+        → Makes (IsScriptAnswer what input) result }
 {
     let Opened { head, body } = script;
     let (config, tenants, kinds, _) = head.into_parts();
-    let text = body_text::<X>(alloc, what, config, body, &tenants, &kinds);
+    let output = served::<X>(alloc, what, config, body, &tenants, &kinds);
     drop(tenants);
     drop(kinds);
-    text
+    output
 }
 
-// What is asked for of a script with this configuration, and with these tenants and kinds.
-fn body_text<'a, X: Chooser + Drop>(
+// The same of a script with this configuration, and with these tenants and kinds.
+fn served<'a, X: Chooser + Drop>(
     alloc: Global,
     what: ScriptPrint,
     config: Checked,
     body: Body<'a, Call>,
     tenants: &Tenants,
     kinds: &Kinds,
-) -> Result<Vec<u8>, Stop>
-    ensures text { IfOk result (λ text. IsBodyText what config (names_of tenants.now) kinds.now
-        (said_below call_of_words body.entry) text.items) }
-    ensures stop { IfErr result (IsBodyStop (said_below call_of_words body.entry)) }
+) -> Result<Output, Stop>
+    ensures { Makes (IsBodyAnswer what config (names_of tenants.now) kinds.now
+        (said_below call_of_words body.entry)) result }
 {
     match serve::<X>(alloc, config, body, tells_replies(what)) {
-        Ok(served) => Ok(told_text(alloc, what, served, tenants, kinds)?),
+        Ok(served) => Ok(Output::success(told_text(alloc, what, served, tenants, kinds)?)),
         Err(fault) => Err(fault_stop(alloc, fault)),
     }
 }
@@ -140,22 +135,12 @@ fn tells_journal(what: ScriptPrint) -> bool
 
 // Where an input is no script, a message that names its first fault.
 fn fault_stop(alloc: Global, fault: ScriptFault) -> Stop
-    ensures { IsFaultStop fault result }
+    ensures { IsStop (IsFaultAnswer fault) result }
 {
     match fault {
-        ScriptFault::At { line, kind } => match fault_message(alloc, line, kind) {
-            Ok(message) => Stop::Fault(message),
-            Err(AllocError) => Stop::NoMemory,
-        },
+        ScriptFault::At { line, kind } => {
+            told(alloc, 3, placed_fault(alloc, "script", line, kind))
+        }
         ScriptFault::NoMemory => Stop::NoMemory,
     }
-}
-
-fn fault_message(alloc: Global, line: u64, kind: ScriptKind) -> Result<String, AllocError>
-    ensures { IfOk result (λ message. string_bytes message
-        ≡ message_line (placed_text line (script_fault_text kind))) }
-{
-    let told = placed_fault(alloc, "script", line, kind)?;
-    let message = format!(in alloc; "twodfq: {told}\n")?;
-    Ok(message)
 }

@@ -1,7 +1,7 @@
 -- What a printed trace is read as, and how long the history of a generated one is.
 use Rattle.std.specs.Prelude.{ℕ, ◌≤◌, ◌≡◌, Ok}
 use Rattle.fq_model.specs.declared.limits.TheConstants.{MOST_TENANTS, MOST_ROWS, MOST_ENTRIES}
-use Rattle.program_model.specs.Command.{default_run_options}
+use Rattle.program_model.specs.GenCommand.{default_run_options}
 use Rattle.program_model.specs.Generator.{generated_trace}
 use Rattle.fq_model.specs.Limits.{IsWithin}
 use Rattle.program_model.specs.Simulated.{needed_entries}

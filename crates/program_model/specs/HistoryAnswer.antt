@@ -33,20 +33,22 @@ abbrev pub makes_report : HistoryPrint → Bool
 makes_report Journal = false
 makes_report _ = true
 
--- a report is made, by a slot that is asked for, and would have more cells than it may. (Slot 0 asks for the automatic
--- slot, whose cells are never too many.)
-abbrev pub has_many_cells : HistoryPrint → ℕ → Config → History → Bool
-has_many_cells print slot C H = makes_report print && (nat_le 1 slot && not (are_cells_few C H slot))
+-- a report by the slot that is asked for would have more cells than it may. (Slot 0 asks for the automatic slot, whose
+-- cells are never too many.)
+abbrev pub has_many_cells : ℕ → Config → History → Bool
+has_many_cells slot C H = nat_le 1 slot && not (are_cells_few C H slot)
 
 -- what is said of a report that would have so many cells, and may not
+abbrev pub cells_text : ℕ → List ℕ
+cells_text cells = codes "the report would have " ++ decimal cells ++ codes " cells, more than 4000000"
+
 abbrev pub cells_answer : ℕ → Answer
-cells_answer cells =
-    Message 7 (message_line (codes "the report would have " ++ decimal cells ++ codes " cells, more than 4000000"))
+cells_answer cells = Message 7 (message_line (cells_text cells))
 
 -- what is answered of a history, given in order of time
 abbrev pub history_answer : HistoryPrint → ℕ → Config → (tenants kinds : List (List ℕ)) → List Entry → Answer
 history_answer print slot C tenants kinds past =
-    if has_many_cells print slot C (history_of past) then cells_answer (cells_of C (history_of past) slot)
+    if makes_report print && has_many_cells slot C (history_of past) then cells_answer (cells_of C (history_of past) slot)
     else Text 0 (history_output print C tenants kinds past slot)
 
 -- the answer is that of one of these histories; its entries in order of time
@@ -61,6 +63,8 @@ abbrev pub has_many_entries : ℕ → Bool
 has_many_entries needed = nat_lt MOST_ENTRIES needed
 
 -- what is said of a history that would have so many entries, and may not
+abbrev pub entries_text : ℕ → List ℕ
+entries_text needed = codes "the history would have " ++ decimal needed ++ codes " entries, more than 4194304"
+
 abbrev pub entries_answer : ℕ → Answer
-entries_answer needed =
-    Message 7 (message_line (codes "the history would have " ++ decimal needed ++ codes " entries, more than 4194304"))
+entries_answer needed = Message 7 (message_line (entries_text needed))

@@ -14,6 +14,16 @@ pub struct Output {
     pub text: Vec<u8>,
 }
 
+impl Output {
+    /// A text at status 0.
+    pub fn success(text: Vec<u8>) -> Output
+        ensures status { result.status ≡ 0 }
+        ensures text { result.text ≡ text }
+    {
+        Output { status: 0, text }
+    }
+}
+
 /// Why a command has no text for its input.
 #[derive(Debug, Drop)]
 pub enum Stop {

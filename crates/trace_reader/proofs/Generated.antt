@@ -17,7 +17,7 @@ use Rattle.rand_pcg.specs.Pcg.{pcg32}
 use Rattle.vt_fixed.specs.declared.limits.TheConstants.{GREATEST_COST}
 use Rattle.fq_model.specs.declared.limits.TheConstants.{MOST_TENANTS, MOST_KINDS, MOST_ROWS, MOST_ENTRIES}
 use Rattle.program_model.specs.declared.trace.TraceRow.{TraceRow}
-use Rattle.program_model.specs.Command.{default_run_options}
+use Rattle.program_model.specs.GenCommand.{default_run_options}
 use Rattle.program_model.specs.Courses.{sum_over, reports_below}
 use Rattle.program_model.specs.Generator.{after_draws, draw, generated_tenants, generated_kind, generated_declared, mixed_cost, generated_cost, with_generated, generated_requests, generated_trace}
 use Rattle.fq_model.specs.Limits.{IsWithin}

@@ -1,2 +1,3 @@
 pub mod Pools
+pub mod Written
 pub mod Asked

@@ -1,5 +1,6 @@
-//! The program over any source and sinks.
+//! The program over any source, sinks and clock.
 #![tactic(auto)]
 
-mod pooling;
+pub mod ending;
+mod live;
 pub mod program;

@@ -1,25 +1,25 @@
-//! The program, over any source, sinks and clock.
-ghost use Rattle.std.specs.Prelude.{ℕ, ◌≡◌, ◌≤◌, map, is_some, IfSome};
+//! The program, over any source, sinks and clock: it reads what a command reads, has it answered, and writes the answer.
+ghost use Rattle.std.specs.Prelude.{◌≡◌, ◌≤◌, map, is_some, IfSome};
 ghost use Rattle.std.specs.String.{string_bytes};
 ghost use Rattle.command_line.specs.Commands.{IsInRange};
-ghost use Rattle.program_model.specs.declared.command.Command.TheVariants.{Live};
-ghost use Rattle.fq_model.specs.declared.limits.TheConstants.{GREATEST_SLOT};
-ghost use Rattle.program_model.specs.RunLimits.{AreInRange};
-ghost use Rattle.plain_commands.specs.Asked.{asked, if_one_of, is_live, is_served};
-ghost use Rattle.plain_commands.specs.Program.{Ends, EndsCommand, IsRun, moved};
-ghost use Rattle.plain_commands.specs.Causes.{StatusMeans};
+ghost use Rattle.program_model.specs.Commands.{Untold, waits};
+ghost use Rattle.program_model.specs.Program.{asked, if_served, is_plain, is_any, Ends, IsRun, moved};
+ghost use Rattle.program_model.specs.Statuses.{StatusMeans};
 
-use crate::pooling::live_text;
+use crate::ending::{told, written};
+use crate::live;
 use command_line::command::command;
-use command_texts::stop::Stop;
+use command_texts::{generation, run, script};
+use eligible_index::index::IndexChooser;
 use fq_io::{Clock, Sink, Source, read_all};
-use plain_commands::ending::{told, written};
-use plain_commands::plain::{GREATEST_INPUT, plain_end};
-use program_model::command::{Command, HistoryPrint};
-use program_model::trace::RunOptions;
+use program_model::command::Command;
+use program_model::ending::Failure;
 use std::alloc::Global;
 use std::sync::Wait;
 use std::thread::Threads;
+
+/// The greatest length of an input, in bytes.
+pub const GREATEST_INPUT: u64 = 67108864;
 
 /// The program: does what the words say, without the program's name before them, as `live` or `plain` would.
 /// The answer is the exit status: 0, or 2 to 7.
@@ -32,15 +32,15 @@ pub fn twodfq<T: Wait + Threads + Sync, R: Source, W: Sink, E: Sink, K: Clock + 
     errs: &mut E,
     clock: &K,
 ) -> u8
-    ensures run { IsRun (K.tells clock.now) (asked is_served (map string_bytes words.now))
+    ensures run { IsRun (K.tells clock.now) (asked is_any (map string_bytes words.now))
         (moved R.left R.faults source.old source.new) (moved W.written W.faults sink.old sink.new)
         (moved E.written E.faults errs.old errs.new) result }
-    ensures status { StatusMeans (K.tells clock.now) (asked is_served (map string_bytes words.now))
+    ensures status { StatusMeans (K.tells clock.now) (asked is_any (map string_bytes words.now))
         (moved R.left R.faults source.old source.new) (moved W.written W.faults sink.old sink.new) result }
     ensures sink_room { W.room sink.new ≡ W.room sink.old }
 {
     let ask = command(words);
-    if waits(ask) {
+    if is_to_wait(ask) {
         let end = live_end(rt, alloc, ask, source, sink, clock);
         return told(errs, end);
     }
@@ -49,8 +49,8 @@ pub fn twodfq<T: Wait + Threads + Sync, R: Source, W: Sink, E: Sink, K: Clock + 
 }
 
 // Whether a command is asked for that waits for threads.
-fn waits(ask: Option<Command>) -> bool
-    ensures { result ≡ is_some (if_one_of is_live ask) }
+fn is_to_wait(ask: Option<Command>) -> bool
+    ensures { result ≡ is_some (if_served waits ask) }
 {
     matches!(ask, Some(Command::Live { .. }))
 }
@@ -71,14 +71,34 @@ pub fn live<T: Wait + Threads + Sync, R: Source, W: Sink, E: Sink, K: Clock + Sy
     errs: &mut E,
     clock: &K,
 ) -> u8
-    ensures run { IsRun (K.tells clock.now) (asked is_live (map string_bytes words.now))
+    ensures run { IsRun (K.tells clock.now) (asked waits (map string_bytes words.now))
         (moved R.left R.faults source.old source.new) (moved W.written W.faults sink.old sink.new)
         (moved E.written E.faults errs.old errs.new) result }
-    ensures status { StatusMeans (K.tells clock.now) (asked is_live (map string_bytes words.now))
+    ensures status { StatusMeans (K.tells clock.now) (asked waits (map string_bytes words.now))
         (moved R.left R.faults source.old source.new) (moved W.written W.faults sink.old sink.new) result }
     ensures sink_room { W.room sink.new ≡ W.room sink.old }
 {
     let end = live_end(rt, alloc, command(words), source, sink, clock);
+    told(errs, end)
+}
+
+/// The commands that wait for nobody; words for another are no command line here. It always returns; the answer is the
+/// exit status.
+pub fn plain<R: Source, W: Sink, E: Sink>(
+    alloc: Global,
+    words: &[String],
+    source: &mut R,
+    sink: &mut W,
+    errs: &mut E,
+) -> u8
+    ensures run { IsRun Untold (asked is_plain (map string_bytes words.now))
+        (moved R.left R.faults source.old source.new) (moved W.written W.faults sink.old sink.new)
+        (moved E.written E.faults errs.old errs.new) result }
+    ensures status { StatusMeans Untold (asked is_plain (map string_bytes words.now))
+        (moved R.left R.faults source.old source.new) (moved W.written W.faults sink.old sink.new) result }
+    ensures sink_room { W.room sink.new ≡ W.room sink.old }
+{
+    let end = plain_end(alloc, command(words), source, sink);
     told(errs, end)
 }
 
@@ -90,9 +110,9 @@ fn live_end<T: Wait + Threads + Sync, R: Source, W: Sink, K: Clock + Sync>(
     source: &mut R,
     sink: &mut W,
     clock: &K,
-) -> Result<(), Stop>
+) -> Result<u8, Failure>
     requires range { IfSome ask IsInRange }
-    ensures ends { Ends (K.tells clock.now) (if_one_of is_live ask) (moved R.left R.faults source.old source.new)
+    ensures ends { Ends (K.tells clock.now) (if_served waits ask) (moved R.left R.faults source.old source.new)
         (moved W.written W.faults sink.old sink.new) result }
     ensures source_later { R.faults source.old ≤ R.faults source.new }
     ensures sink_later { W.faults sink.old ≤ W.faults sink.new }
@@ -104,33 +124,59 @@ fn live_end<T: Wait + Threads + Sync, R: Source, W: Sink, K: Clock + Sync>(
                 options,
                 slot,
                 print,
-                ..
             },
-        ) => run_live(rt, alloc, options, slot, print, source, sink, clock),
-        _ => Err(Stop::Words),
+        ) => {
+            let input = read_all(alloc, source, GREATEST_INPUT)?;
+            let output = live::answer(rt, alloc, options, slot, print, input, clock);
+            written(sink, output)
+        }
+        _ => Err(Failure::Words),
     }
 }
 
-// Reads a trace, serves it by a pool of threads and writes what is asked for of the pool's history, or says why not.
-fn run_live<T: Wait + Threads + Sync, R: Source, W: Sink, K: Clock + Sync>(
-    rt: &T,
+// Does what is asked, if it waits for nobody, or says why not.
+fn plain_end<R: Source, W: Sink>(
     alloc: Global,
-    options: RunOptions,
-    slot: u64,
-    print: HistoryPrint,
+    ask: Option<Command>,
     source: &mut R,
     sink: &mut W,
-    clock: &K,
-) -> Result<(), Stop>
-    requires options { AreInRange options }
-    requires slot { slot ≤ GREATEST_SLOT }
-    ensures ends { (watch : ℕ) → EndsCommand (K.tells clock.now) (Live options slot print watch)
-        (moved R.left R.faults source.old source.new) (moved W.written W.faults sink.old sink.new) result }
+) -> Result<u8, Failure>
+    requires range { IfSome ask IsInRange }
+    ensures ends { Ends Untold (if_served is_plain ask) (moved R.left R.faults source.old source.new)
+        (moved W.written W.faults sink.old sink.new) result }
     ensures source_later { R.faults source.old ≤ R.faults source.new }
     ensures sink_later { W.faults sink.old ≤ W.faults sink.new }
     ensures sink_room { W.room sink.new ≡ W.room sink.old }
 {
-    let input = read_all(alloc, source, GREATEST_INPUT)?;
-    let text = live_text(rt, alloc, options, slot, print, input, clock);
-    written(sink, text)
+    match ask {
+        Some(Command::Script { print }) => {
+            let input = read_all(alloc, source, GREATEST_INPUT)?;
+            let output = script::answer::<IndexChooser>(alloc, print, input.as_slice());
+            drop(input);
+            written(sink, output)
+        }
+        Some(
+            Command::Run {
+                options,
+                slot,
+                print,
+            },
+        ) => {
+            let input = read_all(alloc, source, GREATEST_INPUT)?;
+            let output = run::answer(alloc, options, slot, print, input);
+            written(sink, output)
+        }
+        Some(
+            Command::Gen {
+                seed,
+                tenants,
+                requests,
+                print,
+            },
+        ) => {
+            let output = generation::answer(alloc, seed, tenants, requests, print);
+            written(sink, output)
+        }
+        Some(Command::Live { .. }) | None => Err(Failure::Words),
+    }
 }

@@ -1,5 +1,17 @@
 use Rattle.std.proofs.Common.{rules}
+use Rattle.program_model.specs.declared.command.Command.TheVariants.{Live}
+use Rattle.program_model.specs.Program.{moved, EndsCommand}
+use Rattle.twodfq_main.proofs.Written.{output_ends}
 use Rattle.twodfq_main.proofs.program.live_end.Goals as goal
 
-pub returns-in-Some-Live-clause-ends : goal.returns-in-Some-Live-clause-ends
-returns-in-Some-Live-clause-ends g c = let end = c.run_live.ensures.ends c.in-Some-Live.field-0-3 in search rules
+pub returns-in_ok-input-in-Some-Live-clause-ends : goal.returns-in_ok-input-in-Some-Live-clause-ends
+returns-in_ok-input-in-Some-Live-clause-ends g c =
+    let told = g.K.Clock.tells c.args.clock.now in
+    let command = Live c.in-Some-Live.options c.in-Some-Live.slot c.in-Some-Live.print in
+    let source = moved g.R.Source.left g.R.Source.faults c.args.source.now c.read_all.new.source in
+    let sink = moved g.W.Sink.written g.W.Sink.faults c.args.sink.now c.written.new.sink in
+    let read = c.in_ok-input-in-Some-Live in
+    let end : EndsCommand told command source sink c.written.result =
+    output_ends told command source sink read.input.items read.ensures.ok read.ensures.limit c.read_all.ensures.taken
+    c.answer-output.result c.written.result c.answer-output.ensures c.written.ensures.ends in
+    search rules

@@ -1,0 +1,142 @@
+//! What is asked for of a history whose requests are all done: its journal, its lag report, both, or its summary.
+ghost use Rattle.std.specs.Prelude.{◌≡◌, ◌≤◌, ◌*◌, None, length, string_bytes, MatchResult, IfOk};
+ghost use Rattle.fq_model.specs.declared.limits.TheConstants.{GREATEST_SLOT};
+ghost use Rattle.fq_model.specs.History.{history_of};
+ghost use Rattle.fq_model.specs.Report.{unfinished};
+ghost use Rattle.fq_model.specs.Rules.{IsLegal};
+ghost use Rattle.program_model.specs.HistoryAnswer.{history_answer, cells_answer, cells_text};
+ghost use Rattle.program_model.specs.JournalText.{journal_text};
+ghost use Rattle.tenant_table.specs.Names.{names_of};
+ghost use Rattle.command_texts.specs.Histories.{IsReportBy, IsReportText, IsManyCells};
+ghost use Rattle.command_texts.specs.Making.{Makes, IsStop};
+
+use crate::messages::told;
+use journal_text::printing::print as print_journal;
+use lag_report::automatic::auto_slot;
+use lag_report::fault::ReportFault;
+use lag_report::parts::Report;
+use lag_report::printing::{print as print_report, summary};
+use lag_report::reporting::report;
+use program_model::command::HistoryPrint;
+use program_model::ending::{Output, Stop};
+use sched_journal::History;
+use std::alloc::{AllocError, Global};
+use tenant_table::kinds::Kinds;
+use tenant_table::tenants::Tenants;
+
+/// What is answered of a history that nobody needs afterwards. Slot 0 asks for the automatic slot.
+pub fn last_history(
+    alloc: Global,
+    what: HistoryPrint,
+    slot: u64,
+    history: History,
+    tenants: &Tenants,
+    kinds: &Kinds,
+) -> Result<Output, Stop>
+    requires slot { slot ≤ GREATEST_SLOT }
+    requires names { length tenants.now ≡ length history.config.weights }
+    requires done { unfinished (history_of history.past) ≡ None }
+    ensures { Makes (λ answer. answer ≡ history_answer what slot history.config
+        (names_of tenants.now) kinds.now history.past) result }
+{
+    let output = answered(alloc, what, slot, &history, tenants, kinds);
+    drop(history);
+    output
+}
+
+// What is answered of a history.
+fn answered(
+    alloc: Global,
+    what: HistoryPrint,
+    slot: u64,
+    history: &History,
+    tenants: &Tenants,
+    kinds: &Kinds,
+) -> Result<Output, Stop>
+    requires slot { slot ≤ GREATEST_SLOT }
+    requires names { length tenants.now ≡ length history.now.config.weights }
+    requires done { unfinished (history_of history.now.past) ≡ None }
+    ensures { Makes (λ answer. answer ≡ history_answer what slot history.now.config
+        (names_of tenants.now) kinds.now history.now.past) result }
+{
+    match what {
+        HistoryPrint::Journal => Ok(Output::success(journal(alloc, history, tenants, kinds)?)),
+        HistoryPrint::Report => Ok(Output::success(reported(alloc, slot, history, tenants)?)),
+        HistoryPrint::Both => {
+            let report = reported(alloc, slot, history, tenants)?;
+            let mut text = journal(alloc, history, tenants, kinds)?;
+            text.extend_from_slice(report.as_slice())?;
+            Ok(Output::success(text))
+        }
+        HistoryPrint::Summary => {
+            let report = made_report(alloc, slot, history)?;
+            let text = summary(alloc, &report);
+            drop(report);
+            Ok(Output::success(text?))
+        }
+    }
+}
+
+fn journal(
+    alloc: Global,
+    history: &History,
+    tenants: &Tenants,
+    kinds: &Kinds,
+) -> Result<Vec<u8>, AllocError>
+    ensures { IfOk result (λ text. text.items
+        ≡ journal_text history.now.config (names_of tenants.now) kinds.now history.now.past) }
+{
+    print_journal(alloc, history.past(), history.config(), tenants, kinds)
+}
+
+fn reported(alloc: Global, slot: u64, history: &History, tenants: &Tenants) -> Result<Vec<u8>, Stop>
+    requires slot { slot ≤ GREATEST_SLOT }
+    requires names { length tenants.now ≡ length history.now.config.weights }
+    requires done { unfinished (history_of history.now.past) ≡ None }
+    ensures { MatchResult result
+        (λ text. IsReportText slot history.now.config (history_of history.now.past) (names_of tenants.now) text.items)
+        (IsStop (IsManyCells slot history.now.config (history_of history.now.past))) }
+{
+    let report = made_report(alloc, slot, history)?;
+    let text = print_report(alloc, &report, tenants);
+    drop(report);
+    Ok(text?)
+}
+
+// The report by the slot that is asked for, or by the automatic one.
+fn made_report(alloc: Global, slot: u64, history: &History) -> Result<Report, Stop>
+    requires slot { slot ≤ GREATEST_SLOT }
+    requires done { unfinished (history_of history.now.past) ≡ None }
+    ensures legal { IsLegal history.now.config (history_of history.now.past) }
+    ensures report { MatchResult result
+        (IsReportBy slot history.now.config (history_of history.now.past))
+        (IsStop (IsManyCells slot history.now.config (history_of history.now.past))) }
+{
+    let past = history.past();
+    let config = history.config();
+    let chosen = if slot == 0 {
+        auto_slot(past, config)
+    } else {
+        slot
+    };
+    match report(alloc, past, config, chosen) {
+        Ok(report) => Ok(report),
+        Err(ReportFault::TooLong { slots, tenants }) => Err(too_many_cells(alloc, slots, tenants)),
+        Err(ReportFault::Unfinished(_)) => unreachable!(),
+        Err(ReportFault::NoMemory) => Err(Stop::NoMemory),
+    }
+}
+
+// Where a report would have more cells than it may, a message that tells how many.
+fn too_many_cells(alloc: Global, slots: u64, tenants: u32) -> Stop
+    ensures { IsStop (λ answer. answer ≡ cells_answer (slots * tenants)) result }
+{
+    told(alloc, 7, cells_text(alloc, slots as u128 * tenants as u128))
+}
+
+fn cells_text(alloc: Global, cells: u128) -> Result<String, AllocError>
+    ensures { IfOk result (λ text. string_bytes text ≡ cells_text cells) }
+{
+    let text = format!(in alloc; "the report would have {cells} cells, more than 4000000")?;
+    Ok(text)
+}

@@ -1,4 +1,0 @@
-pub mod Asked
-pub mod Pools
-pub mod Program
-pub mod Causes
