@@ -1,6 +1,6 @@
 use Rattle.std.proofs.Common.{arith, add-one}
-use Rattle.trace_runner.proofs.Sums.{submitters_take}
-use Rattle.trace_runner.proofs.opening.submitters.Goals as goal
+use Rattle.trace_reader.proofs.Sums.{submitters_take}
+use Rattle.trace_reader.proofs.opening.submitters.Goals as goal
 
 pub loop-row-preserved : goal.loop-row-preserved
 loop-row-preserved c = record {

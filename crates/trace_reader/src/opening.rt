@@ -5,13 +5,13 @@ ghost use Rattle.program_model.specs.Courses.{submitters, trace_config};
 ghost use Rattle.program_model.specs.TraceText.{IsLawfulTrace};
 ghost use Rattle.fq_model.specs.Limits.{IsWithin};
 ghost use Rattle.program_model.specs.RunLimits.{AreInRange};
-ghost use Rattle.trace_runner.specs.Plan.{row_at};
+ghost use Rattle.trace_reader.specs.Rows.{row_at};
 
+use crate::trace::Trace;
 use fq_model::config::{Checked, Config, Weights};
 use fq_model::limits::GREATEST_SUBMITTER;
 use program_model::trace::{RunOptions, TraceRow};
 use std::alloc::{AllocError, Global};
-use trace_reader::trace::Trace;
 
 /// The configuration of a trace whose history may have so many entries: all requests may wait at once.
 pub fn config_of(

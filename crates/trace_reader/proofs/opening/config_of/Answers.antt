@@ -1,6 +1,6 @@
 use Rattle.std.proofs.Common.{◌≡◌, ◌∙◌, ap, max, length, arith}
-use Rattle.trace_runner.proofs.InLimits.{trace_limits, no_fault_here}
-use Rattle.trace_runner.proofs.opening.config_of.Goals as goal
+use Rattle.trace_reader.proofs.InLimits.{trace_limits, no_fault_here}
+use Rattle.trace_reader.proofs.opening.config_of.Goals as goal
 
 pub unreachable-requires : goal.unreachable-requires
 unreachable-requires c =
