@@ -3,6 +3,7 @@
 
 mod bell;
 mod calls;
+pub mod crossing;
 mod desk;
 mod ending;
 mod floor;

@@ -4,3 +4,5 @@ pub mod Rule
 pub mod Plays
 pub mod Passes
 pub mod Last
+pub mod Laws
+pub mod Echoes

@@ -6,6 +6,9 @@
 //! or has been overtaken often enough.
 #![tactic(auto)]
 
+pub mod crossing;
+mod echo;
+pub mod laws;
 pub mod lock;
 pub mod machine;
 pub mod pass;

@@ -1,5 +1,5 @@
 -- Below a head with kinds, the lines of a text are the lines of its body.
-use Rattle.std.proofs.Common.{ℕ, ◌+◌, ◌<◌, ◌≡◌, ◌==◌, Bool, true, false, not, ◌&&◌, if◌then◌else◌, List, [], ◌∷◌, ◌++◌, length, Result, Ok, Err, refl, sym, ap, ◌∙◌, append_assoc, arith, length-append}
+use Rattle.std.proofs.Common.{ℕ, ◌+◌, ◌<◌, ◌≡◌, ◌==◌, Bool, true, false, not, ◌&&◌, if◌then◌else◌, List, [], ◌∷◌, ◌++◌, length, Some, Result, Ok, Err, IfOk, refl, sym, ap, ◌∙◌, append_assoc, arith, length-append}
 use Rattle.std.proofs.lemmas.List.{append-nil}
 use Rattle.std.proofs.lemmas.Bool.{eqb-true}
 use Rattle.std.specs.Prelude.{codes}
@@ -7,10 +7,10 @@ use Rattle.fq_laws.proofs.Faults.{no_fault}
 use Rattle.program_model.specs.declared.fault.ScriptKind.{ScriptKind}
 use Rattle.program_model.specs.declared.fault.ScriptKind.TheVariants.{Missing}
 use Rattle.program_model.specs.declared.version.Version.{Version}
-use Rattle.program_model.specs.Document.{Document, LineReader, config_of, with_body, with_line, with_lines}
+use Rattle.program_model.specs.Document.{Document, LineReader, config_of, config_line, with_body, with_line, with_lines, below_header, version_of, below_version}
 use Rattle.program_model.specs.Lines.{Words, words_of, lines_of}
 use Rattle.program_model.specs.Reading.{◌>>=◌, at_line, begins_with, is_empty}
-use Rattle.journal_text.specs.Body.{Below, below_at, with_first, body_of, said_below, with_body_lines, Reads, IsOpened, IsHeadFault, SaysFirst, IsStuck}
+use Rattle.journal_text.specs.Body.{Below, below_at, with_first, body_of, said_below, with_body_lines, Reads, IsOpened, IsHeadFault, Divides, DividesText, SaysFirst, IsStuck}
 use Rattle.journal_text.specs.Reading.{ends_before, with_head_line, Fails, IsFirstFault, fault_at}
 use Rattle.journal_text.specs.declared.fault.LineError.{LineError}
 use Rattle.journal_text.specs.declared.fault.LineError.TheVariants as errors
@@ -122,7 +122,7 @@ opened_at text version place d rest same kept some starts = record {
   fits = no_fault (config_of d) (config_of-in_limits d kept (some_if (length d.kinds) some));
 }
 
-some_kinds : (none kind : Bool) → (not none && not kind) ≡ true → none ≡ false
+pub some_kinds : (none kind : Bool) → (not none && not kind) ≡ true → none ≡ false
 some_kinds true kind ends = absurd (cc)
 some_kinds false kind ends = refl
 
@@ -172,13 +172,6 @@ next_in_head : {A : Type 0} (reader : LineReader A) (place : ℕ) (d : Document 
 next_in_head reader place d line rest below kept first goes_on =
     rw first (ap (λ read. at_line place read >>= λ more. with_lines reader (place + 1) more (lines_of below)) (in_head reader d (words_of line) kept goes_on))
 
--- where a line of the head is added, the lines below it say the rest
-pub added_to_head : {A : Type 0} (text : Reads A) (version : Version) (place : ℕ) (d u : Document A) (line rest below : List ℕ)
-    → IsReadAt text version place d rest → IsKept d → lines_of rest ≡ line ∷ lines_of below → ends_before d (words_of line) ≡ false
-    → with_head_line d (words_of line) ≡ Ok u → IsReadAt text version (place + 1) u below
-added_to_head text version place d u line rest below same kept first goes_on read reader =
-    sym (next_in_head (reader version) place d line rest below kept first goes_on ∙ ap (λ r. at_line place r >>= λ more. with_lines (reader version) (place + 1) more (lines_of below)) read) ∙ same reader
-
 -- the fault of a line of the head is the first of the text
 pub fault_in_head : {A : Type 0} (text : Reads A) (version : Version) (place : ℕ) (d : Document A) (line rest below : List ℕ) (e : LineError)
     → IsReadAt text version place d rest → IsKept d → lines_of rest ≡ line ∷ lines_of below → ends_before d (words_of line) ≡ false
@@ -186,6 +179,76 @@ pub fault_in_head : {A : Type 0} (text : Reads A) (version : Version) (place : �
 fault_in_head text version place d line rest below (errors.Fault kind) same kept first goes_on fails reader =
     sym (same reader) ∙ (next_in_head (reader version) place d line rest below kept first goes_on ∙ ap (λ r. at_line place r >>= λ more. with_lines (reader version) (place + 1) more (lines_of below)) fails)
 fault_in_head text version place d line rest below errors.NoMemory same kept first goes_on fails reader = tt
+
+-- The lines that are passed, and those of the rest, are the lines below the config line; and whatever stands below the
+-- lines that are passed, the head so far says what they say.
+pub record IsPast {A : Type 0} (config d : Document A) (text : List ℕ) (place : ℕ) (rest : List ℕ) : Type 0 where
+  pub above : List (List ℕ)
+  pub split : lines_of text ≡ above ++ lines_of rest
+  pub counted : place ≡ 3 + length above
+  pub says : (reader : LineReader A) (more : List (List ℕ)) → with_lines reader place d more ≡ with_lines reader 3 config (above ++ more)
+
+pub nothing_past : {A : Type 0} (config : Document A) (text : List ℕ) → IsPast config config text 3 text
+nothing_past config text = record { above = []; split = refl; counted = refl; says = λ reader more. refl }
+
+-- what is left says what the whole says
+pub left_says : {A : Type 0} (config d : Document A) (text : List ℕ) (place : ℕ) (rest : List ℕ) (version : Version) → IsPast config d text place rest
+    → IsReadAt (λ reader. with_lines (reader version) 3 config (lines_of text)) version place d rest
+left_says config d text place rest version past reader = past.says (reader version) (lines_of rest) ∙ ap (with_lines (reader version) 3 config) (sym past.split)
+
+-- a line of the head more is passed
+pub one_past : {A : Type 0} (config d u : Document A) (text : List ℕ) (place : ℕ) (line rest below : List ℕ) → IsPast config d text place rest → IsKept d
+    → lines_of rest ≡ line ∷ lines_of below → ends_before d (words_of line) ≡ false → with_head_line d (words_of line) ≡ Ok u
+    → IsPast config u text (place + 1) below
+one_past config d u text place line rest below past kept first goes_on read = record {
+  above = past.above ++ line ∷ [];
+  split = past.split ∙ ap (λ l. past.above ++ l) first ∙ sym (append_assoc past.above (line ∷ []) (lines_of below));
+  counted = omega (arith, past.counted, length-append past.above (line ∷ []));
+  says = λ reader more.
+      sym (ap (λ r. at_line place r >>= λ next. with_lines reader (place + 1) next more) (in_head reader d (words_of line) kept goes_on ∙ read))
+      ∙ (past.says reader (line ∷ more) ∙ ap (with_lines reader 3 config) (sym (append_assoc past.above (line ∷ []) more)));
+}
+
+-- the lines that are passed are those of the head, where it has kinds
+pub divided_at : {A : Type 0} (config d : Document A) (text : List ℕ) (place : ℕ) (rest : List ℕ) (version : Version) → IsPast config d text place rest
+    → is_empty d.kinds ≡ false → Divides (λ lines reader. with_lines (reader version) 3 config lines) 3 (lines_of text) d (below_at version place rest)
+divided_at config d text place rest version past some = record {
+  above = past.above;
+  split = past.split;
+  spells = λ reader. ap (with_lines (reader version) 3 config) (sym (append-nil past.above)) ∙ sym (past.says (reader version) []) ∙ rw some refl;
+  counted = past.counted;
+}
+
+-- two facts of what was read
+pub IfOk-both : {T E : Type 0} (r : Result T E) (P Q : T → Type 0) → IfOk r P → IfOk r Q → IfOk r (λ x. P x × Q x)
+IfOk-both (Ok x) P Q p q = (p, q)
+IfOk-both (Err e) P Q p q = tt
+
+-- the lines of the head below the first line of a text are the config line, and those below that
+pub under_config : {A : Type 0} (version : Version) (config head : Document A) (text line below : List ℕ) (body : Below)
+    → lines_of text ≡ line ∷ lines_of below → config_line (words_of line) ≡ Ok config
+    → Divides (λ lines reader. with_lines (reader version) 3 config lines) 3 (lines_of below) head body
+    → Divides (λ lines reader. below_header (reader version) lines) 2 (lines_of text) head body
+under_config version config head text line below body first read divided = record {
+  above = line ∷ divided.above;
+  split = first ∙ ap (λ l. line ∷ l) divided.split;
+  spells = λ reader. ap (λ r. at_line 2 r >>= λ d. with_lines (reader version) 3 d divided.above) read ∙ divided.spells reader;
+  counted = omega (arith, divided.counted);
+}
+
+-- the lines of the head of a text are the first line, which names the version, and those below it
+pub under_header : {A : Type 0} (title : List ℕ) (version : Version) (head : Document A) (text line below : List ℕ) (body : Below)
+    → lines_of text ≡ line ∷ lines_of below → version_of title line ≡ Some version → body.version ≡ version
+    → Divides (λ lines reader. below_header (reader version) lines) 2 (lines_of below) head body → DividesText title text head body
+under_header title version head text line below body first names is divided = record {
+  divided = record {
+    above = line ∷ divided.above;
+    split = first ∙ ap (λ l. line ∷ l) divided.split;
+    spells = λ reader. ap (λ v. below_version reader v divided.above) names ∙ divided.spells reader;
+    counted = omega (arith, divided.counted);
+  };
+  version = names ∙ ap (λ v. Some v) (sym is);
+}
 
 -- what a first line says is said before what the others say
 pub said_first : {A : Type 0} (reader : Version → LineReader A) (old : Below) (said : A) (new : Below) → SaysFirst reader old said new

@@ -1,9 +1,9 @@
 -- The body of a document, which is read one line at a time below its head.
-use Rattle.std.specs.Prelude.{ℕ, ◌+◌, ◌≡◌, List, [], ◌∷◌, Option, Some, None, Result, Ok, Err}
+use Rattle.std.specs.Prelude.{ℕ, ◌+◌, ◌≡◌, List, [], ◌∷◌, ◌++◌, length, Option, Some, None, Result, Ok, Err}
 use Rattle.std.specs.Borrow.{Bor}
 use Rattle.program_model.specs.declared.fault.ScriptKind.{ScriptKind}
 use Rattle.program_model.specs.declared.version.Version.{Version}
-use Rattle.program_model.specs.Document.{Document, LineReader, config_of}
+use Rattle.program_model.specs.Document.{Document, LineReader, config_of, version_of, document_of_lines}
 use Rattle.fq_model.specs.Limits.{config_fault}
 use Rattle.program_model.specs.Lines.{lines_of, words_of}
 use Rattle.program_model.specs.Reading.{◌>>=◌, at_line}
@@ -44,14 +44,30 @@ abbrev pub Reads : Type 0 → Type 0
 Reads A = (Version → LineReader A) → Result (Document A) (ℕ × ScriptKind)
 
 -- What is read is this head with what stands below it, however the lines of the body are read: so the head has no
--- fault, and each
--- line of the body is there, as far as a way to read lines can tell. The head by itself is a document that a scheduler
--- can be opened
--- with.
+-- fault. The head by itself is a document that a scheduler can be opened with.
 pub record IsOpened {A : Type 0} (read : Reads A) (head : Document A) (below : Below) : Type 0 where
   pub means : (reader : Version → LineReader A) → read reader ≡ with_body_lines head (said_below reader below)
   pub bodyless : head.body ≡ []
   pub fits : config_fault (config_of head) ≡ None
+
+-- Some lines, of which the first is line `place` of a text, are those of this head and below them those of this body. The
+-- lines of the head alone spell it, however a body would be read.
+pub record Divides {A : Type 0} (spelled : List (List ℕ) → Reads A) (place : ℕ) (lines : List (List ℕ)) (head : Document A) (below : Below) : Type 0 where
+  pub above : List (List ℕ)
+  pub split : lines ≡ above ++ below.lines
+  pub spells : (reader : Version → LineReader A) → spelled above reader ≡ Ok head
+  pub counted : below.place ≡ place + length above
+
+-- the version that the first of these lines names
+abbrev pub version_in : List ℕ → List (List ℕ) → Option Version
+version_in title [] = None
+version_in title (line ∷ lines) = version_of title line
+
+-- the lines of a text with this title are those of this head and those of this body, which is of the version that the
+-- first line names
+pub record DividesText {A : Type 0} (title text : List ℕ) (head : Document A) (below : Below) : Type 0 where
+  pub divided : Divides (λ lines reader. document_of_lines title reader lines) 1 (lines_of text) head below
+  pub version : version_in title divided.above ≡ Some below.version
 
 -- this is the first fault however the lines of the body are read, so it is one of the head; unless memory ran out
 abbrev pub IsHeadFault : {A : Type 0} → ScriptFault → Reads A → Type 0

@@ -2,7 +2,7 @@
 ghost use Rattle.std.specs.Prelude.{◌≡◌, ◌<◌, codes, Ok, IfOk, IfErr};
 ghost use Rattle.program_model.specs.Document.{document_of};
 ghost use Rattle.program_model.specs.Script.{submit_of, take_of, report_of, done_of, close_of, weight_of, workers_of, fixed_call_of, changing_call_of, call_of_words, script_of};
-ghost use Rattle.journal_text.specs.Body.{ReadsFirst, IsOpened, IsHeadFault};
+ghost use Rattle.journal_text.specs.Body.{ReadsFirst, IsOpened, IsHeadFault, DividesText};
 ghost use Rattle.journal_text.specs.Reading.{Gives, IsFirstFault, words_in};
 
 use crate::at_once::call_at_once;
@@ -222,6 +222,7 @@ pub type OpenScript<'a> = Opened<'a, Call>;
 /// opened with it. An answer that memory ran out says nothing of the text.
 pub fn open_script<'a>(alloc: Global, bytes: &'a [u8]) -> Result<OpenScript<'a>, ScriptFault>
     ensures ok { IfOk result (λ o. IsOpened (λ reader. document_of (codes "script") reader bytes.now) o.head o.body) }
+    ensures divided { IfOk result (λ o. DividesText (codes "script") bytes.now o.head o.body) }
     ensures fault { IfErr result (λ f.
         IsHeadFault f (λ reader. document_of {A = Call} (codes "script") reader bytes.now)) }
 {

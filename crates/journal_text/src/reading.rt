@@ -7,7 +7,7 @@ ghost use Rattle.fq_model.specs.Limits.{config_fault};
 ghost use Rattle.fq_model.specs.Names.{number_among};
 ghost use Rattle.tenant_table.specs.Names.{names_of};
 ghost use Rattle.journal_text.specs.Reading.{Gives, IsFirstFault, words_in, are_too_many, ends_before, with_head_line, IsOfConfigLine};
-ghost use Rattle.journal_text.specs.Body.{IsOpened, IsHeadFault, below_at};
+ghost use Rattle.journal_text.specs.Body.{IsOpened, IsHeadFault, Divides, DividesText, below_at};
 
 use crate::body::{Body, Line};
 use crate::document::Document;
@@ -207,6 +207,9 @@ fn add_lines<'a, A: Line>(
     ensures ok { IfOk result (λ r. (version : Version) → IsOpened
         (λ reader. with_lines (reader version) 3 draft.old (lines_of text.now))
         draft.new (below_at version r.0 r.1.now)) }
+    ensures divided { IfOk result (λ r. (version : Version) → Divides
+        (λ lines reader. with_lines (reader version) 3 draft.old lines) 3 (lines_of text.now)
+        draft.new (below_at version r.0 r.1.now)) }
     ensures counted { IfOk result (λ r. r.0 + length r.1.now ≤ length text.now + 3) }
     ensures fault { IfErr result (λ f. (version : Version) → IsHeadFault f
         (λ reader. with_lines {A = A} (reader version) 3 draft.old (lines_of text.now))) }
@@ -244,6 +247,9 @@ fn with_lines<'a, A: Line>(
     requires { IsOfConfigLine draft }
     ensures ok { IfOk result (λ r.
         IsOpened (λ reader. with_lines (reader version) 3 draft (lines_of text.now)) r.0 r.1) }
+    ensures divided { IfOk result (λ r. Divides
+        (λ lines reader. with_lines (reader version) 3 draft lines) 3 (lines_of text.now) r.0 r.1) }
+    ensures version { IfOk result (λ r. r.1.version ≡ version) }
     ensures fault { IfErr result (λ f.
         IsHeadFault f (λ reader. with_lines {A = A} (reader version) 3 draft (lines_of text.now))) }
 {
@@ -257,6 +263,9 @@ fn below_header<'a, A: Line>(
     text: &'a [u8],
 ) -> Result<(Draft<A>, Body<'a, A>), ScriptFault>
     ensures ok { IfOk result (λ r. IsOpened (λ reader. below_header (reader version) (lines_of text.now)) r.0 r.1) }
+    ensures divided { IfOk result (λ r. Divides
+        (λ lines reader. below_header (reader version) lines) 2 (lines_of text.now) r.0 r.1) }
+    ensures version { IfOk result (λ r. r.1.version ≡ version) }
     ensures fault { IfErr result (λ f.
         IsHeadFault f (λ reader. below_header {A = A} (reader version) (lines_of text.now))) }
 {
@@ -279,6 +288,7 @@ fn read_draft<'a, A: Line>(
     bytes: &'a [u8],
 ) -> Result<(Draft<A>, Body<'a, A>), ScriptFault>
     ensures ok { IfOk result (λ r. IsOpened (λ reader. document_of A.title reader bytes.now) r.0 r.1) }
+    ensures divided { IfOk result (λ r. DividesText A.title bytes.now r.0 r.1) }
     ensures fault { IfErr result (λ f. IsHeadFault f (λ reader. document_of {A = A} A.title reader bytes.now)) }
 {
     if let Some((line, below)) = next_line(bytes) {
@@ -300,6 +310,7 @@ pub fn open_document<'a, A: Line>(
     bytes: &'a [u8],
 ) -> Result<Opened<'a, A>, ScriptFault>
     ensures ok { IfOk result (λ o. IsOpened (λ reader. document_of A.title reader bytes.now) o.head o.body) }
+    ensures divided { IfOk result (λ o. DividesText A.title bytes.now o.head o.body) }
     ensures fault { IfErr result (λ f. IsHeadFault f (λ reader. document_of {A = A} A.title reader bytes.now)) }
 {
     let (draft, body) = read_draft(alloc, bytes)?;

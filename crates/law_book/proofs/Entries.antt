@@ -9,7 +9,8 @@ use Rattle.program_model.specs.Trace.{Trace}
 use Rattle.fq_laws.proofs.History.Asked.{waits_submitted, waits_untaken}
 use Rattle.fq_laws.proofs.History.Requests.{submitted_below, taken_submitted, done_taken}
 use Rattle.fq_laws.proofs.Sums.{count_zero, sum_same}
-use Rattle.trace_runner.specs.Plan.{IsPlan, row_at, planned_reports}
+use Rattle.trace_reader.specs.Rows.{row_at}
+use Rattle.trace_runner.specs.Plan.{IsPlan, planned_reports}
 use Rattle.trace_runner.proofs.Ending.{close_entry}
 use Rattle.trace_runner.proofs.InLimits.{in_limits}
 use Rattle.trace_runner.proofs.Legal.{counted, reports, reports_of, reports_sum}

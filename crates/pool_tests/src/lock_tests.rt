@@ -3,8 +3,8 @@ ghost use Rattle.history_lock.specs.Passes.{IsOf};
 
 use crate::histories::{are_callers, are_moments};
 use fq_model::event::Entry;
+use history_lock::laws::Echo;
 use history_lock::{HistoryLock, Pass};
-use lock_laws::Echo;
 use std::alloc::Global;
 use std::ops::Range;
 use std::process::Abort;

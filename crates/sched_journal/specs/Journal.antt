@@ -1,12 +1,11 @@
 -- What contracts see of a journal, and what it keeps.
-use Rattle.std.specs.Prelude.{ℕ, ◌≡◌, ◌≤◌, nat_le, Bool, List, [], ◌∷◌, ◌++◌, Option}
+use Rattle.std.specs.Prelude.{ℕ, ◌≡◌, ◌≤◌, nat_le, Bool, List, [], ◌∷◌, ◌++◌}
 use Rattle.fq_model.specs.declared.config.Config.{Config}
 use Rattle.fq_model.specs.declared.event.Act.{Act}
-use Rattle.fq_model.specs.declared.event.Cause.{Cause}
 use Rattle.fq_model.specs.declared.event.Entry.{Entry}
 use Rattle.fq_model.specs.Limits.{InLimits}
 use Rattle.fq_model.specs.History.{History, history_of, waiting}
-use Rattle.fq_model.specs.Rules.{IsLegal, needed_room, submit_refusal, weight_refusal, workers_refusal}
+use Rattle.fq_model.specs.Rules.{IsLegal, needed_room}
 use Rattle.fq_laws.specs.Words.{one_more}
 use Rattle.sched_journal.specs.declared.tally.Tally.{Tally}
 use Rattle.sched_journal.specs.Tally.{TallyIs}
@@ -31,18 +30,6 @@ MayGain j m act = (who : ℕ) → IsLegal j.config (one_more who m act (history 
 -- where so many requests wait, whether there is room for so many entries more
 abbrev pub IsRoomFor : JournalView → ℕ → ℕ → Bool → Type 0
 IsRoomFor j backlog more room = backlog ≡ waiting (history j) → room ≡ nat_le (needed_room (history j) more) j.config.entries
-
--- where so many requests wait, why a submit is refused, if it is
-abbrev pub RefusesSubmit : JournalView → ℕ → ℕ → ℕ → ℕ → Option Cause → Type 0
-RefusesSubmit j backlog tenant kind declared cause = backlog ≡ waiting (history j) → cause ≡ submit_refusal j.config (history j) tenant kind declared
-
--- where so many requests wait, why a weight is refused, if it is
-abbrev pub RefusesWeight : JournalView → ℕ → ℕ → ℕ → Option Cause → Type 0
-RefusesWeight j backlog tenant weight cause = backlog ≡ waiting (history j) → cause ≡ weight_refusal j.config (history j) tenant weight
-
--- where so many requests wait, why a number of workers is refused, if it is
-abbrev pub RefusesWorkers : JournalView → ℕ → ℕ → Option Cause → Type 0
-RefusesWorkers j backlog count cause = backlog ≡ waiting (history j) → cause ≡ workers_refusal j.config (history j) count
 
 -- its configuration is in its limits, it keeps a legal history and has room for all entries that may come, and its
 -- tally is that of the history

@@ -4,13 +4,13 @@ ghost use Rattle.fq_model.specs.Limits.{InLimits};
 ghost use Rattle.fq_model.specs.History.{is_closed, submits};
 ghost use Rattle.fq_model.specs.Time.{last_moment, effective_moment};
 ghost use Rattle.fq_model.specs.Rules.{IsLegal};
-ghost use Rattle.sched_journal.specs.Journal.{history, with_entry, IsRoomFor, RefusesSubmit, RefusesWeight, RefusesWorkers};
+ghost use Rattle.sched_journal.specs.Journal.{history, with_entry, IsRoomFor};
 
 use crate::history::History;
 use crate::tally::Tally;
 use fq_model::config::Checked;
-use fq_model::event::{Cause, Entry};
-use fq_model::limits::{GREATEST_COST, GREATEST_MOMENT, GREATEST_WEIGHT};
+use fq_model::event::Entry;
+use fq_model::limits::GREATEST_MOMENT;
 use std::alloc::{AllocError, Global};
 use std::marker::Model;
 
@@ -97,61 +97,6 @@ impl Journal {
     {
         let needed = self.past.len() as u64 + 2 * backlog as u64 + self.tally.running as u64 + more;
         needed <= self.config.entries() as u64
-    }
-
-    /// Why a submit is refused, if it is, where so many requests wait.
-    pub fn submit_refusal(
-        &self,
-        backlog: u32,
-        tenant: u32,
-        kind: u32,
-        declared: u64,
-    ) -> Option<Cause>
-        ensures { RefusesSubmit self.now backlog tenant kind declared result }
-    {
-        if self.tally.closed {
-            Some(Cause::Closed)
-        } else if tenant >= self.config.tenants() {
-            Some(Cause::Tenant(tenant))
-        } else if kind >= self.config.kinds() {
-            Some(Cause::Kind(kind))
-        } else if declared == 0 || declared > GREATEST_COST {
-            Some(Cause::Cost(declared))
-        } else if backlog == self.config.requests() {
-            Some(Cause::Slots(backlog))
-        } else if !self.has_room(backlog, 4) {
-            Some(Cause::Full(self.config.entries()))
-        } else {
-            None
-        }
-    }
-
-    /// Why a change of a tenant's weight is refused, if it is, where so many requests wait.
-    pub fn weight_refusal(&self, backlog: u32, tenant: u32, weight: u32) -> Option<Cause>
-        ensures { RefusesWeight self.now backlog tenant weight result }
-    {
-        if tenant >= self.config.tenants() {
-            Some(Cause::Tenant(tenant))
-        } else if weight < 1 || weight > GREATEST_WEIGHT {
-            Some(Cause::Weight(weight))
-        } else if !self.has_room(backlog, 2) {
-            Some(Cause::Full(self.config.entries()))
-        } else {
-            None
-        }
-    }
-
-    /// Why a change of the number of workers is refused, if it is, where so many requests wait.
-    pub fn workers_refusal(&self, backlog: u32, count: u32) -> Option<Cause>
-        ensures { RefusesWorkers self.now backlog count result }
-    {
-        if count < 1 || count > self.config.workers() {
-            Some(Cause::Workers(count))
-        } else if !self.has_room(backlog, 2) {
-            Some(Cause::Full(self.config.entries()))
-        } else {
-            None
-        }
     }
 
     /// One entry more.

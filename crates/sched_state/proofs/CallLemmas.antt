@@ -1,6 +1,7 @@
 -- What the calls of a scheduler find, and what they are answered.
-use Rattle.std.proofs.Common.{ℕ, ◌<◌, ◌≤◌, ◌≡◌, ◌≢◌, Bool, true, false, cond, arith, refl, sym, ap, subst, ◌∙◌, ◌∷◌, Option, Some, None}
-use Rattle.std.specs.Prelude.{nat_le}
+use Rattle.std.proofs.Common.{ℕ, ◌<◌, ◌≤◌, ◌≡◌, ◌≢◌, Bool, true, false, cond, arith, refl, sym, ap, subst, ◌∙◌, ◌∷◌, ◌++◌, Option, Some, None}
+use Rattle.std.specs.Prelude.{nat_le, Result, Ok, Err}
+use Rattle.std.specs.Result.{IsErrAnd}
 use Rattle.std.proofs.lemmas.Bool.{ne_eqb}
 use Rattle.std.proofs.lemmas.Bool.Decides.{nat_tests}
 use Rattle.vt_fixed.specs.declared.limits.TheConstants.{GREATEST_MOMENT}
@@ -17,20 +18,25 @@ use Rattle.fq_model.specs.declared.event.Cause.TheVariants as cause
 use Rattle.fq_model.specs.Limits.{InLimits}
 use Rattle.fq_model.specs.History.{History, Request, waiting, is_closed, submits, pool_at}
 use Rattle.fq_model.specs.Time.{last_moment, effective_moment}
-use Rattle.fq_model.specs.Rules.{IsLegal, FitsUse, IsChosen, IsAccepted, RunsChosen, AnswersFree, RefusedOrElse, Answers, needed_room, request_on, use_refusals, submit_refusal, take_refusal, report_refusal, done_refusal, weight_refusal, workers_refusal}
+use Rattle.fq_model.specs.Rules.{IsLegal, FitsUse, IsChosen, IsAccepted, RunsChosen, AnswersFree, RefusedOrElse, Answers, request_on, use_refusals, submit_refusal, take_refusal, report_refusal, done_refusal, close_refusal, weight_refusal, workers_refusal}
 use Rattle.fq_laws.specs.Words.{one_more}
-use Rattle.fq_laws.proofs.Rules.Refusals.{all_false, submit_fits, report_fits, done_fits, weight_fits, workers_fits, request_on_is}
+use Rattle.fq_laws.proofs.Rules.Refusals.{all_false, le_false, submit_fits, report_fits, done_fits, close_fits, weight_fits, workers_fits, request_on_is}
 use Rattle.charge_book.specs.declared.row.RunRow.{RunRow}
+use Rattle.charge_book.specs.Book.{row_on}
 use Rattle.charge_book.proofs.Refusals.{row_of}
 use Rattle.tag_rules.specs.Tables.{ChooserView}
 use Rattle.sched_state.specs.declared.tracker.Tracker.{Tracker}
 use Rattle.sched_journal.specs.Journal.{JournalView, history, with_entry}
 use Rattle.sched_state.specs.Lists.{JobMap}
-use Rattle.sched_state.specs.Replies.{AnswersCall}
+use Rattle.sched_state.specs.declared.replies.AlreadyClosed.{AlreadyClosed}
+use Rattle.sched_state.specs.declared.replies.Taken.{Taken}
+use Rattle.sched_state.specs.declared.replies.Taken.TheVariants as taken
+use Rattle.sched_state.specs.Refusals.{HasNoJob}
+use Rattle.sched_state.specs.Replies.{AnswersCall, HandsOut, change_reply, close_reply}
 use Rattle.sched_state.specs.Scheduler.{SchedulerView}
-use Rattle.sched_state.specs.Tracker.{Tracks, MayName}
+use Rattle.sched_state.specs.Tracker.{Tracks}
 use Rattle.sched_journal.proofs.JournalLemmas.{history_with}
-use Rattle.sched_state.proofs.RefusalLemmas.{report_unless_full}
+use Rattle.sched_state.proofs.RefusalLemmas.{room_row}
 
 -- ---- what a call leaves
 
@@ -56,6 +62,11 @@ entered label seen j k e t new x = rw new (rw (history_with j.past e) x)
 pub refused : (o : Option Cause) (c : Cause) (P : History) (Accepted : Type 0) → o ≡ Some c → RefusedOrElse o P (answer.Refused c) P Accepted
 refused o c P Accepted e = rw e (refl, refl)
 
+-- refused for the cause of an error that is handed on
+pub told_refused : (r : Result (Unit {0}) Cause) (c : Cause) (o : Option Cause) (P : History) (Accepted : Type 0) → IsErrAnd r (λ d. d ≡ c) → Some c ≡ o → RefusedOrElse o P (change_reply r) P Accepted
+told_refused (Ok x) c o P Accepted is e = absurd is
+told_refused (Err d) c o P Accepted is e = refused o d P Accepted (sym e ∙ ap (λ (x : Cause). Some x) (sym is))
+
 -- or else
 pub not_refused : (o : Option Cause) (P : History) (reply : Reply) (Q : History) (Accepted : Type 0) → o ≡ None → Accepted → RefusedOrElse o P reply Q Accepted
 not_refused o P reply Q Accepted e x = rw e x
@@ -74,22 +85,31 @@ answered_submit C P who moment m r tenant kind declared label written none next 
 
 -- ---- a Take
 
-le_true : (a b : ℕ) → a ≤ b → nat_le a b ≡ true
-le_true a b h = grind (arith, nat_tests)
+-- where no job is told nothing is handed out
+pub none_handed_out : {J : Type 0} (now : SchedulerView J) (told : Taken J) → HasNoJob told → HandsOut now told now
+none_handed_out now (taken.UnknownWorker worker) no_job = refl
+none_handed_out now (taken.Busy request) no_job = refl
+none_handed_out now (taken.Retired workers) no_job = refl
+none_handed_out now (taken.Run request estimate job) no_job = absurd no_job
+none_handed_out now taken.Drained no_job = refl
+none_handed_out now taken.Idle no_job = refl
 
-le_false : (a b : ℕ) → b < a → nat_le a b ≡ false
-le_false a b h = grind (arith, nat_tests)
+at_or_above : (a b : ℕ) → a ≤ b → nat_le a b ≡ true
+at_or_above a b h = grind (arith, nat_tests)
+
+below : (a b : ℕ) → b < a → nat_le a b ≡ false
+below a b h = grind (arith, nat_tests)
 
 -- the worker is not among those that there are now
 pub retired : (C : Config) (P : History) (who moment worker workers : ℕ) → take_refusal C P worker ≡ None → workers ≡ pool_at C P → workers ≤ worker → Answers C P (call.Take who moment worker) (answer.Retired workers) P
-retired C P who moment worker workers none is above = not_refused _ P _ _ _ none (rw (is, le_true (pool_at C P) worker (omega (arith, is, above))) (refl, refl))
+retired C P who moment worker workers none is above = not_refused _ P _ _ _ none (rw (is, at_or_above (pool_at C P) worker (omega (arith, is, above))) (refl, refl))
 
 -- nothing waits
 pub rested : (C : Config) (P : History) (who moment worker : ℕ) (closed : Bool) → take_refusal C P worker ≡ None → worker < pool_at C P → waiting P ≡ 0 → closed ≡ is_closed P → Answers C P (call.Take who moment worker) (cond closed answer.Drained answer.Idle) P
-rested C P who moment worker closed none pooled nothing is = not_refused _ P _ _ _ none (rw (le_false (pool_at C P) worker pooled, nothing, is) (refl, refl))
+rested C P who moment worker closed none pooled nothing is = not_refused _ P _ _ _ none (rw (below (pool_at C P) worker pooled, nothing, is) (refl, refl))
 
 some_waits : (C : Config) (P : History) (who moment i : ℕ) (reply : Reply) (Q : History) → i < pool_at C P → waiting P ≢ 0 → RunsChosen C P who moment i reply Q → AnswersFree C P who moment i reply Q
-some_waits C P who moment i reply Q pooled some x = rw (le_false (pool_at C P) i pooled, ne_eqb (waiting P) 0 some) x
+some_waits C P who moment i reply Q pooled some x = rw (below (pool_at C P) i pooled, ne_eqb (waiting P) 0 some) x
 
 pub took : (C : Config) (P : History) (who moment m worker request estimate label : ℕ) (asked : Request) → take_refusal C P worker ≡ None → worker < pool_at C P → waiting P ≢ 0 → m ≡ effective_moment P moment → asked.label ≡ label → IsChosen C P m worker request estimate asked → Answers C P (call.Take who moment worker) (answer.Run request estimate label) (one_more who m (Take worker request estimate) P)
 took C P who moment m worker request estimate label asked none pooled some is labelled chosen = not_refused _ P _ _ _ none (some_waits C P who moment worker _ _ pooled some (record {
@@ -100,44 +120,48 @@ took C P who moment m worker request estimate label asked none pooled some is la
   accepted = (ap (λ (l : ℕ). answer.Run request estimate l) (sym labelled), ap (λ (z : ℕ). one_more who z (Take worker request estimate) P) is);
 }))
 
--- ---- a use or a cost that is named
+-- ---- a use or a cost of what a row is of
 
-worker_known : (C : Config) (P : History) (worker used : ℕ) → done_refusal C P worker used ≡ None → worker < C.workers
-worker_known C P worker used none = let x = (all_false (use_refusals C P worker used) none).0 in grind (arith, nat_tests)
+module _ {J X : Type 0} (label : J → ℕ) (seen : X → ChooserView) (C : Config) (P : History) (k : Tracker J X) (worker used : ℕ) (row : RunRow) (tracks : Tracks label seen C P k) (held : row_on k.book worker ≡ Some row) where
+  row_request : worker < C.workers → request_on P worker ≡ row.request
+  row_request known = request_on_is P worker row.request (row_of C P k.book worker (Some row) tracks.mirrors.legal tracks.mirrors.book_is known held).running_is
 
-module _ {J X : Type 0} (label : J → ℕ) (seen : X → ChooserView) (C : Config) (P : History) (k : Tracker J X) (worker used : ℕ) (row : RunRow) (tracks : Tracks label seen C P k) (may : MayName C P k worker used row) where
-  -- it is of the request of the row
-  pub row_request : request_on P worker ≡ row.request
-  row_request = request_on_is P worker row.request (row_of C P k.book worker (Some row) tracks.mirrors.legal tracks.mirrors.book_is (worker_known C P worker used may.accepted) may.row_is.row_is).running_is
+  -- a cost, where nothing refuses it
+  module _ (none : done_refusal C P worker used ≡ None) where
+    ends : request_on P worker ≡ row.request
+    ends = row_request (le_false C.workers worker (all_false (use_refusals C P worker used) none).0)
 
-  use_fits : FitsUse P worker row.request used
-  use_fits = subst (λ r. FitsUse P worker r used) row_request (done_fits C P worker used tracks.mirrors.legal may.accepted)
+    pub legal_done : (who m : ℕ) → last_moment P ≤ m → m ≤ GREATEST_MOMENT → IsLegal C (one_more who m (Done worker row.request used) P)
+    legal_done who m later in_range = (tracks.mirrors.legal, later, in_range, subst (λ r. FitsUse P worker r used) ends (done_fits C P worker used tracks.mirrors.legal none))
 
-  -- where it is a cost
-  pub legal_done : (who m : ℕ) → last_moment P ≤ m → m ≤ GREATEST_MOMENT → IsLegal C (one_more who m (Done worker row.request used) P)
-  legal_done who m later in_range = (tracks.mirrors.legal, later, in_range, use_fits)
+    pub answered_done : (who moment m : ℕ) → m ≡ effective_moment P moment → Answers C P (call.Done who moment worker used) answer.Accepted (one_more who m (Done worker row.request used) P)
+    answered_done who moment m is = not_refused _ P _ _ _ none (rw ends (accepted P who moment m _ answer.Accepted is))
 
-  pub answered_done : (who moment m : ℕ) → m ≡ effective_moment P moment → Answers C P (call.Done who moment worker used) answer.Accepted (one_more who m (Done worker row.request used) P)
-  answered_done who moment m is = not_refused _ P _ _ _ may.accepted (rw row_request (accepted P who moment m _ answer.Accepted is))
+  -- a use, where nothing refuses it
+  module _ (none : report_refusal C P worker used ≡ None) where
+    goes_on : request_on P worker ≡ row.request
+    goes_on = row_request (le_false C.workers worker (all_false (use_refusals C P worker used ++ room_row C P) none).0)
 
-  -- where it is a use, and there is or is not room for it
-  module _ (backlog : ℕ) (room : Bool) (all : backlog ≡ waiting P) (tells : backlog ≡ waiting P → room ≡ nat_le (needed_room P 2) C.entries) where
-    pub report_refused_by : report_refusal C P worker used ≡ cond room None (Some (cause.Full C.entries))
-    report_refused_by = report_unless_full C P worker used room may.accepted (tells all)
+    pub legal_report : (who m : ℕ) → last_moment P ≤ m → m ≤ GREATEST_MOMENT → IsLegal C (one_more who m (Report worker row.request used) P)
+    legal_report who m later in_range =
+        let fits = report_fits C P worker used tracks.mirrors.legal none in
+        (tracks.mirrors.legal, later, in_range, (subst (λ r. FitsUse P worker r used) goes_on fits.0, fits.1))
 
-    pub legal_report : room ≡ true → (who m : ℕ) → last_moment P ≤ m → m ≤ GREATEST_MOMENT → IsLegal C (one_more who m (Report worker row.request used) P)
-    legal_report is who m later in_range = (tracks.mirrors.legal, later, in_range, (use_fits, (report_fits C P worker used tracks.mirrors.legal (report_refused_by ∙ rw is refl)).1))
-
-    pub answered_report : room ≡ true → (who moment m : ℕ) → m ≡ effective_moment P moment → Answers C P (call.Report who moment worker used) answer.Accepted (one_more who m (Report worker row.request used) P)
-    answered_report is who moment m at = not_refused _ P _ _ _ (report_refused_by ∙ rw is refl) (rw row_request (accepted P who moment m _ answer.Accepted at))
+    pub answered_report : (who moment m : ℕ) → m ≡ effective_moment P moment → Answers C P (call.Report who moment worker used) answer.Accepted (one_more who m (Report worker row.request used) P)
+    answered_report who moment m is = not_refused _ P _ _ _ none (rw goes_on (accepted P who moment m _ answer.Accepted is))
 
 -- ---- a Close
 
-pub refused_close : (C : Config) (P : History) (who moment : ℕ) → is_closed P ≡ true → Answers C P (call.Close who moment) (answer.Refused cause.Closed) P
-refused_close C P who moment is = rw is (refl, refl)
+-- where it is refused
+pub closed_again : (r : Result (Unit {0}) AlreadyClosed) (y : AlreadyClosed) (P : History) (Accepted : Type 0) → r ≡ Err y → Some cause.Closed ≡ close_refusal P → RefusedOrElse (close_refusal P) P (close_reply r) P Accepted
+closed_again r y P Accepted is e = rw is (refused (close_refusal P) cause.Closed P Accepted (sym e))
 
-pub answered_close : (C : Config) (P : History) (who moment m : ℕ) → is_closed P ≡ false → m ≡ effective_moment P moment → Answers C P (call.Close who moment) answer.Accepted (one_more who m Close P)
-answered_close C P who moment m still is = rw still (accepted P who moment m Close answer.Accepted is)
+-- where nothing refuses it
+pub legal_close : (C : Config) (P : History) (who m : ℕ) → close_refusal P ≡ None → IsLegal C P → last_moment P ≤ m → m ≤ GREATEST_MOMENT → IsLegal C (one_more who m Close P)
+legal_close C P who m none l later in_range = (l, later, in_range, close_fits P none)
+
+pub answered_close : (C : Config) (P : History) (who moment m : ℕ) → close_refusal P ≡ None → m ≡ effective_moment P moment → Answers C P (call.Close who moment) answer.Accepted (one_more who m Close P)
+answered_close C P who moment m none is = not_refused _ P _ _ _ none (accepted P who moment m Close answer.Accepted is)
 
 -- ---- a Weight and a Workers
 

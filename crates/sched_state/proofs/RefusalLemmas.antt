@@ -1,13 +1,14 @@
 -- Why a report is refused.
-use Rattle.std.proofs.Common.{ℕ, ◌≡◌, nat_lt, nat_le, Bool, true, false, cond, arith, refl, sym, ap, ◌∙◌, List, [], ◌∷◌, ◌++◌, Option, Some, None}
-use Rattle.std.specs.Prelude.{Result, Ok, Err, IfErr}
-use Rattle.std.specs.Result.{IsErrAnd}
-use Rattle.std.proofs.lemmas.Bool.Decides.{nat_tests}
+use Rattle.std.proofs.Common.{ℕ, ◌≡◌, nat_lt, Bool, true, false, cond, refl, sym, ap, ◌∙◌, List, [], ◌∷◌, ◌++◌, Option, Some, None}
+use Rattle.std.specs.Prelude.{Result}
+use Rattle.std.specs.Result.{IsErrAnd, result_err}
+use Rattle.std.proofs.lemmas.Result.{err_from_is_err_and}
 use Rattle.fq_model.specs.declared.config.Config.{Config}
 use Rattle.fq_model.specs.declared.event.Cause.{Cause}
 use Rattle.fq_model.specs.declared.event.Cause.TheVariants as cause
 use Rattle.fq_model.specs.History.{History}
 use Rattle.fq_model.specs.Rules.{first_true, use_refusals, done_refusal, report_refusal, needed_room}
+use Rattle.sched_state.specs.Refusals.{room_refusal}
 
 refused_by : (b : Bool) (c d : Cause) (rest whole : Option Cause) → (rest ≡ Some d → whole ≡ Some d) → cond b (Some c) rest ≡ Some d → cond b (Some c) whole ≡ Some d
 refused_by true c d rest whole go e = e
@@ -25,7 +26,8 @@ not_refused_before : (rows more : List (Bool × Cause)) → first_true rows ≡ 
 not_refused_before [] more e = refl
 not_refused_before (row ∷ rows) more e = passed_by row.0 row.1 (first_true rows) (first_true (rows ++ more)) (first_true more) (not_refused_before rows more) e
 
-abbrev room_row : Config → History → List (Bool × Cause)
+-- the row for want of room
+abbrev pub room_row : Config → History → List (Bool × Cause)
 room_row C P = (nat_lt C.entries (needed_room P 2), cause.Full C.entries) ∷ []
 
 -- refused as the same use would be at a Done
@@ -33,13 +35,9 @@ pub report_refused : (C : Config) (P : History) (worker used : ℕ) (c : Cause) 
 report_refused C P worker used c e = refused_before (use_refusals C P worker used) (room_row C P) c e
 
 -- or else for want of room
-pub report_unless_full : (C : Config) (P : History) (worker used : ℕ) (room : Bool) → done_refusal C P worker used ≡ None → room ≡ nat_le (needed_room P 2) C.entries → report_refusal C P worker used ≡ cond room None (Some (cause.Full C.entries))
-report_unless_full C P worker used room e is = not_refused_before (use_refusals C P worker used) (room_row C P) e ∙ by_room room (needed_room P 2) C.entries is
-  where
-    by_room : (room : Bool) (needed entries : ℕ) → room ≡ nat_le needed entries → cond (nat_lt entries needed) (Some (cause.Full C.entries)) None ≡ cond room None (Some (cause.Full C.entries))
-    by_room room needed entries is = rw is (grind (arith, nat_tests))
+pub report_unless_full : (C : Config) (P : History) (worker used : ℕ) → done_refusal C P worker used ≡ None → report_refusal C P worker used ≡ room_refusal C P 2
+report_unless_full C P worker used e = not_refused_before (use_refusals C P worker used) (room_row C P) e
 
--- an error that was told is this cause
-pub told_error : {A : Type 0} (r : Result A Cause) (c : Cause) (o : Option Cause) → IsErrAnd r (λ d. d ≡ c) → o ≡ Some c → IfErr r (λ d. o ≡ Some d)
-told_error (Ok x) c o is e = tt
-told_error (Err d) c o is e = e ∙ ap (λ (x : Cause). Some x) (sym is)
+-- an error that was told has this cause
+pub told_cause : {A : Type 0} (r : Result A Cause) (c : Cause) (o : Option Cause) → IsErrAnd r (λ d. d ≡ c) → o ≡ Some c → result_err r ≡ o
+told_cause r c o is e = let x = err_from_is_err_and r is in ap (λ (s : Result _ Cause). result_err s) x.1 ∙ (ap (λ (d : Cause). Some d) x.2 ∙ sym e)

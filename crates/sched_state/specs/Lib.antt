@@ -4,3 +4,4 @@ pub mod Keys
 pub mod Tracker
 pub mod Scheduler
 pub mod Replies
+pub mod Refusals

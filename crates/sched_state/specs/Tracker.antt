@@ -1,17 +1,15 @@
 -- What a scheduler keeps beside its journal, so that no call looks back in it.
-use Rattle.std.specs.Prelude.{ℕ, ℤ, ◌<◌, ◌≤◌, ◌≡◌, ◌≢◌, is_none, if◌then◌else◌, length, slice_get, Some, None}
+use Rattle.std.specs.Prelude.{ℕ, ℤ, ◌<◌, ◌≤◌, ◌≡◌, is_none, if◌then◌else◌, length, slice_get, Some}
 use Rattle.std.specs.FinMap as map
 use Rattle.vt_fixed.specs.declared.limits.TheConstants.{GREATEST_MOMENT}
 use Rattle.fq_model.specs.declared.config.Config.{Config}
 use Rattle.fq_model.specs.declared.event.Act.{Act}
 use Rattle.fq_model.specs.declared.event.Act.TheVariants.{Submit, Take}
 use Rattle.fq_model.specs.Limits.{InLimits}
-use Rattle.fq_model.specs.History.{History, Request, waiting, pool_at}
+use Rattle.fq_model.specs.History.{History, Request}
 use Rattle.fq_model.specs.Time.{last_moment}
-use Rattle.fq_model.specs.Rules.{IsLegal, IsChosen, take_refusal, done_refusal}
+use Rattle.fq_model.specs.Rules.{IsLegal, IsChosen}
 use Rattle.fq_laws.specs.Words.{one_more}
-use Rattle.charge_book.specs.declared.row.RunRow.{RunRow}
-use Rattle.charge_book.specs.Book.{MayUse}
 use Rattle.charge_book.specs.Histories.{BookIs}
 use Rattle.tag_rules.specs.Tables.{ChooserView}
 use Rattle.tag_rules.specs.Accounts.{AccountsView, AccountsAre, raised}
@@ -20,6 +18,7 @@ use Rattle.waiting_lists.specs.Lists.{ListsView, list_of}
 use Rattle.waiting_lists.specs.declared.item.Item.{Item}
 use Rattle.sched_state.specs.declared.tracker.Tracker.{Tracker}
 use Rattle.sched_journal.specs.Journal.{JournalView, history}
+use Rattle.sched_state.specs.Refusals.{GetsWork}
 use Rattle.sched_state.specs.Lists.{ListsAre, jobs_in}
 use Rattle.sched_state.specs.Costs.{CostsAre}
 use Rattle.sched_state.specs.Keys.{ChooserIs, ChooserIsBut}
@@ -66,9 +65,7 @@ raised_first w a tenant v = if is_none (slice_get (list_of w tenant) 0) then rai
 pub record MayBegin (j : JournalView) (m worker : ℕ) : Type 0 where
   pub later : last_moment (history j) ≤ m
   pub in_range : m ≤ GREATEST_MOMENT
-  pub free : take_refusal j.config (history j) worker ≡ None
-  pub pooled : worker < pool_at j.config (history j)
-  pub some_waits : waiting (history j) ≢ 0
+  pub gets : GetsWork j.config (history j) worker
 
 -- the worker takes this item, which is its turn at m, at this estimate: it waits no longer, and all else follows its
 -- Take
@@ -79,8 +76,3 @@ pub record Begins {J X : Type 0} (label : J → ℕ) (seen : X → ChooserView) 
   pub tracks : TracksAfter label seen j m (Take worker i.request estimate) new
   pub job_is : map.get (jobs_in old.lists.lists) i.request ≡ Some i.job
   pub jobs_are : jobs_in new.lists.lists ≡ map.remove (jobs_in old.lists.lists) i.request
-
--- the row is that of what the worker runs, of which it may name so much
-pub record MayName {J X : Type 0} (C : Config) (P : History) (k : Tracker J X) (worker used : ℕ) (row : RunRow) : Type 0 where
-  pub accepted : done_refusal C P worker used ≡ None
-  pub row_is : MayUse k.book worker row used

@@ -2,6 +2,7 @@
 #![tactic(auto)]
 
 mod answering;
+mod refusals;
 mod replies;
 mod scheduler;
 mod tracker;

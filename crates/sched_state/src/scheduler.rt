@@ -7,6 +7,7 @@ ghost use Rattle.fq_model.specs.Rules.{IsLegal};
 ghost use Rattle.sched_state.specs.Lists.{HoldsWaiting};
 ghost use Rattle.sched_state.specs.Replies.{submit_reply, take_reply, change_reply, close_reply, AnswersCall, HandsOut};
 
+use crate::refusals;
 use crate::replies::{AlreadyClosed, Refused, Taken};
 use crate::tracker::Tracker;
 use fq_model::config::Checked;
@@ -75,8 +76,8 @@ impl<J: Job + Drop, X: Chooser> Scheduler<J, X> {
         ensures job_back { IfErr result (λ f. f.job ≡ job) }
         ensures unchanged { OnErr result (self.new ≡ self.old) }
     {
-        let backlog = self.tracker.lists.len();
-        if let Some(cause) = self.journal.submit_refusal(backlog, tenant, kind, declared) {
+        let allowed = refusals::submit(&self.journal, &self.tracker, tenant, kind, declared);
+        if let Err(cause) = allowed {
             return Err(Refused { job, cause });
         }
         let moment = self.journal.effective(moment);
@@ -106,22 +107,8 @@ impl<J: Job + Drop, X: Chooser> Scheduler<J, X> {
         ensures answers { AnswersCall self.old (call.Take who moment worker) (take_reply J.label_of result) self.new }
         ensures jobs { HandsOut self.old result self.new }
     {
-        if worker >= self.journal.config().workers() {
-            return Taken::UnknownWorker(worker);
-        }
-        if let Some(row) = self.tracker.book.running(worker) {
-            return Taken::Busy(row.request);
-        }
-        let workers = self.tracker.times.workers();
-        if worker >= workers {
-            return Taken::Retired(workers);
-        }
-        if self.tracker.lists.len() == 0 {
-            return if self.journal.is_closed() {
-                Taken::Drained
-            } else {
-                Taken::Idle
-            };
+        if let Some(told) = refusals::take(&self.journal, &self.tracker, worker) {
+            return told;
         }
         let moment = self.journal.effective(moment);
         let (item, estimate) = self.tracker.take(&self.journal, moment, worker);
@@ -148,10 +135,7 @@ impl<J: Job + Drop, X: Chooser> Scheduler<J, X> {
         ensures jobs { self.new.jobs ≡ self.old.jobs }
         ensures unchanged { OnErr result (self.new ≡ self.old) }
     {
-        let row = self.tracker.row_for(&self.journal, worker, used)?;
-        if !self.journal.has_room(self.tracker.lists.len(), 2) {
-            return Err(Cause::Full(self.journal.config().entries()));
-        }
+        let row = refusals::report(&self.journal, &self.tracker, worker, used)?;
         let moment = self.journal.effective(moment);
         self.tracker
             .report(&self.journal, moment, worker, row, used);
@@ -170,7 +154,7 @@ impl<J: Job + Drop, X: Chooser> Scheduler<J, X> {
         ensures jobs { self.new.jobs ≡ self.old.jobs }
         ensures unchanged { OnErr result (self.new ≡ self.old) }
     {
-        let row = self.tracker.row_for(&self.journal, worker, cost)?;
+        let row = refusals::done(&self.journal, &self.tracker, worker, cost)?;
         let moment = self.journal.effective(moment);
         self.tracker.done(&self.journal, moment, worker, row, cost);
         let act = Act::Done {
@@ -188,11 +172,9 @@ impl<J: Job + Drop, X: Chooser> Scheduler<J, X> {
         ensures jobs { self.new.jobs ≡ self.old.jobs }
         ensures unchanged { OnErr result (self.new ≡ self.old) }
     {
-        if self.journal.is_closed() {
-            return Err(AlreadyClosed);
-        }
+        refusals::close(&self.journal)?;
         let moment = self.journal.effective(moment);
-        self.tracker.times.pass(moment);
+        self.tracker.close(&self.journal, moment);
         let act = Act::Close;
         self.journal.enter(Entry { who, moment, act });
         Ok(())
@@ -207,10 +189,7 @@ impl<J: Job + Drop, X: Chooser> Scheduler<J, X> {
         ensures jobs { self.new.jobs ≡ self.old.jobs }
         ensures unchanged { OnErr result (self.new ≡ self.old) }
     {
-        let backlog = self.tracker.lists.len();
-        if let Some(cause) = self.journal.weight_refusal(backlog, tenant, weight) {
-            return Err(cause);
-        }
+        refusals::weight(&self.journal, &self.tracker, tenant, weight)?;
         let moment = self.journal.effective(moment);
         self.tracker.reweigh(&self.journal, moment, tenant, weight);
         let act = Act::Weight { tenant, weight };
@@ -227,13 +206,9 @@ impl<J: Job + Drop, X: Chooser> Scheduler<J, X> {
         ensures jobs { self.new.jobs ≡ self.old.jobs }
         ensures unchanged { OnErr result (self.new ≡ self.old) }
     {
-        let backlog = self.tracker.lists.len();
-        if let Some(cause) = self.journal.workers_refusal(backlog, count) {
-            return Err(cause);
-        }
+        refusals::workers(&self.journal, &self.tracker, count)?;
         let moment = self.journal.effective(moment);
-        self.tracker.times.staff(moment, count);
-        self.tracker.chooser.resize(count);
+        self.tracker.staff(&self.journal, moment, count);
         let act = Act::Workers { count };
         self.journal.enter(Entry { who, moment, act });
         Ok(())

@@ -1,22 +1,20 @@
 //! What a scheduler keeps beside its journal.
-ghost use Rattle.std.specs.Prelude.{◌≡◌, ◌<◌, [], Some, IfOk, IfErr, length, pos, ◌≤ℤ◌};
+ghost use Rattle.std.specs.Prelude.{◌≡◌, ◌<◌, [], Some, IfOk, length, pos, ◌≤ℤ◌};
 ghost use Rattle.std.specs.FinMap as map;
 ghost use Rattle.fq_model.specs.declared.event.Act.TheVariants as act;
 ghost use Rattle.fq_model.specs.History.{History};
 ghost use Rattle.fq_model.specs.Time.{last_moment};
 ghost use Rattle.fq_model.specs.Keys.{keys_at, start};
-ghost use Rattle.fq_model.specs.Rules.{done_refusal};
 ghost use Rattle.charge_book.specs.Book.{MayUse};
 ghost use Rattle.sched_journal.specs.Journal.{history, MayGain};
 ghost use Rattle.sched_state.specs.Lists.{jobs_in};
-ghost use Rattle.sched_state.specs.Tracker.{Mirrors, Tracks, TracksBut, TracksSomeBut, TracksAfter, submit_act, MayBegin, Begins, MayName, raised_first};
+ghost use Rattle.sched_state.specs.Tracker.{Mirrors, Tracks, TracksBut, TracksSomeBut, TracksAfter, submit_act, MayBegin, Begins, raised_first};
 
 use charge_book::book::Book;
 use charge_book::row::RunRow;
 use cost_estimate::any::AnyCost;
 use cost_estimate::estimate::Estimate;
 use fq_model::config::{Checked, Policy};
-use fq_model::event::Cause;
 use fq_model::job::Job;
 use fq_model::limits::GREATEST_VIRTUAL_TIME;
 use sched_journal::Journal;
@@ -31,16 +29,16 @@ use waiting_lists::lists::Lists;
 
 /// The waiting requests and their jobs, what runs and what is charged for it, the estimator, virtual time, and a
 /// chooser with the keys of every tenant's head: at each call what the definitions say of the history, so that
-/// nothing looks back at its entries. Each call is told the journal as it is before the call's entry. A Close changes
-/// `times` alone, and a Workers `times` and `chooser`, by calls of these parts.
+/// nothing looks back at its entries. Each call is told the journal as it is before the call's entry, and each entry
+/// has a call of its own: nothing else changes what is kept.
 #[derive(Drop)]
 pub struct Tracker<J, X> {
-    pub lists: Lists<J>,
-    pub book: Book,
-    pub accounts: Accounts,
-    pub costs: AnyCost,
-    pub times: Times,
-    pub chooser: X,
+    lists: Lists<J>,
+    book: Book,
+    accounts: Accounts,
+    costs: AnyCost,
+    times: Times,
+    chooser: X,
 }
 
 impl<J: Job + Drop, X: Chooser> Tracker<J, X> {
@@ -59,17 +57,25 @@ impl<J: Job + Drop, X: Chooser> Tracker<J, X> {
         })
     }
 
-    /// The row of what runs on the worker, where it may be named this use or cost, in microseconds; or why not.
-    pub fn row_for(&self, journal: &Journal, worker: u32, used: u64) -> Result<RunRow, Cause>
-        requires { Tracks J.label_of X.seen journal.now.config (history journal.now) self.now }
-        ensures row { IfOk result (MayName journal.now.config (history journal.now) self.now worker used) }
-        ensures refused { IfErr result (λ c. done_refusal journal.now.config (history journal.now) worker used
-            ≡ Some c) }
+    /// The waiting requests.
+    pub fn lists(&self) -> &Lists<J>
+        ensures { result.now ≡ self.now.lists }
     {
-        if worker >= journal.config().workers() {
-            return Err(Cause::Worker(worker));
-        }
-        Ok(self.book.row_for(worker, used)?)
+        &self.lists
+    }
+
+    /// What runs, and what is charged for it.
+    pub fn book(&self) -> &Book
+        ensures { result.now ≡ self.now.book }
+    {
+        &self.book
+    }
+
+    /// Virtual time, and the number of workers now.
+    pub fn times(&self) -> &Times
+        ensures { result.now ≡ self.now.times }
+    {
+        &self.times
     }
 
     /// A request of this tenant comes at this moment, in microseconds.
@@ -138,6 +144,16 @@ impl<J: Job + Drop, X: Chooser> Tracker<J, X> {
         self.renew(journal.config(), row.tenant);
     }
 
+    /// Nothing more is submitted from this moment on, in microseconds.
+    pub fn close(&mut self, journal: &Journal, moment: u64)
+        requires tracked { Tracks J.label_of X.seen journal.now.config (history journal.now) self.old }
+        requires legal { MayGain journal.now moment act.Close }
+        ensures tracked { TracksAfter J.label_of X.seen journal.now moment act.Close self.new }
+        ensures lists { self.new.lists ≡ self.old.lists }
+    {
+        self.times.pass(moment);
+    }
+
     /// The tenant has this weight from this moment on, in microseconds.
     pub fn reweigh(&mut self, journal: &Journal, moment: u64, tenant: u32, weight: u32)
         requires tracked { Tracks J.label_of X.seen journal.now.config (history journal.now) self.old }
@@ -147,6 +163,17 @@ impl<J: Job + Drop, X: Chooser> Tracker<J, X> {
     {
         self.times.reweigh(moment, tenant, weight);
         self.renew(journal.config(), tenant);
+    }
+
+    /// There are so many workers from this moment on, in microseconds.
+    pub fn staff(&mut self, journal: &Journal, moment: u64, count: u32)
+        requires tracked { Tracks J.label_of X.seen journal.now.config (history journal.now) self.old }
+        requires legal { MayGain journal.now moment (act.Workers count) }
+        ensures tracked { TracksAfter J.label_of X.seen journal.now moment (act.Workers count) self.new }
+        ensures lists { self.new.lists ≡ self.old.lists }
+    {
+        self.times.staff(moment, count);
+        self.chooser.resize(count);
     }
 
     // Gives the chooser the keys of the tenant's head, which alone may be another.

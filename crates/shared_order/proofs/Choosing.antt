@@ -1,13 +1,13 @@
 -- The head that is chosen in an order is the choice over its table.
-use Rattle.std.proofs.Common.{ℕ, ◌<◌, ◌≡◌, ◌⊎◌, inl, inr, arith, sym, ◌∙◌, ap, subst, List, [], ◌∷◌, ℤ, pos, ◌≤ℤ◌, ◌<ℤ◌}
+use Rattle.std.proofs.Common.{ℕ, ◌<◌, ◌≡◌, ◌⊎◌, inl, inr, arith, sym, ◌∙◌, ap, subst, List, [], ◌∷◌, pos, ◌≤ℤ◌, ◌<ℤ◌}
 use Rattle.std.specs.List.{All, Contains}
 use Rattle.std.proofs.lemmas.Int.{ints}
 use Rattle.std.proofs.lemmas.List.Elements.{All-contains, Contains-append_cases}
 use Rattle.vt_fixed.specs.declared.limits.TheConstants.{GREATEST_LENGTH}
 use Rattle.fq_model.specs.Keys.{HeadKeys, Turn, finish, eligible_key, IsEligible, FinishBefore, EligibleBefore, IsFirst, Every, IsChoice}
 use Rattle.tag_rules.specs.Tables.{Table, Has, NoneHas}
-use Rattle.order_laws.specs.Reach.{key_by_finish, IsInReach}
-use Rattle.order_laws.proofs.Reach.{eligible_in_reach, key_by_its_finish}
+use Rattle.shared_order.specs.Reach.{key_by_finish, IsInReach}
+use Rattle.shared_order.proofs.Reach.{eligible_in_reach, key_by_its_finish}
 use Rattle.shared_order.specs.Heads.{HeadView, head_of, HeadBefore, IsSorted}
 use Rattle.shared_order.specs.Search.{IsReached, key_of, IsSooner, IsFirstThat, IsLeast}
 use Rattle.shared_order.specs.Mirrors.{keys_of, Mirrors, IsChosen}

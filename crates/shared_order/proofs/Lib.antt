@@ -1,3 +1,4 @@
+pub mod Reach
 pub mod Lengths
 pub mod Sorting
 pub mod InBlock

@@ -11,9 +11,9 @@ use Rattle.std.proofs.lemmas.List.Elements.{All-nil, All-cons, All-append, All-w
 use Rattle.vt_fixed.specs.declared.limits.TheConstants.{GREATEST_LENGTH}
 use Rattle.tag_rules.specs.Keys.{IsInRange}
 use Rattle.fq_model.specs.Keys.{Turn}
-use Rattle.order_laws.specs.Reach.{key_by_finish, IsInReach}
-use Rattle.order_laws.specs.Laws.{Bounds}
-use Rattle.order_laws.proofs.Reach.{key_bounded, reach_bounded}
+use Rattle.shared_order.specs.Reach.{key_by_finish, IsInReach}
+use Rattle.shared_order.specs.Laws.{Bounds}
+use Rattle.shared_order.proofs.Reach.{key_bounded, reach_bounded}
 use Rattle.shared_order.specs.Heads.{HeadView, HeadBefore, IsSorted, greatest_length}
 use Rattle.shared_order.specs.Blocks.{all_heads}
 use Rattle.shared_order.specs.Search.{AreInRange, AreInLimits, IsReached, key_of, IsSooner, IsFirstThat, IsLeast, IsSoonest, TakesSoonest}

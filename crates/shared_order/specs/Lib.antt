@@ -1,3 +1,6 @@
+pub mod Reach
+pub mod Laws
+pub mod Examples
 pub mod Heads
 pub mod Blocks
 pub mod Search

@@ -4,7 +4,7 @@ use Rattle.std.specs.List.{All}
 use Rattle.vt_fixed.specs.declared.limits.TheConstants.{GREATEST_LENGTH}
 use Rattle.fq_model.specs.declared.limits.TheConstants.{GREATEST_START}
 use Rattle.fq_model.specs.Keys.{Turn}
-use Rattle.order_laws.specs.Reach.{key_by_finish, IsInReach}
+use Rattle.shared_order.specs.Reach.{key_by_finish, IsInReach}
 use Rattle.shared_order.specs.Heads.{HeadView, HeadBefore, IsSorted}
 use Rattle.shared_order.specs.declared.search.Candidate.{Candidate}
 

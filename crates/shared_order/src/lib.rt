@@ -1,9 +1,11 @@
-//! One order of heads for all workers.
+//! One order of heads for all workers, and the laws that it rests on: eligibility by finish and length alone.
 #![tactic(auto)]
 
 pub mod block;
 mod blocks;
 pub mod chooser;
+pub mod examples;
 pub mod head;
+pub mod laws;
 pub mod order;
 pub mod search;

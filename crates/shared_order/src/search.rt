@@ -1,7 +1,7 @@
 //! The choice among heads in blocks.
 ghost use Rattle.std.specs.Prelude.{◌≡◌, ◌↔◌, ℤ, pos, ◌+ℤ◌, ◌≤ℤ◌, [], ◌∷◌, false, IsTrue, IfSome, IfNone};
 ghost use Rattle.std.specs.List.{All};
-ghost use Rattle.order_laws.specs.Reach.{key_by_finish, Reaches, IsInReach};
+ghost use Rattle.shared_order.specs.Reach.{key_by_finish, Reaches, IsInReach};
 ghost use Rattle.shared_order.specs.Blocks.{all_heads};
 ghost use Rattle.shared_order.specs.Search.{AreInRange, AreInOrder, AreInLimits, IsReached, IsSooner, IsFirstThat, IsLeast, TakesSoonest};
 ghost use Rattle.shared_order.specs.Mirrors.{IsChosen};

@@ -19,7 +19,7 @@ use Rattle.desk.specs.declared.tokens.Worker.{Worker}
 use Rattle.desk.specs.Ending.{HasAll, IsIn, first_made}
 use Rattle.trace_pool.specs.PoolEnd.{FeedEnds, WorkEnds, PoolEnds}
 use Rattle.trace_pool.proofs.Ends.{pool_history, pool_moments}
-use Rattle.trace_runner.proofs.InLimits.{trace_limits}
+use Rattle.trace_reader.proofs.InLimits.{trace_limits}
 use Rattle.trace_pool.specs.Parts.{IsCrewOf, HasFed, HasWorked, HaveDone}
 use Rattle.trace_pool.proofs.Tokens.{found_at, made_is}
 

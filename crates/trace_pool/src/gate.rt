@@ -3,7 +3,7 @@ ghost use Rattle.std.specs.Prelude.{◌≡◌, ◌≤◌, slice_get, option_map,
 ghost use Rattle.vt_fixed.specs.declared.limits.TheConstants.{GREATEST_COST};
 ghost use Rattle.fq_model.specs.Limits.{IsWithin};
 ghost use Rattle.trace_pool.specs.PoolEnd.{trace_course};
-ghost use Rattle.trace_runner.specs.Plan.{AreCosts};
+ghost use Rattle.trace_reader.specs.Rows.{AreCosts};
 
 use gate_rules::counters::Counters;
 use gate_rules::gate::{Gate, Slice};

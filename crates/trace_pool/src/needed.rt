@@ -5,7 +5,7 @@ ghost use Rattle.fq_model.specs.declared.limits.TheConstants.{MOST_ROWS, MOST_SL
 ghost use Rattle.program_model.specs.Courses.{sum_over};
 ghost use Rattle.program_model.specs.PoolHistory.{needed_pool_entries, row_reports};
 ghost use Rattle.program_model.specs.TraceText.{IsLawfulTrace};
-ghost use Rattle.trace_runner.specs.Plan.{AreCosts};
+ghost use Rattle.trace_reader.specs.Rows.{AreCosts};
 
 use gate_rules::steps::Steps;
 use program_model::trace::TraceRow;

@@ -8,7 +8,7 @@ ghost use Rattle.program_model.specs.RunLimits.{AreInRange};
 ghost use Rattle.program_model.specs.PoolHistory.{IsPoolHistory, HasToldMoments, needed_pool_entries, pool_config};
 ghost use Rattle.program_model.specs.TraceText.{IsLawfulTrace};
 ghost use Rattle.desk.specs.Opening.{AreTokens};
-ghost use Rattle.trace_runner.specs.Plan.{AreCosts};
+ghost use Rattle.trace_reader.specs.Rows.{AreCosts};
 ghost use Rattle.trace_pool.specs.Parts.{IsCrewOf, AreRowsOf, HaveDone};
 ghost use Rattle.trace_pool.specs.Places.{HoldsFrom};
 ghost use Rattle.trace_pool.specs.Serving.{IsTooLong, too_long};
@@ -32,8 +32,8 @@ use std::collections::VecDeque;
 use std::sync::Wait;
 use std::thread::Threads;
 use tag_rules::chooser::Chooser;
+use trace_reader::opening::{config_of, submitters};
 use trace_reader::trace::Trace;
-use trace_runner::opening::{config_of, submitters};
 use worker_gate::pool::{Hand, pool};
 
 // The callers of all tokens serve the rows, each in a thread of its own, and the tokens come back.

@@ -8,3 +8,5 @@ mod Texts
 pub mod ReadBack
 mod GeneratedTenants
 pub mod Generated
+pub mod Sums
+pub mod InLimits

@@ -1,5 +1,5 @@
-//! Traces: their reader, which names the first fault of a text, their printer, and the generator of traces of random
-//! numbers.
+//! Traces: their reader, which names the first fault of a text, their printer, the generator of traces of random
+//! numbers, and what a scheduler that serves one is opened with.
 #![tactic(auto)]
 
 mod draft;
@@ -7,6 +7,7 @@ pub mod fault;
 mod fields;
 pub mod generating;
 pub mod messages;
+pub mod opening;
 pub mod printing;
 pub mod reading;
 pub mod trace;

@@ -24,7 +24,8 @@ use Rattle.trace_runner.specs.declared.agenda.Agenda.{Agenda}
 use Rattle.trace_runner.specs.declared.agenda.What.TheVariants as what
 use Rattle.trace_runner.specs.declared.staff.Work.{Work}
 use Rattle.trace_runner.specs.Agenda.{IsNext, ByWorks, ByRows}
-use Rattle.trace_runner.specs.Plan.{IsPlan, row_at}
+use Rattle.trace_reader.specs.Rows.{row_at}
+use Rattle.trace_runner.specs.Plan.{IsPlan}
 use Rattle.trace_runner.specs.Simulation.{Simulates, Keeps, Serves}
 use Rattle.trace_runner.specs.Staff.{work_moment, reported_work, new_work, IsSmall}
 use Rattle.trace_runner.proofs.Calls.{effective_now, grown, reported, finished, submitted, took_now, Took}

@@ -7,7 +7,7 @@ use Rattle.program_model.specs.Simulated.{run_config, IsSimulated}
 use Rattle.program_model.specs.Trace.{Trace}
 use Rattle.fq_laws.proofs.History.Requests.{submitted_below}
 use Rattle.fq_laws.proofs.Sums.{least_by}
-use Rattle.trace_runner.specs.Plan.{row_at}
+use Rattle.trace_reader.specs.Rows.{row_at}
 use Rattle.trace_runner.proofs.Only.{served_done}
 use Rattle.trace_runner.proofs.Rests.{all_submitted}
 use Rattle.trace_runner.proofs.Rows.{row_there}

@@ -1,38 +1,12 @@
--- The configuration of a trace is in its limits.
-use Rattle.std.proofs.Common.{ℕ, ◌*◌, ◌≤◌, ◌≡◌, max, length, arith, List, subst, sym, ap, refl, ◌∙◌, Some, None}
-use Rattle.fq_model.specs.declared.config.Config.{Config}
+-- The configuration of a simulation is in its limits.
+use Rattle.std.proofs.Common.{arith}
 use Rattle.program_model.specs.declared.trace.RunOptions.{RunOptions}
-use Rattle.fq_model.specs.declared.limits.TheConstants.{MOST_PAIRS, LEAST_ENTRIES, MOST_ENTRIES}
-use Rattle.fq_model.specs.declared.config.ConfigFault.{ConfigFault}
-use Rattle.program_model.specs.Courses.{trace_config}
-use Rattle.fq_model.specs.Limits.{InLimits, IsWithin, config_fault}
-use Rattle.program_model.specs.RunLimits.{AreInRange}
+use Rattle.fq_model.specs.declared.limits.TheConstants.{MOST_ENTRIES}
+use Rattle.fq_model.specs.Limits.{InLimits}
 use Rattle.program_model.specs.Simulated.{run_config}
 use Rattle.program_model.specs.Trace.{Trace}
-use Rattle.program_model.specs.TraceText.{IsLawfulTrace}
+use Rattle.trace_reader.proofs.InLimits.{trace_limits}
 use Rattle.trace_runner.specs.Plan.{IsPlan}
-use Rattle.fq_laws.proofs.Faults.{no_fault}
 
-module _ (T : Trace) (O : RunOptions) where
-  pub trace_limits : (entries : ℕ) → IsLawfulTrace T → AreInRange O → IsWithin LEAST_ENTRIES MOST_ENTRIES entries → InLimits (trace_config T O entries)
-  trace_limits entries lawful options within = record {
-    workers = options.workers;
-    tenants = (omega (arith, lawful.weighed, lawful.some_tenant), omega (arith, lawful.weighed, lawful.tenants.few));
-    weights = lawful.weights;
-    kinds = (lawful.some_kind, lawful.kinds.few);
-    pairs = subst (λ n. n * length T.kinds ≤ MOST_PAIRS) (sym lawful.weighed) lawful.pairs;
-    entries = within;
-    requests = (omega arith, omega (arith, lawful.few));
-    initial = options.initial;
-  }
-
-  pub in_limits : IsPlan T O → InLimits (run_config T O)
-  in_limits p = trace_limits _ p.lawful p.options (omega arith, omega (arith, p.few))
-
-  -- a configuration of these numbers has no fault
-  pub no_fault_here : (weights : List ℕ) (kinds entries requests : ℕ) (f : ConfigFault) → InLimits (trace_config T O entries) → weights ≡ T.weights → kinds ≡ length T.kinds → requests ≡ max 1 (length T.rows) →
-      config_fault (record { workers = O.workers; weights = weights; kinds = kinds; entries = entries; requests = requests; policy = O.policy; estimate = O.estimate; initial = O.initial }) ≡ Some f → ⊥
-  no_fault_here weights kinds entries requests f p w k r h =
-      let D : Config = record { workers = O.workers; weights = weights; kinds = kinds; entries = entries; requests = requests; policy = O.policy; estimate = O.estimate; initial = O.initial } in
-      let same : D ≡ trace_config T O entries = rw (w, k, r) refl in
-      let n : None ≡ Some f = sym (no_fault (trace_config T O entries) p) ∙ sym (ap config_fault same) ∙ h in cc
+pub in_limits : (T : Trace) (O : RunOptions) → IsPlan T O → InLimits (run_config T O)
+in_limits T O p = trace_limits T O _ p.lawful p.options (omega arith, omega (arith, p.few))

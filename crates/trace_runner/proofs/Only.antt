@@ -19,7 +19,7 @@ use Rattle.fq_laws.proofs.History.Workers.{runs_running}
 use Rattle.fq_laws.proofs.Rules.Answers.{chosen_request_one, chosen_estimate_one}
 use Rattle.fq_laws.proofs.Rules.Takes.{take_waits}
 use Rattle.fq_laws.proofs.Sums.{count_some}
-use Rattle.trace_runner.specs.Plan.{row_at}
+use Rattle.trace_reader.specs.Rows.{row_at}
 use Rattle.trace_runner.specs.Staff.{ComesBefore}
 use Rattle.trace_runner.proofs.Ending.{close_entry}
 use Rattle.trace_runner.proofs.Legal.{pool_same, untouched}

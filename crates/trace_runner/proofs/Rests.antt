@@ -14,7 +14,7 @@ use Rattle.fq_model.specs.Rules.{IsLegal}
 use Rattle.program_model.specs.Simulated.{run_config, row_submits, timed, rank, RankBefore, InTurn, IsServed, IsSimulated, KeepsBusy, ClosesLast}
 use Rattle.program_model.specs.Trace.{Trace}
 use Rattle.fq_laws.proofs.History.Requests.{submitted_below, taken_submitted}
-use Rattle.trace_runner.specs.Plan.{row_at}
+use Rattle.trace_reader.specs.Rows.{row_at}
 use Rattle.trace_runner.specs.Staff.{ComesBefore}
 use Rattle.trace_runner.proofs.Ending.{close_entry}
 use Rattle.trace_runner.proofs.Rows.{row_there}

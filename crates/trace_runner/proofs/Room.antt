@@ -15,7 +15,8 @@ use Rattle.program_model.specs.Trace.{Trace}
 use Rattle.fq_laws.proofs.History.Workers.{runs_running}
 use Rattle.trace_runner.specs.declared.agenda.Agenda.{Agenda}
 use Rattle.trace_runner.specs.declared.staff.Work.{Work}
-use Rattle.trace_runner.specs.Plan.{IsPlan, row_at, planned_reports}
+use Rattle.trace_reader.specs.Rows.{row_at}
+use Rattle.trace_runner.specs.Plan.{IsPlan, planned_reports}
 use Rattle.trace_runner.specs.Simulation.{Serves, Keeps}
 use Rattle.trace_runner.specs.Staff.{work_at}
 use Rattle.trace_runner.proofs.InLimits.{in_limits}

@@ -6,7 +6,7 @@ use Rattle.std.specs.Prelude.{slice_get}
 use Rattle.program_model.specs.declared.trace.TraceRow.{TraceRow}
 use Rattle.program_model.specs.Trace.{Trace}
 use Rattle.program_model.specs.TraceText.{IsLawfulTrace, IsLawfulRow}
-use Rattle.trace_runner.specs.Plan.{row_at}
+use Rattle.trace_reader.specs.Rows.{row_at}
 
 pub row_there : (rows : List TraceRow) (r : ℕ) → r < length rows → slice_get rows r ≡ Some (row_at rows r)
 row_there rows r l = slice_get-get_or rows r _ l

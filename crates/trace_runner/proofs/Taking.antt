@@ -17,7 +17,8 @@ use Rattle.fq_laws.proofs.History.Workers.{running_runs, took}
 use Rattle.fq_laws.proofs.Rules.Takes.{take_waits}
 use Rattle.trace_runner.specs.declared.agenda.Agenda.{Agenda}
 use Rattle.trace_runner.specs.declared.staff.Work.{Work}
-use Rattle.trace_runner.specs.Plan.{IsPlan, row_at}
+use Rattle.trace_reader.specs.Rows.{row_at}
+use Rattle.trace_runner.specs.Plan.{IsPlan}
 use Rattle.trace_runner.specs.Agenda.{ByWorks, ByRows}
 use Rattle.trace_runner.specs.Simulation.{FollowsLast, Serves, Keeps}
 use Rattle.trace_runner.specs.Staff.{work_at, work_moment, work_rank, ComesBefore, IsIdle, new_work}

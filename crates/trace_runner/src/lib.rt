@@ -5,6 +5,5 @@
 mod agenda;
 pub mod fault;
 pub mod needed;
-pub mod opening;
 pub mod runner;
 mod staff;

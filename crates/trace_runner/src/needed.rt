@@ -3,7 +3,8 @@ ghost use Rattle.std.specs.Prelude.{◌≡◌, ◌≤◌, ◌*◌, length};
 ghost use Rattle.program_model.specs.Courses.{reports_below};
 ghost use Rattle.program_model.specs.Simulated.{needed_entries};
 ghost use Rattle.program_model.specs.TraceText.{IsLawfulTrace};
-ghost use Rattle.trace_runner.specs.Plan.{AreCosts, planned_reports};
+ghost use Rattle.trace_reader.specs.Rows.{AreCosts};
+ghost use Rattle.trace_runner.specs.Plan.{planned_reports};
 
 use fq_model::limits::{GREATEST_COST, MOST_ROWS};
 use program_model::trace::TraceRow;

@@ -12,7 +12,6 @@ ghost use Rattle.trace_runner.specs.declared.fault.SimFault.TheVariants as fault
 use crate::agenda::{Agenda, Event, What};
 use crate::fault::SimFault;
 use crate::needed::needed;
-use crate::opening::{config_of, submitters};
 use crate::staff::Work;
 use fq_model::limits::{LEAST_ENTRIES, MOST_ENTRIES};
 use program_model::trace::RunOptions;
@@ -20,6 +19,7 @@ use sched_journal::History;
 use sched_state::{Scheduler, Taken};
 use std::alloc::Global;
 use tag_rules::chooser::Chooser;
+use trace_reader::opening::{config_of, submitters};
 use trace_reader::trace::Trace;
 
 /// The simulated history of a trace. Each request comes at its row's moment, runs for

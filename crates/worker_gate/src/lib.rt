@@ -4,3 +4,9 @@
 pub mod feed;
 pub mod pool;
 pub mod work;
+
+pub use gate_rules::cost_rule::{Cost, CostRule, WorkCost};
+pub use gate_rules::counters::{Counters, NO_COUNTERS};
+pub use gate_rules::gate::{Gate, Slice};
+pub use gate_rules::kind_rule::{Kind, KindRule};
+pub use gate_rules::rows::{Fed, Row};

@@ -5,8 +5,8 @@ use Rattle.vt_fixed.specs.Rounding.{part_of}
 use Rattle.vt_fixed.proofs.Bounds.{part_le, abs_bound}
 use Rattle.fq_model.specs.declared.config.Policy.TheVariants.{TwoDfq}
 use Rattle.fq_model.specs.Keys.{Turn, stagger}
-use Rattle.order_laws.specs.Reach.{key_by_finish}
-use Rattle.order_laws.proofs.Reach.{key_by_parts}
+use Rattle.shared_order.specs.Reach.{key_by_finish}
+use Rattle.shared_order.proofs.Reach.{key_by_parts}
 use Rattle.shared_order.proofs.search.key.Goals as goal
 
 record Parts (finish len part : ℤ) : Type 0 where

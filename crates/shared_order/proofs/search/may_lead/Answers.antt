@@ -1,6 +1,6 @@
 use Rattle.std.proofs.Common.{sym, ◌∙◌, ◌≡◌, ap, subst, rules, Some, slice_get, to_z, of_z, FitsSigned}
 use mir.Syntax.{w128}
-use Rattle.order_laws.specs.Reach.{key_by_finish}
+use Rattle.shared_order.specs.Reach.{key_by_finish}
 use Rattle.shared_order.specs.Heads.{HeadView, greatest_length}
 use Rattle.shared_order.specs.Search.{TakesSoonest}
 use Rattle.shared_order.proofs.Searching.{reads_finish, longest_read, bound_limits, not_less, passed_over, nothing_there}

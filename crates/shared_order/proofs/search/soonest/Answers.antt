@@ -1,4 +1,4 @@
-use Rattle.std.proofs.Common.{refl, ℤ, pos, ◌≤ℤ◌}
+use Rattle.std.proofs.Common.{refl, pos, ◌≤ℤ◌}
 use Rattle.vt_fixed.specs.declared.limits.TheConstants.{GREATEST_LENGTH}
 use Rattle.shared_order.specs.Heads.{HeadView}
 use Rattle.shared_order.proofs.Pieces.{block_all}

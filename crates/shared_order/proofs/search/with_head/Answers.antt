@@ -1,7 +1,6 @@
-use Rattle.std.proofs.Common.{sym, ◌∙◌, ◌≡◌, ap, subst, rules, Some, [], ◌∷◌, ℤ, ◌≤ℤ◌, to_z, of_z, FitsSigned}
+use Rattle.std.proofs.Common.{sym, ◌∙◌, ◌≡◌, ap, subst, rules, Some, [], ◌∷◌, ◌≤ℤ◌, to_z, of_z, FitsSigned}
 use mir.Syntax.{w128}
 use Rattle.std.proofs.lemmas.Int.{to_z-of_z}
-use Rattle.std.specs.List.{All}
 use Rattle.std.proofs.lemmas.List.Elements.{All-nil, All-cons}
 use Rattle.shared_order.specs.Heads.{HeadView}
 use Rattle.shared_order.specs.Search.{key_of, TakesSoonest}

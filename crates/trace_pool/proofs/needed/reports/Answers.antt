@@ -3,8 +3,8 @@ use Rattle.std.proofs.lemmas.List.Elements.{All-get_or}
 use Rattle.vt_fixed.specs.declared.limits.TheConstants.{GREATEST_COST}
 use Rattle.fq_model.specs.Limits.{IsWithin}
 use Rattle.program_model.specs.PoolHistory.{row_reports}
-use Rattle.trace_runner.specs.Plan.{row_at}
-use Rattle.trace_runner.proofs.Sums.{sum_over_take}
+use Rattle.trace_reader.specs.Rows.{row_at}
+use Rattle.trace_reader.proofs.Sums.{sum_over_take}
 use Rattle.gate_rules.proofs.Stepping.{steps_count_up}
 use Rattle.trace_pool.proofs.needed.reports.Goals as goal
 

@@ -1,6 +1,6 @@
 use Rattle.std.proofs.Common.{arith, add-one}
 use Rattle.program_model.specs.Courses.{reports_below}
-use Rattle.trace_runner.proofs.Sums.{sum_over_take}
+use Rattle.trace_reader.proofs.Sums.{sum_over_take}
 use Rattle.trace_runner.proofs.needed.planned.Goals as goal
 
 pub loop-row-preserved : goal.loop-row-preserved

@@ -1,7 +1,7 @@
 use Rattle.std.proofs.Common.{arith, ap, length, ◌∙◌, subst}
 use Rattle.trace_runner.specs.declared.agenda.What.TheVariants as what
 use Rattle.trace_runner.specs.Agenda.{IsNext}
-use Rattle.trace_runner.specs.Plan.{row_at}
+use Rattle.trace_reader.specs.Rows.{row_at}
 use Rattle.trace_runner.specs.Staff.{new_work}
 use Rattle.trace_runner.proofs.Events.{Stepped, report_stepped, done_stepped, submit_stepped, take_stepped, report_answered, done_answered, submit_answered, callers_few, due_low, rows_few, taken_small, refused_not, refused_no_request, take_known, take_runs}
 use Rattle.trace_runner.proofs.runner.step.Given as given

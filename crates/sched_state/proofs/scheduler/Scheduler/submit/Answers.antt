@@ -1,5 +1,8 @@
 use Rattle.std.proofs.Common.{◌≡◌, ◌∙◌, sym, ap, None}
+use Rattle.std.specs.Prelude.{Result}
+use Rattle.std.specs.Result.{result_err}
 use Rattle.std.specs.FinMap as map
+use Rattle.fq_model.specs.declared.event.Cause.{Cause}
 use Rattle.fq_model.specs.Rules.{submit_refusal}
 use Rattle.sched_journal.specs.Journal.{history}
 use Rattle.sched_state.specs.Scheduler.{SchedulerView}
@@ -8,12 +11,15 @@ use Rattle.sched_state.proofs.scheduler.Scheduler.submit.Given as given
 use Rattle.sched_state.proofs.scheduler.Scheduler.submit.Goals as goal
 use Rattle.sched_state.proofs.scheduler.Scheduler.submit.Goals.{After-effective-moment}
 
-pub returns-in-Some-clause-answers : goal.returns-in-Some-clause-answers
-returns-in-Some-clause-answers g c = unmoved c.self.inside.journal _ c.args.self.now _ _ c.self.view_is (refused _ c.in-Some.cause _ _ (sym (c.submit_refusal.ensures (c.len-backlog.ensures.all ∙ c.self.invariant.mirrors.lists_are.counted)) ∙ c.in-Some.is))
+pub submit-allowed-requires : goal.submit-allowed-requires
+submit-allowed-requires g c = c.self.invariant
+
+pub returns-in-Err-clause-answers : goal.returns-in-Err-clause-answers
+returns-in-Err-clause-answers g c = unmoved c.self.inside.journal _ c.args.self.now _ _ c.self.view_is (refused _ c.in-Err.cause _ _ (sym c.submit-allowed.ensures ∙ ap (λ (r : Result (Unit {0}) Cause). result_err r) c.in-Err.is))
 
 -- nothing refuses it
 none : (g : given.Over) (c : After-effective-moment g) → submit_refusal c.self.inside.journal.config (history c.self.inside.journal) c.args.tenant c.args.kind c.args.declared ≡ None
-none g c = sym (c.submit_refusal.ensures (c.len-backlog.ensures.all ∙ c.self.invariant.mirrors.lists_are.counted)) ∙ c.in_default.is
+none g c = sym c.submit-allowed.ensures ∙ ap (λ (r : Result (Unit {0}) Cause). result_err r) c.in_default.is
 
 pub submit-requires-clause-tracked : goal.submit-requires-clause-tracked
 submit-requires-clause-tracked g c = c.self.invariant

@@ -24,30 +24,30 @@ pub pass-requires-clause-in_range : goal.pass-requires-clause-in_range
 pass-requires-clause-in_range g c = c.requires.may.in_range
 
 pub choose-requires-clause-worker : goal.choose-requires-clause-worker
-choose-requires-clause-worker g c = worker_in c.args.journal.now.config (history c.args.journal.now) c.args.moment (g.X.Chooser.seen c.args.self.now.chooser) c.requires.tracked.mirrors.legal c.requires.tracked.chooser_is c.args.worker c.requires.may.pooled
+choose-requires-clause-worker g c = worker_in c.args.journal.now.config (history c.args.journal.now) c.args.moment (g.X.Chooser.seen c.args.self.now.chooser) c.requires.tracked.mirrors.legal c.requires.tracked.chooser_is c.args.worker c.requires.may.gets.pooled
 
 pub choose-requires-clause-not_back : goal.choose-requires-clause-not_back
 choose-requires-clause-not_back g c =
     let v = c.now.ensures in
-    omega (arith, ints, time_at g.J.Job.label_of g.X.Chooser.seen c.args.journal.now.config (history c.args.journal.now) c.args.moment c.args.worker c.args.self.now c.requires.tracked c.requires.may.later c.requires.may.in_range c.requires.may.free c.requires.may.pooled c.requires.may.some_waits c.pass.new.self c.now.result c.pass.ensures v.value v.low v.high, latest_at c.args.journal.now.config (history c.args.journal.now) c.args.moment (g.X.Chooser.seen c.args.self.now.chooser) c.requires.may.later c.requires.tracked.chooser_is)
+    omega (arith, ints, time_at g.J.Job.label_of g.X.Chooser.seen c.args.journal.now.config (history c.args.journal.now) c.args.moment c.args.worker c.args.self.now c.requires.tracked c.requires.may.later c.requires.may.in_range c.requires.may.gets.free c.requires.may.gets.pooled c.requires.may.gets.some_waits c.pass.new.self c.now.result c.pass.ensures v.value v.low v.high, latest_at c.args.journal.now.config (history c.args.journal.now) c.args.moment (g.X.Chooser.seen c.args.self.now.chooser) c.requires.may.later c.requires.tracked.chooser_is)
 
 pub unwrap-tenant-requires : goal.unwrap-tenant-requires
-unwrap-tenant-requires g c = some_chosen g.J.Job.label_of g.X.Chooser.seen c.args.journal.now.config (history c.args.journal.now) c.args.moment c.args.worker c.args.self.now c.requires.tracked c.requires.may.later c.requires.may.in_range c.requires.may.free c.requires.may.pooled c.requires.may.some_waits c.choose.result c.choose.ensures.none
+unwrap-tenant-requires g c = some_chosen g.J.Job.label_of g.X.Chooser.seen c.args.journal.now.config (history c.args.journal.now) c.args.moment c.args.worker c.args.self.now c.requires.tracked c.requires.may.later c.requires.may.in_range c.requires.may.gets.free c.requires.may.gets.pooled c.requires.may.gets.some_waits c.choose.result c.choose.ensures.none
 
 -- the tenant is the choice
-turn : (g : given.Over) (c : After-unwrap-tenant g) → Turns g.J.Job.label_of g.X.Chooser.seen c.args.journal.now.config (history c.args.journal.now) c.args.moment c.args.worker c.args.self.now c.requires.tracked c.requires.may.later c.requires.may.in_range c.requires.may.free c.requires.may.pooled c.requires.may.some_waits c.unwrap-tenant.result
+turn : (g : given.Over) (c : After-unwrap-tenant g) → Turns g.J.Job.label_of g.X.Chooser.seen c.args.journal.now.config (history c.args.journal.now) c.args.moment c.args.worker c.args.self.now c.requires.tracked c.requires.may.later c.requires.may.in_range c.requires.may.gets.free c.requires.may.gets.pooled c.requires.may.gets.some_waits c.unwrap-tenant.result
 turn g c =
     let v = c.now.ensures in
-    turns g.J.Job.label_of g.X.Chooser.seen c.args.journal.now.config (history c.args.journal.now) c.args.moment c.args.worker c.args.self.now c.requires.tracked c.requires.may.later c.requires.may.in_range c.requires.may.free c.requires.may.pooled c.requires.may.some_waits c.choose.result c.unwrap-tenant.result _ (time_at g.J.Job.label_of g.X.Chooser.seen c.args.journal.now.config (history c.args.journal.now) c.args.moment c.args.worker c.args.self.now c.requires.tracked c.requires.may.later c.requires.may.in_range c.requires.may.free c.requires.may.pooled c.requires.may.some_waits c.pass.new.self c.now.result c.pass.ensures v.value v.low v.high) c.unwrap-tenant.ensures c.choose.ensures.chosen
+    turns g.J.Job.label_of g.X.Chooser.seen c.args.journal.now.config (history c.args.journal.now) c.args.moment c.args.worker c.args.self.now c.requires.tracked c.requires.may.later c.requires.may.in_range c.requires.may.gets.free c.requires.may.gets.pooled c.requires.may.gets.some_waits c.choose.result c.unwrap-tenant.result _ (time_at g.J.Job.label_of g.X.Chooser.seen c.args.journal.now.config (history c.args.journal.now) c.args.moment c.args.worker c.args.self.now c.requires.tracked c.requires.may.later c.requires.may.in_range c.requires.may.gets.free c.requires.may.gets.pooled c.requires.may.gets.some_waits c.pass.new.self c.now.result c.pass.ensures v.value v.low v.high) c.unwrap-tenant.ensures c.choose.ensures.chosen
 
 pub weight-weight-requires : goal.weight-weight-requires
-weight-weight-requires g c = weighed_there g.J.Job.label_of g.X.Chooser.seen c.args.journal.now.config (history c.args.journal.now) c.args.moment c.args.worker c.args.self.now c.requires.tracked c.requires.may.later c.requires.may.in_range c.requires.may.free c.requires.may.pooled c.requires.may.some_waits c.pass.new.self c.unwrap-tenant.result c.pass.ensures (turn g (goal.at.weight-weight-requires g c).After-unwrap-tenant).known
+weight-weight-requires g c = weighed_there g.J.Job.label_of g.X.Chooser.seen c.args.journal.now.config (history c.args.journal.now) c.args.moment c.args.worker c.args.self.now c.requires.tracked c.requires.may.later c.requires.may.in_range c.requires.may.gets.free c.requires.may.gets.pooled c.requires.may.gets.some_waits c.pass.new.self c.unwrap-tenant.result c.pass.ensures (turn g (goal.at.weight-weight-requires g c).After-unwrap-tenant).known
 
 pub pop-requires : goal.pop-requires
 pop-requires g c = omega (arith, (turn g (goal.at.pop-requires g c).After-unwrap-tenant).known, c.requires.tracked.mirrors.lists_are.tenants)
 
 pub unwrap-item-requires : goal.unwrap-item-requires
-unwrap-item-requires g c = has_item g.J.Job.label_of g.X.Chooser.seen c.args.journal.now.config (history c.args.journal.now) c.args.moment c.args.worker c.args.self.now c.requires.tracked c.requires.may.later c.requires.may.in_range c.requires.may.free c.requires.may.pooled c.requires.may.some_waits c.unwrap-tenant.result c.pop.result (turn g (goal.at.unwrap-item-requires g c).After-unwrap-tenant) (sym c.pop.ensures.first)
+unwrap-item-requires g c = has_item g.J.Job.label_of g.X.Chooser.seen c.args.journal.now.config (history c.args.journal.now) c.args.moment c.args.worker c.args.self.now c.requires.tracked c.requires.may.later c.requires.may.in_range c.requires.may.gets.free c.requires.may.gets.pooled c.requires.may.gets.some_waits c.unwrap-tenant.result c.pop.result (turn g (goal.at.unwrap-item-requires g c).After-unwrap-tenant) (sym c.pop.ensures.first)
 
 pub now-estimate-requires-clause-tenant : goal.now-estimate-requires-clause-tenant
 now-estimate-requires-clause-tenant g c = omega (arith, (turn g (goal.at.now-estimate-requires-clause-tenant g c).After-unwrap-tenant).known, c.requires.tracked.mirrors.costs_are.tenants)
@@ -59,17 +59,17 @@ now-estimate-requires-clause-kind g c =
     omega (arith, kind_known g.J.Job.label_of c.args.journal.now.config (history c.args.journal.now) c.unwrap-tenant.result c.args.self.now m x.known c.unwrap-item.result (sym c.pop.ensures.first ∙ c.unwrap-item.ensures), m.costs_are.kinds)
 
 -- the item is what the worker takes
-chosen : (g : given.Over) (c : After-weight-weight g) → Turns g.J.Job.label_of g.X.Chooser.seen c.args.journal.now.config (history c.args.journal.now) c.args.moment c.args.worker c.args.self.now c.requires.tracked c.requires.may.later c.requires.may.in_range c.requires.may.free c.requires.may.pooled c.requires.may.some_waits c.unwrap-tenant.result → IsChosen c.args.journal.now.config (history c.args.journal.now) c.args.moment c.args.worker c.unwrap-item.result.request c.now-estimate.result (record { tenant = c.unwrap-tenant.result; kind = c.unwrap-item.result.kind; declared = c.unwrap-item.result.declared; label = g.J.Job.label_of c.unwrap-item.result.job })
+chosen : (g : given.Over) (c : After-weight-weight g) → Turns g.J.Job.label_of g.X.Chooser.seen c.args.journal.now.config (history c.args.journal.now) c.args.moment c.args.worker c.args.self.now c.requires.tracked c.requires.may.later c.requires.may.in_range c.requires.may.gets.free c.requires.may.gets.pooled c.requires.may.gets.some_waits c.unwrap-tenant.result → IsChosen c.args.journal.now.config (history c.args.journal.now) c.args.moment c.args.worker c.unwrap-item.result.request c.now-estimate.result (record { tenant = c.unwrap-tenant.result; kind = c.unwrap-item.result.kind; declared = c.unwrap-item.result.declared; label = g.J.Job.label_of c.unwrap-item.result.job })
 chosen g c x =
     let costs = c.requires.tracked.mirrors.costs_are in
-    item_chosen g.J.Job.label_of g.X.Chooser.seen c.args.journal.now.config (history c.args.journal.now) c.args.moment c.args.worker c.args.self.now c.requires.tracked c.requires.may.later c.requires.may.in_range c.requires.may.free c.requires.may.pooled c.requires.may.some_waits c.unwrap-tenant.result c.now-estimate.result c.unwrap-item.result x (sym c.pop.ensures.first ∙ c.unwrap-item.ensures) (c.now-estimate.ensures (completed (history c.args.journal.now)) costs.learned ∙ estimate_is c.args.journal.now.config (history c.args.journal.now) c.args.self.now.costs c.unwrap-tenant.result c.unwrap-item.result.kind c.unwrap-item.result.declared costs)
+    item_chosen g.J.Job.label_of g.X.Chooser.seen c.args.journal.now.config (history c.args.journal.now) c.args.moment c.args.worker c.args.self.now c.requires.tracked c.requires.may.later c.requires.may.in_range c.requires.may.gets.free c.requires.may.gets.pooled c.requires.may.gets.some_waits c.unwrap-tenant.result c.now-estimate.result c.unwrap-item.result x (sym c.pop.ensures.first ∙ c.unwrap-item.ensures) (c.now-estimate.ensures (completed (history c.args.journal.now)) costs.learned ∙ estimate_is c.args.journal.now.config (history c.args.journal.now) c.args.self.now.costs c.unwrap-tenant.result c.unwrap-item.result.kind c.unwrap-item.result.declared costs)
 
 -- what its Take begins
-begun : (g : given.Over) (c : After-weight-weight g) → Turns g.J.Job.label_of g.X.Chooser.seen c.args.journal.now.config (history c.args.journal.now) c.args.moment c.args.worker c.args.self.now c.requires.tracked c.requires.may.later c.requires.may.in_range c.requires.may.free c.requires.may.pooled c.requires.may.some_waits c.unwrap-tenant.result → (who : ℕ) → BeginStep c.args.journal.now.config (history c.args.journal.now) c.args.self.now.book c.args.self.now.accounts who c.args.moment c.args.worker c.unwrap-item.result.request c.unwrap-tenant.result c.unwrap-item.result.kind c.now-estimate.result c.weight-weight.result
+begun : (g : given.Over) (c : After-weight-weight g) → Turns g.J.Job.label_of g.X.Chooser.seen c.args.journal.now.config (history c.args.journal.now) c.args.moment c.args.worker c.args.self.now c.requires.tracked c.requires.may.later c.requires.may.in_range c.requires.may.gets.free c.requires.may.gets.pooled c.requires.may.gets.some_waits c.unwrap-tenant.result → (who : ℕ) → BeginStep c.args.journal.now.config (history c.args.journal.now) c.args.self.now.book c.args.self.now.accounts who c.args.moment c.args.worker c.unwrap-item.result.request c.unwrap-tenant.result c.unwrap-item.result.kind c.now-estimate.result c.weight-weight.result
 begun g c x who =
     let m = c.requires.tracked.mirrors in
     let asked = was_asked g.J.Job.label_of c.args.journal.now.config (history c.args.journal.now) c.unwrap-tenant.result c.args.self.now m x.known c.unwrap-item.result (sym c.pop.ensures.first ∙ c.unwrap-item.ensures) in
-    begin_step c.args.journal.now.config (history c.args.journal.now) c.args.self.now.book c.args.self.now.accounts who c.args.moment c.args.worker c.unwrap-item.result.request c.now-estimate.result c.weight-weight.result _ m.limits (legal_take g.J.Job.label_of g.X.Chooser.seen c.args.journal.now.config (history c.args.journal.now) c.args.moment c.args.worker c.args.self.now c.requires.tracked c.requires.may.later c.requires.may.in_range c.requires.may.free c.requires.may.pooled c.requires.may.some_waits who c.unwrap-tenant.result c.now-estimate.result c.unwrap-item.result (chosen g c x)) asked (weight_there g.J.Job.label_of g.X.Chooser.seen c.args.journal.now.config (history c.args.journal.now) c.args.moment c.args.worker c.args.self.now c.requires.tracked c.requires.may.later c.requires.may.in_range c.requires.may.free c.requires.may.pooled c.requires.may.some_waits c.pass.new.self c.unwrap-tenant.result c.weight-weight.result c.pass.ensures c.weight-weight.ensures.value x.known) m.book_is m.accounts_are
+    begin_step c.args.journal.now.config (history c.args.journal.now) c.args.self.now.book c.args.self.now.accounts who c.args.moment c.args.worker c.unwrap-item.result.request c.now-estimate.result c.weight-weight.result _ m.limits (legal_take g.J.Job.label_of g.X.Chooser.seen c.args.journal.now.config (history c.args.journal.now) c.args.moment c.args.worker c.args.self.now c.requires.tracked c.requires.may.later c.requires.may.in_range c.requires.may.gets.free c.requires.may.gets.pooled c.requires.may.gets.some_waits who c.unwrap-tenant.result c.now-estimate.result c.unwrap-item.result (chosen g c x)) asked (weight_there g.J.Job.label_of g.X.Chooser.seen c.args.journal.now.config (history c.args.journal.now) c.args.moment c.args.worker c.args.self.now c.requires.tracked c.requires.may.later c.requires.may.in_range c.requires.may.gets.free c.requires.may.gets.pooled c.requires.may.gets.some_waits c.pass.new.self c.unwrap-tenant.result c.weight-weight.result c.pass.ensures c.weight-weight.ensures.value x.known) m.book_is m.accounts_are
 
 pub begin-change-requires-clause-free : goal.begin-change-requires-clause-free
 begin-change-requires-clause-free g c = let at = goal.at.begin-change-requires-clause-free g c in (begun g at.After-weight-weight (turn g at.After-unwrap-tenant) 0).free
@@ -105,7 +105,7 @@ charge-requires-clause-high g c = let at = goal.at.charge-requires-clause-high g
 but : (g : given.Over) (c : After-charge g) (who : ℕ) → BeginStep c.args.journal.now.config (history c.args.journal.now) c.args.self.now.book c.args.self.now.accounts who c.args.moment c.args.worker c.unwrap-item.result.request c.unwrap-tenant.result c.unwrap-item.result.kind c.now-estimate.result c.weight-weight.result → TracksBut g.J.Job.label_of g.X.Chooser.seen c.unwrap-tenant.result c.args.journal.now.config (one_more who c.args.moment (Take c.args.worker c.unwrap-item.result.request c.now-estimate.result) (history c.args.journal.now)) (record { lists = c.pop.new.self; book = c.begin-change.new.self; accounts = c.charge.new.self; costs = c.args.self.now.costs; times = c.pass.new.self; chooser = c.choose.new.self })
 but g c who x =
     let v = c.now.ensures in
-    take_but g.J.Job.label_of g.X.Chooser.seen c.args.journal.now.config (history c.args.journal.now) c.args.self.now _ c.requires.tracked who c.args.moment c.args.worker c.unwrap-tenant.result c.now-estimate.result c.weight-weight.result c.unwrap-item.result _ c.begin-change.result x (sym c.pop.ensures.first ∙ c.unwrap-item.ensures) c.pass.ensures (time_at g.J.Job.label_of g.X.Chooser.seen c.args.journal.now.config (history c.args.journal.now) c.args.moment c.args.worker c.args.self.now c.requires.tracked c.requires.may.later c.requires.may.in_range c.requires.may.free c.requires.may.pooled c.requires.may.some_waits c.pass.new.self c.now.result c.pass.ensures v.value v.low v.high) c.begin-change.ensures.change c.begin-change.ensures.book c.charge.ensures c.pop.ensures.rest refl c.choose.ensures.seen
+    take_but g.J.Job.label_of g.X.Chooser.seen c.args.journal.now.config (history c.args.journal.now) c.args.self.now _ c.requires.tracked who c.args.moment c.args.worker c.unwrap-tenant.result c.now-estimate.result c.weight-weight.result c.unwrap-item.result _ c.begin-change.result x (sym c.pop.ensures.first ∙ c.unwrap-item.ensures) c.pass.ensures (time_at g.J.Job.label_of g.X.Chooser.seen c.args.journal.now.config (history c.args.journal.now) c.args.moment c.args.worker c.args.self.now c.requires.tracked c.requires.may.later c.requires.may.in_range c.requires.may.gets.free c.requires.may.gets.pooled c.requires.may.gets.some_waits c.pass.new.self c.now.result c.pass.ensures v.value v.low v.high) c.begin-change.ensures.change c.begin-change.ensures.book c.charge.ensures c.pop.ensures.rest refl c.choose.ensures.seen
 
 pub renew-requires : goal.renew-requires
 renew-requires g c = let at = goal.at.renew-requires g c in some_but g.J.Job.label_of g.X.Chooser.seen c.config.ensures.config (but g at.After-charge 0 (begun g at.After-weight-weight (turn g at.After-unwrap-tenant) 0))

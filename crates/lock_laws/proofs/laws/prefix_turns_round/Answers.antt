@@ -1,6 +1,0 @@
-use Rattle.std.proofs.Common.{ap, ◌∙◌, reverse}
-use Rattle.std.proofs.lemmas.List.{reverse-append}
-use Rattle.lock_laws.proofs.laws.prefix_turns_round.Goals as goal
-
-pub returns : goal.returns
-returns c = λ front P more. (reverse more.0, ap reverse more.1 ∙ reverse-append front more.0)

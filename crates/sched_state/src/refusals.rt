@@ -1,0 +1,171 @@
+//! Why a call is refused: one function a call, which makes its tests in the order of the causes and answers the first
+//! that holds. Each is told the journal and what is kept beside it, as they are before the call.
+ghost use Rattle.std.specs.Prelude.{◌≡◌, ◌≤◌, IfOk, IfSome, IfNone};
+ghost use Rattle.std.specs.Result.{result_err};
+ghost use Rattle.fq_model.specs.History.{waiting};
+ghost use Rattle.fq_model.specs.Rules.{submit_refusal, report_refusal, done_refusal, close_refusal, weight_refusal, workers_refusal};
+ghost use Rattle.charge_book.specs.Book.{MayUse};
+ghost use Rattle.sched_journal.specs.Journal.{history};
+ghost use Rattle.sched_state.specs.Refusals.{GetsNone, GetsWork, closed_cause, room_refusal};
+ghost use Rattle.sched_state.specs.Tracker.{Tracks};
+
+use crate::replies::{AlreadyClosed, Taken};
+use crate::tracker::Tracker;
+use charge_book::row::RunRow;
+use fq_model::event::Cause;
+use fq_model::job::Job;
+use fq_model::limits::{GREATEST_COST, GREATEST_WEIGHT};
+use sched_journal::Journal;
+use tag_rules::chooser::Chooser;
+
+/// Why a submit is refused, if it is. Its declared cost is in microseconds.
+pub fn submit<J: Job + Drop, X: Chooser>(
+    journal: &Journal,
+    tracker: &Tracker<J, X>,
+    tenant: u32,
+    kind: u32,
+    declared: u64,
+) -> Result<(), Cause>
+    requires { Tracks J.label_of X.seen journal.now.config (history journal.now) tracker.now }
+    ensures { result_err result ≡ submit_refusal journal.now.config (history journal.now) tenant kind declared }
+{
+    let config = journal.config();
+    let backlog = tracker.lists().len();
+    if journal.is_closed() {
+        Err(Cause::Closed)
+    } else if tenant >= config.tenants() {
+        Err(Cause::Tenant(tenant))
+    } else if kind >= config.kinds() {
+        Err(Cause::Kind(kind))
+    } else if declared == 0 || declared > GREATEST_COST {
+        Err(Cause::Cost(declared))
+    } else if backlog == config.requests() {
+        Err(Cause::Slots(backlog))
+    } else {
+        room(journal, backlog, 4)
+    }
+}
+
+/// What a worker that asks for work is told, if it gets none.
+pub fn take<J: Job + Drop, X: Chooser>(
+    journal: &Journal,
+    tracker: &Tracker<J, X>,
+    worker: u32,
+) -> Option<Taken<J>>
+    requires { Tracks J.label_of X.seen journal.now.config (history journal.now) tracker.now }
+    ensures told { IfSome result (GetsNone J.label_of journal.now.config (history journal.now) worker) }
+    ensures work { IfNone result (GetsWork journal.now.config (history journal.now) worker) }
+{
+    if worker >= journal.config().workers() {
+        return Some(Taken::UnknownWorker(worker));
+    }
+    if let Some(row) = tracker.book().running(worker) {
+        return Some(Taken::Busy(row.request));
+    }
+    let workers = tracker.times().workers();
+    if worker >= workers {
+        return Some(Taken::Retired(workers));
+    }
+    if tracker.lists().len() > 0 {
+        return None;
+    }
+    if journal.is_closed() {
+        Some(Taken::Drained)
+    } else {
+        Some(Taken::Idle)
+    }
+}
+
+/// Why a report of this use, in microseconds, is refused, or else the row of what runs on the worker.
+pub fn report<J: Job + Drop, X: Chooser>(
+    journal: &Journal,
+    tracker: &Tracker<J, X>,
+    worker: u32,
+    used: u64,
+) -> Result<RunRow, Cause>
+    requires { Tracks J.label_of X.seen journal.now.config (history journal.now) tracker.now }
+    ensures cause { result_err result ≡ report_refusal journal.now.config (history journal.now) worker used }
+    ensures row { IfOk result (λ row. MayUse tracker.now.book worker row used) }
+{
+    // a use is refused as it would be as a cost, or else for want of room
+    let row = done(journal, tracker, worker, used)?;
+    room(journal, tracker.lists().len(), 2)?;
+    Ok(row)
+}
+
+/// Why a done at this cost, in microseconds, is refused, or else the row of what runs on the worker.
+pub fn done<J: Job + Drop, X: Chooser>(
+    journal: &Journal,
+    tracker: &Tracker<J, X>,
+    worker: u32,
+    cost: u64,
+) -> Result<RunRow, Cause>
+    requires { Tracks J.label_of X.seen journal.now.config (history journal.now) tracker.now }
+    ensures cause { result_err result ≡ done_refusal journal.now.config (history journal.now) worker cost }
+    ensures row { IfOk result (λ row. MayUse tracker.now.book worker row cost) }
+{
+    if worker >= journal.config().workers() {
+        return Err(Cause::Worker(worker));
+    }
+    Ok(tracker.book().row_for(worker, cost)?)
+}
+
+/// Why a close is refused, if it is.
+pub fn close(journal: &Journal) -> Result<(), AlreadyClosed>
+    ensures { closed_cause result ≡ close_refusal (history journal.now) }
+{
+    if journal.is_closed() {
+        Err(AlreadyClosed)
+    } else {
+        Ok(())
+    }
+}
+
+/// Why a change of a tenant's weight is refused, if it is.
+pub fn weight<J: Job + Drop, X: Chooser>(
+    journal: &Journal,
+    tracker: &Tracker<J, X>,
+    tenant: u32,
+    weight: u32,
+) -> Result<(), Cause>
+    requires { Tracks J.label_of X.seen journal.now.config (history journal.now) tracker.now }
+    ensures { result_err result ≡ weight_refusal journal.now.config (history journal.now) tenant weight }
+{
+    if tenant >= journal.config().tenants() {
+        Err(Cause::Tenant(tenant))
+    } else if weight < 1 || weight > GREATEST_WEIGHT {
+        Err(Cause::Weight(weight))
+    } else {
+        room(journal, tracker.lists().len(), 2)
+    }
+}
+
+/// Why a change of the number of workers is refused, if it is.
+pub fn workers<J: Job + Drop, X: Chooser>(
+    journal: &Journal,
+    tracker: &Tracker<J, X>,
+    count: u32,
+) -> Result<(), Cause>
+    requires { Tracks J.label_of X.seen journal.now.config (history journal.now) tracker.now }
+    ensures { result_err result ≡ workers_refusal journal.now.config (history journal.now) count }
+{
+    if count < 1 || count > journal.config().workers() {
+        Err(Cause::Workers(count))
+    } else {
+        room(journal, tracker.lists().len(), 2)
+    }
+}
+
+// Why so many entries more are refused, if they are, where so many requests wait: those that are left are needed for
+// what is submitted.
+fn room(journal: &Journal, backlog: u32, more: u64) -> Result<(), Cause>
+    requires { more ≤ 4 }
+    ensures { backlog ≡ waiting (history journal.now)
+        → result_err result ≡ room_refusal journal.now.config (history journal.now) more }
+{
+    if journal.has_room(backlog, more) {
+        Ok(())
+    } else {
+        Err(Cause::Full(journal.config().entries()))
+    }
+}
