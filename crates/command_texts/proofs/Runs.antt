@@ -28,7 +28,7 @@ use Rattle.program_model.specs.PoolHistory.{needed_pool_entries, pool_config}
 use Rattle.program_model.specs.RunCommand.{IsSimulationAnswer}
 use Rattle.program_model.specs.Simulated.{needed_entries, run_config, IsSimulated}
 use Rattle.program_model.specs.declared.command.HistoryPrint.TheVariants as history
-use Rattle.program_model.specs.Program.{Move, Fails, Later, TellsEnd, FailsReading, ReadsInput, ReadsTooMuch, Ends, EndsCommand, IsRun, IsAnswered, if_served, greatest_input}
+use Rattle.program_model.specs.Program.{Move, Fails, Later, TellsEnd, FailsReading, ReadsInput, ReadsTooMuch, Ends, EndsCommand, IsRun, IsAnswered, FailsWriting, if_served, greatest_input}
 use Rattle.program_model.specs.Script.{Script as Calls, script_of}
 use Rattle.program_model.specs.ScriptCommand as scripts
 use Rattle.program_model.specs.declared.command.ScriptPrint.{ScriptPrint}
@@ -304,3 +304,19 @@ run_is {Told} {found} {ask} {source} {sink} serves end is ends status says sourc
 
 pub run_means : {Told : ℕ → Type 0} {ask : Option Command} {source sink errs : Move} {status : ℕ} → IsRun Told ask source sink errs status → StatusMeans Told ask source sink status
 run_means {Told} {ask} {source} {sink} r = rw (r.status_is) (ends_mean Told ask source sink r.end r.ends)
+
+-- a run with status 5 is of a command whose text was written in part
+ends_cut : (Told : ℕ → Type 0) (ask : Option Command) (source sink : Move) (end : Result ℕ Failure) → Ends Told ask source sink end → status_of end ≡ 5 → (command : Command) × (ask ≡ Some command) × FailsWriting Told command source sink
+ends_cut Told None source sink end x five = absurd (omega (arith, rw x.0 at five))
+ends_cut Told (Some command) source sink (Ok status) x five =
+    absurd (false≢true (sym (sound Told command x.answered.input (Text status x.text) x.answered.is_answer) ∙ ap is_failure five))
+ends_cut Told (Some command) source sink (Err Words) x five = absurd x
+ends_cut Told (Some command) source sink (Err TooLong) x five = absurd (omega (arith, five))
+ends_cut Told (Some command) source sink (Err Reading) x five = absurd (omega (arith, five))
+ends_cut Told (Some command) source sink (Err Writing) x five = (command, refl, x)
+ends_cut Told (Some command) source sink (Err (Stopped (stops.Message status message))) x five =
+    absurd (false≢true (sym (sound Told command x.0.input (Message status (string_bytes message)) x.0.is_answer) ∙ ap is_failure five))
+ends_cut Told (Some command) source sink (Err (Stopped stops.NoMemory)) x five = absurd (omega (arith, five))
+
+pub run_cut : {Told : ℕ → Type 0} {ask : Option Command} {source sink errs : Move} {status : ℕ} → IsRun Told ask source sink errs status → status ≡ 5 → (command : Command) × (ask ≡ Some command) × FailsWriting Told command source sink
+run_cut {Told} {ask} {source} {sink} r five = ends_cut Told ask source sink r.end r.ends (sym r.status_is ∙ five)

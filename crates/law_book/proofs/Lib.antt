@@ -2,3 +2,5 @@ mod Telling
 mod Apart
 mod Exists
 mod Entries
+mod Programs
+pub mod CleanRuns

@@ -9,6 +9,7 @@ pub mod leaves;
 pub mod levels;
 pub mod names;
 pub mod pools;
+pub mod programs;
 pub mod reports;
 pub mod rounding;
 pub mod services;

@@ -1,15 +1,15 @@
 //! The program over memory that never fails.
 ghost use Rattle.std.specs.Prelude.{◌≡◌, ◌≢◌, [], map};
 ghost use Rattle.std.specs.String.{string_bytes};
-ghost use Rattle.command_texts.specs.Commands.{Untold};
-ghost use Rattle.plain_commands.specs.Asked.{asked, is_plain};
-ghost use Rattle.clean_runs.specs.Laws.{AreOutputsShorter};
+ghost use Rattle.program_model.specs.Commands.{Untold};
+ghost use Rattle.program_model.specs.Program.{asked, is_plain};
+ghost use Rattle.law_book.specs.Programs.{AreTextsShorter};
 
 use crate::samples::{REPLIES, SCRIPT, bytes_of, owned};
 use fq_memory::{CleanSink, CleanSource};
-use plain_commands::plain::plain;
 use std::alloc::Global;
 use std::process::Abort;
+use twodfq_main::program::plain;
 
 // Where the sink has more room than the output has bytes, neither reading nor writing can fail.
 fn clean_run(
@@ -21,7 +21,7 @@ fn clean_run(
 ) -> u8
     requires written { sink.old.written ≡ [] }
     requires faults { sink.old.faults ≡ 0 }
-    requires room { AreOutputsShorter sink.old.room Untold (asked is_plain (map string_bytes words.now)) source.old }
+    requires room { AreTextsShorter sink.old.room Untold (asked is_plain (map string_bytes words.now)) source.old }
     ensures reads { result ≢ 4 }
     ensures writes { result ≢ 5 }
 {

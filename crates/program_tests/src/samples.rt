@@ -2,9 +2,9 @@
 ghost use Rattle.std.specs.Prelude.{◌≤◌};
 
 use fq_memory::{MemSink, MemSource};
-use plain_commands::plain::plain;
 use std::alloc::Global;
 use std::process::Abort;
+use twodfq_main::program::plain;
 
 /// A request of one tenant, served until the scheduler is drained, and one that comes after the close. 169 bytes.
 pub const SCRIPT: &str =

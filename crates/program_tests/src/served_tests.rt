@@ -1,7 +1,7 @@
 //! Worked scripts, with the replies that they get.
 use crate::samples::{REPLIES, SCRIPT, joined};
 use crate::worked_tests::{Wanted, check, sound_sink, sound_source};
-use command_texts::script::served_text;
+use command_texts::script;
 use program_model::command::ScriptPrint;
 use rival_policies::plain::PlainChooser;
 use shared_order::chooser::SharedChooser;
@@ -25,11 +25,11 @@ fn parts_answer<R: Abort>(rt: &R, alloc: Global, parts: &[&str], replies: &str) 
 
 // The input is served so by this chooser.
 fn chooser_answers<X: Chooser + Drop, R: Abort>(rt: &R, alloc: Global, input: &str, replies: &str) {
-    let text = served_text::<X>(alloc, ScriptPrint::Replies, input.as_bytes());
-    let Ok(text) = text else {
+    let output = script::answer::<X>(alloc, ScriptPrint::Replies, input.as_bytes());
+    let Ok(output) = output else {
         panic!(rt; "a script")
     };
-    assert_eq!(rt; text.as_slice(), replies.as_bytes());
+    assert_eq!(rt; output.text.as_slice(), replies.as_bytes());
 }
 
 // The input of these parts is served, with these replies, whichever chooser serves.

@@ -1,12 +1,12 @@
 //! Why the program stops, for people to read.
-use command_texts::stop::Stop;
+use program_model::ending::{Failure, Stop};
 use std::alloc::Global;
 use std::process::Abort;
 
 // Each is told so.
-fn expect<R: Abort>(rt: &R, alloc: Global, stops: &[(Stop, &str)]) {
-    for (stop, wanted) in stops {
-        let Ok(text) = format!(in alloc; "{stop}") else {
+fn expect<R: Abort>(rt: &R, alloc: Global, failures: &[(Failure, &str)]) {
+    for (failure, wanted) in failures {
+        let Ok(text) = format!(in alloc; "{failure}") else {
             panic!(rt; "no memory for a text")
         };
         assert_eq!(rt; text.as_str(), *wanted);
@@ -19,16 +19,19 @@ fn says_why_it_stops(rt: HostRuntime) {
     let Ok(fault) = String::from_str(alloc, "twodfq: line 2: field 2 is not a number\n") else {
         panic!(&rt; "no memory for a text")
     };
-    let stops = [
-        (Stop::Words, "twodfq: the words are not a command line"),
-        (Stop::TooLong, "twodfq: input longer than 67108864 bytes"),
+    let failures = [
+        (Failure::Words, "twodfq: the words are not a command line"),
+        (Failure::TooLong, "twodfq: input longer than 67108864 bytes"),
         (
-            Stop::Fault(fault),
+            Failure::Stopped(Stop::Message {
+                status: 3,
+                message: fault,
+            }),
             "twodfq: line 2: field 2 is not a number",
         ),
-        (Stop::Reading, "twodfq: reading failed"),
-        (Stop::Writing, "twodfq: writing failed"),
-        (Stop::NoMemory, "twodfq: out of memory"),
+        (Failure::Reading, "twodfq: reading failed"),
+        (Failure::Writing, "twodfq: writing failed"),
+        (Failure::Stopped(Stop::NoMemory), "twodfq: out of memory"),
     ];
-    expect(&rt, alloc, &stops);
+    expect(&rt, alloc, &failures);
 }

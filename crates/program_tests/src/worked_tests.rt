@@ -2,12 +2,11 @@
 use crate::samples::{NEVER, REPLIES, SCRIPT, owned, sink_of, source_of};
 use fq_io::read_all;
 use fq_memory::{FixedClock, MemSink, MemSource};
-use plain_commands::plain::plain;
 use std::alloc::Global;
 use std::process::Abort;
 use std::sync::Wait;
 use std::thread::Threads;
-use twodfq_main::program::twodfq;
+use twodfq_main::program::{plain, twodfq};
 
 /// What a call is to leave.
 #[derive(Clone, Copy)]

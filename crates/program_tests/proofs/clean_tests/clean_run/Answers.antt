@@ -1,4 +1,4 @@
-use Rattle.clean_runs.proofs.CleanRuns.{never_writes}
+use Rattle.law_book.proofs.CleanRuns.{never_writes}
 use Rattle.program_tests.proofs.clean_tests.clean_run.Goals as goal
 
 pub returns-clause-writes : goal.returns-clause-writes

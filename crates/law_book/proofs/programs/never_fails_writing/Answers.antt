@@ -1,6 +1,6 @@
-use Rattle.command_texts.specs.Commands.{Untold}
-use Rattle.clean_runs.proofs.CleanRuns.{no_writing}
-use Rattle.clean_runs.proofs.laws.never_fails_writing.Goals as goal
+use Rattle.program_model.specs.Commands.{Untold}
+use Rattle.law_book.proofs.CleanRuns.{no_writing}
+use Rattle.law_book.proofs.programs.never_fails_writing.Goals as goal
 
 pub returns-clause-plain : goal.returns-clause-plain
 returns-clause-plain g c = no_writing Untold

@@ -1,0 +1,32 @@
+//! Laws of the program's answers, and of its runs over memory that never fails, whatever is asked.
+ghost use Rattle.program_model.specs.Commands.{Untold};
+ghost use Rattle.law_book.specs.Programs.{AreOwnRows, OneAnswer, OneStatus, NeverFailsReading, NeverFailsWriting};
+
+use fq_io::Clock;
+
+/// Each row of the table of commands means commands of that row.
+pub fn own_rows()
+    ensures { AreOwnRows }
+{}
+
+/// A command that waits for nobody has one answer to an input at most.
+pub fn one_answer()
+    ensures { OneAnswer }
+{}
+
+/// So the statuses of two answers to one input agree.
+pub fn one_status()
+    ensures { OneStatus }
+{}
+
+/// Over a `CleanSource` the program never ends with 4.
+pub fn never_fails_reading<K: Clock>(_clock: &K)
+    ensures plain { NeverFailsReading Untold }
+    ensures live { NeverFailsReading (K.tells _clock.now) }
+{}
+
+/// Over a fresh `CleanSink` that has more room than the text has bytes it never ends with 5.
+pub fn never_fails_writing<K: Clock>(_clock: &K)
+    ensures plain { NeverFailsWriting Untold }
+    ensures live { NeverFailsWriting (K.tells _clock.now) }
+{}
