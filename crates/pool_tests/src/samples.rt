@@ -4,12 +4,13 @@ ghost use Rattle.history_lock.specs.Passes.{IsOf};
 ghost use Rattle.desk.specs.Ending.{HoldsOfEach};
 
 use desk::{Desk, Submitter, Worker};
-use fq_model::config::{Checked, Config, Estimator, Policy, Weights};
+use fq_model::config::{Checked, Config};
 use fq_model::event::Entry;
 use sched_state::Scheduler;
 use std::alloc::Global;
 use std::process::Abort;
 use tag_rules::chooser::Chooser;
+use test_samples::sample_config;
 
 /// One tenant of weight 1, and costs as declared.
 pub fn configured<R: Abort>(
@@ -22,25 +23,15 @@ pub fn configured<R: Abort>(
 ) -> Checked
     ensures { result.kinds ≡ kinds }
 {
-    let weights = vec![in alloc; 1];
-    let Ok(weights) = weights else {
-        panic!(rt; "no memory for a weight")
-    };
+    let weights = vec![in alloc; 1].expect(rt, "memory for a weight");
     let config = Config {
         workers,
-        weights: Weights::from_vec(weights),
         kinds,
         entries,
         requests,
-        policy: Policy::TwoDfq,
-        estimate: Estimator::Declared,
-        initial: 1000,
+        ..sample_config(weights)
     };
-    let checked = config.check();
-    let Ok(checked) = checked else {
-        panic!(rt; "a number out of its limits")
-    };
-    checked
+    config.check().expect(rt, "numbers in their limits")
 }
 
 /// The one token of a vector.

@@ -1,34 +1,20 @@
-use crate::samples::{expect_told, send_away};
-use fq_model::config::{Checked, Config, Estimator, Policy, Weights};
-use fq_model::event::{Act, Cause, Entry};
+use crate::samples::send_away;
+use fq_model::config::Checked;
+use fq_model::event::{Act, Entry};
 use rival_policies::plain::PlainChooser;
-use sched_state::{AlreadyClosed, Refused, Scheduler, Taken};
+use sched_state::{Scheduler, Taken};
 use std::alloc::Global;
 use std::marker::Send;
 use std::process::Abort;
 use tag_rules::chooser::Chooser;
+use test_samples::sample_config;
 
 // Two tenants of the weights 1 and 2 share one worker.
 fn shared_worker<R: Abort>(rt: &R, alloc: Global) -> Checked {
-    let weights = vec![in alloc; 1, 2];
-    let Ok(weights) = weights else {
-        panic!(rt; "no memory for weights")
-    };
-    let config = Config {
-        workers: 1,
-        weights: Weights::from_vec(weights),
-        kinds: 1,
-        entries: 100,
-        requests: 10,
-        policy: Policy::TwoDfq,
-        estimate: Estimator::Declared,
-        initial: 1000,
-    };
-    let checked = config.check();
-    let Ok(checked) = checked else {
-        panic!(rt; "a number out of its limits")
-    };
-    checked
+    let weights = vec![in alloc; 1, 2].expect(rt, "memory for weights");
+    sample_config(weights)
+        .check()
+        .expect(rt, "numbers in their limits")
 }
 
 // A scheduler of those.
@@ -77,16 +63,4 @@ fn call<X: Chooser + Drop + Send, R: Abort>(rt: &R, alloc: Global) {
 #[test]
 fn a_caller(rt: HostRuntime) {
     call::<PlainChooser, HostRuntime>(&rt, rt.alloc());
-}
-
-#[test]
-fn refusals_are_told(rt: HostRuntime) {
-    let closed = "the history is closed already";
-    expect_told(&rt, rt.alloc(), &AlreadyClosed, closed);
-    let refused = Refused {
-        job: 42,
-        cause: Cause::Tenant(7),
-    };
-    let cause = "no tenant has the number 7";
-    expect_told(&rt, rt.alloc(), &refused, cause);
 }

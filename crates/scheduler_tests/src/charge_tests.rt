@@ -1,6 +1,6 @@
 ghost use Rattle.std.specs.Prelude.{◌≡◌, length, replicate, None};
 
-use crate::samples::{configured, expect_told, send_away};
+use crate::samples::{configured, send_away};
 use charge_book::book::Book;
 use charge_book::refusal::BookRefusal;
 use charge_book::row::RunRow;
@@ -97,22 +97,7 @@ fn what_runs_keeps_its_weight(rt: HostRuntime) {
 }
 
 #[test]
-fn refusals_are_told(rt: HostRuntime) {
-    expect_told(
-        &rt,
-        rt.alloc(),
-        &BookRefusal::NotRunning,
-        "nothing runs on the worker",
-    );
-    let range = BookRefusal::CostRange(1000000001);
-    expect_told(
-        &rt,
-        rt.alloc(),
-        &range,
-        "1000000001 microseconds are above 1000000000",
-    );
-    let falling = "11 microseconds are less than the 12 reported before";
-    expect_told(&rt, rt.alloc(), &FALLING, falling);
+fn a_refusal_is_a_cause(rt: HostRuntime) {
     let cause = Cause::Falling {
         last: 12,
         given: 11,

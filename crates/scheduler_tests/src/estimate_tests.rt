@@ -6,35 +6,24 @@ use cost_estimate::declared::DeclaredCost;
 use cost_estimate::estimate::Estimate;
 use cost_estimate::pessimistic::PessimisticCost;
 use cost_estimate::recent::RecentCost;
-use fq_model::config::{Checked, Config, Estimator, Policy, Weights};
+use fq_model::config::{Checked, Config, Estimator};
 use std::alloc::Global;
 use std::marker::Send;
 use std::process::Abort;
+use test_samples::sample_config;
 
 // Two tenants, two kinds and the initial value 1000.
 fn two_by_two<R: Abort>(rt: &R, alloc: Global, estimate: Estimator) -> Checked
     ensures tenants { length result.weights ≡ 2 }
     ensures kinds { result.kinds ≡ 2 }
 {
-    let weights = vec![in alloc; 1, 1];
-    let Ok(weights) = weights else {
-        panic!(rt; "no memory for weights")
-    };
+    let weights = vec![in alloc; 1, 1].expect(rt, "memory for weights");
     let config = Config {
-        workers: 1,
-        weights: Weights::from_vec(weights),
         kinds: 2,
-        entries: 4,
-        requests: 1,
-        policy: Policy::TwoDfq,
         estimate,
-        initial: 1000,
+        ..sample_config(weights)
     };
-    let checked = config.check();
-    let Ok(checked) = checked else {
-        panic!(rt; "a number out of its limits")
-    };
-    checked
+    config.check().expect(rt, "numbers in their limits")
 }
 
 // An estimator for those.

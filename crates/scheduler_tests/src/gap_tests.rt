@@ -4,13 +4,14 @@ ghost use Rattle.fq_model.specs.Rules.{IsLegal};
 ghost use Rattle.fq_model.specs.declared.event.Act.TheVariants as act;
 ghost use Rattle.scheduler_tests.specs.Gaps.{gap_config};
 
-use fq_model::config::{Checked, Config, Estimator, Policy, Weights};
+use fq_model::config::{Checked, Config, Estimator, Policy};
 use fq_model::event::{Act, Entry};
 use std::alloc::Global;
 use std::process::Abort;
 use tag_gap::fault::GapFault;
 use tag_gap::gap::Gap;
 use tag_gap::gaps::tag_gap;
+use test_samples::sample_config;
 
 // Two tenants, the first of weight 1.
 fn two_tenants<R: Abort>(
@@ -23,25 +24,16 @@ fn two_tenants<R: Abort>(
 ) -> Checked
     ensures { result ≡ gap_config workers weight policy estimate }
 {
-    let weights = vec![in alloc; 1, weight];
-    let Ok(weights) = weights else {
-        panic!(rt; "no memory for weights")
-    };
+    let weights = vec![in alloc; 1, weight].expect(rt, "memory for weights");
     let config = Config {
         workers,
-        weights: Weights::from_vec(weights),
         kinds: 2,
-        entries: 100,
-        requests: 10,
         policy,
         estimate,
         initial: 990,
+        ..sample_config(weights)
     };
-    let checked = config.check();
-    let Ok(checked) = checked else {
-        panic!(rt; "a number out of its limits")
-    };
-    checked
+    config.check().expect(rt, "numbers in their limits")
 }
 
 // What is told of a history: the gap of one tenant above another.

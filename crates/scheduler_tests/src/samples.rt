@@ -1,12 +1,12 @@
 //! What the tests share.
 ghost use Rattle.std.specs.Prelude.{◌≡◌, ◌≤◌, length};
 
-use fq_model::config::{Checked, Config, Estimator, Policy, Weights};
+use fq_model::config::{Checked, Config, Policy};
 use fq_model::limits::MOST_WORKERS;
 use std::alloc::Global;
-use std::fmt::Display;
 use std::marker::Send;
 use std::process::Abort;
+use test_samples::sample_config;
 
 /// Only what may go to another thread can be passed here.
 pub fn send_away<T: Send + Drop>(_sent: T) {}
@@ -25,32 +25,11 @@ pub fn configured<R: Abort>(
     ensures workers { result.workers ≡ workers }
     ensures tenants { length result.weights ≡ tenants }
 {
-    let weights = vec![in alloc; 1; tenants];
-    let Ok(weights) = weights else {
-        panic!(rt; "no memory for weights")
-    };
+    let weights = vec![in alloc; 1; tenants].expect(rt, "memory for weights");
     let config = Config {
         workers,
-        weights: Weights::from_vec(weights),
-        kinds: 1,
-        entries: 4,
-        requests: 1,
         policy,
-        estimate: Estimator::Declared,
-        initial: 1000,
+        ..sample_config(weights)
     };
-    let checked = config.check();
-    let Ok(checked) = checked else {
-        panic!(rt; "a number out of its limits")
-    };
-    checked
-}
-
-/// A fault is told so.
-pub fn expect_told<D: Display, R: Abort>(rt: &R, alloc: Global, fault: &D, wanted: &str) {
-    let text = format!(in alloc; "{fault}");
-    let Ok(text) = text else {
-        panic!(rt; "no memory for a text")
-    };
-    assert_eq!(rt; text.as_str(), wanted);
+    config.check().expect(rt, "numbers in their limits")
 }

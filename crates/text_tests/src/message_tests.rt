@@ -1,8 +1,10 @@
 //! The messages of faults, for people to read.
+use charge_book::refusal::BookRefusal;
 use fq_model::config::ConfigFault;
 use fq_model::event::Cause;
 use fq_model::words::UnknownWord;
 use program_model::fault::{ScriptKind, TraceKind};
+use sched_state::{AlreadyClosed, Refused};
 use std::alloc::Global;
 use std::fmt::Display;
 use std::process::Abort;
@@ -10,9 +12,7 @@ use std::process::Abort;
 // Each of these says this.
 fn expect<D: Display>(rt: &impl Abort, alloc: Global, messages: &[(D, &str)]) {
     for (fault, wanted) in messages {
-        let Ok(text) = format!(in alloc; "{fault}") else {
-            panic!(rt; "no memory for a text")
-        };
+        let text = format!(in alloc; "{fault}").expect(rt, "memory for a text");
         assert_eq!(rt; text.as_str(), *wanted);
     }
 }
@@ -46,6 +46,36 @@ fn says_why_a_call_is_refused(rt: HostRuntime) {
         (
             Cause::Workers(0),
             "0 workers, and there may be 1 to as many as at the opening",
+        ),
+    ];
+    expect(&rt, rt.alloc(), &messages);
+}
+
+#[test]
+fn says_why_a_scheduler_refuses(rt: HostRuntime) {
+    let closed = [(AlreadyClosed, "the history is closed already")];
+    expect(&rt, rt.alloc(), &closed);
+    let refused = Refused {
+        job: 42,
+        cause: Cause::Tenant(7),
+    };
+    expect(&rt, rt.alloc(), &[(refused, "no tenant has the number 7")]);
+}
+
+#[test]
+fn says_why_a_book_refuses(rt: HostRuntime) {
+    let messages = [
+        (BookRefusal::NotRunning, "nothing runs on the worker"),
+        (
+            BookRefusal::CostRange(1000000001),
+            "1000000001 microseconds are above 1000000000",
+        ),
+        (
+            BookRefusal::Falling {
+                last: 12,
+                given: 11,
+            },
+            "11 microseconds are less than the 12 reported before",
         ),
     ];
     expect(&rt, rt.alloc(), &messages);

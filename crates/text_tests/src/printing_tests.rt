@@ -1,5 +1,5 @@
 //! Texts written by hand, and what they say.
-use crate::samples::{expect_text, joined};
+use crate::samples::expect_text;
 use fq_model::event::{Act, Cause, Entry, Reply};
 use journal_text::calls::{Script, read_script};
 use journal_text::messages::placed_fault;
@@ -102,8 +102,10 @@ fn entries() -> [Entry; 7] {
 
 // The script that has that head and no calls.
 fn without_calls<R: Abort>(rt: &R, alloc: Global) -> Script {
-    let text = joined(rt, alloc, &["script 1\n", HEAD]);
-    let script = read_script(alloc, text.as_slice());
+    let text = ["script 1\n", HEAD]
+        .concat(alloc)
+        .expect(rt, "memory for a text");
+    let script = read_script(alloc, text.as_bytes());
     let Ok(script) = script else {
         panic!(rt; "a script")
     };
@@ -127,8 +129,9 @@ fn expect_journal<R: Abort>(
         script.tenants(),
         script.kinds(),
     );
-    let wanted = joined(rt, alloc, &[version, HEAD, wanted, changes]);
-    expect_text(rt, text, wanted.as_slice());
+    let parts = [version, HEAD, wanted, changes];
+    let wanted = parts.concat(alloc).expect(rt, "memory for a text");
+    expect_text(rt, text, wanted.as_bytes());
 }
 
 // It is of the second version only where a weight or the number of workers changes.
