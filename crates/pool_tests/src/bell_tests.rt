@@ -140,41 +140,38 @@ fn rest<O: time::Clock + Files + Alloc>(os: &O, clock: &CountingClock) -> Seen {
     }
 }
 
-// Submits one job after another.
+// Submits one job after another, and says whether each came to run in time.
 fn rounds<X: Chooser, R: Wait, O: time::Clock>(
     rt: &R,
     os: &O,
     desk: &Desk<u64, X>,
     who: &mut Submitter,
     run: &AtomicU64,
-) -> Seen
+) -> bool
     requires { IsOf desk.now.lock who.old.pass }
     ensures own { IsOf desk.now.lock who.new.pass }
     ensures number { who.new.pass.number ≡ who.old.pass.number }
 {
     let start = Instant::now(os).ok();
-    let mut in_time = true;
     for count in 1..30000u64 {
-        in_time = in_time && runs_next(rt, os, desk, who, run, count);
-        if !in_time || has_passed(os, start, 1) {
+        if !runs_next(rt, os, desk, who, run, count) {
+            return false;
+        }
+        if has_passed(os, start, 1) {
             break;
         }
     }
-    Seen {
-        in_time,
-        asked: 0,
-        ticks: 0,
-    }
+    true
 }
 
-// Rings in the midst, and waits for the next take.
+// Rings in the midst, and says whether the next take comes in time.
 fn ring<X: Chooser, R: Wait, O: time::Clock>(
     rt: &R,
     os: &O,
     desk: &Desk<u64, X>,
     who: &mut Submitter,
     clock: &CountingClock,
-) -> Seen
+) -> bool
     requires { IsOf desk.now.lock who.old.pass }
     ensures own { IsOf desk.now.lock who.new.pass }
     ensures number { who.new.pass.number ≡ who.old.pass.number }
@@ -182,11 +179,7 @@ fn ring<X: Chooser, R: Wait, O: time::Clock>(
     let asks = comes_to(os, &clock.asked, 1);
     let rung = desk.workers(rt, who, 50, 1).is_ok();
     clock.opened.store(1, Ordering::SeqCst);
-    Seen {
-        in_time: asks && rung && comes_to(os, &clock.asked, 2),
-        asked: 0,
-        ticks: 0,
-    }
+    asks && rung && comes_to(os, &clock.asked, 2)
 }
 
 // Does its part and closes. A worker that sleeps on then would be waited for without end, so all ends here.
@@ -207,6 +200,11 @@ fn submits<X: Chooser, R: Wait + Abort, O: time::Clock + Files + Alloc>(
     if !matches!(part, Part::Ring) {
         clock.opened.store(1, Ordering::SeqCst);
     }
+    let idle = Seen {
+        in_time: true,
+        asked: 0,
+        ticks: 0,
+    };
     let seen = match part {
         Part::Rest => {
             let in_time = runs_next(rt, os, desk, who, run, 1);
@@ -215,8 +213,14 @@ fn submits<X: Chooser, R: Wait + Abort, O: time::Clock + Files + Alloc>(
                 ..rest(os, clock)
             }
         }
-        Part::Rounds => rounds(rt, os, desk, who, run),
-        Part::Ring => ring(rt, os, desk, who, clock),
+        Part::Rounds => Seen {
+            in_time: rounds(rt, os, desk, who, run),
+            ..idle
+        },
+        Part::Ring => Seen {
+            in_time: ring(rt, os, desk, who, clock),
+            ..idle
+        },
     };
     assert!(rt; desk.close(rt, who, 50).is_ok());
     assert!(rt; comes_to(os, through, 1), "the worker sleeps on");
