@@ -1,11 +1,10 @@
 -- Calls of a worker one after another.
-use Rattle.std.proofs.Common.{◌<◌, ◌≡◌, ℕ, ◌≤◌, List, [], ◌∷◌, ◌++◌, length, Option, Some, sym, ap, ◌∙◌, subst, refl, arith}
+use Rattle.std.proofs.Common.{◌≡◌, ℕ, ◌≤◌, List, [], ◌∷◌, ◌++◌, length, Option, Some, sym, ap, ◌∙◌, subst, refl, arith}
 use Rattle.std.proofs.lemmas.List.{reverse-append}
 use Rattle.fq_model.specs.declared.config.Config.{Config}
 use Rattle.fq_model.specs.declared.event.Act.{Act}
 use Rattle.fq_model.specs.declared.event.Act.TheVariants.{Take, Done}
 use Rattle.fq_model.specs.declared.event.Call.TheVariants as call
-use Rattle.fq_model.specs.declared.limits.TheConstants.{MOST_SLICES}
 use Rattle.fq_model.specs.declared.event.Entry.{Entry}
 use Rattle.fq_model.specs.declared.event.Reply.{Reply}
 use Rattle.fq_model.specs.History.{History, history_of, last_use, Request, request_at}
@@ -21,7 +20,7 @@ use Rattle.gate_rules.specs.declared.counters.Counters.{Counters}
 use Rattle.gate_rules.specs.declared.logged_gate.Asked.{Asked}
 use Rattle.gate_rules.specs.Asking.{with_slices}
 use Rattle.worker_gate.specs.Moments.{HasToldMomentsFrom}
-use Rattle.worker_gate.specs.Running.{Use, JobRun, with_uses, with_runs, acts_of, LackedRoom, AreKeptWhereRoom, HasLabel, IsAsTold, IsRun, AreRuns, EndsWork, Worked}
+use Rattle.worker_gate.specs.Running.{Use, JobRun, with_uses, with_runs, acts_of, LackedRoom, AreKeptWhereRoom, HasLabel, IsRun, AreRuns, EndsWork, Worked}
 use Rattle.worker_gate.specs.Serving.{run_of, Goes, HasNamed, HasRunSlices, HasRun, Serves}
 use Rattle.worker_gate.proofs.Seen.{prefix_same, moments_begin}
 use Rattle.worker_gate.proofs.ServingSteps.{Ended, Takes, Rests}

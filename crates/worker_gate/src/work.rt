@@ -113,7 +113,7 @@ fn take_turn<J: Job + Drop, X: Chooser, G: Gate<J>, K: Clock, F: Cost, R: Wait>(
     ensures { (begun : Worker) (asked : List Asked)
         → Serves desk.now.lock (K.tells clock.now) (G.course gate.now) (F.cost_of rule.now) begun free asked log.old
         → HasTurned desk.now.lock (K.tells clock.now) (G.course gate.now) (F.cost_of rule.now)
-            begun result asked log.new }
+        begun result asked log.new }
 {
     let heard = desk.heard();
     match desk.take(rt, free, clock.now()) {

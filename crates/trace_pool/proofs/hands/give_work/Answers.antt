@@ -1,4 +1,4 @@
-use Rattle.std.proofs.Common.{rules, ℕ, suc, arith, ◌≡◌, ◌<◌, ◌∙◌, ap, subst, length, List, ◌∷◌, ◌++◌, refl}
+use Rattle.std.proofs.Common.{rules, suc, arith, ◌≡◌, ◌<◌, ◌∙◌, ap, subst, length, List, ◌∷◌, ◌++◌, refl}
 use Rattle.trace_pool.specs.Hands.{TraceHand}
 use Rattle.desk.specs.Opening.{AreWorkers}
 use Rattle.trace_pool.specs.Parts.{IsWorkOf}

@@ -1,4 +1,4 @@
-use Rattle.std.proofs.Common.{ℕ, ◌+◌, ◌≡◌, ◌≤◌, length, List, ◌++◌}
+use Rattle.std.proofs.Common.{◌+◌, ◌≡◌, ◌≤◌, length, List, ◌++◌}
 use Rattle.std.specs.Prelude.{vec_capacity}
 use Rattle.trace_pool.specs.Hands.{TraceHand}
 use Rattle.desk.specs.Opening.{AreWorkers}
