@@ -6,5 +6,6 @@ pub mod cost_rule;
 pub mod counters;
 pub mod gate;
 pub mod kind_rule;
+pub mod logged_gate;
 pub mod rows;
 pub mod steps;

@@ -5,17 +5,18 @@ use Rattle.desk.specs.declared.floor.Crew.{Crew}
 use Rattle.worker_gate.specs.declared.pool.Hand.{Hand}
 use Rattle.worker_gate.specs.declared.pool.Hand.TheVariants.{Feed, Work}
 
--- submitter 0 feeds, with its token of this lock
-abbrev pub IsFeeding : LockView Crew → Hand ℕ → Type 0
-IsFeeding lock (Feed who rows total stopped) = IsOf lock who.pass × (who.pass.number ≡ 0)
-IsFeeding lock (Work slot) = ⊥
+module _ {G : Type 0} where
+  -- submitter 0 feeds, with its token of this lock
+  abbrev pub IsFeeding : LockView Crew → Hand ℕ G → Type 0
+  IsFeeding lock (Feed who rows total stopped) = IsOf lock who.pass × (who.pass.number ≡ 0)
+  IsFeeding lock (Work slot log) = ⊥
 
--- a worker stands there, with its token of this lock
-abbrev pub IsWorking : LockView Crew → Hand ℕ → Type 0
-IsWorking lock (Feed who rows total stopped) = ⊥
-IsWorking lock (Work None) = ⊥
-IsWorking lock (Work (Some worker)) = IsOf lock worker.pass
+  -- a worker stands there, with its token of this lock
+  abbrev pub IsWorking : LockView Crew → Hand ℕ G → Type 0
+  IsWorking lock (Feed who rows total stopped) = ⊥
+  IsWorking lock (Work None log) = ⊥
+  IsWorking lock (Work (Some worker) log) = IsOf lock worker.pass
 
-abbrev pub AreHired : LockView Crew → List (Hand ℕ) → Type 0
-AreHired lock (zero ∷ first ∷ second ∷ []) = IsFeeding lock zero × IsWorking lock first × IsWorking lock second
-AreHired lock _ = ⊥
+  abbrev pub AreHired : LockView Crew → List (Hand ℕ G) → Type 0
+  AreHired lock (zero ∷ first ∷ second ∷ []) = IsFeeding lock zero × IsWorking lock first × IsWorking lock second
+  AreHired lock _ = ⊥

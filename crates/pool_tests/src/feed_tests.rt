@@ -1,10 +1,11 @@
 ghost use Rattle.std.specs.Prelude.{◌≡◌};
 ghost use Rattle.history_lock.specs.Passes.{IsOf};
 
-use crate::histories::are_acts;
+use crate::histories::{are_acts, are_moments};
 use crate::rule_tests::Parity;
 use crate::samples::{configured, ended, opened};
 use desk::{Desk, Submitter};
+use fq_io::Clock;
 use fq_memory::FixedClock;
 use fq_model::event::{Act, Cause, Entry};
 use gate_rules::kind_rule::KindRule;
@@ -14,6 +15,7 @@ use std::alloc::Global;
 use std::collections::VecDeque;
 use std::process::Abort;
 use std::sync::Wait;
+use std::sync::atomic::{AtomicU64, Ordering};
 use tag_rules::chooser::Chooser;
 use worker_gate::feed::{feed, feed_by};
 
@@ -91,4 +93,36 @@ fn rows_of_no_kind_by_themselves_and_by_a_rule(rt: HostRuntime) {
     let past = fed_both_ways::<PlainChooser, HostRuntime>(&rt, rt.alloc());
     let wanted = [submitted(0, 0, 4), submitted(1, 1, 5), Act::Close];
     assert!(rt; are_acts(past.as_slice(), &wanted));
+}
+
+// Tells one moment more each time that it is asked.
+#[derive(Drop)]
+struct TickingClock {
+    moment: AtomicU64,
+}
+
+impl Clock for TickingClock {
+    ghost tells = { λ _ _. Unit {0} };
+
+    fn now(&self) -> u64 {
+        self.moment.fetch_add(1, Ordering::SeqCst)
+    }
+}
+
+// The entries of a desk after a feed by such a clock.
+fn fed_by_ticks<X: Chooser + Drop, R: Wait + Abort>(rt: &R, alloc: Global) -> Vec<Entry> {
+    let config = configured(rt, alloc, 1, 10, 100, 10);
+    let (desk, mut who, worker) = opened::<X, R>(rt, alloc, config);
+    let clock = TickingClock {
+        moment: AtomicU64::new(50),
+    };
+    let fed = feed(&desk, rt, &mut who, two_rows(rt, alloc), 2, &clock);
+    assert!(rt; matches!(fed, Fed::All));
+    ended(rt, alloc, desk, who, worker)
+}
+
+#[test]
+fn each_row_at_its_own_moment(rt: HostRuntime) {
+    let past = fed_by_ticks::<PlainChooser, HostRuntime>(&rt, rt.alloc());
+    assert!(rt; are_moments(past.as_slice(), &[50, 51, 52]));
 }

@@ -1,7 +1,8 @@
 //! Two submitters and two workers that meet at one desk, each in a thread of its own.
-ghost use Rattle.std.specs.Prelude.{◌≡◌, [], ◌∷◌, None, Some};
+ghost use Rattle.std.specs.Prelude.{◌≡◌, List, [], ◌∷◌, None, Some};
 ghost use Rattle.std.specs.Thread.{IsSync};
 ghost use Rattle.history_lock.specs.Passes.{IsOf};
+ghost use Rattle.gate_rules.specs.declared.logged_gate.Asked.{Asked};
 ghost use Rattle.worker_gate.specs.declared.pool.Hand.TheVariants as hand;
 ghost use Rattle.pool_tests.specs.Hired.{AreHired};
 
@@ -11,10 +12,6 @@ use desk::{Desk, Submitter, Worker};
 use eligible_index::index::IndexChooser;
 use fq_memory::FixedClock;
 use fq_model::event::{Cause, Entry};
-use gate_rules::cost_rule::{CostRule, WorkCost};
-use gate_rules::counters::Counters;
-use gate_rules::gate::{Gate, Slice};
-use gate_rules::rows::{Fed, Row};
 use std::alloc::Global;
 use std::collections::VecDeque;
 use std::ops::Range;
@@ -26,6 +23,7 @@ use std::thread::{Threads, join_mut};
 use tag_rules::chooser::Chooser;
 use worker_gate::feed::feed;
 use worker_gate::pool::{Hand, pool};
+use worker_gate::{CostRule, Counters, Fed, Gate, LoggedGate, Row, Slice, SliceLog, WorkCost};
 
 // Job 0 ends once job 1 has begun, or is marked where that takes too many turns. Each other job ends at once.
 #[derive(Drop)]
@@ -85,9 +83,9 @@ fn rows_of<R: Abort>(rt: &R, alloc: Global, jobs: Range<u64>) -> VecDeque<Row<u6
     rows
 }
 
-// What submitter 1 does while those of the pool do their parts.
+/// What submitter 1 does while those of the pool do their parts.
 #[derive(Clone, Copy)]
-enum Aside {
+pub enum Aside {
     Nothing,
     // Sets the number of workers to 1 before its 20 rows, jobs 1000 and up.
     Shrink,
@@ -123,11 +121,11 @@ fn step_aside<X: Chooser, R: Wait + Abort>(
 }
 
 // The hands of a pool do their parts.
-fn serve<X: Chooser + Send, R: Threads + Wait + Sync>(
+fn serve<X: Chooser + Send, G: Gate<u64> + Sync, R: Threads + Wait + Sync>(
     rt: &R,
     desk: &Desk<u64, X>,
-    gate: &Meeting,
-    hands: &mut [Hand<u64>],
+    gate: &LoggedGate<G>,
+    hands: &mut [Hand<u64, G>],
 )
     requires { AreHired desk.now.lock hands.old }
     ensures { AreHired desk.now.lock hands.new }
@@ -137,15 +135,15 @@ fn serve<X: Chooser + Send, R: Threads + Wait + Sync>(
 }
 
 // The hands of a pool do their parts, and submitter 1 does its own meanwhile.
-fn side_by_side<X: Chooser + Send, R: Threads + Wait + Sync + Abort>(
+fn side_by_side<X: Chooser + Send, G: Gate<u64> + Sync, R: Threads + Wait + Sync + Abort>(
     rt: &R,
     alloc: Global,
     desk: &Desk<u64, X>,
     who: &mut Submitter,
     total: u32,
     aside: Aside,
-    gate: &Meeting,
-    hands: &mut [Hand<u64>],
+    gate: &LoggedGate<G>,
+    hands: &mut [Hand<u64, G>],
 ) -> bool
     requires who { IsOf desk.now.lock who.old.pass }
     requires hands { AreHired desk.now.lock hands.old }
@@ -164,14 +162,15 @@ fn side_by_side<X: Chooser + Send, R: Threads + Wait + Sync + Abort>(
 }
 
 // Submitter 0, which feeds these rows, and two workers.
-fn hired(
+fn hired<G>(
+    gate: &mut LoggedGate<G>,
     who: Submitter,
     rows: VecDeque<Row<u64>>,
     total: u32,
     first: Worker,
     second: Worker,
-) -> [Hand<u64>; 3]
-    ensures { result ≡ hand.Feed who rows total None ∷ hand.Work (Some first) ∷ hand.Work (Some second) ∷ [] }
+) -> [Hand<u64, G>; 3]
+    ensures { result ≡ hand.Feed who rows total None ∷ hand.Work (Some first) [] ∷ hand.Work (Some second) [] ∷ [] }
 {
     let feeding = Hand::Feed {
         who,
@@ -179,24 +178,41 @@ fn hired(
         total,
         stopped: None,
     };
-    [feeding, Hand::Work(Some(first)), Hand::Work(Some(second))]
+    [
+        feeding,
+        Hand::Work(Some(first), gate.log()),
+        Hand::Work(Some(second), gate.log()),
+    ]
 }
 
-// The entries of a desk, which row of submitter 0 was refused, and which rows of it were left.
+/// The entries of a desk, which row of submitter 0 was refused, and which rows of it were left.
 #[derive(Drop)]
-struct End {
-    past: Vec<Entry>,
+pub struct End {
+    pub past: Vec<Entry>,
     stopped: Option<(Row<u64>, Cause)>,
     rest: VecDeque<Row<u64>>,
 }
 
+// The token of a worker.
+fn worker_of<G, R: Abort>(rt: &R, working: Hand<u64, G>) -> Worker
+    ensures { (log : List Asked) × (working ≡ hand.Work (Some result) log) }
+{
+    let Hand::Work(slot, _log) = working else {
+        panic!(rt; "a worker stands here")
+    };
+    let Some(worker) = slot else {
+        panic!(rt; "a worker has its token")
+    };
+    worker
+}
+
 // Ends the desk, with the tokens of submitter 1 and of three hands.
-fn dismissed<X: Chooser + Drop, R: Abort>(
+fn dismissed<X: Chooser + Drop, G, R: Abort>(
     rt: &R,
     alloc: Global,
     desk: Desk<u64, X>,
     one: Submitter,
-    hands: [Hand<u64>; 3],
+    hands: [Hand<u64, G>; 3],
 ) -> End
     requires one { IsOf desk.lock one.pass }
     requires hands { AreHired desk.lock hands }
@@ -211,12 +227,8 @@ fn dismissed<X: Chooser + Drop, R: Abort>(
     else {
         panic!(rt; "the feed has its token")
     };
-    let Hand::Work(Some(first)) = first else {
-        panic!(rt; "a worker has its token")
-    };
-    let Hand::Work(Some(second)) = second else {
-        panic!(rt; "a worker has its token")
-    };
+    let first = worker_of(rt, first);
+    let second = worker_of(rt, second);
     let workers = two(rt, alloc, first, second);
     let past = ended_for_two(rt, alloc, desk, zero, one, workers);
     End {
@@ -226,11 +238,11 @@ fn dismissed<X: Chooser + Drop, R: Abort>(
     }
 }
 
-// Submitter 0 feeds jobs, two workers serve, and submitter 1 does something aside, in four threads.
-fn served<X: Chooser + Drop + Send, R: Threads + Wait + Sync + Abort>(
+/// Submitter 0 feeds jobs, two workers serve, and submitter 1 does something aside, in four threads.
+pub fn served<X: Chooser + Drop + Send, G: Gate<u64> + Sync, R: Threads + Wait + Sync + Abort>(
     rt: &R,
     alloc: Global,
-    gate: &Meeting,
+    gate: &mut LoggedGate<G>,
     jobs: Range<u64>,
     total: u32,
     aside: Aside,
@@ -238,7 +250,7 @@ fn served<X: Chooser + Drop + Send, R: Threads + Wait + Sync + Abort>(
     let config = configured(rt, alloc, 2, 1, 1000, 200);
     let (desk, zero, mut one, workers) = opened_for_two::<X, R>(rt, alloc, config);
     let (first, second) = both(rt, workers);
-    let mut hands = hired(zero, rows_of(rt, alloc, jobs), total, first, second);
+    let mut hands = hired(gate, zero, rows_of(rt, alloc, jobs), total, first, second);
     let accepted = side_by_side(
         rt,
         alloc,
@@ -264,9 +276,16 @@ fn expect_both_served<R: Abort>(rt: &R, past: &[Entry]) {
 
 #[test]
 fn two_workers_in_a_slice_at_once(rt: HostRuntime) {
-    let gate = Meeting::new();
-    let end = served::<IndexChooser, HostRuntime>(&rt, rt.alloc(), &gate, 0..2, 2, Aside::Nothing);
-    assert_eq!(rt; gate.missed.load(Ordering::SeqCst), 0);
+    let mut gate = LoggedGate::new(Meeting::new());
+    let end = served::<IndexChooser, Meeting, HostRuntime>(
+        &rt,
+        rt.alloc(),
+        &mut gate,
+        0..2,
+        2,
+        Aside::Nothing,
+    );
+    assert_eq!(rt; gate.into_gate().missed.load(Ordering::SeqCst), 0);
     expect_both_served(&rt, end.past.as_slice());
 }
 
@@ -281,8 +300,15 @@ fn expect_one_serves<R: Abort>(rt: &R, past: &[Entry]) {
 
 #[test]
 fn one_worker_from_then_on(rt: HostRuntime) {
-    let gate = Meeting::new();
-    let end = served::<IndexChooser, HostRuntime>(&rt, rt.alloc(), &gate, 0..0, 20, Aside::Shrink);
+    let mut gate = LoggedGate::new(Meeting::new());
+    let end = served::<IndexChooser, Meeting, HostRuntime>(
+        &rt,
+        rt.alloc(),
+        &mut gate,
+        0..0,
+        20,
+        Aside::Shrink,
+    );
     expect_one_serves(&rt, end.past.as_slice());
 }
 
@@ -323,11 +349,11 @@ fn expect_close<R: Abort>(rt: &R, past: &[Entry]) {
 
 #[test]
 fn a_close_in_the_midst(rt: HostRuntime) {
-    let gate = Meeting::new();
-    let end = served::<IndexChooser, HostRuntime>(
+    let mut gate = LoggedGate::new(Meeting::new());
+    let end = served::<IndexChooser, Meeting, HostRuntime>(
         &rt,
         rt.alloc(),
-        &gate,
+        &mut gate,
         100..200,
         1000,
         Aside::Close,

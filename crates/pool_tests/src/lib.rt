@@ -2,6 +2,8 @@
 #![tactic(auto)]
 
 #[cfg(test)]
+mod bell_tests;
+#[cfg(test)]
 mod desk_tests;
 #[cfg(test)]
 mod feed_tests;
@@ -15,5 +17,7 @@ mod lock_tests;
 mod rule_tests;
 #[cfg(test)]
 mod samples;
+#[cfg(test)]
+mod slice_tests;
 #[cfg(test)]
 mod work_tests;

@@ -4,15 +4,13 @@ ghost use Rattle.std.specs.Prelude.{None};
 use crate::samples::{configured, ended, opened};
 use fq_memory::FixedClock;
 use fq_model::event::{Act, Entry};
-use gate_rules::cost_rule::{CostRule, WorkCost};
-use gate_rules::counters::Counters;
-use gate_rules::gate::{Gate, Slice};
 use rival_policies::plain::PlainChooser;
 use std::alloc::Global;
 use std::process::Abort;
 use std::sync::Wait;
 use tag_rules::chooser::Chooser;
 use worker_gate::work::work;
+use worker_gate::{CostRule, Counters, Gate, LoggedGate, Slice, WorkCost};
 
 // A job that never ends, and comes to one more of work with each slice.
 #[derive(Drop)]
@@ -47,18 +45,21 @@ impl Gate<u64> for Greatest {
 }
 
 // The entries after one request was submitted, and its worker has served.
-fn served<X: Chooser + Drop, G: Gate<u64>, R: Wait + Abort>(
+fn served<X: Chooser + Drop, G: Gate<u64> + Drop, R: Wait + Abort>(
     rt: &R,
     alloc: Global,
     entries: u32,
-    gate: &G,
+    gate: G,
 ) -> Vec<Entry> {
     let config = configured(rt, alloc, 1, 1, entries, 10);
     let (desk, mut who, worker) = opened::<X, R>(rt, alloc, config);
     assert_eq!(rt; desk.submit(rt, &mut who, 50, 0, 0, 5, 7), Ok(0));
     assert_eq!(rt; desk.close(rt, &mut who, 50), Ok(()));
     let clock = FixedClock::new(50);
-    let worker = work(&desk, rt, worker, gate, &clock, &CostRule::new(WorkCost));
+    let rule = CostRule::new(WorkCost);
+    let mut gate = LoggedGate::new(gate);
+    let mut log = gate.log();
+    let worker = work(&desk, rt, worker, &gate, &mut log, &clock, &rule);
     ended(rt, alloc, desk, who, worker)
 }
 
@@ -110,18 +111,18 @@ fn reported<R: Abort>(rt: &R, past: &[Entry], reports: u64, cost: u64) {
 
 #[test]
 fn all_slices_with_room_for_each(rt: HostRuntime) {
-    let past = served::<PlainChooser, Endless, HostRuntime>(&rt, rt.alloc(), 10004, &Endless);
+    let past = served::<PlainChooser, Endless, HostRuntime>(&rt, rt.alloc(), 10004, Endless);
     reported(&rt, past.as_slice(), 9999, 10000);
 }
 
 #[test]
 fn all_slices_with_room_for_some(rt: HostRuntime) {
-    let past = served::<PlainChooser, Endless, HostRuntime>(&rt, rt.alloc(), 100, &Endless);
+    let past = served::<PlainChooser, Endless, HostRuntime>(&rt, rt.alloc(), 100, Endless);
     reported(&rt, past.as_slice(), 95, 10000);
 }
 
 #[test]
 fn a_job_past_the_greatest_cost(rt: HostRuntime) {
-    let past = served::<PlainChooser, Greatest, HostRuntime>(&rt, rt.alloc(), 100, &Greatest);
+    let past = served::<PlainChooser, Greatest, HostRuntime>(&rt, rt.alloc(), 100, Greatest);
     reported(&rt, past.as_slice(), 0, 1000000000);
 }

@@ -6,7 +6,7 @@ use Rattle.program_model.specs.declared.trace.TraceRow.{TraceRow}
 use Rattle.history_lock.specs.Passes.{LockView}
 use Rattle.desk.specs.declared.floor.Crew.{Crew}
 use Rattle.desk.specs.declared.tokens.Worker.{Worker}
-use Rattle.worker_gate.specs.declared.pool.Hand.{Hand}
+use Rattle.trace_pool.specs.Hands.{TraceHand}
 use Rattle.worker_gate.specs.declared.pool.Hand.TheVariants.{Feed, Work}
 use Rattle.worker_gate.specs.Feeding.{Feeds}
 use Rattle.worker_gate.specs.Hands.{IsHandOf, HandDid, HandsDid}
@@ -57,10 +57,10 @@ module _ {A : Type 0} (Becomes : A → A → Type 0) where
   same_length (x ∷ xs) (y ∷ ys) did = ap suc (same_length xs ys did.1)
 
 module _ (rows : List TraceRow) (lock : LockView Crew) (refresh : ℕ) (Tells : ℕ → Type 0) where
-  abbrev Did : Hand ℕ → Hand ℕ → Type 0
+  abbrev Did : TraceHand → TraceHand → Type 0
   Did old new = HandDid (λ (n : ℕ). n) lock (trace_course refresh rows) work_cost Tells old new
 
-  fed_hand : (j : ℕ) (old new : Hand ℕ) → IsFeedOf rows lock j old → Did old new → HasFedHand rows lock refresh Tells j new
+  fed_hand : (j : ℕ) (old new : TraceHand) → IsFeedOf rows lock j old → Did old new → HasFedHand rows lock refresh Tells j new
   fed_hand j (Feed who queue total stopped) new is did =
       let feeds : Feeds (λ (n : ℕ). n) (λ row. row.kind) lock Tells (length rows) queue.items who did.0 did.2 did.1.items =
       subst (λ n. Feeds (λ (n : ℕ). n) (λ row. row.kind) lock Tells n queue.items who did.0 did.2 did.1.items) is.2 did.4 in
@@ -75,21 +75,23 @@ module _ (rows : List TraceRow) (lock : LockView Crew) (refresh : ℕ) (Tells : 
         feeds = feeds;
       } in
       subst (HasFedHand rows lock refresh Tells j) (sym did.3) done
-  fed_hand j (Work slot) new is did = absurd is
+  fed_hand j (Work slot log) new is did = absurd is
 
-  worked_hand : (i : ℕ) (old new : Hand ℕ) → IsWorkOf rows lock i old → Did old new → HasWorkedHand rows lock refresh Tells i new
+  worked_hand : (i : ℕ) (old new : TraceHand) → IsWorkOf rows lock i old → Did old new → HasWorkedHand rows lock refresh Tells i new
   worked_hand i (Feed who queue total stopped) new is did = absurd is
-  worked_hand i (Work slot) new is did =
-      let same : is.0 ≡ did.0 = (let both : Some is.0 ≡ Some did.0 = sym is.1 ∙ did.2 in cc) in
+  worked_hand i (Work slot log) new is did =
+      let same : is.0 ≡ did.0 = (let both : Some is.0 ≡ Some did.0 = sym is.1 ∙ did.3 in cc) in
       let done : HasWorked rows lock refresh Tells i did.1 = record {
         begun = did.0;
         new = subst (λ (t : Worker). Rattle.desk.specs.Opening.IsNew lock (Rattle.program_model.specs.Courses.worker_caller rows i) t.pass) same is.2;
         numbered = subst (λ (t : Worker). t.worker ≡ i) same is.3;
-        worked = did.4;
+        log = log;
+        log2 = did.2;
+        worked = did.5;
       } in
-      subst (HasWorkedHand rows lock refresh Tells i) (sym did.3) (did.1, refl, done)
+      subst (HasWorkedHand rows lock refresh Tells i) (sym did.4) (did.1, refl, done)
 
-  pub all_done : (feeds works : ℕ) (olds news : List (Hand ℕ)) → AreHands rows lock feeds works olds → HandsDid (λ (n : ℕ). n) lock (trace_course refresh rows) work_cost Tells olds news → AreDone rows lock refresh Tells feeds works news
+  pub all_done : (feeds works : ℕ) (olds news : List TraceHand) → AreHands rows lock feeds works olds → HandsDid (λ (n : ℕ). n) lock (trace_course refresh rows) work_cost Tells olds news → AreDone rows lock refresh Tells feeds works news
   all_done feeds works olds news a did =
       let each : EachBecomes Did olds news = each_becomes Did olds news did.0 did.1 in
       let r = in_a_row Did a.first a.second news (subst (λ l. EachBecomes Did l news) a.both each) in record {
@@ -109,22 +111,22 @@ written_back len olds news is same =
     ap (λ l. take len (news ++ l)) none ∙ (ap (take len) (append-nil news) ∙ (ap (λ n. take n news) (is ∙ sym same) ∙ take-length news))
 
 module _ (rows : List TraceRow) (lock : LockView Crew) where
-  feeds_of : (j : ℕ) (hands : List (Hand ℕ)) → HoldsFrom (IsFeedOf rows lock) j hands → All (IsHandOf lock) hands
+  feeds_of : (j : ℕ) (hands : List TraceHand) → HoldsFrom (IsFeedOf rows lock) j hands → All (IsHandOf lock) hands
   feeds_of j [] h = All-nil (IsHandOf lock)
   feeds_of j (Feed who queue total stopped ∷ hands) h = All-cons (IsHandOf lock) (Feed who queue total stopped) hands h.0.0.own (feeds_of (suc j) hands h.1)
-  feeds_of j (Work slot ∷ hands) h = absurd h.0
+  feeds_of j (Work slot log ∷ hands) h = absurd h.0
 
-  works_of : (i : ℕ) (hands : List (Hand ℕ)) → HoldsFrom (IsWorkOf rows lock) i hands → All (IsHandOf lock) hands
+  works_of : (i : ℕ) (hands : List TraceHand) → HoldsFrom (IsWorkOf rows lock) i hands → All (IsHandOf lock) hands
   works_of i [] h = All-nil (IsHandOf lock)
   works_of i (Feed who queue total stopped ∷ hands) h = absurd h.0
-  works_of i (Work slot ∷ hands) h = All-cons (IsHandOf lock) (Work slot) hands (h.0.0, h.0.1, h.0.2.own) (works_of (suc i) hands h.1)
+  works_of i (Work slot log ∷ hands) h = All-cons (IsHandOf lock) (Work slot log) hands (h.0.0, h.0.1, h.0.2.own) (works_of (suc i) hands h.1)
 
   -- all hands are of the desk
-  pub hands_of : (feeds works : ℕ) (hands : List (Hand ℕ)) → AreHands rows lock feeds works hands → All (IsHandOf lock) hands
+  pub hands_of : (feeds works : ℕ) (hands : List TraceHand) → AreHands rows lock feeds works hands → All (IsHandOf lock) hands
   hands_of feeds works hands a = subst (All (IsHandOf lock)) (sym a.both) (All-append (IsHandOf lock) a.first a.second (feeds_of 0 a.first a.are_feeds) (works_of 0 a.second a.are_works))
 
   -- what a pool over the rows' gate leaves in the vector that it was given
-  pub back_done : (refresh : ℕ) (Tells : ℕ → Type 0) (feeds works len : ℕ) (olds given news : List (Hand ℕ)) (gate_refresh : ℕ) (gate_rows : List TraceRow) → AreHands rows lock feeds works olds → given ≡ olds → length given ≡ len
+  pub back_done : (refresh : ℕ) (Tells : ℕ → Type 0) (feeds works len : ℕ) (olds given news : List TraceHand) (gate_refresh : ℕ) (gate_rows : List TraceRow) → AreHands rows lock feeds works olds → given ≡ olds → length given ≡ len
       → gate_refresh ≡ refresh → gate_rows ≡ rows → HandsDid (λ (n : ℕ). n) lock (trace_course gate_refresh gate_rows) work_cost Tells given news
       → AreDone rows lock refresh Tells feeds works (take len (news ++ drop (length news) olds))
   back_done refresh Tells feeds works len olds given news gate_refresh gate_rows a same is steps its did =

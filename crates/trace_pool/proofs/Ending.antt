@@ -57,6 +57,8 @@ module _ (T : Trace) (O : RunOptions) (lock : LockView Crew) (Tells : ℕ → Ty
         ended = x.0;
         new = w.new;
         numbered = w.numbered;
+        log = w.log;
+        log2 = w.log2;
         worked = w.worked;
         in_past = x.2;
       }

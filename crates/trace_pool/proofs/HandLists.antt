@@ -7,7 +7,7 @@ use Rattle.desk.specs.declared.floor.Crew.{Crew}
 use Rattle.desk.specs.declared.tokens.Submitter.{Submitter}
 use Rattle.desk.specs.declared.tokens.Worker.{Worker}
 use Rattle.desk.specs.Opening.{AreWorkers, HasMade}
-use Rattle.worker_gate.specs.declared.pool.Hand.{Hand}
+use Rattle.trace_pool.specs.Hands.{TraceHand}
 use Rattle.worker_gate.specs.declared.pool.Hand.TheVariants.{Work}
 use Rattle.trace_pool.specs.Parts.{KnowsAll, IsCrewOf, IsWorkOf}
 use Rattle.trace_pool.specs.Places.{HoldsFrom}
@@ -24,11 +24,11 @@ module _ (lock : LockView Crew) where
   knows_all n t ts made zeroth = (made zeroth).0
 
   -- one worker more is given its work
-  pub works_more : (rows : List TraceRow) (hands hands2 before : List (Hand ℕ)) (t : Worker) (ts : List Worker) (hand : Hand ℕ) → IsCrewOf rows lock
-      → (given : List (Hand ℕ)) × (hands ≡ before ++ given) × HoldsFrom (IsWorkOf rows lock) 0 given × AreWorkers lock (length given) (t ∷ ts)
-      → hands2 ≡ hands ++ hand ∷ [] → hand ≡ Work (Rattle.std.proofs.Common.Some t)
-      → (given : List (Hand ℕ)) × (hands2 ≡ before ++ given) × HoldsFrom (IsWorkOf rows lock) 0 given × AreWorkers lock (length given) ts
-  works_more rows hands hands2 before t ts hand crew (given, is, works, tokens) more hand_is =
+  pub works_more : (rows : List TraceRow) (hands hands2 before : List TraceHand) (t : Worker) (ts : List Worker) (hand : TraceHand) (log : _) → IsCrewOf rows lock
+      → (given : List TraceHand) × (hands ≡ before ++ given) × HoldsFrom (IsWorkOf rows lock) 0 given × AreWorkers lock (length given) (t ∷ ts)
+      → hands2 ≡ hands ++ hand ∷ [] → hand ≡ Work (Rattle.std.proofs.Common.Some t) log
+      → (given : List TraceHand) × (hands2 ≡ before ++ given) × HoldsFrom (IsWorkOf rows lock) 0 given × AreWorkers lock (length given) ts
+  works_more rows hands hands2 before t ts hand log crew (given, is, works, tokens) more hand_is =
       let own = tokens.0 in
       let fits : IsWorkOf rows lock (length given) hand =
       subst (IsWorkOf rows lock (length given)) (sym hand_is) (t, refl, subst (λ s. Rattle.desk.specs.Opening.IsNew lock (s + length given) t.pass) crew own.0, own.1) in

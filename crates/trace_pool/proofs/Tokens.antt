@@ -9,7 +9,7 @@ use Rattle.desk.specs.declared.floor.Crew.{Crew}
 use Rattle.desk.specs.declared.tokens.Submitter.{Submitter}
 use Rattle.desk.specs.declared.tokens.Worker.{Worker}
 use Rattle.desk.specs.Ending.{HoldsOfEach, HoldsOfSome, IsFirst, AreOf, AreAll, first_made}
-use Rattle.worker_gate.specs.declared.pool.Hand.{Hand}
+use Rattle.trace_pool.specs.Hands.{TraceHand}
 use Rattle.worker_gate.specs.declared.pool.Hand.TheVariants.{Feed, Work}
 use Rattle.trace_pool.specs.Parts.{IsCrewOf, HasFed, HasWorked, HasFedHand, HasWorkedHand, AreDone, HaveDone, submitters_in, workers_in, HoldsToken}
 use Rattle.trace_pool.specs.Places.{HoldsFrom}
@@ -39,65 +39,65 @@ module _ (rows : List TraceRow) (lock : LockView Crew) (refresh : ℕ) (Tells : 
   abbrev Served : ℕ → Worker → Type 0
   Served i t = HasWorked rows lock refresh Tells i t
 
-  abbrev FedHand : ℕ → Hand ℕ → Type 0
+  abbrev FedHand : ℕ → TraceHand → Type 0
   FedHand j hand = HasFedHand rows lock refresh Tells j hand
 
-  abbrev ServedHand : ℕ → Hand ℕ → Type 0
+  abbrev ServedHand : ℕ → TraceHand → Type 0
   ServedHand i hand = HasWorkedHand rows lock refresh Tells i hand
 
   -- ---- the tokens of hands
 
-  no_submitters : (i : ℕ) (second : List (Hand ℕ)) → HoldsFrom ServedHand i second → submitters_in second ≡ []
+  no_submitters : (i : ℕ) (second : List TraceHand) → HoldsFrom ServedHand i second → submitters_in second ≡ []
   no_submitters i [] h = refl
   no_submitters i (Feed who queue total stopped ∷ hands) h = absurd h.0
-  no_submitters i (Work slot ∷ hands) h = no_submitters (suc i) hands h.1
+  no_submitters i (Work slot log ∷ hands) h = no_submitters (suc i) hands h.1
 
-  pub fed_tokens : (j : ℕ) (first second : List (Hand ℕ)) → HoldsFrom FedHand j first → HoldsFrom ServedHand 0 second → HoldsFrom Fed j (submitters_in (first ++ second))
+  pub fed_tokens : (j : ℕ) (first second : List TraceHand) → HoldsFrom FedHand j first → HoldsFrom ServedHand 0 second → HoldsFrom Fed j (submitters_in (first ++ second))
   fed_tokens j [] second h w = subst (HoldsFrom Fed j) (sym (no_submitters 0 second w)) tt
   fed_tokens j (Feed who queue total stopped ∷ hands) second h w = (h.0, fed_tokens (suc j) hands second h.1 w)
-  fed_tokens j (Work slot ∷ hands) second h w = absurd h.0
+  fed_tokens j (Work slot log ∷ hands) second h w = absurd h.0
 
-  served_tokens : (i : ℕ) (second : List (Hand ℕ)) → HoldsFrom ServedHand i second → HoldsFrom Served i (workers_in second)
+  served_tokens : (i : ℕ) (second : List TraceHand) → HoldsFrom ServedHand i second → HoldsFrom Served i (workers_in second)
   served_tokens i [] w = tt
   served_tokens i (Feed who queue total stopped ∷ hands) w = absurd w.0
-  served_tokens i (Work None ∷ hands) w = let none : None ≡ Some w.0.0 = w.0.1 in absurd (cc)
-  served_tokens i (Work (Some worker) ∷ hands) w =
+  served_tokens i (Work None log ∷ hands) w = let none : None ≡ Some w.0.0 = w.0.1 in absurd (cc)
+  served_tokens i (Work (Some worker) log ∷ hands) w =
       let same : worker ≡ w.0.0 = (let both : Some worker ≡ Some w.0.0 = w.0.1 in cc) in
       (subst (Served i) (sym same) w.0.2, served_tokens (suc i) hands w.1)
 
-  pub worked_tokens : (j : ℕ) (first second : List (Hand ℕ)) → HoldsFrom FedHand j first → HoldsFrom ServedHand 0 second → HoldsFrom Served 0 (workers_in (first ++ second))
+  pub worked_tokens : (j : ℕ) (first second : List TraceHand) → HoldsFrom FedHand j first → HoldsFrom ServedHand 0 second → HoldsFrom Served 0 (workers_in (first ++ second))
   worked_tokens j [] second h w = served_tokens 0 second w
   worked_tokens j (Feed who queue total stopped ∷ hands) second h w = worked_tokens (suc j) hands second h.1 w
-  worked_tokens j (Work slot ∷ hands) second h w = absurd h.0
+  worked_tokens j (Work slot log ∷ hands) second h w = absurd h.0
 
-  pub submitter_count : (j : ℕ) (first second : List (Hand ℕ)) → HoldsFrom FedHand j first → HoldsFrom ServedHand 0 second → length (submitters_in (first ++ second)) ≡ length first
+  pub submitter_count : (j : ℕ) (first second : List TraceHand) → HoldsFrom FedHand j first → HoldsFrom ServedHand 0 second → length (submitters_in (first ++ second)) ≡ length first
   submitter_count j [] second h w = ap length (no_submitters 0 second w)
   submitter_count j (Feed who queue total stopped ∷ hands) second h w = ap suc (submitter_count (suc j) hands second h.1 w)
-  submitter_count j (Work slot ∷ hands) second h w = absurd h.0
+  submitter_count j (Work slot log ∷ hands) second h w = absurd h.0
 
-  served_count : (i : ℕ) (second : List (Hand ℕ)) → HoldsFrom ServedHand i second → length (workers_in second) ≡ length second
+  served_count : (i : ℕ) (second : List TraceHand) → HoldsFrom ServedHand i second → length (workers_in second) ≡ length second
   served_count i [] w = refl
   served_count i (Feed who queue total stopped ∷ hands) w = absurd w.0
-  served_count i (Work None ∷ hands) w = let none : None ≡ Some w.0.0 = w.0.1 in absurd (cc)
-  served_count i (Work (Some worker) ∷ hands) w = ap suc (served_count (suc i) hands w.1)
+  served_count i (Work None log ∷ hands) w = let none : None ≡ Some w.0.0 = w.0.1 in absurd (cc)
+  served_count i (Work (Some worker) log ∷ hands) w = ap suc (served_count (suc i) hands w.1)
 
-  pub worker_count : (j : ℕ) (first second : List (Hand ℕ)) → HoldsFrom FedHand j first → HoldsFrom ServedHand 0 second → length (workers_in (first ++ second)) ≡ length second
+  pub worker_count : (j : ℕ) (first second : List TraceHand) → HoldsFrom FedHand j first → HoldsFrom ServedHand 0 second → length (workers_in (first ++ second)) ≡ length second
   worker_count j [] second h w = served_count 0 second w
   worker_count j (Feed who queue total stopped ∷ hands) second h w = worker_count (suc j) hands second h.1 w
-  worker_count j (Work slot ∷ hands) second h w = absurd h.0
+  worker_count j (Work slot log ∷ hands) second h w = absurd h.0
 
-  served_hold : (i : ℕ) (second : List (Hand ℕ)) → HoldsFrom ServedHand i second → All HoldsToken second
+  served_hold : (i : ℕ) (second : List TraceHand) → HoldsFrom ServedHand i second → All HoldsToken second
   served_hold i [] w = All-nil HoldsToken
   served_hold i (Feed who queue total stopped ∷ hands) w = absurd w.0
-  served_hold i (Work slot ∷ hands) w = All-cons HoldsToken (Work slot) hands (w.0.0, w.0.1) (served_hold (suc i) hands w.1)
+  served_hold i (Work slot log ∷ hands) w = All-cons HoldsToken (Work slot log) hands (w.0.0, w.0.1) (served_hold (suc i) hands w.1)
 
-  pub hold_tokens : (j : ℕ) (first second : List (Hand ℕ)) → HoldsFrom FedHand j first → HoldsFrom ServedHand 0 second → All HoldsToken (first ++ second)
+  pub hold_tokens : (j : ℕ) (first second : List TraceHand) → HoldsFrom FedHand j first → HoldsFrom ServedHand 0 second → All HoldsToken (first ++ second)
   hold_tokens j [] second h w = served_hold 0 second w
   hold_tokens j (Feed who queue total stopped ∷ hands) second h w = All-cons HoldsToken (Feed who queue total stopped) (hands ++ second) tt (hold_tokens (suc j) hands second h.1 w)
-  hold_tokens j (Work slot ∷ hands) second h w = absurd h.0
+  hold_tokens j (Work slot log ∷ hands) second h w = absurd h.0
 
   -- what is taken back of hands that have done their parts
-  pub have_done : {feeds works : ℕ} (hands : List (Hand ℕ)) (submitters : List Submitter) (workers : List Worker) → AreDone rows lock refresh Tells feeds works hands → feeds ≡ lock.frame.submitters → works ≡ lock.frame.config.workers → submitters ≡ submitters_in hands → workers ≡ workers_in hands
+  pub have_done : {feeds works : ℕ} (hands : List TraceHand) (submitters : List Submitter) (workers : List Worker) → AreDone rows lock refresh Tells feeds works hands → feeds ≡ lock.frame.submitters → works ≡ lock.frame.config.workers → submitters ≡ submitters_in hands → workers ≡ workers_in hands
       → HaveDone rows lock refresh Tells submitters workers
   have_done {feeds} {works} hands submitters workers d all_feeds all_works first second =
       let both : submitters ≡ submitters_in (d.first ++ d.second) = first ∙ ap submitters_in d.both in
@@ -109,7 +109,7 @@ module _ (rows : List TraceRow) (lock : LockView Crew) (refresh : ℕ) (Tells : 
       }
 
   -- and how many tokens these are
-  pub counts_done : (feeds works : ℕ) (hands : List (Hand ℕ)) → AreDone rows lock refresh Tells feeds works hands → (length (submitters_in hands) ≡ feeds) × (length (workers_in hands) ≡ works) × All HoldsToken hands
+  pub counts_done : (feeds works : ℕ) (hands : List TraceHand) → AreDone rows lock refresh Tells feeds works hands → (length (submitters_in hands) ≡ feeds) × (length (workers_in hands) ≡ works) × All HoldsToken hands
   counts_done feeds works hands d = (
     ap (λ l. length (submitters_in l)) d.both ∙ (submitter_count 0 d.first d.second d.have_fed d.have_worked ∙ d.feed_count),
     ap (λ l. length (workers_in l)) d.both ∙ (worker_count 0 d.first d.second d.have_fed d.have_worked ∙ d.work_count),

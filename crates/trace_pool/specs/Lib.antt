@@ -3,3 +3,4 @@ pub mod Laws
 pub mod Serving
 pub mod Places
 pub mod Parts
+pub mod Hands

@@ -9,8 +9,9 @@ use Rattle.desk.specs.declared.floor.Crew.{Crew}
 use Rattle.desk.specs.declared.tokens.Submitter.{Submitter}
 use Rattle.desk.specs.declared.tokens.Worker.{Worker}
 use Rattle.desk.specs.Opening.{IsNew}
-use Rattle.worker_gate.specs.declared.pool.Hand.{Hand}
+use Rattle.trace_pool.specs.Hands.{TraceHand}
 use Rattle.worker_gate.specs.declared.pool.Hand.TheVariants.{Feed, Work}
+use Rattle.gate_rules.specs.declared.logged_gate.Asked.{Asked}
 use Rattle.gate_rules.specs.declared.rows.Row.{Row}
 use Rattle.worker_gate.specs.Feeding.{Feeds}
 use Rattle.gate_rules.specs.Rules.{work_cost}
@@ -31,10 +32,10 @@ abbrev pub KnowsAll : LockView Crew → ℕ → Submitter → Type 0
 KnowsAll lock j who = j ≡ 0 → who.pass.made + 1 ≡ lock.frame.submitters + lock.frame.config.workers
 
 -- the submitters' tokens that the hands hold, in order
-abbrev pub submitters_in : List (Hand ℕ) → List Submitter
+abbrev pub submitters_in : List TraceHand → List Submitter
 submitters_in [] = []
 submitters_in (Feed who queue total stopped ∷ hands) = who ∷ submitters_in hands
-submitters_in (Work slot ∷ hands) = submitters_in hands
+submitters_in (Work slot log ∷ hands) = submitters_in hands
 
 -- the worker's token of a slot, if it is there, before these
 abbrev pub with_worker : Option Worker → List Worker → List Worker
@@ -42,32 +43,32 @@ with_worker None workers = workers
 with_worker (Some worker) workers = worker ∷ workers
 
 -- the workers' tokens that the hands hold, in order
-abbrev pub workers_in : List (Hand ℕ) → List Worker
+abbrev pub workers_in : List TraceHand → List Worker
 workers_in [] = []
 workers_in (Feed who queue total stopped ∷ hands) = workers_in hands
-workers_in (Work slot ∷ hands) = with_worker slot (workers_in hands)
+workers_in (Work slot log ∷ hands) = with_worker slot (workers_in hands)
 
 -- the hand holds a token
-abbrev pub HoldsToken : Hand ℕ → Type 0
+abbrev pub HoldsToken : TraceHand → Type 0
 HoldsToken (Feed who queue total stopped) = Unit {0}
-HoldsToken (Work slot) = (worker : Worker) × (slot ≡ Some worker)
+HoldsToken (Work slot log) = (worker : Worker) × (slot ≡ Some worker)
 
 module _ (rows : List TraceRow) (lock : LockView Crew) where
   -- a hand that is to feed the rows of submitter j
-  abbrev pub IsFeedOf : ℕ → Hand ℕ → Type 0
+  abbrev pub IsFeedOf : ℕ → TraceHand → Type 0
   IsFeedOf j (Feed who queue total stopped) = IsNew lock j who.pass × AreRowsOf rows j queue.items × (total ≡ length rows)
       × KnowsAll lock j who
-  IsFeedOf j (Work slot) = ⊥
+  IsFeedOf j (Work slot log) = ⊥
 
   -- a hand that is to work as worker i
-  abbrev pub IsWorkOf : ℕ → Hand ℕ → Type 0
+  abbrev pub IsWorkOf : ℕ → TraceHand → Type 0
   IsWorkOf i (Feed who queue total stopped) = ⊥
-  IsWorkOf i (Work slot) = (worker : Worker) × (slot ≡ Some worker) × IsNew lock (worker_caller rows i) worker.pass × (worker.worker ≡ i)
+  IsWorkOf i (Work slot log) = (worker : Worker) × (slot ≡ Some worker) × IsNew lock (worker_caller rows i) worker.pass × (worker.worker ≡ i)
 
   -- the hands of so many submitters, and then those of so many workers
-  pub record AreHands (feeds works : ℕ) (hands : List (Hand ℕ)) : Type 0 where
-    pub first : List (Hand ℕ)
-    pub second : List (Hand ℕ)
+  pub record AreHands (feeds works : ℕ) (hands : List TraceHand) : Type 0 where
+    pub first : List TraceHand
+    pub second : List TraceHand
     pub both : hands ≡ first ++ second
     pub are_feeds : HoldsFrom IsFeedOf 0 first
     pub are_works : HoldsFrom IsWorkOf 0 second
@@ -91,21 +92,23 @@ module _ (rows : List TraceRow) (lock : LockView Crew) where
       pub begun : Worker
       pub new : IsNew lock (worker_caller rows i) begun.pass
       pub numbered : begun.worker ≡ i
-      pub worked : Worked lock (trace_course refresh rows) work_cost Tells begun ended
+      pub log : List Asked
+      pub log2 : List Asked
+      pub worked : Worked lock (trace_course refresh rows) work_cost Tells begun ended log log2
 
     -- the same of hands
-    abbrev pub HasFedHand : ℕ → Hand ℕ → Type 0
+    abbrev pub HasFedHand : ℕ → TraceHand → Type 0
     HasFedHand j (Feed who queue total stopped) = HasFed j who
-    HasFedHand j (Work slot) = ⊥
+    HasFedHand j (Work slot log) = ⊥
 
-    abbrev pub HasWorkedHand : ℕ → Hand ℕ → Type 0
+    abbrev pub HasWorkedHand : ℕ → TraceHand → Type 0
     HasWorkedHand i (Feed who queue total stopped) = ⊥
-    HasWorkedHand i (Work slot) = (worker : Worker) × (slot ≡ Some worker) × HasWorked i worker
+    HasWorkedHand i (Work slot log) = (worker : Worker) × (slot ≡ Some worker) × HasWorked i worker
 
     -- the submitters have done their parts, and the workers theirs
-    pub record AreDone (feeds works : ℕ) (hands : List (Hand ℕ)) : Type 0 where
-      pub first : List (Hand ℕ)
-      pub second : List (Hand ℕ)
+    pub record AreDone (feeds works : ℕ) (hands : List TraceHand) : Type 0 where
+      pub first : List TraceHand
+      pub second : List TraceHand
       pub both : hands ≡ first ++ second
       pub have_fed : HoldsFrom HasFedHand 0 first
       pub have_worked : HoldsFrom HasWorkedHand 0 second

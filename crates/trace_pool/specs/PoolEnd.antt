@@ -17,6 +17,7 @@ use Rattle.desk.specs.declared.tokens.Worker.{Worker}
 use Rattle.desk.specs.Ending.{IsIn}
 use Rattle.desk.specs.Opening.{IsNew}
 use Rattle.gate_rules.specs.declared.counters.Counters.{Counters}
+use Rattle.gate_rules.specs.declared.logged_gate.Asked.{Asked}
 use Rattle.gate_rules.specs.declared.rows.Row.{Row}
 use Rattle.worker_gate.specs.Feeding.{Feeds, request_of}
 use Rattle.gate_rules.specs.Rules.{work_cost}
@@ -50,7 +51,9 @@ module _ (T : Trace) (O : RunOptions) (lock : LockView Crew) (Tells : ℕ → Ty
     pub ended : Worker
     pub new : IsNew lock (worker_caller T.rows i) begun.pass
     pub numbered : begun.worker ≡ i
-    pub worked : Worked lock (trace_course O.refresh T.rows) work_cost Tells begun ended
+    pub log : List Asked
+    pub log2 : List Asked
+    pub worked : Worked lock (trace_course O.refresh T.rows) work_cost Tells begun ended log log2
     pub in_past : IsIn past ended.pass
 
   -- The past of a desk that was opened for the trace is legal, each of its submitters and workers has done its part,

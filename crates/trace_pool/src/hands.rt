@@ -5,21 +5,24 @@ ghost use Rattle.desk.specs.Opening.{AreSubmitters, AreWorkers, HasMade};
 ghost use Rattle.trace_pool.specs.Parts.{AreRowsOf, IsCrewOf, IsFeedOf, AreHands, HoldsToken, submitters_in, workers_in};
 ghost use Rattle.trace_pool.specs.Places.{HoldsFrom};
 
+use crate::gate::TraceGate;
 use desk::{DeskOf, Floor, Submitter, Worker};
+use gate_rules::logged_gate::LoggedGate;
 use gate_rules::rows::Row;
 use program_model::trace::TraceRow;
 use std::collections::VecDeque;
 use tag_rules::chooser::Chooser;
 use worker_gate::pool::Hand;
 
-/// Each submitter with its rows, and then each worker.
-pub fn hand_out<X: Chooser>(
+/// Each submitter with its rows, and then each worker with a log of its own.
+pub fn hand_out<'a, X: Chooser>(
     desk: &DeskOf<Floor<u64, X>>,
     rows: &[TraceRow],
     queues: Vec<VecDeque<Row<u64>>>,
     submitters: &mut Vec<Submitter>,
     workers: &mut Vec<Worker>,
-    hands: &mut Vec<Hand<u64>>,
+    gate: &mut LoggedGate<TraceGate<'a>>,
+    hands: &mut Vec<Hand<u64, TraceGate<'a>>>,
 )
     requires rows { (length rows.now ≤ MOST_ROWS) × IsCrewOf rows.now desk.now.lock }
     requires queues { HoldsFrom (λ j q. AreRowsOf rows.now j q.items) 0 queues.items
@@ -32,17 +35,18 @@ pub fn hand_out<X: Chooser>(
         hands.new.items }
     ensures submitters { (submitters.new.items ≡ []) × (length submitters.old.items ≤ vec_capacity submitters.new) }
     ensures workers { (workers.new.items ≡ []) × (length workers.old.items ≤ vec_capacity workers.new) }
+    ensures gate { gate.new ≡ gate.old }
 {
     give_rows(desk, rows, queues, submitters, hands);
-    give_work(desk, rows, workers, hands);
+    give_work(desk, rows, workers, gate, hands);
 }
 
-fn give_rows<X: Chooser>(
+fn give_rows<'a, X: Chooser>(
     desk: &DeskOf<Floor<u64, X>>,
     rows: &[TraceRow],
     mut queues: Vec<VecDeque<Row<u64>>>,
     submitters: &mut Vec<Submitter>,
-    hands: &mut Vec<Hand<u64>>,
+    hands: &mut Vec<Hand<u64, TraceGate<'a>>>,
 )
     requires rows { length rows.now ≤ MOST_ROWS }
     requires queues { HoldsFrom (λ j q. AreRowsOf rows.now j q.items) 0 queues.items
@@ -66,11 +70,12 @@ fn give_rows<X: Chooser>(
     }
 }
 
-fn give_work<X: Chooser>(
+fn give_work<'a, X: Chooser>(
     desk: &DeskOf<Floor<u64, X>>,
     rows: &[TraceRow],
     workers: &mut Vec<Worker>,
-    hands: &mut Vec<Hand<u64>>,
+    gate: &mut LoggedGate<TraceGate<'a>>,
+    hands: &mut Vec<Hand<u64, TraceGate<'a>>>,
 )
     requires rows { IsCrewOf rows.now desk.now.lock }
     requires tokens { AreWorkers desk.now.lock 0 workers.old.items }
@@ -79,15 +84,16 @@ fn give_work<X: Chooser>(
     ensures hands { AreHands rows.now desk.now.lock (length hands.old.items) (length workers.old.items)
         hands.new.items }
     ensures workers { (workers.new.items ≡ []) × (length workers.old.items ≤ vec_capacity workers.new) }
+    ensures gate { gate.new ≡ gate.old }
 {
     while !workers.is_empty() {
-        hands.push_reserved(Hand::Work(Some(workers.remove(0))));
+        hands.push_reserved(Hand::Work(Some(workers.remove(0)), gate.log()));
     }
 }
 
 /// Gives all tokens back, in their order.
-pub fn take_back(
-    hands: &mut Vec<Hand<u64>>,
+pub fn take_back<'a>(
+    hands: &mut Vec<Hand<u64, TraceGate<'a>>>,
     submitters: &mut Vec<Submitter>,
     workers: &mut Vec<Worker>,
 )
@@ -107,8 +113,10 @@ pub fn take_back(
                 total: _,
                 stopped: _,
             } => submitters.push_reserved(who),
-            Hand::Work(Some(worker)) => workers.push_reserved(worker),
-            Hand::Work(None) => unreachable!(),
+            Hand::Work(slot, _log) => {
+                let Some(worker) = slot else { unreachable!() };
+                workers.push_reserved(worker);
+            }
         }
     }
 }

@@ -24,6 +24,7 @@ use fq_io::Clock;
 use fq_model::config::Checked;
 use fq_model::limits::{LEAST_ENTRIES, MOST_ENTRIES};
 use gate_rules::cost_rule::{CostRule, WorkCost};
+use gate_rules::logged_gate::LoggedGate;
 use gate_rules::rows::Row;
 use program_model::trace::{RunOptions, TraceRow};
 use sched_journal::History;
@@ -37,14 +38,14 @@ use trace_reader::trace::Trace;
 use worker_gate::pool::{Hand, pool};
 
 // The callers of all tokens serve the rows, each in a thread of its own, and the tokens come back.
-fn serve_rows<X: Chooser + Drop + Send, K: Clock + Sync, R: Threads + Wait + Sync>(
+fn serve_rows<'a, X: Chooser + Drop + Send, K: Clock + Sync, R: Threads + Wait + Sync>(
     rt: &R,
     desk: &DeskOf<Floor<u64, X>>,
-    rows: &[TraceRow],
+    rows: &'a [TraceRow],
     refresh: u64,
     clock: &K,
     queues: Vec<VecDeque<Row<u64>>>,
-    mut hands: Vec<Hand<u64>>,
+    mut hands: Vec<Hand<u64, TraceGate<'a>>>,
     submitters: &mut Vec<Submitter>,
     workers: &mut Vec<Worker>,
 )
@@ -58,8 +59,10 @@ fn serve_rows<X: Chooser + Drop + Send, K: Clock + Sync, R: Threads + Wait + Syn
         × (length submitters.old.items + length workers.old.items ≤ vec_capacity hands) }
     ensures { HaveDone rows.now desk.now.lock refresh (K.tells clock.now) submitters.new.items workers.new.items }
 {
-    hand_out(desk, rows, queues, submitters, workers, &mut hands);
-    let gate = TraceGate::new(rows, refresh);
+    let mut gate = LoggedGate::new(TraceGate::new(rows, refresh));
+    hand_out(
+        desk, rows, queues, submitters, workers, &mut gate, &mut hands,
+    );
     let rule = CostRule::new(WorkCost);
     pool(rt, desk, hands.as_mut_slice(), &gate, clock, &rule);
     take_back(&mut hands, submitters, workers);
@@ -67,16 +70,16 @@ fn serve_rows<X: Chooser + Drop + Send, K: Clock + Sync, R: Threads + Wait + Syn
 }
 
 // Opens a desk, has the callers of all its tokens serve the trace's rows, and gives their history.
-fn serve_at_desk<X: Chooser + Drop + Send, K: Clock + Sync, R: Threads + Wait + Sync>(
+fn serve_at_desk<'a, X: Chooser + Drop + Send, K: Clock + Sync, R: Threads + Wait + Sync>(
     rt: &R,
     alloc: Global,
     config: Checked,
-    trace: &Trace,
+    trace: &'a Trace,
     options: RunOptions,
     clock: &K,
     count: u32,
     queues: Vec<VecDeque<Row<u64>>>,
-    hands: Vec<Hand<u64>>,
+    hands: Vec<Hand<u64, TraceGate<'a>>>,
 ) -> Result<History, PoolFault>
     requires trace { IsLawfulTrace trace.now × AreInRange options × (count ≡ submitters trace.now.rows)
         × (needed_pool_entries trace.now.rows options.refresh ≤ MOST_ENTRIES) }

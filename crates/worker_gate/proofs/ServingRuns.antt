@@ -1,11 +1,10 @@
 -- Calls of a worker one after another.
-use Rattle.std.proofs.Common.{◌<◌, ◌≡◌, ℕ, ◌≤◌, List, [], ◌∷◌, ◌++◌, length, Option, Some, sym, ap, ◌∙◌, subst, refl, arith}
+use Rattle.std.proofs.Common.{◌≡◌, ℕ, ◌≤◌, List, [], ◌∷◌, ◌++◌, length, Option, Some, sym, ap, ◌∙◌, subst, refl, arith}
 use Rattle.std.proofs.lemmas.List.{reverse-append}
 use Rattle.fq_model.specs.declared.config.Config.{Config}
 use Rattle.fq_model.specs.declared.event.Act.{Act}
 use Rattle.fq_model.specs.declared.event.Act.TheVariants.{Take, Done}
 use Rattle.fq_model.specs.declared.event.Call.TheVariants as call
-use Rattle.fq_model.specs.declared.limits.TheConstants.{MOST_SLICES}
 use Rattle.fq_model.specs.declared.event.Entry.{Entry}
 use Rattle.fq_model.specs.declared.event.Reply.{Reply}
 use Rattle.fq_model.specs.History.{History, history_of, last_use, Request, request_at}
@@ -18,9 +17,11 @@ use Rattle.desk.specs.declared.floor.Crew.{Crew}
 use Rattle.desk.specs.declared.tokens.Running.{Running}
 use Rattle.desk.specs.declared.tokens.Worker.{Worker}
 use Rattle.gate_rules.specs.declared.counters.Counters.{Counters}
+use Rattle.gate_rules.specs.declared.logged_gate.Asked.{Asked}
+use Rattle.gate_rules.specs.Asking.{with_slices}
 use Rattle.worker_gate.specs.Moments.{HasToldMomentsFrom}
-use Rattle.worker_gate.specs.Running.{Use, JobRun, with_uses, with_runs, acts_of, LackedRoom, AreKeptWhereRoom, HasLabel, IsAsTold, IsRun, AreRuns, EndsWork, Worked}
-use Rattle.worker_gate.specs.Serving.{run_of, Goes, HasNamed, HasRun, Serves}
+use Rattle.worker_gate.specs.Running.{Use, JobRun, with_uses, with_runs, acts_of, LackedRoom, AreKeptWhereRoom, HasLabel, IsRun, AreRuns, EndsWork, Worked}
+use Rattle.worker_gate.specs.Serving.{run_of, Goes, HasNamed, HasRunSlices, HasRun, Serves}
 use Rattle.worker_gate.proofs.Seen.{prefix_same, moments_begin}
 use Rattle.worker_gate.proofs.ServingSteps.{Ended, Takes, Rests}
 
@@ -56,6 +57,7 @@ module _ (C : Config) (number i : ℕ) (course_of : ℕ → Option (List Counter
     labelled = label_on C seen seen2 run.request run.label on l is.labelled;
     kept = kept_on C number i run.request seen seen2 (Take i run.request run.estimate ∷ older) run.uses on is.kept;
     few = is.few;
+    charged = is.charged;
     follows = is.follows;
   }
 
@@ -117,81 +119,92 @@ module _ (lock : LockView Crew) (Tells : ℕ → Type 0) where
   module _ (course_of : ℕ → Option (List Counters)) (cost_of : Counters → ℕ) where
     -- ---- a job
 
-    pub run_ends : (label cost : ℕ) (start old : Running) (new : Worker) (uses : List Use) (reply : Reply) → length uses < MOST_SLICES → HasNamed lock Tells start old uses cost → IsAsTold cost_of (course_of label) (run_of start label uses cost)
-        → Ended lock Tells cost old new.pass reply → new.worker ≡ old.worker → HasRun lock Tells course_of cost_of label start new
-    run_ends label cost start old new uses reply few x told y worker =
+    pub run_ends : (label cost : ℕ) (start old : Running) (new : Worker) (asked asked2 : List Asked) (reply : Reply) → HasRunSlices lock Tells course_of cost_of label start old asked asked2 cost
+        → Ended lock Tells cost old new.pass reply → new.worker ≡ old.worker → HasRun lock Tells course_of cost_of label start new asked asked2
+    run_ends label cost start old new asked asked2 reply s y worker =
+        let x = s.named in
         let same : Done old.worker old.request cost ≡ Done start.worker start.request cost = ap (λ i. Done i old.request cost) x.run.worker ∙ ap (λ r. Done start.worker r cost) x.run.request in record {
           goes = goes_on start.pass old.pass new.pass x.goes y.goes;
           worker = worker ∙ x.run.worker;
           legal = y.legal;
-          uses = uses;
+          mores = s.mores;
+          last = s.last;
+          uses = s.uses;
           cost = cost;
           acts_are = y.acts_are ∙ (ap (λ act. act ∷ acts_of old.pass.mine) same ∙ ap (λ acts. Done start.worker start.request cost ∷ acts) x.acts_are);
-          few = few;
-          kept = kept_on lock.frame.config start.pass.number start.worker start.request old.pass.seen new.pass.seen (acts_of start.pass.mine) uses y.goes.seen x.kept;
-          follows = told;
+          few = s.few;
+          kept = kept_on lock.frame.config start.pass.number start.worker start.request old.pass.seen new.pass.seen (acts_of start.pass.mine) s.uses y.goes.seen x.kept;
+          charged = s.charged;
+          follows = s.follows;
+          asked_are = s.asked_are;
         }
 
     -- ---- one job after another
 
-    pub serves_none : (worker : Worker) → IsOf lock worker.pass → Serves lock Tells course_of cost_of worker worker
-    serves_none worker own = record { goes = goes_same worker.pass own; worker = refl; runs = []; acts_are = refl; runs_are = tt }
+    pub serves_none : (worker : Worker) (asked : List Asked) → IsOf lock worker.pass → Serves lock Tells course_of cost_of worker worker asked asked
+    serves_none worker asked own = record { goes = goes_same worker.pass own; worker = refl; runs = []; acts_are = refl; asked_are = refl; runs_are = tt }
 
     -- a Take that gives no request adds nothing
-    pub serves_rest : (start old new : Worker) (m i : ℕ) (reply : Reply) → Serves lock Tells course_of cost_of start old → Rests lock Tells old.pass new.pass m i reply → new.worker ≡ old.worker → Serves lock Tells course_of cost_of start new
-    serves_rest start old new m i reply x y worker = record {
+    pub serves_rest : (start old new : Worker) (asked asked2 : List Asked) (m i : ℕ) (reply : Reply) → Serves lock Tells course_of cost_of start old asked asked2 → Rests lock Tells old.pass new.pass m i reply → new.worker ≡ old.worker → Serves lock Tells course_of cost_of start new asked asked2
+    serves_rest start old new asked asked2 m i reply x y worker = record {
       goes = goes_on start.pass old.pass new.pass x.goes y.goes;
       worker = worker ∙ x.worker;
       runs = x.runs;
       acts_are = ap acts_of y.mine ∙ x.acts_are;
+      asked_are = x.asked_are;
       runs_are = runs_on lock.frame.config start.pass.number start.worker course_of cost_of old.pass.seen new.pass.seen (acts_of start.pass.mine) x.runs y.goes.seen y.legal x.runs_are;
     }
 
     -- what a worker has made when it is given one more
-    taken_acts : (start old : Worker) (running : Running) (label : ℕ) (s : Serves lock Tells course_of cost_of start old) → Takes lock Tells label old running
+    taken_acts : (start old : Worker) (running : Running) (label : ℕ) {asked asked2 : List Asked} (s : Serves lock Tells course_of cost_of start old asked asked2) → Takes lock Tells label old running
         → acts_of running.pass.mine ≡ Take start.worker running.request running.estimate ∷ with_runs start.worker s.runs (acts_of start.pass.mine)
     taken_acts start old running label s t =
         t.acts_are ∙ (ap (λ i. Take i running.request running.estimate ∷ acts_of old.pass.mine) s.worker ∙ ap (λ acts. Take start.worker running.request running.estimate ∷ acts) s.acts_are)
 
-    run_acts : (start old new : Worker) (running : Running) (label : ℕ) (s : Serves lock Tells course_of cost_of start old) → Takes lock Tells label old running → running.worker ≡ old.worker → (h : HasRun lock Tells course_of cost_of label running new)
-        → acts_of new.pass.mine ≡ with_runs start.worker (run_of running label h.uses h.cost ∷ s.runs) (acts_of start.pass.mine)
+    run_acts : (start old new : Worker) (running : Running) (label : ℕ) {asked asked2 asked3 : List Asked} (s : Serves lock Tells course_of cost_of start old asked asked2) → Takes lock Tells label old running → running.worker ≡ old.worker
+        → (h : HasRun lock Tells course_of cost_of label running new asked2 asked3)
+        → acts_of new.pass.mine ≡ with_runs start.worker (run_of running label h.mores h.last h.uses h.cost ∷ s.runs) (acts_of start.pass.mine)
     run_acts start old new running label s t worker h =
         let i_is : running.worker ≡ start.worker = worker ∙ s.worker in
         h.acts_are ∙ (ap (λ i. Done i running.request h.cost ∷ with_uses i running.request h.uses (acts_of running.pass.mine)) i_is
         ∙ ap (λ acts. Done start.worker running.request h.cost ∷ with_uses start.worker running.request h.uses acts) (taken_acts start old running label s t))
 
     -- a Take that gives one, and the run of it
-    pub serves_run : (start old new : Worker) (running : Running) (label : ℕ) → Serves lock Tells course_of cost_of start old → Takes lock Tells label old running → running.worker ≡ old.worker → HasRun lock Tells course_of cost_of label running new → Serves lock Tells course_of cost_of start new
-    serves_run start old new running label s t worker h =
+    pub serves_run : (start old new : Worker) (running : Running) (label : ℕ) (asked asked2 asked3 : List Asked) → Serves lock Tells course_of cost_of start old asked asked2 → Takes lock Tells label old running → running.worker ≡ old.worker → HasRun lock Tells course_of cost_of label running new asked2 asked3
+        → Serves lock Tells course_of cost_of start new asked asked3
+    serves_run start old new running label asked asked2 asked3 s t worker h =
         let C : Config = lock.frame.config in
         let later : Goes lock Tells old.pass new.pass = goes_on old.pass running.pass new.pass t.goes h.goes in
-        let run : JobRun = run_of running label h.uses h.cost in
+        let run : JobRun = run_of running label h.mores h.last h.uses h.cost in
         let older : List Act = with_runs start.worker s.runs (acts_of start.pass.mine) in
         let is : IsRun C start.pass.number start.worker course_of cost_of new.pass.seen older run = record {
           labelled = label_on C running.pass.seen new.pass.seen running.request label h.goes.seen h.legal t.labelled;
           kept = kept_same C running.pass.number start.pass.number running.worker start.worker running.request new.pass.seen (acts_of running.pass.mine) (Take start.worker running.request running.estimate ∷ older) h.uses
               (t.goes.stays.number ∙ s.goes.stays.number) (worker ∙ s.worker) (taken_acts start old running label s t) h.kept;
           few = h.few;
+          charged = h.charged;
           follows = h.follows;
         } in record {
           goes = goes_on start.pass old.pass new.pass s.goes later;
           worker = h.worker ∙ (worker ∙ s.worker);
           runs = run ∷ s.runs;
           acts_are = run_acts start old new running label s t worker h;
+          asked_are = h.asked_are ∙ ap (with_slices label h.mores h.last) s.asked_are;
           runs_are = (is, runs_on C start.pass.number start.worker course_of cost_of old.pass.seen new.pass.seen (acts_of start.pass.mine) s.runs later.seen h.legal s.runs_are);
         }
 
     -- a worker that is turned away has done its part
-    pub worked : (start old new : Worker) (m : ℕ) (reply : Reply) → Serves lock Tells course_of cost_of start old → Rests lock Tells old.pass new.pass m old.worker reply → new.worker ≡ old.worker → EndsWork reply → Worked lock course_of cost_of Tells start new
-    worked start old new m reply s y worker ends =
+    pub worked : (start old new : Worker) (asked asked2 : List Asked) (m : ℕ) (reply : Reply) → Serves lock Tells course_of cost_of start old asked asked2 → Rests lock Tells old.pass new.pass m old.worker reply → new.worker ≡ old.worker → EndsWork reply → Worked lock course_of cost_of Tells start new asked asked2
+    worked start old new asked asked2 m reply s y worker ends =
         let C : Config = lock.frame.config in
-        let x : Serves lock Tells course_of cost_of start new = serves_rest start old new m old.worker reply s y worker in
+        let x : Serves lock Tells course_of cost_of start new asked asked2 = serves_rest start old new asked asked2 m old.worker reply s y worker in
         let told : HasToldMomentsFrom Tells start.pass.number (length start.pass.seen) (history_of new.pass.seen) = x.goes.moments (length start.pass.seen) (moments_begin Tells start.pass.number start.pass.seen) in record {
           stays = x.goes.stays;
           worker = x.worker;
           seen = x.goes.seen;
           runs = x.runs;
           acts_are = x.acts_are ∙ ap (λ i. with_runs i x.runs (acts_of start.pass.mine)) (sym x.worker);
+          asked_are = x.asked_are;
           runs_are = subst (λ i. AreRuns C new.pass.number i course_of cost_of new.pass.seen (acts_of start.pass.mine) x.runs) (sym x.worker)
               (subst (λ n. AreRuns C n start.worker course_of cost_of new.pass.seen (acts_of start.pass.mine) x.runs) (sym x.goes.stays.number) x.runs_are);
           moments = subst (λ n. HasToldMomentsFrom Tells n (length start.pass.seen) (history_of new.pass.seen)) (sym x.goes.stays.number) told;

@@ -18,19 +18,25 @@ use Rattle.desk.specs.declared.tokens.Worker.{Worker}
 use Rattle.desk.specs.Tokens.{Stays}
 use Rattle.gate_rules.specs.declared.counters.Counters.{Counters}
 use Rattle.worker_gate.specs.Moments.{HasToldMomentsFrom}
-use Rattle.gate_rules.specs.Slices.{counters_after, total, IsCourse}
+use Rattle.gate_rules.specs.declared.gate.Slice.{Slice}
+use Rattle.gate_rules.specs.declared.logged_gate.Asked.{Asked}
+use Rattle.gate_rules.specs.Asking.{with_slices, IsLast}
+use Rattle.gate_rules.specs.Slices.{counters_after, counters_of, total, IsCourse}
 
 -- a use that a worker named of a request, and whether its Report stands in the history
 pub record Use : Type 0 where
   pub used : ℕ
   pub is_kept : Bool
 
--- a job that a worker ran to its end: its request, the estimate at its Take, its label, the uses that were named, the
--- newest first, and its cost
+-- a job that a worker ran to its end: its request, the estimate at its Take, its label, the counters that all its
+-- slices but the last came to, the newest first, the answer to the last, the uses that were named, the newest first,
+-- and its cost
 pub record JobRun : Type 0 where
   pub request : ℕ
   pub estimate : ℕ
   pub label : ℕ
+  pub mores : List Counters
+  pub last : Slice
   pub uses : List Use
   pub cost : ℕ
 
@@ -52,9 +58,22 @@ abbrev pub with_runs : ℕ → List JobRun → List Act → List Act
 with_runs i [] older = older
 with_runs i (run ∷ runs) older = with_run i run (with_runs i runs older)
 
+-- what it asks the gate for one job after another, the newest first, onto an older log: slices 0, 1 and so on of each,
+-- each of them once
+abbrev pub with_asks : List JobRun → List Asked → List Asked
+with_asks [] older = older
+with_asks (run ∷ runs) older = with_slices run.label run.mores run.last (with_asks runs older)
+
 -- the acts of entries in order of time, the newest first
 abbrev pub acts_of : List Entry → List Act
 acts_of entries = map (λ e. e.act) (history_of entries)
+
+-- The run is charged what the gate answered: the uses that it named are what the rule makes of each slice but the last,
+-- and its cost is what the rule makes of the last, which is an End or slice 9,999
+pub record IsCharged (cost_of : Counters → ℕ) (run : JobRun) : Type 0 where
+  pub uses_are : map (λ u. u.used) run.uses ≡ map cost_of run.mores
+  pub cost_is : run.cost ≡ cost_of (counters_of run.last)
+  pub ends : IsLast (length run.mores) run.last
 
 -- what a rule makes of the first k slices of a course, the newest first
 abbrev pub uses_after : (Counters → ℕ) → List Counters → ℕ → List ℕ
@@ -103,6 +122,7 @@ module _ (C : Config) (number i : ℕ)
     pub labelled : HasLabel (history_of seen) run.request run.label
     pub few : length run.uses < MOST_SLICES
     pub kept : AreKeptWhereRoom C number i run.request seen (Take i run.request run.estimate ∷ older) run.uses
+    pub charged : IsCharged cost_of run
     pub follows : IsAsTold cost_of (course_of run.label) run
 
   -- it is true of each, the newest first: a run is made onto the older acts and those of the runs before it
@@ -122,14 +142,15 @@ IsTurnedAway C worker = (moment : ℕ) × (reply : Reply) × EndsWork reply
     × Answers C (history_of worker.pass.seen) (call.Take worker.pass.number moment worker.worker) reply (history_of worker.pass.seen)
 
 -- What the worker has done: it is turned away now, and what it has added to its own entries are the Take, the Reports
--- and
--- the Done of one job after another, at moments that the clock tells
-pub record Worked (lock : LockView Crew) (course_of : ℕ → Option (List Counters)) (cost_of : Counters → ℕ) (Tells : ℕ → Type 0) (old new : Worker) : Type 0 where
+-- and the Done of one job after another, at moments that the clock tells. What it has added to the log are the slices
+-- of these jobs
+pub record Worked (lock : LockView Crew) (course_of : ℕ → Option (List Counters)) (cost_of : Counters → ℕ) (Tells : ℕ → Type 0) (old new : Worker) (asked asked2 : List Asked) : Type 0 where
   pub stays : Stays lock old.pass new.pass
   pub worker : new.worker ≡ old.worker
   pub seen : IsPrefix old.pass.seen new.pass.seen
   pub runs : List JobRun
   pub acts_are : acts_of new.pass.mine ≡ with_runs new.worker runs (acts_of old.pass.mine)
+  pub asked_are : asked2 ≡ with_asks runs asked
   pub runs_are :
       AreRuns lock.frame.config new.pass.number new.worker course_of cost_of new.pass.seen (acts_of old.pass.mine) runs
   pub moments : HasToldMomentsFrom Tells new.pass.number (length old.pass.seen) (history_of new.pass.seen)

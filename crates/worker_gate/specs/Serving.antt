@@ -12,15 +12,18 @@ use Rattle.desk.specs.declared.tokens.Worker.{Worker}
 use Rattle.desk.specs.Replies.{SameRun}
 use Rattle.desk.specs.Tokens.{Stays}
 use Rattle.gate_rules.specs.declared.counters.Counters.{Counters}
+use Rattle.gate_rules.specs.declared.gate.Slice.{Slice}
+use Rattle.gate_rules.specs.declared.logged_gate.Asked.{Asked}
+use Rattle.gate_rules.specs.Asking.{with_slices}
 use Rattle.worker_gate.specs.declared.work.Turn.{Turn}
 use Rattle.worker_gate.specs.declared.work.Turn.TheVariants.{On, Over}
 use Rattle.worker_gate.specs.Moments.{HasToldMomentsFrom}
-use Rattle.worker_gate.specs.Running.{Use, JobRun, with_uses, with_runs, acts_of, AreKeptWhereRoom, IsAsTold, AreRuns, Worked}
+use Rattle.worker_gate.specs.Running.{Use, JobRun, with_uses, with_runs, acts_of, with_asks, AreKeptWhereRoom, IsCharged, IsAsTold, AreRuns, Worked}
 
 -- the request's course as its worker ran it
-abbrev pub run_of : Running → ℕ → List Use → ℕ → JobRun
-run_of running label uses cost =
-    record { request = running.request; estimate = running.estimate; label = label; uses = uses; cost = cost }
+abbrev pub run_of : Running → ℕ → List Counters → Slice → List Use → ℕ → JobRun
+run_of running label mores last uses cost =
+    record { request = running.request; estimate = running.estimate; label = label; mores = mores; last = last; uses = uses; cost = cost }
 
 -- the token is of this lock, and nothing was reported of its request
 pub record IsAtStart (lock : LockView Crew) (running : Running) : Type 0 where
@@ -47,16 +50,23 @@ module _ (lock : LockView Crew) (Tells : ℕ → Type 0) where
 
   module _ (course_of : ℕ → Option (List Counters)) (cost_of : Counters → ℕ) where
     -- the slices of a job of this label were run, and came to this cost
-    abbrev pub HasRunSlices : ℕ → Running → Running → ℕ → Type 0
-    HasRunSlices label old new cost =
-        (uses : List Use) × (length uses < MOST_SLICES) × HasNamed old new uses cost
-        × IsAsTold cost_of (course_of label) (run_of old label uses cost)
+    pub record HasRunSlices (label : ℕ) (old new : Running) (asked asked2 : List Asked) (cost : ℕ) : Type 0 where
+      pub mores : List Counters
+      pub last : Slice
+      pub uses : List Use
+      pub few : length uses < MOST_SLICES
+      pub named : HasNamed old new uses cost
+      pub charged : IsCharged cost_of (run_of old label mores last uses cost)
+      pub follows : IsAsTold cost_of (course_of label) (run_of old label mores last uses cost)
+      pub asked_are : asked2 ≡ with_slices label mores last asked
 
     -- the job of this label was run to its end
-    pub record HasRun (label : ℕ) (old : Running) (new : Worker) : Type 0 where
+    pub record HasRun (label : ℕ) (old : Running) (new : Worker) (asked asked2 : List Asked) : Type 0 where
       pub goes : Goes old.pass new.pass
       pub worker : new.worker ≡ old.worker
       pub legal : IsLegal lock.frame.config (history_of new.pass.seen)
+      pub mores : List Counters
+      pub last : Slice
       pub uses : List Use
       pub cost : ℕ
       pub acts_are : acts_of new.pass.mine ≡ Done old.worker old.request cost ∷ with_uses old.worker old.request uses (acts_of old.pass.mine)
@@ -64,19 +74,22 @@ module _ (lock : LockView Crew) (Tells : ℕ → Type 0) where
       pub kept :
           AreKeptWhereRoom lock.frame.config old.pass.number old.worker old.request
           new.pass.seen (acts_of old.pass.mine) uses
-      pub follows : IsAsTold cost_of (course_of label) (run_of old label uses cost)
+      pub charged : IsCharged cost_of (run_of old label mores last uses cost)
+      pub follows : IsAsTold cost_of (course_of label) (run_of old label mores last uses cost)
+      pub asked_are : asked2 ≡ with_slices label mores last asked
 
     -- so far the worker has run these jobs
-    pub record Serves (old new : Worker) : Type 0 where
+    pub record Serves (old new : Worker) (asked asked2 : List Asked) : Type 0 where
       pub goes : Goes old.pass new.pass
       pub worker : new.worker ≡ old.worker
       pub runs : List JobRun
       pub acts_are : acts_of new.pass.mine ≡ with_runs old.worker runs (acts_of old.pass.mine)
+      pub asked_are : asked2 ≡ with_asks runs asked
       pub runs_are :
           AreRuns lock.frame.config old.pass.number old.worker course_of cost_of
           new.pass.seen (acts_of old.pass.mine) runs
 
     -- after a turn the worker goes on, and has served so, or it has worked to the end
-    abbrev pub HasTurned : Worker → Turn → Type 0
-    HasTurned begun (On free) = Serves begun free
-    HasTurned begun (Over ended) = Worked lock course_of cost_of Tells begun ended
+    abbrev pub HasTurned : Worker → Turn → List Asked → List Asked → Type 0
+    HasTurned begun (On free) asked asked2 = Serves begun free asked asked2
+    HasTurned begun (Over ended) asked asked2 = Worked lock course_of cost_of Tells begun ended asked asked2

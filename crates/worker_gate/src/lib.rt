@@ -9,4 +9,5 @@ pub use gate_rules::cost_rule::{Cost, CostRule, WorkCost};
 pub use gate_rules::counters::{Counters, NO_COUNTERS};
 pub use gate_rules::gate::{Gate, Slice};
 pub use gate_rules::kind_rule::{Kind, KindRule};
+pub use gate_rules::logged_gate::{Asked, LoggedGate, SliceLog};
 pub use gate_rules::rows::{Fed, Row};

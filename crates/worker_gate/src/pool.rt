@@ -9,6 +9,7 @@ use fq_model::event::Cause;
 use fq_model::job::Job;
 use gate_rules::cost_rule::{Cost, CostRule};
 use gate_rules::gate::Gate;
+use gate_rules::logged_gate::{LoggedGate, SliceLog};
 use gate_rules::rows::Row;
 use std::collections::VecDeque;
 use std::sync::Wait;
@@ -17,7 +18,7 @@ use std::thread::Threads;
 use tag_rules::chooser::Chooser;
 
 /// What one thread of a pool does, and what is left of it then.
-pub enum Hand<J> {
+pub enum Hand<J, G> {
     /// A submitter hands in rows, of so many in all. Afterwards `rows` are those that are left, and `stopped` is the
     /// row before them that was refused, with its cause, if one was.
     Feed {
@@ -26,15 +27,15 @@ pub enum Hand<J> {
         total: u32,
         stopped: Option<(Row<J>, Cause)>,
     },
-    /// A worker serves. It stands here before and afterwards.
-    Work(Option<Worker>),
+    /// A worker serves. It stands here before and afterwards, with a log of the slices that it asks for.
+    Work(Option<Worker>, SliceLog<G>),
 }
 
 fn run<J: Job + Drop, X: Chooser, G: Gate<J>, K: Clock, F: Cost, R: Wait>(
     desk: &DeskOf<Floor<J, X>>,
     rt: &R,
-    hand: &mut Hand<J>,
-    gate: &G,
+    hand: &mut Hand<J, G>,
+    gate: &LoggedGate<G>,
     clock: &K,
     rule: &CostRule<F>,
 )
@@ -51,11 +52,11 @@ fn run<J: Job + Drop, X: Chooser, G: Gate<J>, K: Clock, F: Cost, R: Wait>(
         } => {
             *stopped = feed_rows(desk, rt, who, rows, *total, clock, &OwnKind);
         }
-        Hand::Work(slot) => {
+        Hand::Work(slot, log) => {
             let Some(worker) = slot.take() else {
                 unreachable!()
             };
-            let back = slot.replace(work(desk, rt, worker, gate, clock, rule));
+            let back = slot.replace(work(desk, rt, worker, gate, log, clock, rule));
             let None = back else { unreachable!() };
         }
     }
@@ -73,8 +74,8 @@ pub fn pool<
 >(
     rt: &R,
     desk: &DeskOf<Floor<J, X>>,
-    hands: &mut [Hand<J>],
-    gate: &G,
+    hands: &mut [Hand<J, G>],
+    gate: &LoggedGate<G>,
     clock: &K,
     rule: &CostRule<F>,
 )
@@ -90,7 +91,7 @@ pub fn pool<
             rt,
             hands,
             threads,
-            &|_, hand: &mut Hand<J>| { run(desk, rt, hand, gate, clock, rule) },
+            &|_, hand: &mut Hand<J, G>| { run(desk, rt, hand, gate, clock, rule) },
         );
         hands.reverse();
     }

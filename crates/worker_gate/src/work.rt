@@ -1,9 +1,10 @@
 //! How a worker serves.
-ghost use Rattle.std.specs.Prelude.{Bool, ◌≤◌, [], ◌∷◌};
+ghost use Rattle.std.specs.Prelude.{Bool, ◌≤◌, List, [], ◌∷◌};
 ghost use Rattle.fq_model.specs.History.{history_of, last_use};
 ghost use Rattle.history_lock.specs.Passes.{IsOf};
 ghost use Rattle.worker_gate.specs.Running.{Worked};
 ghost use Rattle.desk.specs.declared.tokens.Worker.{Worker};
+ghost use Rattle.gate_rules.specs.declared.logged_gate.Asked.{Asked};
 ghost use Rattle.worker_gate.specs.Serving.{IsAtStart, HasNamed, HasRunSlices, HasRun, Serves, HasTurned};
 
 use desk::{DeskOf, Floor, LiveRefusal, Running, Took, Worker};
@@ -13,6 +14,7 @@ use fq_model::limits::{GREATEST_COST, MOST_SLICES};
 use gate_rules::cost_rule::{Cost, CostRule};
 use gate_rules::counters::NO_COUNTERS;
 use gate_rules::gate::{Gate, Slice};
+use gate_rules::logged_gate::{LoggedGate, SliceLog};
 use std::sync::Wait;
 use tag_rules::chooser::Chooser;
 
@@ -43,18 +45,19 @@ fn run_slices<J: Job + Drop, X: Chooser, G: Gate<J>, K: Clock, F: Cost, R: Wait>
     rt: &R,
     running: &mut Running,
     job: &J,
-    gate: &G,
+    gate: &LoggedGate<G>,
+    log: &mut SliceLog<G>,
     clock: &K,
     rule: &CostRule<F>,
 ) -> u64
     requires { IsAtStart desk.now.lock running.old }
     ensures slices { HasRunSlices desk.now.lock (K.tells clock.now) (G.course gate.now) (F.cost_of rule.now)
-        (J.label_of job.now) running.old running.new result }
+        (J.label_of job.now) running.old running.new log.old log.new result }
     ensures limit { result ≤ GREATEST_COST }
 {
     let mut last = NO_COUNTERS;
     for k in 0..MOST_SLICES - 1 {
-        match gate.slice(job, k, last) {
+        match gate.slice(log, job, k, last) {
             Slice::More(counters) => {
                 report_use(desk, rt, running, clock, rule.cost(counters));
                 last = counters;
@@ -62,7 +65,7 @@ fn run_slices<J: Job + Drop, X: Chooser, G: Gate<J>, K: Clock, F: Cost, R: Wait>
             Slice::End(counters) => return rule.cost(counters),
         }
     }
-    match gate.slice(job, MOST_SLICES - 1, last) {
+    match gate.slice(log, job, MOST_SLICES - 1, last) {
         Slice::More(counters) | Slice::End(counters) => rule.cost(counters),
     }
 }
@@ -73,15 +76,16 @@ fn run_job<J: Job + Drop, X: Chooser, G: Gate<J>, K: Clock, F: Cost, R: Wait>(
     rt: &R,
     mut running: Running,
     job: &J,
-    gate: &G,
+    gate: &LoggedGate<G>,
+    log: &mut SliceLog<G>,
     clock: &K,
     rule: &CostRule<F>,
 ) -> Worker
     requires { IsAtStart desk.now.lock running }
     ensures { HasRun desk.now.lock (K.tells clock.now) (G.course gate.now) (F.cost_of rule.now)
-        (J.label_of job.now) running result }
+        (J.label_of job.now) running result log.old log.new }
 {
-    let cost = run_slices(desk, rt, &mut running, job, gate, clock, rule);
+    let cost = run_slices(desk, rt, &mut running, job, gate, log, clock, rule);
     let ended = desk.done(rt, running, clock.now(), cost);
     let Ok(worker) = ended else { unreachable!() };
     worker
@@ -100,18 +104,22 @@ fn take_turn<J: Job + Drop, X: Chooser, G: Gate<J>, K: Clock, F: Cost, R: Wait>(
     desk: &DeskOf<Floor<J, X>>,
     rt: &R,
     free: Worker,
-    gate: &G,
+    gate: &LoggedGate<G>,
+    log: &mut SliceLog<G>,
     clock: &K,
     rule: &CostRule<F>,
 ) -> Turn
     requires { IsOf desk.now.lock free.pass }
-    ensures { (begun : Worker)
-        → Serves desk.now.lock (K.tells clock.now) (G.course gate.now) (F.cost_of rule.now) begun free
-        → HasTurned desk.now.lock (K.tells clock.now) (G.course gate.now) (F.cost_of rule.now) begun result }
+    ensures { (begun : Worker) (asked : List Asked)
+        → Serves desk.now.lock (K.tells clock.now) (G.course gate.now) (F.cost_of rule.now) begun free asked log.old
+        → HasTurned desk.now.lock (K.tells clock.now) (G.course gate.now) (F.cost_of rule.now)
+        begun result asked log.new }
 {
     let heard = desk.heard();
     match desk.take(rt, free, clock.now()) {
-        Took::Run(running, job) => Turn::On(run_job(desk, rt, running, &job, gate, clock, rule)),
+        Took::Run(running, job) => {
+            Turn::On(run_job(desk, rt, running, &job, gate, log, clock, rule))
+        }
         Took::Idle(back) => {
             desk.await_news(rt, heard);
             Turn::On(back)
@@ -121,23 +129,26 @@ fn take_turn<J: Job + Drop, X: Chooser, G: Gate<J>, K: Clock, F: Cost, R: Wait>(
 }
 
 /// Takes one job after another and runs each to its end, until nothing waits and nothing more will come, or the pool
-/// has no place for the worker. Each job's gate is asked for slice after slice; what a slice has used is reported, at
-/// the cost that the rule makes of it, and is let go where the history has no room for it. Slice 9,999 is the last,
-/// whatever the gate says. It asks the clock before each call, and sleeps while nothing waits.
+/// has no place for the worker. The gate is asked for each slice of a job once, in order and up to the first End, and
+/// the log gains these slices and no others; what a slice has used is reported, at the cost that the rule makes of it,
+/// and is let go where the history has no room for it. Slice 9,999 is the last, whatever the gate says. It asks the
+/// clock before each call, and sleeps while nothing waits.
 pub fn work<J: Job + Drop, X: Chooser, G: Gate<J>, K: Clock, F: Cost, R: Wait>(
     desk: &DeskOf<Floor<J, X>>,
     rt: &R,
     worker: Worker,
-    gate: &G,
+    gate: &LoggedGate<G>,
+    log: &mut SliceLog<G>,
     clock: &K,
     rule: &CostRule<F>,
 ) -> Worker
     requires { IsOf desk.now.lock worker.pass }
-    ensures { Worked desk.now.lock (G.course gate.now) (F.cost_of rule.now) (K.tells clock.now) worker result }
+    ensures { Worked desk.now.lock (G.course gate.now) (F.cost_of rule.now) (K.tells clock.now) worker result
+        log.old log.new }
 {
     let mut free = worker;
     for _ in rt.forever() {
-        match take_turn(desk, rt, free, gate, clock, rule) {
+        match take_turn(desk, rt, free, gate, log, clock, rule) {
             Turn::On(next) => free = next,
             Turn::Over(back) => return back,
         }

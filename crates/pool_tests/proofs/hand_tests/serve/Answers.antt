@@ -9,45 +9,46 @@ use Rattle.worker_gate.specs.Hands.{AreHandsOf, IsHandOf, HandDid, HandsDid}
 use Rattle.pool_tests.specs.Hired.{IsFeeding, IsWorking, AreHired}
 use Rattle.pool_tests.proofs.hand_tests.serve.Goals as goal
 
-feeds : (lock : LockView Crew) (x : Hand ℕ) → IsFeeding lock x → IsHandOf lock x
-feeds lock (Feed who rows total stopped) h = h.0
-feeds lock (Work slot) h = absurd h
+module _ {G : Type 0} where
+  feeds : (lock : LockView Crew) (x : Hand ℕ G) → IsFeeding lock x → IsHandOf lock x
+  feeds lock (Feed who rows total stopped) h = h.0
+  feeds lock (Work slot log) h = absurd h
 
-works : (lock : LockView Crew) (x : Hand ℕ) → IsWorking lock x → IsHandOf lock x
-works lock (Feed who rows total stopped) h = absurd h
-works lock (Work None) h = absurd h
-works lock (Work (Some worker)) h = (worker, refl, h)
+  works : (lock : LockView Crew) (x : Hand ℕ G) → IsWorking lock x → IsHandOf lock x
+  works lock (Feed who rows total stopped) h = absurd h
+  works lock (Work None log) h = absurd h
+  works lock (Work (Some worker) log) h = (worker, refl, h)
 
-hands_of : (lock : LockView Crew) (hands : List (Hand ℕ)) → AreHired lock hands → AreHandsOf lock hands
-hands_of lock [] h = absurd h
-hands_of lock (x ∷ []) h = absurd h
-hands_of lock (x ∷ y ∷ []) h = absurd h
-hands_of lock (x ∷ y ∷ z ∷ []) h =
-    let P : Hand ℕ → Type 0 = IsHandOf lock in
-    All-cons P x (y ∷ z ∷ []) (feeds lock x h.0) (All-cons P y (z ∷ []) (works lock y h.1) (All-cons P z [] (works lock z h.2) (All-nil P)))
-hands_of lock (x ∷ y ∷ z ∷ w ∷ hands) h = absurd h
+  hands_of : (lock : LockView Crew) (hands : List (Hand ℕ G)) → AreHired lock hands → AreHandsOf lock hands
+  hands_of lock [] h = absurd h
+  hands_of lock (x ∷ []) h = absurd h
+  hands_of lock (x ∷ y ∷ []) h = absurd h
+  hands_of lock (x ∷ y ∷ z ∷ []) h =
+      let P : Hand ℕ G → Type 0 = IsHandOf lock in
+      All-cons P x (y ∷ z ∷ []) (feeds lock x h.0) (All-cons P y (z ∷ []) (works lock y h.1) (All-cons P z [] (works lock z h.2) (All-nil P)))
+  hands_of lock (x ∷ y ∷ z ∷ w ∷ hands) h = absurd h
 
-module _ (lock : LockView Crew) (course_of : ℕ → Option (List Counters)) (cost_of : Counters → ℕ) (Tells : ℕ → Type 0) where
-  fed : (x y : Hand ℕ) → IsFeeding lock x → HandDid (λ (job : ℕ). job) lock course_of cost_of Tells x y → IsFeeding lock y
-  fed (Feed who rows total stopped) y h (who2, rows2, stopped2, is, did) = subst (IsFeeding lock) (sym is) (did.stays.own, did.stays.number ∙ h.1)
-  fed (Work slot) y h did = absurd h
+  module _ (lock : LockView Crew) (course_of : ℕ → Option (List Counters)) (cost_of : Counters → ℕ) (Tells : ℕ → Type 0) where
+    fed : (x y : Hand ℕ G) → IsFeeding lock x → HandDid (λ (job : ℕ). job) lock course_of cost_of Tells x y → IsFeeding lock y
+    fed (Feed who rows total stopped) y h (who2, rows2, stopped2, is, did) = subst (IsFeeding lock) (sym is) (did.stays.own, did.stays.number ∙ h.1)
+    fed (Work slot log) y h did = absurd h
 
-  worked : (x y : Hand ℕ) → IsWorking lock x → HandDid (λ (job : ℕ). job) lock course_of cost_of Tells x y → IsWorking lock y
-  worked (Feed who rows total stopped) y h did = absurd h
-  worked (Work None) y h did = absurd h
-  worked (Work (Some worker)) y h (before, after, same, is, did) = subst (IsWorking lock) (sym is) did.stays.own
+    worked : (x y : Hand ℕ G) → IsWorking lock x → HandDid (λ (job : ℕ). job) lock course_of cost_of Tells x y → IsWorking lock y
+    worked (Feed who rows total stopped) y h did = absurd h
+    worked (Work None log) y h did = absurd h
+    worked (Work (Some worker) log) y h (before, after, log2, same, is, did) = subst (IsWorking lock) (sym is) did.stays.own
 
-  all_did : (olds news : List (Hand ℕ)) → AreHired lock olds → HandsDid (λ (job : ℕ). job) lock course_of cost_of Tells olds news → AreHired lock news
-  all_did [] news h did = absurd h
-  all_did (a ∷ []) news h did = absurd h
-  all_did (a ∷ b ∷ []) news h did = absurd h
-  all_did (a ∷ b ∷ c ∷ d ∷ olds) news h did = absurd h
-  all_did (a ∷ b ∷ c ∷ []) [] h did = absurd (omega (arith, did.0))
-  all_did (a ∷ b ∷ c ∷ []) (x ∷ []) h did = absurd (omega (arith, did.0))
-  all_did (a ∷ b ∷ c ∷ []) (x ∷ y ∷ []) h did = absurd (omega (arith, did.0))
-  all_did (a ∷ b ∷ c ∷ []) (x ∷ y ∷ z ∷ []) h did =
-      (fed a x h.0 (did.1 0 a (omega arith)), worked b y h.1 (did.1 1 a (omega arith)), worked c z h.2 (did.1 2 a (omega arith)))
-  all_did (a ∷ b ∷ c ∷ []) (x ∷ y ∷ z ∷ w ∷ news) h did = absurd (omega (arith, did.0))
+    all_did : (olds news : List (Hand ℕ G)) → AreHired lock olds → HandsDid (λ (job : ℕ). job) lock course_of cost_of Tells olds news → AreHired lock news
+    all_did [] news h did = absurd h
+    all_did (a ∷ []) news h did = absurd h
+    all_did (a ∷ b ∷ []) news h did = absurd h
+    all_did (a ∷ b ∷ c ∷ d ∷ olds) news h did = absurd h
+    all_did (a ∷ b ∷ c ∷ []) [] h did = absurd (omega (arith, did.0))
+    all_did (a ∷ b ∷ c ∷ []) (x ∷ []) h did = absurd (omega (arith, did.0))
+    all_did (a ∷ b ∷ c ∷ []) (x ∷ y ∷ []) h did = absurd (omega (arith, did.0))
+    all_did (a ∷ b ∷ c ∷ []) (x ∷ y ∷ z ∷ []) h did =
+        (fed a x h.0 (did.1 0 a (omega arith)), worked b y h.1 (did.1 1 a (omega arith)), worked c z h.2 (did.1 2 a (omega arith)))
+    all_did (a ∷ b ∷ c ∷ []) (x ∷ y ∷ z ∷ w ∷ news) h did = absurd (omega (arith, did.0))
 
 pub pool-requires-after_bounds : goal.pool-requires-after_bounds
 pool-requires-after_bounds g c κs within = hands_of c.args.desk.now.lock c.args.hands.now c.requires

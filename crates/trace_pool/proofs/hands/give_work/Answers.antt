@@ -1,5 +1,5 @@
-use Rattle.std.proofs.Common.{rules, ℕ, suc, arith, ◌≡◌, ◌<◌, ◌∙◌, ap, subst, length, List, ◌∷◌, ◌++◌, refl}
-use Rattle.worker_gate.specs.declared.pool.Hand.{Hand}
+use Rattle.std.proofs.Common.{rules, suc, arith, ◌≡◌, ◌<◌, ◌∙◌, ap, subst, length, List, ◌∷◌, ◌++◌, refl}
+use Rattle.trace_pool.specs.Hands.{TraceHand}
 use Rattle.desk.specs.Opening.{AreWorkers}
 use Rattle.trace_pool.specs.Parts.{IsWorkOf}
 use Rattle.trace_pool.specs.Places.{HoldsFrom}
@@ -11,11 +11,12 @@ loop-hands-preserved g c =
     let lock = c.args.desk.now.lock in let rows = c.args.rows.now in let was = c.loop-hands.invariant in
     let some : 0 < length c.loop-hands.workers.items = search rules in
     let firsts = split_first c.loop-hands.workers.items c.remove.result c.remove.new.self.items some c.remove.ensures.value c.remove.ensures.by_index.2 in
-    let works : (given : List (Hand ℕ)) × (c.loop-hands.hands.items ≡ c.args.hands.now.items ++ given) × HoldsFrom (IsWorkOf rows lock) 0 given × AreWorkers lock (length given) (c.remove.result ∷ c.remove.new.self.items) =
-    subst (λ l. (given : List (Hand ℕ)) × (c.loop-hands.hands.items ≡ c.args.hands.now.items ++ given) × HoldsFrom (IsWorkOf rows lock) 0 given × AreWorkers lock (length given) l) firsts was.works in
+    let works : (given : List TraceHand) × (c.loop-hands.hands.items ≡ c.args.hands.now.items ++ given) × HoldsFrom (IsWorkOf rows lock) 0 given × AreWorkers lock (length given) (c.remove.result ∷ c.remove.new.self.items) =
+    subst (λ l. (given : List TraceHand) × (c.loop-hands.hands.items ≡ c.args.hands.now.items ++ given) × HoldsFrom (IsWorkOf rows lock) 0 given × AreWorkers lock (length given) l) firsts was.works in
     let one : length c.loop-hands.workers.items ≡ suc (length c.remove.new.self.items) = ap length firsts in record {
-      works = works_more lock rows c.loop-hands.hands.items c.push_reserved.new.self.items c.args.hands.now.items c.remove.result c.remove.new.self.items _ c.requires.rows works c.push_reserved.ensures.items refl;
+      works = works_more lock rows c.loop-hands.hands.items c.push_reserved.new.self.items c.args.hands.now.items c.remove.result c.remove.new.self.items _ _ c.requires.rows works c.push_reserved.ensures.items refl;
       all = omega (arith, c.push_reserved.ensures.len, one, was.all);
       room = c.push_reserved.ensures.capacity ∙ was.room;
       kept = omega (arith, c.remove.ensures.capacity, was.kept);
+      gate = c.log.ensures.same ∙ was.gate;
     }

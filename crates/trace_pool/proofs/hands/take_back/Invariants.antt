@@ -1,4 +1,4 @@
-use Rattle.std.proofs.Common.{◌≡◌, ◌++◌, All}
+use Rattle.std.proofs.Common.{◌≡◌, ◌++◌, All, length}
 use Rattle.std.specs.Prelude.{vec_capacity}
 use Rattle.trace_pool.specs.Parts.{HoldsToken, submitters_in, workers_in}
 use Rattle.trace_pool.proofs.hands.take_back.Given as goal
@@ -13,4 +13,4 @@ invariant-loop-hands l = record {
 }
 
 abbrev pub decreases-loop-hands : goal.decreases-loop-hands
-decreases-loop-hands l = goal.left-loop-hands l
+decreases-loop-hands l = length l.hands.items

@@ -8,4 +8,4 @@ returns-in-Feed g c = did_so g.J.Job.label_of c.args.desk.now.lock _ _ _ c.args.
 pub returns-in-None : goal.returns-in-None
 returns-in-None g c =
     let was : c.in-Work.slot ≡ Some c.in-Some.worker = search rules in
-    did_work g.J.Job.label_of c.args.desk.now.lock _ _ _ _ c.in-Work.slot _ c.in-Some.worker _ c.in-Work.is was c.replace-back.ensures.after c.work.ensures
+    did_work g.J.Job.label_of c.args.desk.now.lock _ _ _ _ c.in-Work.slot _ c.in-Work.log c.work.new.log c.in-Some.worker _ c.in-Work.is was c.replace-back.ensures.after c.work.ensures
