@@ -1,5 +1,6 @@
 //! The verdict on a journal.
-ghost use Rattle.std.specs.Prelude.{◌≡◌, ◌↔◌, [], IsTrue, IfOk};
+ghost use Rattle.std.specs.Prelude.{◌≡◌, ◌↔◌, [], IsTrue, Some, IfOk, slice_get};
+ghost use Rattle.fq_model.specs.Limits.{InLimits};
 ghost use Rattle.program_model.specs.Document.{config_of};
 ghost use Rattle.program_model.specs.Journal.{call_of};
 ghost use Rattle.journal_check.specs.Verdicts.{IsVerdict};
@@ -26,13 +27,14 @@ pub fn check<X: Chooser + Drop>(alloc: Global, journal: &Journal) -> Result<Verd
 
 // The verdict on entries, by a scheduler that was just opened.
 fn judge<X: Chooser>(scheduler: &mut Scheduler<u64, X>, entries: &[Entry]) -> Verdict
-    requires { scheduler.old.past ≡ [] }
+    requires opened { scheduler.old.past ≡ [] }
+    requires limits { InLimits scheduler.old.config }
     ensures { IsVerdict scheduler.old.config entries.now result }
 {
     for (k, given) in entries.iter().enumerate() {
         let reply = answer(scheduler, call_of(*given));
-        let wanted = scheduler.past().get(k).copied();
-        if wanted != Some(*given) {
+        let wanted = entry_at(scheduler.past(), k);
+        if !is_given(wanted, *given) {
             return Verdict::Bad {
                 entry: k as u64 + 1,
                 reply,
@@ -41,6 +43,20 @@ fn judge<X: Chooser>(scheduler: &mut Scheduler<u64, X>, entries: &[Entry]) -> Ve
         }
     }
     Verdict::Legal
+}
+
+// The entry with this number, if there is one.
+fn entry_at(entries: &[Entry], k: usize) -> Option<Entry>
+    ensures { result ≡ slice_get entries.now k }
+{
+    entries.get(k).copied()
+}
+
+// Whether the entry that is wanted is the one that is given.
+fn is_given(wanted: Option<Entry>, given: Entry) -> bool
+    ensures { IsTrue result ↔ (wanted ≡ Some given) }
+{
+    wanted == Some(given)
 }
 
 // The call whose entry this may be.
@@ -93,7 +109,8 @@ fn call_of(entry: Entry) -> Call
 
 // The same configuration once more.
 fn copy_of(alloc: Global, config: &Checked) -> Result<Checked, AllocError>
-    ensures { IfOk result (λ copy. copy ≡ config.now) }
+    ensures copy { IfOk result (λ copy. copy ≡ config.now) }
+    ensures limits { IfOk result (λ copy. InLimits copy) }
 {
     let copy = Config {
         workers: config.workers(),
