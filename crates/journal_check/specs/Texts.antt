@@ -30,12 +30,21 @@ verdict_text entries (Bad place reply wanted) =
 abbrev pub eligible_word : Bool → List ℕ
 eligible_word eligible = if eligible then codes "eligible" else codes "later"
 
--- the line of a tenant's head, with the tenants' names by number
-abbrev pub row_line : List (List ℕ) → ExplainRow → List ℕ
-row_line names row =
+-- a tenant, its head, and where the tenant starts, with the tenants' names by number
+abbrev pub start_text : List (List ℕ) → ExplainRow → List ℕ
+start_text names row =
     codes "tenant " ++ slice_index_or names row.tenant [] ++ codes " head " ++ decimal row.head
-    ++ codes " start " ++ signed_decimal row.start ++ codes " finish " ++ signed_decimal row.finish
-    ++ codes " key " ++ signed_decimal row.key ++ codes " " ++ eligible_word row.eligible ++ codes "\n"
+    ++ codes " start " ++ signed_decimal row.start
+
+-- where the head finishes, from when on it is eligible, and whether it is
+abbrev pub finish_text : ExplainRow → List ℕ
+finish_text row =
+    codes " finish " ++ signed_decimal row.finish ++ codes " key " ++ signed_decimal row.key
+    ++ codes " " ++ eligible_word row.eligible ++ codes "\n"
+
+-- the line of a tenant's head
+abbrev pub row_line : List (List ℕ) → ExplainRow → List ℕ
+row_line names row = start_text names row ++ finish_text row
 
 -- a line for each head, in order
 abbrev pub rows_text : List (List ℕ) → List ExplainRow → List ℕ

@@ -45,8 +45,8 @@ fn judge<X: Chooser>(scheduler: &mut Scheduler<u64, X>, entries: &[Entry]) -> Ve
     Verdict::Legal
 }
 
-// The entry with this number, if there is one.
-fn entry_at(entries: &[Entry], k: usize) -> Option<Entry>
+/// The entry with this number, counted from 0, if there is one.
+pub(crate) fn entry_at(entries: &[Entry], k: usize) -> Option<Entry>
     ensures { result ≡ slice_get entries.now k }
 {
     entries.get(k).copied()

@@ -3,6 +3,7 @@
 
 pub mod checking;
 pub mod explained;
+pub mod printing;
 pub mod verdict;
 
 pub use journal_text::entries::{Journal, read_journal};
