@@ -57,7 +57,7 @@ module _ (C : Config) (P : History) (legal : IsLegal C P) (worker request used :
   rising : ltb used (last_use P request) ≡ false
   rising = le-ltb _ _ f.rising
 
-  done_passes : done_refusal C P worker used ≡ None
+  pub done_passes : done_refusal C P worker used ≡ None
   done_passes = rw (worker_known, runs, in_range, rising) refl
 
   report_passes : HasRoom C P 2 → report_refusal C P worker used ≡ None

@@ -1,3 +1,4 @@
 pub mod Copies
 pub mod Fitting
 pub mod Judging
+pub mod Standings

@@ -4,6 +4,7 @@
 pub mod checking;
 pub mod explained;
 pub mod printing;
+mod standing;
 pub mod verdict;
 
 pub use journal_text::entries::{Journal, read_journal};
