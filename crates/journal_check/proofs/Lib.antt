@@ -2,3 +2,4 @@ pub mod Copies
 pub mod Fitting
 pub mod Judging
 pub mod Standings
+pub mod Turns

@@ -2,3 +2,4 @@ pub mod Verdicts
 pub mod Explanations
 pub mod Texts
 pub mod Standing
+pub mod Turns

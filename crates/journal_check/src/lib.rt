@@ -3,6 +3,7 @@
 
 pub mod checking;
 pub mod explained;
+pub mod explaining;
 pub mod printing;
 mod standing;
 pub mod verdict;
