@@ -38,7 +38,7 @@ history_more entries k none there =
     ap history_of longer ∙ reverse-append (take k entries) (get_or entries k none ∷ [])
 
 -- what stands before newer entries is legal
-legal_before : (C : Config) (newer P : History) → IsLegal C (newer ++ P) → IsLegal C P
+pub legal_before : (C : Config) (newer P : History) → IsLegal C (newer ++ P) → IsLegal C P
 legal_before C [] P legal = legal
 legal_before C (e ∷ newer) P legal = legal_before C newer P legal.0
 
