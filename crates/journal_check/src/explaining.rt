@@ -19,12 +19,12 @@ use std::alloc::{AllocError, Global};
 use tag_rules::parts::Keys;
 use tag_rules::turn::Turn;
 
-/// Where a request was taken: at which entry, counted from 0, by which worker, and at what moment, in microseconds.
+// Where a request was taken: at which entry, counted from 0, by which worker, and at what moment, in microseconds.
 #[derive(Clone, Copy)]
-pub struct TakenAt {
-    pub place: usize,
-    pub worker: u32,
-    pub moment: u64,
+struct TakenAt {
+    place: usize,
+    worker: u32,
+    moment: u64,
 }
 
 /// Which heads a worker chose from when it took this request, and what they were compared by; None where the request
