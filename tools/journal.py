@@ -93,15 +93,12 @@ class Journal:
 
     def __init__(self, file, name):
         self.lines, self.name = Lines(file, name), name
+        self.expect = self.lines.expect
         self.requests, self.running, self.changes = [], {}, []
-        self.now, self.entries, self.is_closed = 0, 0, False
+        self.now, self.is_closed = 0, False
         self.ahead = self.read_head()
         self.pool = self.workers
         self.waiting = [collections.deque() for _ in self.tenants]
-
-    def expect(self, holds, what):
-        if not holds:
-            raise self.lines.fault(what)
 
     def next_of_head(self):
         words = self.lines.words()
@@ -157,7 +154,6 @@ class Journal:
             self.expect(numbers[1] >= self.now, "the moment goes back")
             self.now = numbers[1]
             self.add[words[0]](self, *numbers[1:])
-            self.entries += 1
             yield Entry(lines.number, words[0], numbers)
             self.ahead = lines.words()
 
@@ -236,7 +232,7 @@ def table(rows, names=1):
 @contextlib.contextmanager
 def opened(name):
     """A file as it is, or standard input for `-`, and what it is called in messages."""
-    how = {"encoding": "utf-8", "errors": "surrogateescape", "newline": "\n"}
+    how = {"encoding": "utf-8-sig", "errors": "surrogateescape", "newline": "\n"}
     if name == "-":
         sys.stdin.reconfigure(**how)
         yield sys.stdin, "standard input"
@@ -265,7 +261,7 @@ def within(low, high):
 
 
 def run(main):
-    """Runs a tool: `main` gives the whole text that it writes, and perhaps a status. A fault is told, with status 1."""
+    """Runs a tool: `main` gives the whole text that it writes, and the status. A fault is told, with status 1."""
     name = os.path.basename(sys.argv[0])
     try:
         text, status = main()
@@ -273,9 +269,8 @@ def run(main):
         sys.stdout.flush()
     except Fault as fault:
         sys.exit(f"{name}: {fault}")
-    except BrokenPipeError:
-        os.dup2(os.open(os.devnull, os.O_WRONLY), sys.stdout.fileno())
-        sys.exit(1)
     except OSError as error:
+        # (what could not be written is not tried again at the end)
+        os.dup2(os.open(os.devnull, os.O_WRONLY), sys.stdout.fileno())
         sys.exit(f"{name}: {error.filename + ': ' if error.filename else ''}{error.strerror}")
     sys.exit(status)

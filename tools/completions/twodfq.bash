@@ -1,0 +1,45 @@
+# Completion of the words of twodfq in bash; load it with `. tools/completions/twodfq.bash`.
+# Made of tools/commands.txt by tools/commands.
+_twodfq() {
+    local command=${COMP_WORDS[1]:-} current=${COMP_WORDS[COMP_CWORD]} before=${COMP_WORDS[COMP_CWORD - 1]} words option
+    if [ "$COMP_CWORD" = 1 ]; then
+        mapfile -t COMPREPLY < <(compgen -W 'script run live gen help --help --version' -- "$current")
+        return
+    fi
+    # (bash takes = for a word of its own)
+    [ "$current" = = ] && current=
+    [ "$before" = = ] && before=${COMP_WORDS[COMP_CWORD - 2]}
+    case "$command $before" in
+    'script --print') words='replies journal both' ;;
+    'run --workers') words='' ;;
+    'run --policy') words='wfq wf2q msf2q 2dfq' ;;
+    'run --estimate') words='declared recent pessimistic' ;;
+    'run --initial') words='' ;;
+    'run --refresh') words='' ;;
+    'run --slot') words='' ;;
+    'run --print') words='journal report both summary' ;;
+    'live --workers') words='' ;;
+    'live --policy') words='wfq wf2q msf2q 2dfq' ;;
+    'live --estimate') words='declared recent pessimistic' ;;
+    'live --initial') words='' ;;
+    'live --refresh') words='' ;;
+    'live --slot') words='' ;;
+    'live --print') words='journal report both summary' ;;
+    'gen --seed') words='' ;;
+    'gen --tenants') words='' ;;
+    'gen --requests') words='' ;;
+    'gen --print') words='trace summary' ;;
+    *)
+        case $command in
+        script) words='--print' ;;
+        run) words='--workers --policy --estimate --initial --refresh --slot --print' ;;
+        live) words='--workers --policy --estimate --initial --refresh --slot --print' ;;
+        gen) words='--seed --tenants --requests --print' ;;
+        *) words= ;;
+        esac
+        for option in "${COMP_WORDS[@]:2:COMP_CWORD - 2}"; do words=" $words " words=${words/ $option / }; done
+        ;;
+    esac
+    mapfile -t COMPREPLY < <(compgen -W "$words" -- "$current")
+}
+complete -F _twodfq twodfq ./twodfq
