@@ -11,8 +11,8 @@ ghost use Rattle.command_line.specs.Commands.{IsInRange, run_by, live_by};
 
 use crate::options::{Value, values_in};
 use crate::table::{
-    ESTIMATORS, GEN_OPTIONS, GEN_PRINTS, HISTORY_PRINTS, POLICIES, SCRIPT_OPTIONS,
-    SCRIPT_PRINTS, TRACE_OPTIONS,
+    ESTIMATORS, GEN_OPTIONS, GEN_PRINTS, HISTORY_PRINTS, POLICIES, SCRIPT_OPTIONS, SCRIPT_PRINTS,
+    TRACE_OPTIONS,
 };
 use fq_model::config::{Estimator, Policy};
 use program_model::command::{Command, GenPrint, HistoryPrint, ScriptPrint};

@@ -1,5 +1,6 @@
 //! What tests of several crates begin with.
 #![tactic(auto)]
+
 ghost use Rattle.std.specs.Prelude.{◌≡◌};
 ghost use Rattle.test_samples.specs.Samples.{sample_config};
 

@@ -1,0 +1,4 @@
+pub mod Buckets
+pub mod Shaped
+pub mod Reasons
+pub mod Laws
