@@ -1,5 +1,5 @@
 mod Heads
-mod Kept
+pub mod Kept
 mod FirstLine
 mod WordEnds
 mod AtOnce

@@ -5,6 +5,7 @@ mod at_once;
 pub mod body;
 pub mod calls;
 pub mod document;
+pub mod entries;
 pub mod fault;
 mod head;
 mod lines;

@@ -1,5 +1,5 @@
 -- Runs over memory that never fails.
-use Rattle.std.proofs.Common.{ℕ, ◌<◌, ◌≡◌, ◌≢◌, sym, ap, subst, refl, List, [], length, Option, Some, None}
+use Rattle.std.proofs.Common.{ℕ, ◌<◌, ◌≡◌, ◌≢◌, ap, subst, refl, List, [], length, Option, Some, None}
 use Rattle.fq_memory.specs.Clean.{CleanMemory, IsClean}
 use Rattle.fq_io.specs.Faults.{Rose}
 use Rattle.fq_io.specs.Sinks.{AppendsPart}

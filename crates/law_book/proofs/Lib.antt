@@ -2,5 +2,5 @@ mod Telling
 mod Apart
 mod Exists
 mod Entries
-mod Programs
+mod OneAnswer
 pub mod CleanRuns

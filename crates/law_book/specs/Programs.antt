@@ -31,16 +31,16 @@ IsWithinLimits (Gen seed tenants requests print) = IsWithin 1 MOST_TENANTS tenan
 IsWithinLimits _ = Unit {0}
 
 -- a command that waits for nobody has one answer to an input at most
-abbrev pub OneAnswer : Type 0
-OneAnswer =
-    (Told : ℕ → Type 0) (command : Command) (input : List ℕ) (a b : Answer)
+abbrev pub OneAnswer : (ℕ → Type 0) → Type 0
+OneAnswer Told =
+    (command : Command) (input : List ℕ) (a b : Answer)
     → waits command ≡ false → IsWithinLimits command → IsAnswer Told command input a → IsAnswer Told command input b
     → a ≡ b
 
 -- so one status
-abbrev pub OneStatus : Type 0
-OneStatus =
-    (Told : ℕ → Type 0) (command : Command) (input : List ℕ) (a b : Answer)
+abbrev pub OneStatus : (ℕ → Type 0) → Type 0
+OneStatus Told =
+    (command : Command) (input : List ℕ) (a b : Answer)
     → waits command ≡ false → IsWithinLimits command → IsAnswer Told command input a → IsAnswer Told command input b
     → answer_status a ≡ answer_status b
 

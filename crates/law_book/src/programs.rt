@@ -10,13 +10,15 @@ pub fn own_rows()
 {}
 
 /// A command that waits for nobody has one answer to an input at most.
-pub fn one_answer()
-    ensures { OneAnswer }
+pub fn one_answer<K: Clock>(_clock: &K)
+    ensures untold { OneAnswer Untold }
+    ensures told { OneAnswer (K.tells _clock.now) }
 {}
 
 /// So the statuses of two answers to one input agree.
-pub fn one_status()
-    ensures { OneStatus }
+pub fn one_status<K: Clock>(_clock: &K)
+    ensures untold { OneStatus Untold }
+    ensures told { OneStatus (K.tells _clock.now) }
 {}
 
 /// Over a `CleanSource` the program never ends with 4.

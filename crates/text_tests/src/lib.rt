@@ -1,7 +1,9 @@
-//! Tests of virtual time, command lines, scripts, journals, traces, names, the fluid reference and lag reports, as
-//! callers use them.
+//! Tests of virtual time, command lines, scripts, journals and verdicts on them, traces, names, the fluid reference and
+//! lag reports, as callers use them.
 #![tactic(auto)]
 
+#[cfg(test)]
+mod check_tests;
 #[cfg(test)]
 mod command_tests;
 #[cfg(test)]

@@ -1,5 +1,6 @@
 mod Filling
 mod Windows
+pub mod Sizes
 mod Waiting
 mod Runs
 mod Names

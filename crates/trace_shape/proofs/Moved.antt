@@ -11,7 +11,8 @@ use Rattle.program_model.specs.Trace.{Trace}
 use Rattle.program_model.specs.TraceText.{IsLawfulRow, IsLawfulTrace}
 use Rattle.trace_shape.specs.Shaped.{moved, with_earlier_row, by_moment, at_moments}
 use Rattle.trace_shape.proofs.Order.{moment_of, Rises, all_by_moment, by_moment_rises}
-use Rattle.trace_shape.proofs.Runs.{IsInTime, none_passes, all_in_time}
+use Rattle.trace_shape.proofs.Runs.{IsInTime, all_in_time}
+use Rattle.trace_shape.proofs.Sizes.{none_passes}
 use Rattle.trace_shape.proofs.Windows.{no_row}
 
 pub each_in_time : (moments : List ℕ) → too_late moments ≡ None → All IsInTime moments

@@ -1,37 +1,25 @@
 -- What is told of the moments of a trace, row by row.
-use Rattle.std.proofs.Common.{ℕ, ◌+◌, ◌*◌, ◌<◌, ◌≤◌, ◌≡◌, Bool, false, nat_lt, List, [], ◌∷◌, ◌++◌, length, get_or, set, drop, replicate, All, None, Some, arith, refl, ap, sym, ◌∙◌, subst, inl, inr, append_assoc, length-append, ltb-false, lt-ltb, le-ltb}
-use Rattle.std.specs.Prelude.{slice_index, position}
+use Rattle.std.proofs.Common.{ℕ, ◌+◌, ◌*◌, ◌<◌, ◌≤◌, ◌≡◌, nat_lt, List, [], ◌∷◌, ◌++◌, length, get_or, set, drop, replicate, All, None, Some, arith, refl, ap, sym, ◌∙◌, subst, inl, inr, append_assoc, length-append, ltb-false, lt-ltb, le-ltb}
+use Rattle.std.specs.Prelude.{slice_index}
 use Rattle.std.specs.List.{position_or_len}
 use Rattle.std.proofs.lemmas.Bool.{cases_lt}
 use Rattle.std.proofs.lemmas.List.{drop_more, drop_all, append-nil, length-set, length-replicate, get_or-replicate, get_or_at, get_or_append_left, get_or_read}
 use Rattle.std.proofs.lemmas.List.Elements.{All-set, All-push, All-replicate}
-use Rattle.std.proofs.lemmas.List.Sums.{position_or_len_is, fails_before_first}
+use Rattle.std.proofs.lemmas.List.Sums.{position_or_len_is}
 use Rattle.std.proofs.lemmas.Nat.{mul-le}
-use Rattle.std.proofs.lemmas.Option.{none-some, slice_get_within, get_or_from_slice_get}
+use Rattle.std.proofs.lemmas.Option.{slice_get_within, get_or_from_slice_get}
 use Rattle.fq_model.specs.declared.limits.TheConstants.{GREATEST_TRACE_MOMENT}
 use Rattle.program_model.specs.declared.trace.TraceRow.{TraceRow}
-use Rattle.program_model.specs.Conforms.{gain, Conforms, IsLeastConforming, too_big, too_late}
+use Rattle.program_model.specs.Conforms.{gain, IsLeastConforming, too_big, too_late}
 use Rattle.program_model.specs.Trace.{Trace}
 use Rattle.program_model.specs.TraceText.{IsLawfulTrace}
 use Rattle.fq_model.specs.Limits.{IsWeight}
 use Rattle.trace_shape.specs.declared.bucket.Bucket.{Bucket}
 use Rattle.trace_shape.specs.Buckets.{full, taken, IsBucket}
 use Rattle.trace_shape.specs.Reasons.{IsFirstLate}
-use Rattle.trace_shape.proofs.Windows.{no_row, Comes, Affords, each_fits}
+use Rattle.trace_shape.proofs.Sizes.{none_passes, none_found, none_too_big}
+use Rattle.trace_shape.proofs.Windows.{no_row, Comes, Affords}
 use Rattle.trace_shape.proofs.Waiting.{bucket_of, taken_by, moments_from, IsServed, conform, none_earlier, full_affords}
-
--- where no element passes, there is no first one that does
-pub none_passes : {X : Type 0} (p : X → Bool) (xs : List X) (k : ℕ) (d : X) → position p xs ≡ None → k < length xs → p (get_or xs k d) ≡ false
-none_passes p xs k d none l = elim (cases_lt (position_or_len p xs) (length xs)) [
-  | inl there ↦ absurd (none-some (position_or_len p xs) (sym none ∙ rw (lt-ltb _ _ there) refl))
-  | inr past ↦ fails_before_first p xs k d (omega (arith, past, l))
-]
-
--- and the other way round
-none_found : {X : Type 0} (p : X → Bool) (xs : List X) (d : X) → ((k : ℕ) → k < length xs → p (get_or xs k d) ≡ false) → position p xs ≡ None
-none_found p xs d fails =
-    let place : position_or_len p xs ≡ length xs = position_or_len_is p xs (length xs) d (omega arith) fails (λ l. absurd (omega (arith, l))) in
-    rw (place, le-ltb (length xs) (length xs) (omega arith)) refl
 
 -- ---- which rows are served
 pub all_served : (T : Trace) (rate burst : ℕ) → IsLawfulTrace T → 1 ≤ rate → too_big T burst ≡ None → All (IsServed T rate burst (length T.tenants)) T.rows
@@ -150,6 +138,7 @@ told_more T rate burst buckets moments r row bucket more h early pushed = subst 
 pub told_late : (T : Trace) (rate burst : ℕ) (buckets : List Bucket) (moments : List ℕ) (r : ℕ) (row : TraceRow) (bucket : Bucket) → IsNext T rate burst buckets moments r row bucket
     → All (IsServed T rate burst (length T.tenants)) T.rows → GREATEST_TRACE_MOMENT < bucket.moment → IsFirstLate T rate burst r
 told_late T rate burst buckets moments r row bucket h served late = record {
+  none_big = none_too_big T rate burst (told_moments T rate burst) (told_are_least T rate burst served).conforms;
   moments = told_moments T rate burst;
   least = told_are_least T rate burst served;
   late = subst (λ ms. too_late ms ≡ Some r) h.tells.rest (rw (next_moments T rate burst buckets moments r row bucket h)
@@ -170,7 +159,3 @@ unfolding moments_from
 all_told T rate burst buckets moments r h past =
     let none : drop r T.rows ≡ [] = drop_all r T.rows past in
     sym (append-nil moments) ∙ ap (λ rows. moments ++ moments_from T rate burst buckets rows) (sym none) ∙ h.rest
-
--- where there are moments that conform no row is too big
-pub none_too_big : (T : Trace) (rate burst : ℕ) (moments : List ℕ) → Conforms T rate burst moments → too_big T burst ≡ None
-none_too_big T rate burst moments h = none_found (λ (r : TraceRow). nat_lt burst r.declared) T.rows no_row (λ k l. le-ltb _ _ (each_fits T rate burst T.rows moments h k no_row l))

@@ -5,8 +5,9 @@ use Rattle.program_model.specs.Trace.{Trace}
 use Rattle.trace_shape.specs.declared.fault.ShapeFault.{ShapeFault}
 use Rattle.trace_shape.specs.declared.fault.ShapeFault.TheVariants.{TooBig, TooLate, NoMemory}
 
--- of the least moments that conform, that of row r is the first that is too late
+-- no row is too big; of the least moments that conform, that of row r is the first that is too late
 pub record IsFirstLate (T : Trace) (rate burst r : ℕ) : Type 0 where
+  pub none_big : too_big T burst ≡ None
   pub moments : List ℕ
   pub least : IsLeastConforming T rate burst moments
   pub late : too_late moments ≡ Some r

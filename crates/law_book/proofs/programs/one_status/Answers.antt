@@ -1,7 +1,9 @@
-use Rattle.std.proofs.Common.{ap}
-use Rattle.program_model.specs.Answer.{answer_status}
-use Rattle.law_book.proofs.Programs.{one_answer}
+use Rattle.program_model.specs.Commands.{Untold}
+use Rattle.law_book.proofs.OneAnswer.{one_status}
 use Rattle.law_book.proofs.programs.one_status.Goals as goal
 
-pub returns : goal.returns
-returns c = λ Told command input a b plain some x y. ap answer_status (one_answer Told command input a b plain some x y)
+pub returns-clause-untold : goal.returns-clause-untold
+returns-clause-untold g c = one_status Untold
+
+pub returns-clause-told : goal.returns-clause-told
+returns-clause-told g c = one_status (g.K.Clock.tells c.args._clock.now)

@@ -3,7 +3,7 @@ use Rattle.program_model.specs.Conforms.{too_big}
 use Rattle.program_model.specs.TraceText.{IsLawfulTrace}
 use Rattle.trace_shape.specs.Shaped.{at_moments}
 use Rattle.trace_shape.proofs.Moved.{lawful_at}
-use Rattle.trace_shape.proofs.Runs.{none_too_big}
+use Rattle.trace_shape.proofs.Sizes.{none_too_big}
 use Rattle.trace_shape.proofs.shaping.shape.Goals as goal
 
 pub returns-in_err-at_moments-clause-fault : goal.returns-in_err-at_moments-clause-fault

@@ -1,5 +1,5 @@
 -- Answers to one input.
-use Rattle.std.proofs.Common.{ℕ, ◌≡◌, ◌∙◌, sym, ap, subst, refl, Bool, true, false, List, [], reverse, Result, Ok, Err}
+use Rattle.std.proofs.Common.{ℕ, ◌≡◌, ◌∙◌, sym, ap, refl, Bool, true, false, List, [], reverse, Result, Ok, Err}
 use Rattle.std.proofs.lemmas.Bool.{false≢true}
 use Rattle.std.proofs.lemmas.List.{reverse-reverse}
 use Rattle.fq_model.specs.declared.config.Config.{Config}
@@ -17,7 +17,7 @@ use Rattle.program_model.specs.declared.command.ScriptPrint.{ScriptPrint}
 use Rattle.program_model.specs.declared.fault.ScriptKind.{ScriptKind}
 use Rattle.program_model.specs.declared.fault.TraceKind.{TraceKind}
 use Rattle.program_model.specs.declared.trace.RunOptions.{RunOptions}
-use Rattle.program_model.specs.Answer.{Answer, Text, IsAnswerUnless}
+use Rattle.program_model.specs.Answer.{Answer, Text, answer_status, IsAnswerUnless}
 use Rattle.program_model.specs.Commands.{waits, IsAnswer}
 use Rattle.program_model.specs.Document.{config_of}
 use Rattle.program_model.specs.GenCommand.{default_run_options, IsGeneratedAnswer}
@@ -84,3 +84,6 @@ one_answer Told (Run options slot print) input a b plain some x y = one_read opt
 one_answer Told (Live options slot print) input a b plain some x y = absurd (false≢true (sym plain))
 one_answer Told (Gen seed tenants requests print) input a b plain some x y =
     one_generated print (generated_trace seed tenants requests) a b (generated_lawful seed tenants requests some.0.0 some.0.1 some.1) x y
+
+pub one_status : (Told : ℕ → Type 0) (command : Command) (input : List ℕ) (a b : Answer) → waits command ≡ false → IsWithinLimits command → IsAnswer Told command input a → IsAnswer Told command input b → answer_status a ≡ answer_status b
+one_status Told command input a b plain some x y = ap answer_status (one_answer Told command input a b plain some x y)

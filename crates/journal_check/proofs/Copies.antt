@@ -1,0 +1,20 @@
+-- A configuration that is copied stays in its limits.
+use Rattle.std.proofs.Common.{ℕ, List, ◌≡◌, ◌∙◌, Result, Ok, Err, Option, Some, None, refl, sym, ap}
+use Rattle.std.specs.Prelude.{IsOk, IfErr}
+use Rattle.fq_model.specs.declared.config.Config.{Config}
+use Rattle.fq_model.specs.declared.config.Policy.{Policy}
+use Rattle.fq_model.specs.declared.config.Estimator.{Estimator}
+use Rattle.fq_model.specs.declared.config.ConfigFault.{ConfigFault}
+use Rattle.fq_model.specs.Limits.{InLimits, config_fault}
+use Rattle.fq_laws.proofs.Faults.{no_fault}
+
+-- the configuration of the numbers of another is the same
+pub same_config : (C : Config) (workers : ℕ) (weights : List ℕ) (kinds entries requests : ℕ) (policy : Policy) (estimate : Estimator) (initial : ℕ)
+    → workers ≡ C.workers → weights ≡ C.weights → kinds ≡ C.kinds → entries ≡ C.entries → requests ≡ C.requests → policy ≡ C.policy → estimate ≡ C.estimate → initial ≡ C.initial
+    → ◌≡◌ {A = Config} (record { workers = workers; weights = weights; kinds = kinds; entries = entries; requests = requests; policy = policy; estimate = estimate; initial = initial }) C
+same_config C workers weights kinds entries requests policy estimate initial a b c d e f g h = rw (a, b, c, d, e, f, g, h) refl
+
+-- what is equal to a configuration in its limits has no fault
+pub checked : {A : Type 0} (copy C : Config) (made : Result A ConfigFault) → copy ≡ C → InLimits C → IfErr made (λ fault. config_fault copy ≡ Some fault) → IsOk made
+checked copy C (Ok x) same limits fault = refl
+checked copy C (Err e) same limits fault = let none : config_fault copy ≡ None = ap config_fault same ∙ no_fault C limits in absurd (cc)

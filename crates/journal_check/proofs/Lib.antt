@@ -1,0 +1,5 @@
+pub mod Copies
+pub mod Fitting
+pub mod Judging
+pub mod Standings
+pub mod Turns

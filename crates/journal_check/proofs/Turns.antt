@@ -1,0 +1,188 @@
+-- The entries before a Take, and the heads at it.
+use Rattle.std.proofs.Common.{ℕ, zero, suc, ◌+◌, ◌<◌, ◌≤◌, ◌≡◌, ◌∙◌, ◌||◌, Bool, false, arith, refl, sym, ap, subst, add-one, List, [], ◌∷◌, ◌++◌, length, take, drop, get_or, Option, Some, None, ℤ, pos}
+use Rattle.std.specs.Prelude.{slice_get, All}
+use Rattle.std.proofs.Math.Seq.{take-suc, drop-cons}
+use Rattle.std.proofs.lemmas.Option.{slice_get-get_or, slice_get_within, get_or_from_slice_get}
+use Rattle.std.proofs.lemmas.List.{reverse-append, take-append-drop, take_all}
+use Rattle.fq_model.specs.declared.config.Config.{Config}
+use Rattle.fq_model.specs.declared.event.Act.{Act}
+use Rattle.fq_model.specs.declared.event.Act.TheVariants.{Submit, Take, Close}
+use Rattle.fq_model.specs.declared.event.Entry.{Entry}
+use Rattle.fq_model.specs.History.{History, history_of, is_taken, is_take_of}
+use Rattle.fq_model.specs.declared.config.Policy.{Policy}
+use Rattle.fq_model.specs.Time.{last_moment, virtual_time}
+use Rattle.fq_model.specs.Keys.{HeadKeys, Turn, keys_at, turn_at}
+use Rattle.fq_laws.proofs.Keys.Others.{keys_still}
+use Rattle.fq_laws.proofs.Time.Clock.{virtual_time_step}
+use Rattle.virtual_clock.specs.declared.times.Times.{Times}
+use Rattle.virtual_clock.specs.Histories.{PassOn, IsTimeOf, IsPoolOf}
+use Rattle.fq_model.specs.Rules.{IsLegal}
+use Rattle.journal_check.specs.declared.explaining.TakenAt.{TakenAt}
+use Rattle.journal_check.specs.Turns.{IsTakeAt, MayTurn, IsTurn}
+use Rattle.journal_check.specs.declared.explained.Explained.{Explained}
+use Rattle.journal_check.specs.declared.explained.ExplainRow.{ExplainRow}
+use Rattle.journal_check.specs.declared.standing.Standing.{Standing}
+use Rattle.journal_check.specs.Explanations.{IsRow, AreRows, with_head, heads_below, heads_at, IsExplained}
+use Rattle.journal_check.specs.Standing.{StandsAt}
+
+-- ---- the first entries
+
+-- what is read past the last entry
+abbrev pub no_entry : Entry
+no_entry = record { who = 0; moment = 0; act = Submit 0 0 0 0 0 }
+
+-- one entry more
+pub history_more : (entries : List Entry) (k : ℕ) (none : Entry) → k < length entries → history_of (take (k + 1) entries) ≡ get_or entries k none ∷ history_of (take k entries)
+history_more entries k none there =
+    let longer : take (k + 1) entries ≡ take k entries ++ get_or entries k none ∷ [] = rw add-one (take-suc entries k none there) in
+    ap history_of longer ∙ reverse-append (take k entries) (get_or entries k none ∷ [])
+
+-- what stands before newer entries is legal
+legal_before : (C : Config) (newer P : History) → IsLegal C (newer ++ P) → IsLegal C P
+legal_before C [] P legal = legal
+legal_before C (e ∷ newer) P legal = legal_before C newer P legal.0
+
+pub legal_first : (C : Config) (entries : List Entry) (k : ℕ) → IsLegal C (history_of entries) → IsLegal C (history_of (take k entries))
+legal_first C entries k legal =
+    legal_before C (history_of (drop k entries)) (history_of (take k entries))
+    (subst (IsLegal C) (ap history_of (sym (take-append-drop k entries)) ∙ reverse-append (take k entries) (drop k entries)) legal)
+
+pub legal_next : (C : Config) (entries : List Entry) (k : ℕ) (none : Entry) → k < length entries → IsLegal C (history_of entries) → IsLegal C (get_or entries k none ∷ history_of (take k entries))
+legal_next C entries k none there legal = subst (IsLegal C) (history_more entries k none there) (legal_first C entries (k + 1) legal)
+
+-- the request is not taken yet
+not_taken : (e : Entry) (P : History) (r : ℕ) → is_take_of r e.act ≡ false → is_taken P r ≡ false → is_taken (e ∷ P) r ≡ false
+unfolding is_taken
+not_taken e P r other before = rw (other, before) refl
+
+pub not_taken_more : (entries : List Entry) (k : ℕ) (none : Entry) (r : ℕ) → k < length entries → is_take_of r (get_or entries k none).act ≡ false
+    → is_taken (history_of (take k entries)) r ≡ false → is_taken (history_of (take (k + 1) entries)) r ≡ false
+not_taken_more entries k none r there other before = ap (λ (P : History). is_taken P r) (history_more entries k none there) ∙ not_taken (get_or entries k none) (history_of (take k entries)) r other before
+
+pub none_taken : (r : ℕ) → is_taken [] r ≡ false
+unfolding is_taken
+none_taken r = refl
+
+pub never_taken : (entries : List Entry) (k r : ℕ) → length entries ≤ k → is_taken (history_of (take k entries)) r ≡ false → is_taken (history_of entries) r ≡ false
+never_taken entries k r all before = sym (ap (λ (l : List Entry). is_taken (history_of l) r) (take_all k entries all)) ∙ before
+
+pub stands_all : (C : Config) (entries : List Entry) (k : ℕ) (standing : Standing) → length entries ≤ k → StandsAt C (history_of (take k entries)) standing → StandsAt C (history_of entries) standing
+stands_all C entries k standing all stands = subst (λ (l : List Entry). StandsAt C (history_of l) standing) (take_all k entries all) stands
+
+-- ---- the heads, and their rows
+
+pub row_more : (at : Turn) (heads : List (ℕ × HeadKeys)) (rows : List ExplainRow) (head : ℕ × HeadKeys) (row : ExplainRow) → AreRows at heads rows → IsRow at head.0 head.1 row
+    → AreRows at (heads ++ head ∷ []) (rows ++ row ∷ [])
+row_more at [] [] head row are is = (is, tt)
+row_more at [] (r ∷ rows) head row are is = absurd are
+row_more at (h ∷ heads) [] head row are is = absurd are
+row_more at (h ∷ heads) (r ∷ rows) head row are is = (are.0, row_more at heads rows head row are.1 is)
+
+pub rows_more : (at : Turn) (heads : List (ℕ × HeadKeys)) (k : ℕ) (none head : ℕ × HeadKeys) (rows more : List ExplainRow) (row : ExplainRow) → k < length heads → head ≡ get_or heads k none
+    → AreRows at (take k heads) rows → IsRow at head.0 head.1 row → more ≡ rows ++ row ∷ [] → AreRows at (take (k + 1) heads) more
+rows_more at heads k none head rows more row there read are is longer =
+    let longer_heads : take (k + 1) heads ≡ take k heads ++ head ∷ [] = rw add-one (take-suc heads k none there ∙ ap (λ (h : ℕ × HeadKeys). take k heads ++ h ∷ []) (sym read)) in
+    rw (longer, longer_heads) (row_more at (take k heads) rows head row are is)
+
+pub rows_all : (at : Turn) (heads : List (ℕ × HeadKeys)) (k : ℕ) (rows : List ExplainRow) → length heads ≤ k → AreRows at (take k heads) rows → AreRows at heads rows
+rows_all at heads k rows all are = subst (λ (l : List (ℕ × HeadKeys)). AreRows at l rows) (take_all k heads all) are
+
+-- ---- the Take
+
+pub take_there : (entries : List Entry) (k : ℕ) (none : Entry) (worker request estimate : ℕ) → k < length entries → (get_or entries k none).act ≡ Take worker request estimate
+    → IsTakeAt entries request (record { place = k; worker = worker; moment = (get_or entries k none).moment })
+take_there entries k none worker request estimate there act =
+    let e : Entry = get_or entries k none in
+    record { who = e.who; estimate = estimate; there = slice_get-get_or entries k none there ∙ ap (λ (a : Act). Some (record { who = e.who; moment = e.moment; act = a })) act }
+
+module _ (C : Config) (entries : List Entry) (request : ℕ) (x : TakenAt) (taken : IsTakeAt entries request x) where
+  place_within : x.place < length entries
+  place_within = slice_get_within entries x.place (record { who = taken.who; moment = x.moment; act = Take x.worker request taken.estimate }) taken.there
+
+  read_there : get_or entries x.place (record { who = taken.who; moment = x.moment; act = Take x.worker request taken.estimate }) ≡ record { who = taken.who; moment = x.moment; act = Take x.worker request taken.estimate }
+  read_there = get_or_from_slice_get entries x.place _ _ taken.there
+
+  -- the worker may have its turn there
+  pub may_turn : IsLegal C (history_of entries) → MayTurn C (history_of (take x.place entries)) x.moment x.worker
+  may_turn legal =
+      let next : IsLegal C (record { who = taken.who; moment = x.moment; act = Take x.worker request taken.estimate } ∷ history_of (take x.place entries)) = subst (λ (e : Entry). IsLegal C (e ∷ history_of (take x.place entries))) read_there (legal_next C entries x.place (record { who = taken.who; moment = x.moment; act = Take x.worker request taken.estimate }) place_within legal) in
+      record { later = next.1; in_range = next.2; pooled = next.3.worker_known }
+
+  -- and the turn explains the request
+  pub explained_is : (told : Explained) → IsTurn C (history_of (take x.place entries)) x.moment x.worker told → IsExplained C entries request told
+  explained_is told turn = record {
+    before = take x.place entries;
+    after = drop (suc x.place) entries;
+    who = taken.who;
+    estimate = taken.estimate;
+    split = rw (turn.worker_is, turn.moment_is) (sym (take-append-drop x.place entries) ∙ ap (λ (l : List Entry). take x.place entries ++ l) (drop-cons entries x.place (record { who = taken.who; moment = x.moment; act = Take x.worker request taken.estimate }) place_within ∙ ap (λ (e : Entry). e ∷ drop (suc x.place) entries) read_there));
+    vtime_is = rw turn.moment_is turn.vtime_is;
+    rows_are = rw (turn.worker_is, turn.moment_is) turn.rows_are;
+  }
+
+-- ---- the turn
+
+-- the heads are the same at each moment
+heads_still : (C : Config) (P : History) (m n tenants : ℕ) → IsLegal C P → heads_below (keys_at C P m) tenants ≡ heads_below (keys_at C P n) tenants
+heads_still C P m n zero legal = refl
+heads_still C P m n (suc tenant) legal = rw (heads_still C P m n tenant legal, keys_still C P m n tenant legal) refl
+
+module _ (C : Config) (P : History) (m worker : ℕ) (k : Standing) (times : Times) (stands : StandsAt C P k) (may : MayTurn C P m worker) (passes : PassOn m k.times times) where
+  time_there : (v : ℤ) → IsTimeOf times v → v ≡ pos (virtual_time C P m)
+  time_there v shows =
+      let e : Entry = record { who = 0; moment = m; act = Close } in
+      shows C (e ∷ P) (passes C P e (record { moment_is = refl; act_passes = refl }) stands.times_are) ∙ ap pos (virtual_time_step C P e)
+
+  pub turn_told : (policy : Policy) (workers : ℕ) (v z : ℤ) (heads given : List (ℕ × HeadKeys)) (x : Explained) → policy ≡ C.policy → IsPoolOf k.times workers → IsTimeOf times v → z ≡ v
+      → heads ≡ heads_below (keys_at C P (last_moment P)) (length C.weights) → given ≡ heads → x.worker ≡ worker → x.moment ≡ m → x.vtime ≡ z
+      → AreRows (record { policy = policy; workers = workers; worker = worker; virtual_time = z }) given x.rows.items → IsTurn C P m worker x
+  turn_told policy workers v z heads given x policy_is pool shows back heads_are same worker_is moment_is vtime_is rows =
+      let at : z ≡ pos (virtual_time C P m) = back ∙ time_there v shows in
+      let turn : ◌≡◌ {A = Turn} (record { policy = policy; workers = workers; worker = worker; virtual_time = z }) (turn_at C P m worker) = rw (policy_is, pool C P stands.times_are, at) refl in
+      let here : given ≡ heads_at C P m = same ∙ (heads_are ∙ heads_still C P (last_moment P) m (length C.weights) stands.legal) in
+      record {
+        worker_is = worker_is;
+        moment_is = moment_is;
+        vtime_is = vtime_is ∙ at;
+        rows_are = subst (λ (l : List (ℕ × HeadKeys)). AreRows (turn_at C P m worker) l x.rows.items) here (subst (λ (t : Turn). AreRows t given x.rows.items) turn rows);
+      }
+
+-- what stands after the first entries
+pub stands_here : (D C : Config) (given entries : List Entry) (k : ℕ) (standing : Standing) → D ≡ C → given ≡ entries → StandsAt D (history_of (take k given)) standing → StandsAt C (history_of (take k entries)) standing
+stands_here D C given entries k standing same is stands =
+    subst (λ (l : List Entry). StandsAt C (history_of (take k l)) standing) is (subst (λ (B : Config). StandsAt B (history_of (take k given)) standing) same stands)
+
+-- ---- the tenants of the rows
+
+-- the tenants of these heads have numbers below this
+AreBelow : ℕ → List (ℕ × HeadKeys) → Type 0
+AreBelow n [] = Unit {0}
+AreBelow n (head ∷ heads) = (head.0 < n) × AreBelow n heads
+
+below_more : (n : ℕ) (heads : List (ℕ × HeadKeys)) → AreBelow n heads → AreBelow (suc n) heads
+unfolding AreBelow
+below_more n [] below = tt
+below_more n (head ∷ heads) below = (omega (arith, below.0), below_more n heads below.1)
+
+below_with : (n : ℕ) (heads : List (ℕ × HeadKeys)) (o : Option HeadKeys) → AreBelow (suc n) heads → AreBelow (suc n) (heads ++ with_head n o)
+unfolding AreBelow
+below_with n [] None below = tt
+below_with n [] (Some k) below = (omega arith, tt)
+below_with n (head ∷ heads) o below = (below.0, below_with n heads o below.1)
+
+heads_are_below : (keys : ℕ → Option HeadKeys) (n : ℕ) → AreBelow n (heads_below keys n)
+unfolding AreBelow
+heads_are_below keys zero = tt
+heads_are_below keys (suc n) = below_with n (heads_below keys n) (keys n) (below_more n (heads_below keys n) (heads_are_below keys n))
+
+rows_below : (at : Turn) (n : ℕ) (heads : List (ℕ × HeadKeys)) (rows : List ExplainRow) → AreBelow n heads → AreRows at heads rows → (k : ℕ) (none : ExplainRow) → k < length rows → (get_or rows k none).tenant < n
+unfolding AreBelow
+rows_below at n [] [] below are k none there = absurd (omega (arith, there))
+rows_below at n [] (row ∷ rows) below are k none there = absurd are
+rows_below at n (head ∷ heads) [] below are k none there = absurd are
+rows_below at n (head ∷ heads) (row ∷ rows) below are zero none there = omega (arith, are.0.tenant_is, below.0)
+rows_below at n (head ∷ heads) (row ∷ rows) below are (suc k) none there = rows_below at n heads rows below.1 are.1 k none (omega (arith, there))
+
+-- each row is of a tenant of the configuration
+pub tenants_known : (C : Config) (P : History) (m worker : ℕ) (x : Explained) → IsTurn C P m worker x → All (λ row. row.tenant < length C.weights) x.rows.items
+tenants_known C P m worker x turn k none there = rows_below (turn_at C P m worker) (length C.weights) (heads_at C P m) x.rows.items (heads_are_below (keys_at C P m) (length C.weights)) turn.rows_are k none there

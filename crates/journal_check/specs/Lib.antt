@@ -1,0 +1,5 @@
+pub mod Verdicts
+pub mod Explanations
+pub mod Texts
+pub mod Standing
+pub mod Turns

@@ -1,0 +1,126 @@
+//! The verdict on a journal.
+ghost use Rattle.std.specs.Prelude.{◌≡◌, ◌↔◌, [], IsTrue, Some, IfOk, slice_get};
+ghost use Rattle.fq_model.specs.Limits.{InLimits};
+ghost use Rattle.program_model.specs.Document.{config_of};
+ghost use Rattle.program_model.specs.Journal.{call_of};
+ghost use Rattle.journal_check.specs.Verdicts.{IsVerdict};
+
+use crate::verdict::Verdict;
+use fq_model::config::{Checked, Config, Weights};
+use fq_model::event::{Act, Call, Entry};
+use journal_text::entries::Journal;
+use sched_state::{Scheduler, answer};
+use std::alloc::{AllocError, Global};
+use tag_rules::chooser::Chooser;
+
+/// Whether each entry of a journal is the one that its call adds to those before it. The calls are made on a scheduler
+/// over any chooser, once each, up to the first that isn't answered by its entry.
+pub fn check<X: Chooser + Drop>(alloc: Global, journal: &Journal) -> Result<Verdict, AllocError>
+    ensures { IfOk result (IsVerdict (config_of journal.now) journal.now.body) }
+{
+    let config = copy_of(alloc, journal.config())?;
+    let mut scheduler = Scheduler::<u64, X>::open(alloc, config)?;
+    let verdict = judge(&mut scheduler, journal.body());
+    drop(scheduler);
+    Ok(verdict)
+}
+
+// The verdict on entries, by a scheduler that was just opened.
+fn judge<X: Chooser>(scheduler: &mut Scheduler<u64, X>, entries: &[Entry]) -> Verdict
+    requires opened { scheduler.old.past ≡ [] }
+    requires limits { InLimits scheduler.old.config }
+    ensures { IsVerdict scheduler.old.config entries.now result }
+{
+    for (k, given) in entries.iter().enumerate() {
+        let reply = answer(scheduler, call_of(*given));
+        let wanted = entry_at(scheduler.past(), k);
+        if !is_given(wanted, *given) {
+            return Verdict::Bad {
+                entry: k as u64 + 1,
+                reply,
+                wanted,
+            };
+        }
+    }
+    Verdict::Legal
+}
+
+/// The entry with this number, counted from 0, if there is one.
+pub(crate) fn entry_at(entries: &[Entry], k: usize) -> Option<Entry>
+    ensures { result ≡ slice_get entries.now k }
+{
+    entries.get(k).copied()
+}
+
+// Whether the entry that is wanted is the one that is given.
+fn is_given(wanted: Option<Entry>, given: Entry) -> bool
+    ensures { IsTrue result ↔ (wanted ≡ Some given) }
+{
+    wanted == Some(given)
+}
+
+// The call whose entry this may be.
+fn call_of(entry: Entry) -> Call
+    ensures { result ≡ call_of entry }
+{
+    let Entry { who, moment, act } = entry;
+    match act {
+        Act::Submit {
+            request: _,
+            tenant,
+            kind,
+            declared,
+            label,
+        } => Call::Submit {
+            who,
+            moment,
+            tenant,
+            kind,
+            declared,
+            label,
+        },
+        Act::Take { worker, .. } => Call::Take {
+            who,
+            moment,
+            worker,
+        },
+        Act::Report { worker, used, .. } => Call::Report {
+            who,
+            moment,
+            worker,
+            used,
+        },
+        Act::Done { worker, cost, .. } => Call::Done {
+            who,
+            moment,
+            worker,
+            cost,
+        },
+        Act::Close => Call::Close { who, moment },
+        Act::Weight { tenant, weight } => Call::Weight {
+            who,
+            moment,
+            tenant,
+            weight,
+        },
+        Act::Workers { count } => Call::Workers { who, moment, count },
+    }
+}
+
+// The same configuration once more.
+fn copy_of(alloc: Global, config: &Checked) -> Result<Checked, AllocError>
+    ensures copy { IfOk result (λ copy. copy ≡ config.now) }
+    ensures limits { IfOk result (λ copy. InLimits copy) }
+{
+    let copy = Config {
+        workers: config.workers(),
+        weights: Weights::from_vec(config.weights().to_vec(alloc)?),
+        kinds: config.kinds(),
+        entries: config.entries(),
+        requests: config.requests(),
+        policy: config.policy(),
+        estimate: config.estimate(),
+        initial: config.initial(),
+    };
+    Ok(copy.check().unwrap())
+}

@@ -1,0 +1,11 @@
+//! Journals judged, and the choices in them explained.
+#![tactic(auto)]
+
+pub mod checking;
+pub mod explained;
+pub mod explaining;
+pub mod printing;
+mod standing;
+pub mod verdict;
+
+pub use journal_text::entries::{Journal, read_journal};
