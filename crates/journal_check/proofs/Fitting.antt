@@ -11,7 +11,7 @@ use Rattle.fq_model.specs.declared.event.Reply.{Reply}
 use Rattle.fq_model.specs.declared.event.Reply.TheVariants as answer
 use Rattle.fq_model.specs.History.{History, submits, waiting, is_waiting, running_on, last_use, is_closed, pool_at, request_bound}
 use Rattle.fq_model.specs.Limits.{InLimits, is_outside}
-use Rattle.fq_model.specs.Rules.{Answers, IsLegal, Fits, FitsUse, FitsSubmit, FitsTake, FitsWeight, FitsWorkers, HasRoom, needed_room, request_on, submit_refusal, take_refusal, report_refusal, done_refusal, weight_refusal, workers_refusal}
+use Rattle.fq_model.specs.Rules.{Answers, IsLegal, Fits, FitsUse, FitsSubmit, FitsTake, FitsWeight, FitsWorkers, HasRoom, needed_room, request_on, submit_refusal, take_refusal, report_refusal, done_refusal, close_refusal, weight_refusal, workers_refusal}
 use Rattle.fq_model.specs.Time.{last_moment, effective_moment}
 use Rattle.fq_laws.specs.Words.{one_more}
 use Rattle.fq_laws.proofs.History.Asked.{waits_submitted}
@@ -108,7 +108,9 @@ fits_at C P who m (Report worker request used) limits legal now f =
 fits_at C P who m (Done worker request cost) limits legal now f =
     let on = request_on_is P worker request (runs C P legal worker request cost f) in
     (answer.Accepted, not_refused _ P _ _ _ (done_passes C P legal worker request cost f) (rw (on, ← now) (refl, refl)))
-fits_at C P who m Close limits legal now f = (answer.Accepted, answered_close C P who m m f now)
+fits_at C P who m Close limits legal now f =
+    let open_still : close_refusal P ≡ None = rw f refl in
+    (answer.Accepted, answered_close C P who m m open_still now)
 fits_at C P who m (Weight tenant weight) limits legal now f = (answer.Accepted, answered_weight C P who m m tenant weight (weight_passes C P tenant weight f) now)
 fits_at C P who m (Workers count) limits legal now f = (answer.Accepted, answered_workers C P who m m count (workers_passes C P count f) now)
 
