@@ -1,5 +1,5 @@
 -- A configuration that is copied stays in its limits.
-use Rattle.std.proofs.Common.{ℕ, List, ◌≡◌, ◌∙◌, Result, Ok, Err, Option, Some, None, refl, sym, ap}
+use Rattle.std.proofs.Common.{ℕ, List, ◌≡◌, ◌∙◌, Result, Ok, Err, Some, None, refl, ap}
 use Rattle.std.specs.Prelude.{IsOk, IfErr}
 use Rattle.fq_model.specs.declared.config.Config.{Config}
 use Rattle.fq_model.specs.declared.config.Policy.{Policy}

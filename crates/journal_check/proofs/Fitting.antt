@@ -1,17 +1,16 @@
 -- An entry that may follow a legal history is what its call is answered by.
-use Rattle.std.proofs.Common.{ℕ, ◌+◌, ◌<◌, ◌≤◌, ◌≡◌, ◌≢◌, ◌^◌, ◌==◌, ◌||◌, false, List, ◌∷◌, length, Option, Some, None, arith, refl, sym, ap, leb, ltb}
+use Rattle.std.proofs.Common.{ℕ, ◌<◌, ◌≤◌, ◌≡◌, ◌≢◌, ◌^◌, ◌==◌, false, ◌∷◌, length, Some, None, arith, refl, leb, ltb}
 use Rattle.std.proofs.lemmas.Bool.{ne_eqb, le-ltb, lt-leb}
 use Rattle.vt_fixed.specs.declared.limits.TheConstants.{GREATEST_COST, GREATEST_MOMENT, GREATEST_WEIGHT}
 use Rattle.fq_model.specs.declared.config.Config.{Config}
 use Rattle.fq_model.specs.declared.event.Act.{Act}
 use Rattle.fq_model.specs.declared.event.Act.TheVariants.{Submit, Take, Report, Done, Close, Weight, Workers}
 use Rattle.fq_model.specs.declared.event.Entry.{Entry}
-use Rattle.fq_model.specs.declared.event.Call.{Call}
 use Rattle.fq_model.specs.declared.event.Reply.{Reply}
 use Rattle.fq_model.specs.declared.event.Reply.TheVariants as answer
-use Rattle.fq_model.specs.History.{History, submits, waiting, is_waiting, running_on, last_use, is_closed, pool_at, request_bound}
+use Rattle.fq_model.specs.History.{History, waiting, is_waiting, running_on, last_use, is_closed, request_bound}
 use Rattle.fq_model.specs.Limits.{InLimits, is_outside}
-use Rattle.fq_model.specs.Rules.{Answers, IsLegal, Fits, FitsUse, FitsSubmit, FitsTake, FitsWeight, FitsWorkers, HasRoom, needed_room, request_on, submit_refusal, take_refusal, report_refusal, done_refusal, close_refusal, weight_refusal, workers_refusal}
+use Rattle.fq_model.specs.Rules.{Answers, IsLegal, Fits, FitsUse, FitsSubmit, FitsTake, FitsWeight, FitsWorkers, HasRoom, needed_room, submit_refusal, take_refusal, report_refusal, done_refusal, close_refusal, weight_refusal, workers_refusal}
 use Rattle.fq_model.specs.Time.{last_moment, effective_moment}
 use Rattle.fq_laws.specs.Words.{one_more}
 use Rattle.fq_laws.proofs.History.Asked.{waits_submitted}

@@ -10,7 +10,7 @@ use Rattle.fq_model.specs.declared.event.Reply.{Reply}
 use Rattle.fq_model.specs.History.{History, history_of}
 use Rattle.fq_model.specs.Limits.{InLimits}
 use Rattle.fq_model.specs.Rules.{Answers, IsLegal}
-use Rattle.fq_laws.specs.Words.{one_more, caller, named_moment, Extends}
+use Rattle.fq_laws.specs.Words.{Extends}
 use Rattle.fq_laws.proofs.Rules.Answers.{answer_one, answer_extends}
 use Rattle.program_model.specs.Journal.{call_of}
 use Rattle.journal_check.specs.Verdicts.{with_gained, IsFirstBad}

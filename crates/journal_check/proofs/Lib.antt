@@ -3,3 +3,4 @@ pub mod Fitting
 pub mod Judging
 pub mod Standings
 pub mod Turns
+pub mod OneVerdict

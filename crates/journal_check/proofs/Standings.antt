@@ -1,18 +1,17 @@
 -- What is kept of a history at one entry more.
-use Rattle.std.proofs.Common.{ℕ, zero, suc, ◌+◌, ◌<◌, ◌≤◌, ◌≡◌, ◌≢◌, ◌∙◌, true, false, arith, refl, sym, ap, subst, inl, inr, List, [], ◌∷◌, ◌++◌, length, drop, Option, Some, None, ℤ, pos, length-append, get_or}
+use Rattle.std.proofs.Common.{ℕ, zero, suc, ◌<◌, ◌≡◌, ◌≢◌, ◌∙◌, true, false, arith, refl, sym, ap, subst, inl, inr, List, [], ◌∷◌, ◌++◌, length, drop, Option, Some, None, ℤ, pos, length-append, get_or}
 use Rattle.std.specs.Prelude.{slice_get, option_map, is_none, if◌then◌else◌, Result, Ok, Err, IsOk, IsSome, IfOk, IfErr}
 use Rattle.std.proofs.lemmas.Bool.{cases_eq, eq-eqb, ne_eqb}
-use Rattle.std.proofs.lemmas.Int.{ints}
 use Rattle.std.proofs.lemmas.Option.{get_or_from_slice_get}
 use mir.Val.{to_z, of_z}
 use Rattle.std.specs.Int.{w128}
 use Rattle.vt_fixed.specs.Rounding.{length_of}
 use Rattle.fq_model.specs.declared.config.Config.{Config}
 use Rattle.fq_model.specs.declared.event.Act.{Act}
-use Rattle.fq_model.specs.declared.event.Act.TheVariants.{Submit, Take, Report, Done, Close, Weight, Workers}
+use Rattle.fq_model.specs.declared.event.Act.TheVariants.{Submit, Take, Report, Done}
 use Rattle.fq_model.specs.declared.event.Entry.{Entry}
 use Rattle.fq_model.specs.Limits.{InLimits}
-use Rattle.fq_model.specs.History.{History, Request, request_at, request_in, head, submits, with_submit, is_submit, weight_at}
+use Rattle.fq_model.specs.History.{History, Request, request_at, head, submits, is_submit, weight_at}
 use Rattle.fq_model.specs.Time.{virtual_time}
 use Rattle.fq_model.specs.Rules.{IsLegal, FitsUse}
 use Rattle.fq_laws.specs.Words.{one_more, is_quiet}

@@ -1,6 +1,6 @@
 -- The entries before a Take, and the heads at it.
-use Rattle.std.proofs.Common.{ℕ, zero, suc, ◌+◌, ◌<◌, ◌≤◌, ◌≡◌, ◌∙◌, ◌||◌, Bool, false, arith, refl, sym, ap, subst, add-one, List, [], ◌∷◌, ◌++◌, length, take, drop, get_or, Option, Some, None, ℤ, pos}
-use Rattle.std.specs.Prelude.{slice_get, All}
+use Rattle.std.proofs.Common.{ℕ, zero, suc, ◌+◌, ◌<◌, ◌≤◌, ◌≡◌, ◌∙◌, false, arith, refl, sym, ap, subst, add-one, List, [], ◌∷◌, ◌++◌, length, take, drop, get_or, Option, Some, None, ℤ, pos}
+use Rattle.std.specs.Prelude.{All}
 use Rattle.std.proofs.Math.Seq.{take-suc, drop-cons}
 use Rattle.std.proofs.lemmas.Option.{slice_get-get_or, slice_get_within, get_or_from_slice_get}
 use Rattle.std.proofs.lemmas.List.{reverse-append, take-append-drop, take_all}
@@ -38,7 +38,7 @@ history_more entries k none there =
     ap history_of longer ∙ reverse-append (take k entries) (get_or entries k none ∷ [])
 
 -- what stands before newer entries is legal
-legal_before : (C : Config) (newer P : History) → IsLegal C (newer ++ P) → IsLegal C P
+pub legal_before : (C : Config) (newer P : History) → IsLegal C (newer ++ P) → IsLegal C P
 legal_before C [] P legal = legal
 legal_before C (e ∷ newer) P legal = legal_before C newer P legal.0
 

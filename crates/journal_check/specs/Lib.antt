@@ -3,3 +3,4 @@ pub mod Explanations
 pub mod Texts
 pub mod Standing
 pub mod Turns
+pub mod Laws

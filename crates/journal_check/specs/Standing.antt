@@ -1,5 +1,5 @@
 -- What is kept of a history while its entries are read once more.
-use Rattle.std.specs.Prelude.{ℕ, ◌≡◌, List, ◌∷◌, option_map, slice_get, length}
+use Rattle.std.specs.Prelude.{ℕ, ◌≡◌, List, option_map, slice_get, length}
 use Rattle.fq_model.specs.declared.config.Config.{Config}
 use Rattle.fq_model.specs.declared.event.Act.{Act}
 use Rattle.fq_model.specs.declared.event.Entry.{Entry}

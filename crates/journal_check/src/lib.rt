@@ -4,6 +4,7 @@
 pub mod checking;
 pub mod explained;
 pub mod explaining;
+pub mod laws;
 pub mod printing;
 mod standing;
 pub mod verdict;

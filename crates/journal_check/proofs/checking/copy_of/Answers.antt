@@ -1,4 +1,4 @@
-use Rattle.std.proofs.Common.{◌≡◌, ◌∙◌, List, ℕ, rules}
+use Rattle.std.proofs.Common.{◌≡◌, rules}
 use Rattle.journal_check.proofs.Copies.{checked, same_config}
 use Rattle.journal_check.proofs.checking.copy_of.Goals as goal
 

@@ -1,4 +1,4 @@
-use Rattle.std.proofs.Common.{◌≡◌, ◌∙◌, refl, sym, ap, subst, arith}
+use Rattle.std.proofs.Common.{◌∙◌, refl, sym, ap, subst, arith}
 use Rattle.std.specs.Prelude.{List, slice_get}
 use Rattle.std.proofs.lemmas.Bool.{false≢true}
 use Rattle.fq_model.specs.declared.event.Call.{Call}

@@ -3,7 +3,7 @@ use Rattle.fq_model.specs.declared.event.Act.TheVariants.{Done}
 use Rattle.fq_model.specs.Charge.{completed}
 use Rattle.sched_state.proofs.ChargeLemmas.{step_sized, step_charge}
 use Rattle.sched_state.proofs.CostLemmas.{costs_learned}
-use Rattle.journal_check.proofs.Standings.{entry_of, legal_of, legal_now, row_there, not_refused, held, finishes, finishes_so, stands_done}
+use Rattle.journal_check.proofs.Standings.{legal_of, legal_now, row_there, not_refused, held, finishes, finishes_so, stands_done}
 use Rattle.journal_check.proofs.standing.Standing.done.Goals as goal
 
 pub row_for-requires : goal.row_for-requires

@@ -1,4 +1,4 @@
-use Rattle.std.proofs.Common.{sym, ap, ◌∙◌, subst, refl, []}
+use Rattle.std.proofs.Common.{sym, ap, ◌∙◌, subst, []}
 use Rattle.tag_rules.specs.Accounts.{AccountsAre, at_first}
 use Rattle.tag_rules.proofs.AccountSteps.{accounts_nil}
 use Rattle.sched_state.proofs.ListLemmas.{lists_opened}

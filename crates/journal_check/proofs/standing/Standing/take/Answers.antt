@@ -1,7 +1,5 @@
-use Rattle.std.proofs.Common.{◌≡◌, ◌∙◌, arith, refl, sym}
+use Rattle.std.proofs.Common.{◌∙◌, arith, refl, sym}
 use Rattle.fq_model.specs.declared.event.Act.TheVariants.{Take}
-use Rattle.fq_laws.specs.Words.{one_more}
-use Rattle.fq_model.specs.Rules.{IsLegal}
 use Rattle.sched_state.proofs.ChargeLemmas.{BeginStep, step_charge}
 use Rattle.journal_check.proofs.Standings.{legal_of, legal_now, tenant_known, weighed, weight_is, has_first, number_is, begins, stands_take}
 use Rattle.journal_check.proofs.standing.Standing.take.Goals as goal

@@ -1,0 +1,17 @@
+-- What follows from the definition of a verdict.
+use Rattle.std.specs.Prelude.{◌≡◌, ◌↔◌, List}
+use Rattle.fq_model.specs.declared.config.Config.{Config}
+use Rattle.fq_model.specs.declared.event.Entry.{Entry}
+use Rattle.fq_model.specs.History.{history_of}
+use Rattle.fq_model.specs.Rules.{IsLegal}
+use Rattle.journal_check.specs.declared.verdict.Verdict.{Verdict}
+use Rattle.journal_check.specs.declared.verdict.Verdict.TheVariants.{Legal}
+use Rattle.journal_check.specs.Verdicts.{IsVerdict}
+
+-- entries have one verdict at most
+abbrev pub OneVerdict : Type 0
+OneVerdict = (C : Config) (entries : List Entry) (v w : Verdict) → IsVerdict C entries v → IsVerdict C entries w → v ≡ w
+
+-- the verdict is Legal where and only where the history of the entries is legal
+abbrev pub LegalIsLegal : Type 0
+LegalIsLegal = (C : Config) (entries : List Entry) (v : Verdict) → IsVerdict C entries v → (v ≡ Legal) ↔ IsLegal C (history_of entries)

@@ -1,0 +1,12 @@
+//! Laws of verdicts.
+ghost use Rattle.journal_check.specs.Laws.{OneVerdict, LegalIsLegal};
+
+/// The entries of a journal have one verdict at most.
+pub fn one_verdict()
+    ensures { OneVerdict }
+{}
+
+/// The verdict is that the entries are legal where and only where their history is.
+pub fn legal_is_legal()
+    ensures { LegalIsLegal }
+{}
