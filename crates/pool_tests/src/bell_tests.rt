@@ -103,7 +103,7 @@ enum Part {
 }
 
 // What it saw: whether all came in time, which is each job, or the next take; and how often the clock was asked and how
-// many ticks of the processor were used in the second of rest.
+// many ticks of the processor were used in the second of rest, or the greatest number where the system doesn't tell.
 #[derive(Clone, Copy)]
 struct Seen {
     in_time: bool,
@@ -131,12 +131,16 @@ fn runs_next<X: Chooser, R: Wait, O: time::Clock>(
 fn rest<O: time::Clock + Files + Alloc>(os: &O, clock: &CountingClock) -> Seen {
     thread::sleep(os, Duration::from_millis(100));
     let asked = clock.asked.load(Ordering::SeqCst);
-    let used = ticks(os).unwrap_or(0);
+    let before = ticks(os);
     thread::sleep(os, Duration::from_secs(1));
+    let used = match (before, ticks(os)) {
+        (Some(before), Some(after)) => after.saturating_sub(before),
+        _ => u64::MAX,
+    };
     Seen {
         in_time: true,
         asked: clock.asked.load(Ordering::SeqCst).saturating_sub(asked),
-        ticks: ticks(os).unwrap_or(0).saturating_sub(used),
+        ticks: used,
     }
 }
 

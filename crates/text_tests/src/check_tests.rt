@@ -1,5 +1,5 @@
 //! Journals written by hand, and the verdicts on them.
-use crate::samples::{expect_text, joined};
+use crate::samples::expect_text;
 use eligible_index::index::IndexChooser;
 use journal_check::checking::check;
 use journal_check::explaining::explain;
@@ -17,8 +17,10 @@ const HEAD: &str =
 
 // The journal of these entries is read, and the verdict on it is told so.
 fn expect_verdict<R: Abort>(rt: &R, alloc: Global, head: &str, entries: &str, wanted: &str) {
-    let text = joined(rt, alloc, &[head, entries]);
-    let journal = read_journal(alloc, text.as_slice());
+    let text = [head, entries]
+        .concat(alloc)
+        .expect(rt, "memory for a text");
+    let journal = read_journal(alloc, text.as_bytes());
     let Ok(journal) = journal else {
         panic!(rt; "a journal")
     };

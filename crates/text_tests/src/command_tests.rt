@@ -108,7 +108,6 @@ fn live(options: RunOptions, slot: u64, print: HistoryPrint) -> Command {
         options,
         slot,
         print,
-        watch: 0,
     }
 }
 
