@@ -1,36 +1,29 @@
 -- Laws of the program's answers and runs.
-use Rattle.std.specs.Prelude.{ℕ, ◌<◌, ◌≤◌, ◌≡◌, ◌≢◌, false, List, [], length, Option, Some}
+use Rattle.std.specs.Prelude.{ℕ, ◌<◌, ◌≤◌, ◌≡◌, ◌≢◌, false, List, [], length, Option, Some, All}
 use Rattle.fq_memory.specs.Clean.{IsClean}
 use Rattle.fq_model.specs.declared.limits.TheConstants.{MOST_TENANTS, MOST_ROWS}
 use Rattle.fq_model.specs.Limits.{IsWithin}
 use Rattle.program_model.specs.declared.command.Command.{Command}
 use Rattle.program_model.specs.declared.command.Command.TheVariants.{Gen}
 use Rattle.program_model.specs.Answer.{Answer, Text, answer_status}
-use Rattle.program_model.specs.Commands.{waits, row_of, IsAnswer}
-use Rattle.program_model.specs.GenCommand.{gen_row}
-use Rattle.program_model.specs.LiveCommand.{live_row}
+use Rattle.program_model.specs.Commands.{built_commands, waits, row_of, IsAnswer}
 use Rattle.program_model.specs.Options.{Value, CommandRow}
 use Rattle.program_model.specs.Program.{Move, IsRun}
-use Rattle.program_model.specs.RunCommand.{run_row}
-use Rattle.program_model.specs.ScriptCommand.{script_row}
 
 -- what a row means is a command of this row
 abbrev pub IsOwnRow : CommandRow Command → Type 0
 IsOwnRow row = (values : List Value) → row_of (row.means values) ≡ row
 
 -- so it is for each row of the table
-pub record AreOwnRows : Type 0 where
-  pub script : IsOwnRow script_row
-  pub run : IsOwnRow run_row
-  pub live : IsOwnRow live_row
-  pub gen : IsOwnRow gen_row
+abbrev pub AreOwnRows : Type 0
+AreOwnRows = All IsOwnRow built_commands
 
 -- a trace that is to be generated is within the limits
 abbrev pub IsWithinLimits : Command → Type 0
 IsWithinLimits (Gen seed tenants requests print) = IsWithin 1 MOST_TENANTS tenants × (requests ≤ MOST_ROWS)
 IsWithinLimits _ = Unit {0}
 
--- a command that waits for nobody has one answer to an input at most
+-- a command that waits for nobody, with numbers within the limits, has one answer to an input at most
 abbrev pub OneAnswer : (ℕ → Type 0) → Type 0
 OneAnswer Told =
     (command : Command) (input : List ℕ) (a b : Answer)

@@ -2,12 +2,14 @@
 ghost use Rattle.std.specs.Prelude.{None};
 
 use crate::samples::{configured, ended, opened};
+use fq_io::Clock;
 use fq_memory::FixedClock;
 use fq_model::event::{Act, Entry};
 use rival_policies::plain::PlainChooser;
 use std::alloc::Global;
 use std::process::Abort;
 use std::sync::Wait;
+use std::sync::atomic::{AtomicU64, Ordering};
 use tag_rules::chooser::Chooser;
 use worker_gate::work::work;
 use worker_gate::{CostRule, Counters, Gate, LoggedGate, Slice, WorkCost};
@@ -44,22 +46,61 @@ impl Gate<u64> for Greatest {
     }
 }
 
+// A job of four slices. Slice k lasts until the moment 100 (k + 1).
+#[derive(Drop)]
+struct Lasting<'a> {
+    moment: &'a AtomicU64,
+}
+
+impl<'a> Gate<u64> for Lasting<'a> {
+    ghost course = { λ _ _. None };
+
+    fn slice(&self, _job: &u64, k: u32, last: Counters) -> Slice {
+        let slices = u64::from(k) + 1;
+        self.moment.store(100 * slices, Ordering::SeqCst);
+        let counters = last.greater(Counters {
+            work: slices,
+            items: 0,
+            bytes: 0,
+        });
+        if slices < 4 {
+            Slice::More(counters)
+        } else {
+            Slice::End(counters)
+        }
+    }
+}
+
+// Tells the moment until which the last slice lasted.
+#[derive(Drop)]
+struct SliceClock<'a> {
+    moment: &'a AtomicU64,
+}
+
+impl<'a> Clock for SliceClock<'a> {
+    ghost tells = { λ _ _. Unit {0} };
+
+    fn now(&self) -> u64 {
+        self.moment.load(Ordering::SeqCst)
+    }
+}
+
 // The entries after one request was submitted, and its worker has served.
-fn served<X: Chooser + Drop, G: Gate<u64> + Drop, R: Wait + Abort>(
+fn served<X: Chooser + Drop, G: Gate<u64> + Drop, K: Clock, R: Wait + Abort>(
     rt: &R,
     alloc: Global,
     entries: u32,
     gate: G,
+    clock: &K,
 ) -> Vec<Entry> {
     let config = configured(rt, alloc, 1, 1, entries, 10);
     let (desk, mut who, worker) = opened::<X, R>(rt, alloc, config);
     assert_eq!(rt; desk.submit(rt, &mut who, 50, 0, 0, 5, 7), Ok(0));
     assert_eq!(rt; desk.close(rt, &mut who, 50), Ok(()));
-    let clock = FixedClock::new(50);
     let rule = CostRule::new(WorkCost);
     let mut gate = LoggedGate::new(gate);
     let mut log = gate.log();
-    let worker = work(&desk, rt, worker, &gate, &mut log, &clock, &rule);
+    let worker = work(&desk, rt, worker, &gate, &mut log, clock, &rule);
     ended(rt, alloc, desk, who, worker)
 }
 
@@ -109,20 +150,52 @@ fn reported<R: Abort>(rt: &R, past: &[Entry], reports: u64, cost: u64) {
     assert!(rt; entries.next().is_none());
 }
 
+// The same by a clock that stands still.
+fn served_at_once<G: Gate<u64> + Drop, R: Wait + Abort>(
+    rt: &R,
+    alloc: Global,
+    entries: u32,
+    gate: G,
+) -> Vec<Entry> {
+    let clock = FixedClock::new(50);
+    served::<PlainChooser, G, FixedClock, R>(rt, alloc, entries, gate, &clock)
+}
+
 #[test]
 fn all_slices_with_room_for_each(rt: HostRuntime) {
-    let past = served::<PlainChooser, Endless, HostRuntime>(&rt, rt.alloc(), 10004, Endless);
+    let past = served_at_once(&rt, rt.alloc(), 10004, Endless);
     reported(&rt, past.as_slice(), 9999, 10000);
 }
 
 #[test]
 fn all_slices_with_room_for_some(rt: HostRuntime) {
-    let past = served::<PlainChooser, Endless, HostRuntime>(&rt, rt.alloc(), 100, Endless);
+    let past = served_at_once(&rt, rt.alloc(), 100, Endless);
     reported(&rt, past.as_slice(), 95, 10000);
 }
 
 #[test]
 fn a_job_past_the_greatest_cost(rt: HostRuntime) {
-    let past = served::<PlainChooser, Greatest, HostRuntime>(&rt, rt.alloc(), 100, Greatest);
+    let past = served_at_once(&rt, rt.alloc(), 100, Greatest);
     reported(&rt, past.as_slice(), 0, 1000000000);
+}
+
+// The Submit, the Close and the Take, three Reports and the Done.
+const MOMENTS: [u64; 7] = [50, 50, 50, 100, 200, 300, 400];
+
+#[test]
+fn each_use_is_reported_before_the_next_slice(rt: HostRuntime) {
+    let moment = AtomicU64::new(50);
+    let gate = Lasting { moment: &moment };
+    let clock = SliceClock { moment: &moment };
+    let past = served::<PlainChooser, Lasting, SliceClock, HostRuntime>(
+        &rt,
+        rt.alloc(),
+        100,
+        gate,
+        &clock,
+    );
+    assert_eq!(rt; past.len(), MOMENTS.len());
+    for (entry, wanted) in past.iter().zip(&MOMENTS) {
+        assert_eq!(rt; entry.moment, *wanted);
+    }
 }
