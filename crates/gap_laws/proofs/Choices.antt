@@ -1,7 +1,8 @@
 -- What the choice of one tenant says of another with a head.
-use Rattle.std.proofs.Common.{ℕ, ◌+◌, ◌*◌, ◌<◌, ◌≤◌, ◌≢◌, arith, inl, inr, pos, ◌≤ℤ◌}
+use Rattle.std.proofs.Common.{ℕ, ◌+◌, ◌*◌, ◌<◌, ◌≤◌, ◌≢◌, arith, inl, inr, ◌⊎◌, ℤ, pos, ◌≤ℤ◌}
 use Rattle.std.specs.Prelude.{◌+ℤ◌, ◌-ℤ◌}
-use Rattle.std.proofs.lemmas.Int.{ints, by_lt_z}
+use Rattle.std.specs.Int.{int_max}
+use Rattle.std.proofs.lemmas.Int.{ints, clamps, by_lt_z}
 use Rattle.vt_fixed.proofs.Bounds.{part_le}
 use Rattle.fq_model.specs.declared.config.Policy.{Policy}
 use Rattle.fq_model.specs.declared.config.Policy.TheVariants.{Wfq, Wf2q, Msf2q, TwoDfq}
@@ -57,3 +58,20 @@ chosen_bound at Has f g a b x y r s B lt ne has low_x low_y (inl c) = elim (elig
 ]
 chosen_bound at Has f g a b x y r s B lt ne has low_x low_y (inr c) =
     by_key at.policy at.worker at.workers a b x y B lt low_x (key_first at (keys a x r) (keys b y s) (c.1.first g (keys b y s) ne has tt))
+
+-- the same by the heads' own lengths: the chosen tenant is then ahead by no more than the head of the other is long, or
+-- than its own head and its stagger
+by_key_ahead : (policy : Policy) (i n a b x y : ℕ) → (pos a -ℤ stagger policy (pos x) i n) ≤ℤ (pos b -ℤ stagger policy (pos y) i n) → pos (a + x) ≤ℤ (pos b +ℤ (stagger policy (pos x) i n +ℤ pos x))
+by_key_ahead policy i n a b x y h = omega (arith, ints, stagger_low policy y i n)
+
+either_ahead : (a b x y : ℕ) (part : ℤ) → (a + x ≤ b + y) ⊎ (pos (a + x) ≤ℤ (pos b +ℤ (part +ℤ pos x))) → pos (a + x) ≤ℤ (pos b +ℤ int_max (pos y) (part +ℤ pos x))
+either_ahead a b x y part (inl h) = omega (arith, ints, clamps)
+either_ahead a b x y part (inr h) = omega (arith, ints, clamps)
+
+pub chosen_lead : (at : Turn) (Has : ℕ → HeadKeys → Type 0) (f g a b x y r s : ℕ) → at.worker < at.workers → g ≢ f → Has g (keys b y s) → IsChoice at Has f (keys a x r) → pos (a + x) ≤ℤ (pos b +ℤ int_max (pos y) (stagger at.policy (pos x) at.worker at.workers +ℤ pos x))
+chosen_lead at Has f g a b x y r s lt ne has (inl c) = either_ahead a b x y (stagger at.policy (pos x) at.worker at.workers) (elim (eligible_or_not at (keys b y s)) [
+  | inl early ↦ inl (by_finish a b x y r s y (omega arith) (c.first g (keys b y s) ne has early))
+  | inr late ↦ inr (by_key_ahead at.policy at.worker at.workers a b x y (key_passes at (keys a x r) (keys b y s) c.passes late))
+])
+chosen_lead at Has f g a b x y r s lt ne has (inr c) = either_ahead a b x y (stagger at.policy (pos x) at.worker at.workers)
+    (inr (by_key_ahead at.policy at.worker at.workers a b x y (key_first at (keys a x r) (keys b y s) (c.1.first g (keys b y s) ne has tt))))

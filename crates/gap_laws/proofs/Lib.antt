@@ -1,9 +1,12 @@
 pub mod Declared
 pub mod Starts
 pub mod Choices
+pub mod Running
 pub mod Lengths
 pub mod Runs
 pub mod Gaps
+pub mod Leads
+pub mod WorstCase
 pub mod Told
 pub mod Bounds
 pub mod Computed

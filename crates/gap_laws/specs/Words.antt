@@ -1,5 +1,5 @@
 -- Words for the laws.
-use Rattle.std.specs.Prelude.{ℕ, ◌==◌, ◌≡◌, true, false, if◌then◌else◌, ◌++◌, drop, Option, Some, None, ℤ, ◌≤ℤ◌, ◌⊎◌}
+use Rattle.std.specs.Prelude.{ℕ, ◌==◌, ◌≡◌, ◌≤◌, true, false, if◌then◌else◌, ◌∷◌, ◌++◌, drop, Option, Some, None, ℤ, pos, ◌+ℤ◌, ◌≤ℤ◌, ◌⊎◌}
 use Rattle.vt_fixed.specs.Rounding.{length_of}
 use Rattle.fq_model.specs.declared.config.Config.{Config}
 use Rattle.fq_model.specs.declared.event.Act.{Act}
@@ -7,7 +7,10 @@ use Rattle.fq_model.specs.declared.event.Act.TheVariants.{Take}
 use Rattle.fq_model.specs.Limits.{InLimits}
 use Rattle.fq_model.specs.History.{History, Request, request_at, weight_at}
 use Rattle.fq_model.specs.Rules.{IsLegal}
+use Rattle.fq_model.specs.declared.event.Entry.{Entry}
+use Rattle.fq_model.specs.Charge.{is_taken_of}
 use Rattle.fq_model.specs.Gap.{is_shared, not_declared}
+use Rattle.fq_model.specs.Lead.{request_length, doubt, takes_of, head_length, lead_of_take}
 
 -- H is a legal history of a configuration that is in its limits, and each of its requests is as declared
 pub record HasDeclaredCosts (C : Config) (H : History) : Type 0 where
@@ -52,3 +55,28 @@ pub record IsGreatestOver (Passes : History → Type 0) (value : History → ℤ
   pub reached : (x ≡ y) ⊎ ((P : History) × Passes P × (value P ≡ x))
   pub least : y ≤ℤ x
   pub greatest : (P : History) → Passes P → value P ≤ℤ x
+
+-- no request of tenant t that is taken at a prefix of H is longer there than its cap
+abbrev pub AreCaps : Config → History → ℕ → (ℕ → ℕ) → Type 0
+AreCaps C H t cap =
+    (Q : History) (r : ℕ) → IsPrefix Q H → is_taken_of Q t r ≡ true → request_length C Q t r ≤ cap r
+
+-- and none is shorter than its low
+abbrev pub AreLows : Config → History → ℕ → (ℕ → ℕ) → Type 0
+AreLows C H t low =
+    (Q : History) (r : ℕ) → IsPrefix Q H → is_taken_of Q t r ≡ true → low r ≤ request_length C Q t r
+
+-- wherever a worker takes a request of f while both wait, f is then ahead of g by no more than B, with the doubt
+abbrev pub TakesStayBelow : (cap low : ℕ → ℕ) → Config → History → ℕ → ℕ → ℤ → Type 0
+TakesStayBelow cap low C H f g B =
+    (e : Entry) (Q : History) (i : ℕ) → IsPrefix (e ∷ Q) H → is_shared Q f g ≡ true → takes_of f Q e.act ≡ Some i
+    → (lead_of_take C Q i f g +ℤ pos (doubt cap low C (e ∷ Q) f g)) ≤ℤ B
+
+-- no request of f or g that is taken at a prefix of H is longer there than M, and no head of the two is, where a request
+-- of f is taken while both wait
+pub record IsLongest (C : Config) (H : History) (f g M : ℕ) : Type 0 where
+  pub of_f : AreCaps C H f (λ r. M)
+  pub of_g : AreCaps C H g (λ r. M)
+  pub heads :
+      (e : Entry) (Q : History) (i : ℕ) → IsPrefix (e ∷ Q) H → is_shared Q f g ≡ true → takes_of f Q e.act ≡ Some i
+      → (head_length C Q f ≤ M) × (head_length C Q g ≤ M)

@@ -1,5 +1,5 @@
 //! The laws, one function a law: its contract is the law, and its body is empty.
-ghost use Rattle.gap_laws.specs.Laws.{ChargeRisesAtTakes, StartRisesAtTakes, RunStartIs, GapStaysBelow, LargestIsBounded, GapIsThere, LargestIsGreatest, BoundIsGreatest};
+ghost use Rattle.gap_laws.specs.Laws.{ChargeRisesAtTakes, StartRisesAtTakes, RunStartIs, GapStaysBelow, LargestIsBounded, GapIsThere, LargestIsGreatest, BoundIsGreatest, LeadStaysBelow, WorstLeadStaysBelow, DifferenceStaysBelow};
 
 /// Where every request costs what was declared, a Take adds the length of the declared cost to the virtual charge of
 /// its tenant, and nothing else changes a virtual charge: no Report and no Done.
@@ -45,4 +45,23 @@ pub fn largest_is_greatest()
 /// greatest of these.
 pub fn bound_is_greatest()
     ensures { BoundIsGreatest }
+{}
+
+/// Where costs are not known: while two tenants both wait, and whatever comes of the requests that run, the one is ahead
+/// of the other by no more than it was when both began to wait, or than a Take of its own leaves it. Nothing else is
+/// asked of the history than that it is legal: not which estimator, not how wrong it is, not which weights and workers.
+pub fn lead_stays_below()
+    ensures { LeadStaysBelow }
+{}
+
+/// So in the worst case, where no request is longer than `M` and some may turn out as long, or cost nothing: less than
+/// one request of the greatest length more than there are workers.
+pub fn worst_lead_stays_below()
+    ensures { WorstLeadStaysBelow }
+{}
+
+/// The same of starts alone: one request of the greatest length for each worker, beyond one such request or the lead
+/// that there was when both began to wait.
+pub fn difference_stays_below()
+    ensures { DifferenceStaysBelow }
 {}
