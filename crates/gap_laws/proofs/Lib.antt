@@ -7,6 +7,7 @@ pub mod Runs
 pub mod Gaps
 pub mod Leads
 pub mod WorstCase
+pub mod Undoubted
 pub mod Told
 pub mod Bounds
 pub mod Computed
