@@ -1,12 +1,13 @@
 -- How far one tenant may be ahead of another, where nobody knows what a request costs before it is done: its start, and
 -- what the requests that run may still add to it or take from it.
-use Rattle.std.specs.Prelude.{ℕ, ◌+◌, ◌-◌, if◌then◌else◌, Option, Some, None, ℤ, pos, ◌+ℤ◌, ◌-ℤ◌}
+use Rattle.std.specs.Prelude.{ℕ, ◌+◌, ◌-◌, ◌*◌, max, min, Bool, not, ◌&&◌, if◌then◌else◌, List, [], ◌∷◌, Option, Some, None, is_some, option_map, ℤ, pos, ◌+ℤ◌, ◌-ℤ◌}
 use Rattle.std.specs.Int.{int_max}
 use Rattle.vt_fixed.specs.Rounding.{length_of}
 use Rattle.fq_model.specs.declared.config.Config.{Config}
 use Rattle.fq_model.specs.declared.event.Act.{Act}
 use Rattle.fq_model.specs.declared.event.Act.TheVariants.{Take}
-use Rattle.fq_model.specs.Charge.{charge, taken_weight, request_estimate}
+use Rattle.fq_model.specs.Charge.{charge, taken_weight, is_taken_of, charged, request_estimate, greatest}
+use Rattle.fq_model.specs.Gap.{is_shared, lengths_in_bound, greatest_with, largest_difference, TagGap}
 use Rattle.fq_model.specs.History.{History, Request, request_at, is_of_tenant, head, running_on, weight_at, pool_at}
 use Rattle.fq_model.specs.Keys.{start, stagger}
 use Rattle.fq_model.specs.Sums.{sum_below}
@@ -59,7 +60,7 @@ least low C P t = pos (start_now C P t) -ℤ pos (may_fall low C P t)
 abbrev pub lead : (cap low : ℕ → ℕ) → Config → History → ℕ → ℕ → ℤ
 lead cap low C P f g = most cap C P f -ℤ least low C P g
 
--- A Take.
+-- Takes.
 
 abbrev pub length_of_request : Config → History → ℕ → Option Request → ℕ
 length_of_request C P t None = 0
@@ -84,3 +85,63 @@ lead_of_take C P i f g = int_max
 abbrev pub takes_of : ℕ → History → Act → Option ℕ
 takes_of t P (Take worker request estimate) = if is_of_tenant t (request_at P request) then Some worker else None
 takes_of t P _ = None
+
+-- this entry after P takes a request of f while both wait
+abbrev pub is_lead_take : History → Act → ℕ → ℕ → Bool
+is_lead_take P a f g = is_shared P f g && is_some (takes_of f P a)
+
+-- Measured over a history H, where each request turned out somehow.
+
+-- the greatest length that request r of tenant t has at a prefix of H, or 0 where it is not taken
+unfoldable pub longest_of : Config → History → ℕ → ℕ → ℕ
+longest_of C [] t r = 0
+longest_of C (e ∷ P) t r = max (charged C (e ∷ P) t r) (longest_of C P t r)
+
+-- the least that it has from its Take on, or 0
+unfoldable pub shortest_of : Config → History → ℕ → ℕ → ℕ
+shortest_of C [] t r = 0
+shortest_of C (e ∷ P) t r =
+    if is_taken_of P t r then min (charged C (e ∷ P) t r) (shortest_of C P t r) else charged C (e ∷ P) t r
+
+-- the lead at P, by what became in H of the requests that run at P
+abbrev pub measured_lead : Config → History → History → ℕ → ℕ → ℤ
+measured_lead C H P f g = lead (longest_of C H f) (shortest_of C H g) C P f g
+
+-- the leads at those prefixes of P at which both begin to wait
+unfoldable pub first_leads : Config → History → History → ℕ → ℕ → List ℤ
+first_leads C H [] f g = []
+first_leads C H (e ∷ P) f g =
+    if is_shared (e ∷ P) f g && not (is_shared P f g)
+    then measured_lead C H (e ∷ P) f g ∷ first_leads C H P f g
+    else first_leads C H P f g
+
+-- how long the heads of both are thought to be, wherever a request of f is taken while both wait
+unfoldable pub take_lengths : Config → History → ℕ → ℕ → List ℕ
+take_lengths C [] f g = []
+take_lengths C (e ∷ P) f g =
+    if is_lead_take P e.act f g
+    then head_length C P f ∷ head_length C P g ∷ take_lengths C P f g
+    else take_lengths C P f g
+
+-- what is in doubt just after each such Take, by what became of it in H
+unfoldable pub take_doubts : Config → History → History → ℕ → ℕ → List ℕ
+take_doubts C H [] f g = []
+take_doubts C H (e ∷ P) f g =
+    if is_lead_take P e.act f g
+    then doubt (longest_of C H f) (shortest_of C H g) C (e ∷ P) f g ∷ take_doubts C H P f g
+    else take_doubts C H P f g
+
+-- the greater of the greatest lead where both begin to wait, and of one length of a head, or two under 2dfq, with the
+-- greatest doubt
+unfoldable pub lead_bound : Config → History → ℕ → ℕ → ℤ
+lead_bound C H f g = greatest_with
+    (pos (lengths_in_bound C.policy * greatest (take_lengths C H f g) + greatest (take_doubts C H H f g)))
+    (first_leads C H H f g)
+
+-- the largest difference of the starts of f and g while both wait, and what bounds it; or none exactly where the two
+-- never wait together
+unfoldable pub measured_gap : Config → History → ℕ → ℕ → Option TagGap
+measured_gap C H f g =
+    option_map
+    (λ largest. record { largest = largest; bound = lead_bound C H f g })
+    (largest_difference C H f g)

@@ -8,6 +8,7 @@ pub mod Gaps
 pub mod Leads
 pub mod WorstCase
 pub mod Undoubted
+pub mod Measured
 pub mod Told
 pub mod Bounds
 pub mod Computed

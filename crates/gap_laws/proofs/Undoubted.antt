@@ -31,7 +31,7 @@ use Rattle.gap_laws.proofs.Running.{running_taken}
 
 -- ---- the length of a taken request stays
 
-taken_stays : (e : Entry) (P : History) (r : ℕ) → is_taken P r ≡ true → is_taken (e ∷ P) r ≡ true
+pub taken_stays : (e : Entry) (P : History) (r : ℕ) → is_taken P r ≡ true → is_taken (e ∷ P) r ≡ true
 unfolding is_taken
 taken_stays e P r h = or_right (is_take_of r e.act) (is_taken P r) h
 
@@ -103,10 +103,10 @@ head_low C P t B l d low = go (head P t) refl
     go (Some r) is = asked r is (request_at P r) refl
 
 -- with nothing in doubt a Take leaves f ahead by no more than the lengths in the bound
-lead_low : (policy : Policy) (x y i n B : ℕ) → i < n → x ≤ B → y ≤ B → int_max (pos y) (stagger policy (pos x) i n +ℤ pos x) ≤ℤ pos (lengths_in_bound policy * B)
+pub lead_low : (policy : Policy) (x y i n B : ℕ) → i < n → x ≤ B → y ≤ B → int_max (pos y) (stagger policy (pos x) i n +ℤ pos x) ≤ℤ pos (lengths_in_bound policy * B)
 lead_low policy x y i n B lt low_x low_y = omega (arith, ints, clamps, stagger_high policy x i n B lt low_x, length_counts policy B, low_y)
 
-taker_known : (C : Config) (P : History) (who m f i : ℕ) (a : Act) → IsLegal C (one_more who m a P) → takes_of f P a ≡ Some i → i < pool_at C P
+pub taker_known : (C : Config) (P : History) (who m f i : ℕ) (a : Act) → IsLegal C (one_more who m a P) → takes_of f P a ≡ Some i → i < pool_at C P
 taker_known C P who m f i (Take w q c) l some = subst (λ k. k < pool_at C P) (some_own w i (is_of_tenant f (request_at P q)) some).1 l.3.worker_known
 taker_known C P who m f i _ l some = absurd (cc)
 

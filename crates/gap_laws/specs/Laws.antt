@@ -11,7 +11,7 @@ use Rattle.fq_model.specs.Keys.{start}
 use Rattle.fq_model.specs.Gap.{is_shared, start_difference, run_start, lengths_in_bound, longest_length, TagGap, tag_gap}
 use Rattle.fq_model.specs.Limits.{InLimits}
 use Rattle.fq_model.specs.Rules.{IsLegal}
-use Rattle.fq_model.specs.Lead.{lead}
+use Rattle.fq_model.specs.Lead.{lead, measured_gap}
 use Rattle.gap_laws.specs.Words.{AreCaps, AreLows, TakesStayBelow, IsLongest, HasDeclaredCosts, taken_length, IsSharedIn, IsFirstIn, RunBegins, IsGreatestAt, IsGreatestOver}
 
 -- ---- what moves a charge and a start
@@ -102,3 +102,9 @@ DifferenceStaysBelow =
     (C : Config) (H P : History) (f g M : ℕ) → f ≢ g → InLimits C → IsLegal C H → IsLongest C H f g M
     → IsSharedIn H f g P
     → start_difference C P f g ≤ℤ (int_max (start_difference C (run_start P f g) f g) (pos M) +ℤ pos (C.workers * M))
+
+-- the measured bound: the largest difference of a gap is at most what it tells, whatever the costs
+abbrev pub MeasuredIsBounded : Type 0
+MeasuredIsBounded =
+    (C : Config) (H : History) (f g : ℕ) (gap : TagGap) → f ≢ g → InLimits C → IsLegal C H
+    → measured_gap C H f g ≡ Some gap → gap.largest ≤ℤ gap.bound
