@@ -9,6 +9,7 @@ pub mod Leads
 pub mod WorstCase
 pub mod Undoubted
 pub mod Measured
+pub mod Service
 pub mod Told
 pub mod Bounds
 pub mod Computed

@@ -154,16 +154,16 @@ taken_within C P who m f g M i _ ne lim l caps some low = absurd (cc)
 
 -- ---- over a history
 
-legal_in : (C : Config) (H P : History) → IsPrefix P H → IsLegal C H → IsLegal C P
+pub legal_in : (C : Config) (H P : History) → IsPrefix P H → IsLegal C H → IsLegal C P
 legal_in C H P is l = legal_prefix C is.0 P (subst (IsLegal C) is.1 l)
 
-caps_in : (C : Config) (H P : History) (t : ℕ) (cap : ℕ → ℕ) → IsPrefix P H → AreCaps C H t cap → AreCaps C P t cap
+pub caps_in : (C : Config) (H P : History) (t : ℕ) (cap : ℕ → ℕ) → IsPrefix P H → AreCaps C H t cap → AreCaps C P t cap
 caps_in C H P t cap is h = λ Q r inner taken. h Q r (prefix_of_prefix Q P H inner is) taken
 
 no_lower : (C : Config) (H : History) (t : ℕ) → AreLows C H t nothing
 no_lower C H t = λ Q r is taken. omega arith
 
-worst_premises : (C : Config) (H : History) (f g M : ℕ) → f ≢ g → InLimits C → IsLegal C H → IsLongest C H f g M → Premises (longest M) nothing C H f g (worst C M)
+pub worst_premises : (C : Config) (H : History) (f g M : ℕ) → f ≢ g → InLimits C → IsLegal C H → IsLongest C H f g M → Premises (longest M) nothing C H f g (worst C M)
 worst_premises C H f g M ne lim l h = record {
   limits = lim;
   legal = l;
@@ -173,7 +173,7 @@ worst_premises C H f g M ne lim l h = record {
 }
 
 -- the longest of a history is so of a prefix
-longest_in : (C : Config) (H P : History) (f g M : ℕ) → IsPrefix P H → IsLongest C H f g M → IsLongest C P f g M
+pub longest_in : (C : Config) (H P : History) (f g M : ℕ) → IsPrefix P H → IsLongest C H f g M → IsLongest C P f g M
 longest_in C H P f g M is h = record {
   of_f = caps_in C H P f (longest M) is h.of_f;
   of_g = caps_in C H P g (longest M) is h.of_g;
@@ -199,7 +199,7 @@ worst_lead_below C H P f g M ne lim l h is =
     let at_P : IsLongest C P f g M = longest_in C H P f g M is.0 h in
     lead_below (longest M) nothing C P f g (worst C M) ne (worst_premises C P f g M ne lim (legal_in C H P is.0 l) at_P) is.1
 
-doubt_high : (C : Config) (P : History) (f g M : ℕ) → f ≢ g → IsLegal C P → AreCaps C P g (longest M) → doubt (longest M) nothing C P f g ≤ C.workers * M
+pub doubt_high : (C : Config) (P : History) (f g M : ℕ) → f ≢ g → IsLegal C P → AreCaps C P g (longest M) → doubt (longest M) nothing C P f g ≤ C.workers * M
 unfolding over_running
 doubt_high C P f g M ne l caps = all_below (term (rising (longest M)) C P f) (term (falling nothing) C P g) M C.workers (λ i. doubt_at C P f g M i ne l caps)
 

@@ -12,7 +12,7 @@ use Rattle.fq_model.specs.Gap.{is_shared, start_difference, run_start, lengths_i
 use Rattle.fq_model.specs.Limits.{InLimits}
 use Rattle.fq_model.specs.Rules.{IsLegal}
 use Rattle.fq_model.specs.Lead.{lead, measured_gap}
-use Rattle.gap_laws.specs.Words.{AreCaps, AreLows, TakesStayBelow, IsLongest, HasDeclaredCosts, taken_length, IsSharedIn, IsFirstIn, RunBegins, IsGreatestAt, IsGreatestOver}
+use Rattle.gap_laws.specs.Words.{IsPrefix, AreSharedFrom, AreCaps, AreLows, TakesStayBelow, IsLongest, IsAccount, HasDeclaredCosts, taken_length, IsSharedIn, IsFirstIn, RunBegins, IsGreatestAt, IsGreatestOver}
 
 -- ---- what moves a charge and a start
 
@@ -108,3 +108,13 @@ abbrev pub MeasuredIsBounded : Type 0
 MeasuredIsBounded =
     (C : Config) (H : History) (f g : ℕ) (gap : TagGap) → f ≢ g → InLimits C → IsLegal C H
     → measured_gap C H f g ≡ Some gap → gap.largest ≤ℤ gap.bound
+
+-- by any account f gains on g, from P to Q and while both wait, no more than one request of the greatest length more than
+-- there are workers, and once more as much, or the lead that g had where both began to wait
+abbrev pub GainStaysBelow : Type 0
+GainStaysBelow =
+    (C : Config) (P Q : History) (f g M : ℕ) (of_f of_g : History → ℤ) → f ≢ g → InLimits C → IsLegal C Q
+    → IsLongest C Q f g M → IsLongest C Q g f M → IsPrefix P Q → AreSharedFrom P Q f g
+    → IsAccount M C Q f of_f → IsAccount M C Q g of_g
+    → ((of_f Q -ℤ of_f P) -ℤ (of_g Q -ℤ of_g P))
+        ≤ℤ (pos (all_and_one C M) +ℤ int_max (worst_lead M C (run_start P g f) g f) (pos (all_and_one C M)))

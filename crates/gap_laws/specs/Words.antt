@@ -10,7 +10,7 @@ use Rattle.fq_model.specs.Rules.{IsLegal}
 use Rattle.fq_model.specs.declared.event.Entry.{Entry}
 use Rattle.fq_model.specs.Charge.{is_taken_of}
 use Rattle.fq_model.specs.Gap.{is_shared, not_declared}
-use Rattle.fq_model.specs.Lead.{request_length, doubt, takes_of, head_length, lead_of_take}
+use Rattle.fq_model.specs.Lead.{request_length, doubt, most, least, takes_of, head_length, lead_of_take}
 
 -- H is a legal history of a configuration that is in its limits, and each of its requests is as declared
 pub record HasDeclaredCosts (C : Config) (H : History) : Type 0 where
@@ -80,3 +80,14 @@ pub record IsLongest (C : Config) (H : History) (f g M : ℕ) : Type 0 where
   pub heads :
       (e : Entry) (Q : History) (i : ℕ) → IsPrefix (e ∷ Q) H → is_shared Q f g ≡ true → takes_of f Q e.act ≡ Some i
       → (head_length C Q f ≤ M) × (head_length C Q g ≤ M)
+
+-- an account of what tenant t has, at the prefixes of H: no less than with nothing of what runs, no more than if each
+-- request that runs is M long. The charged service by weight is one, and so is that of finished requests alone.
+abbrev pub IsAccount : ℕ → Config → History → ℕ → (History → ℤ) → Type 0
+IsAccount M C H t account =
+    (P : History) → IsPrefix P H
+    → (least (λ r. 0) C P t ≤ℤ account P) × (account P ≤ℤ most (λ r. M) C P t)
+
+-- at all prefixes of H from P on both tenants wait
+abbrev pub AreSharedFrom : History → History → ℕ → ℕ → Type 0
+AreSharedFrom P H f g = (Q : History) → IsPrefix Q H → IsPrefix P Q → is_shared Q f g ≡ true

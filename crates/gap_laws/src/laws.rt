@@ -1,5 +1,5 @@
 //! The laws, one function a law: its contract is the law, and its body is empty.
-ghost use Rattle.gap_laws.specs.Laws.{ChargeRisesAtTakes, StartRisesAtTakes, RunStartIs, GapStaysBelow, LargestIsBounded, GapIsThere, LargestIsGreatest, BoundIsGreatest, LeadStaysBelow, WorstLeadStaysBelow, DifferenceStaysBelow, MeasuredIsBounded};
+ghost use Rattle.gap_laws.specs.Laws.{ChargeRisesAtTakes, StartRisesAtTakes, RunStartIs, GapStaysBelow, LargestIsBounded, GapIsThere, LargestIsGreatest, BoundIsGreatest, LeadStaysBelow, WorstLeadStaysBelow, DifferenceStaysBelow, MeasuredIsBounded, GainStaysBelow};
 
 /// Where every request costs what was declared, a Take adds the length of the declared cost to the virtual charge of
 /// its tenant, and nothing else changes a virtual charge: no Report and no Done.
@@ -70,4 +70,12 @@ pub fn difference_stays_below()
 /// that it tells.
 pub fn measured_is_bounded()
     ensures { MeasuredIsBounded }
+{}
+
+/// What the one gains on the other over a while in which both wait, in the manner of Golestani (1994), and by any account
+/// of what they have: charged, finished or measured otherwise, as long as what runs counts something from nothing to the
+/// greatest length. At most twice one request of the greatest length more than there are workers, unless the other had a
+/// greater lead when both began to wait.
+pub fn gain_stays_below()
+    ensures { GainStaysBelow }
 {}
