@@ -24,7 +24,7 @@ use Rattle.fq_laws.proofs.History.Requests.{use_taken}
 use Rattle.gap_laws.specs.Words.{IsPrefix, RunBegins, AreCaps, AreLows, TakesStayBelow}
 use Rattle.gap_laws.proofs.Running.{Measure, over, over_quiet, over_submit, over_taken, over_reported, over_finished}
 use Rattle.gap_laws.proofs.Runs.{BothWait, both_wait, prefix_older, run_begins}
-use Rattle.gap_laws.proofs.Starts.{start_step}
+use Rattle.gap_laws.proofs.Starts.{start_step, start_rises}
 use Rattle.gap_laws.proofs.Choices.{keys, chosen_lead}
 use Rattle.fq_laws.proofs.Keys.Choices.{KeysOf, keys_of, head_has_keys}
 use Rattle.fq_laws.proofs.Keys.Others.{start_moment}
@@ -45,7 +45,7 @@ report_most : (own : Bool) (s s2 v v2 u u2 x z cap : ℕ) → s2 + v ≡ s + v2 
 report_most true s s2 v v2 u u2 x z cap starts charges sums before after = omega (arith, starts, charges, sums, before refl, after refl)
 report_most false s s2 v v2 u u2 x z cap starts charges sums before after = omega (arith, starts, charges, sums)
 
-report_least : (own : Bool) (s s2 v v2 u u2 x z low : ℕ) → s2 + v ≡ s + v2 → v2 + cond own x 0 ≡ v + cond own z 0 → u2 + cond own (x - low) 0 ≡ u + cond own (z - low) 0 → (own ≡ true → low ≤ x) → (own ≡ true → low ≤ z) → s + u2 ≤ s2 + u
+report_least : (own : Bool) (s s2 v v2 u u2 x z low : ℕ) → s + v2 ≤ s2 + v → v2 + cond own x 0 ≡ v + cond own z 0 → u2 + cond own (x - low) 0 ≡ u + cond own (z - low) 0 → (own ≡ true → low ≤ x) → (own ≡ true → low ≤ z) → s + u2 ≤ s2 + u
 report_least true s s2 v v2 u u2 x z low starts charges sums before after = omega (arith, starts, charges, sums, before refl, after refl)
 report_least false s s2 v v2 u u2 x z low starts charges sums before after = omega (arith, starts, charges, sums)
 
@@ -53,11 +53,11 @@ done_most : (own : Bool) (s s2 v v2 u u2 x z cap : ℕ) → s2 + v ≡ s + v2 �
 done_most true s s2 v v2 u u2 x z cap starts charges sums before after = omega (arith, starts, charges, sums, before refl, after refl)
 done_most false s s2 v v2 u u2 x z cap starts charges sums before after = omega (arith, starts, charges, sums)
 
-done_least : (own : Bool) (s s2 v v2 u u2 x z low : ℕ) → s2 + v ≡ s + v2 → v2 + cond own x 0 ≡ v + cond own z 0 → u2 + cond own (x - low) 0 ≡ u → (own ≡ true → low ≤ x) → (own ≡ true → low ≤ z) → s + u2 ≤ s2 + u
+done_least : (own : Bool) (s s2 v v2 u u2 x z low : ℕ) → s + v2 ≤ s2 + v → v2 + cond own x 0 ≡ v + cond own z 0 → u2 + cond own (x - low) 0 ≡ u → (own ≡ true → low ≤ x) → (own ≡ true → low ≤ z) → s + u2 ≤ s2 + u
 done_least true s s2 v v2 u u2 x z low starts charges sums before after = omega (arith, starts, charges, sums, before refl, after refl)
 done_least false s s2 v v2 u u2 x z low starts charges sums before after = omega (arith, starts, charges, sums)
 
-take_least : (own : Bool) (s s2 v v2 u u2 z low : ℕ) → s2 + v ≡ s + v2 → v2 ≡ v + cond own z 0 → u2 ≡ u + cond own (z - low) 0 → s + u2 ≤ s2 + u
+take_least : (own : Bool) (s s2 v v2 u u2 z low : ℕ) → s + v2 ≤ s2 + v → v2 ≡ v + cond own z 0 → u2 ≡ u + cond own (z - low) 0 → s + u2 ≤ s2 + u
 take_least true s s2 v v2 u u2 z low starts charges sums = omega (arith, starts, charges, sums)
 take_least false s s2 v v2 u u2 z low starts charges sums = omega (arith, starts, charges, sums)
 
@@ -102,11 +102,15 @@ module _ (C : Config) (P : History) (who m t w q used : ℕ) (f : FitsUse P w q 
 -- ---- at one entry more
 
 -- the start of a tenant that waits goes by its virtual charge
-abbrev GoesByCharge : Config → History → History → ℕ → Type 0
+abbrev pub GoesByCharge : Config → History → History → ℕ → Type 0
 GoesByCharge C P Q t = start_now C Q t + virtual_charge C P t ≡ start_now C P t + virtual_charge C Q t
 
+-- and it never falls behind that
+abbrev pub AtLeastByCharge : Config → History → History → ℕ → Type 0
+AtLeastByCharge C P Q t = start_now C P t + virtual_charge C Q t ≤ start_now C Q t + virtual_charge C P t
+
 -- what it has at most does not rise, but where one of its requests is taken
-most_at : (C : Config) (P : History) (who m t : ℕ) (cap : ℕ → ℕ) (a : Act) → InLimits C → IsLegal C (one_more who m a P) → AreCaps C (one_more who m a P) t cap → AreCaps C P t cap → takes_of t P a ≡ None → GoesByCharge C P (one_more who m a P) t → start_now C (one_more who m a P) t + may_rise cap C (one_more who m a P) t ≤ start_now C P t + may_rise cap C P t
+pub most_at : (C : Config) (P : History) (who m t : ℕ) (cap : ℕ → ℕ) (a : Act) → InLimits C → IsLegal C (one_more who m a P) → AreCaps C (one_more who m a P) t cap → AreCaps C P t cap → takes_of t P a ≡ None → GoesByCharge C P (one_more who m a P) t → start_now C (one_more who m a P) t + may_rise cap C (one_more who m a P) t ≤ start_now C P t + may_rise cap C P t
 most_at C P who m t cap (Submit request tenant kind declared label) lim l now before none starts =
     omega (arith, starts, virtual_charge_submit C P who m t request tenant kind declared label l.0 l.3.numbered, over_submit (rising cap) C P who m t request tenant kind declared label l.0 l.3.numbered)
 most_at C P who m t cap (Take w q c) lim l now before none starts =
@@ -125,7 +129,7 @@ most_at C P who m t cap (Done w q used) lim l now before none starts =
 most_at C P who m t cap a lim l now before none starts = omega (arith, starts, virtual_charge_quiet C P who m t a refl, over_quiet (rising cap) C P who m t a refl)
 
 -- what it has at least does not fall
-least_at : (C : Config) (P : History) (who m t : ℕ) (low : ℕ → ℕ) (a : Act) → InLimits C → IsLegal C (one_more who m a P) → AreLows C (one_more who m a P) t low → AreLows C P t low → GoesByCharge C P (one_more who m a P) t → start_now C P t + may_fall low C (one_more who m a P) t ≤ start_now C (one_more who m a P) t + may_fall low C P t
+pub least_at : (C : Config) (P : History) (who m t : ℕ) (low : ℕ → ℕ) (a : Act) → InLimits C → IsLegal C (one_more who m a P) → AreLows C (one_more who m a P) t low → AreLows C P t low → AtLeastByCharge C P (one_more who m a P) t → start_now C P t + may_fall low C (one_more who m a P) t ≤ start_now C (one_more who m a P) t + may_fall low C P t
 least_at C P who m t low (Submit request tenant kind declared label) lim l now before starts =
     omega (arith, starts, virtual_charge_submit C P who m t request tenant kind declared label l.0 l.3.numbered, over_submit (falling low) C P who m t request tenant kind declared label l.0 l.3.numbered)
 least_at C P who m t low (Take w q c) lim l now before starts =
@@ -154,7 +158,7 @@ head_is C P m t k l h =
     z.is ∙ rw (now, long) refl
 
 -- the chosen tenant f, whose head is x long, is ahead of g by no more than this after the Take
-chosen_ahead : (C : Config) (P : History) (m w f g r : ℕ) (k : HeadKeys) → g ≢ f → IsLegal C P → head P g ≡ Some r → w < pool_at C P → IsChoiceAt C P m w f k → pos (start_now C P f + head_length C P f) ≤ℤ (pos (start_now C P g) +ℤ lead_of_take C P w f g)
+pub chosen_ahead : (C : Config) (P : History) (m w f g r : ℕ) (k : HeadKeys) → g ≢ f → IsLegal C P → head P g ≡ Some r → w < pool_at C P → IsChoiceAt C P m w f k → pos (start_now C P f + head_length C P f) ≤ℤ (pos (start_now C P g) +ℤ lead_of_take C P w f g)
 chosen_ahead C P m w f g r k ne l waits known choice =
     let other = head_has_keys C P m g r waits in
     let at_g : HasKeys C P m g (keys (start_now C P g) (head_length C P g) other.0.request) = subst (HasKeys C P m g) (head_is C P m g other.0 l other.1) other.1 in
@@ -251,7 +255,7 @@ step_on cap low C P who m f g a B ne h shared None none =
     let older : Premises cap low C P f g B = premises_older cap low C (record { who = who; moment = m; act = a }) P f g B h in
     inl (not_more _ _ _ _ _ _ _ _
       (most_at C P who m f cap a h.limits h.legal h.caps older.caps none (start_step C P (record { who = who; moment = m; act = a }) f w.first h.legal.0 w.first_is))
-      (least_at C P who m g low a h.limits h.legal h.lows older.lows (start_step C P (record { who = who; moment = m; act = a }) g w.second h.legal.0 w.second_is)))
+      (least_at C P who m g low a h.limits h.legal h.lows older.lows (start_rises C P (record { who = who; moment = m; act = a }) g)))
 step_on cap low C P who m f g a B ne h shared (Some i) some =
     let w : BothWait P f g = both_wait P f g shared in
     let one : Entry = record { who = who; moment = m; act = a } in

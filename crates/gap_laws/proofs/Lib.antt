@@ -10,6 +10,7 @@ pub mod WorstCase
 pub mod Undoubted
 pub mod Measured
 pub mod Service
+pub mod Takes
 pub mod Told
 pub mod Bounds
 pub mod Computed

@@ -139,3 +139,7 @@ over_finished v C P who m t w q cost l f =
     let none : running_on Q w ≡ None = rw (eq-eqb w w refl) refl in
     let after : term v C Q t w ≡ 0 = rw none refl in
     omega (arith, over_at v C P Q t w (runs_worker_known C P w q l f.runs) (λ i ne. term_same v C P Q t i (rw (ne_eqb w i (λ e. ne (sym e))) refl) (λ r is. same_done C P who m t r w q cost (apart C P w i q r l ne f.runs is))), before, after)
+
+-- as long as what a Take takes is thought to be
+pub taken_length : (C : Config) (P : History) (who m w q c t : ℕ) → IsLegal C P → FitsTake C P m w q c → request_length C (one_more who m (Take w q c) P) t q ≡ length_of c (weight_at C P t)
+taken_length C P who m w q c t l f = rw (charge_take C P who m w q c l f, taken_weight_take C P who m t w q c) refl

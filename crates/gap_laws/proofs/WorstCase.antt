@@ -33,7 +33,7 @@ use Rattle.gap_laws.specs.Words.{IsPrefix, RunBegins, AreCaps, AreLows, IsLonges
 use Rattle.gap_laws.specs.Laws.{LeadStaysBelow, WorstLeadStaysBelow, DifferenceStaysBelow}
 use Rattle.gap_laws.proofs.Declared.{legal_prefix}
 use Rattle.gap_laws.proofs.Runs.{prefix_of_prefix, run_begins}
-use Rattle.gap_laws.proofs.Running.{term, running_taken}
+use Rattle.gap_laws.proofs.Running.{term, running_taken, taken_length}
 use Rattle.gap_laws.proofs.Leads.{Premises, StaysBelow, lead_below, rising, falling, not_both, some_own, OfHead, of_head}
 
 -- ---- sums of two
@@ -81,9 +81,6 @@ doubt_at C P f g M i ne l low = go (running_on P i) refl
 -- the worker that takes a request of f has less in doubt by its length
 doubt_taken : (own mine : Bool) (x y M : ℕ) → own ≡ true → mine ≡ false → x ≤ M → cond own (M - x) 0 + cond mine (y - 0) 0 + x ≤ M
 doubt_taken own mine x y M is_own is_not low = rw (is_own, is_not) (omega (arith, low))
-
-taken_length : (C : Config) (P : History) (who m w q c t : ℕ) → IsLegal C P → FitsTake C P m w q c → request_length C (one_more who m (Take w q c) P) t q ≡ length_of c (weight_at C P t)
-taken_length C P who m w q c t l f = rw (charge_take C P who m w q c l f, taken_weight_take C P who m t w q c) refl
 
 taker_doubt : (C : Config) (P : History) (who m w q c f g M : ℕ) → f ≢ g → IsLegal C P → FitsTake C P m w q c → is_of_tenant f (request_at P q) ≡ true → length_of c (weight_at C P f) ≤ M → term (rising (longest M)) C (one_more who m (Take w q c) P) f w + term (falling nothing) C (one_more who m (Take w q c) P) g w + length_of c (weight_at C P f) ≤ M
 taker_doubt C P who m w q c f g M ne l fits own low =

@@ -1,6 +1,6 @@
 -- What bounds how far one tenant gets ahead of another: where every request costs what was declared, and where nobody
 -- knows what one costs.
-use Rattle.std.specs.Prelude.{ℕ, ◌+◌, ◌*◌, ◌≡◌, ◌≢◌, true, ◌∷◌, Some, None, ℤ, pos, ◌+ℤ◌, ◌-ℤ◌, ◌≤ℤ◌, ◌↔◌}
+use Rattle.std.specs.Prelude.{ℕ, ◌+◌, ◌*◌, ◌≡◌, ◌≢◌, true, ◌∷◌, ◌++◌, Some, None, ℤ, pos, ◌+ℤ◌, ◌-ℤ◌, ◌≤ℤ◌, ◌↔◌}
 use Rattle.std.specs.Int.{int_max}
 use Rattle.fq_model.specs.declared.config.Config.{Config}
 use Rattle.fq_model.specs.declared.event.Entry.{Entry}
@@ -12,7 +12,7 @@ use Rattle.fq_model.specs.Gap.{is_shared, start_difference, run_start, lengths_i
 use Rattle.fq_model.specs.Limits.{InLimits}
 use Rattle.fq_model.specs.Rules.{IsLegal}
 use Rattle.fq_model.specs.Lead.{lead, measured_gap}
-use Rattle.gap_laws.specs.Words.{IsPrefix, AreSharedFrom, AreCaps, AreLows, TakesStayBelow, IsLongest, IsAccount, HasDeclaredCosts, taken_length, IsSharedIn, IsFirstIn, RunBegins, IsGreatestAt, IsGreatestOver}
+use Rattle.gap_laws.specs.Words.{IsPrefix, AreSharedFrom, WaitsFrom, AreNoShorter, takes_after, AreCaps, AreLows, TakesStayBelow, IsLongest, IsAccount, HasDeclaredCosts, taken_length, IsSharedIn, IsFirstIn, RunBegins, IsGreatestAt, IsGreatestOver}
 
 -- ---- what moves a charge and a start
 
@@ -118,3 +118,11 @@ GainStaysBelow =
     → IsAccount M C Q f of_f → IsAccount M C Q g of_g
     → ((of_f Q -ℤ of_f P) -ℤ (of_g Q -ℤ of_g P))
         ≤ℤ (pos (all_and_one C M) +ℤ int_max (worst_lead M C (run_start P g f) g f) (pos (all_and_one C M)))
+
+-- while the head of g waits, from S on, f is taken no more often than its least length c goes into the lead of g at S
+-- and one request of the greatest length, and once more
+abbrev pub TakesAreFew : Type 0
+TakesAreFew =
+    (C : Config) (newer S : History) (f g r M c : ℕ) → f ≢ g → InLimits C → IsLegal C (newer ++ S)
+    → IsLongest C (newer ++ S) f g M → AreNoShorter C S (newer ++ S) f c → WaitsFrom S (newer ++ S) g r
+    → pos (takes_after f newer S * c) ≤ℤ (pos c +ℤ int_max (pos 0) (worst_lead M C S g f +ℤ pos M))

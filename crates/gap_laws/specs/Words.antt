@@ -1,11 +1,11 @@
 -- Words for the laws.
-use Rattle.std.specs.Prelude.{ℕ, ◌==◌, ◌≡◌, ◌≤◌, true, false, if◌then◌else◌, ◌∷◌, ◌++◌, drop, Option, Some, None, ℤ, pos, ◌+ℤ◌, ◌≤ℤ◌, ◌⊎◌}
+use Rattle.std.specs.Prelude.{ℕ, ◌+◌, ◌==◌, ◌≡◌, ◌≤◌, true, false, if◌then◌else◌, [], ◌∷◌, ◌++◌, drop, Option, Some, None, is_some, ℤ, pos, ◌+ℤ◌, ◌≤ℤ◌, ◌⊎◌}
 use Rattle.vt_fixed.specs.Rounding.{length_of}
 use Rattle.fq_model.specs.declared.config.Config.{Config}
 use Rattle.fq_model.specs.declared.event.Act.{Act}
 use Rattle.fq_model.specs.declared.event.Act.TheVariants.{Take}
 use Rattle.fq_model.specs.Limits.{InLimits}
-use Rattle.fq_model.specs.History.{History, Request, request_at, weight_at}
+use Rattle.fq_model.specs.History.{History, Request, request_at, is_taken, head, weight_at}
 use Rattle.fq_model.specs.Rules.{IsLegal}
 use Rattle.fq_model.specs.declared.event.Entry.{Entry}
 use Rattle.fq_model.specs.Charge.{is_taken_of}
@@ -91,3 +91,17 @@ IsAccount M C H t account =
 -- at all prefixes of H from P on both tenants wait
 abbrev pub AreSharedFrom : History → History → ℕ → ℕ → Type 0
 AreSharedFrom P H f g = (Q : History) → IsPrefix Q H → IsPrefix P Q → is_shared Q f g ≡ true
+
+-- at all prefixes of H from S on the head of tenant t is r, which so waits all the while
+abbrev pub WaitsFrom : History → History → ℕ → ℕ → Type 0
+WaitsFrom S H t r = (Q : History) → IsPrefix Q H → IsPrefix S Q → head Q t ≡ Some r
+
+-- no request of tenant t that is taken after S is shorter than c at a prefix of H
+abbrev pub AreNoShorter : Config → History → History → ℕ → ℕ → Type 0
+AreNoShorter C S H t c =
+    (Q : History) (r : ℕ) → IsPrefix Q H → is_taken_of Q t r ≡ true → is_taken S r ≡ false → c ≤ request_length C Q t r
+
+-- how many of the newer entries, which follow S, take a request of tenant t
+abbrev pub takes_after : ℕ → (newer S : History) → ℕ
+takes_after t [] S = 0
+takes_after t (e ∷ newer) S = (if is_some (takes_of t (newer ++ S) e.act) then 1 else 0) + takes_after t newer S
