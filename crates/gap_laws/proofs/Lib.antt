@@ -14,3 +14,4 @@ pub mod Takes
 pub mod Told
 pub mod Bounds
 pub mod Computed
+pub mod ComputedLeads

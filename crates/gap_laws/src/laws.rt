@@ -1,5 +1,5 @@
 //! The laws, one function a law: its contract is the law, and its body is empty.
-ghost use Rattle.gap_laws.specs.Laws.{ChargeRisesAtTakes, StartRisesAtTakes, RunStartIs, GapStaysBelow, LargestIsBounded, GapIsThere, LargestIsGreatest, BoundIsGreatest, LeadStaysBelow, WorstLeadStaysBelow, DifferenceStaysBelow, MeasuredIsBounded, GainStaysBelow};
+ghost use Rattle.gap_laws.specs.Laws.{ChargeRisesAtTakes, StartRisesAtTakes, RunStartIs, GapStaysBelow, LargestIsBounded, GapIsThere, LargestIsGreatest, BoundIsGreatest, LeadStaysBelow, WorstLeadStaysBelow, DifferenceStaysBelow, MeasuredIsBounded, GainStaysBelow, TakesAreFew};
 
 /// Where every request costs what was declared, a Take adds the length of the declared cost to the virtual charge of
 /// its tenant, and nothing else changes a virtual charge: no Report and no Done.
@@ -78,4 +78,11 @@ pub fn measured_is_bounded()
 /// greater lead when both began to wait.
 pub fn gain_stays_below()
     ensures { GainStaysBelow }
+{}
+
+/// While a head waits, another tenant whose requests have a least length is taken so often at most: as often as that
+/// length goes into the lead that the waiting tenant had, with one request of the greatest length, and once more. Both
+/// premises are needed: where requests cost nothing a tenant may be taken for ever, and a lead has no bound of its own.
+pub fn takes_are_few()
+    ensures { TakesAreFew }
 {}
