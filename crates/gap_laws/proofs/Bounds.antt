@@ -1,11 +1,11 @@
 -- The largest difference is at most the bound: it is one at a shared prefix, and the bound is above where its run
 -- begins.
-use Rattle.std.proofs.Common.{◌≡◌, ◌++◌, arith, append_assoc, ap, sym, ◌∙◌, ℤ, ◌≤ℤ◌}
+use Rattle.std.proofs.Common.{◌≡◌, arith, ℤ, ◌≤ℤ◌}
 use Rattle.std.specs.Int.{int_max}
 use Rattle.std.proofs.lemmas.Int.{ints, clamps}
 use Rattle.fq_model.specs.History.{History}
 use Rattle.fq_model.specs.Gap.{start_difference, run_start}
-use Rattle.gap_laws.specs.Words.{IsPrefix, IsSharedIn, IsFirstIn, IsGreatestAt, IsGreatestOver, RunBegins}
+use Rattle.gap_laws.specs.Words.{IsSharedIn, IsFirstIn, IsGreatestAt, IsGreatestOver, RunBegins}
 use Rattle.gap_laws.specs.Laws.{bound_length, LargestIsBounded}
 use Rattle.gap_laws.proofs.Runs.{prefix_of_prefix, run_begins}
 use Rattle.gap_laws.proofs.Gaps.{gap_below}

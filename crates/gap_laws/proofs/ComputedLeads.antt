@@ -1,12 +1,12 @@
 -- The measured gap of a short history, computed: each definition stands once more over the numbers below n.
-use Rattle.std.proofs.Common.{ℕ, ◌+◌, ◌*◌, ◌≡◌, Bool, not, ◌&&◌, if◌then◌else◌, List, refl, [], ◌∷◌, Option, None, Some, ℤ, pos}
+use Rattle.std.proofs.Common.{ℕ, ◌+◌, ◌*◌, ◌≡◌, Bool, not, ◌&&◌, if◌then◌else◌, List, refl, [], ◌∷◌, Option, ℤ, pos}
 use Rattle.std.specs.Prelude.{is_some, ◌-ℤ◌, option_map}
 use Rattle.fq_model.specs.declared.config.Config.{Config}
 use Rattle.fq_model.specs.declared.event.Act.{Act}
-use Rattle.fq_model.specs.History.{History, head}
+use Rattle.fq_model.specs.History.{History}
 use Rattle.fq_model.specs.Time.{last_moment}
 use Rattle.fq_model.specs.Charge.{greatest}
-use Rattle.fq_model.specs.Gap.{is_shared, lengths_in_bound, greatest_with, greatest_of, largest_difference, TagGap}
+use Rattle.fq_model.specs.Gap.{lengths_in_bound, greatest_with, greatest_of, largest_difference, TagGap}
 use Rattle.fq_model.specs.Lead.{may_rise, may_fall, doubt, head_length, length_of_head, takes_of, is_lead_take, longest_of, shortest_of, measured_lead, first_leads, take_lengths, take_doubts, lead_bound, measured_gap, over_running}
 use Rattle.worked_histories.proofs.Computed.Histories.{IsShort, shorter, head_within, head_is, start_within, start_is, computing}
 use Rattle.gap_laws.proofs.Computed.{is_shared_within, is_shared_is, shared_within, shared_is, computing_gap}

@@ -1,6 +1,5 @@
 -- The difference of two tenants' starts where every request costs what was declared: a lead with nothing in doubt.
 use Rattle.std.proofs.Common.{ℕ, ◌*◌, ◌≡◌, true, sym, subst, arith, inl, inr, ◌++◌, ℤ, pos, ◌≤ℤ◌}
-use Rattle.std.specs.Prelude.{◌-ℤ◌}
 use Rattle.std.specs.Int.{int_max}
 use Rattle.std.proofs.lemmas.Int.{ints, clamps}
 use Rattle.std.proofs.lemmas.Bool.{cases_eq}

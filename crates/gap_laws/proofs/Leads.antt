@@ -10,19 +10,18 @@ use Rattle.fq_model.specs.declared.event.Act.{Act}
 use Rattle.fq_model.specs.declared.event.Act.TheVariants.{Submit, Take, Report, Done}
 use Rattle.fq_model.specs.declared.event.Entry.{Entry}
 use Rattle.fq_model.specs.Limits.{InLimits}
-use Rattle.fq_model.specs.History.{History, Request, request_at, is_of_tenant, is_taken, head, weight_at, pool_at}
-use Rattle.fq_model.specs.Time.{last_moment}
+use Rattle.fq_model.specs.History.{History, Request, request_at, is_of_tenant, head, weight_at, pool_at}
 use Rattle.fq_model.specs.Charge.{charge, taken_weight, virtual_charge, is_taken_of, request_estimate}
-use Rattle.fq_model.specs.Keys.{HeadKeys, keys_at, HasKeys, IsChoiceAt, turn_at, start, stagger}
-use Rattle.fq_model.specs.Rules.{IsLegal, Fits, FitsTake, FitsUse, IsChosen}
+use Rattle.fq_model.specs.Keys.{HeadKeys, keys_at, HasKeys, IsChoiceAt, turn_at, start}
+use Rattle.fq_model.specs.Rules.{IsLegal, FitsTake, FitsUse, IsChosen}
 use Rattle.fq_model.specs.Gap.{is_shared, run_start}
-use Rattle.fq_model.specs.Lead.{request_length, may_rise, may_fall, doubt, start_now, most, least, lead, head_length, lead_of_take, takes_of}
-use Rattle.fq_laws.specs.Words.{one_more, is_quiet}
+use Rattle.fq_model.specs.Lead.{request_length, may_rise, may_fall, start_now, lead, head_length, lead_of_take, takes_of}
+use Rattle.fq_laws.specs.Words.{one_more}
 use Rattle.fq_laws.proofs.Charge.Tenants.{virtual_charge_submit, virtual_charge_taken, virtual_charge_reported, virtual_charge_finished, virtual_charge_quiet, taken_of, taken_of_report, taken_of_done}
 use Rattle.fq_laws.proofs.Charge.Requests.{charge_report, charge_done}
 use Rattle.fq_laws.proofs.History.Requests.{use_taken}
 use Rattle.gap_laws.specs.Words.{IsPrefix, RunBegins, AreCaps, AreLows, TakesStayBelow}
-use Rattle.gap_laws.proofs.Running.{Measure, over, over_quiet, over_submit, over_taken, over_reported, over_finished}
+use Rattle.gap_laws.proofs.Running.{Measure, over_quiet, over_submit, over_taken, over_reported, over_finished}
 use Rattle.gap_laws.proofs.Runs.{BothWait, both_wait, prefix_older, run_begins}
 use Rattle.gap_laws.proofs.Starts.{start_step, start_rises}
 use Rattle.gap_laws.proofs.Choices.{keys, chosen_lead}

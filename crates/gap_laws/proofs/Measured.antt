@@ -1,21 +1,21 @@
 -- The bound that is measured on a history: what each request became there is its cap and its low.
-use Rattle.std.proofs.Common.{ℕ, zero, suc, ◌+◌, ◌-◌, ◌*◌, ◌<◌, ◌≤◌, ◌≡◌, ◌≢◌, ◌∙◌, ◌&&◌, max, min, cond, Bool, true, false, not, refl, sym, ap, subst, arith, inl, inr, ◌⊎◌, List, [], ◌∷◌, ◌++◌, drop, Option, Some, None, ℤ, pos, ◌≤ℤ◌}
-use Rattle.std.specs.Prelude.{◌+ℤ◌, ◌-ℤ◌, is_some}
+use Rattle.std.proofs.Common.{ℕ, ◌+◌, ◌*◌, ◌≤◌, ◌≡◌, ◌≢◌, ◌∙◌, min, cond, Bool, true, false, refl, sym, ap, subst, arith, inl, inr, [], ◌∷◌, ◌++◌, Some, ℤ, pos, ◌≤ℤ◌}
+use Rattle.std.specs.Prelude.{◌+ℤ◌, ◌-ℤ◌}
 use Rattle.std.specs.Int.{int_max}
 use Rattle.std.proofs.lemmas.Int.{ints, clamps}
-use Rattle.std.proofs.lemmas.Bool.{cases_Bool, both_ways, cond_both, and_parts, and_from, not_from_false, false≢true}
+use Rattle.std.proofs.lemmas.Bool.{both_ways, cond_both, and_parts, and_from, not_from_false}
 use Rattle.fq_model.specs.declared.config.Config.{Config}
 use Rattle.fq_model.specs.declared.event.Act.{Act}
 use Rattle.fq_model.specs.declared.event.Entry.{Entry}
 use Rattle.fq_model.specs.Limits.{InLimits}
-use Rattle.fq_model.specs.History.{History, Request, request_at, is_of_tenant, is_taken, pool_at}
+use Rattle.fq_model.specs.History.{History, request_at, is_of_tenant, is_taken, pool_at}
 use Rattle.fq_model.specs.Charge.{is_taken_of, charged, greatest}
 use Rattle.fq_model.specs.Rules.{IsLegal}
-use Rattle.fq_model.specs.Gap.{is_shared, run_start, start_difference, lengths_in_bound, greatest_with, TagGap, largest_difference}
-use Rattle.fq_model.specs.Lead.{request_length, may_rise, may_fall, doubt, start_now, lead, head_length, lead_of_take, takes_of, is_lead_take, longest_of, shortest_of, measured_lead, first_leads, take_lengths, take_doubts, lead_bound, measured_gap}
+use Rattle.fq_model.specs.Gap.{is_shared, run_start, start_difference, lengths_in_bound, largest_difference}
+use Rattle.fq_model.specs.Lead.{request_length, may_rise, may_fall, doubt, start_now, head_length, lead_of_take, takes_of, is_lead_take, longest_of, shortest_of, measured_lead, first_leads, take_lengths, take_doubts, lead_bound, measured_gap}
 use Rattle.fq_laws.specs.Words.{Member}
 use Rattle.fq_laws.proofs.History.Requests.{taken_known, asked_stays, untaken_nil}
-use Rattle.gap_laws.specs.Words.{IsPrefix, IsSharedIn, IsFirstIn, RunBegins, IsGreatestAt, AreCaps, AreLows, TakesStayBelow}
+use Rattle.gap_laws.specs.Words.{IsSharedIn, IsFirstIn, RunBegins, IsGreatestAt, AreCaps, AreLows, TakesStayBelow}
 use Rattle.gap_laws.specs.Laws.{MeasuredIsBounded}
 use Rattle.gap_laws.proofs.Declared.{legal_prefix}
 use Rattle.gap_laws.proofs.Lengths.{greatest_covers}

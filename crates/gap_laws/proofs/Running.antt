@@ -1,5 +1,5 @@
 -- Sums over the requests of a tenant that run: at one entry more.
-use Rattle.std.proofs.Common.{ℕ, ◌+◌, ◌<◌, ◌≡◌, ◌≢◌, ◌∙◌, ◌==◌, max, cond, Bool, true, false, refl, sym, ap, subst, arith, [], ◌∷◌, Option, Some, None}
+use Rattle.std.proofs.Common.{ℕ, ◌+◌, ◌<◌, ◌≡◌, ◌≢◌, ◌∙◌, max, cond, Bool, true, false, refl, sym, ap, subst, arith, Option, Some, None}
 use Rattle.std.proofs.lemmas.Bool.{false≢true, eq-eqb, ne_eqb}
 use Rattle.vt_fixed.specs.Rounding.{length_of}
 use Rattle.fq_model.specs.declared.config.Config.{Config}

@@ -1,5 +1,5 @@
 -- What one tenant gains on another while both wait, by any account of what they have.
-use Rattle.std.proofs.Common.{ℕ, ◌+◌, ◌-◌, ◌*◌, ◌≤◌, ◌≡◌, ◌≢◌, ◌&&◌, true, refl, sym, subst, arith, [], ◌∷◌, ◌++◌, ℤ, pos, ◌≤ℤ◌}
+use Rattle.std.proofs.Common.{ℕ, ◌+◌, ◌*◌, ◌≤◌, ◌≡◌, ◌≢◌, true, refl, sym, subst, arith, [], ◌++◌, ℤ, pos, ◌≤ℤ◌}
 use Rattle.std.specs.Prelude.{◌-ℤ◌, ◌+ℤ◌, is_some}
 use Rattle.std.specs.Int.{int_max}
 use Rattle.std.proofs.lemmas.Int.{ints, clamps}
@@ -10,8 +10,8 @@ use Rattle.fq_model.specs.History.{History, head}
 use Rattle.fq_model.specs.Rules.{IsLegal}
 use Rattle.fq_model.specs.Gap.{is_shared, run_start}
 use Rattle.fq_model.specs.Lead.{may_rise, may_fall, start_now, most, least}
-use Rattle.gap_laws.specs.Words.{IsPrefix, AreSharedFrom, IsLongest, IsAccount}
-use Rattle.gap_laws.specs.Laws.{GainStaysBelow, worst_lead, all_and_one}
+use Rattle.gap_laws.specs.Words.{IsPrefix, AreSharedFrom, IsLongest}
+use Rattle.gap_laws.specs.Laws.{GainStaysBelow, worst_lead}
 use Rattle.gap_laws.proofs.Leads.{lead_on}
 use Rattle.gap_laws.proofs.WorstCase.{longest, nothing, worst, worst_premises, legal_in, caps_in, doubt_high, worst_lead_below}
 

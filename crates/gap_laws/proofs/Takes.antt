@@ -1,5 +1,5 @@
 -- How often one tenant is taken while the head of another waits, where requests have a least length.
-use Rattle.std.proofs.Common.{ℕ, zero, suc, ◌+◌, ◌-◌, ◌*◌, ◌≤◌, ◌≡◌, ◌≢◌, ◌∙◌, ◌==◌, ◌||◌, cond, Bool, true, false, not, refl, sym, ap, subst, arith, inl, inr, ◌⊎◌, [], ◌∷◌, ◌++◌, Option, Some, None, ℤ, pos, ◌≤ℤ◌}
+use Rattle.std.proofs.Common.{ℕ, ◌+◌, ◌-◌, ◌*◌, ◌≤◌, ◌≡◌, ◌≢◌, ◌∙◌, ◌==◌, cond, Bool, true, false, not, refl, sym, subst, arith, inl, inr, ◌⊎◌, [], ◌∷◌, ◌++◌, Option, Some, None, ℤ, pos, ◌≤ℤ◌}
 use Rattle.std.specs.Prelude.{◌+ℤ◌, ◌-ℤ◌, is_some}
 use Rattle.std.specs.Int.{int_max}
 use Rattle.std.proofs.lemmas.Int.{ints, clamps}
@@ -8,28 +8,27 @@ use Rattle.std.proofs.Math.Nat.{add-mul}
 use Rattle.vt_fixed.specs.Rounding.{length_of}
 use Rattle.fq_model.specs.declared.config.Config.{Config}
 use Rattle.fq_model.specs.declared.event.Act.{Act}
-use Rattle.fq_model.specs.declared.event.Act.TheVariants.{Submit, Take, Report, Done}
-use Rattle.fq_model.specs.declared.event.Entry.{Entry}
+use Rattle.fq_model.specs.declared.event.Act.TheVariants.{Take}
 use Rattle.fq_model.specs.Limits.{InLimits}
 use Rattle.fq_model.specs.History.{History, head, request_at, is_of_tenant, is_taken, is_take_of, has_act, waits_for, running_on, weight_at, pool_at}
 use Rattle.fq_model.specs.Charge.{is_taken_of, virtual_charge}
 use Rattle.fq_model.specs.Keys.{stagger}
 use Rattle.fq_model.specs.Rules.{IsLegal, FitsTake}
 use Rattle.fq_model.specs.Gap.{is_shared}
-use Rattle.fq_model.specs.Lead.{request_length, of_request, over_running, may_rise, may_fall, start_now, most, least, lead, head_length, lead_of_take, takes_of}
+use Rattle.fq_model.specs.Lead.{request_length, of_request, over_running, may_rise, may_fall, start_now, head_length, takes_of}
 use Rattle.fq_laws.specs.Words.{one_more}
 use Rattle.fq_laws.proofs.Sums.{sum_same}
 use Rattle.fq_laws.proofs.Charge.Tenants.{virtual_charge_taken, taken_of_take}
 use Rattle.fq_laws.proofs.History.Asked.{waits_untaken}
-use Rattle.fq_laws.proofs.Rules.Takes.{Heads, heads, TakesHead, take_head, take_waits}
-use Rattle.gap_laws.specs.Words.{IsPrefix, AreCaps, AreLows, IsLongest, WaitsFrom, AreNoShorter, takes_after}
+use Rattle.fq_laws.proofs.Rules.Takes.{heads, TakesHead, take_head, take_waits}
+use Rattle.gap_laws.specs.Words.{AreLows, IsLongest, WaitsFrom, AreNoShorter, takes_after}
 use Rattle.gap_laws.specs.Laws.{TakesAreFew, worst_lead}
 use Rattle.gap_laws.proofs.Choices.{stagger_at_most}
 use Rattle.gap_laws.proofs.Undoubted.{taken_stays}
 use Rattle.gap_laws.proofs.Runs.{prefix_older}
 use Rattle.gap_laws.proofs.Running.{over_taken, running_taken, taken_length}
 use Rattle.gap_laws.proofs.Starts.{start_step, start_rises}
-use Rattle.gap_laws.proofs.Leads.{AtLeastByCharge, GoesByCharge, falling, most_at, least_at, OfHead, of_head, chosen_ahead, some_own}
+use Rattle.gap_laws.proofs.Leads.{falling, most_at, least_at, OfHead, of_head, chosen_ahead}
 use Rattle.gap_laws.proofs.WorstCase.{longest, nothing, legal_in, longest_in, caps_in}
 
 -- ---- the least length of what is taken after S

@@ -1,6 +1,6 @@
 -- Where every request costs what was declared nothing is in doubt, so that the lead is the difference of the starts.
-use Rattle.std.proofs.Common.{ℕ, zero, suc, ◌+◌, ◌-◌, ◌*◌, ◌<◌, ◌≤◌, ◌≡◌, ◌≢◌, ◌==◌, ◌∙◌, cond, Bool, true, false, not, refl, sym, ap, subst, arith, inl, inr, [], ◌∷◌, ◌++◌, Option, Some, None, ℤ, pos, ◌≤ℤ◌}
-use Rattle.std.specs.Prelude.{◌+ℤ◌, ◌-ℤ◌}
+use Rattle.std.proofs.Common.{ℕ, ◌-◌, ◌*◌, ◌<◌, ◌≤◌, ◌≡◌, ◌≢◌, ◌==◌, ◌∙◌, true, false, not, refl, sym, subst, arith, inl, inr, [], ◌∷◌, ◌++◌, Option, Some, None, pos, ◌≤ℤ◌}
+use Rattle.std.specs.Prelude.{◌+ℤ◌}
 use Rattle.std.specs.Int.{int_max}
 use Rattle.std.proofs.lemmas.Int.{ints, clamps}
 use Rattle.std.proofs.lemmas.Bool.{cases_Bool, both_ways, or_right, and_parts, eqb-true}
@@ -14,8 +14,8 @@ use Rattle.fq_model.specs.History.{History, Request, request_at, is_of_tenant, i
 use Rattle.fq_model.specs.Charge.{charge, is_taken_of, taken_weight}
 use Rattle.fq_model.specs.Keys.{stagger}
 use Rattle.fq_model.specs.Rules.{IsLegal, Fits}
-use Rattle.fq_model.specs.Gap.{is_shared, run_start, start_difference, lengths_in_bound, longest_length}
-use Rattle.fq_model.specs.Lead.{request_length, of_request, over_running, may_rise, may_fall, doubt, start_now, lead, length_of_request, length_of_head, head_length, lead_of_take, takes_of}
+use Rattle.fq_model.specs.Gap.{is_shared, run_start, start_difference, lengths_in_bound}
+use Rattle.fq_model.specs.Lead.{request_length, of_request, over_running, may_rise, may_fall, doubt, lead, length_of_request, length_of_head, head_length, lead_of_take, takes_of}
 use Rattle.fq_laws.specs.Words.{one_more}
 use Rattle.fq_laws.proofs.Sums.{sum_zero}
 use Rattle.fq_laws.proofs.History.Asked.{waits_untaken}

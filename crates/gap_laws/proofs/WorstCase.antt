@@ -1,10 +1,10 @@
 -- The bound where nothing is known of what runs but that no request is longer than M.
-use Rattle.std.proofs.Common.{ℕ, zero, suc, ◌+◌, ◌-◌, ◌*◌, ◌/◌, ◌<◌, ◌≤◌, ◌≡◌, ◌≢◌, ◌==◌, ◌∙◌, cond, Bool, true, false, refl, sym, ap, subst, arith, inl, inr, ◌⊎◌, [], ◌∷◌, Option, Some, None, ℤ, pos, ◌≤ℤ◌, length}
+use Rattle.std.proofs.Common.{ℕ, zero, suc, ◌+◌, ◌-◌, ◌*◌, ◌/◌, ◌<◌, ◌≤◌, ◌≡◌, ◌≢◌, ◌∙◌, cond, Bool, true, false, refl, sym, subst, arith, inl, inr, [], ◌∷◌, Option, Some, None, ℤ, pos, ◌≤ℤ◌, length}
 use Rattle.std.specs.Prelude.{◌+ℤ◌, ◌-ℤ◌}
 use Rattle.std.specs.Int.{int_max}
 use Rattle.std.proofs.lemmas.Int.{ints, clamps}
 use Rattle.std.proofs.lemmas.Nat.{mul-le}
-use Rattle.std.proofs.lemmas.Bool.{cases_Bool, cases_eq, cases_lt, eq-eqb}
+use Rattle.std.proofs.lemmas.Bool.{cases_eq, cases_lt, eq-eqb}
 use Rattle.std.proofs.Math.Nat.{add-mul, mul_comm, div-mul-le_self}
 use Rattle.vt_fixed.specs.Rounding.{length_of, part_of}
 use Rattle.vt_fixed.proofs.Bounds.{length_covers}
@@ -12,29 +12,25 @@ use Rattle.fq_model.specs.declared.config.Config.{Config}
 use Rattle.fq_model.specs.declared.config.Policy.{Policy}
 use Rattle.fq_model.specs.declared.config.Policy.TheVariants.{Wfq, Wf2q, Msf2q, TwoDfq}
 use Rattle.fq_model.specs.declared.event.Act.{Act}
-use Rattle.fq_model.specs.declared.event.Act.TheVariants.{Submit, Take, Report, Done}
-use Rattle.fq_model.specs.declared.event.Entry.{Entry}
+use Rattle.fq_model.specs.declared.event.Act.TheVariants.{Take}
 use Rattle.fq_model.specs.Limits.{InLimits}
-use Rattle.fq_model.specs.History.{History, Request, request_at, is_of_tenant, is_taken, running_on, weight_at, pool_at}
-use Rattle.fq_model.specs.Charge.{is_taken_of, request_estimate}
+use Rattle.fq_model.specs.History.{History, request_at, is_of_tenant, running_on, weight_at, pool_at}
 use Rattle.fq_model.specs.Keys.{stagger}
 use Rattle.fq_model.specs.Rules.{IsLegal, FitsTake}
 use Rattle.fq_model.specs.Sums.{sum_below}
-use Rattle.fq_model.specs.Gap.{is_shared, run_start, start_difference}
-use Rattle.fq_model.specs.Lead.{request_length, of_request, over_running, may_rise, may_fall, doubt, start_now, lead, head_length, lead_of_take, takes_of}
+use Rattle.fq_model.specs.Gap.{run_start, start_difference}
+use Rattle.fq_model.specs.Lead.{request_length, of_request, over_running, may_rise, may_fall, doubt, start_now, head_length, lead_of_take, takes_of}
 use Rattle.fq_laws.specs.Words.{one_more}
 use Rattle.fq_laws.proofs.Charge.Tenants.{taken_of}
-use Rattle.fq_laws.proofs.Charge.Requests.{charge_take, taken_weight_take}
 use Rattle.fq_laws.proofs.Charge.Estimates.{estimate_range}
 use Rattle.fq_laws.proofs.History.Requests.{tenant_below}
 use Rattle.fq_laws.proofs.History.Weights.{weight_low, pool_high}
-use Rattle.fq_laws.proofs.History.Workers.{running_runs}
 use Rattle.gap_laws.specs.Words.{IsPrefix, RunBegins, AreCaps, AreLows, IsLongest}
 use Rattle.gap_laws.specs.Laws.{LeadStaysBelow, WorstLeadStaysBelow, DifferenceStaysBelow}
 use Rattle.gap_laws.proofs.Declared.{legal_prefix}
 use Rattle.gap_laws.proofs.Runs.{prefix_of_prefix, run_begins}
 use Rattle.gap_laws.proofs.Running.{term, running_taken, taken_length}
-use Rattle.gap_laws.proofs.Leads.{Premises, StaysBelow, lead_below, rising, falling, not_both, some_own, OfHead, of_head}
+use Rattle.gap_laws.proofs.Leads.{Premises, lead_below, rising, falling, not_both, some_own, OfHead, of_head}
 
 -- ---- sums of two
 

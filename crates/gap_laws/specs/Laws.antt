@@ -72,8 +72,8 @@ BoundIsGreatest =
 
 -- ---- where costs are not known
 
--- the lead of f over g, at a prefix P at which both wait, is at most what it was where the run of P began, or what no Take
--- of f passes, whatever caps and lows the lengths keep to
+-- the lead of f over g, at a prefix P at which both wait, is at most what it was where the run of P began, or what no
+-- Take of f passes, whatever caps and lows the lengths keep to
 abbrev pub LeadStaysBelow : Type 0
 LeadStaysBelow =
     (cap low : ℕ → ℕ) (C : Config) (H P : History) (f g : ℕ) (B : ℤ) → f ≢ g → InLimits C → IsLegal C H
@@ -109,8 +109,8 @@ MeasuredIsBounded =
     (C : Config) (H : History) (f g : ℕ) (gap : TagGap) → f ≢ g → InLimits C → IsLegal C H
     → measured_gap C H f g ≡ Some gap → gap.largest ≤ℤ gap.bound
 
--- by any account f gains on g, from P to Q and while both wait, no more than one request of the greatest length more than
--- there are workers, and once more as much, or the lead that g had where both began to wait
+-- by any account f gains on g, from P to Q and while both wait, no more than one request of the greatest length more
+-- than there are workers, and once more as much, or the lead that g had where both began to wait
 abbrev pub GainStaysBelow : Type 0
 GainStaysBelow =
     (C : Config) (P Q : History) (f g M : ℕ) (of_f of_g : History → ℤ) → f ≢ g → InLimits C → IsLegal C Q

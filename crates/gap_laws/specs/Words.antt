@@ -72,8 +72,8 @@ TakesStayBelow cap low C H f g B =
     (e : Entry) (Q : History) (i : ℕ) → IsPrefix (e ∷ Q) H → is_shared Q f g ≡ true → takes_of f Q e.act ≡ Some i
     → (lead_of_take C Q i f g +ℤ pos (doubt cap low C (e ∷ Q) f g)) ≤ℤ B
 
--- no request of f or g that is taken at a prefix of H is longer there than M, and no head of the two is, where a request
--- of f is taken while both wait
+-- no request of f or g that is taken at a prefix of H is longer there than M, and no head of the two is, where a
+-- request of f is taken while both wait
 pub record IsLongest (C : Config) (H : History) (f g M : ℕ) : Type 0 where
   pub of_f : AreCaps C H f (λ r. M)
   pub of_g : AreCaps C H g (λ r. M)

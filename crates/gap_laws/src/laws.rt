@@ -47,9 +47,10 @@ pub fn bound_is_greatest()
     ensures { BoundIsGreatest }
 {}
 
-/// Where costs are not known: while two tenants both wait, and whatever comes of the requests that run, the one is ahead
-/// of the other by no more than it was when both began to wait, or than a Take of its own leaves it. Nothing else is
-/// asked of the history than that it is legal: not which estimator, not how wrong it is, not which weights and workers.
+/// Where costs are not known: while two tenants both wait, and whatever comes of the requests that run, the one is
+/// ahead of the other by no more than it was when both began to wait, or than a Take of its own leaves it. Nothing else
+/// is asked of the history than that it is legal: not which estimator, not how wrong it is, not which weights and
+/// workers.
 pub fn lead_stays_below()
     ensures { LeadStaysBelow }
 {}
@@ -72,10 +73,10 @@ pub fn measured_is_bounded()
     ensures { MeasuredIsBounded }
 {}
 
-/// What the one gains on the other over a while in which both wait, in the manner of Golestani (1994), and by any account
-/// of what they have: charged, finished or measured otherwise, as long as what runs counts something from nothing to the
-/// greatest length. At most twice one request of the greatest length more than there are workers, unless the other had a
-/// greater lead when both began to wait.
+/// What the one gains on the other over a while in which both wait, in the manner of Golestani (1994), and by any
+/// account of what they have: charged, finished or measured otherwise, as long as what runs counts something from
+/// nothing to the greatest length. At most twice one request of the greatest length more than there are workers, unless
+/// the other had a greater lead when both began to wait.
 pub fn gain_stays_below()
     ensures { GainStaysBelow }
 {}
