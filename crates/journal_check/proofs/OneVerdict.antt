@@ -8,8 +8,8 @@ use Rattle.fq_model.specs.History.{History, history_of}
 use Rattle.fq_model.specs.Rules.{Answers, IsLegal}
 use Rattle.fq_laws.proofs.Rules.Answers.{answer_one}
 use Rattle.program_model.specs.Journal.{call_of}
-use Rattle.journal_check.specs.declared.verdict.Verdict.TheVariants.{Legal, Bad}
-use Rattle.journal_check.specs.Verdicts.{with_gained, IsFirstBad}
+use Rattle.program_model.specs.declared.verdict.Verdict.TheVariants.{Legal, Bad}
+use Rattle.program_model.specs.Verdicts.{with_gained, IsFirstBad}
 use Rattle.journal_check.specs.Laws.{OneVerdict, LegalIsLegal}
 use Rattle.journal_check.proofs.Turns.{legal_before}
 

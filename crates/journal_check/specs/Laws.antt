@@ -4,9 +4,9 @@ use Rattle.fq_model.specs.declared.config.Config.{Config}
 use Rattle.fq_model.specs.declared.event.Entry.{Entry}
 use Rattle.fq_model.specs.History.{history_of}
 use Rattle.fq_model.specs.Rules.{IsLegal}
-use Rattle.journal_check.specs.declared.verdict.Verdict.{Verdict}
-use Rattle.journal_check.specs.declared.verdict.Verdict.TheVariants.{Legal}
-use Rattle.journal_check.specs.Verdicts.{IsVerdict}
+use Rattle.program_model.specs.declared.verdict.Verdict.{Verdict}
+use Rattle.program_model.specs.declared.verdict.Verdict.TheVariants.{Legal}
+use Rattle.program_model.specs.Verdicts.{IsVerdict}
 
 -- entries have one verdict at most
 abbrev pub OneVerdict : Type 0

@@ -6,8 +6,8 @@ use Rattle.program_model.specs.Conforms.{IsLeastConforming, too_late}
 use Rattle.program_model.specs.Trace.{Trace}
 
 -- the rows at these moments, in place of their own
-abbrev pub moved : List TraceRow → List ℕ → List TraceRow
-moved rows moments = map (λ p. record p.0 { moment = p.1 }) (zip rows moments)
+abbrev pub rows_at : List TraceRow → List ℕ → List TraceRow
+rows_at rows moments = map (λ p. record p.0 { moment = p.1 }) (zip rows moments)
 
 -- these rows with one that stood before them all: it goes before the first whose moment is not below its own
 abbrev pub with_earlier_row : TraceRow → List TraceRow → List TraceRow
@@ -22,7 +22,7 @@ by_moment (row ∷ rows) = with_earlier_row row (by_moment rows)
 
 -- the trace with its rows at these moments, by moment and number; its tenants and kinds stay
 abbrev pub at_moments : Trace → List ℕ → Trace
-at_moments T moments = record T { rows = by_moment (moved T.rows moments) }
+at_moments T moments = record T { rows = by_moment (rows_at T.rows moments) }
 
 -- S is T with each row at the least moment that conforms, and none of these is too late for a trace
 pub record IsShaped (T : Trace) (rate burst : ℕ) (S : Trace) : Type 0 where

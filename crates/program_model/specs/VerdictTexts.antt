@@ -5,10 +5,10 @@ use Rattle.fq_model.specs.declared.event.Entry.{Entry}
 use Rattle.fq_model.specs.declared.event.Reply.{Reply}
 use Rattle.program_model.specs.JournalText.{entry_line}
 use Rattle.program_model.specs.Texts.{reply_line}
-use Rattle.journal_check.specs.declared.verdict.Verdict.{Verdict}
-use Rattle.journal_check.specs.declared.verdict.Verdict.TheVariants.{Legal, Bad}
-use Rattle.journal_check.specs.declared.explained.Explained.{Explained}
-use Rattle.journal_check.specs.declared.explained.ExplainRow.{ExplainRow}
+use Rattle.program_model.specs.declared.verdict.Verdict.{Verdict}
+use Rattle.program_model.specs.declared.verdict.Verdict.TheVariants.{Legal, Bad}
+use Rattle.program_model.specs.declared.explained.Explained.{Explained}
+use Rattle.program_model.specs.declared.explained.ExplainRow.{ExplainRow}
 
 -- the line of the entry that isn't legal (a verdict names one that is there)
 abbrev pub given_text : Option Entry → List ℕ
@@ -36,7 +36,7 @@ start_text names row =
     codes "tenant " ++ slice_index_or names row.tenant [] ++ codes " head " ++ decimal row.head
     ++ codes " start " ++ signed_decimal row.start
 
--- where the head finishes, from when on it is eligible, and whether it is
+-- where the head finishes, its eligible key, and whether it is eligible at the turn
 abbrev pub finish_text : ExplainRow → List ℕ
 finish_text row =
     codes " finish " ++ signed_decimal row.finish ++ codes " key " ++ signed_decimal row.key

@@ -6,8 +6,8 @@ use Rattle.fq_model.specs.declared.event.Reply.{Reply}
 use Rattle.fq_model.specs.History.{History, history_of}
 use Rattle.fq_model.specs.Rules.{IsLegal, Answers}
 use Rattle.program_model.specs.Journal.{call_of}
-use Rattle.journal_check.specs.declared.verdict.Verdict.{Verdict}
-use Rattle.journal_check.specs.declared.verdict.Verdict.TheVariants.{Legal, Bad}
+use Rattle.program_model.specs.declared.verdict.Verdict.{Verdict}
+use Rattle.program_model.specs.declared.verdict.Verdict.TheVariants.{Legal, Bad}
 
 -- the history with this entry more, or as it is
 abbrev pub with_gained : Option Entry → History → History

@@ -6,8 +6,8 @@ use Rattle.fq_model.specs.declared.event.Entry.{Entry}
 use Rattle.fq_model.specs.History.{History, history_of, is_taken}
 use Rattle.fq_model.specs.Time.{virtual_time}
 use Rattle.fq_model.specs.Keys.{HeadKeys, Turn, finish, eligible_key, IsEligible, keys_at, turn_at}
-use Rattle.journal_check.specs.declared.explained.Explained.{Explained}
-use Rattle.journal_check.specs.declared.explained.ExplainRow.{ExplainRow}
+use Rattle.program_model.specs.declared.explained.Explained.{Explained}
+use Rattle.program_model.specs.declared.explained.ExplainRow.{ExplainRow}
 
 -- what is told of the head of a tenant, which has the keys k, at a worker's turn
 pub record IsRow (at : Turn) (tenant : ℕ) (k : HeadKeys) (row : ExplainRow) : Type 0 where
@@ -38,8 +38,9 @@ AreRows at [] [] = Unit {0}
 AreRows at (head ∷ heads) (row ∷ rows) = IsRow at head.0 head.1 row × AreRows at heads rows
 AreRows at _ _ = ⊥
 
--- After these entries a worker took the request: which worker, at what moment and virtual time, and the heads that it
--- chose from, each as it stood before the Take, at the Take's moment.
+-- One of these entries, in order of time, is a Take of the request. The explanation tells its worker, its moment, and
+-- the virtual time at that moment; and of each head, as it stood after the entries before the Take, what it was
+-- compared by at that moment.
 pub record IsExplained (C : Config) (entries : List Entry) (request : ℕ) (x : Explained) : Type 0 where
   pub before : List Entry
   pub after : List Entry
