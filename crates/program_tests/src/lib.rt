@@ -19,6 +19,8 @@ mod samples;
 #[cfg(test)]
 mod served_tests;
 #[cfg(test)]
+mod shaped_tests;
+#[cfg(test)]
 mod stop_tests;
 #[cfg(test)]
 mod worked_tests;
