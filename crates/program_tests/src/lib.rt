@@ -11,6 +11,8 @@ mod device_tests;
 #[cfg(test)]
 mod io_tests;
 #[cfg(test)]
+mod judged_tests;
+#[cfg(test)]
 mod live_tests;
 #[cfg(test)]
 mod overlap_tests;
