@@ -1,5 +1,5 @@
 -- What explains a request of legal entries has one text.
-use Rattle.std.proofs.Common.{ℕ, ◌≡◌, ◌∙◌, refl, sym, ap, subst, Bool, true, false, ◌||◌, List, [], ◌∷◌, ◌++◌, Option, Some, None, inl, inr}
+use Rattle.std.proofs.Common.{ℕ, ◌≡◌, ◌∙◌, refl, sym, ap, subst, Bool, true, false, ◌||◌, List, [], ◌∷◌, ◌++◌, Option, Some, None, pos, inl, inr}
 use Rattle.std.proofs.lemmas.Bool.{false≢true, eq-eqb}
 use Rattle.fq_model.specs.declared.config.Config.{Config}
 use Rattle.fq_model.specs.declared.event.Act.TheVariants.{Take}
@@ -7,11 +7,12 @@ use Rattle.fq_model.specs.declared.event.Entry.{Entry}
 use Rattle.fq_model.specs.History.{History, history_of, is_taken, is_take_of}
 use Rattle.fq_model.specs.Keys.{HeadKeys, Turn, turn_at}
 use Rattle.fq_model.specs.Rules.{IsLegal}
+use Rattle.fq_model.specs.Time.{virtual_time}
 use Rattle.fq_laws.proofs.History.Once.{taken_new}
 use Rattle.program_model.specs.declared.explained.Explained.{Explained}
 use Rattle.program_model.specs.declared.explained.ExplainRow.{ExplainRow}
 use Rattle.program_model.specs.Explanations.{IsRow, AreRows, heads_at, IsExplained}
-use Rattle.program_model.specs.VerdictTexts.{row_line, rows_text, explanation_text}
+use Rattle.program_model.specs.VerdictTexts.{row_line, rows_text, taken_line, explanation_text}
 use Rattle.journal_check.specs.Laws.{OneExplanation}
 use Rattle.journal_check.proofs.OneVerdict.{parted, history_among, legal_among}
 
@@ -64,7 +65,8 @@ rows_same names at [] (row ∷ rows) others a b = absurd a
 rows_same names at (head ∷ heads) [] others a b = absurd a
 rows_same names at (head ∷ heads) (row ∷ rows) [] a b = absurd b
 rows_same names at (head ∷ heads) (row ∷ rows) (other ∷ others) a b =
-    rw (line_same names at head.0 head.1 row other a.0 b.0, rows_same names at heads rows others a.1 b.1) refl
+    ap (λ line. line ++ rows_text names rows) (line_same names at head.0 head.1 row other a.0 b.0)
+    ∙ ap (λ rest. row_line names other ++ rest) (rows_same names at heads rows others a.1 b.1)
 
 -- ---- explanations
 
@@ -89,7 +91,13 @@ module _ (C : Config) (entries : List Entry) (names : List (List ℕ)) (request 
       subst (λ (w : ℕ). AreRows (turn_at C (history_of b.before) y.moment w) (heads_at C (history_of b.before) y.moment) x.rows.items) worker
       (subst (λ (m : ℕ). AreRows (turn_at C (history_of b.before) m x.worker) (heads_at C (history_of b.before) m) x.rows.items) moment
       (subst (λ (l : List Entry). AreRows (turn_at C (history_of l) x.moment x.worker) (heads_at C (history_of l) x.moment) x.rows.items) before a.rows_are)) in
-      rw (a.vtime_is, b.vtime_is, before, worker, moment, rows_same names (turn_at C (history_of b.before) y.moment y.worker) (heads_at C (history_of b.before) y.moment) x.rows.items y.rows.items rows b.rows_are) refl
+      let vtime : x.vtime ≡ y.vtime =
+      a.vtime_is
+      ∙ (ap (λ (l : List Entry). pos (virtual_time C (history_of l) x.moment)) before
+      ∙ (ap (λ (m : ℕ). pos (virtual_time C (history_of b.before) m)) moment ∙ sym b.vtime_is)) in
+      let line : taken_line request x ≡ taken_line request y = rw (worker, moment, vtime) refl in
+      ap (λ l. l ++ rows_text names x.rows.items) line
+      ∙ ap (λ rest. taken_line request y ++ rest) (rows_same names (turn_at C (history_of b.before) y.moment y.worker) (heads_at C (history_of b.before) y.moment) x.rows.items y.rows.items rows b.rows_are)
 
   one_explained : (x y : Explained) (a : IsExplained C entries request x) (b : IsExplained C entries request y) → IsLegal C (history_of entries) → explanation_text names request (Some x) ≡ explanation_text names request (Some y)
   one_explained x y a b legal = elim (parted a.before b.before a.after b.after (take_in x a) (take_in y b) (sym (split_in x a) ∙ split_in y b)) [
@@ -102,9 +110,9 @@ module _ (C : Config) (entries : List Entry) (names : List (List ℕ)) (request 
   ]
     where
       act_same : take_in x a ≡ take_in y b → Take x.worker request a.estimate ≡ Take y.worker request b.estimate
-          act_same is = ap (λ (e : Entry). e.act) is
+      act_same is = ap (λ (e : Entry). e.act) is
       moment_same : take_in x a ≡ take_in y b → x.moment ≡ y.moment
-          moment_same is = ap (λ (e : Entry). e.moment) is
+      moment_same is = ap (λ (e : Entry). e.moment) is
 
   is_taken_in : (x : Explained) → IsExplained C entries request x → is_taken (history_of entries) request ≡ true
   is_taken_in x a = rw (split_in x a) (taken_among a.before a.after (take_in x a) request (takes x a))
