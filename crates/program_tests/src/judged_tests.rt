@@ -1,7 +1,7 @@
 //! Journals that `check` judges and explains.
 use crate::samples::{NEVER, TRACE, joined, sink_of, words_of};
 use crate::worked_tests::{Wanted, check, sound_sink, sound_source};
-use fq_memory::FixedClock;
+use fq_memory::{FixedClock, MemSource};
 use std::alloc::Global;
 use std::process::Abort;
 use std::sync::Wait;
@@ -133,11 +133,23 @@ fn expect_pool_is_legal<T: Abort + Wait + Threads + Sync>(rt: &T, alloc: Global)
         &clock,
     );
     assert_eq!(rt; status, 0);
-    let text = str::from_utf8(journal.bytes());
-    let Ok(text) = text else {
-        panic!(rt; "a journal is ASCII")
+    let mut written = MemSource::new(bytes_in(rt, alloc, journal.bytes()), 4096, Vec::new(alloc));
+    let mut sink = sound_sink(rt, alloc);
+    let wanted = Wanted {
+        status: 0,
+        written: "legal entries 10\n",
+        told: "",
     };
-    expect_answer(rt, alloc, &["check"], text, 0, "legal entries 10\n");
+    check(rt, alloc, &["check"], &mut written, &mut sink, wanted);
+}
+
+// A copy of these bytes.
+fn bytes_in<R: Abort>(rt: &R, alloc: Global, bytes: &[u8]) -> Vec<u8> {
+    let copy = bytes.to_vec(alloc);
+    let Ok(copy) = copy else {
+        panic!(rt; "no memory for an input")
+    };
+    copy
 }
 
 #[test]
