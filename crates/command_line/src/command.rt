@@ -1,21 +1,24 @@
 //! The commands.
-ghost use Rattle.std.specs.Prelude.{◌≡◌, IfSome, map, option_map, unwrap_or, slice_index_or};
+ghost use Rattle.std.specs.Prelude.{◌≡◌, ◌≤◌, IfSome, map, option_map, unwrap_or, slice_index_or};
 ghost use Rattle.std.specs.String.{string_bytes};
 ghost use Rattle.program_model.specs.Options.{command_of, command_by};
+ghost use Rattle.program_model.specs.CommandLimits.{IsInRange};
 ghost use Rattle.program_model.specs.Commands.{built_commands};
 ghost use Rattle.program_model.specs.ScriptCommand.{script_row};
 ghost use Rattle.program_model.specs.RunCommand.{run_row};
 ghost use Rattle.program_model.specs.LiveCommand.{live_row};
 ghost use Rattle.program_model.specs.GenCommand.{gen_row};
-ghost use Rattle.command_line.specs.Commands.{IsInRange, run_by, live_by};
+ghost use Rattle.program_model.specs.CheckCommand.{check_row};
+ghost use Rattle.program_model.specs.ShapeCommand.{shape_row};
+ghost use Rattle.command_line.specs.Commands.{run_by, live_by};
 
 use crate::options::{Value, values_in};
 use crate::table::{
-    ESTIMATORS, GEN_OPTIONS, GEN_PRINTS, HISTORY_PRINTS, POLICIES, SCRIPT_OPTIONS, SCRIPT_PRINTS,
-    TRACE_OPTIONS,
+    CHECK_OPTIONS, ESTIMATORS, GEN_OPTIONS, GEN_PRINTS, HISTORY_PRINTS, POLICIES, SCRIPT_OPTIONS,
+    SCRIPT_PRINTS, SHAPE_OPTIONS, TRACE_OPTIONS,
 };
 use fq_model::config::{Estimator, Policy};
-use program_model::command::{Command, GenPrint, HistoryPrint, ScriptPrint};
+use program_model::command::{Command, GenPrint, HistoryPrint, PlainCommand, ScriptPrint};
 use program_model::trace::RunOptions;
 
 /// The command that words ask for, without the program's name before them. None where they are no line of the table of
@@ -30,6 +33,8 @@ pub fn command(words: &[String]) -> Option<Command>
         "run" => run_command(words),
         "live" => live_command(words),
         "gen" => gen_command(words),
+        "check" => check_command(words),
+        "shape" => shape_command(words),
         _ => None,
     }
 }
@@ -41,7 +46,7 @@ fn script_command(words: &[String]) -> Option<Command>
 {
     let [print] = values_in::<1>(&SCRIPT_OPTIONS, words)?;
     let print = choice(&SCRIPT_PRINTS, print, ScriptPrint::Replies);
-    Some(Command::Script { print })
+    Some(Command::Plain(PlainCommand::Script { print }))
 }
 
 // `run`, by the words after it.
@@ -50,11 +55,15 @@ fn run_command(words: &[String]) -> Option<Command>
     ensures range { IfSome result IsInRange }
 {
     let (options, slot, print) = history_parts(words)?;
-    Some(Command::Run {
-        options,
-        slot,
-        print,
-    })
+    Some(
+        Command::Plain(
+            PlainCommand::Run {
+                options,
+                slot,
+                print,
+            },
+        ),
+    )
 }
 
 // `live`, by the words after it.
@@ -100,12 +109,53 @@ fn gen_command(words: &[String]) -> Option<Command>
     ensures range { IfSome result IsInRange }
 {
     let [seed, tenants, requests, print] = values_in::<4>(&GEN_OPTIONS, words)?;
-    Some(Command::Gen {
-        seed: seed.unwrap_or(0),
-        tenants: tenants.unwrap_or(0) as u32,
-        requests: requests.unwrap_or(0) as u32,
-        print: choice(&GEN_PRINTS, print, GenPrint::Trace),
-    })
+    Some(
+        Command::Plain(
+            PlainCommand::Gen {
+                seed: seed.unwrap_or(0),
+                tenants: tenants.unwrap_or(0) as u32,
+                requests: requests.unwrap_or(0) as u32,
+                print: choice(&GEN_PRINTS, print, GenPrint::Trace),
+            },
+        ),
+    )
+}
+
+// `check`, by the words after it.
+fn check_command(words: &[String]) -> Option<Command>
+    ensures asked { result ≡ command_by (map string_bytes words.now) check_row }
+    ensures range { IfSome result IsInRange }
+{
+    let [explain] = values_in::<1>(&CHECK_OPTIONS, words)?;
+    let explain = request_number(explain);
+    Some(Command::Plain(PlainCommand::Check { explain }))
+}
+
+// The number of a request, if one is given.
+fn request_number(value: Value) -> Option<u32>
+    requires { IfSome value (λ n. n ≤ 4294967295) }
+    ensures { result ≡ value }
+{
+    match value {
+        Some(number) => Some(number as u32),
+        None => None,
+    }
+}
+
+// `shape`, by the words after it.
+fn shape_command(words: &[String]) -> Option<Command>
+    ensures asked { result ≡ command_by (map string_bytes words.now) shape_row }
+    ensures range { IfSome result IsInRange }
+{
+    let [rate, burst] = values_in::<2>(&SHAPE_OPTIONS, words)?;
+    Some(
+        Command::Plain(
+            PlainCommand::Shape {
+                rate: rate.unwrap_or(0),
+                burst: burst.unwrap_or(0),
+            },
+        ),
+    )
 }
 
 // What a value stands for that is a place among these.

@@ -2,7 +2,10 @@
 
 use crate::options::{Absent, OptionRow, Values};
 use fq_model::config::{Estimator, Policy};
-use fq_model::limits::{GREATEST_COST, GREATEST_SLOT, MOST_ROWS, MOST_TENANTS, MOST_WORKERS};
+use fq_model::limits::{
+    GREATEST_BURST, GREATEST_COST, GREATEST_RATE, GREATEST_SLOT, MOST_ROWS, MOST_TENANTS,
+    MOST_WORKERS,
+};
 use program_model::command::{GenPrint, HistoryPrint, ScriptPrint};
 
 /// The policies, in the order of the words for them.
@@ -122,5 +125,35 @@ pub const GEN_OPTIONS: [OptionRow; 4] = [
         name: "--print",
         values: Values::Among(&["trace", "summary"]),
         absent: Absent::Default("trace"),
+    },
+];
+
+/// The option of `check`.
+pub const CHECK_OPTIONS: [OptionRow; 1] = [OptionRow {
+    name: "--explain",
+    values: Values::Within {
+        low: 0,
+        high: u32::MAX as u64,
+    },
+    absent: Absent::Nothing,
+}];
+
+/// The options of `shape`. The rate is in tokens that a tenant of weight 1 gains in 1000 microseconds, the burst in tokens.
+pub const SHAPE_OPTIONS: [OptionRow; 2] = [
+    OptionRow {
+        name: "--rate",
+        values: Values::Within {
+            low: 1,
+            high: GREATEST_RATE,
+        },
+        absent: Absent::Required,
+    },
+    OptionRow {
+        name: "--burst",
+        values: Values::Within {
+            low: 1,
+            high: GREATEST_BURST,
+        },
+        absent: Absent::Required,
     },
 ];

@@ -7,6 +7,7 @@ use Rattle.gate_rules.specs.declared.gate.Slice.{Slice}
 use Rattle.gate_rules.specs.declared.gate.Slice.TheVariants.{More, End}
 use Rattle.gate_rules.specs.declared.logged_gate.Asked.{Asked}
 
+-- the gate was asked for slice `number` of the job with this label, was handed these counters, and answered so
 abbrev pub asked_for : ℕ → ℕ → Counters → Slice → Asked
 asked_for label number last answer = record { label = label; number = number; last = last; answer = answer }
 

@@ -13,7 +13,7 @@ use Rattle.fq_model.specs.Rules.{Answers, IsLegal}
 use Rattle.fq_laws.specs.Words.{Extends}
 use Rattle.fq_laws.proofs.Rules.Answers.{answer_one, answer_extends}
 use Rattle.program_model.specs.Journal.{call_of}
-use Rattle.journal_check.specs.Verdicts.{with_gained, IsFirstBad}
+use Rattle.program_model.specs.Verdicts.{with_gained, IsFirstBad}
 use Rattle.journal_check.proofs.Fitting.{entry_answers}
 
 -- ---- what a call adds

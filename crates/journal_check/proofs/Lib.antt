@@ -4,3 +4,4 @@ pub mod Judging
 pub mod Standings
 pub mod Turns
 pub mod OneVerdict
+pub mod OneExplanation

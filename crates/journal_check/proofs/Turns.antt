@@ -19,10 +19,10 @@ use Rattle.virtual_clock.specs.Histories.{PassOn, IsTimeOf, IsPoolOf}
 use Rattle.fq_model.specs.Rules.{IsLegal}
 use Rattle.journal_check.specs.declared.explaining.TakenAt.{TakenAt}
 use Rattle.journal_check.specs.Turns.{IsTakeAt, MayTurn, IsTurn}
-use Rattle.journal_check.specs.declared.explained.Explained.{Explained}
-use Rattle.journal_check.specs.declared.explained.ExplainRow.{ExplainRow}
+use Rattle.program_model.specs.declared.explained.Explained.{Explained}
+use Rattle.program_model.specs.declared.explained.ExplainRow.{ExplainRow}
 use Rattle.journal_check.specs.declared.standing.Standing.{Standing}
-use Rattle.journal_check.specs.Explanations.{IsRow, AreRows, with_head, heads_below, heads_at, IsExplained}
+use Rattle.program_model.specs.Explanations.{IsRow, AreRows, with_head, heads_below, heads_at, IsExplained}
 use Rattle.journal_check.specs.Standing.{StandsAt}
 
 -- ---- the first entries

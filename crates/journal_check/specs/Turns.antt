@@ -7,10 +7,10 @@ use Rattle.fq_model.specs.declared.event.Entry.{Entry}
 use Rattle.fq_model.specs.History.{History, pool_at}
 use Rattle.fq_model.specs.Time.{last_moment, virtual_time}
 use Rattle.fq_model.specs.Keys.{turn_at}
-use Rattle.journal_check.specs.declared.explained.Explained.{Explained}
+use Rattle.program_model.specs.declared.explained.Explained.{Explained}
 use Rattle.journal_check.specs.declared.explaining.TakenAt.{TakenAt}
 use Rattle.journal_check.specs.declared.standing.Standing.{Standing}
-use Rattle.journal_check.specs.Explanations.{AreRows, heads_at}
+use Rattle.program_model.specs.Explanations.{AreRows, heads_at}
 use Rattle.journal_check.specs.Standing.{StandsAt}
 
 -- the entry at this place is a Take of the request, by this worker at this moment

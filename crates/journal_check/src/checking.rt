@@ -3,12 +3,12 @@ ghost use Rattle.std.specs.Prelude.{◌≡◌, ◌↔◌, [], IsTrue, Some, IfOk
 ghost use Rattle.fq_model.specs.Limits.{InLimits};
 ghost use Rattle.program_model.specs.Document.{config_of};
 ghost use Rattle.program_model.specs.Journal.{call_of};
-ghost use Rattle.journal_check.specs.Verdicts.{IsVerdict};
+ghost use Rattle.program_model.specs.Verdicts.{IsVerdict};
 
-use crate::verdict::Verdict;
 use fq_model::config::{Checked, Config, Weights};
 use fq_model::event::{Act, Call, Entry};
 use journal_text::entries::Journal;
+use program_model::verdict::Verdict;
 use sched_state::{Scheduler, answer};
 use std::alloc::{AllocError, Global};
 use tag_rules::chooser::Chooser;

@@ -6,15 +6,15 @@ ghost use Rattle.fq_model.specs.Keys.{keys_at};
 ghost use Rattle.fq_model.specs.Rules.{IsLegal};
 ghost use Rattle.fq_model.specs.Time.{last_moment};
 ghost use Rattle.program_model.specs.Document.{config_of};
-ghost use Rattle.journal_check.specs.Explanations.{IsRow, AreRows, heads_below, IsExplained, Explains};
+ghost use Rattle.program_model.specs.Explanations.{IsRow, AreRows, heads_below, IsExplained, Explains};
 ghost use Rattle.journal_check.specs.Standing.{StandsAt, StandsSome};
 ghost use Rattle.journal_check.specs.Turns.{IsTakeAt, MayTurn, AwaitsTurn, IsTurn};
 
-use crate::explained::{ExplainRow, Explained};
 use crate::standing::Standing;
 use fq_model::config::Checked;
 use fq_model::event::{Act, Entry};
 use journal_text::entries::Journal;
+use program_model::explained::{ExplainRow, Explained};
 use std::alloc::{AllocError, Global};
 use tag_rules::parts::Keys;
 use tag_rules::turn::Turn;

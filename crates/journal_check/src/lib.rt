@@ -2,11 +2,9 @@
 #![tactic(auto)]
 
 pub mod checking;
-pub mod explained;
 pub mod explaining;
 pub mod laws;
 pub mod printing;
 mod standing;
-pub mod verdict;
 
 pub use journal_text::entries::{Journal, read_journal};

@@ -1,14 +1,14 @@
 //! Verdicts and explanations as texts.
 ghost use Rattle.std.specs.Prelude.{◌≡◌, ◌<◌, ◌++◌, All, IfOk, OnOk, IfSome, length, string_bytes};
 ghost use Rattle.tenant_table.specs.Names.{names_of};
-ghost use Rattle.journal_check.specs.Texts.{given_text, wanted_text, verdict_text, eligible_word, start_text, finish_text, row_line, rows_text, taken_line, explanation_text};
+ghost use Rattle.program_model.specs.VerdictTexts.{given_text, wanted_text, verdict_text, eligible_word, start_text, finish_text, row_line, rows_text, taken_line, explanation_text};
 
 use crate::checking::entry_at;
-use crate::explained::{ExplainRow, Explained};
-use crate::verdict::Verdict;
 use fq_model::event::{Entry, Reply};
 use journal_text::printing::entry_line;
 use journal_text::replies::reply_line;
+use program_model::explained::{ExplainRow, Explained};
+use program_model::verdict::Verdict;
 use std::alloc::{AllocError, Global};
 use tenant_table::tenants::Tenants;
 

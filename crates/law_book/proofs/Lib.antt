@@ -4,3 +4,5 @@ mod Exists
 mod Entries
 mod OneAnswer
 pub mod CleanRuns
+pub mod Rows
+pub mod Checked

@@ -1,5 +1,5 @@
 -- What a command may have to say of an input: a text or a message, and the program's status with it.
-use Rattle.std.specs.Prelude.{ℕ, ◌≡◌, Bool, true, false, List, ◌++◌, codes}
+use Rattle.std.specs.Prelude.{ℕ, ◌≡◌, Bool, true, false, List, ◌++◌, Result, Ok, Err, codes}
 use Rattle.program_model.specs.FaultTexts.{placed_text}
 
 -- a text that is written, or a message that is told in its place, and the status that goes with it
@@ -20,7 +20,12 @@ message_line text = codes "twodfq: " ++ text ++ codes "\n"
 abbrev pub fault_answer : ℕ → List ℕ → Answer
 fault_answer line fault = Message 3 (message_line (placed_text line fault))
 
--- where this is so, the one answer is this; else what is answered then
+-- of what an input says what is answered to that; or, where the input has a fault, its first one, with the text for it
+abbrev pub IsReadAnswer : {A F : Type 0} → (F → List ℕ) → (A → Answer → Type 0) → Result A (ℕ × F) → Answer → Type 0
+IsReadAnswer fault_text IsOf (Ok said) answer = IsOf said answer
+IsReadAnswer fault_text IsOf (Err (line, fault)) answer = answer ≡ fault_answer line (fault_text fault)
+
+-- where the condition holds, the only answer is this one; where it doesn't, the answers are those of `Else`
 abbrev pub IsAnswerUnless : Bool → Answer → (Answer → Type 0) → Answer → Type 0
 IsAnswerUnless true so Else answer = answer ≡ so
 IsAnswerUnless false so Else answer = Else answer

@@ -18,9 +18,13 @@ policies = Wfq ∷ Wf2q ∷ Msf2q ∷ TwoDfq ∷ []
 abbrev pub estimators : List Estimator
 estimators = Declared ∷ Recent ∷ Pessimistic ∷ []
 
--- the value of option k, where the first is option 0; or 0 where it has none
+-- the value of option k, if it has one; the first is option 0
+abbrev pub given_at : List Value → ℕ → Value
+given_at values k = slice_index_or values k None
+
+-- the same, or 0 where it has none
 abbrev pub value_at : List Value → ℕ → ℕ
-value_at values k = unwrap_or (slice_index_or values k None) 0
+value_at values k = unwrap_or (given_at values k) 0
 
 -- an option whose value is one of these words, and this one where none is given
 abbrev pub listed_option : List ℕ → Words → List ℕ → OptionRow

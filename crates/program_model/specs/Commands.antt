@@ -1,40 +1,64 @@
 -- The commands that there are: one row each in this table, and what each answers to an input.
-use Rattle.std.specs.Prelude.{ℕ, Bool, List, [], ◌∷◌}
+use Rattle.std.specs.Prelude.{ℕ, Bool, true, false, List, [], ◌∷◌}
 use Rattle.program_model.specs.declared.command.Command.{Command}
-use Rattle.program_model.specs.declared.command.Command.TheVariants.{Script, Run, Live, Gen}
+use Rattle.program_model.specs.declared.command.Command.TheVariants.{Plain, Live}
+use Rattle.program_model.specs.declared.command.PlainCommand.{PlainCommand}
+use Rattle.program_model.specs.declared.command.PlainCommand.TheVariants.{Script, Run, Gen, Check, Shape}
 use Rattle.program_model.specs.Answer.{Answer}
+use Rattle.program_model.specs.CheckCommand.{check_row, IsCheckAnswer}
 use Rattle.program_model.specs.GenCommand.{gen_row, IsGenAnswer}
 use Rattle.program_model.specs.LiveCommand.{live_row, IsLiveAnswer}
 use Rattle.program_model.specs.Options.{CommandRow}
 use Rattle.program_model.specs.RunCommand.{run_row, IsRunAnswer}
 use Rattle.program_model.specs.ScriptCommand.{script_row, IsScriptAnswer}
+use Rattle.program_model.specs.ShapeCommand.{shape_row, IsShapeAnswer}
 
 -- the table by which the program's words are read
 abbrev pub built_commands : List (CommandRow Command)
-built_commands = script_row ∷ run_row ∷ live_row ∷ gen_row ∷ []
+built_commands = script_row ∷ run_row ∷ live_row ∷ gen_row ∷ check_row ∷ shape_row ∷ []
 
--- the row of a command
+-- The part of the program that serves a command.
+
+-- one that waits for nobody
+abbrev pub is_plain : Command → Bool
+is_plain (Plain command) = true
+is_plain (Live options slot print) = false
+
+-- one that waits for threads, and asks a clock
+abbrev pub is_live : Command → Bool
+is_live (Plain command) = false
+is_live (Live options slot print) = true
+
+-- The row of a command.
+
+abbrev pub plain_row_of : PlainCommand → CommandRow Command
+plain_row_of (Script print) = script_row
+plain_row_of (Run options slot print) = run_row
+plain_row_of (Gen seed tenants requests print) = gen_row
+plain_row_of (Check explain) = check_row
+plain_row_of (Shape rate burst) = shape_row
+
 abbrev pub row_of : Command → CommandRow Command
-row_of (Script print) = script_row
-row_of (Run options slot print) = run_row
+row_of (Plain command) = plain_row_of command
 row_of (Live options slot print) = live_row
-row_of (Gen seed tenants requests print) = gen_row
 
 -- the command reads an input
 abbrev pub reads_input : Command → Bool
 reads_input command = (row_of command).reads_input
 
--- it waits for threads
-abbrev pub waits : Command → Bool
-waits command = (row_of command).waits
+-- What a command answers to an input. (One that reads no input has the empty one.)
 
--- what a command answers to an input, at moments that a clock tells. (One that reads no input has the empty one, and one
--- that asks no clock makes nothing of what is told.)
+abbrev pub IsPlainAnswer : PlainCommand → List ℕ → Answer → Type 0
+IsPlainAnswer (Script print) input answer = IsScriptAnswer print input answer
+IsPlainAnswer (Run options slot print) input answer = IsRunAnswer options slot print input answer
+IsPlainAnswer (Gen seed tenants requests print) input answer = IsGenAnswer seed tenants requests print answer
+IsPlainAnswer (Check explain) input answer = IsCheckAnswer explain input answer
+IsPlainAnswer (Shape rate burst) input answer = IsShapeAnswer rate burst input answer
+
+-- the same of any command, at moments that a clock tells
 abbrev pub IsAnswer : (ℕ → Type 0) → Command → List ℕ → Answer → Type 0
-IsAnswer Told (Script print) input answer = IsScriptAnswer print input answer
-IsAnswer Told (Run options slot print) input answer = IsRunAnswer options slot print input answer
+IsAnswer Told (Plain command) input answer = IsPlainAnswer command input answer
 IsAnswer Told (Live options slot print) input answer = IsLiveAnswer Told options slot print input answer
-IsAnswer Told (Gen seed tenants requests print) input answer = IsGenAnswer seed tenants requests print answer
 
 -- what a clock tells that is not asked
 abbrev pub Untold : ℕ → Type 0

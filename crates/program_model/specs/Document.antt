@@ -1,6 +1,5 @@
 -- What scripts and journals share: a first line that names the version, a head that says what scheduler is opened, and
--- a
--- body of lines, each of which says one thing of a type A. Such a text is a document, or it has a first fault: a line,
+-- a body of lines, each of which says one thing of a type A. A text is such a document, or it has a first fault: a line,
 -- counted from 1, and what is wrong with it.
 use Rattle.std.specs.Prelude.{ℕ, ◌+◌, ◌*◌, nat_lt, not, ◌&&◌, ◌||◌, if◌then◌else◌, List, [], ◌∷◌, ◌++◌, length, Option, Some, None, Result, Ok, Err, codes, bytes_eq}
 use Rattle.std.specs.List.{list_any}

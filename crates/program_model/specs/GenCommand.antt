@@ -4,7 +4,8 @@ use Rattle.fq_model.specs.declared.config.Policy.TheVariants.{TwoDfq}
 use Rattle.fq_model.specs.declared.config.Estimator.TheVariants.{Pessimistic}
 use Rattle.fq_model.specs.declared.limits.TheConstants.{MOST_TENANTS, MOST_ROWS}
 use Rattle.program_model.specs.declared.command.Command.{Command}
-use Rattle.program_model.specs.declared.command.Command.TheVariants as commands
+use Rattle.program_model.specs.declared.command.Command.TheVariants.{Plain}
+use Rattle.program_model.specs.declared.command.PlainCommand.TheVariants as commands
 use Rattle.program_model.specs.declared.command.GenPrint.{GenPrint}
 use Rattle.program_model.specs.declared.command.GenPrint.TheVariants as gen
 use Rattle.program_model.specs.declared.command.HistoryPrint.TheVariants as history
@@ -37,8 +38,8 @@ gen_options =
 
 abbrev pub gen_of_values : List Value → Command
 gen_of_values values =
-    commands.Gen (value_at values 0) (value_at values 1) (value_at values 2)
-    (slice_index_or gen_prints (value_at values 3) gen.Trace)
+    Plain (commands.Gen (value_at values 0) (value_at values 1) (value_at values 2)
+    (slice_index_or gen_prints (value_at values 3) gen.Trace))
 
 abbrev pub gen_row : CommandRow Command
 gen_row = record {
@@ -46,7 +47,6 @@ gen_row = record {
   options = gen_options;
   means = gen_of_values;
   reads_input = false;
-  waits = false;
 }
 
 -- what a trace is run with where nothing is asked for

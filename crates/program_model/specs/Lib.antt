@@ -10,6 +10,7 @@ pub mod Courses
 pub mod Simulated
 pub mod PoolHistory
 pub mod Conforms
+pub mod Shaped
 pub mod Compare
 pub mod ReportText
 pub mod TraceGrammar
@@ -18,6 +19,9 @@ pub mod Generator
 pub mod JournalText
 pub mod Journal
 pub mod FaultTexts
+pub mod Verdicts
+pub mod Explanations
+pub mod VerdictTexts
 pub mod Options
 pub mod CommandOptions
 pub mod Answer
@@ -27,7 +31,10 @@ pub mod ScriptCommand
 pub mod RunCommand
 pub mod LiveCommand
 pub mod GenCommand
+pub mod CheckCommand
+pub mod ShapeCommand
 pub mod Commands
+pub mod CommandLimits
 pub mod Ending
 pub mod Program
 pub mod Statuses

@@ -42,9 +42,8 @@ number_at words k = or_fault (Number (k + 1)) (number_of (word words k))
 unfoldable pub ranged_at : Words → ℕ → ℕ → ℕ → Result ℕ ScriptKind
 ranged_at words k low high = number_at words k >>= in_range k low high
 
--- word k is a number of 32 bits: that of a caller, request, tenant, kind or worker, which need not be there, a weight,
--- or a
--- count
+-- word k is a number of 32 bits: that of a caller, a request, a tenant, a kind or a worker, whether there is such a one
+-- or not; a weight; or a count of workers
 unfoldable pub index_at : Words → ℕ → Result ℕ ScriptKind
 index_at words k = ranged_at words k 0 4294967295
 

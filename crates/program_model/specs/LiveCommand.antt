@@ -2,7 +2,7 @@
 use Rattle.std.specs.Prelude.{ℕ, true, List, codes}
 use Rattle.fq_model.specs.History.{History}
 use Rattle.program_model.specs.declared.command.Command.{Command}
-use Rattle.program_model.specs.declared.command.Command.TheVariants as commands
+use Rattle.program_model.specs.declared.command.Command.TheVariants.{Live}
 use Rattle.program_model.specs.declared.command.HistoryPrint.{HistoryPrint}
 use Rattle.program_model.specs.declared.trace.RunOptions.{RunOptions}
 use Rattle.program_model.specs.Answer.{Answer, IsAnswerUnless}
@@ -14,7 +14,7 @@ use Rattle.program_model.specs.Trace.{Trace}
 use Rattle.program_model.specs.TraceCommand.{trace_options, run_options_of, history_print_at, IsTraceAnswer}
 
 abbrev pub live_of_values : List Value → Command
-live_of_values values = commands.Live (run_options_of values) (value_at values 5) (history_print_at values 6)
+live_of_values values = Live (run_options_of values) (value_at values 5) (history_print_at values 6)
 
 abbrev pub live_row : CommandRow Command
 live_row = record {
@@ -22,7 +22,6 @@ live_row = record {
   options = trace_options;
   means = live_of_values;
   reads_input = true;
-  waits = true;
 }
 
 -- a history of a pool that serves the trace under these options, at moments that its clock tells
@@ -37,7 +36,7 @@ IsPoolAnswer Told options slot print T answer =
     (entries_answer (needed_pool_entries T.rows options.refresh))
     (IsHistoryAnswer (PoolMakes Told T options) print slot (pool_config T options) T.tenants T.kinds) answer
 
--- of an input that is no trace its first fault, and else that of a pool which serves the trace. (It may make several
--- histories of one trace.)
+-- what is answered of a history that a pool makes of the trace, and of an input that is none its first fault. (A trace may
+-- have several histories, so several answers.)
 abbrev pub IsLiveAnswer : (ℕ → Type 0) → RunOptions → ℕ → HistoryPrint → List ℕ → Answer → Type 0
 IsLiveAnswer Told options slot print input answer = IsTraceAnswer (IsPoolAnswer Told options slot print) input answer

@@ -28,14 +28,12 @@ pub record OptionRow : Type 0 where
 abbrev pub Value : Type 0
 Value = Option ℕ
 
--- a command: its word, its options, what it means by the values of these, in this order, and whether it reads an input and
--- waits for threads
+-- a command: its word, its options, what it means by the values of these, in this order, and whether it reads an input
 pub record CommandRow (C : Type 0) : Type 0 where
   pub word : List ℕ
   pub options : List OptionRow
   pub means : List Value → C
   pub reads_input : Bool
-  pub waits : Bool
 
 -- The options that words give.
 
@@ -52,9 +50,8 @@ is_equals b = b == 61
 abbrev pub given_by : List ℕ → Given
 given_by word = record { name = before_first is_equals word; text = after_first is_equals word }
 
--- the options of words, in order, where the words are nothing but options, `<name>=<text>` in one word or `<name>
--- <text>`
--- in two, and then perhaps one word `--`
+-- the options of words, in order, where the words are nothing but options, each in one word, `<name>=<text>`, or in two,
+-- `<name>` and `<text>`; and then perhaps one word `--`
 abbrev pub options_of : Words → Option (List Given)
 options_of [] = Some []
 options_of (word ∷ []) =

@@ -1,6 +1,6 @@
 -- What a run of the program is: what it does with its input, its output and its messages, by what it is asked and what
 -- its clock may tell.
-use Rattle.std.specs.Prelude.{ℕ, ◌+◌, ◌≤◌, ◌≡◌, Bool, true, false, not, if◌then◌else◌, List, [], length, Option, Some, None, Result, Ok, Err, ◌⊎◌}
+use Rattle.std.specs.Prelude.{ℕ, ◌+◌, ◌≤◌, ◌≡◌, Bool, true, false, if◌then◌else◌, List, [], length, Option, Some, None, Result, Ok, Err, ◌⊎◌}
 use Rattle.std.specs.String.{string_bytes}
 use Rattle.std.specs.Io.KnownBytes.{Appends}
 use Rattle.fq_io.specs.Faults.{Rose}
@@ -11,25 +11,22 @@ use Rattle.program_model.specs.declared.ending.Failure.{Failure}
 use Rattle.program_model.specs.declared.ending.Failure.TheVariants.{Words, TooLong, Reading, Writing, Stopped}
 use Rattle.program_model.specs.declared.ending.Stop.TheVariants as stops
 use Rattle.program_model.specs.Answer.{Answer, Text, Message}
-use Rattle.program_model.specs.Commands.{reads_input, waits, built_commands, IsAnswer}
+use Rattle.program_model.specs.Commands.{reads_input, built_commands, IsAnswer}
 use Rattle.program_model.specs.Ending.{status_of, failure_message}
 use Rattle.program_model.specs.Lines.{Words as Line}
 use Rattle.program_model.specs.Options.{command_of}
 
 -- What is asked.
 
--- what the words, without the program's name, ask of a part of the program that serves these commands: a command, if
--- they are a line of the table of commands for one of these
+-- what is asked of a part of the program that serves these commands: the command, if it is one of these
 abbrev pub if_served : (Command → Bool) → Option Command → Option Command
 if_served serves None = None
 if_served serves (Some command) = if serves command then Some command else None
 
+-- what the words, without the program's name, ask of it: a command, if they are a line of the table of commands for one of
+-- those that it serves
 abbrev pub asked : (Command → Bool) → Line → Option Command
 asked serves words = if_served serves (command_of built_commands words)
-
--- the commands that wait for nobody
-abbrev pub is_plain : Command → Bool
-is_plain command = not (waits command)
 
 -- all commands
 abbrev pub is_any : Command → Bool

@@ -1,7 +1,8 @@
 -- `run`: simulates a trace.
-use Rattle.std.specs.Prelude.{ℕ, true, false, List, codes}
+use Rattle.std.specs.Prelude.{ℕ, true, List, codes}
 use Rattle.program_model.specs.declared.command.Command.{Command}
-use Rattle.program_model.specs.declared.command.Command.TheVariants as commands
+use Rattle.program_model.specs.declared.command.Command.TheVariants.{Plain}
+use Rattle.program_model.specs.declared.command.PlainCommand.TheVariants as commands
 use Rattle.program_model.specs.declared.command.HistoryPrint.{HistoryPrint}
 use Rattle.program_model.specs.declared.trace.RunOptions.{RunOptions}
 use Rattle.program_model.specs.Answer.{Answer, IsAnswerUnless}
@@ -13,7 +14,7 @@ use Rattle.program_model.specs.Trace.{Trace}
 use Rattle.program_model.specs.TraceCommand.{trace_options, run_options_of, history_print_at, IsTraceAnswer}
 
 abbrev pub run_of_values : List Value → Command
-run_of_values values = commands.Run (run_options_of values) (value_at values 5) (history_print_at values 6)
+run_of_values values = Plain (commands.Run (run_options_of values) (value_at values 5) (history_print_at values 6))
 
 abbrev pub run_row : CommandRow Command
 run_row = record {
@@ -21,7 +22,6 @@ run_row = record {
   options = trace_options;
   means = run_of_values;
   reads_input = true;
-  waits = false;
 }
 
 -- what is answered of the simulated history of a trace
@@ -36,6 +36,6 @@ IsSimulationAnswer options slot print T answer =
     (entries_answer (needed_entries T.rows options.refresh))
     (IsSimulatedAnswer options slot print T) answer
 
--- of an input that is no trace its first fault, and else that of the simulation
+-- what is answered of the simulation of a trace, and of an input that is none its first fault
 abbrev pub IsRunAnswer : RunOptions → ℕ → HistoryPrint → List ℕ → Answer → Type 0
 IsRunAnswer options slot print input answer = IsTraceAnswer (IsSimulationAnswer options slot print) input answer

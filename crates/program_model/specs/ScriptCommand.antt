@@ -1,15 +1,15 @@
 -- `script`: makes the calls of a script on a scheduler that was just opened.
-use Rattle.std.specs.Prelude.{ℕ, ◌≡◌, true, false, List, [], ◌∷◌, ◌++◌, map, Result, Ok, Err, slice_index_or, codes}
+use Rattle.std.specs.Prelude.{ℕ, ◌≡◌, true, List, [], ◌∷◌, ◌++◌, map, slice_index_or, codes}
 use Rattle.fq_model.specs.declared.event.Entry.{Entry}
 use Rattle.fq_model.specs.declared.event.Reply.{Reply}
 use Rattle.fq_model.specs.History.{history_of}
 use Rattle.fq_model.specs.Outcome.{Outcome}
 use Rattle.program_model.specs.declared.command.Command.{Command}
-use Rattle.program_model.specs.declared.command.Command.TheVariants as commands
+use Rattle.program_model.specs.declared.command.Command.TheVariants.{Plain}
+use Rattle.program_model.specs.declared.command.PlainCommand.TheVariants as commands
 use Rattle.program_model.specs.declared.command.ScriptPrint.{ScriptPrint}
 use Rattle.program_model.specs.declared.command.ScriptPrint.TheVariants.{Replies, Journal, Both}
-use Rattle.program_model.specs.declared.fault.ScriptKind.{ScriptKind}
-use Rattle.program_model.specs.Answer.{Answer, Text, fault_answer}
+use Rattle.program_model.specs.Answer.{Answer, Text, IsReadAnswer}
 use Rattle.program_model.specs.CommandOptions.{value_at, listed_option}
 use Rattle.program_model.specs.Document.{config_of}
 use Rattle.program_model.specs.FaultTexts.{script_fault_text}
@@ -33,7 +33,7 @@ abbrev pub script_options : List OptionRow
 script_options = listed_option (codes "--print") (map script_print_word script_prints) (codes "replies") ∷ []
 
 abbrev pub script_of_values : List Value → Command
-script_of_values values = commands.Script (slice_index_or script_prints (value_at values 0) Replies)
+script_of_values values = Plain (commands.Script (slice_index_or script_prints (value_at values 0) Replies))
 
 abbrev pub script_row : CommandRow Command
 script_row = record {
@@ -41,7 +41,6 @@ script_row = record {
   options = script_options;
   means = script_of_values;
   reads_input = true;
-  waits = false;
 }
 
 -- what is written of the texts that there are
@@ -52,17 +51,13 @@ script_output_text Both replies journal = replies ++ journal
 
 -- The calls of the script, made in order on a scheduler that was just opened, are answered by the replies, and the
 -- scheduler's entries are then these, in order of time. The text is the replies, the journal, or both.
-pub record IsServed (print : ScriptPrint) (script : Script) (answer : Answer) : Type 0 where
+pub record AreCallsMade (print : ScriptPrint) (script : Script) (answer : Answer) : Type 0 where
   pub replies : List Reply
   pub past : List Entry
   pub outcome : Outcome (config_of script) script.body replies (history_of past)
   pub answer_is : answer ≡ Text 0 (script_output_text print (replies_text replies)
       (journal_text (config_of script) script.tenants script.kinds past))
 
--- of an input that is no script its first fault, and else what is left of the script's calls
-abbrev pub IsReadAnswer : ScriptPrint → Result Script (ℕ × ScriptKind) → Answer → Type 0
-IsReadAnswer print (Ok script) answer = IsServed print script answer
-IsReadAnswer print (Err (line, fault)) answer = answer ≡ fault_answer line (script_fault_text fault)
-
+-- what is written of the calls of a script, and of an input that is none its first fault
 abbrev pub IsScriptAnswer : ScriptPrint → List ℕ → Answer → Type 0
-IsScriptAnswer print input answer = IsReadAnswer print (script_of input) answer
+IsScriptAnswer print input answer = IsReadAnswer script_fault_text (AreCallsMade print) (script_of input) answer

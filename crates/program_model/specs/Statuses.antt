@@ -1,15 +1,17 @@
 -- What a status of the program says of what is asked and of an input whose bytes are told, and the other way round.
-use Rattle.std.specs.Prelude.{ℕ, ◌≡◌, ◌==◌, ◌↔◌, nat_lt, Bool, false, ◌||◌, if◌then◌else◌, List, [], length, Option, Some, ◌⊎◌, IsSome, IfSome, IsSomeAnd, codes}
+use Rattle.std.specs.Prelude.{ℕ, ◌≡◌, ◌==◌, ◌↔◌, nat_lt, Bool, false, ◌||◌, if◌then◌else◌, List, [], length, Option, Some, ◌⊎◌, IsSome, IfSome, IsSomeAnd}
 use Rattle.program_model.specs.declared.command.Command.{Command}
-use Rattle.program_model.specs.Answer.{Answer, Message, answer_status, message_line, IsAnswerUnless}
+use Rattle.program_model.specs.declared.ending.Failure.TheVariants.{TooLong}
+use Rattle.program_model.specs.Answer.{Answer, Message, answer_status, IsAnswerUnless}
 use Rattle.program_model.specs.Commands.{reads_input, IsAnswer}
+use Rattle.program_model.specs.Ending.{failure_message}
 use Rattle.program_model.specs.Program.{Move, Fails, greatest_input}
 
 -- what may be said of an input: that it is too long, or an answer of the command
 abbrev pub IsSaid : (ℕ → Type 0) → Command → List ℕ → Answer → Type 0
 IsSaid Told command input answer =
     IsAnswerUnless (nat_lt greatest_input (length input))
-    (Message 3 (message_line (codes "input longer than 67108864 bytes")))
+    (Message 3 (failure_message TooLong))
     (IsAnswer Told command input) answer
 
 -- something of this status may be said of it
@@ -50,10 +52,11 @@ Must So ask bytes = IsSomeAnd ask (λ command. IsSomeAnd (input_of command bytes
 abbrev pub is_failure : ℕ → Bool
 is_failure status = status == 2 || (status == 4 || (status == 5 || status == 6))
 
--- what a status says of what is asked, and of an input that is known: 2 comes exactly where nothing is asked, 4 only
--- where reading failed, 5 only where writing failed, and any other but 6 only where something of this status may be said
--- of the input. And where something is asked, nothing fails, and whatever is said of the input has one status, this
--- comes, or 6 where memory ran out; for a message writing may fail.
+-- What a status says of what is asked, and of an input that is known. 2 comes exactly where nothing is asked, 4 only
+-- where reading failed, and 5 only where writing failed; any other status but 6 is one that may be said of the input.
+-- The other way round: where a command is asked, reading did not fail, and all that may be said of the input has one
+-- status, then this status comes, or 6 where memory ran out, provided that writing did not fail either; and it comes
+-- even where writing failed, if what may be said is a message, since then nothing is to be written.
 pub record StatusMeans (Told : ℕ → Type 0) (ask : Option Command) (source sink : Move) (status : ℕ) : Type 0 where
   pub line : (status ≡ 2) ↔ ¬ IsSome ask
   pub reading : status ≡ 4 → Fails source

@@ -1,12 +1,12 @@
--- Commands that read a trace and make a history of it: their options, and what they answer of the trace.
-use Rattle.std.specs.Prelude.{ℕ, ◌≡◌, List, [], ◌∷◌, map, Result, Ok, Err, slice_index_or, codes}
+-- Commands that read a trace: what is answered to an input by what is answered to the trace that it spells; and the
+-- options of those that make a history of it.
+use Rattle.std.specs.Prelude.{ℕ, List, [], ◌∷◌, map, slice_index_or, codes}
 use Rattle.fq_model.specs.declared.config.Policy.TheVariants.{TwoDfq}
 use Rattle.fq_model.specs.declared.config.Estimator.TheVariants.{Pessimistic}
 use Rattle.program_model.specs.declared.command.HistoryPrint.{HistoryPrint}
 use Rattle.program_model.specs.declared.command.HistoryPrint.TheVariants.{Journal, Report, Both, Summary}
-use Rattle.program_model.specs.declared.fault.TraceKind.{TraceKind}
 use Rattle.program_model.specs.declared.trace.RunOptions.{RunOptions}
-use Rattle.program_model.specs.Answer.{Answer, fault_answer}
+use Rattle.program_model.specs.Answer.{Answer, IsReadAnswer}
 use Rattle.program_model.specs.CommandOptions.{value_at, listed_option, policies, estimators, workers_option, policy_option, estimate_option, initial_option, refresh_option, slot_option}
 use Rattle.program_model.specs.FaultTexts.{trace_fault_text}
 use Rattle.program_model.specs.Options.{OptionRow, Value}
@@ -45,10 +45,6 @@ run_options_of values = record {
 abbrev pub history_print_at : List Value → ℕ → HistoryPrint
 history_print_at values k = slice_index_or history_prints (value_at values k) Both
 
--- of an input that is no trace its first fault, and else what is answered of the trace
-abbrev pub IsReadAnswer : (Trace → Answer → Type 0) → Result Trace (ℕ × TraceKind) → Answer → Type 0
-IsReadAnswer OfTrace (Ok trace) answer = OfTrace trace answer
-IsReadAnswer OfTrace (Err (line, fault)) answer = answer ≡ fault_answer line (trace_fault_text fault)
-
+-- of a trace what is answered to it, and of an input that is none its first fault
 abbrev pub IsTraceAnswer : (Trace → Answer → Type 0) → List ℕ → Answer → Type 0
-IsTraceAnswer OfTrace input answer = IsReadAnswer OfTrace (trace_of input) answer
+IsTraceAnswer OfTrace input answer = IsReadAnswer trace_fault_text OfTrace (trace_of input) answer

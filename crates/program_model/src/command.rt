@@ -1,4 +1,4 @@
-//! The commands of the program.
+//! The commands of the program, in groups by the part of it that serves them.
 
 use crate::trace::RunOptions;
 
@@ -35,9 +35,9 @@ pub enum GenPrint {
     Summary,
 }
 
-/// What a command line asks for. A slot is in microseconds, and 0 stands for the automatic slot.
+/// What is asked for that waits for nobody. A slot is in microseconds, and 0 stands for the automatic slot.
 #[derive(Clone, Copy, PartialEq, Eq)]
-pub enum Command {
+pub enum PlainCommand {
     /// Makes the calls of a script.
     Script {
         print: ScriptPrint,
@@ -48,17 +48,36 @@ pub enum Command {
         slot: u64,
         print: HistoryPrint,
     },
-    /// Serves a trace by a pool of threads.
-    Live {
-        options: RunOptions,
-        slot: u64,
-        print: HistoryPrint,
-    },
     /// Generates a trace.
     Gen {
         seed: u64,
         tenants: u32,
         requests: u32,
         print: GenPrint,
+    },
+    /// Judges a journal, and explains why a worker took a request, if one is asked about.
+    Check {
+        explain: Option<u32>,
+    },
+    /// Delays the requests of a trace as a bucket of tokens for each tenant would.
+    Shape {
+        /// How many tokens a tenant of weight 1 gains in 1000 microseconds: 1 to 1,000,000.
+        rate: u64,
+        /// How many tokens a bucket holds: 1 to 1,000,000,000.
+        burst: u64,
+    },
+}
+
+/// What a command line asks for, by the part of the program that serves it. A slot is in microseconds, and 0 stands for
+/// the automatic slot.
+#[derive(Clone, Copy, PartialEq, Eq)]
+pub enum Command {
+    /// What waits for nobody.
+    Plain(PlainCommand),
+    /// Serves a trace by a pool of threads.
+    Live {
+        options: RunOptions,
+        slot: u64,
+        print: HistoryPrint,
     },
 }

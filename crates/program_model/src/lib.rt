@@ -4,7 +4,9 @@
 pub mod command;
 pub mod compare;
 pub mod ending;
+pub mod explained;
 pub mod fault;
 pub mod numbers;
 pub mod trace;
+pub mod verdict;
 pub mod version;

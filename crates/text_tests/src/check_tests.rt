@@ -4,10 +4,10 @@ use eligible_index::index::IndexChooser;
 use journal_check::checking::check;
 use journal_check::explaining::explain;
 use journal_check::printing::{explanation_text, verdict_text};
-use journal_check::verdict::Verdict;
 use journal_check::{Journal, read_journal};
 use journal_text::fault::ScriptFault;
 use program_model::fault::ScriptKind;
+use program_model::verdict::Verdict;
 use std::alloc::Global;
 use std::process::Abort;
 

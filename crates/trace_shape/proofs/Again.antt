@@ -9,7 +9,7 @@ use Rattle.std.proofs.lemmas.Option.{slice_get-get_or, slice_get-map, slice_get_
 use Rattle.program_model.specs.declared.trace.TraceRow.{TraceRow}
 use Rattle.program_model.specs.Conforms.{gain, Conforms, IsLeastConforming}
 use Rattle.program_model.specs.Trace.{Trace}
-use Rattle.trace_shape.specs.Shaped.{moved, by_moment, at_moments}
+use Rattle.program_model.specs.Shaped.{rows_at, by_moment, at_moments}
 use Rattle.trace_shape.proofs.Order.{moment_of, comes_at, Rises, rises_cons, by_moment_rises, by_moment_keeps, same_rows}
 use Rattle.trace_shape.proofs.Windows.{no_row, with_rows, Affords, nothing_affords, tail_same, tail_other, cons_same, cons_other, head_late, head_enough, opens, closes, none_conform}
 
@@ -23,7 +23,7 @@ moments_of rows = map moment_of rows
 
 -- the rows of tenant t at these moments
 abbrev pub own : ℕ → List TraceRow → List ℕ → List TraceRow
-own t rows moments = filter (is_of t) (moved rows moments)
+own t rows moments = filter (is_of t) (rows_at rows moments)
 
 -- ---- the rows of one tenant by themselves
 
@@ -39,12 +39,12 @@ affords_own g t before level a [] moments one_each h = nothing_affords g t befor
 affords_own g t before level a (row ∷ rows) [] one_each h = absurd (omega (arith, one_each))
 affords_own g t before level a (row ∷ rows) (m ∷ moments) one_each h = elim (cases_eq row.tenant t) [
   | inl same ↦
-      subst (λ xs. Affords g t before level a xs (moments_of xs)) (sym (own_here t (record row { moment = m }) (moved rows moments) same))
+      subst (λ xs. Affords g t before level a xs (moments_of xs)) (sym (own_here t (record row { moment = m }) (rows_at rows moments) same))
       (cons_same g t before level a (record row { moment = m }) (own t rows moments) m (moments_of (own t rows moments)) same
       (head_late g t before level a row rows m moments same h) (head_enough g t before level a row rows m moments same h)
       (affords_own g t (before + 1000 * row.declared) level a rows moments (omega (arith, one_each)) (tail_same g t before level a row rows m moments same h)))
   | inr other ↦
-      subst (λ xs. Affords g t before level a xs (moments_of xs)) (sym (own_there t (record row { moment = m }) (moved rows moments) other))
+      subst (λ xs. Affords g t before level a xs (moments_of xs)) (sym (own_there t (record row { moment = m }) (rows_at rows moments) other))
       (affords_own g t before level a rows moments (omega (arith, one_each)) (tail_other g t before level a row rows m moments other h))
 ]
 
@@ -55,7 +55,7 @@ own_conform T rate burst t (row ∷ rows) (m ∷ moments) h =
     let first = opens T rate burst row rows m moments h in
     elim (cases_eq row.tenant t) [
       | inl same ↦
-          subst (λ xs. Conforms (with_rows T xs) rate burst (moments_of xs)) (sym (own_here t (record row { moment = m }) (moved rows moments) same))
+          subst (λ xs. Conforms (with_rows T xs) rate burst (moments_of xs)) (sym (own_here t (record row { moment = m }) (rows_at rows moments) same))
           (closes T rate burst (record row { moment = m }) (own t rows moments) m (moments_of (own t rows moments)) (record {
             not_early = omega arith;
             fits = first.fits;
@@ -64,7 +64,7 @@ own_conform T rate burst t (row ∷ rows) (m ∷ moments) h =
             rest = own_conform T rate burst t rows moments first.rest;
           }))
       | inr other ↦
-          subst (λ xs. Conforms (with_rows T xs) rate burst (moments_of xs)) (sym (own_there t (record row { moment = m }) (moved rows moments) other))
+          subst (λ xs. Conforms (with_rows T xs) rate burst (moments_of xs)) (sym (own_there t (record row { moment = m }) (rows_at rows moments) other))
           (own_conform T rate burst t rows moments first.rest)
     ]
 
@@ -136,13 +136,13 @@ own_in_order t rows rise = same_rows (filter (is_of t) (by_moment rows)) (filter
     (λ n. filter_twice (comes_at n) (is_of t) (by_moment rows) ∙ ap (filter (is_of t)) (by_moment_keeps n rows) ∙ filter_twice (is_of t) (comes_at n) rows)
 
 -- the moments of what was shaped conform
-pub shaped_conform : (T : Trace) (rate burst : ℕ) (moments : List ℕ) → Conforms T rate burst moments → Conforms (at_moments T moments) rate burst (moments_of (by_moment (moved T.rows moments)))
-shaped_conform T rate burst moments h = all_conform T rate burst (by_moment (moved T.rows moments)) (λ t.
+pub shaped_conform : (T : Trace) (rate burst : ℕ) (moments : List ℕ) → Conforms T rate burst moments → Conforms (at_moments T moments) rate burst (moments_of (by_moment (rows_at T.rows moments)))
+shaped_conform T rate burst moments h = all_conform T rate burst (by_moment (rows_at T.rows moments)) (λ t.
     let alone = own_conform T rate burst t T.rows moments h in
-    subst (λ xs. Conforms (with_rows T xs) rate burst (moments_of xs)) (sym (own_in_order t (moved T.rows moments) (own_rise T rate burst t (own t T.rows moments) (all_own t (moved T.rows moments)) alone))) alone)
+    subst (λ xs. Conforms (with_rows T xs) rate burst (moments_of xs)) (sym (own_in_order t (rows_at T.rows moments) (own_rise T rate burst t (own t T.rows moments) (all_own t (rows_at T.rows moments)) alone))) alone)
 
 -- rows at their own moments are as they were
-pub moved_to_own : (rows : List TraceRow) → moved rows (moments_of rows) ≡ rows
+pub moved_to_own : (rows : List TraceRow) → rows_at rows (moments_of rows) ≡ rows
 moved_to_own [] = refl
 moved_to_own (row ∷ rows) = ap (λ xs. row ∷ xs) (moved_to_own rows)
 

@@ -9,7 +9,7 @@ use Rattle.program_model.specs.declared.trace.TraceRow.{TraceRow}
 use Rattle.program_model.specs.Conforms.{too_late}
 use Rattle.program_model.specs.Trace.{Trace}
 use Rattle.program_model.specs.TraceText.{IsLawfulRow, IsLawfulTrace}
-use Rattle.trace_shape.specs.Shaped.{moved, with_earlier_row, by_moment, at_moments}
+use Rattle.program_model.specs.Shaped.{rows_at, with_earlier_row, by_moment, at_moments}
 use Rattle.trace_shape.proofs.Order.{moment_of, Rises, all_by_moment, by_moment_rises}
 use Rattle.trace_shape.proofs.Runs.{IsInTime, all_in_time}
 use Rattle.trace_shape.proofs.Sizes.{none_passes}
@@ -19,13 +19,13 @@ pub each_in_time : (moments : List ℕ) → too_late moments ≡ None → All Is
 each_in_time moments none k d l = ltb-false _ _ (none_passes (nat_lt GREATEST_TRACE_MOMENT) moments k d none l)
 
 -- what holds of a row once it comes at a moment in time holds of all moved rows
-all_moved : (P Q : TraceRow → Type 0) → ((row : TraceRow) (m : ℕ) → P row → IsInTime m → Q (record row { moment = m })) → (rows : List TraceRow) (moments : List ℕ) → All P rows → All IsInTime moments → All Q (moved rows moments)
+all_moved : (P Q : TraceRow → Type 0) → ((row : TraceRow) (m : ℕ) → P row → IsInTime m → Q (record row { moment = m })) → (rows : List TraceRow) (moments : List ℕ) → All P rows → All IsInTime moments → All Q (rows_at rows moments)
 all_moved P Q move [] moments all early = All-nil Q
 all_moved P Q move (row ∷ rows) [] all early = All-nil Q
-all_moved P Q move (row ∷ rows) (m ∷ moments) all early = All-cons Q (record row { moment = m }) (moved rows moments)
+all_moved P Q move (row ∷ rows) (m ∷ moments) all early = All-cons Q (record row { moment = m }) (rows_at rows moments)
     (move row m (All-head P row rows all) (All-head IsInTime m moments early)) (all_moved P Q move rows moments (All-tail P row rows all) (All-tail IsInTime m moments early))
 
-pub length_moved : (rows : List TraceRow) (moments : List ℕ) → length moments ≡ length rows → length (moved rows moments) ≡ length rows
+pub length_moved : (rows : List TraceRow) (moments : List ℕ) → length moments ≡ length rows → length (rows_at rows moments) ≡ length rows
 length_moved [] moments same = refl
 length_moved (row ∷ rows) [] same = absurd (omega (arith, same))
 length_moved (row ∷ rows) (m ∷ moments) same = ap suc (length_moved rows moments (omega (arith, same)))
@@ -56,18 +56,18 @@ lawful_at T moments lawful one_each in_time = record {
   pairs = lawful.pairs;
   weighed = lawful.weighed;
   weights = lawful.weights;
-  few = omega (arith, length_by_moment (moved T.rows moments), length_moved T.rows moments one_each, lawful.few);
-  rows = all_by_moment (IsLawfulRow (length T.tenants) (length T.kinds)) (moved T.rows moments)
+  few = omega (arith, length_by_moment (rows_at T.rows moments), length_moved T.rows moments one_each, lawful.few);
+  rows = all_by_moment (IsLawfulRow (length T.tenants) (length T.kinds)) (rows_at T.rows moments)
       (all_moved (IsLawfulRow (length T.tenants) (length T.kinds)) (IsLawfulRow (length T.tenants) (length T.kinds)) (λ row m is early. record { moment = early; submitter = is.submitter; tenant = is.tenant; kind = is.kind; declared = is.declared; cost = is.cost })
       T.rows moments lawful.rows (each_in_time moments in_time));
-  in_order = moments_rise (by_moment (moved T.rows moments)) (by_moment_rises (moved T.rows moments));
+  in_order = moments_rise (by_moment (rows_at T.rows moments)) (by_moment_rises (rows_at T.rows moments));
 }
 
 -- rows at moments in time come in time
-pub own_in_time : (rows : List TraceRow) (moments : List ℕ) → too_late moments ≡ None → too_late (map moment_of (by_moment (moved rows moments))) ≡ None
+pub own_in_time : (rows : List TraceRow) (moments : List ℕ) → too_late moments ≡ None → too_late (map moment_of (by_moment (rows_at rows moments))) ≡ None
 own_in_time rows moments in_time =
     let early = all_moved (λ row. Unit {0}) (λ (row : TraceRow). IsInTime row.moment) (λ row m all late. late) rows moments (λ k d l. tt) (each_in_time moments in_time) in
-    let sorted = all_by_moment (λ (row : TraceRow). IsInTime row.moment) (moved rows moments) early in
-    all_in_time (map moment_of (by_moment (moved rows moments))) (λ k d l.
-    let within : k < length (by_moment (moved rows moments)) = omega (arith, l, length-map (by_moment (moved rows moments)) moment_of) in
-    rw (get_or-map moment_of (by_moment (moved rows moments)) k no_row d within) (sorted k no_row within))
+    let sorted = all_by_moment (λ (row : TraceRow). IsInTime row.moment) (rows_at rows moments) early in
+    all_in_time (map moment_of (by_moment (rows_at rows moments))) (λ k d l.
+    let within : k < length (by_moment (rows_at rows moments)) = omega (arith, l, length-map (by_moment (rows_at rows moments)) moment_of) in
+    rw (get_or-map moment_of (by_moment (rows_at rows moments)) k no_row d within) (sorted k no_row within))

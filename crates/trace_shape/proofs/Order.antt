@@ -10,7 +10,7 @@ use Rattle.program_model.specs.declared.trace.TraceRow.{TraceRow}
 use Rattle.program_model.specs.Trace.{Trace}
 use Rattle.tenant_table.specs.Names.{names_of, weights_of}
 use Rattle.trace_reader.specs.Reading.{trace_in}
-use Rattle.trace_shape.specs.Shaped.{moved, with_earlier_row, by_moment, at_moments}
+use Rattle.program_model.specs.Shaped.{rows_at, with_earlier_row, by_moment, at_moments}
 use Rattle.trace_shape.proofs.Windows.{no_row}
 
 -- when a row comes, and whether it comes at this moment
@@ -153,7 +153,7 @@ sorted_rows rows sorted rise stable = same_rows sorted (by_moment rows) rise (by
 
 -- the trace of these parts
 pub trace_of_parts : (T : Trace) (moments : List ℕ) (tenants : List (List ℕ × ℕ)) (kinds : List (List ℕ)) (rows : List TraceRow) → names_of tenants ≡ T.tenants → weights_of tenants ≡ T.weights → kinds ≡ T.kinds
-    → rows ≡ by_moment (moved T.rows moments) → trace_in tenants kinds rows ≡ at_moments T moments
+    → rows ≡ by_moment (rows_at T.rows moments) → trace_in tenants kinds rows ≡ at_moments T moments
 trace_of_parts T moments tenants kinds rows names weights kinds_are rows_are =
     ap₂ (λ (a : List (List ℕ)) (b : List ℕ). let t : Trace = record { tenants = a; weights = b; kinds = kinds; rows = rows } in t) names weights
     ∙ ap₂ (λ (a : List (List ℕ)) (b : List TraceRow). let t : Trace = record { tenants = T.tenants; weights = T.weights; kinds = a; rows = b } in t) kinds_are rows_are

@@ -19,10 +19,10 @@ use Rattle.trace_shape.specs.Buckets.{full, taken, IsBucket}
 use Rattle.trace_shape.specs.Reasons.{IsFirstLate}
 use Rattle.trace_shape.proofs.Sizes.{none_passes, none_found, none_too_big}
 use Rattle.trace_shape.proofs.Windows.{no_row, Comes, Affords}
-use Rattle.trace_shape.proofs.Waiting.{bucket_of, taken_by, moments_from, IsServed, conform, none_earlier, full_affords}
+use Rattle.trace_shape.proofs.Waiting.{bucket_of, taken_by, moments_from, IsAffordable, conform, none_earlier, full_affords}
 
 -- ---- which rows are served
-pub all_served : (T : Trace) (rate burst : ℕ) → IsLawfulTrace T → 1 ≤ rate → too_big T burst ≡ None → All (IsServed T rate burst (length T.tenants)) T.rows
+pub all_served : (T : Trace) (rate burst : ℕ) → IsLawfulTrace T → 1 ≤ rate → too_big T burst ≡ None → All (IsAffordable T rate burst (length T.tenants)) T.rows
 all_served T rate burst lawful some small k d l =
     let row = get_or T.rows k d in
     let tenant : row.tenant < length T.tenants = (lawful.rows k d l).tenant in
@@ -33,9 +33,9 @@ all_served T rate burst lawful some small k d l =
       fits = ltb-false burst row.declared (none_passes (λ (r : TraceRow). nat_lt burst r.declared) T.rows k d small l);
     }
 
-pub row_served : (T : Trace) (rate burst : ℕ) (rows : List TraceRow) (r : ℕ) → IsLawfulTrace T → 1 ≤ rate → too_big T burst ≡ None → rows ≡ T.rows → r < length rows → IsServed T rate burst (length T.tenants) (get_or rows r no_row)
+pub row_served : (T : Trace) (rate burst : ℕ) (rows : List TraceRow) (r : ℕ) → IsLawfulTrace T → 1 ≤ rate → too_big T burst ≡ None → rows ≡ T.rows → r < length rows → IsAffordable T rate burst (length T.tenants) (get_or rows r no_row)
 row_served T rate burst rows r lawful some small rows_are l =
-    subst (λ xs. IsServed T rate burst (length T.tenants) (get_or xs r no_row)) (sym rows_are) (all_served T rate burst lawful some small r no_row (omega (arith, l, ap length rows_are)))
+    subst (λ xs. IsAffordable T rate burst (length T.tenants) (get_or xs r no_row)) (sym rows_are) (all_served T rate burst lawful some small r no_row (omega (arith, l, ap length rows_are)))
 
 -- buckets that are all full
 abbrev pub full_buckets : Trace → ℕ → List Bucket
@@ -45,7 +45,7 @@ full_buckets T burst = replicate (length T.tenants) (full (1000 * burst))
 abbrev pub told_moments : Trace → ℕ → ℕ → List ℕ
 told_moments T rate burst = moments_from T rate burst (full_buckets T burst) T.rows
 
-all_afford : (T : Trace) (rate burst : ℕ) (others : List ℕ) → All (IsServed T rate burst (length T.tenants)) T.rows → ((t : ℕ) → Affords (gain T rate t) t 0 (1000 * burst) 0 T.rows others)
+all_afford : (T : Trace) (rate burst : ℕ) (others : List ℕ) → All (IsAffordable T rate burst (length T.tenants)) T.rows → ((t : ℕ) → Affords (gain T rate t) t 0 (1000 * burst) 0 T.rows others)
     → (t : ℕ) → Affords (gain T rate t) t 0 (bucket_of (full_buckets T burst) t).level (bucket_of (full_buckets T burst) t).moment T.rows others
 all_afford T rate burst others served afford t = elim (cases_lt t (length T.tenants)) [
   | inl there ↦ subst (λ (b : Bucket). Affords (gain T rate t) t 0 b.level b.moment T.rows others) (sym (get_or-replicate (length T.tenants) t (full (1000 * burst)) _ there)) (afford t)
@@ -58,9 +58,9 @@ all_afford T rate burst others served afford t = elim (cases_lt t (length T.tena
         let here : get_or T.rows k no_row ≡ c.row = get_or_from_slice_get T.rows k c.row no_row c.row_at in
         omega (arith, past, (served k no_row within).tenant, ap (λ (r : TraceRow). r.tenant) here, c.tenant)
 
-pub told_are_least : (T : Trace) (rate burst : ℕ) → All (IsServed T rate burst (length T.tenants)) T.rows → IsLeastConforming T rate burst (told_moments T rate burst)
+pub told_are_least : (T : Trace) (rate burst : ℕ) → All (IsAffordable T rate burst (length T.tenants)) T.rows → IsLeastConforming T rate burst (told_moments T rate burst)
 told_are_least T rate burst served =
-    let as_many : All (IsServed T rate burst (length (full_buckets T burst))) T.rows = subst (λ n. All (IsServed T rate burst n) T.rows) (sym (length-replicate (length T.tenants) (full (1000 * burst)))) served in
+    let as_many : All (IsAffordable T rate burst (length (full_buckets T burst))) T.rows = subst (λ n. All (IsAffordable T rate burst n) T.rows) (sym (length-replicate (length T.tenants) (full (1000 * burst)))) served in
     record {
       conforms = conform T rate burst (full_buckets T burst) T.rows as_many;
       least = λ others k m n h is that. none_earlier T rate burst (full_buckets T burst) T.rows others as_many h
@@ -136,7 +136,7 @@ told_more T rate burst buckets moments r row bucket more h early pushed = subst 
 
 -- where the next one is too late it is the first
 pub told_late : (T : Trace) (rate burst : ℕ) (buckets : List Bucket) (moments : List ℕ) (r : ℕ) (row : TraceRow) (bucket : Bucket) → IsNext T rate burst buckets moments r row bucket
-    → All (IsServed T rate burst (length T.tenants)) T.rows → GREATEST_TRACE_MOMENT < bucket.moment → IsFirstLate T rate burst r
+    → All (IsAffordable T rate burst (length T.tenants)) T.rows → GREATEST_TRACE_MOMENT < bucket.moment → IsFirstLate T rate burst r
 told_late T rate burst buckets moments r row bucket h served late = record {
   none_big = none_too_big T rate burst (told_moments T rate burst) (told_are_least T rate burst served).conforms;
   moments = told_moments T rate burst;

@@ -32,7 +32,7 @@ moments_from T rate burst buckets (row ∷ rows) =
     (taken_by T rate burst buckets row).moment ∷ moments_from T rate burst (buckets_after T rate burst buckets row) rows
 
 -- a row of one of so many tenants, which gains tokens and of which a bucket holds enough
-pub record IsServed (T : Trace) (rate burst tenants : ℕ) (row : TraceRow) : Type 0 where
+pub record IsAffordable (T : Trace) (rate burst tenants : ℕ) (row : TraceRow) : Type 0 where
   pub tenant : row.tenant < tenants
   pub gains : 1 ≤ gain T rate row.tenant
   pub fits : row.declared ≤ burst
@@ -42,7 +42,7 @@ record IsStep (T : Trace) (rate burst t : ℕ) (buckets : List Bucket) (row : Tr
   after_is : bucket_of (buckets_after T rate burst buckets row) t ≡ taken_by T rate burst buckets row
   takes : Takes (gain T rate t) (1000 * burst) (bucket_of buckets t) row (taken_by T rate burst buckets row)
 
-step_of : (T : Trace) (rate burst t : ℕ) (buckets : List Bucket) (row : TraceRow) → IsServed T rate burst (length buckets) row → row.tenant ≡ t → IsStep T rate burst t buckets row
+step_of : (T : Trace) (rate burst t : ℕ) (buckets : List Bucket) (row : TraceRow) → IsAffordable T rate burst (length buckets) row → row.tenant ≡ t → IsStep T rate burst t buckets row
 step_of T rate burst t buckets row served same = subst (λ z. IsStep T rate burst z buckets row) same (record {
   after_is = get_or-set_same buckets row.tenant (taken_by T rate burst buckets row) _ served.tenant;
   takes = takes (gain T rate row.tenant) (1000 * burst) (bucket_of buckets row.tenant) row served.gains;
@@ -51,9 +51,9 @@ step_of T rate burst t buckets row served same = subst (λ z. IsStep T rate burs
 other_stays : (T : Trace) (rate burst t : ℕ) (buckets : List Bucket) (row : TraceRow) → row.tenant ≢ t → bucket_of (buckets_after T rate burst buckets row) t ≡ bucket_of buckets t
 other_stays T rate burst t buckets row other = get_or-set_other buckets row.tenant t _ _ (λ same. other (sym same))
 
-served_on : (T : Trace) (rate burst : ℕ) (buckets : List Bucket) (row : TraceRow) (rows : List TraceRow) → All (IsServed T rate burst (length buckets)) (row ∷ rows)
-    → All (IsServed T rate burst (length (buckets_after T rate burst buckets row))) rows
-served_on T rate burst buckets row rows served = subst (λ n. All (IsServed T rate burst n) rows) (sym (length-set buckets row.tenant (taken_by T rate burst buckets row))) (All-tail (IsServed T rate burst (length buckets)) row rows served)
+served_on : (T : Trace) (rate burst : ℕ) (buckets : List Bucket) (row : TraceRow) (rows : List TraceRow) → All (IsAffordable T rate burst (length buckets)) (row ∷ rows)
+    → All (IsAffordable T rate burst (length (buckets_after T rate burst buckets row))) rows
+served_on T rate burst buckets row rows served = subst (λ n. All (IsAffordable T rate burst n) rows) (sym (length-set buckets row.tenant (taken_by T rate burst buckets row))) (All-tail (IsAffordable T rate burst (length buckets)) row rows served)
 
 -- ---- they conform
 
@@ -64,7 +64,7 @@ after_taking g capacity before level a b row after h late there =
     let split = gained_between g a b.moment after.moment late h.in_order in
     (omega (arith, split, there, h.enough), omega (arith, split, there, h.enough, h.level))
 
-pub affords : (T : Trace) (rate burst t before level a : ℕ) (buckets : List Bucket) (rows : List TraceRow) → All (IsServed T rate burst (length buckets)) rows
+pub affords : (T : Trace) (rate burst t before level a : ℕ) (buckets : List Bucket) (rows : List TraceRow) → All (IsAffordable T rate burst (length buckets)) rows
     → a ≤ (bucket_of buckets t).moment → (bucket_of buckets t).level + before ≤ level + gain T rate t * ((bucket_of buckets t).moment - a)
     → Affords (gain T rate t) t before level a rows (moments_from T rate burst buckets rows)
 unfolding moments_from
@@ -72,7 +72,7 @@ affords T rate burst t before level a buckets [] served late there = nothing_aff
 affords T rate burst t before level a buckets (row ∷ rows) served late there = elim (cases_eq row.tenant t) [
   | inl same ↦
       let after = taken_by T rate burst buckets row in
-      let step = step_of T rate burst t buckets row (All-head (IsServed T rate burst (length buckets)) row rows served) same in
+      let step = step_of T rate burst t buckets row (All-head (IsAffordable T rate burst (length buckets)) row rows served) same in
       let left = after_taking (gain T rate t) (1000 * burst) before level a (bucket_of buckets t) row after step.takes late there in
       let in_order : a ≤ after.moment = omega (arith, late, step.takes.in_order) in
       cons_same (gain T rate t) t before level a row rows _ _ same in_order left.0
@@ -91,13 +91,13 @@ affords T rate burst t before level a buckets (row ∷ rows) served late there =
 within_full : (g capacity : ℕ) (b : Bucket) (row : TraceRow) (after : Bucket) → Takes g capacity b row after → 1000 * row.declared ≤ capacity → after.level + 1000 * row.declared ≤ capacity + g * (after.moment - after.moment)
 within_full g capacity b row after h fits = omega (arith, h.level, fits)
 
-pub conform : (T : Trace) (rate burst : ℕ) (buckets : List Bucket) (rows : List TraceRow) → All (IsServed T rate burst (length buckets)) rows
+pub conform : (T : Trace) (rate burst : ℕ) (buckets : List Bucket) (rows : List TraceRow) → All (IsAffordable T rate burst (length buckets)) rows
     → Conforms (with_rows T rows) rate burst (moments_from T rate burst buckets rows)
 unfolding moments_from
 conform T rate burst buckets [] served = none_conform T rate burst
 conform T rate burst buckets (row ∷ rows) served =
     let after = taken_by T rate burst buckets row in
-    let here = All-head (IsServed T rate burst (length buckets)) row rows served in
+    let here = All-head (IsAffordable T rate burst (length buckets)) row rows served in
     let step = step_of T rate burst row.tenant buckets row here refl in
     let on = served_on T rate burst buckets row rows served in
     let fits : 1000 * row.declared ≤ 1000 * burst = omega (arith, here.fits) in
@@ -126,7 +126,7 @@ left_over g capacity t o b row after rows moments h early from_bucket from_full 
 nothing_before : {g t before level a : ℕ} {rows : List TraceRow} {moments : List ℕ} → Affords g t (0 + before) level a rows moments → Affords g t before level a rows moments
 nothing_before h = record { not_before = h.not_before; enough = λ k n c. omega (arith, h.enough k n c) }
 
-pub none_earlier : (T : Trace) (rate burst : ℕ) (buckets : List Bucket) (rows : List TraceRow) (others : List ℕ) → All (IsServed T rate burst (length buckets)) rows
+pub none_earlier : (T : Trace) (rate burst : ℕ) (buckets : List Bucket) (rows : List TraceRow) (others : List ℕ) → All (IsAffordable T rate burst (length buckets)) rows
     → Conforms (with_rows T rows) rate burst others
     → ((t : ℕ) → Affords (gain T rate t) t 0 (bucket_of buckets t).level (bucket_of buckets t).moment rows others)
     → (k m n : ℕ) → slice_get (moments_from T rate burst buckets rows) k ≡ Some m → slice_get others k ≡ Some n → m ≤ n
@@ -135,7 +135,7 @@ none_earlier T rate burst buckets [] others served h afford k m n is that = absu
 none_earlier T rate burst buckets (row ∷ rows) [] served h afford k m n is that = absurd (none-some n that)
 none_earlier T rate burst buckets (row ∷ rows) (o ∷ others) served h afford k m n is that =
     let after = taken_by T rate burst buckets row in
-    let step = step_of T rate burst row.tenant buckets row (All-head (IsServed T rate burst (length buckets)) row rows served) refl in
+    let step = step_of T rate burst row.tenant buckets row (All-head (IsAffordable T rate burst (length buckets)) row rows served) refl in
     let first = opens T rate burst row rows o others h in
     let early : after.moment ≤ o = step.takes.least o first.not_early
     (head_late _ row.tenant 0 _ _ row rows o others refl (afford row.tenant))
@@ -144,7 +144,7 @@ none_earlier T rate burst buckets (row ∷ rows) (o ∷ others) served h afford 
     (λ j js jo. none_earlier T rate burst (buckets_after T rate burst buckets row) rows others (served_on T rate burst buckets row rows served) first.rest
     (λ t. elim (cases_eq row.tenant t) [
       | inl same ↦
-          let there = step_of T rate burst t buckets row (All-head (IsServed T rate burst (length buckets)) row rows served) same in
+          let there = step_of T rate burst t buckets row (All-head (IsAffordable T rate burst (length buckets)) row rows served) same in
           subst (λ (b : Bucket). Affords (gain T rate t) t 0 b.level b.moment rows others) (sym there.after_is)
           (left_over (gain T rate t) (1000 * burst) t o (bucket_of buckets t) row after rows others there.takes early
           (nothing_before (tail_same (gain T rate t) t 0 _ _ row rows o others same (afford t)))

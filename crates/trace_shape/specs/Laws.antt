@@ -3,7 +3,7 @@ use Rattle.std.specs.Prelude.{ℕ, ◌≤◌, ◌≡◌, List, None, Some}
 use Rattle.program_model.specs.Conforms.{Conforms, IsLeastConforming, too_big}
 use Rattle.program_model.specs.Trace.{Trace}
 use Rattle.program_model.specs.TraceText.{IsLawfulTrace}
-use Rattle.trace_shape.specs.Shaped.{IsShaped}
+use Rattle.program_model.specs.Shaped.{IsShaped}
 
 -- where a row is too big no moments conform
 abbrev pub NoneConformsToTooBig : Type 0

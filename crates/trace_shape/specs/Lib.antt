@@ -1,4 +1,3 @@
 pub mod Buckets
-pub mod Shaped
 pub mod Reasons
 pub mod Laws

@@ -4,7 +4,7 @@ ghost use Rattle.fq_model.specs.Limits.{IsWithin};
 ghost use Rattle.program_model.specs.Conforms.{IsLeastConforming, too_big, too_late};
 ghost use Rattle.program_model.specs.TraceText.{IsLawfulTrace};
 ghost use Rattle.trace_shape.specs.Reasons.{IsReason};
-ghost use Rattle.trace_shape.specs.Shaped.{moved, at_moments, IsShaped};
+ghost use Rattle.program_model.specs.Shaped.{rows_at, at_moments, IsShaped};
 
 use crate::bucket::Bucket;
 use crate::copies::{copy_of_kinds, copy_of_tenants};
@@ -78,7 +78,7 @@ pub fn shape(alloc: Global, trace: &Trace, rate: u64, burst: u64) -> Result<Trac
 fn at_moments(alloc: Global, trace: &Trace, moments: &[u64]) -> Result<Trace, AllocError>
     ensures { IfOk result (λ t. t ≡ at_moments trace.now moments.now) }
 {
-    let mut rows = moved(alloc, trace.rows(), moments)?;
+    let mut rows = rows_at(alloc, trace.rows(), moments)?;
     rows.sort_by_key(|row| row.moment)?;
     let tenants = copy_of_tenants(alloc, trace.tenants())?;
     let kinds = copy_of_kinds(alloc, trace.kinds())?;
@@ -86,8 +86,8 @@ fn at_moments(alloc: Global, trace: &Trace, moments: &[u64]) -> Result<Trace, Al
 }
 
 // The rows at these moments.
-fn moved(alloc: Global, rows: &[TraceRow], moments: &[u64]) -> Result<Vec<TraceRow>, AllocError>
-    ensures { IfOk result (λ v. v.items ≡ moved rows.now moments.now) }
+fn rows_at(alloc: Global, rows: &[TraceRow], moments: &[u64]) -> Result<Vec<TraceRow>, AllocError>
+    ensures { IfOk result (λ v. v.items ≡ rows_at rows.now moments.now) }
 {
     rows.iter()
         .zip(moments)

@@ -26,6 +26,16 @@ returns-in-gen-clause-asked c =
     let named = command_named built_commands c.args.words.now c.in_ok-word.word.now c.in_ok-word.words.now _ c.in_ok-word.ensures.cases.0 (sym c.as_str.ensures.value ∙ c.in-gen.is) in
     c.gen_command.ensures.asked ∙ sym named
 
+pub returns-in-check-clause-asked : goal.returns-in-check-clause-asked
+returns-in-check-clause-asked c =
+    let named = command_named built_commands c.args.words.now c.in_ok-word.word.now c.in_ok-word.words.now _ c.in_ok-word.ensures.cases.0 (sym c.as_str.ensures.value ∙ c.in-check.is) in
+    c.check_command.ensures.asked ∙ sym named
+
+pub returns-in-shape-clause-asked : goal.returns-in-shape-clause-asked
+returns-in-shape-clause-asked c =
+    let named = command_named built_commands c.args.words.now c.in_ok-word.word.now c.in_ok-word.words.now _ c.in_ok-word.ensures.cases.0 (sym c.as_str.ensures.value ∙ c.in-shape.is) in
+    c.shape_command.ensures.asked ∙ sym named
+
 pub returns-in_default-clause-asked : goal.returns-in_default-clause-asked
 returns-in_default-clause-asked c =
     let first = command_first built_commands c.args.words.now c.in_ok-word.word.now c.in_ok-word.words.now c.in_ok-word.ensures.cases.0 in
@@ -34,4 +44,6 @@ returns-in_default-clause-asked c =
     let run = rw value at c.in_default.not-run in
     let live = rw value at c.in_default.not-live in
     let gen = rw value at c.in_default.not-gen in
-    sym (rw (other_word _ _ script, other_word _ _ run, other_word _ _ live, other_word _ _ gen) at first)
+    let check = rw value at c.in_default.not-check in
+    let shape = rw value at c.in_default.not-shape in
+    sym (rw (other_word _ _ script, other_word _ _ run, other_word _ _ live, other_word _ _ gen, other_word _ _ check, other_word _ _ shape) at first)

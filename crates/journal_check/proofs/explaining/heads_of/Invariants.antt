@@ -2,7 +2,7 @@ use Rattle.std.proofs.Common.{◌≡◌}
 use Rattle.fq_model.specs.History.{History}
 use Rattle.fq_model.specs.Time.{last_moment}
 use Rattle.fq_model.specs.Keys.{keys_at}
-use Rattle.journal_check.specs.Explanations.{heads_below}
+use Rattle.program_model.specs.Explanations.{heads_below}
 use Rattle.journal_check.specs.Standing.{StandsAt}
 use Rattle.journal_check.proofs.explaining.heads_of.Given as goal
 

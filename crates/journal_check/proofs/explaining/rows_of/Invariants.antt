@@ -1,5 +1,5 @@
 use Rattle.std.proofs.Common.{take}
-use Rattle.journal_check.specs.Explanations.{AreRows}
+use Rattle.program_model.specs.Explanations.{AreRows}
 use Rattle.journal_check.proofs.explaining.rows_of.Given as goal
 
 abbrev pub invariant-loop-head : goal.invariant-loop-head

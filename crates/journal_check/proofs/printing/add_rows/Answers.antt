@@ -1,8 +1,8 @@
 use Rattle.std.proofs.Common.{refl, rules, pos, false, get_or}
 use Rattle.tenant_table.specs.Names.{names_of}
 use Rattle.journal_text.proofs.Kept.{one_more, all_told}
-use Rattle.journal_check.specs.declared.explained.ExplainRow.{ExplainRow}
-use Rattle.journal_check.specs.Texts.{row_line, rows_text}
+use Rattle.program_model.specs.declared.explained.ExplainRow.{ExplainRow}
+use Rattle.program_model.specs.VerdictTexts.{row_line, rows_text}
 use Rattle.journal_check.proofs.printing.add_rows.Goals as goal
 
 abbrev none : ExplainRow

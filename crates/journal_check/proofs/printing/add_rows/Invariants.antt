@@ -1,6 +1,6 @@
 use Rattle.std.proofs.Common.{◌≡◌, ◌++◌, drop}
 use Rattle.tenant_table.specs.Names.{names_of}
-use Rattle.journal_check.specs.Texts.{rows_text}
+use Rattle.program_model.specs.VerdictTexts.{rows_text}
 use Rattle.journal_check.proofs.printing.add_rows.Given as goal
 
 abbrev pub invariant-loop-row : goal.invariant-loop-row

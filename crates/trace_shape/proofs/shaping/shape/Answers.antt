@@ -1,7 +1,7 @@
 use Rattle.std.proofs.Common.{rules, ◌≡◌, ◌∙◌, ap, subst, sym, None}
 use Rattle.program_model.specs.Conforms.{too_big}
 use Rattle.program_model.specs.TraceText.{IsLawfulTrace}
-use Rattle.trace_shape.specs.Shaped.{at_moments}
+use Rattle.program_model.specs.Shaped.{at_moments}
 use Rattle.trace_shape.proofs.Moved.{lawful_at}
 use Rattle.trace_shape.proofs.Sizes.{none_too_big}
 use Rattle.trace_shape.proofs.shaping.shape.Goals as goal

@@ -1,0 +1,17 @@
+use Rattle.std.proofs.Common.{◌≡◌, map, Some, option_map, sym, ap, ◌∙◌}
+use Rattle.std.specs.String.{string_bytes}
+use Rattle.program_model.specs.declared.command.Command.TheVariants.{Plain}
+use Rattle.program_model.specs.declared.command.PlainCommand.TheVariants.{Check}
+use Rattle.program_model.specs.CheckCommand.{check_options, check_of_values}
+use Rattle.program_model.specs.Options.{values_in}
+use Rattle.command_line.proofs.command.check_command.Goals as goal
+
+pub returns-in_err-explain-clause-asked : goal.returns-in_err-explain-clause-asked
+returns-in_err-explain-clause-asked c =
+    let values : c.values_in.result ≡ values_in check_options (map string_bytes c.args.words.now) = c.values_in.ensures.values in
+    c.from_residual.ensures ∙ ap (option_map check_of_values) (sym c.in_err-explain.was ∙ values)
+
+pub returns-clause-asked : goal.returns-clause-asked
+returns-clause-asked c =
+    let values : c.values_in.result ≡ values_in check_options (map string_bytes c.args.words.now) = c.values_in.ensures.values in
+    ap (λ explain. Some (Plain (Check explain))) c.request_number-explain.ensures ∙ ap (option_map check_of_values) (sym c.in_ok-explain.was ∙ values)
