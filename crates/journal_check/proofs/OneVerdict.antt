@@ -35,7 +35,7 @@ parted (z ∷ xs) (u ∷ ys) more others x y same =
     ]
 
 -- an entry that stands among legal ones is legal after those before it
-legal_among : (C : Config) (xs zs : List Entry) (x : Entry) → IsLegal C (history_of (xs ++ x ∷ zs)) → IsLegal C (x ∷ history_of xs)
+pub legal_among : (C : Config) (xs zs : List Entry) (x : Entry) → IsLegal C (history_of (xs ++ x ∷ zs)) → IsLegal C (x ∷ history_of xs)
 legal_among C xs zs x legal =
     let all : history_of (xs ++ x ∷ zs) ≡ history_of zs ++ (x ∷ history_of xs) =
     reverse-append xs (x ∷ zs) ∙ (ap (λ l. l ++ history_of xs) (reverse-append (x ∷ []) zs) ∙ append_assoc (history_of zs) (x ∷ []) (history_of xs)) in
