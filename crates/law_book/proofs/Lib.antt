@@ -1,5 +1,9 @@
 mod Telling
 mod Apart
+mod Lines
+mod LinesRead
+mod JournalsRead
+mod JudgedLegal
 mod Exists
 mod Entries
 mod OneAnswer
