@@ -43,7 +43,7 @@ fits_at C P who m (Weight tenant weight) limits legal now f = (answer.Accepted, 
 fits_at C P who m (Workers count) limits legal now f = (answer.Accepted, answered_workers C P who m m count (workers_passes C P count f) now)
 
 -- the call of an entry that may follow is answered by that entry
-pub entry_answers : (C : Config) (P : History) (e : Entry) → InLimits C → IsLegal C (e ∷ P) → (reply : Reply) × Answers C P (call_of e) reply (e ∷ P)
+entry_answers : (C : Config) (P : History) (e : Entry) → InLimits C → IsLegal C (e ∷ P) → (reply : Reply) × Answers C P (call_of e) reply (e ∷ P)
 entry_answers C P e limits legal = fits_at C P e.who e.moment e.act limits legal.0 (in_order P e.moment legal.1 legal.2) legal.3
 
 -- and nothing else is

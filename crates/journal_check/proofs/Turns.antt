@@ -13,9 +13,14 @@ use Rattle.fq_model.specs.declared.config.Policy.{Policy}
 use Rattle.fq_model.specs.Time.{virtual_time}
 use Rattle.fq_model.specs.Keys.{HeadKeys, Turn, keys_at, turn_at}
 use Rattle.fq_laws.proofs.Time.Clock.{virtual_time_step}
-use Rattle.fq_model.specs.Rules.{IsLegal}
+use Rattle.fq_model.specs.declared.event.Reply.{Reply}
+use Rattle.fq_model.specs.Limits.{InLimits}
+use Rattle.fq_model.specs.Rules.{Answers, IsLegal}
+use Rattle.program_model.specs.Journal.{call_of}
 use Rattle.sched_state.specs.Scheduler.{virtual_time_now}
 use Rattle.journal_check.specs.declared.explaining.TakenAt.{TakenAt}
+use Rattle.journal_check.proofs.Fitting.{call_enters}
+use Rattle.journal_check.proofs.Judging.{same_entries}
 use Rattle.journal_check.specs.Turns.{IsTakeAt, IsTurn}
 use Rattle.program_model.specs.declared.explained.Explained.{Explained}
 use Rattle.program_model.specs.declared.explained.ExplainRow.{ExplainRow}
@@ -61,6 +66,16 @@ none_taken r = refl
 
 pub never_taken : (entries : List Entry) (k r : ℕ) → length entries ≤ k → is_taken (history_of (take k entries)) r ≡ false → is_taken (history_of entries) r ≡ false
 never_taken entries k r all before = sym (ap (λ (l : List Entry). is_taken (history_of l) r) (take_all k entries all)) ∙ before
+
+-- the call of the next entry adds that entry
+pub next_entered : (C : Config) (entries old new : List Entry) (k : ℕ) (none : Entry) (reply : Reply) → InLimits C → IsLegal C (history_of entries) → k < length entries → old ≡ take k entries
+    → Answers C (history_of old) (call_of (get_or entries k none)) reply (history_of new) → new ≡ take (k + 1) entries
+next_entered C entries old new k none reply limits legal there is answers =
+    let here = subst (λ (l : List Entry). Answers C (history_of l) (call_of (get_or entries k none)) reply (history_of new)) is answers in
+    same_entries (take (k + 1) entries) new (
+      call_enters C (history_of (take k entries)) (history_of new) (get_or entries k none) reply limits (legal_next C entries k none there legal) here
+      ∙ sym (history_more entries k none there)
+    )
 
 -- ---- the heads, and their rows
 

@@ -1,5 +1,5 @@
 //! A scheduler.
-ghost use Rattle.std.specs.Prelude.{ℕ, ◌≡◌, ◌<◌, [], IfOk, IfErr, OnErr, length, pos};
+ghost use Rattle.std.specs.Prelude.{ℕ, ◌≡◌, ◌<◌, [], IfOk, IfErr, OnErr, length, pos, ◌≤ℤ◌};
 ghost use Rattle.std.specs.FinMap as map;
 ghost use Rattle.fq_model.specs.declared.event.Call.TheVariants as call;
 ghost use Rattle.fq_model.specs.History.{history_of, pool_at};
@@ -16,6 +16,7 @@ use crate::tracker::Tracker;
 use fq_model::config::Checked;
 use fq_model::event::{Act, Cause, Entry};
 use fq_model::job::Job;
+use fq_model::limits::GREATEST_VIRTUAL_TIME;
 use fq_model::parts::Status;
 use sched_journal::{History, Journal};
 use std::alloc::{AllocError, Global};
@@ -245,7 +246,9 @@ impl<J: Job + Drop, X: Chooser> Scheduler<J, X> {
 
     /// Virtual time at the last entry, in steps.
     pub fn virtual_time(&self) -> i128
-        ensures { result ≡ pos (virtual_time_now self.now.config (history_of self.now.past)) }
+        ensures value { result ≡ pos (virtual_time_now self.now.config (history_of self.now.past)) }
+        ensures low { pos 0 ≤ℤ result }
+        ensures high { result ≤ℤ GREATEST_VIRTUAL_TIME }
     {
         self.tracker.times().now()
     }
