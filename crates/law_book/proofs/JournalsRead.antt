@@ -21,12 +21,12 @@ use Rattle.program_model.specs.declared.version.Version.TheVariants.{First, Seco
 use Rattle.program_model.specs.Document.{Settings, LineReader, below_header, config_line, document_of, document_of_lines, with_lines}
 use Rattle.program_model.specs.Journal.{Journal, entry_of_words, journal_of}
 use Rattle.program_model.specs.JournalText.{numbers_text, entry_line, entries_text, header_line, head_text, journal_text, kinds_text, settings_line, tenants_text, version_for}
-use Rattle.program_model.specs.Lines.{Words, lines_of, words_of}
+use Rattle.program_model.specs.Lines.{Words, lines_of}
 use Rattle.program_model.specs.Reading.{◌>>=◌, at_line}
 use Rattle.journal_text.specs.Reading.{settings_in}
 use Rattle.law_book.specs.Journals.{IsEntry, AreEntries, AreNamesFor, journal_with, IsReadBack, JournalsReadBack}
 use Rattle.law_book.proofs.Apart.{word_of, is_word, row_of, row_small, line_row}
-use Rattle.law_book.proofs.Lines.{AreWords, spaced, row_spaced, numbers_words, line_first, line_read, words_spaced}
+use Rattle.law_book.proofs.Lines.{AreWords, spaced, words_first, row_spaced, numbers_words, line_read}
 use Rattle.law_book.proofs.LinesRead.{MayStand, words_in, document, body_line_read, is_new, tenant_read, kind_read, config_words, config_read, name_word, policy_is_word, estimator_is_word}
 use Rattle.law_book.proofs.Telling.{IsWord, decimal-word}
 
@@ -189,8 +189,9 @@ module _ (C : Config) (tenants kinds : List (List ℕ)) (past : List Entry) (lim
       let pairs : length tenants * length kinds ≤ MOST_PAIRS = rw (← names.weighed, ← names.counted) limits.pairs in
       let words = settings_are_words C limits in
       let word : IsWord (codes "config") = omega arith in
-      ap (below_header (entry_of_words v)) (ap lines_of (settings_text C below_settings) ∙ line_first (codes "config") (settings_words C) below_settings word words)
-      ∙ ap (λ r. at_line 2 r >>= λ d. with_lines (entry_of_words v) 3 d (lines_of below_settings)) (ap config_line (words_spaced (codes "config") (settings_words C) word words) ∙ config_read C limits)
+      let has = words_first (codes "config") (settings_words C) below_settings word words in
+      ap (below_header (entry_of_words v)) (ap lines_of (settings_text C below_settings) ∙ has.first.lines)
+      ∙ ap (λ r. at_line 2 r >>= λ d. with_lines (entry_of_words v) 3 d (lines_of below_settings)) (ap config_line has.split ∙ config_read C limits)
       ∙ tenants_read (entry_of_words v) (settings_in C) below_tenants (journal_with C tenants kinds past) tenants C.weights 3 [] [] names.tenants_are names.weighed limits.weights
       (λ p. kinds_read (entry_of_words v) (settings_in C) tenants C.weights (entries_text past) (journal_with C tenants kinds past) some_tenant names.tenants_are.few kinds p [] names.kinds_are pairs
         (λ q. entries_read v q (settings_in C) tenants C.weights kinds [] past some_kind are of))
