@@ -86,7 +86,8 @@ impl Journal {
 
     /// The moment of the last entry, in microseconds, or 0.
     pub fn last_moment(&self) -> u64
-        ensures { result ≡ last_moment (history self.now) }
+        ensures value { result ≡ last_moment (history self.now) }
+        ensures in_range { result ≤ GREATEST_MOMENT }
     {
         match self.past.last() {
             Some(entry) => entry.moment,
