@@ -148,6 +148,19 @@ module _ (C : Config) (P Q : History) (given : Entry) (worker : ℕ) (enters : Q
         rows_are = subst (λ (l : List (ℕ × HeadKeys)). AreRows (turn_at C P given.moment worker) l x.rows.items) heads_are (subst (λ (t : Turn). AreRows t heads x.rows.items) turn rows);
       }
 
+-- what is of a scheduler with this configuration, to which the first of these entries have come
+module _ (C D : Config) (entries given past : List Entry) (place : ℕ) (same : D ≡ C) (read : given ≡ entries) (came : past ≡ take place given) where
+  came_first : past ≡ take place entries
+  came_first = came ∙ ap (λ (l : List Entry). take place l) read
+
+  pub legal_here : (e : Entry) → IsLegal C (e ∷ history_of (take place entries)) → IsLegal D (e ∷ history_of past)
+  legal_here e legal =
+      subst (λ (l : List Entry). IsLegal D (e ∷ history_of l)) (sym came_first) (subst (λ (B : Config). IsLegal B (e ∷ history_of (take place entries))) (sym same) legal)
+
+  pub turn_here : (m worker : ℕ) (x : Explained) → IsTurn D (history_of past) m worker x → IsTurn C (history_of (take place entries)) m worker x
+  turn_here m worker x turn =
+      subst (λ (l : List Entry). IsTurn C (history_of l) m worker x) came_first (subst (λ (B : Config). IsTurn B (history_of past) m worker x) same turn)
+
 -- ---- the tenants of the rows
 
 -- the tenants of these heads have numbers below this

@@ -16,6 +16,12 @@ pub record IsTakeAt (entries : List Entry) (request : ℕ) (x : TakenAt) : Type 
   pub there : slice_get entries x.place ≡ Some x.entry
   pub takes : x.entry.act ≡ Take x.worker request estimate
 
+-- the entry is a Take by this worker
+pub record IsTakeBy (worker : ℕ) (e : Entry) : Type 0 where
+  pub request : ℕ
+  pub estimate : ℕ
+  pub takes : e.act ≡ Take worker request estimate
+
 -- what is told of the turn of this worker at m
 pub record IsTurn (C : Config) (P : History) (m worker : ℕ) (x : Explained) : Type 0 where
   pub worker_is : x.worker ≡ worker

@@ -6,7 +6,7 @@ ghost use Rattle.fq_model.specs.Limits.{InLimits};
 ghost use Rattle.fq_model.specs.Rules.{IsLegal};
 ghost use Rattle.program_model.specs.Document.{config_of};
 ghost use Rattle.program_model.specs.Explanations.{IsRow, AreRows, heads_at, IsExplained, Explains};
-ghost use Rattle.journal_check.specs.Turns.{IsTakeAt, IsTurn};
+ghost use Rattle.journal_check.specs.Turns.{IsTakeAt, IsTakeBy, IsTurn};
 
 use crate::checking::{call_of, copy_of};
 use fq_model::config::Checked;
@@ -136,6 +136,7 @@ fn turn_of<X: Chooser>(
 ) -> Result<Explained, AllocError>
     requires limits { InLimits scheduler.old.config }
     requires legal { IsLegal scheduler.old.config (given ∷ history_of scheduler.old.past) }
+    requires takes { IsTakeBy worker given }
     ensures { IfOk result (IsTurn scheduler.old.config (history_of scheduler.old.past) given.moment worker) }
 {
     let heads = heads_of(alloc, scheduler)?;

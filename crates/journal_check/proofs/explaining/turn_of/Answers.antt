@@ -5,11 +5,17 @@ use mir.Val.{to_z, of_z}
 use Rattle.fq_model.specs.declared.config.Config.{Config}
 use Rattle.fq_model.specs.declared.event.Call.{Call}
 use Rattle.fq_model.specs.History.{history_of}
-use Rattle.fq_model.specs.Rules.{Answers}
+use Rattle.fq_model.specs.Rules.{Answers, Fits}
 use Rattle.sched_state.specs.Scheduler.{virtual_time_now}
 use Rattle.journal_check.proofs.Fitting.{call_enters}
 use Rattle.journal_check.proofs.Turns.{turn_told}
 use Rattle.journal_check.proofs.explaining.turn_of.Goals as goal
+
+pub invariant_of-turn : goal.invariant_of-turn
+invariant_of-turn g c =
+    let old = c.args.scheduler.now in
+    let fits = subst (Fits old.config (history_of old.past) c.args.given.moment) c.requires.takes.takes c.requires.legal.3 in
+    omega (arith, fits.worker_known, c.pool-workers.ensures)
 
 pub returns : goal.returns
 returns g c =
