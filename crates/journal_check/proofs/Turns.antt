@@ -5,7 +5,6 @@ use Rattle.std.proofs.Math.Seq.{take-suc, drop-cons}
 use Rattle.std.proofs.lemmas.Option.{slice_get-get_or, slice_get_within, get_or_from_slice_get}
 use Rattle.std.proofs.lemmas.List.{reverse-append, take-append-drop, take_all}
 use Rattle.fq_model.specs.declared.config.Config.{Config}
-use Rattle.fq_model.specs.declared.event.Act.{Act}
 use Rattle.fq_model.specs.declared.event.Act.TheVariants.{Submit, Take}
 use Rattle.fq_model.specs.declared.event.Entry.{Entry}
 use Rattle.fq_model.specs.History.{History, history_of, is_taken, is_take_of, pool_at}
@@ -73,8 +72,8 @@ pub next_entered : (C : Config) (entries old new : List Entry) (k : ℕ) (none :
 next_entered C entries old new k none reply limits legal there is answers =
     let here = subst (λ (l : List Entry). Answers C (history_of l) (call_of (get_or entries k none)) reply (history_of new)) is answers in
     same_entries (take (k + 1) entries) new (
-      call_enters C (history_of (take k entries)) (history_of new) (get_or entries k none) reply limits (legal_next C entries k none there legal) here
-      ∙ sym (history_more entries k none there)
+    call_enters C (history_of (take k entries)) (history_of new) (get_or entries k none) reply limits (legal_next C entries k none there legal) here
+    ∙ sym (history_more entries k none there)
     )
 
 -- ---- the heads, and their rows

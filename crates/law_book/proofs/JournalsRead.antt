@@ -1,5 +1,5 @@
 -- Printed journals are read back as the documents that were printed.
-use Rattle.std.proofs.Common.{ℕ, suc, ◌+◌, ◌*◌, ◌^◌, ◌<◌, ◌≤◌, ◌≡◌, ◌≢◌, ◌==◌, Bool, true, false, ◌||◌, if◌then◌else◌, List, [], ◌∷◌, ◌++◌, length, get_or, map, All, Result, Ok, Err, refl, sym, ap, ◌∙◌, subst, arith, append_assoc, length-append}
+use Rattle.std.proofs.Common.{ℕ, suc, ◌+◌, ◌*◌, ◌^◌, ◌<◌, ◌≤◌, ◌≡◌, ◌≢◌, ◌==◌, Bool, true, false, ◌||◌, if◌then◌else◌, List, [], ◌∷◌, ◌++◌, length, get_or, map, All, Ok, refl, sym, ap, ◌∙◌, subst, arith, append_assoc, length-append}
 use Rattle.std.specs.Prelude.{codes}
 use Rattle.std.specs.Fmt.{decimal}
 use Rattle.std.specs.List.{list_any}
@@ -15,7 +15,6 @@ use Rattle.fq_model.specs.History.{is_change}
 use Rattle.fq_model.specs.Limits.{InLimits, IsWeight}
 use Rattle.fq_model.specs.Names.{AreNames}
 use Rattle.fq_model.specs.Spelling.{is_name, policy_word, estimator_word}
-use Rattle.program_model.specs.declared.fault.ScriptKind.{ScriptKind}
 use Rattle.program_model.specs.declared.version.Version.{Version}
 use Rattle.program_model.specs.declared.version.Version.TheVariants.{First, Second}
 use Rattle.program_model.specs.Document.{Settings, LineReader, below_header, config_line, document_of, document_of_lines, with_lines}
@@ -24,10 +23,10 @@ use Rattle.program_model.specs.JournalText.{numbers_text, entry_line, entries_te
 use Rattle.program_model.specs.Lines.{Words, lines_of}
 use Rattle.program_model.specs.Reading.{◌>>=◌, at_line}
 use Rattle.journal_text.specs.Reading.{settings_in}
-use Rattle.law_book.specs.Journals.{IsEntry, AreEntries, AreNamesFor, journal_with, IsReadBack, JournalsReadBack}
+use Rattle.law_book.specs.Journals.{IsEntry, AreEntries, AreNamesFor, journal_with, JournalsReadBack}
 use Rattle.law_book.proofs.Apart.{word_of, is_word, row_of, row_small, line_row}
 use Rattle.law_book.proofs.Lines.{AreWords, spaced, words_first, row_spaced, numbers_words, line_read}
-use Rattle.law_book.proofs.LinesRead.{MayStand, words_in, document, body_line_read, is_new, tenant_read, kind_read, config_words, config_read, name_word, policy_is_word, estimator_is_word}
+use Rattle.law_book.proofs.LinesRead.{MayStand, document, body_line_read, is_new, tenant_read, kind_read, config_read, name_word, policy_is_word, estimator_is_word}
 use Rattle.law_book.proofs.Telling.{IsWord, decimal-word}
 
 -- ---- the entries
@@ -156,11 +155,16 @@ settings_text C below =
 
 settings_are_words : (C : Config) → InLimits C → AreWords (settings_words C)
 settings_are_words C limits = (
-  decimal-word C.workers (omega (arith, limits.workers.1)), (
-    policy_is_word C.policy, (
-      estimator_is_word C.estimate, (
-        decimal-word C.initial (omega (arith, limits.initial.1)), (
-          decimal-word C.entries (omega (arith, limits.entries.1)), (
+  decimal-word C.workers (omega (arith, limits.workers.1)),
+  (
+    policy_is_word C.policy,
+    (
+      estimator_is_word C.estimate,
+      (
+        decimal-word C.initial (omega (arith, limits.initial.1)),
+        (
+          decimal-word C.entries (omega (arith, limits.entries.1)),
+          (
             decimal-word C.requests (omega (arith, limits.requests.1)),
             tt,
           ),
@@ -194,15 +198,15 @@ module _ (C : Config) (tenants kinds : List (List ℕ)) (past : List Entry) (lim
       ∙ ap (λ r. at_line 2 r >>= λ d. with_lines (entry_of_words v) 3 d (lines_of below_settings)) (ap config_line has.split ∙ config_read C limits)
       ∙ tenants_read (entry_of_words v) (settings_in C) below_tenants (journal_with C tenants kinds past) tenants C.weights 3 [] [] names.tenants_are names.weighed limits.weights
       (λ p. kinds_read (entry_of_words v) (settings_in C) tenants C.weights (entries_text past) (journal_with C tenants kinds past) some_tenant names.tenants_are.few kinds p [] names.kinds_are pairs
-        (λ q. entries_read v q (settings_in C) tenants C.weights kinds [] past some_kind are of))
+      (λ q. entries_read v q (settings_in C) tenants C.weights kinds [] past some_kind are of))
 
   parts : journal_text C tenants kinds past ≡ header_line (version_for past) ++ (settings_line C ++ below_settings)
   unfolding journal_text
   parts =
       append_assoc (header_line (version_for past)) (head_text C tenants kinds) (entries_text past)
       ∙ ap (λ l. header_line (version_for past) ++ l) (
-        append_assoc (settings_line C ++ tenants_text tenants C.weights) (kinds_text kinds) (entries_text past)
-        ∙ append_assoc (settings_line C) (tenants_text tenants C.weights) below_tenants
+      append_assoc (settings_line C ++ tenants_text tenants C.weights) (kinds_text kinds) (entries_text past)
+      ∙ append_assoc (settings_line C) (tenants_text tenants C.weights) below_tenants
       )
 
   text_read : (v : Version) → AreOf v past → document_of_lines (codes "journal") entry_of_words (lines_of (header_line v ++ (settings_line C ++ below_settings))) ≡ Ok (journal_with C tenants kinds past)

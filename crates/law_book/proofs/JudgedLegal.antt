@@ -1,5 +1,5 @@
 -- The printed journal of a legal history is judged legal.
-use Rattle.std.proofs.Common.{ℕ, zero, suc, ◌^◌, ◌<◌, ◌≤◌, ◌≡◌, List, [], ◌∷◌, ◌++◌, All, arith, refl, subst, sym, append_assoc}
+use Rattle.std.proofs.Common.{ℕ, zero, suc, List, [], ◌∷◌, ◌++◌, All, arith, refl, subst, sym, append_assoc}
 use Rattle.std.proofs.lemmas.List.Elements.{All-head, All-tail}
 use Rattle.fq_model.specs.declared.config.Config.{Config}
 use Rattle.fq_model.specs.declared.event.Act.{Act}
@@ -7,38 +7,41 @@ use Rattle.fq_model.specs.declared.event.Act.TheVariants.{Submit, Take, Report, 
 use Rattle.fq_model.specs.declared.event.Entry.{Entry}
 use Rattle.fq_model.specs.History.{History, history_of}
 use Rattle.fq_model.specs.Limits.{InLimits}
-use Rattle.fq_model.specs.Rules.{IsLegal, Fits, FitsUse}
+use Rattle.fq_model.specs.Rules.{IsLegal, Fits}
 use Rattle.fq_laws.proofs.Charge.Estimates.{estimate_range}
 use Rattle.fq_laws.proofs.History.Numbers.{next_small, take_request_small, use_small}
 use Rattle.fq_laws.proofs.History.Weights.{pool_high}
 use Rattle.fq_laws.proofs.History.Workers.{runs_worker_known}
 use Rattle.program_model.specs.Document.{config_of}
 use Rattle.journal_check.proofs.OneVerdict.{legal_among, legal_is_legal}
-use Rattle.program_model.specs.declared.verdict.Verdict.TheVariants.{Legal}
 use Rattle.law_book.specs.Journals.{FitsTypes, FitsLabel, IsEntry, IsUnreadFit, LegalEntriesFit, LegalIsJudgedLegal, journal_with}
 use Rattle.law_book.proofs.JournalsRead.{read_back}
 
 -- the numbers of an act that fits a legal history
 act_fits : (C : Config) (P : History) (m : ℕ) (act : Act) → InLimits C → IsLegal C P → Fits C P m act → FitsLabel act → FitsTypes act
-act_fits C P m (Submit request tenant kind declared label) limits legal f unread =
-    (next_small C P request limits legal f.numbered,
-    omega (arith, f.tenant_known, limits.tenants.1),
-    omega (arith, f.kind_known, limits.kinds.1),
-    omega (arith, f.declared_high),
-    unread)
+act_fits C P m (Submit request tenant kind declared label) limits legal f unread = (
+  next_small C P request limits legal f.numbered,
+  omega (arith, f.tenant_known, limits.tenants.1),
+  omega (arith, f.kind_known, limits.kinds.1),
+  omega (arith, f.declared_high),
+  unread,
+)
 act_fits C P m (Take worker request estimate) limits legal f unread =
-    let low = estimate_range C P request f.asked limits legal f.chosen.asked in
-    (omega (arith, f.worker_known, pool_high C P legal, limits.workers.1),
-    take_request_small C P m worker request estimate limits legal f,
-    omega (arith, f.chosen.estimate_is, low.1))
-act_fits C P m (Report worker request used) limits legal f unread =
-    (omega (arith, runs_worker_known C P worker request legal f.0.runs, limits.workers.1),
-    use_small C P worker request used limits legal f.0,
-    omega (arith, f.0.in_range))
-act_fits C P m (Done worker request cost) limits legal f unread =
-    (omega (arith, runs_worker_known C P worker request legal f.runs, limits.workers.1),
-    use_small C P worker request cost limits legal f,
-    omega (arith, f.in_range))
+    let low = estimate_range C P request f.asked limits legal f.chosen.asked in (
+      omega (arith, f.worker_known, pool_high C P legal, limits.workers.1),
+      take_request_small C P m worker request estimate limits legal f,
+      omega (arith, f.chosen.estimate_is, low.1),
+    )
+act_fits C P m (Report worker request used) limits legal f unread = (
+  omega (arith, runs_worker_known C P worker request legal f.0.runs, limits.workers.1),
+  use_small C P worker request used limits legal f.0,
+  omega (arith, f.0.in_range),
+)
+act_fits C P m (Done worker request cost) limits legal f unread = (
+  omega (arith, runs_worker_known C P worker request legal f.runs, limits.workers.1),
+  use_small C P worker request cost limits legal f,
+  omega (arith, f.in_range),
+)
 act_fits C P m Close limits legal f unread = tt
 act_fits C P m (Weight tenant weight) limits legal f unread =
     (omega (arith, f.tenant_known, limits.tenants.1), omega (arith, f.weight_in_range.1))

@@ -40,9 +40,9 @@ numbers_spaced : (ns below : List ℕ) → numbers_text ns ++ below ≡ spaced (
 numbers_spaced [] below = refl
 numbers_spaced (n ∷ ns) below =
     ap (λ l. 32 ∷ l) (
-      append_assoc (decimal n) (numbers_text ns) below
-      ∙ ap (λ l. decimal n ++ l) (numbers_spaced ns below)
-      ∙ sym (append_assoc (decimal n) (spaced (map decimal ns)) (10 ∷ below))
+    append_assoc (decimal n) (numbers_text ns) below
+    ∙ ap (λ l. decimal n ++ l) (numbers_spaced ns below)
+    ∙ sym (append_assoc (decimal n) (spaced (map decimal ns)) (10 ∷ below))
     )
 
 -- a line of a word and numbers is a line of words

@@ -1,5 +1,5 @@
 -- Each line of a printed journal is read as what was printed.
-use Rattle.std.proofs.Common.{ℕ, suc, inl, inr, ◌*◌, ◌^◌, ◌<◌, ◌≤◌, ◌≡◌, ◌≢◌, ◌==◌, Bool, true, false, nat_lt, nat_le, List, [], ◌∷◌, ◌++◌, length, get_or, map, Ok, bytes_eq, refl, sym, ap, ◌∙◌, arith}
+use Rattle.std.proofs.Common.{ℕ, suc, inl, inr, ◌*◌, ◌^◌, ◌<◌, ◌≤◌, ◌≡◌, ◌≢◌, ◌==◌, true, false, nat_le, List, [], ◌∷◌, ◌++◌, length, get_or, map, Ok, bytes_eq, refl, arith}
 use Rattle.std.specs.Prelude.{codes}
 use Rattle.std.specs.Fmt.{decimal}
 use Rattle.std.specs.List.{list_any, list_all}
@@ -21,14 +21,13 @@ use Rattle.fq_model.specs.Spelling.{is_name, is_name_byte, policy_word, estimato
 use Rattle.fq_laws.proofs.Rules.Passes.{within}
 use Rattle.program_model.specs.declared.version.Version.{Version}
 use Rattle.program_model.specs.declared.version.Version.TheVariants.{First, Second}
-use Rattle.program_model.specs.Document.{Settings, Document, LineReader, config_line, new_among, not_too_many, opened, settings_of, with_body, with_kind, with_line, with_tenant}
+use Rattle.program_model.specs.Document.{Settings, LineReader, config_line, new_among, not_too_many, settings_of, with_body, with_kind, with_line, with_tenant}
 use Rattle.program_model.specs.Journal.{Journal, submit_act, take_act, report_act, done_act, close_act, weight_act, workers_act, entry_with, fixed_entry_of, changing_entry_of, entry_of_words}
 use Rattle.program_model.specs.Lines.{Words, word, number_at, ranged_at, index_at, name_at, policy_at, estimator_at}
 use Rattle.journal_text.specs.Reading.{settings_in}
 use Rattle.trace_reader.proofs.Numerals.{number-decimal}
 use Rattle.law_book.specs.Journals.{FitsTypes, IsEntry}
-use Rattle.law_book.proofs.Apart.{word_of, numbers_in, row_of, entry}
-use Rattle.law_book.proofs.Lines.{AreWords}
+use Rattle.law_book.proofs.Apart.{word_of, numbers_in, entry}
 use Rattle.law_book.proofs.Telling.{IsWord}
 
 -- ---- single words

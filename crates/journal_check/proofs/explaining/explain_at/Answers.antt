@@ -23,7 +23,7 @@ returns-clause-explained g c =
     let s = c.in_ok-scheduler.scheduler in
     let taken = c.args.taken in
     IfOk-weaker c.turn_of-explained.result _ _ (λ x turn. explained_is C body c.args.request taken c.requires.taken x
-      (turn_here C s.config body c.body.result.now s.past taken.place (c.in_ok-scheduler.ensures.config ∙ c.config.ensures) c.body.ensures c.in_ok-scheduler.ensures.past taken.entry.moment taken.worker x turn)) c.turn_of-explained.ensures
+    (turn_here C s.config body c.body.result.now s.past taken.place (c.in_ok-scheduler.ensures.config ∙ c.config.ensures) c.body.ensures c.in_ok-scheduler.ensures.past taken.entry.moment taken.worker x turn)) c.turn_of-explained.ensures
 
 pub returns-clause-known : goal.returns-clause-known
 returns-clause-known g c =
@@ -32,4 +32,4 @@ returns-clause-known g c =
     let s = c.in_ok-scheduler.scheduler in
     let taken = c.args.taken in
     IfOk-weaker c.turn_of-explained.result _ _ (λ x turn. tenants_known C (history_of (take taken.place body)) taken.entry.moment taken.worker x
-      (turn_here C s.config body c.body.result.now s.past taken.place (c.in_ok-scheduler.ensures.config ∙ c.config.ensures) c.body.ensures c.in_ok-scheduler.ensures.past taken.entry.moment taken.worker x turn)) c.turn_of-explained.ensures
+    (turn_here C s.config body c.body.result.now s.past taken.place (c.in_ok-scheduler.ensures.config ∙ c.config.ensures) c.body.ensures c.in_ok-scheduler.ensures.past taken.entry.moment taken.worker x turn)) c.turn_of-explained.ensures

@@ -1,4 +1,4 @@
-use Rattle.std.proofs.Common.{◌≡◌, ◌∙◌, ◌∷◌, arith, refl, subst, ap, pos}
+use Rattle.std.proofs.Common.{◌≡◌, ◌∙◌, arith, refl, subst, ap, pos}
 use Rattle.std.proofs.lemmas.Int.{ints}
 use Rattle.std.specs.Int.{w128}
 use mir.Val.{to_z, of_z}

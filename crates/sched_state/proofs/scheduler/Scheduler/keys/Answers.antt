@@ -23,5 +23,5 @@ returns g c =
     let m = c.self.invariant.mirrors in
     subst (λ (s : SchedulerView g.row.J.Denot). (n : ℕ) → c.keys_of.result ≡ keys_at s.config (history_of s.past) n c.args.tenant) c.self.view_is
     (λ n. c.keys_of.ensures P (rw c.config.ensures.config m)
-      ∙ ap (λ (C : Config). keys_at C P (last_moment P) c.args.tenant) c.config.ensures.config
-      ∙ keys_still c.self.inside.journal.config P (last_moment P) n c.args.tenant m.legal)
+    ∙ ap (λ (C : Config). keys_at C P (last_moment P) c.args.tenant) c.config.ensures.config
+    ∙ keys_still c.self.inside.journal.config P (last_moment P) n c.args.tenant m.legal)
