@@ -55,6 +55,6 @@ fn explanation(alloc: Global, journal: &Journal, request: u32) -> Result<Vec<u8>
     requires { IsLegal (config_of journal.now) (history_of journal.now.body) }
     ensures { IfOk result (λ text. IsExplanation journal.now request text.items) }
 {
-    let explained = explain(alloc, journal, request)?;
+    let explained = explain::<IndexChooser>(alloc, journal, request)?;
     explanation_text(alloc, journal.tenants(), request, explained)
 }
