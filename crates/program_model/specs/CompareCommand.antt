@@ -1,16 +1,18 @@
 -- `compare`: simulates a trace under all policies and estimators.
-use Rattle.std.specs.Prelude.{ℕ, ◌≡◌, true, false, List, [], ◌∷◌, take, slice_get, All, IsSomeAnd, ◌⊎◌}
+use Rattle.std.specs.Prelude.{ℕ, ◌≡◌, true, false, List, [], ◌∷◌, codes, take, slice_get, All, IsSomeAnd, ◌⊎◌}
 use Rattle.fq_model.specs.declared.config.Policy.{Policy}
 use Rattle.fq_model.specs.declared.config.Estimator.{Estimator}
 use Rattle.fq_model.specs.History.{History}
 use Rattle.fq_model.specs.Report.{cells_of}
+use Rattle.program_model.specs.declared.command.Command.{Command}
+use Rattle.program_model.specs.declared.command.Command.TheVariants as commands
 use Rattle.program_model.specs.declared.compare.CompareOptions.{CompareOptions}
 use Rattle.program_model.specs.declared.compare.CompareRow.{CompareRow}
 use Rattle.program_model.specs.Answer.{Answer, Text, IsAnswerUnless}
 use Rattle.program_model.specs.CommandOptions.{value_at, workers_option, initial_option, refresh_option, slot_option}
 use Rattle.program_model.specs.Compare.{all_pairs, run_options, AreCompared}
 use Rattle.program_model.specs.HistoryAnswer.{has_many_cells, cells_answer, has_many_entries, entries_answer}
-use Rattle.program_model.specs.Options.{OptionRow, Value}
+use Rattle.program_model.specs.Options.{OptionRow, Value, CommandRow}
 use Rattle.program_model.specs.ReportText.{compare_text}
 use Rattle.program_model.specs.Simulated.{needed_entries, run_config, IsSimulated}
 use Rattle.program_model.specs.Trace.{Trace}
@@ -26,6 +28,17 @@ compare_options_of values = record {
   initial = value_at values 1;
   refresh = value_at values 2;
   slot = value_at values 3;
+}
+
+abbrev pub compare_of_values : List Value → Command
+compare_of_values values = commands.Compare (compare_options_of values)
+
+abbrev pub compare_row : CommandRow Command
+compare_row = record {
+  word = codes "compare";
+  options = compare_options;
+  means = compare_of_values;
+  reads_input = true;
 }
 
 -- the report of the trace's history under the pair has no more cells than it may
@@ -71,6 +84,6 @@ IsComparisonAnswer o T answer =
     (entries_answer (needed_entries T.rows o.refresh))
     (λ a. IsRowsAnswer T o a ⊎ IsLongAnswer T o a) answer
 
--- of an input that is no trace its first fault, and else that of the trace
+-- what is answered of a trace, and of an input that is none its first fault
 abbrev pub IsCompareAnswer : CompareOptions → List ℕ → Answer → Type 0
 IsCompareAnswer o input answer = IsTraceAnswer (IsComparisonAnswer o) input answer

@@ -3,7 +3,7 @@
 use fq_model::config::{Estimator, Policy};
 
 /// What a trace is run with under each policy and estimator.
-#[derive(Clone, Copy)]
+#[derive(Clone, Copy, PartialEq, Eq)]
 pub struct CompareOptions {
     /// 1 to 64.
     pub workers: u32,
