@@ -1,13 +1,15 @@
 -- What is made of a policy and an estimator, and the rows of the first of all of them.
-use Rattle.std.specs.Prelude.{ℕ, ◌≡◌, ◌≤◌, true, false, List, take, length, All, Result, Ok, Err}
+use Rattle.std.specs.Prelude.{ℕ, ◌+◌, ◌<◌, ◌≡◌, true, false, List, take, length, slice_get, slice_index_or, All, Some, Result, Ok, Err}
 use Rattle.std.specs.List.{AllZip}
 use Rattle.fq_model.specs.declared.config.Config.{Config}
 use Rattle.fq_model.specs.declared.config.Policy.{Policy}
 use Rattle.fq_model.specs.declared.config.Estimator.{Estimator}
+use Rattle.fq_model.specs.declared.config.Estimator.TheVariants.{Declared}
 use Rattle.fq_model.specs.History.{History}
 use Rattle.fq_model.specs.Report.{cells_of}
 use Rattle.program_model.specs.declared.compare.CompareOptions.{CompareOptions}
 use Rattle.program_model.specs.declared.compare.CompareRow.{CompareRow}
+use Rattle.program_model.specs.CommandOptions.{estimators}
 use Rattle.program_model.specs.Compare.{all_pairs, row_of_history, IsCompared}
 use Rattle.program_model.specs.CompareCommand.{IsShort, IsLong}
 use Rattle.program_model.specs.HistoryAnswer.{has_many_cells}
@@ -32,3 +34,8 @@ IsMade T o pair (Err NoMemory) = Unit {0}
 pub record AreFirstRows (T : Trace) (o : CompareOptions) (rows : List CompareRow) : Type 0 where
   pub short : All (IsShort T o) (take (length rows) all_pairs)
   pub compared : AllZip (IsCompared T o) (take (length rows) all_pairs) rows
+
+-- the pairs from this place on are those of the policy
+abbrev pub ComesAt : ℕ → Policy → Type 0
+ComesAt place policy =
+    (k : ℕ) → k < 3 → slice_get all_pairs (place + k) ≡ Some (policy, slice_index_or estimators k Declared)

@@ -1,13 +1,12 @@
 //! The comparison of all policies and estimators.
-ghost use Rattle.std.specs.Prelude.{◌≡◌, ◌≤◌, ◌+◌, ◌*◌, take, drop, length, Err, IfOk, IfErr, OnOk};
+ghost use Rattle.std.specs.Prelude.{◌≡◌, ◌≤◌, ◌+◌, length, Err, IfOk, IfErr, OnOk};
 ghost use Rattle.fq_model.specs.declared.limits.TheConstants.{MOST_ENTRIES};
-ghost use Rattle.program_model.specs.Compare.{all_pairs, pairs_of};
 ghost use Rattle.program_model.specs.CompareCommand.{AreAllRows};
 ghost use Rattle.program_model.specs.RunLimits.{CanCompare};
 ghost use Rattle.program_model.specs.Simulated.{needed_entries};
 ghost use Rattle.program_model.specs.TraceText.{IsLawfulTrace};
 ghost use Rattle.compare_all.specs.Reasons.{IsReason, HasManyEntries, many_entries};
-ghost use Rattle.compare_all.specs.Rows.{AreFirstRows};
+ghost use Rattle.compare_all.specs.Rows.{AreFirstRows, ComesAt};
 
 use crate::fault::CompareFault;
 use crate::rows::{RowFault, rows_of};
@@ -61,7 +60,7 @@ fn add_rows<R: Threads + Sync>(
     requires trace { IsLawfulTrace trace.now × (needed_entries trace.now.rows options.refresh ≤ MOST_ENTRIES) }
     requires options { CanCompare options }
     requires first { AreFirstRows trace.now options rows.old.items }
-    requires next { take 3 (drop (length rows.old.items) all_pairs) ≡ pairs_of policy [] }
+    requires next { ComesAt (length rows.old.items) policy }
     ensures first { OnOk result (AreFirstRows trace.now options rows.new.items) }
     ensures more { OnOk result (length rows.new.items ≡ length rows.old.items + 3) }
     ensures reason { IfErr result (IsReason trace.now options) }
