@@ -3,7 +3,7 @@ ghost use Rattle.std.specs.Prelude.{◌≡◌};
 ghost use Rattle.compare_all.specs.declared.fault.CompareFault.TheVariants as faults;
 
 use fq_model::limits::{MOST_CELLS, MOST_ENTRIES};
-use std::alloc::AllocError;
+use std::alloc::{AllocError, AllocFailed};
 use std::fmt;
 use thiserror::Error;
 
@@ -32,6 +32,14 @@ impl From<AllocError> for CompareFault {
     ghost from_gives = { λ _ fault. fault ≡ faults.NoMemory };
 
     fn from(_: AllocError) -> CompareFault {
+        CompareFault::NoMemory
+    }
+}
+
+impl<T: Drop> From<AllocFailed<T>> for CompareFault {
+    ghost from_gives = { λ _ fault. fault ≡ faults.NoMemory };
+
+    fn from(_: AllocFailed<T>) -> CompareFault {
         CompareFault::NoMemory
     }
 }

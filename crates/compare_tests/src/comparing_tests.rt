@@ -27,8 +27,8 @@ const LONG: &str = "tenant,a,1\nrequest,0,0,a,get,1,5000000\n";
 
 /// Two requests that declare much and cost little, and one that declares little and costs much. By what is declared the
 /// long one goes first; by the initial value, which is the same for all, the two of the greater weight do.
-const MISDECLARED: &str = "tenant,a,3\ntenant,b,1\nrequest,0,0,a,get,100,498000\n\
-    request,0,0,a,get,100,498000\nrequest,0,1,b,scan,1,1992000\n";
+const MISDECLARED: &str = "tenant,a,3\ntenant,b,1\nrequest,0,0,a,get,100,666667\n\
+    request,0,0,a,get,100,666667\nrequest,0,1,b,scan,1,1333334\n";
 
 // The trace that a text says.
 fn trace_in<R: Abort>(rt: &R, alloc: Global, text: &str) -> Trace
@@ -151,13 +151,13 @@ fn a_report_of_too_many_cells(rt: HostRuntime) {
     expect_fault(&rt, rt.alloc(), APART, options(4, 10000, 1), first);
 }
 
-// By what is declared the long request begins at 0 and ends at 1,992,000, which two tenants have 3,984,002 cells for. In
-// the next row it begins when the two others end.
+// By what is declared the long request begins at 0, and all end at 1,333,334, for which two tenants have 2,666,670 cells.
+// In the next row it begins when the two others end.
 #[test]
 fn the_first_report_of_too_many_cells_is_not_the_first(rt: HostRuntime) {
     let second = CompareFault::TooLong {
         row: 1,
-        cells: 4980002,
+        cells: 4000004,
     };
     expect_fault(&rt, rt.alloc(), MISDECLARED, options(2, 0, 1), second);
 }
