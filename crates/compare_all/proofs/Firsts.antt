@@ -1,6 +1,6 @@
 -- The rows of the first pairs, and one more.
 use Rattle.std.proofs.Common.{ℕ, zero, suc, ◌+◌, ◌*◌, ◌<◌, ◌≡◌, refl, sym, ap, ◌∙◌, subst, arith, List, [], ◌∷◌, ◌++◌, length, take, get_or, All, Some, slice_get}
-use Rattle.std.specs.Prelude.{IsSomeAnd}
+use Rattle.std.specs.Prelude.{IsSomeAnd, IsOkAnd, IsErrAnd, IfErr, Result, Ok, Err}
 use Rattle.std.specs.List.{AllZip}
 use Rattle.std.proofs.lemmas.List.{take_more, length_push}
 use Rattle.std.proofs.lemmas.List.Elements.{All-append, All-cons, All-nil}
@@ -15,7 +15,11 @@ use Rattle.program_model.specs.CommandOptions.{policies}
 use Rattle.program_model.specs.Compare.{all_pairs, IsCompared}
 use Rattle.program_model.specs.CompareCommand.{IsShort, IsLong, IsFirstLong, AreAllRows}
 use Rattle.program_model.specs.Trace.{Trace}
-use Rattle.compare_all.specs.Rows.{AreFirstRows, ComesAt}
+use Rattle.compare_all.specs.declared.fault.CompareFault.{CompareFault}
+use Rattle.compare_all.specs.declared.fault.CompareFault.TheVariants as faults
+use Rattle.compare_all.specs.declared.rows.RowFault.{RowFault}
+use Rattle.compare_all.specs.Reasons.{IsReason}
+use Rattle.compare_all.specs.Rows.{AreFirstRows, ComesAt, IsMade, IsFaultAt}
 
 -- one item more
 take_one : {X : Type 0} (xs : List X) (k : ℕ) (x : X) → slice_get xs k ≡ Some x → take (k + 1) xs ≡ take k xs ++ x ∷ []
@@ -53,6 +57,26 @@ module _ (T : Trace) (o : CompareOptions) where
     earlier = first.short;
     long = subst (λ x. IsSomeAnd x (IsLong T o cells)) (sym at) long;
   }
+
+  -- what is made of the next pair is one row more, or the reason why there are no more
+  pub next_rows : (rows more : List CompareRow) (pair : Policy × Estimator) (made : Result CompareRow RowFault) → slice_get all_pairs (length rows) ≡ Some pair → IsMade T o pair made → IsOkAnd made (λ row. more ≡ rows ++ row ∷ []) → AreFirstRows T o rows → AreFirstRows T o more
+  next_rows rows more pair (Ok row) at x added first = subst (AreFirstRows T o) (sym added) (one_more rows pair row at x.0 x.1 first)
+  next_rows rows more pair (Err fault) at x added first = absurd added
+
+  pub next_reason : (rows : List CompareRow) (pair : Policy × Estimator) (made : Result CompareRow RowFault) (fault : CompareFault) → slice_get all_pairs (length rows) ≡ Some pair → IsMade T o pair made → IsFaultAt (length rows) made fault → AreFirstRows T o rows → IsReason T o fault
+  next_reason rows pair made (faults.TooManyEntries needed) at x told first = absurd told
+  next_reason rows pair made (faults.TooLong row cells) at x told first =
+      subst (λ n. IsFirstLong T o n cells) (sym told.0) (first_long rows pair cells at (subst (IsMade T o pair) told.1 x) first)
+  next_reason rows pair made faults.NoMemory at x told first = tt
+
+  pub told_reason : {X : Type 0} (r : Result X CompareFault) (fault : CompareFault) → IsErrAnd r (λ f. f ≡ fault) → IsReason T o fault → IfErr r (IsReason T o)
+  told_reason (Ok x) fault told is = tt
+  told_reason (Err f) fault told is = subst (IsReason T o) (sym told) is
+
+-- one row more
+pub one_longer : (rows more : List CompareRow) (made : Result CompareRow RowFault) → IsOkAnd made (λ row. more ≡ rows ++ row ∷ []) → length more ≡ length rows + 1
+one_longer rows more (Ok row) added = ap length added ∙ length_push rows row
+one_longer rows more (Err fault) added = absurd added
 
 three : (P : ℕ → Type 0) → P 0 → P 1 → P 2 → (k : ℕ) → k < 3 → P k
 three P a b c zero l = a

@@ -1,5 +1,5 @@
 -- The first row of least spread.
-use Rattle.std.proofs.Common.{ℕ, ◌<◌, ◌≤◌, ◌≡◌, ap, sym, ◌∙◌, arith, false, true, cond, List, length, get_or, pos, ◌≤ℤ◌, int_le, nat_lt, ℤ, Some, None, unwrap_or, refl, subst, [], ◌∷◌}
+use Rattle.std.proofs.Common.{ℕ, ◌+◌, ◌-◌, below_more, ◌<◌, ◌≤◌, ◌≡◌, ap, sym, ◌∙◌, arith, false, true, cond, List, length, get_or, pos, ◌≤ℤ◌, int_le, nat_lt, ℤ, Some, None, unwrap_or, refl, subst, [], ◌∷◌}
 use Rattle.std.specs.Prelude.{◌<ℤ◌}
 use Rattle.std.specs.List.{position_or_len}
 use Rattle.std.proofs.lemmas.Bool.{lt-ltb}
@@ -46,3 +46,18 @@ module _ (rows : List CompareRow) (place : ℕ) (b : IsBestAt rows place) where
 pub best_none : (rows : List CompareRow) → length rows ≡ 0 → 0 ≡ best rows
 best_none [] is = refl
 best_none (row ∷ rows) is = absurd (omega (arith, is))
+
+-- the best so far, where one more is looked at: it, if it is less than the old one
+pub moves_least : (f : ℕ → ℤ) (p k : ℕ) → f k <ℤ f p → ((j : ℕ) → j < k → f p ≤ℤ f j) → (j : ℕ) → j < k + 1 → f k ≤ℤ f j
+moves_least f p k less least = below_more _ _ (λ j l. omega (arith, ints, less, least j l)) (omega (arith, ints))
+
+pub moves_first : (f : ℕ → ℤ) (p k : ℕ) → f k <ℤ f p → ((j : ℕ) → j < k → f p ≤ℤ f j) → (j : ℕ) → j < k → f k <ℤ f j
+moves_first f p k less least j l = omega (arith, ints, less, least j l)
+
+-- the best of those before k is the best of all, if there are no more
+pub best_from : (rows : List CompareRow) (place k : ℕ) → length rows ≤ k → place ≤ length rows - 1
+    → ((j : ℕ) → j < k → spread (get_or rows place no_row) ≤ℤ spread (get_or rows j no_row)) → ((j : ℕ) → j < place → spread (get_or rows place no_row) <ℤ spread (get_or rows j no_row))
+    → place ≡ best rows
+best_from [] place k past inside least first = let zero : place ≡ 0 = omega (arith, inside) in zero ∙ best_none [] refl
+best_from (row ∷ rows) place k past inside least first =
+    best_is (row ∷ rows) place (record { inside = omega (arith, inside); least = λ j l. least j (omega (arith, l, past)); first = first })

@@ -14,6 +14,8 @@ use Rattle.program_model.specs.Compare.{all_pairs, row_of_history, IsCompared}
 use Rattle.program_model.specs.CompareCommand.{IsShort, IsLong}
 use Rattle.program_model.specs.HistoryAnswer.{has_many_cells}
 use Rattle.program_model.specs.Trace.{Trace}
+use Rattle.compare_all.specs.declared.fault.CompareFault.{CompareFault}
+use Rattle.compare_all.specs.declared.fault.CompareFault.TheVariants as faults
 use Rattle.compare_all.specs.declared.rows.RowFault.{RowFault}
 use Rattle.compare_all.specs.declared.rows.RowFault.TheVariants.{TooLong, NoMemory}
 
@@ -39,3 +41,9 @@ pub record AreFirstRows (T : Trace) (o : CompareOptions) (rows : List CompareRow
 abbrev pub ComesAt : ℕ → Policy → Type 0
 ComesAt place policy =
     (k : ℕ) → k < 3 → slice_get all_pairs (place + k) ≡ Some (policy, slice_index_or estimators k Declared)
+
+-- this is told where there is no row for this place
+abbrev pub IsFaultAt : ℕ → Result CompareRow RowFault → CompareFault → Type 0
+IsFaultAt place made (faults.TooManyEntries needed) = ⊥
+IsFaultAt place made (faults.TooLong row cells) = (row ≡ place) × (made ≡ Err (TooLong cells))
+IsFaultAt place made faults.NoMemory = Unit {0}

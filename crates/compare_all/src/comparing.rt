@@ -1,12 +1,12 @@
 //! The comparison of all policies and estimators.
-ghost use Rattle.std.specs.Prelude.{◌≡◌, ◌≤◌, ◌+◌, length, Err, IfOk, IfErr, OnOk};
+ghost use Rattle.std.specs.Prelude.{◌≡◌, ◌≤◌, ◌+◌, ◌++◌, ◌∷◌, [], length, Err, IfOk, IfErr, IsOkAnd, OnOk};
 ghost use Rattle.fq_model.specs.declared.limits.TheConstants.{MOST_ENTRIES};
 ghost use Rattle.program_model.specs.CompareCommand.{AreAllRows};
 ghost use Rattle.program_model.specs.RunLimits.{CanCompare};
 ghost use Rattle.program_model.specs.Simulated.{needed_entries};
 ghost use Rattle.program_model.specs.TraceText.{IsLawfulTrace};
 ghost use Rattle.compare_all.specs.Reasons.{IsReason, HasManyEntries, many_entries};
-ghost use Rattle.compare_all.specs.Rows.{AreFirstRows, ComesAt};
+ghost use Rattle.compare_all.specs.Rows.{AreFirstRows, ComesAt, IsFaultAt};
 
 use crate::fault::CompareFault;
 use crate::rows::{RowFault, rows_of};
@@ -67,14 +67,29 @@ fn add_rows<R: Threads + Sync>(
 {
     let made = rows_of(rt, alloc, trace, options, policy)?;
     for k in 0..made.len() {
-        match made[k] {
-            Ok(row) => rows.push(row)?,
-            Err(RowFault::TooLong(cells)) => {
-                let row = rows.len() as u32;
-                return Err(CompareFault::TooLong { row, cells });
-            }
-            Err(RowFault::NoMemory) => return Err(CompareFault::NoMemory),
-        }
+        add_row(made[k], rows)?;
     }
     Ok(())
+}
+
+// Adds a row, or tells why there is none.
+fn add_row(
+    made: Result<CompareRow, RowFault>,
+    rows: &mut Vec<CompareRow>,
+) -> Result<(), CompareFault>
+    requires { length rows.old.items ≤ 12 }
+    ensures added { OnOk result (IsOkAnd made (λ row. rows.new.items ≡ rows.old.items ++ row ∷ [])) }
+    ensures fault { IfErr result (IsFaultAt (length rows.old.items) made) }
+{
+    match made {
+        Ok(row) => {
+            rows.push(row)?;
+            Ok(())
+        }
+        Err(RowFault::TooLong(cells)) => {
+            let row = rows.len() as u32;
+            Err(CompareFault::TooLong { row, cells })
+        }
+        Err(RowFault::NoMemory) => Err(CompareFault::NoMemory),
+    }
 }

@@ -1,7 +1,8 @@
 //! A comparison as a text.
-ghost use Rattle.std.specs.Prelude.{◌≡◌, ◌≤◌, ◌++◌, length, string_bytes, slice_get, IfOk, OnOk};
+ghost use Rattle.std.specs.Prelude.{◌≡◌, ◌≤◌, ◌++◌, length, string_bytes, slice_get, Some, IfOk, OnOk};
 ghost use Rattle.program_model.specs.Compare.{best};
 ghost use Rattle.program_model.specs.ReportText.{compare_line, compare_lines, best_line, compare_text};
+ghost use Rattle.compare_all.specs.Texts.{end_text, lag_text};
 
 use crate::best::best;
 use program_model::compare::CompareRow;
@@ -26,28 +27,35 @@ fn add_rows(alloc: Global, rows: &[CompareRow], text: &mut Vec<u8>) -> Result<()
     ensures { OnOk result (text.new.items ≡ text.old.items ++ compare_lines rows.now) }
 {
     for row in rows {
-        let line = row_line(alloc, *row)?;
-        text.extend_from_slice(line.as_bytes())?;
+        add_row(alloc, *row, text)?;
     }
     Ok(())
 }
 
-// The line of a row.
-fn row_line(alloc: Global, row: CompareRow) -> Result<String, AllocError>
-    ensures { IfOk result (λ line. string_bytes line ≡ compare_line row) }
+// Appends the line of a row.
+fn add_row(alloc: Global, row: CompareRow, text: &mut Vec<u8>) -> Result<(), AllocError>
+    ensures { OnOk result (text.new.items ≡ text.old.items ++ compare_line row) }
 {
-    let CompareRow {
-        policy,
-        estimate,
-        end,
-        entries,
-        least,
-        greatest,
-    } = row;
-    let line = format!(in alloc;
-        "policy {policy} estimate {estimate} end {end} entries {entries} lag {least} {greatest}\n"
-    )?;
-    Ok(line)
+    let end = end_text(alloc, row)?;
+    text.extend_from_slice(end.as_bytes())?;
+    let lag = lag_text(alloc, row)?;
+    text.extend_from_slice(lag.as_bytes())
+}
+
+// A policy and an estimator, when the last entry came, and how many there are.
+fn end_text(alloc: Global, row: CompareRow) -> Result<String, AllocError>
+    ensures { IfOk result (λ text. string_bytes text ≡ end_text row) }
+{
+    let (policy, estimate, end, entries) = (row.policy, row.estimate, row.end, row.entries);
+    format!(in alloc; "policy {policy} estimate {estimate} end {end} entries {entries}")
+}
+
+// Between what numbers all lags are.
+fn lag_text(alloc: Global, row: CompareRow) -> Result<String, AllocError>
+    ensures { IfOk result (λ text. string_bytes text ≡ lag_text row) }
+{
+    let (least, greatest) = (row.least, row.greatest);
+    format!(in alloc; " lag {least} {greatest}\n")
 }
 
 // The line that names the best.
@@ -55,6 +63,5 @@ fn best_line(alloc: Global, row: CompareRow) -> Result<String, AllocError>
     ensures { IfOk result (λ line. string_bytes line ≡ best_line (Some row)) }
 {
     let (policy, estimate) = (row.policy, row.estimate);
-    let line = format!(in alloc; "best {policy} {estimate}\n")?;
-    Ok(line)
+    format!(in alloc; "best {policy} {estimate}\n")
 }

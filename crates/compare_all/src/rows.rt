@@ -1,9 +1,10 @@
 //! What one policy and estimator come to on a trace.
-ghost use Rattle.std.specs.Prelude.{◌≡◌, ◌≤◌, None, IfOk};
+ghost use Rattle.std.specs.Prelude.{◌≡◌, ◌≤◌, ◌+◌, ◌*◌, length, None, IfOk};
 ghost use Rattle.std.specs.List.{AllZip};
 ghost use Rattle.fq_model.specs.History.{history_of};
 ghost use Rattle.fq_model.specs.Report.{unfinished};
 ghost use Rattle.fq_model.specs.declared.limits.TheConstants.{MOST_ENTRIES, GREATEST_SLOT};
+ghost use Rattle.vt_fixed.specs.declared.limits.TheConstants.{GREATEST_MOMENT};
 ghost use Rattle.program_model.specs.CommandOptions.{estimators};
 ghost use Rattle.program_model.specs.RunLimits.{CanCompare};
 ghost use Rattle.program_model.specs.Simulated.{needed_entries};
@@ -11,7 +12,7 @@ ghost use Rattle.program_model.specs.TraceText.{IsLawfulTrace};
 ghost use Rattle.compare_all.specs.Rows.{IsMade, IsMadeOf};
 
 use eligible_index::index::IndexChooser;
-use fq_model::config::{Estimator, Policy};
+use fq_model::config::{Checked, Estimator, Policy};
 use lag_report::automatic::auto_slot;
 use lag_report::extremes::{greatest_lag, least_lag};
 use lag_report::fault::ReportFault;
@@ -130,10 +131,16 @@ fn row_of_history(
             least: least_lag(report.rows()),
             greatest: greatest_lag(report.rows()),
         }),
-        Err(ReportFault::TooLong { slots, tenants }) => {
-            Err(RowFault::TooLong(slots * tenants as u64))
-        }
+        Err(ReportFault::TooLong { slots, .. }) => Err(RowFault::TooLong(cells(slots, config))),
         Err(ReportFault::Unfinished(_)) => unreachable!(),
         Err(ReportFault::NoMemory) => Err(RowFault::NoMemory),
     }
+}
+
+// How many cells so many slots have for the tenants of a configuration.
+fn cells(slots: u64, config: &Checked) -> u64
+    requires { slots ≤ GREATEST_MOMENT + 1 }
+    ensures { result ≡ slots * length config.now.weights }
+{
+    slots * config.tenants() as u64
 }
