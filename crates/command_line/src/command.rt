@@ -10,15 +10,17 @@ ghost use Rattle.program_model.specs.LiveCommand.{live_row};
 ghost use Rattle.program_model.specs.GenCommand.{gen_row};
 ghost use Rattle.program_model.specs.CheckCommand.{check_row};
 ghost use Rattle.program_model.specs.ShapeCommand.{shape_row};
+ghost use Rattle.program_model.specs.CompareCommand.{compare_row};
 ghost use Rattle.command_line.specs.Commands.{run_by, live_by};
 
 use crate::options::{Value, values_in};
 use crate::table::{
-    CHECK_OPTIONS, ESTIMATORS, GEN_OPTIONS, GEN_PRINTS, HISTORY_PRINTS, POLICIES, SCRIPT_OPTIONS,
-    SCRIPT_PRINTS, SHAPE_OPTIONS, TRACE_OPTIONS,
+    CHECK_OPTIONS, COMPARE_OPTIONS, ESTIMATORS, GEN_OPTIONS, GEN_PRINTS, HISTORY_PRINTS, POLICIES,
+    SCRIPT_OPTIONS, SCRIPT_PRINTS, SHAPE_OPTIONS, TRACE_OPTIONS,
 };
 use fq_model::config::{Estimator, Policy};
 use program_model::command::{Command, GenPrint, HistoryPrint, PlainCommand, ScriptPrint};
+use program_model::compare::CompareOptions;
 use program_model::trace::RunOptions;
 
 /// The command that words ask for, without the program's name before them. None where they are no line of the table of
@@ -35,6 +37,7 @@ pub fn command(words: &[String]) -> Option<Command>
         "gen" => gen_command(words),
         "check" => check_command(words),
         "shape" => shape_command(words),
+        "compare" => compare_command(words),
         _ => None,
     }
 }
@@ -156,6 +159,21 @@ fn shape_command(words: &[String]) -> Option<Command>
             },
         ),
     )
+}
+
+// `compare`, by the words after it.
+fn compare_command(words: &[String]) -> Option<Command>
+    ensures asked { result ≡ command_by (map string_bytes words.now) compare_row }
+    ensures range { IfSome result IsInRange }
+{
+    let [workers, initial, refresh, slot] = values_in::<4>(&COMPARE_OPTIONS, words)?;
+    let options = CompareOptions {
+        workers: workers.unwrap_or(0) as u32,
+        initial: initial.unwrap_or(0),
+        refresh: refresh.unwrap_or(0),
+        slot: slot.unwrap_or(0),
+    };
+    Some(Command::Compare { options })
 }
 
 // What a value stands for that is a place among these.

@@ -157,3 +157,39 @@ pub const SHAPE_OPTIONS: [OptionRow; 2] = [
         absent: Absent::Required,
     },
 ];
+
+/// The options of `compare`, as in `run`.
+pub const COMPARE_OPTIONS: [OptionRow; 4] = [
+    OptionRow {
+        name: "--workers",
+        values: Values::Within {
+            low: 1,
+            high: MOST_WORKERS as u64,
+        },
+        absent: Absent::Default("4"),
+    },
+    OptionRow {
+        name: "--initial",
+        values: Values::Within {
+            low: 1,
+            high: GREATEST_COST,
+        },
+        absent: Absent::Default("1000"),
+    },
+    OptionRow {
+        name: "--refresh",
+        values: Values::Within {
+            low: 0,
+            high: GREATEST_COST,
+        },
+        absent: Absent::Default("10000"),
+    },
+    OptionRow {
+        name: "--slot",
+        values: Values::Within {
+            low: 0,
+            high: GREATEST_SLOT,
+        },
+        absent: Absent::Default("0"),
+    },
+];

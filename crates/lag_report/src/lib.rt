@@ -3,6 +3,7 @@
 
 pub mod automatic;
 mod course;
+pub mod extremes;
 pub mod fault;
 mod lines;
 pub mod parts;

@@ -2,11 +2,11 @@
 ghost use Rattle.std.specs.Prelude.{◌≡◌, ◌≤◌, ◌++◌, length, IfOk, OnOk};
 ghost use Rattle.std.specs.Fmt.{decimal, signed_decimal};
 ghost use Rattle.tenant_table.specs.Names.{names_of};
-ghost use Rattle.fq_model.specs.Report.{least_lag, greatest_lag};
 ghost use Rattle.program_model.specs.ReportText.{lag_numbers, tenant_lag_line, tenant_lag_lines, slot_line, end_line, lag_report_text, lag_summary_text};
 ghost use Rattle.lag_report.specs.Reports.{requests_of};
 ghost use Rattle.lag_report.specs.Texts.{with_counts, with_range, with_totals};
 
+use crate::extremes::{greatest_lag, least_lag};
 use crate::parts::Report;
 use fq_model::lag::TenantLag;
 use fq_model::limits::MOST_TENANTS;
@@ -51,8 +51,8 @@ fn add_totals(report: &Report, text: &mut Vec<u8>) -> Result<(), AllocError>
 fn add_range(rows: &[TenantLag], text: &mut Vec<u8>) -> Result<(), AllocError>
     ensures { OnOk result (text.new.items ≡ with_range text.old.items rows.now) }
 {
-    add_lag(b"\nlag ", least(rows), text)?;
-    add_lag(b" ", greatest(rows), text)?;
+    add_lag(b"\nlag ", least_lag(rows), text)?;
+    add_lag(b" ", greatest_lag(rows), text)?;
     text.push(b'\n')?;
     Ok(())
 }
@@ -67,38 +67,6 @@ fn requests(rows: &[TenantLag]) -> u64
         requests += row.requests as u64;
     }
     requests
-}
-
-// The least lag of all tenants.
-fn least(rows: &[TenantLag]) -> i64
-    ensures { result ≡ least_lag rows.now }
-{
-    if rows.is_empty() {
-        return 0;
-    }
-    let mut place = 0;
-    for k in 1..rows.len() {
-        if rows[k].least < rows[place].least {
-            place = k;
-        }
-    }
-    rows[place].least
-}
-
-// The greatest lag of all tenants.
-fn greatest(rows: &[TenantLag]) -> i64
-    ensures { result ≡ greatest_lag rows.now }
-{
-    if rows.is_empty() {
-        return 0;
-    }
-    let mut place = 0;
-    for k in 1..rows.len() {
-        if rows[k].greatest > rows[place].greatest {
-            place = k;
-        }
-    }
-    rows[place].greatest
 }
 
 // Appends the line of the slots.

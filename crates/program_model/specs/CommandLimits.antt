@@ -3,10 +3,10 @@ use Rattle.std.specs.Prelude.{◌≤◌}
 use Rattle.fq_model.specs.declared.limits.TheConstants.{MOST_TENANTS, MOST_ROWS, GREATEST_BURST, GREATEST_RATE, GREATEST_SLOT}
 use Rattle.fq_model.specs.Limits.{IsWithin}
 use Rattle.program_model.specs.declared.command.Command.{Command}
-use Rattle.program_model.specs.declared.command.Command.TheVariants.{Plain, Live}
+use Rattle.program_model.specs.declared.command.Command.TheVariants.{Plain, Live, Compare}
 use Rattle.program_model.specs.declared.command.PlainCommand.{PlainCommand}
 use Rattle.program_model.specs.declared.command.PlainCommand.TheVariants.{Script, Run, Gen, Check, Shape}
-use Rattle.program_model.specs.RunLimits.{AreInRange}
+use Rattle.program_model.specs.RunLimits.{AreInRange, CanCompare}
 
 -- the numbers are within their limits; a seed, or the number of a request that is asked about, may be any
 abbrev pub IsPlainInRange : PlainCommand → Type 0
@@ -19,3 +19,4 @@ IsPlainInRange (Shape rate burst) = IsWithin 1 GREATEST_RATE rate × IsWithin 1 
 abbrev pub IsInRange : Command → Type 0
 IsInRange (Plain command) = IsPlainInRange command
 IsInRange (Live options slot print) = AreInRange options × (slot ≤ GREATEST_SLOT)
+IsInRange (Compare options) = CanCompare options

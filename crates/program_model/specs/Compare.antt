@@ -44,14 +44,14 @@ row_of_report pair report = record {
 }
 
 -- the row of a pair whose history under C is H; where slot 0 is asked for it has its own automatic slot
-abbrev pub compare_row : Policy × Estimator → Config → History → ℕ → CompareRow
-compare_row pair C H asked = row_of_report pair (lag_report C H (slot_for C H asked))
+abbrev pub row_of_history : Policy × Estimator → Config → History → ℕ → CompareRow
+row_of_history pair C H asked = row_of_report pair (lag_report C H (slot_for C H asked))
 
 -- the row is that of the simulated history of the trace under the pair
 pub record IsCompared (T : Trace) (o : CompareOptions) (pair : Policy × Estimator) (row : CompareRow) : Type 0 where
   pub history : History
   pub simulated : IsSimulated T (run_options o pair) history
-  pub row_is : row ≡ compare_row pair (run_config T (run_options o pair)) history o.slot
+  pub row_is : row ≡ row_of_history pair (run_config T (run_options o pair)) history o.slot
 
 -- the rows are those of all policies and estimators, in order
 abbrev pub AreCompared : Trace → CompareOptions → List CompareRow → Type 0

@@ -33,6 +33,7 @@ pub mod LiveCommand
 pub mod GenCommand
 pub mod CheckCommand
 pub mod ShapeCommand
+pub mod CompareCommand
 pub mod Commands
 pub mod CommandLimits
 pub mod Ending

@@ -1,5 +1,6 @@
 //! The commands of the program, in groups by the part of it that serves them.
 
+use crate::compare::CompareOptions;
 use crate::trace::RunOptions;
 
 /// What `script` writes.
@@ -79,5 +80,9 @@ pub enum Command {
         options: RunOptions,
         slot: u64,
         print: HistoryPrint,
+    },
+    /// Simulates a trace under all policies and estimators, on threads that end by themselves.
+    Compare {
+        options: CompareOptions,
     },
 }

@@ -2,8 +2,18 @@
 
 use fq_model::config::{Estimator, Policy};
 
+/// The policies that are compared, in the order of their words.
+pub const POLICIES: [Policy; 4] = [Policy::Wfq, Policy::Wf2q, Policy::Msf2q, Policy::TwoDfq];
+
+/// The estimators that each is compared with, in the order of their words.
+pub const ESTIMATORS: [Estimator; 3] = [
+    Estimator::Declared,
+    Estimator::Recent,
+    Estimator::Pessimistic,
+];
+
 /// What a trace is run with under each policy and estimator.
-#[derive(Clone, Copy)]
+#[derive(Clone, Copy, PartialEq, Eq)]
 pub struct CompareOptions {
     /// 1 to 64.
     pub workers: u32,

@@ -36,6 +36,11 @@ returns-in-shape-clause-asked c =
     let named = command_named built_commands c.args.words.now c.in_ok-word.word.now c.in_ok-word.words.now _ c.in_ok-word.ensures.cases.0 (sym c.as_str.ensures.value ∙ c.in-shape.is) in
     c.shape_command.ensures.asked ∙ sym named
 
+pub returns-in-compare-clause-asked : goal.returns-in-compare-clause-asked
+returns-in-compare-clause-asked c =
+    let named = command_named built_commands c.args.words.now c.in_ok-word.word.now c.in_ok-word.words.now _ c.in_ok-word.ensures.cases.0 (sym c.as_str.ensures.value ∙ c.in-compare.is) in
+    c.compare_command.ensures.asked ∙ sym named
+
 pub returns-in_default-clause-asked : goal.returns-in_default-clause-asked
 returns-in_default-clause-asked c =
     let first = command_first built_commands c.args.words.now c.in_ok-word.word.now c.in_ok-word.words.now c.in_ok-word.ensures.cases.0 in
@@ -46,4 +51,5 @@ returns-in_default-clause-asked c =
     let gen = rw value at c.in_default.not-gen in
     let check = rw value at c.in_default.not-check in
     let shape = rw value at c.in_default.not-shape in
-    sym (rw (other_word _ _ script, other_word _ _ run, other_word _ _ live, other_word _ _ gen, other_word _ _ check, other_word _ _ shape) at first)
+    let compare = rw value at c.in_default.not-compare in
+    sym (rw (other_word _ _ script, other_word _ _ run, other_word _ _ live, other_word _ _ gen, other_word _ _ check, other_word _ _ shape, other_word _ _ compare) at first)

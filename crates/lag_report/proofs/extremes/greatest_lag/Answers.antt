@@ -4,8 +4,8 @@ use Rattle.std.proofs.lemmas.Int.{to_z-of_z, ints}
 use Rattle.std.proofs.lemmas.Bool.{eqb-true, eqb-false}
 use Rattle.std.proofs.lemmas.List.{get_or_default}
 use Rattle.lag_report.proofs.Texts.{no_row, greatest_of, greatest_none, moves_up}
-use Rattle.lag_report.proofs.printing.greatest.Goals as goal
-use Rattle.lag_report.proofs.printing.greatest.Goals.{then-rows-k, else-rows-k}
+use Rattle.lag_report.proofs.extremes.greatest_lag.Goals as goal
+use Rattle.lag_report.proofs.extremes.greatest_lag.Goals.{then-rows-k, else-rows-k}
 
 pub loop-k-init : goal.loop-k-init
 loop-k-init c =

@@ -1,6 +1,6 @@
 use Rattle.std.proofs.Common.{ℕ, ◌<◌, length, get_or, ◌≤ℤ◌}
 use Rattle.lag_report.proofs.Texts.{no_row}
-use Rattle.lag_report.proofs.printing.least.Given as goal
+use Rattle.lag_report.proofs.extremes.least_lag.Given as goal
 
 abbrev pub invariant-loop-k : goal.invariant-loop-k
 invariant-loop-k l = record {
