@@ -54,7 +54,7 @@ typedef struct {
     uint64_t initial;  /* the estimate before any completion: 1 to 1,000,000,000 */
 } twodfq_opening;
 
-/* What twodfq_open gives. From TWODFQ_OPEN_WORKERS on it is the first number out of its limits, in this order. */
+/* What twodfq_open gives: the first that is so, in this order. */
 enum {
     TWODFQ_OPENED,
     TWODFQ_OPEN_ALREADY,   /* the handle holds a scheduler */

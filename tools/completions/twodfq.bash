@@ -3,7 +3,7 @@
 _twodfq() {
     local command=${COMP_WORDS[1]:-} current=${COMP_WORDS[COMP_CWORD]} before=${COMP_WORDS[COMP_CWORD - 1]} words option
     if [ "$COMP_CWORD" = 1 ]; then
-        mapfile -t COMPREPLY < <(compgen -W 'script run live gen help --help --version' -- "$current")
+        mapfile -t COMPREPLY < <(compgen -W 'script run live gen check shape help --help --version' -- "$current")
         return
     fi
     # (bash takes = for a word of its own)
@@ -29,12 +29,17 @@ _twodfq() {
     'gen --tenants') words='' ;;
     'gen --requests') words='' ;;
     'gen --print') words='trace summary' ;;
+    'check --explain') words='' ;;
+    'shape --rate') words='' ;;
+    'shape --burst') words='' ;;
     *)
         case $command in
         script) words='--print' ;;
         run) words='--workers --policy --estimate --initial --refresh --slot --print' ;;
         live) words='--workers --policy --estimate --initial --refresh --slot --print' ;;
         gen) words='--seed --tenants --requests --print' ;;
+        check) words='--explain' ;;
+        shape) words='--rate --burst' ;;
         *) words= ;;
         esac
         for option in "${COMP_WORDS[@]:2:COMP_CWORD - 2}"; do words=" $words " words=${words/ $option / }; done

@@ -2,3 +2,4 @@ pub mod Making
 pub mod Reports
 pub mod Serving
 pub mod Runs
+mod Shapes

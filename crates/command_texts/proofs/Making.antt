@@ -1,4 +1,4 @@
--- Answers among others, and answers to a trace.
+-- Answers among others, and answers to an input by what it says.
 use Rattle.std.proofs.Common.{ℕ, ◌≡◌, sym, subst, Bool, true, false, List, Result, Ok, Err}
 use Rattle.std.specs.Prelude.{IfOk, IsOkAnd}
 use Rattle.std.specs.String.{string_bytes}
@@ -6,15 +6,20 @@ use Rattle.std.proofs.lemmas.Bool.{false≢true}
 use Rattle.program_model.specs.declared.ending.Output.{Output}
 use Rattle.program_model.specs.declared.ending.Stop.{Stop}
 use Rattle.program_model.specs.declared.ending.Stop.TheVariants as stops
+use Rattle.program_model.specs.declared.fault.ScriptKind.{ScriptKind}
 use Rattle.program_model.specs.declared.fault.TraceKind.{TraceKind}
-use Rattle.program_model.specs.Answer.{Answer, Text, Message, message_line, IsAnswerUnless}
+use Rattle.program_model.specs.Answer.{Answer, Text, Message, message_line, IsReadAnswer, IsAnswerUnless}
+use Rattle.program_model.specs.FaultTexts.{fault_text, trace_fault_text}
 use Rattle.program_model.specs.Trace.{Trace}
-use Rattle.program_model.specs.TraceCommand.{IsReadAnswer, IsTraceAnswer}
+use Rattle.program_model.specs.TraceCommand.{IsTraceAnswer}
 use Rattle.program_model.specs.TraceGrammar.{trace_of}
+use Rattle.journal_text.specs.Reading as documents
+use Rattle.journal_text.specs.declared.fault.ScriptFault.{ScriptFault}
+use Rattle.journal_text.specs.declared.fault.ScriptFault.TheVariants as document_faults
 use Rattle.trace_reader.specs.Reading.{IsFirstFault}
 use Rattle.trace_reader.specs.declared.fault.TraceFault.{TraceFault}
 use Rattle.trace_reader.specs.declared.fault.TraceFault.TheVariants as faults
-use Rattle.command_texts.specs.Making.{IsStop, Makes, IsFaultAnswer, IsTraceFault}
+use Rattle.command_texts.specs.Making.{IsStop, Makes, TellsTraceFault, TellsDocumentFault, IsTraceFault}
 
 -- a stop that tells one of these answers tells one of those
 pub stop_as : (These Those : Answer → Type 0) (stop : Stop) → ((answer : Answer) → These answer → Those answer) → IsStop These stop → IsStop Those stop
@@ -42,25 +47,39 @@ pub else_answers : (b : Bool) (so answer : Answer) (Else : Answer → Type 0) �
 else_answers true so answer Else is x = absurd (false≢true (sym is))
 else_answers false so answer Else is x = x
 
--- what is answered of a trace is answered to the input that spells it
-pub of_read : (OfTrace : Trace → Answer → Type 0) (input : List ℕ) (T : Trace) (answer : Answer) → trace_of input ≡ Ok T → OfTrace T answer → IsTraceAnswer OfTrace input answer
-of_read OfTrace input T answer is x = subst (λ read. IsReadAnswer OfTrace read answer) (sym is) x
+-- what is answered of what an input says is answered to the input, however its faults are told
+module _ {A F : Type 0} (fault_text : F → List ℕ) (IsOf : A → Answer → Type 0) (read : Result A (ℕ × F)) where
+  pub of_said : (said : A) (answer : Answer) → read ≡ Ok said → IsOf said answer → IsReadAnswer fault_text IsOf read answer
+  of_said said answer is x = subst (λ r. IsReadAnswer fault_text IsOf r answer) (sym is) x
 
+  pub made_of_said : (said : A) (made : Result Output Stop) → read ≡ Ok said → Makes (IsOf said) made → Makes (IsReadAnswer fault_text IsOf read) made
+  made_of_said said made is x = makes_as (IsOf said) (IsReadAnswer fault_text IsOf read) made (λ answer y. of_said said answer is y) x
+
+-- so is what is answered of the trace that it spells
 pub made_of_read : (OfTrace : Trace → Answer → Type 0) (input : List ℕ) (T : Trace) (made : Result Output Stop) → trace_of input ≡ Ok T → Makes (OfTrace T) made → Makes (IsTraceAnswer OfTrace input) made
-made_of_read OfTrace input T made is x = makes_as (OfTrace T) (IsTraceAnswer OfTrace input) made (λ answer y. of_read OfTrace input T answer is y) x
+made_of_read OfTrace input T made is x = made_of_said trace_fault_text OfTrace (trace_of input) T made is x
 
 -- what tells of the first fault of an input
-first_fault : (input : List ℕ) (fault : TraceFault) (answer : Answer) → IsFirstFault fault (trace_of input) → IsFaultAnswer fault answer → IsTraceFault input answer
-first_fault input (faults.At line kind) answer first x = subst (λ read. IsReadAnswer (λ trace other. ⊥) read answer) (sym first) x
+first_fault : (input : List ℕ) (fault : TraceFault) (answer : Answer) → IsFirstFault fault (trace_of input) → TellsTraceFault fault answer → IsTraceFault input answer
+first_fault input (faults.At line kind) answer first x = subst (λ read. IsReadAnswer trace_fault_text (λ trace other. ⊥) read answer) (sym first) x
 first_fault input faults.NoMemory answer first x = absurd x
 
-pub first_stop : (input : List ℕ) (fault : TraceFault) (stop : Stop) → IsFirstFault fault (trace_of input) → IsStop (IsFaultAnswer fault) stop → IsStop (IsTraceFault input) stop
-first_stop input fault stop first x = stop_as (IsFaultAnswer fault) (IsTraceFault input) stop (λ answer y. first_fault input fault answer first y) x
+pub first_stop : (input : List ℕ) (fault : TraceFault) (stop : Stop) → IsFirstFault fault (trace_of input) → IsStop (TellsTraceFault fault) stop → IsStop (IsTraceFault input) stop
+first_stop input fault stop first x = stop_as (TellsTraceFault fault) (IsTraceFault input) stop (λ answer y. first_fault input fault answer first y) x
 
 -- and its first fault whatever would be answered of a trace
-of_fault : (OfTrace : Trace → Answer → Type 0) (read : Result Trace (ℕ × TraceKind)) (answer : Answer) → IsReadAnswer (λ trace other. ⊥) read answer → IsReadAnswer OfTrace read answer
+of_fault : (OfTrace : Trace → Answer → Type 0) (read : Result Trace (ℕ × TraceKind)) (answer : Answer) → IsReadAnswer trace_fault_text (λ trace other. ⊥) read answer → IsReadAnswer trace_fault_text OfTrace read answer
 of_fault OfTrace (Ok trace) answer x = absurd x
 of_fault OfTrace (Err (line, fault)) answer x = x
 
 pub stop_of_fault : (OfTrace : Trace → Answer → Type 0) (input : List ℕ) (stop : Stop) → IsStop (IsTraceFault input) stop → IsStop (IsTraceAnswer OfTrace input) stop
 stop_of_fault OfTrace input stop x = stop_as (IsTraceFault input) (IsTraceAnswer OfTrace input) stop (λ answer y. of_fault OfTrace (trace_of input) answer y) x
+
+-- what tells of the first fault of a script or a journal, which is the title, whatever would be answered of one
+module _ {A : Type 0} (title : List ℕ) (IsOf : A → Answer → Type 0) (read : Result A (ℕ × ScriptKind)) where
+  document_fault : (fault : ScriptFault) (answer : Answer) → documents.IsFirstFault fault read → TellsDocumentFault title fault answer → IsReadAnswer (fault_text title) IsOf read answer
+  document_fault (document_faults.At line kind) answer first x = subst (λ r. IsReadAnswer (fault_text title) IsOf r answer) (sym first) x
+  document_fault document_faults.NoMemory answer first x = absurd x
+
+  pub document_stop : (fault : ScriptFault) (stop : Stop) → documents.IsFirstFault fault read → IsStop (TellsDocumentFault title fault) stop → IsStop (IsReadAnswer (fault_text title) IsOf read) stop
+  document_stop fault stop first x = stop_as (TellsDocumentFault title fault) (IsReadAnswer (fault_text title) IsOf read) stop (λ answer y. document_fault fault answer first y) x

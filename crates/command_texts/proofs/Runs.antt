@@ -1,21 +1,26 @@
 -- What each end of the program says of its status.
-use Rattle.std.proofs.Common.{ℕ, ◌<◌, ◌≤◌, ◌≡◌, ◌∙◌, sym, ap, subst, refl, arith, nat_lt, Bool, true, false, ◌&&◌, if◌then◌else◌, List, [], length, Option, Some, None, Result, Ok, Err, ◌⊎◌, inl, inr}
-use Rattle.std.specs.Prelude.{IfSome, IsSomeAnd, codes}
+use Rattle.std.proofs.Common.{ℕ, ◌<◌, ◌≤◌, ◌≡◌, ◌∙◌, sym, ap, subst, refl, arith, nat_lt, Bool, true, false, ◌&&◌, if◌then◌else◌, List, [], ◌++◌, length, Option, Some, None, Result, Ok, Err, ◌⊎◌, inl, inr}
+use Rattle.std.specs.Prelude.{IfSome, IsSomeAnd}
 use Rattle.std.specs.String.{string_bytes}
 use Rattle.std.proofs.lemmas.Bool.{false≢true, lt-ltb, ltb-true}
 use Rattle.fq_io.specs.Sources.{GaveAll, TookTooMany}
 use Rattle.program_model.specs.declared.command.Command.{Command}
-use Rattle.program_model.specs.declared.command.Command.TheVariants.{Script, Run, Live, Gen}
+use Rattle.program_model.specs.declared.command.Command.TheVariants.{Plain, Live}
 use Rattle.program_model.specs.declared.command.GenPrint.{GenPrint}
 use Rattle.program_model.specs.declared.command.GenPrint.TheVariants as gen
+use Rattle.program_model.specs.declared.command.PlainCommand.{PlainCommand}
+use Rattle.program_model.specs.declared.command.PlainCommand.TheVariants.{Script, Run, Gen, Check, Shape}
 use Rattle.program_model.specs.declared.ending.Failure.{Failure}
 use Rattle.program_model.specs.declared.ending.Failure.TheVariants.{Words, TooLong, Reading, Writing, Stopped}
 use Rattle.program_model.specs.declared.ending.Stop.TheVariants as stops
-use Rattle.program_model.specs.declared.fault.ScriptKind.{ScriptKind}
-use Rattle.program_model.specs.declared.fault.TraceKind.{TraceKind}
-use Rattle.program_model.specs.Answer.{Answer, Text, Message, answer_status, message_line, IsAnswerUnless}
-use Rattle.program_model.specs.Commands.{reads_input, IsAnswer}
-use Rattle.program_model.specs.Ending.{status_of}
+use Rattle.program_model.specs.declared.verdict.Verdict.{Verdict}
+use Rattle.program_model.specs.declared.verdict.Verdict.TheVariants.{Legal, Bad}
+use Rattle.program_model.specs.Answer.{Answer, Text, Message, answer_status, IsReadAnswer, IsAnswerUnless}
+use Rattle.program_model.specs.CheckCommand.{verdict_status, IsJudged}
+use Rattle.program_model.specs.Commands.{reads_input, IsPlainAnswer, IsAnswer}
+use Rattle.program_model.specs.Conforms.{too_big, too_late}
+use Rattle.program_model.specs.Ending.{failure_message, status_of}
+use Rattle.program_model.specs.FaultTexts.{script_fault_text, journal_fault_text, trace_fault_text}
 use Rattle.program_model.specs.HistoryAnswer.{IsHistoryAnswer, has_many_entries, entries_answer, makes_report, has_many_cells, cells_answer, history_output, history_answer}
 use Rattle.fq_model.specs.declared.config.Config.{Config}
 use Rattle.fq_model.specs.History.{History, history_of}
@@ -23,19 +28,21 @@ use Rattle.fq_model.specs.Report.{cells_of}
 use Rattle.program_model.specs.declared.command.HistoryPrint.{HistoryPrint}
 use Rattle.program_model.specs.Generator.{generated_trace}
 use Rattle.program_model.specs.GenCommand.{default_run_options, IsGeneratedAnswer}
+use Rattle.program_model.specs.Journal.{Journal, journal_of}
 use Rattle.program_model.specs.LiveCommand.{PoolMakes, IsPoolAnswer}
 use Rattle.program_model.specs.PoolHistory.{needed_pool_entries, pool_config}
 use Rattle.program_model.specs.RunCommand.{IsSimulationAnswer}
 use Rattle.program_model.specs.Simulated.{needed_entries, run_config, IsSimulated}
 use Rattle.program_model.specs.declared.command.HistoryPrint.TheVariants as history
 use Rattle.program_model.specs.Program.{Move, Fails, Later, TellsEnd, FailsReading, ReadsInput, ReadsTooMuch, Ends, EndsCommand, IsRun, IsAnswered, FailsWriting, if_served, greatest_input}
-use Rattle.program_model.specs.Script.{Script as Calls, script_of}
-use Rattle.program_model.specs.ScriptCommand as scripts
-use Rattle.program_model.specs.declared.command.ScriptPrint.{ScriptPrint}
+use Rattle.program_model.specs.Script.{script_of}
+use Rattle.program_model.specs.ScriptCommand.{AreCallsMade}
+use Rattle.program_model.specs.ShapeCommand.{moments_answer, IsSizedAnswer, IsShapedAnswer}
 use Rattle.program_model.specs.Statuses.{IsSaid, MaySay, MustSay, MustTell, StatusMeans, input_of, is_failure}
 use Rattle.program_model.specs.Trace.{Trace}
-use Rattle.program_model.specs.TraceCommand as traces
+use Rattle.program_model.specs.TraceCommand.{IsTraceAnswer}
 use Rattle.program_model.specs.TraceGrammar.{trace_of}
+use Rattle.program_model.specs.VerdictTexts.{verdict_text}
 use Rattle.command_texts.proofs.Making.{so_answers, else_answers}
 
 -- ---- the status of an answer is that of no failure
@@ -59,13 +66,28 @@ unless_sound : (b : Bool) (so answer : Answer) (Else : Answer → Type 0) → Is
 unless_sound true so answer Else some other x = sound_as answer so x some
 unless_sound false so answer Else some other x = other x
 
-trace_sound : (OfTrace : Trace → Answer → Type 0) (read : Result Trace (ℕ × TraceKind)) (answer : Answer) → ((T : Trace) → OfTrace T answer → IsSound answer) → traces.IsReadAnswer OfTrace read answer → IsSound answer
-trace_sound OfTrace (Ok T) answer other x = other T x
-trace_sound OfTrace (Err (line, fault)) answer other x = sound_as answer _ x refl
+-- what is answered of what an input says, or its first fault
+read_sound : {A F : Type 0} (fault_text : F → List ℕ) (IsOf : A → Answer → Type 0) (read : Result A (ℕ × F)) (answer : Answer) → ((said : A) → IsOf said answer → IsSound answer) → IsReadAnswer fault_text IsOf read answer → IsSound answer
+read_sound fault_text IsOf (Ok said) answer other x = other said x
+read_sound fault_text IsOf (Err (line, fault)) answer other x = sound_as answer _ x refl
 
-script_sound : (print : ScriptPrint) (read : Result Calls (ℕ × ScriptKind)) (answer : Answer) → scripts.IsReadAnswer print read answer → IsSound answer
-script_sound print (Ok script) answer x = sound_as answer _ x.answer_is refl
-script_sound print (Err (line, fault)) answer x = sound_as answer _ x refl
+trace_sound : (OfTrace : Trace → Answer → Type 0) (input : List ℕ) (answer : Answer) → ((T : Trace) → OfTrace T answer → IsSound answer) → IsTraceAnswer OfTrace input answer → IsSound answer
+trace_sound OfTrace input answer other x = read_sound trace_fault_text OfTrace (trace_of input) answer other x
+
+verdict_sound : (verdict : Verdict) (text : List ℕ) → IsSound (Text (verdict_status verdict) text)
+verdict_sound Legal text = refl
+verdict_sound (Bad place reply wanted) text = refl
+
+judged_sound : (asked : Option ℕ) (journal : Journal) (answer : Answer) → IsJudged asked journal answer → IsSound answer
+judged_sound asked journal answer x = sound_as answer _ x.answer_is (verdict_sound x.verdict (verdict_text journal.body x.verdict ++ x.explanation))
+
+moments_sound : (T : Trace) (moments : List ℕ) (late : Option ℕ) → IsSound (moments_answer T moments late)
+moments_sound T moments None = refl
+moments_sound T moments (Some r) = refl
+
+sized_sound : (rate burst : ℕ) (T : Trace) (big : Option ℕ) (answer : Answer) → IsSizedAnswer rate burst T big answer → IsSound answer
+sized_sound rate burst T None answer x = sound_as answer _ x.answer_is (moments_sound T x.moments (too_late x.moments))
+sized_sound rate burst T (Some r) answer x = sound_as answer _ x.answer_is refl
 
 generated_sound : (print : GenPrint) (T : Trace) (answer : Answer) → IsGeneratedAnswer print T answer → IsSound answer
 generated_sound gen.Trace T answer x = sound_as answer _ x refl
@@ -78,15 +100,20 @@ counted_sound : (IsOne : History → Type 0) (needed : ℕ) (print : HistoryPrin
 counted_sound IsOne needed print slot C tenants kinds answer x =
     unless_sound (has_many_entries needed) (entries_answer needed) answer (IsHistoryAnswer IsOne print slot C tenants kinds) refl (history_sound IsOne print slot C tenants kinds answer) x
 
-sound : (Told : ℕ → Type 0) (command : Command) (input : List ℕ) (answer : Answer) → IsAnswer Told command input answer → IsSound answer
-sound Told (Script print) input answer x = script_sound print (script_of input) answer x
-sound Told (Run options slot print) input answer x =
-    trace_sound (IsSimulationAnswer options slot print) (trace_of input) answer
+plain_sound : (command : PlainCommand) (input : List ℕ) (answer : Answer) → IsPlainAnswer command input answer → IsSound answer
+plain_sound (Script print) input answer x = read_sound script_fault_text (AreCallsMade print) (script_of input) answer (λ script y. sound_as answer _ y.answer_is refl) x
+plain_sound (Run options slot print) input answer x =
+    trace_sound (IsSimulationAnswer options slot print) input answer
     (λ T y. counted_sound (IsSimulated T options) (needed_entries T.rows options.refresh) print slot (run_config T options) T.tenants T.kinds answer y) x
+plain_sound (Gen seed tenants requests print) input answer x = generated_sound print (generated_trace seed tenants requests) answer x
+plain_sound (Check explain) input answer x = read_sound journal_fault_text (IsJudged explain) (journal_of input) answer (λ journal y. judged_sound explain journal answer y) x
+plain_sound (Shape rate burst) input answer x = trace_sound (IsShapedAnswer rate burst) input answer (λ T y. sized_sound rate burst T (too_big T burst) answer y) x
+
+sound : (Told : ℕ → Type 0) (command : Command) (input : List ℕ) (answer : Answer) → IsAnswer Told command input answer → IsSound answer
+sound Told (Plain command) input answer x = plain_sound command input answer x
 sound Told (Live options slot print) input answer x =
-    trace_sound (IsPoolAnswer Told options slot print) (trace_of input) answer
+    trace_sound (IsPoolAnswer Told options slot print) input answer
     (λ T y. counted_sound (PoolMakes Told T options) (needed_pool_entries T.rows options.refresh) print slot (pool_config T options) T.tenants T.kinds answer y) x
-sound Told (Gen seed tenants requests print) input answer x = generated_sound print (generated_trace seed tenants requests) answer x
 
 -- ---- inputs that are known
 
@@ -124,7 +151,7 @@ is_said Told command input answer within x = else_answers (nat_lt greatest_input
 
 -- what is said of one that is
 abbrev too_long : Answer
-too_long = Message 3 (message_line (codes "input longer than 67108864 bytes"))
+too_long = Message 3 (failure_message TooLong)
 
 is_too_long : (Told : ℕ → Type 0) (command : Command) (input : List ℕ) → greatest_input < length input → IsSaid Told command input too_long
 is_too_long Told command input long = so_answers (nat_lt greatest_input (length input)) too_long too_long (IsAnswer Told command input) (lt-ltb greatest_input (length input) long) refl

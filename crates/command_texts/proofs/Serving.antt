@@ -24,11 +24,12 @@ use Rattle.journal_text.specs.declared.fault.ScriptFault.{ScriptFault}
 use Rattle.journal_text.specs.declared.fault.ScriptFault.TheVariants as faults
 use Rattle.program_model.specs.declared.ending.Output.{Output}
 use Rattle.program_model.specs.declared.ending.Stop.{Stop}
-use Rattle.program_model.specs.Answer.{Answer, Text}
-use Rattle.program_model.specs.ScriptCommand.{script_output_text, IsServed, IsReadAnswer, IsScriptAnswer}
-use Rattle.command_texts.specs.Making.{Makes, IsStop}
-use Rattle.command_texts.specs.Serving.{tells_replies, tells_journal, told_text, AreAnswered, IsBodyAnswered, OpensAs, IsFaultAnswer, IsCallsAnswer, IsBodyAnswer}
-use Rattle.command_texts.proofs.Making.{stop_as, makes_as}
+use Rattle.program_model.specs.Answer.{Answer, Text, IsReadAnswer}
+use Rattle.program_model.specs.FaultTexts.{script_fault_text}
+use Rattle.program_model.specs.ScriptCommand.{script_output_text, AreCallsMade, IsScriptAnswer}
+use Rattle.command_texts.specs.Making.{Makes, IsStop, TellsDocumentFault}
+use Rattle.command_texts.specs.Serving.{tells_replies, tells_journal, told_text, AreAnswered, IsBodyAnswered, OpensAs, IsCallsAnswer, IsBodyAnswer}
+use Rattle.command_texts.proofs.Making.{stop_as, makes_as, document_stop}
 
 -- what a body says, or its first fault
 abbrev pub Said : Type 0
@@ -106,7 +107,7 @@ output_is Both replies journal = refl
 
 -- what is answered to calls is what is left of the script that has them
 served_is : (what : ScriptPrint) (head : Script) (calls : List Call) (C : Config) (names kinds : List (List ℕ)) (answer : Answer)
-    → C ≡ config_of head → names ≡ head.tenants → kinds ≡ head.kinds → IsCallsAnswer what C names kinds calls answer → IsServed what (record head { body = calls }) answer
+    → C ≡ config_of head → names ≡ head.tenants → kinds ≡ head.kinds → IsCallsAnswer what C names kinds calls answer → AreCallsMade what (record head { body = calls }) answer
 served_is what head calls C names kinds answer c n k x =
     let answered : AreAnswered (config_of head) (tells_replies what) calls x.told x.past = subst (λ (D : Config). AreAnswered D (tells_replies what) calls x.told x.past) c x.answered in
     let journal : journal_text C names kinds x.past ≡ journal_text (config_of head) head.tenants head.kinds x.past =
@@ -125,7 +126,7 @@ served_is what head calls C names kinds answer c n k x =
 
 -- what is answered by what a body says is answered by what the script says
 body_is : (what : ScriptPrint) (head : Script) (C : Config) (names kinds : List (List ℕ)) (said : Said) (answer : Answer)
-    → C ≡ config_of head → names ≡ head.tenants → kinds ≡ head.kinds → IsBodyAnswer what C names kinds said answer → IsReadAnswer what (with_body_lines head said) answer
+    → C ≡ config_of head → names ≡ head.tenants → kinds ≡ head.kinds → IsBodyAnswer what C names kinds said answer → IsReadAnswer script_fault_text (AreCallsMade what) (with_body_lines head said) answer
 body_is what head C names kinds (Ok calls) answer c n k x = served_is what head calls C names kinds answer c n k x
 body_is what head C names kinds (Err (line, fault)) answer c n k x = x
 
@@ -135,19 +136,16 @@ pub opened_is : (what : ScriptPrint) (head : Script) (below : Below) (C : Config
     → (input : List ℕ) → OpensAs input head below → Makes (IsScriptAnswer what input) made
 opened_is what head below C names kinds made c n k x input opened =
     makes_as (IsBodyAnswer what C names kinds (said_below call_of_words below)) (IsScriptAnswer what input) made
-    (λ answer y. subst (λ read. IsReadAnswer what read answer) (sym (opened.means call_of_words)) (body_is what head C names kinds (said_below call_of_words below) answer c n k y)) x
+    (λ answer y. subst (λ read. IsReadAnswer script_fault_text (AreCallsMade what) read answer) (sym (opened.means call_of_words)) (body_is what head C names kinds (said_below call_of_words below) answer c n k y)) x
 
 -- what is told of the first fault of a body, or of a script
-body_fault : (what : ScriptPrint) (C : Config) (names kinds : List (List ℕ)) (fault : ScriptFault) (said : Said) (answer : Answer) → IsFirstFault fault said → IsFaultAnswer fault answer → IsBodyAnswer what C names kinds said answer
+body_fault : (what : ScriptPrint) (C : Config) (names kinds : List (List ℕ)) (fault : ScriptFault) (said : Said) (answer : Answer) → IsFirstFault fault said → TellsDocumentFault (codes "script") fault answer → IsBodyAnswer what C names kinds said answer
 body_fault what C names kinds (faults.At line kind) said answer first x = subst (λ s. IsBodyAnswer what C names kinds s answer) (sym first) x
 body_fault what C names kinds faults.NoMemory said answer first x = absurd x
 
-pub body_stop : (what : ScriptPrint) (C : Config) (names kinds : List (List ℕ)) (fault : ScriptFault) (said : Said) (stop : Stop) → IsFirstFault fault said → IsStop (IsFaultAnswer fault) stop → IsStop (IsBodyAnswer what C names kinds said) stop
-body_stop what C names kinds fault said stop first x = stop_as (IsFaultAnswer fault) (IsBodyAnswer what C names kinds said) stop (λ answer y. body_fault what C names kinds fault said answer first y) x
+pub body_stop : (what : ScriptPrint) (C : Config) (names kinds : List (List ℕ)) (fault : ScriptFault) (said : Said) (stop : Stop) → IsFirstFault fault said → IsStop (TellsDocumentFault (codes "script") fault) stop → IsStop (IsBodyAnswer what C names kinds said) stop
+body_stop what C names kinds fault said stop first x =
+    stop_as (TellsDocumentFault (codes "script") fault) (IsBodyAnswer what C names kinds said) stop (λ answer y. body_fault what C names kinds fault said answer first y) x
 
-head_fault : (what : ScriptPrint) (input : List ℕ) (fault : ScriptFault) (answer : Answer) → IsFirstFault fault (script_of input) → IsFaultAnswer fault answer → IsScriptAnswer what input answer
-head_fault what input (faults.At line kind) answer first x = subst (λ read. IsReadAnswer what read answer) (sym first) x
-head_fault what input faults.NoMemory answer first x = absurd x
-
-pub head_stop : (what : ScriptPrint) (input : List ℕ) (fault : ScriptFault) (stop : Stop) → IsHeadFault {A = Call} fault (λ reader. document_of (codes "script") reader input) → IsStop (IsFaultAnswer fault) stop → IsStop (IsScriptAnswer what input) stop
-head_stop what input fault stop first x = stop_as (IsFaultAnswer fault) (IsScriptAnswer what input) stop (λ answer y. head_fault what input fault answer (first call_of_words) y) x
+pub head_stop : (what : ScriptPrint) (input : List ℕ) (fault : ScriptFault) (stop : Stop) → IsHeadFault {A = Call} fault (λ reader. document_of (codes "script") reader input) → IsStop (TellsDocumentFault (codes "script") fault) stop → IsStop (IsScriptAnswer what input) stop
+head_stop what input fault stop first x = document_stop (codes "script") (AreCallsMade what) (script_of input) fault stop (first call_of_words) x

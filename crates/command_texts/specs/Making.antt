@@ -5,10 +5,12 @@ use Rattle.program_model.specs.declared.ending.Output.{Output}
 use Rattle.program_model.specs.declared.ending.Stop.{Stop}
 use Rattle.program_model.specs.declared.ending.Stop.TheVariants as stops
 use Rattle.program_model.specs.Answer.{Answer, Text, Message, fault_answer}
-use Rattle.program_model.specs.FaultTexts.{trace_fault_text}
+use Rattle.program_model.specs.FaultTexts.{fault_text, trace_fault_text}
 use Rattle.program_model.specs.TraceCommand.{IsTraceAnswer}
+use Rattle.journal_text.specs.declared.fault.ScriptFault.{ScriptFault}
+use Rattle.journal_text.specs.declared.fault.ScriptFault.TheVariants as documents
 use Rattle.trace_reader.specs.declared.fault.TraceFault.{TraceFault}
-use Rattle.trace_reader.specs.declared.fault.TraceFault.TheVariants.{At, NoMemory}
+use Rattle.trace_reader.specs.declared.fault.TraceFault.TheVariants as traces
 
 -- the stop tells such an answer, or memory ran out
 abbrev pub IsStop : (Answer → Type 0) → Stop → Type 0
@@ -20,11 +22,16 @@ abbrev pub Makes : (Answer → Type 0) → Result Output Stop → Type 0
 Makes Is (Ok output) = Is (Text output.status output.text.items)
 Makes Is (Err stop) = IsStop Is stop
 
--- the answer names this fault of a trace
-abbrev pub IsFaultAnswer : TraceFault → Answer → Type 0
-IsFaultAnswer (At line kind) answer = answer ≡ fault_answer line (trace_fault_text kind)
-IsFaultAnswer NoMemory answer = ⊥
+-- the answer tells of this fault of a trace
+abbrev pub TellsTraceFault : TraceFault → Answer → Type 0
+TellsTraceFault (traces.At line kind) answer = answer ≡ fault_answer line (trace_fault_text kind)
+TellsTraceFault traces.NoMemory answer = ⊥
 
--- the answer names the first fault of an input that is no trace
+-- the answer tells of this fault of a script or a journal, which is its title
+abbrev pub TellsDocumentFault : List ℕ → ScriptFault → Answer → Type 0
+TellsDocumentFault title (documents.At line kind) answer = answer ≡ fault_answer line (fault_text title kind)
+TellsDocumentFault title documents.NoMemory answer = ⊥
+
+-- the answer tells of the first fault of an input that is no trace
 abbrev pub IsTraceFault : List ℕ → Answer → Type 0
 IsTraceFault input answer = IsTraceAnswer (λ trace other. ⊥) input answer

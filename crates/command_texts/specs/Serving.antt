@@ -13,8 +13,6 @@ use Rattle.fq_model.specs.Outcome.{Outcome}
 use Rattle.program_model.specs.Texts.{replies_text}
 use Rattle.program_model.specs.JournalText.{journal_text}
 use Rattle.journal_text.specs.Body.{Below, IsOpened}
-use Rattle.journal_text.specs.declared.fault.ScriptFault.{ScriptFault}
-use Rattle.journal_text.specs.declared.fault.ScriptFault.TheVariants.{At, NoMemory}
 use Rattle.program_model.specs.Answer.{Answer, Text, fault_answer}
 use Rattle.program_model.specs.FaultTexts.{script_fault_text}
 
@@ -54,11 +52,6 @@ pub record IsBodyAnswered (C : Config) (said : Result (List Call) (ℕ × Script
   pub calls : List Call
   pub read : said ≡ Ok calls
   pub answered : AreAnswered C tells calls text past
-
--- the answer names this fault of a script
-abbrev pub IsFaultAnswer : ScriptFault → Answer → Type 0
-IsFaultAnswer (At line kind) answer = answer ≡ fault_answer line (script_fault_text kind)
-IsFaultAnswer NoMemory answer = ⊥
 
 -- what is answered to a script with this configuration and with these tenants and kinds, by what its body says
 abbrev pub IsBodyAnswer : ScriptPrint → Config → (tenants kinds : List (List ℕ)) → Result (List Call) (ℕ × ScriptKind) → Answer → Type 0

@@ -3,10 +3,13 @@
 //! Large values are let go by `drop`: what that does is then proved once, and not anew on each path of each function.
 #![tactic(auto)]
 
+pub mod checking;
 pub mod generation;
 pub mod history;
 pub mod messages;
+pub mod plain;
 pub mod run;
 pub mod script;
 mod serve;
+pub mod shaping;
 pub mod traces;

@@ -1,8 +1,10 @@
 //! Messages in place of a text.
 ghost use Rattle.std.specs.Prelude.{◌≡◌, string_bytes, IfOk, IsOkAnd};
 ghost use Rattle.program_model.specs.Answer.{Message, message_line};
-ghost use Rattle.command_texts.specs.Making.{IsStop};
+ghost use Rattle.command_texts.specs.Making.{IsStop, TellsDocumentFault};
 
+use journal_text::fault::ScriptFault;
+use journal_text::messages::placed_fault;
 use program_model::ending::Stop;
 use std::alloc::{AllocError, Global};
 
@@ -23,4 +25,14 @@ fn line(alloc: Global, text: Result<String, AllocError>) -> Result<String, Alloc
     let text = text?;
     let line = format!(in alloc; "twodfq: {text}\n")?;
     Ok(line)
+}
+
+/// Where an input is no script or no journal, which is its title, a message that tells of its first fault.
+pub fn document_stop(alloc: Global, title: &str, fault: ScriptFault) -> Stop
+    ensures { IsStop (TellsDocumentFault title.now fault) result }
+{
+    match fault {
+        ScriptFault::At { line, kind } => told(alloc, 3, placed_fault(alloc, title, line, kind)),
+        ScriptFault::NoMemory => Stop::NoMemory,
+    }
 }

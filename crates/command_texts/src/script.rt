@@ -5,17 +5,15 @@ ghost use Rattle.program_model.specs.Script.{call_of_words};
 ghost use Rattle.program_model.specs.ScriptCommand.{IsScriptAnswer};
 ghost use Rattle.journal_text.specs.Body.{said_below};
 ghost use Rattle.tenant_table.specs.Names.{names_of};
-ghost use Rattle.command_texts.specs.Making.{Makes, IsStop};
-ghost use Rattle.command_texts.specs.Serving.{OpensAs, IsBodyAnswer, IsFaultAnswer, tells_replies, tells_journal};
+ghost use Rattle.command_texts.specs.Making.{Makes};
+ghost use Rattle.command_texts.specs.Serving.{OpensAs, IsBodyAnswer, tells_replies, tells_journal};
 
-use crate::messages::told;
+use crate::messages::document_stop;
 use crate::serve::{Served, serve};
 use fq_model::config::Checked;
 use fq_model::event::Call;
 use journal_text::body::Body;
 use journal_text::calls::{OpenScript, open_script};
-use journal_text::fault::ScriptFault;
-use journal_text::messages::placed_fault;
 use journal_text::printing::add_journal;
 use journal_text::reading::Opened;
 use program_model::command::ScriptPrint;
@@ -37,7 +35,7 @@ pub fn answer<X: Chooser + Drop>(
 {
     match open_script(alloc, input) {
         Ok(script) => opened::<X>(alloc, what, script),
-        Err(fault) => Err(fault_stop(alloc, fault)),
+        Err(fault) => Err(document_stop(alloc, "script", fault)),
     }
 }
 
@@ -72,7 +70,7 @@ fn served<'a, X: Chooser + Drop>(
 {
     match serve::<X>(alloc, config, body, tells_replies(what)) {
         Ok(served) => Ok(Output::success(told_text(alloc, what, served, tenants, kinds)?)),
-        Err(fault) => Err(fault_stop(alloc, fault)),
+        Err(fault) => Err(document_stop(alloc, "script", fault)),
     }
 }
 
@@ -131,16 +129,4 @@ fn tells_journal(what: ScriptPrint) -> bool
     ensures { result ≡ tells_journal what }
 {
     matches!(what, ScriptPrint::Journal | ScriptPrint::Both)
-}
-
-// Where an input is no script, a message that names its first fault.
-fn fault_stop(alloc: Global, fault: ScriptFault) -> Stop
-    ensures { IsStop (IsFaultAnswer fault) result }
-{
-    match fault {
-        ScriptFault::At { line, kind } => {
-            told(alloc, 3, placed_fault(alloc, "script", line, kind))
-        }
-        ScriptFault::NoMemory => Stop::NoMemory,
-    }
 }

@@ -2,7 +2,7 @@
 ghost use Rattle.std.specs.Prelude.{◌≡◌, Ok, IfOk, IfErr};
 ghost use Rattle.program_model.specs.TraceGrammar.{trace_of};
 ghost use Rattle.program_model.specs.TraceText.{IsLawfulTrace};
-ghost use Rattle.command_texts.specs.Making.{IsStop, IsTraceFault, IsFaultAnswer};
+ghost use Rattle.command_texts.specs.Making.{IsStop, IsTraceFault, TellsTraceFault};
 
 use crate::messages::told;
 use program_model::ending::Stop;
@@ -28,7 +28,7 @@ pub fn trace(alloc: Global, input: Vec<u8>) -> Result<Trace, Stop>
 
 // Where an input is no trace, a message that names its first fault.
 fn fault_stop(alloc: Global, fault: TraceFault) -> Stop
-    ensures { IsStop (IsFaultAnswer fault) result }
+    ensures { IsStop (TellsTraceFault fault) result }
 {
     match fault {
         TraceFault::At { line, kind } => told(alloc, 3, placed_fault(alloc, line, kind)),

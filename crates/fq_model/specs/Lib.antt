@@ -10,6 +10,7 @@ pub mod Keys
 pub mod Rules
 pub mod Outcome
 pub mod Gap
+pub mod Lead
 pub mod Status
 pub mod Level
 pub mod Fluid

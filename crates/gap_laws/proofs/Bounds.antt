@@ -1,18 +1,15 @@
 -- The largest difference is at most the bound: it is one at a shared prefix, and the bound is above where its run
 -- begins.
-use Rattle.std.proofs.Common.{◌≡◌, ◌++◌, arith, append_assoc, ap, sym, ◌∙◌, ℤ, ◌≤ℤ◌}
+use Rattle.std.proofs.Common.{◌≡◌, arith, ℤ, ◌≤ℤ◌}
 use Rattle.std.specs.Int.{int_max}
 use Rattle.std.proofs.lemmas.Int.{ints, clamps}
 use Rattle.fq_model.specs.History.{History}
 use Rattle.fq_model.specs.Gap.{start_difference, run_start}
-use Rattle.gap_laws.specs.Words.{IsPrefix, IsSharedIn, IsFirstIn, IsGreatestAt, IsGreatestOver, RunBegins}
+use Rattle.gap_laws.specs.Words.{IsSharedIn, IsFirstIn, IsGreatestAt, IsGreatestOver, RunBegins}
 use Rattle.gap_laws.specs.Laws.{bound_length, LargestIsBounded}
-use Rattle.gap_laws.proofs.Runs.{run_begins}
+use Rattle.gap_laws.proofs.Runs.{prefix_of_prefix, run_begins}
 use Rattle.gap_laws.proofs.Gaps.{gap_below}
 use Rattle.gap_laws.proofs.Told.{largest_greatest, bound_greatest}
-
-prefix_of_prefix : (Q P H : History) → IsPrefix Q P → IsPrefix P H → IsPrefix Q H
-prefix_of_prefix Q P H inner outer = (outer.0 ++ inner.0, outer.1 ∙ (ap (λ R. outer.0 ++ R) inner.1 ∙ sym (append_assoc outer.0 inner.0 Q)))
 
 below_bound : (x y z w b : ℤ) → w ≡ x → w ≤ℤ int_max y z → y ≤ℤ b → z ≤ℤ b → x ≤ℤ b
 below_bound x y z w b is h first lengths = omega (arith, ints, clamps)

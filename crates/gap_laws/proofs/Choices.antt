@@ -1,7 +1,8 @@
 -- What the choice of one tenant says of another with a head.
-use Rattle.std.proofs.Common.{ℕ, ◌+◌, ◌*◌, ◌<◌, ◌≤◌, ◌≢◌, arith, inl, inr, pos, ◌≤ℤ◌}
+use Rattle.std.proofs.Common.{ℕ, ◌+◌, ◌*◌, ◌<◌, ◌≤◌, ◌≢◌, arith, inl, inr, ◌⊎◌, ℤ, pos, ◌≤ℤ◌}
 use Rattle.std.specs.Prelude.{◌+ℤ◌, ◌-ℤ◌}
-use Rattle.std.proofs.lemmas.Int.{ints, by_lt_z}
+use Rattle.std.specs.Int.{int_max}
+use Rattle.std.proofs.lemmas.Int.{ints, clamps, by_lt_z}
 use Rattle.vt_fixed.proofs.Bounds.{part_le}
 use Rattle.fq_model.specs.declared.config.Policy.{Policy}
 use Rattle.fq_model.specs.declared.config.Policy.TheVariants.{Wfq, Wf2q, Msf2q, TwoDfq}
@@ -14,7 +15,7 @@ abbrev pub keys : ℕ → ℕ → ℕ → HeadKeys
 keys s len r = record { start = pos s; len = pos len; request = r }
 
 -- a head with its stagger is at most the bound's lengths long
-stagger_high : (policy : Policy) (len i n B : ℕ) → i < n → len ≤ B → (stagger policy (pos len) i n +ℤ pos len) ≤ℤ pos (lengths_in_bound policy * B)
+pub stagger_high : (policy : Policy) (len i n B : ℕ) → i < n → len ≤ B → (stagger policy (pos len) i n +ℤ pos len) ≤ℤ pos (lengths_in_bound policy * B)
 stagger_high Wfq len i n B lt low = omega (arith, ints)
 stagger_high Wf2q len i n B lt low = omega (arith, ints)
 stagger_high Msf2q len i n B lt low = omega (arith, ints)
@@ -26,7 +27,14 @@ stagger_low Wf2q len i n = omega (arith, ints)
 stagger_low Msf2q len i n = omega (arith, ints)
 stagger_low TwoDfq len i n = omega (arith, ints)
 
-length_counts : (policy : Policy) (B : ℕ) → B ≤ lengths_in_bound policy * B
+-- a stagger is at most its length
+pub stagger_at_most : (policy : Policy) (len i n : ℕ) → i < n → stagger policy (pos len) i n ≤ℤ pos len
+stagger_at_most Wfq len i n lt = omega (arith, ints)
+stagger_at_most Wf2q len i n lt = omega (arith, ints)
+stagger_at_most Msf2q len i n lt = omega (arith, ints)
+stagger_at_most TwoDfq len i n lt = omega (arith, ints, part_le len i n lt)
+
+pub length_counts : (policy : Policy) (B : ℕ) → B ≤ lengths_in_bound policy * B
 length_counts Wfq B = omega arith
 length_counts Wf2q B = omega arith
 length_counts Msf2q B = omega arith
@@ -37,9 +45,6 @@ by_finish : (a b x y r s B : ℕ) → y ≤ B → FinishBefore (keys a x r) (key
 by_finish a b x y r s B low (inl h) = omega (arith, ints)
 by_finish a b x y r s B low (inr h) = omega (arith, ints)
 
-by_key : (policy : Policy) (i n a b x y B : ℕ) → i < n → x ≤ B → (pos a -ℤ stagger policy (pos x) i n) ≤ℤ (pos b -ℤ stagger policy (pos y) i n) → a + x ≤ b + lengths_in_bound policy * B
-by_key policy i n a b x y B lt low h = omega (arith, ints, stagger_high policy x i n B lt low, stagger_low policy y i n)
-
 key_first : (at : Turn) (k l : HeadKeys) → EligibleBefore at k l → eligible_key at k ≤ℤ eligible_key at l
 key_first at k l (inl h) = omega (arith, ints)
 key_first at k l (inr h) = omega (arith, ints)
@@ -49,11 +54,19 @@ key_passes : (at : Turn) (k l : HeadKeys) → IsEligible at k → ¬ IsEligible 
 key_passes at k l (inl all) out = absurd (out (inl all))
 key_passes at k l (inr is) out = by_lt_z at.virtual_time (eligible_key at l) (λ late. omega (arith, ints)) (λ early. absurd (out (inr early)))
 
--- after its Take the chosen tenant is ahead of another with a head by at most one length, or under 2dfq by two
-pub chosen_bound : (at : Turn) (Has : ℕ → HeadKeys → Type 0) (f g a b x y r s B : ℕ) → at.worker < at.workers → g ≢ f → Has g (keys b y s) → x ≤ B → y ≤ B → IsChoice at Has f (keys a x r) → a + x ≤ b + lengths_in_bound at.policy * B
-chosen_bound at Has f g a b x y r s B lt ne has low_x low_y (inl c) = elim (eligible_or_not at (keys b y s)) [
-  | inl early ↦ omega (arith, by_finish a b x y r s B low_y (c.first g (keys b y s) ne has early), length_counts at.policy B)
-  | inr late ↦ by_key at.policy at.worker at.workers a b x y B lt low_x (key_passes at (keys a x r) (keys b y s) c.passes late)
-]
-chosen_bound at Has f g a b x y r s B lt ne has low_x low_y (inr c) =
-    by_key at.policy at.worker at.workers a b x y B lt low_x (key_first at (keys a x r) (keys b y s) (c.1.first g (keys b y s) ne has tt))
+by_key_ahead : (policy : Policy) (i n a b x y : ℕ) → (pos a -ℤ stagger policy (pos x) i n) ≤ℤ (pos b -ℤ stagger policy (pos y) i n) → pos (a + x) ≤ℤ (pos b +ℤ (stagger policy (pos x) i n +ℤ pos x))
+by_key_ahead policy i n a b x y h = omega (arith, ints, stagger_low policy y i n)
+
+either_ahead : (a b x y : ℕ) (part : ℤ) → (a + x ≤ b + y) ⊎ (pos (a + x) ≤ℤ (pos b +ℤ (part +ℤ pos x))) → pos (a + x) ≤ℤ (pos b +ℤ int_max (pos y) (part +ℤ pos x))
+either_ahead a b x y part (inl h) = omega (arith, ints, clamps)
+either_ahead a b x y part (inr h) = omega (arith, ints, clamps)
+
+-- after its Take the chosen tenant is ahead of another with a head by no more than that head is long, or than its own
+-- head and its stagger
+pub chosen_lead : (at : Turn) (Has : ℕ → HeadKeys → Type 0) (f g a b x y r s : ℕ) → at.worker < at.workers → g ≢ f → Has g (keys b y s) → IsChoice at Has f (keys a x r) → pos (a + x) ≤ℤ (pos b +ℤ int_max (pos y) (stagger at.policy (pos x) at.worker at.workers +ℤ pos x))
+chosen_lead at Has f g a b x y r s lt ne has (inl c) = either_ahead a b x y (stagger at.policy (pos x) at.worker at.workers) (elim (eligible_or_not at (keys b y s)) [
+  | inl early ↦ inl (by_finish a b x y r s y (omega arith) (c.first g (keys b y s) ne has early))
+  | inr late ↦ inr (by_key_ahead at.policy at.worker at.workers a b x y (key_passes at (keys a x r) (keys b y s) c.passes late))
+])
+chosen_lead at Has f g a b x y r s lt ne has (inr c) = either_ahead a b x y (stagger at.policy (pos x) at.worker at.workers)
+    (inr (by_key_ahead at.policy at.worker at.workers a b x y (key_first at (keys a x r) (keys b y s) (c.1.first g (keys b y s) ne has tt))))

@@ -40,7 +40,7 @@ premises_are n k C P s lim l d =
 unfoldable pub is_shared_within : ℕ → History → ℕ → ℕ → Bool
 is_shared_within n P f g = is_some (head_within n P f) && is_some (head_within n P g)
 
-is_shared_is : (n k : ℕ) (P : History) (f g : ℕ) → IsShort n k P → is_shared P f g ≡ is_shared_within n P f g
+pub is_shared_is : (n k : ℕ) (P : History) (f g : ℕ) → IsShort n k P → is_shared P f g ≡ is_shared_within n P f g
 unfolding is_shared is_shared_within
 is_shared_is n k P f g s = rw (head_is n k P f s, head_is n k P g s) refl
 
@@ -58,7 +58,7 @@ shared_within n C (e ∷ P) f g =
     then difference_within n C (e ∷ P) f g ∷ shared_within n C P f g
     else shared_within n C P f g
 
-shared_is : (n k : ℕ) (C : Config) (P : History) (f g : ℕ) → IsShort n k P → shared_differences C P f g ≡ shared_within n C P f g
+pub shared_is : (n k : ℕ) (C : Config) (P : History) (f g : ℕ) → IsShort n k P → shared_differences C P f g ≡ shared_within n C P f g
 unfolding shared_differences shared_within
 shared_is n k C [] f g s = refl
 shared_is n k C (e ∷ P) f g s =

@@ -27,7 +27,7 @@ member_map f x [] h = absurd h
 member_map f x (z ∷ xs) (inl e) = inl (ap f e)
 member_map f x (z ∷ xs) (inr h) = inr (member_map f x xs h)
 
-greatest_covers : (x : ℕ) (xs : List ℕ) → Member x xs → x ≤ greatest xs
+pub greatest_covers : (x : ℕ) (xs : List ℕ) → Member x xs → x ≤ greatest xs
 greatest_covers x [] h = absurd h
 greatest_covers x (z ∷ xs) (inl e) = omega arith
 greatest_covers x (z ∷ xs) (inr h) = omega (arith, greatest_covers x xs h)

@@ -1,9 +1,17 @@
 pub mod Declared
 pub mod Starts
 pub mod Choices
+pub mod Running
 pub mod Lengths
 pub mod Runs
 pub mod Gaps
+pub mod Leads
+pub mod WorstCase
+pub mod Undoubted
+pub mod Measured
+pub mod Service
+pub mod Takes
 pub mod Told
 pub mod Bounds
 pub mod Computed
+pub mod ComputedLeads

@@ -1,5 +1,5 @@
 -- Runs of shared prefixes, and where they begin.
-use Rattle.std.proofs.Common.{ℕ, ◌≤◌, ◌⊎◌, length, length-append, arith, ◌≡◌, true, false, refl, sym, ap, subst, inl, inr, [], ◌∷◌, ◌++◌, Option, Some, None}
+use Rattle.std.proofs.Common.{ℕ, ◌≤◌, ◌⊎◌, ◌∙◌, append_assoc, length, length-append, arith, ◌≡◌, true, false, refl, sym, ap, subst, inl, inr, [], ◌∷◌, ◌++◌, Option, Some, None}
 use Rattle.std.specs.Prelude.{is_some}
 use Rattle.std.proofs.lemmas.Bool.{cases_Bool, both_ways, false≢true, and_parts}
 use Rattle.fq_model.specs.declared.event.Entry.{Entry}
@@ -52,6 +52,9 @@ run_new e P f g h = rw h refl
 -- what a prefix is a prefix of is a prefix of one entry more
 pub prefix_older : (e : Entry) (P R : History) → IsPrefix R P → IsPrefix R (e ∷ P)
 prefix_older e P R h = (e ∷ h.0, ap (λ Q. e ∷ Q) h.1)
+
+pub prefix_of_prefix : (Q P H : History) → IsPrefix Q P → IsPrefix P H → IsPrefix Q H
+prefix_of_prefix Q P H inner outer = (outer.0 ++ inner.0, outer.1 ∙ (ap (λ R. outer.0 ++ R) inner.1 ∙ sym (append_assoc outer.0 inner.0 Q)))
 
 -- a prefix is the history or one of a shorter history
 prefix_cases : (e : Entry) (P R : History) → IsPrefix R (e ∷ P) → (R ≡ e ∷ P) ⊎ IsPrefix R P

@@ -14,11 +14,11 @@ use Rattle.gap_laws.proofs.Runs.{nil_unshared, prefix_older}
 
 -- ---- the greatest of numbers
 
-abbrev Among : ℤ → List ℤ → Type 0
+abbrev pub Among : ℤ → List ℤ → Type 0
 Among x [] = ⊥
 Among x (y ∷ ys) = (x ≡ y) ⊎ Among x ys
 
-among_low : (z x : ℤ) (ys : List ℤ) → Among z (x ∷ ys) → z ≤ℤ greatest_with x ys
+pub among_low : (z x : ℤ) (ys : List ℤ) → Among z (x ∷ ys) → z ≤ℤ greatest_with x ys
 among_low z x [] (inl e) = omega (arith, ints)
 among_low z x [] (inr h) = absurd h
 among_low z x (y ∷ ys) (inl e) = omega (arith, ints, clamps, e, among_low z x ys (inl e))
@@ -41,12 +41,12 @@ greatest_among x (y ∷ ys) = among_greater x y (greatest_with x ys) (greatest_w
 -- ---- values at prefixes
 
 -- the values at the prefixes of H that pass the test and have an entry
-values_where : (History → Bool) → (History → ℤ) → History → List ℤ
+unfoldable pub values_where : (History → Bool) → (History → ℤ) → History → List ℤ
 values_where test value [] = []
 values_where test value (e ∷ P) = cond (test (e ∷ P)) (value (e ∷ P) ∷ values_where test value P) (values_where test value P)
 
 -- each of them is counted
-value_counted : (test : History → Bool) (value : History → ℤ) (newer P : History) → test [] ≡ false → test P ≡ true → Among (value P) (values_where test value (newer ++ P))
+pub value_counted : (test : History → Bool) (value : History → ℤ) (newer P : History) → test [] ≡ false → test P ≡ true → Among (value P) (values_where test value (newer ++ P))
 unfolding values_where
 value_counted test value [] [] none h = absurd (both_ways _ none h)
 value_counted test value [] (e ∷ P) none h = rw h (inl refl)
@@ -81,7 +81,7 @@ value_found test value (e ∷ P) x h = elim (cases_Bool (test (e ∷ P))) [
 shared_test : ℕ → ℕ → History → Bool
 shared_test f g P = is_shared P f g
 
-first_test : ℕ → ℕ → History → Bool
+unfoldable pub first_test : ℕ → ℕ → History → Bool
 first_test f g P = is_shared P f g && not (is_shared (drop 1 P) f g)
 
 difference : Config → ℕ → ℕ → History → ℤ
@@ -101,7 +101,7 @@ shared_none : (f g : ℕ) → shared_test f g [] ≡ false
 unfolding shared_test
 shared_none f g = nil_unshared f g
 
-first_none : (f g : ℕ) → first_test f g [] ≡ false
+pub first_none : (f g : ℕ) → first_test f g [] ≡ false
 unfolding first_test
 first_none f g = and_left _ _ (nil_unshared f g)
 
@@ -129,7 +129,7 @@ first_found C H f g x h =
     (w.at, ((w.is_prefix, p.0), not-true _ p.1), w.is)
 
 -- what is told, if a gap is
-gap_parts : (o : Option ℤ) (b : ℤ) (gap : TagGap) → option_map (λ largest. record { largest = largest; bound = b }) o ≡ Some gap → (o ≡ Some gap.largest) × (gap.bound ≡ b)
+pub gap_parts : (o : Option ℤ) (b : ℤ) (gap : TagGap) → option_map (λ largest. record { largest = largest; bound = b }) o ≡ Some gap → (o ≡ Some gap.largest) × (gap.bound ≡ b)
 gap_parts None b gap h = absurd (cc)
 gap_parts (Some x) b gap h =
     let j : record { largest = x; bound = b } ≡ gap = cc in
@@ -144,9 +144,13 @@ greatest_at C H f g (y ∷ ys) x is h =
       greatest = λ P s. rw (← e) (among_low (start_difference C P f g) y ys (rw is at (shared_counted C H P f g s)));
     }
 
+pub largest_at : (C : Config) (H : History) (f g : ℕ) (x : ℤ) → largest_difference C H f g ≡ Some x → IsGreatestAt (IsSharedIn H f g) (λ P. start_difference C P f g) x
+unfolding largest_difference
+largest_at C H f g x h = greatest_at C H f g (shared_differences C H f g) x refl h
+
 pub largest_greatest : LargestIsGreatest
-unfolding tag_gap largest_difference
-largest_greatest C H f g gap h = greatest_at C H f g (shared_differences C H f g) gap.largest refl (gap_parts (largest_difference C H f g) (difference_bound C H f g) gap h).0
+unfolding tag_gap
+largest_greatest C H f g gap h = largest_at C H f g gap.largest (gap_parts (largest_difference C H f g) (difference_bound C H f g) gap h).0
 
 pub bound_greatest : BoundIsGreatest
 unfolding tag_gap difference_bound

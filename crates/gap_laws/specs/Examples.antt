@@ -70,3 +70,51 @@ weights_history =
     ∷ entry 0 0 (Submit 1 0 0 4 2)
     ∷ entry 0 0 (Submit 0 0 0 4 1)
     ∷ []
+
+-- ---- costs that are not known
+
+-- one worker, and two tenants of weight 1, under wfq
+unfoldable pub doubt_config : Config
+doubt_config = record { workers = 1; weights = 1 ∷ 1 ∷ []; kinds = 1; entries = 100; requests = 10; policy = Wfq; estimate = Declared; initial = 1000 }
+
+-- the head of tenant 1 is 4 long; tenant 0 has requests that are thought to be 1 long, of which the fourth turns out to
+-- be 4 long
+unfoldable pub doubt_history : History
+doubt_history =
+    entry 10 7 (Done 0 3 4)
+    ∷ entry 10 3 (Take 0 3 1)
+    ∷ entry 10 3 (Done 0 2 1)
+    ∷ entry 10 2 (Take 0 2 1)
+    ∷ entry 10 2 (Done 0 1 1)
+    ∷ entry 10 1 (Take 0 1 1)
+    ∷ entry 10 1 (Done 0 0 1)
+    ∷ entry 10 0 (Take 0 0 1)
+    ∷ entry 1 0 (Submit 5 1 0 4 6)
+    ∷ entry 0 0 (Submit 4 0 0 1 5)
+    ∷ entry 0 0 (Submit 3 0 0 1 4)
+    ∷ entry 0 0 (Submit 2 0 0 1 3)
+    ∷ entry 0 0 (Submit 1 0 0 1 2)
+    ∷ entry 0 0 (Submit 0 0 0 1 1)
+    ∷ []
+
+-- ---- requests that cost nothing
+
+-- tenant 1 has a head that is 2 long
+unfoldable pub free_begun : History
+free_begun =
+    entry 1 0 (Submit 3 1 0 2 4)
+    ∷ entry 0 0 (Submit 2 0 0 1 3)
+    ∷ entry 0 0 (Submit 1 0 0 1 2)
+    ∷ entry 0 0 (Submit 0 0 0 1 1)
+    ∷ []
+
+-- and each request of tenant 0 turns out to cost nothing
+unfoldable pub free_newer : History
+free_newer =
+    entry 10 0 (Done 0 2 0)
+    ∷ entry 10 0 (Take 0 2 1)
+    ∷ entry 10 0 (Done 0 1 0)
+    ∷ entry 10 0 (Take 0 1 1)
+    ∷ entry 10 0 (Done 0 0 0)
+    ∷ entry 10 0 (Take 0 0 1)
+    ∷ []

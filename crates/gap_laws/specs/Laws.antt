@@ -1,5 +1,6 @@
--- What bounds how far one tenant gets ahead of another, where every request costs what was declared.
-use Rattle.std.specs.Prelude.{ℕ, ◌+◌, ◌*◌, ◌≡◌, true, ◌∷◌, Some, None, ℤ, pos, ◌≤ℤ◌, ◌↔◌}
+-- What bounds how far one tenant gets ahead of another: where every request costs what was declared, and where nobody
+-- knows what one costs.
+use Rattle.std.specs.Prelude.{ℕ, ◌+◌, ◌*◌, ◌≡◌, ◌≢◌, true, ◌∷◌, ◌++◌, Some, None, ℤ, pos, ◌+ℤ◌, ◌-ℤ◌, ◌≤ℤ◌, ◌↔◌}
 use Rattle.std.specs.Int.{int_max}
 use Rattle.fq_model.specs.declared.config.Config.{Config}
 use Rattle.fq_model.specs.declared.event.Entry.{Entry}
@@ -8,7 +9,10 @@ use Rattle.fq_model.specs.Time.{last_moment}
 use Rattle.fq_model.specs.Charge.{virtual_charge}
 use Rattle.fq_model.specs.Keys.{start}
 use Rattle.fq_model.specs.Gap.{is_shared, start_difference, run_start, lengths_in_bound, longest_length, TagGap, tag_gap}
-use Rattle.gap_laws.specs.Words.{HasDeclaredCosts, taken_length, IsSharedIn, IsFirstIn, RunBegins, IsGreatestAt, IsGreatestOver}
+use Rattle.fq_model.specs.Limits.{InLimits}
+use Rattle.fq_model.specs.Rules.{IsLegal}
+use Rattle.fq_model.specs.Lead.{lead, measured_gap}
+use Rattle.gap_laws.specs.Words.{IsPrefix, AreSharedFrom, WaitsFrom, AreNoShorter, takes_after, AreCaps, AreLows, TakesStayBelow, IsLongest, IsAccount, HasDeclaredCosts, taken_length, IsSharedIn, IsFirstIn, RunBegins, IsGreatestAt, IsGreatestOver}
 
 -- ---- what moves a charge and a start
 
@@ -65,3 +69,60 @@ abbrev pub BoundIsGreatest : Type 0
 BoundIsGreatest =
     (C : Config) (H : History) (f g : ℕ) (gap : TagGap) → tag_gap C H f g ≡ Some gap
     → IsGreatestOver (IsFirstIn H f g) (λ P. start_difference C P f g) (bound_length C H f g) gap.bound
+
+-- ---- where costs are not known
+
+-- the lead of f over g, at a prefix P at which both wait, is at most what it was where the run of P began, or what no
+-- Take of f passes, whatever caps and lows the lengths keep to
+abbrev pub LeadStaysBelow : Type 0
+LeadStaysBelow =
+    (cap low : ℕ → ℕ) (C : Config) (H P : History) (f g : ℕ) (B : ℤ) → f ≢ g → InLimits C → IsLegal C H
+    → AreCaps C H f cap → AreLows C H g low → TakesStayBelow cap low C H f g B → IsSharedIn H f g P
+    → lead cap low C P f g ≤ℤ int_max (lead cap low C (run_start P f g) f g) B
+
+-- how far f is ahead of g at most where no request is longer than M, whatever comes of what runs
+abbrev pub worst_lead : ℕ → Config → History → ℕ → ℕ → ℤ
+worst_lead M C P f g = lead (λ r. M) (λ r. 0) C P f g
+
+-- one request of the greatest length more than there are workers
+abbrev pub all_and_one : Config → ℕ → ℕ
+all_and_one C M = C.workers * M + M
+
+-- the worst case: that many requests, less a step
+abbrev pub WorstLeadStaysBelow : Type 0
+WorstLeadStaysBelow =
+    (C : Config) (H P : History) (f g M : ℕ) → f ≢ g → InLimits C → IsLegal C H → IsLongest C H f g M
+    → IsSharedIn H f g P
+    → worst_lead M C P f g ≤ℤ int_max (worst_lead M C (run_start P f g) f g) (pos (all_and_one C M) -ℤ pos 1)
+
+-- by starts alone: f is ahead of g by no more than it was where the run began or by one request of the greatest length,
+-- and by one more for each worker
+abbrev pub DifferenceStaysBelow : Type 0
+DifferenceStaysBelow =
+    (C : Config) (H P : History) (f g M : ℕ) → f ≢ g → InLimits C → IsLegal C H → IsLongest C H f g M
+    → IsSharedIn H f g P
+    → start_difference C P f g ≤ℤ (int_max (start_difference C (run_start P f g) f g) (pos M) +ℤ pos (C.workers * M))
+
+-- the measured bound: the largest difference of a gap is at most what it tells, whatever the costs
+abbrev pub MeasuredIsBounded : Type 0
+MeasuredIsBounded =
+    (C : Config) (H : History) (f g : ℕ) (gap : TagGap) → f ≢ g → InLimits C → IsLegal C H
+    → measured_gap C H f g ≡ Some gap → gap.largest ≤ℤ gap.bound
+
+-- by any account f gains on g, from P to Q and while both wait, no more than one request of the greatest length more
+-- than there are workers, and once more as much, or the lead that g had where both began to wait
+abbrev pub GainStaysBelow : Type 0
+GainStaysBelow =
+    (C : Config) (P Q : History) (f g M : ℕ) (of_f of_g : History → ℤ) → f ≢ g → InLimits C → IsLegal C Q
+    → IsLongest C Q f g M → IsLongest C Q g f M → IsPrefix P Q → AreSharedFrom P Q f g
+    → IsAccount M C Q f of_f → IsAccount M C Q g of_g
+    → ((of_f Q -ℤ of_f P) -ℤ (of_g Q -ℤ of_g P))
+        ≤ℤ (pos (all_and_one C M) +ℤ int_max (worst_lead M C (run_start P g f) g f) (pos (all_and_one C M)))
+
+-- while the head of g waits, from S on, f is taken no more often than its least length c goes into the lead of g at S
+-- and one request of the greatest length, and once more
+abbrev pub TakesAreFew : Type 0
+TakesAreFew =
+    (C : Config) (newer S : History) (f g r M c : ℕ) → f ≢ g → InLimits C → IsLegal C (newer ++ S)
+    → IsLongest C (newer ++ S) f g M → AreNoShorter C S (newer ++ S) f c → WaitsFrom S (newer ++ S) g r
+    → pos (takes_after f newer S * c) ≤ℤ (pos c +ℤ int_max (pos 0) (worst_lead M C S g f +ℤ pos M))

@@ -1,13 +1,16 @@
 -- Words for the laws.
-use Rattle.std.specs.Prelude.{ℕ, ◌==◌, ◌≡◌, true, false, if◌then◌else◌, ◌++◌, drop, Option, Some, None, ℤ, ◌≤ℤ◌, ◌⊎◌}
+use Rattle.std.specs.Prelude.{ℕ, ◌+◌, ◌==◌, ◌≡◌, ◌≤◌, true, false, if◌then◌else◌, [], ◌∷◌, ◌++◌, drop, Option, Some, None, is_some, ℤ, pos, ◌+ℤ◌, ◌≤ℤ◌, ◌⊎◌}
 use Rattle.vt_fixed.specs.Rounding.{length_of}
 use Rattle.fq_model.specs.declared.config.Config.{Config}
 use Rattle.fq_model.specs.declared.event.Act.{Act}
 use Rattle.fq_model.specs.declared.event.Act.TheVariants.{Take}
 use Rattle.fq_model.specs.Limits.{InLimits}
-use Rattle.fq_model.specs.History.{History, Request, request_at, weight_at}
+use Rattle.fq_model.specs.History.{History, Request, request_at, is_taken, head, weight_at}
 use Rattle.fq_model.specs.Rules.{IsLegal}
+use Rattle.fq_model.specs.declared.event.Entry.{Entry}
+use Rattle.fq_model.specs.Charge.{is_taken_of}
 use Rattle.fq_model.specs.Gap.{is_shared, not_declared}
+use Rattle.fq_model.specs.Lead.{request_length, doubt, most, least, takes_of, head_length, lead_of_take}
 
 -- H is a legal history of a configuration that is in its limits, and each of its requests is as declared
 pub record HasDeclaredCosts (C : Config) (H : History) : Type 0 where
@@ -52,3 +55,53 @@ pub record IsGreatestOver (Passes : History → Type 0) (value : History → ℤ
   pub reached : (x ≡ y) ⊎ ((P : History) × Passes P × (value P ≡ x))
   pub least : y ≤ℤ x
   pub greatest : (P : History) → Passes P → value P ≤ℤ x
+
+-- no request of tenant t that is taken at a prefix of H is longer there than its cap
+abbrev pub AreCaps : Config → History → ℕ → (ℕ → ℕ) → Type 0
+AreCaps C H t cap =
+    (Q : History) (r : ℕ) → IsPrefix Q H → is_taken_of Q t r ≡ true → request_length C Q t r ≤ cap r
+
+-- and none is shorter than its low
+abbrev pub AreLows : Config → History → ℕ → (ℕ → ℕ) → Type 0
+AreLows C H t low =
+    (Q : History) (r : ℕ) → IsPrefix Q H → is_taken_of Q t r ≡ true → low r ≤ request_length C Q t r
+
+-- wherever a worker takes a request of f while both wait, f is then ahead of g by no more than B, with the doubt
+abbrev pub TakesStayBelow : (cap low : ℕ → ℕ) → Config → History → ℕ → ℕ → ℤ → Type 0
+TakesStayBelow cap low C H f g B =
+    (e : Entry) (Q : History) (i : ℕ) → IsPrefix (e ∷ Q) H → is_shared Q f g ≡ true → takes_of f Q e.act ≡ Some i
+    → (lead_of_take C Q i f g +ℤ pos (doubt cap low C (e ∷ Q) f g)) ≤ℤ B
+
+-- no request of f or g that is taken at a prefix of H is longer there than M, and no head of the two is, where a
+-- request of f is taken while both wait
+pub record IsLongest (C : Config) (H : History) (f g M : ℕ) : Type 0 where
+  pub of_f : AreCaps C H f (λ r. M)
+  pub of_g : AreCaps C H g (λ r. M)
+  pub heads :
+      (e : Entry) (Q : History) (i : ℕ) → IsPrefix (e ∷ Q) H → is_shared Q f g ≡ true → takes_of f Q e.act ≡ Some i
+      → (head_length C Q f ≤ M) × (head_length C Q g ≤ M)
+
+-- an account of what tenant t has, at the prefixes of H: no less than with nothing of what runs, no more than if each
+-- request that runs is M long. The charged service by weight is one, and so is that of finished requests alone.
+abbrev pub IsAccount : ℕ → Config → History → ℕ → (History → ℤ) → Type 0
+IsAccount M C H t account =
+    (P : History) → IsPrefix P H
+    → (least (λ r. 0) C P t ≤ℤ account P) × (account P ≤ℤ most (λ r. M) C P t)
+
+-- at all prefixes of H from P on both tenants wait
+abbrev pub AreSharedFrom : History → History → ℕ → ℕ → Type 0
+AreSharedFrom P H f g = (Q : History) → IsPrefix Q H → IsPrefix P Q → is_shared Q f g ≡ true
+
+-- at all prefixes of H from S on the head of tenant t is r, which so waits all the while
+abbrev pub WaitsFrom : History → History → ℕ → ℕ → Type 0
+WaitsFrom S H t r = (Q : History) → IsPrefix Q H → IsPrefix S Q → head Q t ≡ Some r
+
+-- no request of tenant t that is taken after S is shorter than c at a prefix of H
+abbrev pub AreNoShorter : Config → History → History → ℕ → ℕ → Type 0
+AreNoShorter C S H t c =
+    (Q : History) (r : ℕ) → IsPrefix Q H → is_taken_of Q t r ≡ true → is_taken S r ≡ false → c ≤ request_length C Q t r
+
+-- how many of the newer entries, which follow S, take a request of tenant t
+abbrev pub takes_after : ℕ → (newer S : History) → ℕ
+takes_after t [] S = 0
+takes_after t (e ∷ newer) S = (if is_some (takes_of t (newer ++ S) e.act) then 1 else 0) + takes_after t newer S

@@ -2,11 +2,15 @@
 //! of the laws and what its gap is, and its body is empty. Each shows that one part of the bound cannot be left out.
 //! Each number can be found by hand, as the comments do. A unit of virtual time is 2^20 steps; tenants, requests and
 //! workers count from 0.
-ghost use Rattle.std.specs.Prelude.{◌≡◌, Some};
+ghost use Rattle.std.specs.Prelude.{◌≡◌, ◌++◌, Some};
+ghost use Rattle.fq_model.specs.Lead.{measured_gap};
+ghost use Rattle.fq_model.specs.Limits.{InLimits};
+ghost use Rattle.fq_model.specs.Rules.{IsLegal};
 ghost use Rattle.fq_model.specs.Gap.{longest_length, tag_gap};
 ghost use Rattle.worked_histories.specs.Examples.{units};
-ghost use Rattle.gap_laws.specs.Words.{HasDeclaredCosts};
+ghost use Rattle.gap_laws.specs.Words.{HasDeclaredCosts, takes_after};
 ghost use Rattle.gap_laws.specs.Examples.{gap_of, stagger_config, stagger_history, begun_config, begun_history, weights_config, weights_history};
+ghost use Rattle.gap_laws.specs.Examples.{doubt_config, doubt_history, free_begun, free_newer};
 
 /// Under the staggered policy one longest length is not enough. At 4 tenant 0 starts at 8, and worker 1 of 2 takes half
 /// of its 8 off: it is eligible at 4. Tenant 1 starts at 6 and is eligible at 6 - 1/2, so tenant 0 is chosen and goes
@@ -31,4 +35,28 @@ pub fn weights()
     ensures premises { HasDeclaredCosts weights_config weights_history }
     ensures longest { longest_length weights_config weights_history 0 1 ≡ units 10 }
     ensures gap { tag_gap weights_config weights_history 0 1 ≡ Some (gap_of 8 10) }
+{}
+
+/// The measured bound is met, and so is the worst case to within one unit: 2 times 4, less a step. Tenant 0 is charged
+/// 1 for each of three requests, and then takes one that is thought to be 1 long, since it would finish at 4 as the
+/// head of tenant 1 would. It turns out to be 4 long, so that tenant 0 starts at 7 and tenant 1 still at 0. The bound
+/// is the greatest head, 4, and the doubt after that Take, 4 - 1.
+pub fn doubt()
+    ensures limits { InLimits doubt_config }
+    ensures legal { IsLegal doubt_config doubt_history }
+    ensures gap { measured_gap doubt_config doubt_history 0 1 ≡ Some (gap_of 7 7) }
+{}
+
+/// Where both begin to wait counts here too. Nothing is taken while both wait, and tenant 0 is ahead by 20.
+pub fn begun_ahead()
+    ensures { measured_gap begun_config begun_history 0 1 ≡ Some (gap_of 20 20) }
+{}
+
+/// Where requests cost nothing a head may wait for ever. Three times a request of tenant 0 is taken, and each time its
+/// start is back at 0, so that it is never ahead by more than 1. The head of tenant 1, which is 2 long, bounds that.
+pub fn free()
+    ensures limits { InLimits doubt_config }
+    ensures legal { IsLegal doubt_config (free_newer ++ free_begun) }
+    ensures takes { takes_after 0 free_newer free_begun ≡ 3 }
+    ensures gap { measured_gap doubt_config (free_newer ++ free_begun) 0 1 ≡ Some (gap_of 1 2) }
 {}

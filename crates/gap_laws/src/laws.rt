@@ -1,5 +1,5 @@
 //! The laws, one function a law: its contract is the law, and its body is empty.
-ghost use Rattle.gap_laws.specs.Laws.{ChargeRisesAtTakes, StartRisesAtTakes, RunStartIs, GapStaysBelow, LargestIsBounded, GapIsThere, LargestIsGreatest, BoundIsGreatest};
+ghost use Rattle.gap_laws.specs.Laws.{ChargeRisesAtTakes, StartRisesAtTakes, RunStartIs, GapStaysBelow, LargestIsBounded, GapIsThere, LargestIsGreatest, BoundIsGreatest, LeadStaysBelow, WorstLeadStaysBelow, DifferenceStaysBelow, MeasuredIsBounded, GainStaysBelow, TakesAreFew};
 
 /// Where every request costs what was declared, a Take adds the length of the declared cost to the virtual charge of
 /// its tenant, and nothing else changes a virtual charge: no Report and no Done.
@@ -45,4 +45,45 @@ pub fn largest_is_greatest()
 /// greatest of these.
 pub fn bound_is_greatest()
     ensures { BoundIsGreatest }
+{}
+
+/// Where costs are not known: while two tenants both wait, and whatever comes of the requests that run, the one is
+/// ahead of the other by no more than it was when both began to wait, or than a Take of its own leaves it. Nothing else
+/// is asked of the history than that it is legal: not which estimator, not how wrong it is, not which weights and
+/// workers.
+pub fn lead_stays_below()
+    ensures { LeadStaysBelow }
+{}
+
+/// So in the worst case, where no request is longer than `M` and some may turn out as long, or cost nothing: less than
+/// one request of the greatest length more than there are workers.
+pub fn worst_lead_stays_below()
+    ensures { WorstLeadStaysBelow }
+{}
+
+/// The same of starts alone: one request of the greatest length for each worker, beyond one such request or the lead
+/// that there was when both began to wait.
+pub fn difference_stays_below()
+    ensures { DifferenceStaysBelow }
+{}
+
+/// And as it is measured on any legal history: what a measured gap tells as the largest difference is at most the bound
+/// that it tells.
+pub fn measured_is_bounded()
+    ensures { MeasuredIsBounded }
+{}
+
+/// What the one gains on the other over a while in which both wait, in the manner of Golestani (1994), and by any
+/// account of what they have: charged, finished or measured otherwise, as long as what runs counts something from
+/// nothing to the greatest length. At most twice one request of the greatest length more than there are workers, unless
+/// the other had a greater lead when both began to wait.
+pub fn gain_stays_below()
+    ensures { GainStaysBelow }
+{}
+
+/// While a head waits, another tenant whose requests have a least length is taken so often at most: as often as that
+/// length goes into the lead that the waiting tenant had, with one request of the greatest length, and once more. Both
+/// premises are needed: where requests cost nothing a tenant may be taken for ever, and a lead has no bound of its own.
+pub fn takes_are_few()
+    ensures { TakesAreFew }
 {}

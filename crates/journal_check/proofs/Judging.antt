@@ -11,15 +11,15 @@ use Rattle.fq_model.specs.History.{History, history_of}
 use Rattle.fq_model.specs.Limits.{InLimits}
 use Rattle.fq_model.specs.Rules.{Answers, IsLegal}
 use Rattle.fq_laws.specs.Words.{Extends}
-use Rattle.fq_laws.proofs.Rules.Answers.{answer_one, answer_extends}
+use Rattle.fq_laws.proofs.Rules.Answers.{answer_extends}
 use Rattle.program_model.specs.Journal.{call_of}
 use Rattle.program_model.specs.Verdicts.{with_gained, IsFirstBad}
-use Rattle.journal_check.proofs.Fitting.{entry_answers}
+use Rattle.journal_check.proofs.Fitting.{call_enters}
 
 -- ---- what a call adds
 
 -- entries with one history are the same
-same_entries : (old new : List Entry) → history_of new ≡ history_of old → new ≡ old
+pub same_entries : (old new : List Entry) → history_of new ≡ history_of old → new ≡ old
 same_entries old new same = sym (reverse-reverse new) ∙ ap history_of same ∙ reverse-reverse old
 
 added_last : (old new : List Entry) (e : Entry) → history_of new ≡ e ∷ history_of old → new ≡ old ++ e ∷ []
@@ -91,8 +91,7 @@ module _ (C : Config) (entries : List Entry) (k : ℕ) (old new : List Entry) (g
     counted = omega (arith, counted);
     legal_before = judged.legal;
     not_legal = λ legal. (
-        let fits = entry_answers C (history_of old) given judged.limits legal in
-        let grown : history_of new ≡ given ∷ history_of old = (answer_one C (history_of old) (call_of given) reply fits.0 (history_of new) (given ∷ history_of old) answers fits.1).1 in
+        let grown : history_of new ≡ given ∷ history_of old = call_enters C (history_of old) (history_of new) given reply judged.limits legal answers in
         let last : slice_get new k ≡ Some given = ap (slice_get new) (sym counted) ∙ ap (λ (l : List Entry). slice_get l (length old)) (added_last old new given grown) ∙ last_is old given in
         other (told ∙ last)
         );

@@ -1,6 +1,6 @@
 pub mod Copies
 pub mod Fitting
 pub mod Judging
-pub mod Standings
 pub mod Turns
 pub mod OneVerdict
+pub mod OneExplanation

@@ -14,14 +14,14 @@ use Rattle.journal_check.specs.Laws.{OneVerdict, LegalIsLegal}
 use Rattle.journal_check.proofs.Turns.{legal_before}
 
 -- two ways to part the same entries at one of them: at the same one, or at one before the other
-record Same (xs ys : List Entry) (x y : Entry) : Type 0 where
-  before : xs ≡ ys
-  given : x ≡ y
+pub record Same (xs ys : List Entry) (x y : Entry) : Type 0 where
+  pub before : xs ≡ ys
+  pub given : x ≡ y
 
-abbrev Before : List Entry → Entry → List Entry → Type 0
+abbrev pub Before : List Entry → Entry → List Entry → Type 0
 Before xs x ys = (zs : List Entry) × (ys ≡ xs ++ x ∷ zs)
 
-parted : (xs ys more others : List Entry) (x y : Entry) → xs ++ x ∷ more ≡ ys ++ y ∷ others → Same xs ys x y ⊎ (Before xs x ys ⊎ Before ys y xs)
+pub parted : (xs ys more others : List Entry) (x y : Entry) → xs ++ x ∷ more ≡ ys ++ y ∷ others → Same xs ys x y ⊎ (Before xs x ys ⊎ Before ys y xs)
 parted [] [] more others x y same = inl (record { before = refl; given = cc })
 parted [] (z ∷ ys) more others x y same = let first : x ≡ z = cc in inr (inl (ys, ap (λ (e : Entry). e ∷ ys) (sym first)))
 parted (z ∷ xs) [] more others x y same = let first : z ≡ y = cc in inr (inr (xs, ap (λ (e : Entry). e ∷ xs) first))
@@ -34,12 +34,13 @@ parted (z ∷ xs) (u ∷ ys) more others x y same =
       | inr (inr b) ↦ inr (inr (b.0, ap (λ (e : Entry). e ∷ xs) first ∙ ap (λ l. u ∷ l) b.1))
     ]
 
+-- the entries up to one, and those after it
+pub history_among : (xs zs : List Entry) (x : Entry) → history_of (xs ++ x ∷ zs) ≡ history_of zs ++ (x ∷ history_of xs)
+history_among xs zs x = reverse-append xs (x ∷ zs) ∙ (ap (λ l. l ++ history_of xs) (reverse-append (x ∷ []) zs) ∙ append_assoc (history_of zs) (x ∷ []) (history_of xs))
+
 -- an entry that stands among legal ones is legal after those before it
-legal_among : (C : Config) (xs zs : List Entry) (x : Entry) → IsLegal C (history_of (xs ++ x ∷ zs)) → IsLegal C (x ∷ history_of xs)
-legal_among C xs zs x legal =
-    let all : history_of (xs ++ x ∷ zs) ≡ history_of zs ++ (x ∷ history_of xs) =
-    reverse-append xs (x ∷ zs) ∙ (ap (λ l. l ++ history_of xs) (reverse-append (x ∷ []) zs) ∙ append_assoc (history_of zs) (x ∷ []) (history_of xs)) in
-    legal_before C (history_of zs) (x ∷ history_of xs) (subst (IsLegal C) all legal)
+pub legal_among : (C : Config) (xs zs : List Entry) (x : Entry) → IsLegal C (history_of (xs ++ x ∷ zs)) → IsLegal C (x ∷ history_of xs)
+legal_among C xs zs x legal = legal_before C (history_of zs) (x ∷ history_of xs) (subst (IsLegal C) (history_among xs zs x) legal)
 
 not_all : (C : Config) (entries : List Entry) (place : ℕ) (reply : Reply) (wanted : Option Entry) → IsFirstBad C entries place reply wanted → ¬ IsLegal C (history_of entries)
 not_all C entries place reply wanted bad legal = bad.not_legal (legal_among C bad.before bad.after bad.given (subst (λ (l : List Entry). IsLegal C (history_of l)) bad.split legal))

@@ -5,25 +5,25 @@ use Rattle.std.proofs.Math.Seq.{take-suc, drop-cons}
 use Rattle.std.proofs.lemmas.Option.{slice_get-get_or, slice_get_within, get_or_from_slice_get}
 use Rattle.std.proofs.lemmas.List.{reverse-append, take-append-drop, take_all}
 use Rattle.fq_model.specs.declared.config.Config.{Config}
-use Rattle.fq_model.specs.declared.event.Act.{Act}
-use Rattle.fq_model.specs.declared.event.Act.TheVariants.{Submit, Take, Close}
+use Rattle.fq_model.specs.declared.event.Act.TheVariants.{Submit, Take}
 use Rattle.fq_model.specs.declared.event.Entry.{Entry}
-use Rattle.fq_model.specs.History.{History, history_of, is_taken, is_take_of}
+use Rattle.fq_model.specs.History.{History, history_of, is_taken, is_take_of, pool_at}
 use Rattle.fq_model.specs.declared.config.Policy.{Policy}
-use Rattle.fq_model.specs.Time.{last_moment, virtual_time}
+use Rattle.fq_model.specs.Time.{virtual_time}
 use Rattle.fq_model.specs.Keys.{HeadKeys, Turn, keys_at, turn_at}
-use Rattle.fq_laws.proofs.Keys.Others.{keys_still}
 use Rattle.fq_laws.proofs.Time.Clock.{virtual_time_step}
-use Rattle.virtual_clock.specs.declared.times.Times.{Times}
-use Rattle.virtual_clock.specs.Histories.{PassOn, IsTimeOf, IsPoolOf}
-use Rattle.fq_model.specs.Rules.{IsLegal}
+use Rattle.fq_model.specs.declared.event.Reply.{Reply}
+use Rattle.fq_model.specs.Limits.{InLimits}
+use Rattle.fq_model.specs.Rules.{Answers, IsLegal}
+use Rattle.program_model.specs.Journal.{call_of}
+use Rattle.sched_state.specs.Scheduler.{virtual_time_now}
 use Rattle.journal_check.specs.declared.explaining.TakenAt.{TakenAt}
-use Rattle.journal_check.specs.Turns.{IsTakeAt, MayTurn, IsTurn}
+use Rattle.journal_check.proofs.Fitting.{call_enters}
+use Rattle.journal_check.proofs.Judging.{same_entries}
+use Rattle.journal_check.specs.Turns.{IsTakeAt, IsTurn}
 use Rattle.program_model.specs.declared.explained.Explained.{Explained}
 use Rattle.program_model.specs.declared.explained.ExplainRow.{ExplainRow}
-use Rattle.journal_check.specs.declared.standing.Standing.{Standing}
 use Rattle.program_model.specs.Explanations.{IsRow, AreRows, with_head, heads_below, heads_at, IsExplained}
-use Rattle.journal_check.specs.Standing.{StandsAt}
 
 -- ---- the first entries
 
@@ -66,8 +66,15 @@ none_taken r = refl
 pub never_taken : (entries : List Entry) (k r : ℕ) → length entries ≤ k → is_taken (history_of (take k entries)) r ≡ false → is_taken (history_of entries) r ≡ false
 never_taken entries k r all before = sym (ap (λ (l : List Entry). is_taken (history_of l) r) (take_all k entries all)) ∙ before
 
-pub stands_all : (C : Config) (entries : List Entry) (k : ℕ) (standing : Standing) → length entries ≤ k → StandsAt C (history_of (take k entries)) standing → StandsAt C (history_of entries) standing
-stands_all C entries k standing all stands = subst (λ (l : List Entry). StandsAt C (history_of l) standing) (take_all k entries all) stands
+-- the call of the next entry adds that entry
+pub next_entered : (C : Config) (entries old new : List Entry) (k : ℕ) (none : Entry) (reply : Reply) → InLimits C → IsLegal C (history_of entries) → k < length entries → old ≡ take k entries
+    → Answers C (history_of old) (call_of (get_or entries k none)) reply (history_of new) → new ≡ take (k + 1) entries
+next_entered C entries old new k none reply limits legal there is answers =
+    let here = subst (λ (l : List Entry). Answers C (history_of l) (call_of (get_or entries k none)) reply (history_of new)) is answers in
+    same_entries (take (k + 1) entries) new (
+    call_enters C (history_of (take k entries)) (history_of new) (get_or entries k none) reply limits (legal_next C entries k none there legal) here
+    ∙ sym (history_more entries k none there)
+    )
 
 -- ---- the heads, and their rows
 
@@ -90,67 +97,68 @@ rows_all at heads k rows all are = subst (λ (l : List (ℕ × HeadKeys)). AreRo
 -- ---- the Take
 
 pub take_there : (entries : List Entry) (k : ℕ) (none : Entry) (worker request estimate : ℕ) → k < length entries → (get_or entries k none).act ≡ Take worker request estimate
-    → IsTakeAt entries request (record { place = k; worker = worker; moment = (get_or entries k none).moment })
-take_there entries k none worker request estimate there act =
-    let e : Entry = get_or entries k none in
-    record { who = e.who; estimate = estimate; there = slice_get-get_or entries k none there ∙ ap (λ (a : Act). Some (record { who = e.who; moment = e.moment; act = a })) act }
+    → IsTakeAt entries request (record { place = k; entry = get_or entries k none; worker = worker })
+take_there entries k none worker request estimate there act = record { estimate = estimate; there = slice_get-get_or entries k none there; takes = act }
 
 module _ (C : Config) (entries : List Entry) (request : ℕ) (x : TakenAt) (taken : IsTakeAt entries request x) where
   place_within : x.place < length entries
-  place_within = slice_get_within entries x.place (record { who = taken.who; moment = x.moment; act = Take x.worker request taken.estimate }) taken.there
+  place_within = slice_get_within entries x.place x.entry taken.there
 
-  read_there : get_or entries x.place (record { who = taken.who; moment = x.moment; act = Take x.worker request taken.estimate }) ≡ record { who = taken.who; moment = x.moment; act = Take x.worker request taken.estimate }
-  read_there = get_or_from_slice_get entries x.place _ _ taken.there
+  read_there : get_or entries x.place x.entry ≡ x.entry
+  read_there = get_or_from_slice_get entries x.place x.entry x.entry taken.there
 
-  -- the worker may have its turn there
-  pub may_turn : IsLegal C (history_of entries) → MayTurn C (history_of (take x.place entries)) x.moment x.worker
-  may_turn legal =
-      let next : IsLegal C (record { who = taken.who; moment = x.moment; act = Take x.worker request taken.estimate } ∷ history_of (take x.place entries)) = subst (λ (e : Entry). IsLegal C (e ∷ history_of (take x.place entries))) read_there (legal_next C entries x.place (record { who = taken.who; moment = x.moment; act = Take x.worker request taken.estimate }) place_within legal) in
-      record { later = next.1; in_range = next.2; pooled = next.3.worker_known }
+  -- the entries up to it are legal
+  pub taken_legal : IsLegal C (history_of entries) → IsLegal C (x.entry ∷ history_of (take x.place entries))
+  taken_legal legal = subst (λ (e : Entry). IsLegal C (e ∷ history_of (take x.place entries))) read_there (legal_next C entries x.place x.entry place_within legal)
 
   -- and the turn explains the request
-  pub explained_is : (told : Explained) → IsTurn C (history_of (take x.place entries)) x.moment x.worker told → IsExplained C entries request told
+  pub explained_is : (told : Explained) → IsTurn C (history_of (take x.place entries)) x.entry.moment x.worker told → IsExplained C entries request told
   explained_is told turn = record {
     before = take x.place entries;
     after = drop (suc x.place) entries;
-    who = taken.who;
+    who = x.entry.who;
     estimate = taken.estimate;
-    split = rw (turn.worker_is, turn.moment_is) (sym (take-append-drop x.place entries) ∙ ap (λ (l : List Entry). take x.place entries ++ l) (drop-cons entries x.place (record { who = taken.who; moment = x.moment; act = Take x.worker request taken.estimate }) place_within ∙ ap (λ (e : Entry). e ∷ drop (suc x.place) entries) read_there));
+    split = sym (take-append-drop x.place entries)
+        ∙ ap (λ (l : List Entry). take x.place entries ++ l) (drop-cons entries x.place x.entry place_within ∙ ap (λ (e : Entry). e ∷ drop (suc x.place) entries) (read_there ∙ given));
     vtime_is = rw turn.moment_is turn.vtime_is;
     rows_are = rw (turn.worker_is, turn.moment_is) turn.rows_are;
   }
+    where
+      given : x.entry ≡ record { who = x.entry.who; moment = told.moment; act = Take told.worker request taken.estimate }
+      given = rw (turn.worker_is, turn.moment_is, ← taken.takes) refl
 
 -- ---- the turn
 
--- the heads are the same at each moment
-heads_still : (C : Config) (P : History) (m n tenants : ℕ) → IsLegal C P → heads_below (keys_at C P m) tenants ≡ heads_below (keys_at C P n) tenants
-heads_still C P m n zero legal = refl
-heads_still C P m n (suc tenant) legal = rw (heads_still C P m n tenant legal, keys_still C P m n tenant legal) refl
+module _ (C : Config) (P Q : History) (given : Entry) (worker : ℕ) (enters : Q ≡ given ∷ P) where
+  -- virtual time after the Take is that before it, at its moment
+  time_there : (v : ℤ) → v ≡ pos (virtual_time_now C Q) → v ≡ pos (virtual_time C P given.moment)
+  time_there v is = is ∙ ap (λ (H : History). pos (virtual_time_now C H)) enters ∙ ap pos (virtual_time_step C P given)
 
-module _ (C : Config) (P : History) (m worker : ℕ) (k : Standing) (times : Times) (stands : StandsAt C P k) (may : MayTurn C P m worker) (passes : PassOn m k.times times) where
-  time_there : (v : ℤ) → IsTimeOf times v → v ≡ pos (virtual_time C P m)
-  time_there v shows =
-      let e : Entry = record { who = 0; moment = m; act = Close } in
-      shows C (e ∷ P) (passes C P e (record { moment_is = refl; act_passes = refl }) stands.times_are) ∙ ap pos (virtual_time_step C P e)
-
-  pub turn_told : (policy : Policy) (workers : ℕ) (v z : ℤ) (heads given : List (ℕ × HeadKeys)) (x : Explained) → policy ≡ C.policy → IsPoolOf k.times workers → IsTimeOf times v → z ≡ v
-      → heads ≡ heads_below (keys_at C P (last_moment P)) (length C.weights) → given ≡ heads → x.worker ≡ worker → x.moment ≡ m → x.vtime ≡ z
-      → AreRows (record { policy = policy; workers = workers; worker = worker; virtual_time = z }) given x.rows.items → IsTurn C P m worker x
-  turn_told policy workers v z heads given x policy_is pool shows back heads_are same worker_is moment_is vtime_is rows =
-      let at : z ≡ pos (virtual_time C P m) = back ∙ time_there v shows in
-      let turn : ◌≡◌ {A = Turn} (record { policy = policy; workers = workers; worker = worker; virtual_time = z }) (turn_at C P m worker) = rw (policy_is, pool C P stands.times_are, at) refl in
-      let here : given ≡ heads_at C P m = same ∙ (heads_are ∙ heads_still C P (last_moment P) m (length C.weights) stands.legal) in
+  pub turn_told : (policy : Policy) (workers : ℕ) (v z : ℤ) (heads : List (ℕ × HeadKeys)) (x : Explained) → policy ≡ C.policy → workers ≡ pool_at C P → v ≡ pos (virtual_time_now C Q) → z ≡ v
+      → heads ≡ heads_at C P given.moment → x.worker ≡ worker → x.moment ≡ given.moment → x.vtime ≡ z
+      → AreRows (record { policy = policy; workers = workers; worker = worker; virtual_time = z }) heads x.rows.items → IsTurn C P given.moment worker x
+  turn_told policy workers v z heads x policy_is pool is back heads_are worker_is moment_is vtime_is rows =
+      let at : z ≡ pos (virtual_time C P given.moment) = back ∙ time_there v is in
+      let turn : ◌≡◌ {A = Turn} (record { policy = policy; workers = workers; worker = worker; virtual_time = z }) (turn_at C P given.moment worker) = rw (policy_is, pool, at) refl in
       record {
         worker_is = worker_is;
         moment_is = moment_is;
         vtime_is = vtime_is ∙ at;
-        rows_are = subst (λ (l : List (ℕ × HeadKeys)). AreRows (turn_at C P m worker) l x.rows.items) here (subst (λ (t : Turn). AreRows t given x.rows.items) turn rows);
+        rows_are = subst (λ (l : List (ℕ × HeadKeys)). AreRows (turn_at C P given.moment worker) l x.rows.items) heads_are (subst (λ (t : Turn). AreRows t heads x.rows.items) turn rows);
       }
 
--- what stands after the first entries
-pub stands_here : (D C : Config) (given entries : List Entry) (k : ℕ) (standing : Standing) → D ≡ C → given ≡ entries → StandsAt D (history_of (take k given)) standing → StandsAt C (history_of (take k entries)) standing
-stands_here D C given entries k standing same is stands =
-    subst (λ (l : List Entry). StandsAt C (history_of (take k l)) standing) is (subst (λ (B : Config). StandsAt B (history_of (take k given)) standing) same stands)
+-- what is of a scheduler with this configuration, to which the first of these entries have come
+module _ (C D : Config) (entries given past : List Entry) (place : ℕ) (same : D ≡ C) (read : given ≡ entries) (came : past ≡ take place given) where
+  came_first : past ≡ take place entries
+  came_first = came ∙ ap (λ (l : List Entry). take place l) read
+
+  pub legal_here : (e : Entry) → IsLegal C (e ∷ history_of (take place entries)) → IsLegal D (e ∷ history_of past)
+  legal_here e legal =
+      subst (λ (l : List Entry). IsLegal D (e ∷ history_of l)) (sym came_first) (subst (λ (B : Config). IsLegal B (e ∷ history_of (take place entries))) (sym same) legal)
+
+  pub turn_here : (m worker : ℕ) (x : Explained) → IsTurn D (history_of past) m worker x → IsTurn C (history_of (take place entries)) m worker x
+  turn_here m worker x turn =
+      subst (λ (l : List Entry). IsTurn C (history_of l) m worker x) came_first (subst (λ (B : Config). IsTurn B (history_of past) m worker x) same turn)
 
 -- ---- the tenants of the rows
 

@@ -1,12 +1,15 @@
--- What follows from the definition of a verdict.
-use Rattle.std.specs.Prelude.{◌≡◌, ◌↔◌, List}
+-- What follows from the definitions of verdicts and explanations.
+use Rattle.std.specs.Prelude.{ℕ, ◌≡◌, ◌↔◌, List, Option}
 use Rattle.fq_model.specs.declared.config.Config.{Config}
 use Rattle.fq_model.specs.declared.event.Entry.{Entry}
 use Rattle.fq_model.specs.History.{history_of}
 use Rattle.fq_model.specs.Rules.{IsLegal}
+use Rattle.program_model.specs.declared.explained.Explained.{Explained}
 use Rattle.program_model.specs.declared.verdict.Verdict.{Verdict}
 use Rattle.program_model.specs.declared.verdict.Verdict.TheVariants.{Legal}
+use Rattle.program_model.specs.Explanations.{Explains}
 use Rattle.program_model.specs.Verdicts.{IsVerdict}
+use Rattle.program_model.specs.VerdictTexts.{explanation_text}
 
 -- entries have one verdict at most
 abbrev pub OneVerdict : Type 0
@@ -15,3 +18,9 @@ OneVerdict = (C : Config) (entries : List Entry) (v w : Verdict) → IsVerdict C
 -- the verdict is Legal where and only where the history of the entries is legal
 abbrev pub LegalIsLegal : Type 0
 LegalIsLegal = (C : Config) (entries : List Entry) (v : Verdict) → IsVerdict C entries v → (v ≡ Legal) ↔ IsLegal C (history_of entries)
+
+-- what explains a request of legal entries has one text
+abbrev pub OneExplanation : Type 0
+OneExplanation = (C : Config) (entries : List Entry) (names : List (List ℕ)) (request : ℕ) (x y : Option Explained)
+    → IsLegal C (history_of entries) → Explains C entries request x → Explains C entries request y
+    → explanation_text names request x ≡ explanation_text names request y

@@ -59,8 +59,8 @@ fn is_given(wanted: Option<Entry>, given: Entry) -> bool
     wanted == Some(given)
 }
 
-// The call whose entry this may be.
-fn call_of(entry: Entry) -> Call
+/// The call whose entry this may be.
+pub(crate) fn call_of(entry: Entry) -> Call
     ensures { result ≡ call_of entry }
 {
     let Entry { who, moment, act } = entry;
@@ -107,8 +107,8 @@ fn call_of(entry: Entry) -> Call
     }
 }
 
-// The same configuration once more.
-fn copy_of(alloc: Global, config: &Checked) -> Result<Checked, AllocError>
+/// The same configuration once more.
+pub(crate) fn copy_of(alloc: Global, config: &Checked) -> Result<Checked, AllocError>
     ensures copy { IfOk result (λ copy. copy ≡ config.now) }
     ensures limits { IfOk result (λ copy. InLimits copy) }
 {

@@ -1,35 +1,35 @@
 //! The explanation of a choice.
-ghost use Rattle.std.specs.Prelude.{ℕ, ◌≡◌, ◌<◌, false, All, IfOk, IfSome, IfNone, length};
+ghost use Rattle.std.specs.Prelude.{ℕ, ◌≡◌, ◌<◌, ◌∷◌, [], false, All, IfOk, IfSome, IfNone, length};
 ghost use Rattle.fq_model.specs.declared.event.Act.TheVariants as acts;
-ghost use Rattle.fq_model.specs.History.{History, history_of, is_taken, is_take_of};
-ghost use Rattle.fq_model.specs.Keys.{keys_at};
+ghost use Rattle.fq_model.specs.History.{history_of, is_taken, is_take_of};
+ghost use Rattle.fq_model.specs.Limits.{InLimits};
 ghost use Rattle.fq_model.specs.Rules.{IsLegal};
-ghost use Rattle.fq_model.specs.Time.{last_moment};
 ghost use Rattle.program_model.specs.Document.{config_of};
-ghost use Rattle.program_model.specs.Explanations.{IsRow, AreRows, heads_below, IsExplained, Explains};
-ghost use Rattle.journal_check.specs.Standing.{StandsAt, StandsSome};
-ghost use Rattle.journal_check.specs.Turns.{IsTakeAt, MayTurn, AwaitsTurn, IsTurn};
+ghost use Rattle.program_model.specs.Explanations.{IsRow, AreRows, heads_at, IsExplained, Explains};
+ghost use Rattle.journal_check.specs.Turns.{IsTakeAt, IsTakeBy, IsTurn};
 
-use crate::standing::Standing;
+use crate::checking::{call_of, copy_of};
 use fq_model::config::Checked;
 use fq_model::event::{Act, Entry};
 use journal_text::entries::Journal;
 use program_model::explained::{ExplainRow, Explained};
+use sched_state::{Scheduler, answer};
 use std::alloc::{AllocError, Global};
+use tag_rules::chooser::Chooser;
 use tag_rules::parts::Keys;
 use tag_rules::turn::Turn;
 
-// Where a request was taken: at which entry, counted from 0, by which worker, and at what moment, in microseconds.
+// A Take: at which entry it stands, counted from 0, that entry, and whose it is.
 #[derive(Clone, Copy)]
 struct TakenAt {
     place: usize,
+    entry: Entry,
     worker: u32,
-    moment: u64,
 }
 
 /// Which heads a worker chose from when it took this request, and what they were compared by; None where the request
-/// was not taken.
-pub fn explain(
+/// was not taken. The calls of the entries up to the Take are made on a scheduler over any chooser, once each.
+pub fn explain<X: Chooser + Drop>(
     alloc: Global,
     journal: &Journal,
     request: u32,
@@ -40,7 +40,7 @@ pub fn explain(
         All (λ row. row.tenant < length journal.now.weights) explained.rows.items)) }
 {
     match taken_at(journal.body(), request) {
-        Some(taken) => Ok(Some(explain_at(alloc, journal, request, taken)?)),
+        Some(taken) => Ok(Some(explain_at::<X>(alloc, journal, request, taken)?)),
         None => Ok(None),
     }
 }
@@ -51,12 +51,12 @@ fn taken_at(entries: &[Entry], request: u32) -> Option<TakenAt>
     ensures never { IfNone result (is_taken (history_of entries.now) request ≡ false) }
 {
     for (place, entry) in entries.iter().enumerate() {
-        let moment = entry.moment;
+        let entry = *entry;
         if let Some(worker) = taker_of(entry.act, request) {
             return Some(TakenAt {
                 place,
+                entry,
                 worker,
-                moment,
             });
         }
     }
@@ -79,7 +79,7 @@ fn taker_of(act: Act, request: u32) -> Option<u32>
 }
 
 // The explanation of a Take that stands there.
-fn explain_at(
+fn explain_at<X: Chooser + Drop>(
     alloc: Global,
     journal: &Journal,
     request: u32,
@@ -91,50 +91,60 @@ fn explain_at(
     ensures known { IfOk result (λ x. All (λ row. row.tenant < length journal.now.weights) x.rows.items) }
 {
     let before = &journal.body()[..taken.place];
-    let standing = standing_after(alloc, journal.config(), before)?;
-    turn_of(
-        alloc,
-        journal.config(),
-        standing,
-        taken.worker,
-        taken.moment,
-    )
+    let mut scheduler = scheduler_after::<X>(alloc, journal.config(), before)?;
+    let explained = turn_of(alloc, &mut scheduler, taken.entry, taken.worker);
+    drop(scheduler);
+    explained
 }
 
-// What stands after these entries.
-fn standing_after(
+// A scheduler to which these entries have come.
+fn scheduler_after<X: Chooser + Drop>(
     alloc: Global,
     config: &Checked,
     entries: &[Entry],
-) -> Result<Standing, AllocError>
+) -> Result<Scheduler<u64, X>, AllocError>
     requires { IsLegal config.now (history_of entries.now) }
-    ensures { IfOk result (StandsAt config.now (history_of entries.now)) }
+    ensures config { IfOk result (λ scheduler. scheduler.config ≡ config.now) }
+    ensures past { IfOk result (λ scheduler. scheduler.past ≡ entries.now) }
+    ensures limits { IfOk result (λ scheduler. InLimits scheduler.config) }
 {
-    let mut standing = Standing::open(alloc, config)?;
-    for entry in entries {
-        standing.enter(*entry)?;
-    }
-    Ok(standing)
+    let config = copy_of(alloc, config)?;
+    let mut scheduler = Scheduler::<u64, X>::open(alloc, config)?;
+    enter_all(&mut scheduler, entries);
+    Ok(scheduler)
 }
 
-// The worker's turn at this moment.
-fn turn_of(
-    alloc: Global,
-    config: &Checked,
-    mut standing: Standing,
-    worker: u32,
-    moment: u64,
-) -> Result<Explained, AllocError>
-    requires { AwaitsTurn config.now moment worker standing }
-    ensures { IfOk result (λ x. (P : History) → StandsAt config.now P standing → MayTurn config.now P moment worker
-        → IsTurn config.now P moment worker x) }
+// Makes the calls of these entries.
+fn enter_all<X: Chooser>(scheduler: &mut Scheduler<u64, X>, entries: &[Entry])
+    requires opened { scheduler.old.past ≡ [] }
+    requires limits { InLimits scheduler.old.config }
+    requires legal { IsLegal scheduler.old.config (history_of entries.now) }
+    ensures config { scheduler.new.config ≡ scheduler.old.config }
+    ensures past { scheduler.new.past ≡ entries.now }
 {
-    let heads = heads_of(alloc, config, &standing)?;
-    let workers = standing.times.workers();
-    standing.times.pass(moment);
-    let vtime = standing.times.now();
+    for entry in entries {
+        answer(scheduler, call_of(*entry));
+    }
+}
+
+// The turn of the worker whose Take this is.
+fn turn_of<X: Chooser>(
+    alloc: Global,
+    scheduler: &mut Scheduler<u64, X>,
+    given: Entry,
+    worker: u32,
+) -> Result<Explained, AllocError>
+    requires limits { InLimits scheduler.old.config }
+    requires legal { IsLegal scheduler.old.config (given ∷ history_of scheduler.old.past) }
+    requires takes { IsTakeBy worker given }
+    ensures { IfOk result (IsTurn scheduler.old.config (history_of scheduler.old.past) given.moment worker) }
+{
+    let heads = heads_of(alloc, scheduler)?;
+    let workers = scheduler.pool();
+    answer(scheduler, call_of(given)); // which brings virtual time to its moment
+    let vtime = scheduler.virtual_time();
     let turn = Turn {
-        policy: config.policy(),
+        policy: scheduler.config().policy(),
         workers,
         worker,
         virtual_time: vtime,
@@ -142,25 +152,23 @@ fn turn_of(
     let rows = rows_of(alloc, turn, heads.as_slice())?;
     Ok(Explained {
         worker,
-        moment,
+        moment: given.moment,
         vtime,
         rows,
     })
 }
 
 // The tenants that have a head, with its keys, by number.
-fn heads_of(
+fn heads_of<X: Chooser>(
     alloc: Global,
-    config: &Checked,
-    standing: &Standing,
+    scheduler: &Scheduler<u64, X>,
 ) -> Result<Vec<(u32, Keys)>, AllocError>
-    requires { StandsSome config.now standing.now }
-    ensures { IfOk result (λ heads. (P : History) → StandsAt config.now P standing.now
-        → heads.items ≡ heads_below (keys_at config.now P (last_moment P)) (length config.now.weights)) }
+    ensures { IfOk result (λ heads. (m : ℕ)
+        → heads.items ≡ heads_at scheduler.now.config (history_of scheduler.now.past) m) }
 {
     let mut heads = Vec::new(alloc);
-    for tenant in 0..config.tenants() {
-        if let Some(keys) = standing.keys_of(config, tenant) {
+    for tenant in 0..scheduler.config().tenants() {
+        if let Some(keys) = scheduler.keys(tenant) {
             heads.push((tenant, keys))?;
         }
     }

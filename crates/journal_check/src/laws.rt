@@ -1,5 +1,5 @@
-//! Laws of verdicts.
-ghost use Rattle.journal_check.specs.Laws.{OneVerdict, LegalIsLegal};
+//! Laws of verdicts and explanations.
+ghost use Rattle.journal_check.specs.Laws.{OneVerdict, LegalIsLegal, OneExplanation};
 
 /// The entries of a journal have one verdict at most.
 pub fn one_verdict()
@@ -9,4 +9,9 @@ pub fn one_verdict()
 /// The verdict is that the entries are legal where and only where their history is.
 pub fn legal_is_legal()
     ensures { LegalIsLegal }
+{}
+
+/// What explains a request of legal entries has one text.
+pub fn one_explanation()
+    ensures { OneExplanation }
 {}

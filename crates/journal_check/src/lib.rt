@@ -5,6 +5,5 @@ pub mod checking;
 pub mod explaining;
 pub mod laws;
 pub mod printing;
-mod standing;
 
 pub use journal_text::entries::{Journal, read_journal};

@@ -6,6 +6,7 @@ use Rattle.fq_model.specs.declared.event.Call.TheVariants as calls
 use Rattle.fq_model.specs.Spelling.{is_digit}
 use Rattle.program_model.specs.declared.version.Version.{Version}
 use Rattle.program_model.specs.declared.version.Version.TheVariants.{First, Second}
+use Rattle.program_model.specs.Document.{LineReader}
 use Rattle.program_model.specs.Numbers.{with_digits, number_of}
 use Rattle.program_model.specs.Lines.{Words, lines_of, words_of, word, index_at, ranged_at, number_at}
 use Rattle.program_model.specs.Script.{call_of_words, submit_of, take_of, report_of, done_of, fixed_call_of, changing_call_of}
@@ -37,7 +38,7 @@ number_ended text at n end so_far inside here some first =
     }
 
 -- no byte of it is a space or an LF
-abbrev IsWord : List ℕ → Type 0
+abbrev pub IsWord : List ℕ → Type 0
 IsWord [] = Unit {0}
 IsWord (b ∷ bs) = (((b == 32) ≡ false) × ((b == 10) ≡ false)) × IsWord bs
 
@@ -76,12 +77,12 @@ word_alone [] w = refl
 word_alone (b ∷ bs) w = rw (w.0.0, word_alone bs w.1) refl
 
 -- the first line of a text has these words, and below it stands the rest
-record HasWords (text : List ℕ) (words : Words) (below : List ℕ) : Type 0 where
-  line : List ℕ
-  first : IsFirstLine text line below
-  split : words_of line ≡ words
+pub record HasWords (text : List ℕ) (words : Words) (below : List ℕ) : Type 0 where
+  pub line : List ℕ
+  pub first : IsFirstLine text line below
+  pub split : words_of line ≡ words
 
-last_word : (text word below : List ℕ) → IsWord word → text ≡ word ++ (10 ∷ below) → HasWords text (word ∷ []) below
+pub last_word : (text word below : List ℕ) → IsWord word → text ≡ word ++ (10 ∷ below) → HasWords text (word ∷ []) below
 last_word text word below w e = record {
   line = word;
   first = record {
@@ -91,7 +92,7 @@ last_word text word below w e = record {
   split = word_alone word w;
 }
 
-one_word_more : (text word rest below : List ℕ) (words : Words) → IsWord word → text ≡ word ++ (32 ∷ rest) → HasWords rest words below → HasWords text (word ∷ words) below
+pub one_word_more : (text word rest below : List ℕ) (words : Words) → IsWord word → text ≡ word ++ (32 ∷ rest) → HasWords rest words below → HasWords text (word ∷ words) below
 one_word_more text word rest below words w e h = record {
   line = word ++ (32 ∷ h.line);
   first = record {
@@ -101,21 +102,21 @@ one_word_more text word rest below words w e h = record {
   split = word_first word h.line w ∙ ap (λ (later : Words). word ∷ later) h.split;
 }
 
-last_number : (text below : List ℕ) (n : ℕ) (b : BeginsWithNumber text n (10 ∷ below)) → HasWords text (b.first ∷ []) below
+pub last_number : (text below : List ℕ) (n : ℕ) (b : BeginsWithNumber text n (10 ∷ below)) → HasWords text (b.first ∷ []) below
 last_number text below n b = last_word text b.first below (number_is_a_word b.first n b.spelled) b.split
 
-one_number_more : (text rest below : List ℕ) (n : ℕ) (words : Words) (b : BeginsWithNumber text n (32 ∷ rest)) → HasWords rest words below → HasWords text (b.first ∷ words) below
+pub one_number_more : (text rest below : List ℕ) (n : ℕ) (words : Words) (b : BeginsWithNumber text n (32 ∷ rest)) → HasWords rest words below → HasWords text (b.first ∷ words) below
 one_number_more text rest below n words b h = one_word_more text b.first rest below words (number_is_a_word b.first n b.spelled) b.split h
 
-told : (text below : List ℕ) (words : Words) (call : Call) → HasWords text words below → ((version : Version) → call_of_words version words ≡ Ok call) → TellsFirst call_of_words text call below
-told text below words call h says version = record { line = h.line; first = h.first; says = ap (call_of_words version) h.split ∙ says version }
+pub told : {A : Type 0} (reader : Version → LineReader A) (text below : List ℕ) (words : Words) (said : A) → HasWords text words below → ((version : Version) → reader version words ≡ Ok said) → TellsFirst reader text said below
+told reader text below words said h says version = record { line = h.line; first = h.first; says = ap (reader version) h.split ∙ says version }
 
 -- single words of a line
-number_is : (words : Words) (k n : ℕ) → number_of (word words k) ≡ Some n → number_at words k ≡ Ok n
+pub number_is : (words : Words) (k n : ℕ) → number_of (word words k) ≡ Some n → number_at words k ≡ Ok n
 unfolding number_at
 number_is words k n e = rw e refl
 
-index_is : (words : Words) (k n : ℕ) → number_of (word words k) ≡ Some n → n < 4294967296 → index_at words k ≡ Ok n
+pub index_is : (words : Words) (k n : ℕ) → number_of (word words k) ≡ Some n → n < 4294967296 → index_at words k ≡ Ok n
 unfolding index_at ranged_at
 index_is words k n e lt =
     let low : nat_lt n 0 ≡ false = le-ltb _ _ (omega arith) in
@@ -144,7 +145,7 @@ pub take_told : (rest after1 after2 below : List ℕ) (who moment worker : ℕ)
     → BeginsWithNumber after2 worker (10 ∷ below) → worker < 4294967296
     → TellsFirst call_of_words (codes "take" ++ (32 ∷ rest)) (calls.Take who moment worker) below
 take_told rest after1 after2 below who moment worker begins1 small1 begins2 begins3 small3 =
-    told (word ++ (32 ∷ rest)) below (word ∷ numbers) (calls.Take who moment worker) (one_word_more (word ++ (32 ∷ rest)) word rest below numbers is_word refl has) says
+    told call_of_words (word ++ (32 ∷ rest)) below (word ∷ numbers) (calls.Take who moment worker) (one_word_more (word ++ (32 ∷ rest)) word rest below numbers is_word refl has) says
   where
     word : List ℕ
     word = codes "take"
@@ -183,7 +184,7 @@ pub report_told : (rest after1 after2 after3 below : List ℕ) (who moment worke
     → BeginsWithNumber after3 used (10 ∷ below)
     → TellsFirst call_of_words (codes "report" ++ (32 ∷ rest)) (calls.Report who moment worker used) below
 report_told rest after1 after2 after3 below who moment worker used begins1 small1 begins2 begins3 small3 begins4 =
-    told (word ++ (32 ∷ rest)) below (word ∷ numbers) (calls.Report who moment worker used) (one_word_more (word ++ (32 ∷ rest)) word rest below numbers is_word refl has) says
+    told call_of_words (word ++ (32 ∷ rest)) below (word ∷ numbers) (calls.Report who moment worker used) (one_word_more (word ++ (32 ∷ rest)) word rest below numbers is_word refl has) says
   where
     word : List ℕ
     word = codes "report"
@@ -222,7 +223,7 @@ pub done_told : (rest after1 after2 after3 below : List ℕ) (who moment worker 
     → BeginsWithNumber after3 cost (10 ∷ below)
     → TellsFirst call_of_words (codes "done" ++ (32 ∷ rest)) (calls.Done who moment worker cost) below
 done_told rest after1 after2 after3 below who moment worker cost begins1 small1 begins2 begins3 small3 begins4 =
-    told (word ++ (32 ∷ rest)) below (word ∷ numbers) (calls.Done who moment worker cost) (one_word_more (word ++ (32 ∷ rest)) word rest below numbers is_word refl has) says
+    told call_of_words (word ++ (32 ∷ rest)) below (word ∷ numbers) (calls.Done who moment worker cost) (one_word_more (word ++ (32 ∷ rest)) word rest below numbers is_word refl has) says
   where
     word : List ℕ
     word = codes "done"
@@ -263,7 +264,7 @@ pub submit_told : (rest after1 after2 after3 after4 after5 below : List ℕ) (wh
     → BeginsWithNumber after5 label (10 ∷ below)
     → TellsFirst call_of_words (codes "submit" ++ (32 ∷ rest)) (calls.Submit who moment tenant kind declared label) below
 submit_told rest after1 after2 after3 after4 after5 below who moment tenant kind declared label begins1 small1 begins2 begins3 small3 begins4 small4 begins5 begins6 =
-    told (word ++ (32 ∷ rest)) below (word ∷ numbers) (calls.Submit who moment tenant kind declared label) (one_word_more (word ++ (32 ∷ rest)) word rest below numbers is_word refl has) says
+    told call_of_words (word ++ (32 ∷ rest)) below (word ∷ numbers) (calls.Submit who moment tenant kind declared label) (one_word_more (word ++ (32 ∷ rest)) word rest below numbers is_word refl has) says
   where
     word : List ℕ
     word = codes "submit"

@@ -2,7 +2,8 @@ mod Heads
 pub mod Kept
 mod FirstLine
 mod WordEnds
-mod AtOnce
+pub mod AtOnce
+mod EntriesAtOnce
 mod Names
 pub mod HeadLimits
 pub mod Bodies

@@ -96,9 +96,9 @@ fn report(rest: &[u8]) -> Option<(Call, &[u8])>
     Some((call, below))
 }
 
-// The word before the first space of a text, if it is as short as those of calls, and what stands behind the space.
+/// The word before the first space of a text, if it is as short as those of calls, and what stands behind the space.
 #[inline(never)]
-fn word_before(text: &[u8]) -> Option<(&[u8], &[u8])>
+pub(crate) fn word_before(text: &[u8]) -> Option<(&[u8], &[u8])>
     ensures { IfSome result (λ r. text.now ≡ r.0.now ++ (32 ∷ r.1.now)) }
 {
     for end in 0..text.len().min(7) {
@@ -109,19 +109,19 @@ fn word_before(text: &[u8]) -> Option<(&[u8], &[u8])>
     None
 }
 
-// The number of 32 bits before this byte at the head of a text, if there is one, and what stands behind the byte.
+/// The number of 32 bits before this byte at the head of a text, if there is one, and what stands behind the byte.
 #[inline(always)]
-fn index_before(end: u8, text: &[u8]) -> Option<(u32, &[u8])>
+pub(crate) fn index_before(end: u8, text: &[u8]) -> Option<(u32, &[u8])>
     ensures { IfSome result (λ r. BeginsWithNumber text.now r.0 (end ∷ r.1.now)) }
 {
     let (number, rest) = number_before(end, text)?;
     Some((u32::try_from(number).ok()?, rest))
 }
 
-// The number before this byte at the head of a text, if there is one of 18 digits at most, and what stands behind the
-// byte. (inlined, it was measured to take more)
+/// The number before this byte at the head of a text, if there is one of 18 digits at most, and what stands behind the
+/// byte. (inlined, it was measured to take more)
 #[inline(never)]
-fn number_before(end: u8, text: &[u8]) -> Option<(u64, &[u8])>
+pub(crate) fn number_before(end: u8, text: &[u8]) -> Option<(u64, &[u8])>
     ensures { IfSome result (λ r. BeginsWithNumber text.now r.0 (end ∷ r.1.now)) }
 {
     let mut number = 0;

@@ -6,6 +6,7 @@ ghost use Rattle.journal_text.specs.Reading.{Gives, IsFirstFault, words_in};
 
 use crate::body::Line;
 use crate::document::Document;
+use crate::entries_at_once::entry_at_once;
 use crate::fault::{LineError, ScriptFault};
 use crate::lines::{next_line, split_words};
 use crate::reading::read_document;
@@ -174,6 +175,22 @@ fn entry(version: Version, words: &[&[u8]]) -> Result<Entry, LineError>
     }
 }
 
+// Reads the first line of a text by its words.
+fn read_by_words<'a>(
+    version: Version,
+    text: &'a [u8],
+    words: &mut Vec<&'a [u8]>,
+) -> Result<Option<(Entry, &'a [u8])>, LineError>
+    ensures { ReadsFirst (entry_of_words version) text.now result }
+{
+    let Some((line, below)) = next_line(text) else {
+        return Ok(None);
+    };
+    split_words(line, words)?;
+    let said = entry(version, words.as_slice())?;
+    Ok(Some((said, below)))
+}
+
 impl Line for Entry {
     ghost title = { codes "journal" };
 
@@ -194,12 +211,10 @@ impl Line for Entry {
         text: &'a [u8],
         words: &mut Vec<&'a [u8]>,
     ) -> Result<Option<(Entry, &'a [u8])>, LineError> {
-        let Some((line, below)) = next_line(text) else {
-            return Ok(None);
-        };
-        split_words(line, words)?;
-        let said = entry(version, words.as_slice())?;
-        Ok(Some((said, below)))
+        if let Some(told) = entry_at_once(text) {
+            return Ok(Some(told));
+        }
+        read_by_words(version, text, words)
     }
 }
 

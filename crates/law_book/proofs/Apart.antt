@@ -13,7 +13,7 @@ use Rattle.law_book.specs.Journals.{FitsTypes, IsEntry, AreEntries, JournalsTell
 use Rattle.law_book.proofs.Telling.{IsWord, AreSmall, regrouped, some_line, line_told}
 
 -- a line is the word of its act, and numbers
-abbrev word_of : Act → List ℕ
+abbrev pub word_of : Act → List ℕ
 word_of (Submit request tenant kind declared label) = codes "submit"
 word_of (Take worker request estimate) = codes "take"
 word_of (Report worker request used) = codes "report"
@@ -22,7 +22,7 @@ word_of Close = codes "close"
 word_of (Weight tenant weight) = codes "weight"
 word_of (Workers count) = codes "workers"
 
-abbrev numbers_in : Act → List ℕ
+abbrev pub numbers_in : Act → List ℕ
 numbers_in (Submit request tenant kind declared label) = request ∷ tenant ∷ kind ∷ declared ∷ label ∷ []
 numbers_in (Take worker request estimate) = worker ∷ request ∷ estimate ∷ []
 numbers_in (Report worker request used) = worker ∷ request ∷ used ∷ []
@@ -63,7 +63,7 @@ act_row who moment Close = refl
 act_row who moment (Weight tenant weight) = refl
 act_row who moment (Workers count) = refl
 
-is_word : (a : Act) → IsWord (word_of a)
+pub is_word : (a : Act) → IsWord (word_of a)
 is_word (Submit request tenant kind declared label) = omega arith
 is_word (Take worker request estimate) = omega arith
 is_word (Report worker request used) = omega arith
@@ -82,16 +82,16 @@ are_small (Weight tenant weight) fits = omega (arith, fits)
 are_small (Workers count) fits = omega (arith, fits)
 
 -- the numbers of an entry's line
-abbrev row_of : Entry → List ℕ
+abbrev pub row_of : Entry → List ℕ
 row_of e = e.who ∷ e.moment ∷ numbers_in e.act
 
-row_small : (e : Entry) → IsEntry e → AreSmall (row_of e)
+pub row_small : (e : Entry) → IsEntry e → AreSmall (row_of e)
 row_small e is = (omega (arith, is.who), (is.moment, are_small e.act is.act))
 
-line_row : (e : Entry) → entry_line e ≡ word_of e.act ++ numbers_text (row_of e)
+pub line_row : (e : Entry) → entry_line e ≡ word_of e.act ++ numbers_text (row_of e)
 line_row e = act_row e.who e.moment e.act
 
-abbrev entry : ℕ → ℕ → Act → Entry
+abbrev pub entry : ℕ → ℕ → Act → Entry
 entry who moment act = record { who = who; moment = moment; act = act }
 
 same_entry : (d e : Entry) → d.who ≡ e.who → d.moment ≡ e.moment → d.act ≡ e.act → d ≡ e

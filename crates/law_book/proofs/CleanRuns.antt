@@ -6,7 +6,8 @@ use Rattle.fq_io.specs.Sinks.{AppendsPart}
 use Rattle.fq_io.specs.Sources.{GaveAll}
 use Rattle.fq_memory.proofs.Clean.{stays_zero, never_full}
 use Rattle.program_model.specs.declared.command.Command.{Command}
-use Rattle.program_model.specs.declared.command.Command.TheVariants.{Script, Run, Live, Gen}
+use Rattle.program_model.specs.declared.command.Command.TheVariants.{Plain}
+use Rattle.program_model.specs.declared.command.PlainCommand.TheVariants.{Gen}
 use Rattle.program_model.specs.Answer.{Answer, Text}
 use Rattle.program_model.specs.Commands.{reads_input, IsAnswer}
 use Rattle.program_model.specs.Program.{Move, Device, Fails, ReadsInput, FailsWriting, IsRun}
@@ -33,10 +34,8 @@ told_input input read (Some ys) gave = gave.0
 -- so what answers the one answers the other
 told_answer : (Told : ℕ → Type 0) (command : Command) (source : Move) (input read : List ℕ) (answer : Answer) → source.before.bytes ≡ Some input → ReadsInput (reads_input command) source read
     → IsAnswer Told command read answer → IsAnswer Told command input answer
-told_answer Told (Script print) source input read answer told reads x = subst (λ xs. IsAnswer Told (Script print) xs answer) (told_input input read source.after.bytes (rw told at reads)) x
-told_answer Told (Run options slot print) source input read answer told reads x = subst (λ xs. IsAnswer Told (Run options slot print) xs answer) (told_input input read source.after.bytes (rw told at reads)) x
-told_answer Told (Live options slot print) source input read answer told reads x = subst (λ xs. IsAnswer Told (Live options slot print) xs answer) (told_input input read source.after.bytes (rw told at reads)) x
-told_answer Told (Gen seed tenants requests print) source input read answer told reads x = x
+told_answer Told (Plain (Gen seed tenants requests print)) source input read answer told reads x = x
+told_answer Told command source input read answer told reads x = subst (λ xs. IsAnswer Told command xs answer) (told_input input read source.after.bytes (rw told at reads)) x
 
 pub no_writing : (Told : ℕ → Type 0) → NeverFailsWriting Told
 no_writing Told ask source sink errs status room input run told clean short five =

@@ -1,6 +1,12 @@
 mod Telling
 mod Apart
+mod Lines
+mod LinesRead
+mod JournalsRead
+mod JudgedLegal
 mod Exists
 mod Entries
 mod OneAnswer
 pub mod CleanRuns
+pub mod Rows
+pub mod Checked

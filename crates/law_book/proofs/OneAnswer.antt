@@ -1,5 +1,5 @@
 -- Answers to one input.
-use Rattle.std.proofs.Common.{ℕ, ◌≡◌, ◌∙◌, sym, ap, refl, Bool, true, false, List, [], reverse, Result, Ok, Err}
+use Rattle.std.proofs.Common.{ℕ, ◌≡◌, ◌∙◌, sym, ap, refl, subst, Bool, true, false, List, [], ◌++◌, reverse, Option, Some, None, Result, Ok, Err}
 use Rattle.std.proofs.lemmas.Bool.{false≢true}
 use Rattle.std.proofs.lemmas.List.{reverse-reverse}
 use Rattle.fq_model.specs.declared.config.Config.{Config}
@@ -8,35 +8,47 @@ use Rattle.fq_model.specs.declared.event.Reply.{Reply}
 use Rattle.fq_model.specs.History.{History, history_of}
 use Rattle.fq_laws.proofs.Outcome.{outcome_from_one}
 use Rattle.program_model.specs.declared.command.Command.{Command}
-use Rattle.program_model.specs.declared.command.Command.TheVariants.{Script, Run, Live, Gen}
+use Rattle.program_model.specs.declared.command.Command.TheVariants.{Plain, Live}
 use Rattle.program_model.specs.declared.command.GenPrint.{GenPrint}
 use Rattle.program_model.specs.declared.command.GenPrint.TheVariants as gen
 use Rattle.program_model.specs.declared.command.HistoryPrint.{HistoryPrint}
 use Rattle.program_model.specs.declared.command.HistoryPrint.TheVariants as history
+use Rattle.program_model.specs.declared.command.PlainCommand.{PlainCommand}
+use Rattle.program_model.specs.declared.command.PlainCommand.TheVariants.{Script, Run, Gen, Check, Shape}
 use Rattle.program_model.specs.declared.command.ScriptPrint.{ScriptPrint}
-use Rattle.program_model.specs.declared.fault.ScriptKind.{ScriptKind}
-use Rattle.program_model.specs.declared.fault.TraceKind.{TraceKind}
 use Rattle.program_model.specs.declared.trace.RunOptions.{RunOptions}
-use Rattle.program_model.specs.Answer.{Answer, Text, answer_status, IsAnswerUnless}
-use Rattle.program_model.specs.Commands.{waits, IsAnswer}
+use Rattle.program_model.specs.declared.trace.TraceRow.{TraceRow}
+use Rattle.program_model.specs.declared.verdict.Verdict.{Verdict}
+use Rattle.program_model.specs.declared.verdict.Verdict.TheVariants.{Legal, Bad}
+use Rattle.program_model.specs.Answer.{Answer, Text, Message, answer_status, message_line, IsReadAnswer, IsAnswerUnless}
+use Rattle.program_model.specs.CheckCommand.{verdict_status, request_explained, IsExplanationIfAny, IsJudged}
+use Rattle.program_model.specs.Commands.{is_live, IsPlainAnswer, IsAnswer}
+use Rattle.program_model.specs.Conforms.{too_big, too_late}
 use Rattle.program_model.specs.Document.{config_of}
+use Rattle.program_model.specs.FaultTexts.{script_fault_text, journal_fault_text, trace_fault_text}
 use Rattle.program_model.specs.GenCommand.{default_run_options, IsGeneratedAnswer}
 use Rattle.program_model.specs.Generator.{generated_trace}
 use Rattle.program_model.specs.HistoryAnswer.{IsHistoryAnswer, history_answer, has_many_entries, entries_answer}
+use Rattle.program_model.specs.Journal.{Journal, journal_of}
 use Rattle.program_model.specs.JournalText.{journal_text}
 use Rattle.program_model.specs.RunCommand.{IsSimulatedAnswer, IsSimulationAnswer}
 use Rattle.program_model.specs.Script.{Script as Calls, script_of}
-use Rattle.program_model.specs.ScriptCommand as scripts
+use Rattle.program_model.specs.ScriptCommand.{script_output_text, AreCallsMade}
+use Rattle.program_model.specs.ShapeCommand.{big_text, moments_answer, IsSizedAnswer, IsShapedAnswer}
 use Rattle.program_model.specs.Simulated.{needed_entries, run_config, IsSimulated}
 use Rattle.program_model.specs.Texts.{replies_text}
 use Rattle.program_model.specs.Trace.{Trace}
-use Rattle.program_model.specs.TraceCommand as traces
 use Rattle.program_model.specs.TraceGrammar.{trace_of}
 use Rattle.program_model.specs.TraceText.{IsLawfulTrace}
+use Rattle.program_model.specs.Verdicts.{IsVerdict}
+use Rattle.program_model.specs.VerdictTexts.{verdict_text}
+use Rattle.journal_check.proofs.OneExplanation.{one_explanation}
+use Rattle.journal_check.proofs.OneVerdict.{one_verdict}
 use Rattle.trace_reader.proofs.Generated.{generated_lawful}
 use Rattle.trace_reader.proofs.Lawful.{lawful}
+use Rattle.trace_shape.proofs.Least.{least_is_one}
 use Rattle.trace_runner.proofs.Only.{one_simulated}
-use Rattle.law_book.specs.Programs.{IsWithinLimits}
+use Rattle.law_book.specs.Programs.{IsPlainWithinLimits, IsWithinLimits}
 
 -- one history is one list of entries in order of time
 one_past : (past later : List Entry) → history_of past ≡ history_of later → past ≡ later
@@ -52,38 +64,72 @@ one_unless : (many : Bool) (so a b : Answer) (Else : Answer → Type 0) → (Els
 one_unless true so a b Else one x y = x ∙ sym y
 one_unless false so a b Else one x y = one x y
 
-module _ (options : RunOptions) (slot : ℕ) (print : HistoryPrint) where
-  one_simulation : (T : Trace) (a b : Answer) → IsLawfulTrace T → IsSimulatedAnswer options slot print T a → IsSimulatedAnswer options slot print T b → a ≡ b
-  one_simulation T a b fair x y = one_history (IsSimulated T options) print slot (run_config T options) T.tenants T.kinds a b (λ H K s t. one_simulated T options H K fair.few s t) x y
+-- what is answered of what an input says is one answer, where that is so of all that it may say
+one_read : {A F : Type 0} (fault_text : F → List ℕ) (IsOf : A → Answer → Type 0) (read : Result A (ℕ × F)) (a b : Answer) → ((said : A) → read ≡ Ok said → IsOf said a → IsOf said b → a ≡ b)
+    → IsReadAnswer fault_text IsOf read a → IsReadAnswer fault_text IsOf read b → a ≡ b
+one_read fault_text IsOf (Ok said) a b one x y = one said refl x y
+one_read fault_text IsOf (Err (line, fault)) a b one x y = x ∙ sym y
 
-  one_read : (input : List ℕ) (read : Result Trace (ℕ × TraceKind)) (a b : Answer) → trace_of input ≡ read → traces.IsReadAnswer (IsSimulationAnswer options slot print) read a → traces.IsReadAnswer (IsSimulationAnswer options slot print) read b → a ≡ b
-  one_read input (Ok T) a b is x y =
-      one_unless (has_many_entries (needed_entries T.rows options.refresh)) (entries_answer (needed_entries T.rows options.refresh)) a b (IsSimulatedAnswer options slot print T) (one_simulation T a b (lawful input T is)) x y
-  one_read input (Err (line, fault)) a b is x y = x ∙ sym y
+module _ (options : RunOptions) (slot : ℕ) (print : HistoryPrint) (T : Trace) (a b : Answer) (fair : IsLawfulTrace T) where
+  one_simulated_answer : IsSimulatedAnswer options slot print T a → IsSimulatedAnswer options slot print T b → a ≡ b
+  one_simulated_answer x y = one_history (IsSimulated T options) print slot (run_config T options) T.tenants T.kinds a b (λ H K s t. one_simulated T options H K fair.few s t) x y
+
+  one_simulation : IsSimulationAnswer options slot print T a → IsSimulationAnswer options slot print T b → a ≡ b
+  one_simulation x y = one_unless (has_many_entries (needed_entries T.rows options.refresh)) (entries_answer (needed_entries T.rows options.refresh)) a b (IsSimulatedAnswer options slot print T) one_simulated_answer x y
 
 -- calls are answered in one way
-one_served : (print : ScriptPrint) (script : Calls) (a b : Answer) → scripts.IsServed print script a → scripts.IsServed print script b → a ≡ b
-one_served print script a b x y =
+one_made : (print : ScriptPrint) (script : Calls) (a b : Answer) → AreCallsMade print script a → AreCallsMade print script b → a ≡ b
+one_made print script a b x y =
     let same = outcome_from_one (config_of script) [] (history_of x.past) (history_of y.past) script.body x.replies y.replies x.outcome y.outcome in
     x.answer_is
-    ∙ (ap (λ (replies : List Reply). Text 0 (scripts.script_output_text print (replies_text replies) (journal_text (config_of script) script.tenants script.kinds x.past))) same.0
-    ∙ (ap (λ (past : List Entry). Text 0 (scripts.script_output_text print (replies_text y.replies) (journal_text (config_of script) script.tenants script.kinds past))) (one_past x.past y.past same.1)
+    ∙ (ap (λ (replies : List Reply). Text 0 (script_output_text print (replies_text replies) (journal_text (config_of script) script.tenants script.kinds x.past))) same.0
+    ∙ (ap (λ (past : List Entry). Text 0 (script_output_text print (replies_text y.replies) (journal_text (config_of script) script.tenants script.kinds past))) (one_past x.past y.past same.1)
     ∙ sym y.answer_is))
-
-one_script : (print : ScriptPrint) (read : Result Calls (ℕ × ScriptKind)) (a b : Answer) → scripts.IsReadAnswer print read a → scripts.IsReadAnswer print read b → a ≡ b
-one_script print (Ok script) a b x y = one_served print script a b x y
-one_script print (Err (line, fault)) a b x y = x ∙ sym y
 
 one_generated : (print : GenPrint) (T : Trace) (a b : Answer) → IsLawfulTrace T → IsGeneratedAnswer print T a → IsGeneratedAnswer print T b → a ≡ b
 one_generated gen.Trace T a b fair x y = x ∙ sym y
-one_generated gen.Summary T a b fair x y = one_simulation default_run_options 0 history.Summary T a b fair x y
+one_generated gen.Summary T a b fair x y = one_simulated_answer default_run_options 0 history.Summary T a b fair x y
 
-pub one_answer : (Told : ℕ → Type 0) (command : Command) (input : List ℕ) (a b : Answer) → waits command ≡ false → IsWithinLimits command → IsAnswer Told command input a → IsAnswer Told command input b → a ≡ b
-one_answer Told (Script print) input a b plain some x y = one_script print (script_of input) a b x y
-one_answer Told (Run options slot print) input a b plain some x y = one_read options slot print input (trace_of input) a b refl x y
-one_answer Told (Live options slot print) input a b plain some x y = absurd (false≢true (sym plain))
-one_answer Told (Gen seed tenants requests print) input a b plain some x y =
+-- a journal has one verdict, and what explains a request of a legal one has one text
+one_explained : (asked : Option ℕ) (journal : Journal) (verdict : Verdict) (text other : List ℕ) → IsVerdict (config_of journal) journal.body verdict
+    → IsExplanationIfAny journal (request_explained verdict asked) text → IsExplanationIfAny journal (request_explained verdict asked) other → text ≡ other
+one_explained None journal Legal text other legal x y = x ∙ sym y
+one_explained (Some request) journal Legal text other legal x y =
+    x.text_is ∙ (one_explanation (config_of journal) journal.body journal.tenants request x.explained y.explained legal x.explains y.explains ∙ sym y.text_is)
+one_explained asked journal (Bad place reply wanted) text other bad x y = x ∙ sym y
+
+one_judged : (asked : Option ℕ) (journal : Journal) (a b : Answer) → IsJudged asked journal a → IsJudged asked journal b → a ≡ b
+one_judged asked journal a b x y =
+    let same = one_verdict (config_of journal) journal.body x.verdict y.verdict x.is_verdict y.is_verdict in
+    let other : IsExplanationIfAny journal (request_explained x.verdict asked) y.explanation = subst (λ (v : Verdict). IsExplanationIfAny journal (request_explained v asked) y.explanation) (sym same) y.explains in
+    let text = one_explained asked journal x.verdict x.explanation y.explanation x.is_verdict x.explains other in
+    x.answer_is
+    ∙ (ap (λ t. Text (verdict_status x.verdict) (verdict_text journal.body x.verdict ++ t)) text
+    ∙ (ap (λ (v : Verdict). Text (verdict_status v) (verdict_text journal.body v ++ y.explanation)) same
+    ∙ sym y.answer_is))
+
+-- what is said of the least moments is one answer, since they are
+one_sized : (rate burst : ℕ) (T : Trace) (big : Option ℕ) (a b : Answer) → IsSizedAnswer rate burst T big a → IsSizedAnswer rate burst T big b → a ≡ b
+one_sized rate burst T None a b x y =
+    x.answer_is ∙ (ap (λ (ms : List ℕ). moments_answer T ms (too_late ms)) (least_is_one T rate burst x.moments y.moments x.least y.least) ∙ sym y.answer_is)
+one_sized rate burst T (Some r) a b x y =
+    let same : Some x.row ≡ Some y.row = sym x.row_is ∙ y.row_is in
+    let row : x.row ≡ y.row = cc in
+    x.answer_is ∙ (ap (λ (row : TraceRow). Message 7 (message_line (big_text r row.declared burst))) row ∙ sym y.answer_is)
+
+one_plain : (command : PlainCommand) (input : List ℕ) (a b : Answer) → IsPlainWithinLimits command → IsPlainAnswer command input a → IsPlainAnswer command input b → a ≡ b
+one_plain (Script print) input a b some x y = one_read script_fault_text (AreCallsMade print) (script_of input) a b (λ script is. one_made print script a b) x y
+one_plain (Run options slot print) input a b some x y =
+    one_read trace_fault_text (IsSimulationAnswer options slot print) (trace_of input) a b (λ T is. one_simulation options slot print T a b (lawful input T is)) x y
+one_plain (Gen seed tenants requests print) input a b some x y =
     one_generated print (generated_trace seed tenants requests) a b (generated_lawful seed tenants requests some.0.0 some.0.1 some.1) x y
+one_plain (Check explain) input a b some x y = one_read journal_fault_text (IsJudged explain) (journal_of input) a b (λ journal is. one_judged explain journal a b) x y
+one_plain (Shape rate burst) input a b some x y =
+    one_read trace_fault_text (IsShapedAnswer rate burst) (trace_of input) a b (λ T is. one_sized rate burst T (too_big T burst) a b) x y
 
-pub one_status : (Told : ℕ → Type 0) (command : Command) (input : List ℕ) (a b : Answer) → waits command ≡ false → IsWithinLimits command → IsAnswer Told command input a → IsAnswer Told command input b → answer_status a ≡ answer_status b
+pub one_answer : (Told : ℕ → Type 0) (command : Command) (input : List ℕ) (a b : Answer) → is_live command ≡ false → IsWithinLimits command → IsAnswer Told command input a → IsAnswer Told command input b → a ≡ b
+one_answer Told (Plain command) input a b plain some x y = one_plain command input a b some x y
+one_answer Told (Live options slot print) input a b plain some x y = absurd (false≢true (sym plain))
+
+pub one_status : (Told : ℕ → Type 0) (command : Command) (input : List ℕ) (a b : Answer) → is_live command ≡ false → IsWithinLimits command → IsAnswer Told command input a → IsAnswer Told command input b → answer_status a ≡ answer_status b
 one_status Told command input a b plain some x y = ap answer_status (one_answer Told command input a b plain some x y)

@@ -38,7 +38,7 @@ word-push : (bs : List ℕ) (b : ℕ) → IsWord bs → 32 < b → IsWord (bs ++
 word-push [] b is high = (high, tt)
 word-push (c ∷ bs) b is high = (is.0, word-push bs b is.1 high)
 
-decimal-word : (n : ℕ) → n < 2 ^ 64 → IsWord (decimal n)
+pub decimal-word : (n : ℕ) → n < 2 ^ 64 → IsWord (decimal n)
 decimal-word = decimal_by_steps (λ m ds. IsWord ds)
     (λ m below. (omega arith, tt))
     (λ m ds more is. word-push ds (48 + m % 10) is (omega arith))

@@ -1,11 +1,22 @@
--- What the text of a journal tells of its history.
-use Rattle.std.specs.Prelude.{ℕ, ◌^◌, ◌<◌, ◌≡◌, List}
+-- What the text of a journal tells of its history, and what it is read as.
+use Rattle.std.specs.Prelude.{ℕ, ◌^◌, ◌<◌, ◌≡◌, List, length, Ok}
 use Rattle.std.specs.List.{All}
 use Rattle.fq_model.specs.declared.config.Config.{Config}
+use Rattle.fq_model.specs.declared.limits.TheConstants.{MOST_TENANTS, MOST_KINDS}
 use Rattle.fq_model.specs.declared.event.Act.{Act}
 use Rattle.fq_model.specs.declared.event.Act.TheVariants.{Submit, Take, Report, Done, Close, Weight, Workers}
 use Rattle.fq_model.specs.declared.event.Entry.{Entry}
+use Rattle.fq_model.specs.History.{history_of}
+use Rattle.fq_model.specs.Limits.{InLimits}
+use Rattle.fq_model.specs.Names.{AreNames}
+use Rattle.fq_model.specs.Rules.{IsLegal}
+use Rattle.program_model.specs.Document.{config_of}
+use Rattle.program_model.specs.Journal.{Journal, journal_of}
 use Rattle.program_model.specs.JournalText.{journal_text}
+use Rattle.program_model.specs.declared.verdict.Verdict.{Verdict}
+use Rattle.program_model.specs.declared.verdict.Verdict.TheVariants.{Legal}
+use Rattle.program_model.specs.Verdicts.{IsVerdict}
+use Rattle.journal_text.specs.Reading.{settings_in}
 
 -- each number of an act fits its type
 abbrev pub FitsTypes : Act → Type 0
@@ -34,3 +45,63 @@ JournalsTellHistories =
     (C : Config) (tenants kinds : List (List ℕ)) (past other : List Entry)
     → AreEntries past → AreEntries other
     → journal_text C tenants kinds past ≡ journal_text C tenants kinds other → past ≡ other
+
+-- a scheduler with this configuration has tenants and kinds of these names, by number: each a name, and no two of the
+-- same sort alike
+pub record AreNamesFor (C : Config) (tenants kinds : List (List ℕ)) : Type 0 where
+  pub tenants_are : AreNames MOST_TENANTS tenants
+  pub kinds_are : AreNames MOST_KINDS kinds
+  pub weighed : length C.weights ≡ length tenants
+  pub counted : C.kinds ≡ length kinds
+
+-- the document that has this configuration, these names, and these entries in order of time
+abbrev pub journal_with : Config → List (List ℕ) → List (List ℕ) → List Entry → Journal
+journal_with C tenants kinds past = record {
+  settings = settings_in C;
+  tenants = tenants;
+  weights = C.weights;
+  kinds = kinds;
+  body = past;
+}
+
+-- the text of a journal spells the document that was printed, and that document is about its configuration
+pub record IsReadBack (C : Config) (tenants kinds : List (List ℕ)) (past : List Entry) : Type 0 where
+  pub read : journal_of (journal_text C tenants kinds past) ≡ Ok (journal_with C tenants kinds past)
+  pub config_is : config_of (journal_with C tenants kinds past) ≡ C
+
+-- so it is where the configuration is in its limits, the names are lawful and each number of an entry fits its type
+abbrev pub JournalsReadBack : Type 0
+JournalsReadBack =
+    (C : Config) (tenants kinds : List (List ℕ)) (past : List Entry)
+    → InLimits C → AreNamesFor C tenants kinds → AreEntries past → IsReadBack C tenants kinds past
+
+-- what no rule looks at fits its type: the number of the caller, and the label of a Submit
+abbrev pub FitsLabel : Act → Type 0
+FitsLabel (Submit request tenant kind declared label) = label < 2 ^ 64
+FitsLabel _ = Unit {0}
+
+pub record IsUnreadFit (e : Entry) : Type 0 where
+  pub who : e.who < 2 ^ 32
+  pub label : FitsLabel e.act
+
+-- in a legal history all other numbers fit theirs
+abbrev pub LegalEntriesFit : Type 0
+LegalEntriesFit =
+    (C : Config) (past : List Entry) → InLimits C → IsLegal C (history_of past) → All IsUnreadFit past → AreEntries past
+
+-- the text is read as a journal with this configuration and these entries, of which the one verdict is that they are
+-- legal
+pub record IsJudgedLegal (C : Config) (past : List Entry) (text : List ℕ) : Type 0 where
+  pub journal : Journal
+  pub read : journal_of text ≡ Ok journal
+  pub config_is : config_of journal ≡ C
+  pub body_is : journal.body ≡ past
+  pub legal : IsVerdict (config_of journal) journal.body Legal
+  pub no_other : (v : Verdict) → IsVerdict (config_of journal) journal.body v → v ≡ Legal
+
+-- the printed journal of a legal history is judged legal where it is read
+abbrev pub LegalIsJudgedLegal : Type 0
+LegalIsJudgedLegal =
+    (C : Config) (tenants kinds : List (List ℕ)) (past : List Entry)
+    → InLimits C → AreNamesFor C tenants kinds → All IsUnreadFit past → IsLegal C (history_of past)
+    → IsJudgedLegal C past (journal_text C tenants kinds past)

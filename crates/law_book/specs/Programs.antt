@@ -1,13 +1,22 @@
 -- Laws of the program's answers and runs.
-use Rattle.std.specs.Prelude.{ℕ, ◌<◌, ◌≤◌, ◌≡◌, ◌≢◌, false, List, [], length, Option, Some, All}
+use Rattle.std.specs.Prelude.{ℕ, ◌<◌, ◌≤◌, ◌≡◌, ◌≢◌, ◌↔◌, false, List, [], ◌∷◌, length, codes, Option, Some, Ok, All}
 use Rattle.fq_memory.specs.Clean.{IsClean}
 use Rattle.fq_model.specs.declared.limits.TheConstants.{MOST_TENANTS, MOST_ROWS}
+use Rattle.fq_model.specs.History.{history_of}
 use Rattle.fq_model.specs.Limits.{IsWithin}
+use Rattle.fq_model.specs.Rules.{IsLegal}
 use Rattle.program_model.specs.declared.command.Command.{Command}
-use Rattle.program_model.specs.declared.command.Command.TheVariants.{Gen}
+use Rattle.program_model.specs.declared.command.Command.TheVariants.{Plain}
+use Rattle.program_model.specs.declared.command.HistoryPrint.TheVariants.{Both}
+use Rattle.program_model.specs.declared.command.PlainCommand.{PlainCommand}
+use Rattle.program_model.specs.declared.command.PlainCommand.TheVariants.{Run, Gen}
 use Rattle.program_model.specs.Answer.{Answer, Text, answer_status}
-use Rattle.program_model.specs.Commands.{built_commands, waits, row_of, IsAnswer}
-use Rattle.program_model.specs.Options.{Value, CommandRow}
+use Rattle.program_model.specs.CheckCommand.{IsCheckAnswer}
+use Rattle.program_model.specs.Commands.{built_commands, is_live, row_of, IsAnswer}
+use Rattle.program_model.specs.Document.{config_of}
+use Rattle.program_model.specs.GenCommand.{default_run_options}
+use Rattle.program_model.specs.Journal.{Journal, journal_of}
+use Rattle.program_model.specs.Options.{Value, CommandRow, command_of}
 use Rattle.program_model.specs.Program.{Move, IsRun}
 
 -- what a row means is a command of this row
@@ -18,23 +27,39 @@ IsOwnRow row = (values : List Value) → row_of (row.means values) ≡ row
 abbrev pub AreOwnRows : Type 0
 AreOwnRows = All IsOwnRow built_commands
 
+-- what `gen` runs a trace with is what `run` runs one with where its words give no options
+abbrev pub GenRunsByDefaults : Type 0
+GenRunsByDefaults = command_of built_commands (codes "run" ∷ []) ≡ Some (Plain (Run default_run_options 0 Both))
+
+-- `check` answers to a journal with status 8 where and only where its entries are no legal history, and else with 0
+abbrev pub CheckTellsLegal : Type 0
+CheckTellsLegal =
+    (asked : Option ℕ) (input : List ℕ) (journal : Journal) (answer : Answer)
+    → journal_of input ≡ Ok journal → IsCheckAnswer asked input answer
+    → ((answer_status answer ≡ 8) ↔ ¬ IsLegal (config_of journal) (history_of journal.body))
+    × ((answer_status answer ≡ 0) ↔ IsLegal (config_of journal) (history_of journal.body))
+
 -- a trace that is to be generated is within the limits
+abbrev pub IsPlainWithinLimits : PlainCommand → Type 0
+IsPlainWithinLimits (Gen seed tenants requests print) = IsWithin 1 MOST_TENANTS tenants × (requests ≤ MOST_ROWS)
+IsPlainWithinLimits _ = Unit {0}
+
 abbrev pub IsWithinLimits : Command → Type 0
-IsWithinLimits (Gen seed tenants requests print) = IsWithin 1 MOST_TENANTS tenants × (requests ≤ MOST_ROWS)
+IsWithinLimits (Plain command) = IsPlainWithinLimits command
 IsWithinLimits _ = Unit {0}
 
--- a command that waits for nobody, with numbers within the limits, has one answer to an input at most
+-- a command that asks no clock, with numbers within the limits, has one answer to an input at most
 abbrev pub OneAnswer : (ℕ → Type 0) → Type 0
 OneAnswer Told =
     (command : Command) (input : List ℕ) (a b : Answer)
-    → waits command ≡ false → IsWithinLimits command → IsAnswer Told command input a → IsAnswer Told command input b
+    → is_live command ≡ false → IsWithinLimits command → IsAnswer Told command input a → IsAnswer Told command input b
     → a ≡ b
 
 -- so one status
 abbrev pub OneStatus : (ℕ → Type 0) → Type 0
 OneStatus Told =
     (command : Command) (input : List ℕ) (a b : Answer)
-    → waits command ≡ false → IsWithinLimits command → IsAnswer Told command input a → IsAnswer Told command input b
+    → is_live command ≡ false → IsWithinLimits command → IsAnswer Told command input a → IsAnswer Told command input b
     → answer_status a ≡ answer_status b
 
 -- Runs over memory that never fails.

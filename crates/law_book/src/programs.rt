@@ -1,6 +1,6 @@
 //! Laws of the program's answers, and of its runs over memory that never fails, whatever is asked.
 ghost use Rattle.program_model.specs.Commands.{Untold};
-ghost use Rattle.law_book.specs.Programs.{AreOwnRows, OneAnswer, OneStatus, NeverFailsReading, NeverFailsWriting};
+ghost use Rattle.law_book.specs.Programs.{AreOwnRows, GenRunsByDefaults, CheckTellsLegal, OneAnswer, OneStatus, NeverFailsReading, NeverFailsWriting};
 
 use fq_io::Clock;
 
@@ -9,7 +9,17 @@ pub fn own_rows()
     ensures { AreOwnRows }
 {}
 
-/// A command that waits for nobody has one answer to an input at most.
+/// `gen` runs its trace, for the summary, with what `run` runs one with where no options are given.
+pub fn gen_runs_by_defaults()
+    ensures { GenRunsByDefaults }
+{}
+
+/// The status of `check` tells whether the entries of a journal are a legal history.
+pub fn check_tells_legal()
+    ensures { CheckTellsLegal }
+{}
+
+/// A command that asks no clock has one answer to an input at most.
 pub fn one_answer<K: Clock>(_clock: &K)
     ensures untold { OneAnswer Untold }
     ensures told { OneAnswer (K.tells _clock.now) }

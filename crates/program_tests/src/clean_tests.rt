@@ -1,8 +1,8 @@
 //! The program over memory that never fails.
 ghost use Rattle.std.specs.Prelude.{◌≡◌, ◌≢◌, [], map};
 ghost use Rattle.std.specs.String.{string_bytes};
-ghost use Rattle.program_model.specs.Commands.{Untold};
-ghost use Rattle.program_model.specs.Program.{asked, is_plain};
+ghost use Rattle.program_model.specs.Commands.{Untold, is_plain};
+ghost use Rattle.program_model.specs.Program.{asked};
 ghost use Rattle.law_book.specs.Programs.{AreTextsShorter};
 
 use crate::samples::{REPLIES, SCRIPT, bytes_of, owned};

@@ -3,6 +3,7 @@ use crate::samples::{
     Left, NEVER, REPLIES, RUN, SCRIPT, TRACE, expect_part, expect_stop, expect_written,
     run_failing, run_telling, sink_failing, source_failing,
 };
+use crate::shaped_tests::{BURST, SPREAD};
 use std::alloc::Global;
 use std::process::Abort;
 
@@ -36,6 +37,8 @@ fn each_write_fails(rt: HostRuntime) {
     writes_fail(&rt, rt.alloc(), RUN, TRACE, SIMULATED, 103);
     let words = "gen --seed 1 --tenants 2 --requests 0";
     writes_fail(&rt, rt.alloc(), words, "", "tenant,t0,1\ntenant,t1,2\n", 6);
+    let words = "shape --rate 2 --burst 4";
+    writes_fail(&rt, rt.alloc(), words, BURST, SPREAD, 21);
 }
 
 // The input takes so many reads of 16 bytes, the last of which finds its end.
@@ -52,6 +55,7 @@ fn reads_fail<R: Abort>(rt: &R, alloc: Global, words: &str, input: &str, reads: 
 fn each_read_fails(rt: HostRuntime) {
     reads_fail(&rt, rt.alloc(), "script", SCRIPT, 12);
     reads_fail(&rt, rt.alloc(), RUN, TRACE, 7);
+    reads_fail(&rt, rt.alloc(), "shape --rate 2 --burst 4", BURST, 6);
 }
 
 // A run of a trace whose last row comes too early, where nothing can be told.

@@ -11,6 +11,8 @@ mod device_tests;
 #[cfg(test)]
 mod io_tests;
 #[cfg(test)]
+mod judged_tests;
+#[cfg(test)]
 mod live_tests;
 #[cfg(test)]
 mod overlap_tests;
@@ -18,6 +20,8 @@ mod overlap_tests;
 mod samples;
 #[cfg(test)]
 mod served_tests;
+#[cfg(test)]
+mod shaped_tests;
 #[cfg(test)]
 mod stop_tests;
 #[cfg(test)]

@@ -1,7 +1,7 @@
 //! The journal of a scheduler.
 ghost use Rattle.std.specs.Prelude.{◌≡◌, ◌≤◌, ◌∷◌, [], IfOk};
 ghost use Rattle.fq_model.specs.Limits.{InLimits};
-ghost use Rattle.fq_model.specs.History.{is_closed, submits};
+ghost use Rattle.fq_model.specs.History.{is_closed, running, submits};
 ghost use Rattle.fq_model.specs.Time.{last_moment, effective_moment};
 ghost use Rattle.fq_model.specs.Rules.{IsLegal};
 ghost use Rattle.sched_journal.specs.Journal.{history, with_entry, IsRoomFor};
@@ -77,17 +77,31 @@ impl Journal {
         self.tally.submits
     }
 
+    /// How many requests run.
+    pub fn running(&self) -> u32
+        ensures { result ≡ running (history self.now) }
+    {
+        self.tally.running
+    }
+
+    /// The moment of the last entry, in microseconds, or 0.
+    pub fn last_moment(&self) -> u64
+        ensures value { result ≡ last_moment (history self.now) }
+        ensures in_range { result ≤ GREATEST_MOMENT }
+    {
+        match self.past.last() {
+            Some(entry) => entry.moment,
+            None => 0,
+        }
+    }
+
     /// The moment at which a call that names this one takes effect, in microseconds.
     pub fn effective(&self, moment: u64) -> u64
         ensures value { result ≡ effective_moment (history self.now) moment }
         ensures later { last_moment (history self.now) ≤ result }
         ensures in_range { result ≤ GREATEST_MOMENT }
     {
-        let last = match self.past.last() {
-            Some(entry) => entry.moment,
-            None => 0,
-        };
-        moment.max(last).min(GREATEST_MOMENT)
+        moment.max(self.last_moment()).min(GREATEST_MOMENT)
     }
 
     /// Whether there is room for so many entries more, beside those that will be needed where so many requests wait.

@@ -96,6 +96,16 @@ module _ {J X : Type 0} (label : J → ℕ) (C : Config) (P : History) (t : ℕ)
     pub head_keys : (z : ℤ) (estimate weight : ℕ) (found : HeadKeys) → z ≡ pos (start C P (last_moment P) t) → estimate ≡ estimate_at C P t i.kind i.declared → weight ≡ weight_at C P t → found ≡ record { start = to_z w128 (of_z w128 z); len = pos (length_of estimate weight); request = i.request } → ◌≡◌ {A = Option HeadKeys} (Some found) (keys_at C P (last_moment P) t)
     head_keys z estimate weight found starts costs weighs is = ap (λ (x : HeadKeys). Some x) (is ∙ rw (handed_on z (start C P (last_moment P) t) starts start_low, costs, weighs) refl) ∙ sym (head_keys_are C P (last_moment P) t i.request (record { tenant = t; kind = i.kind; declared = i.declared; label = label i.job }) is_head was_asked)
 
+-- what is of all tenants is of all but one
+pub all_but : {J X : Type 0} (label : J → ℕ) (seen : X → ChooserView) (C : Config) (P : History) (t : ℕ) (k : Tracker J X) → t < length C.weights → Tracks label seen C P k → TracksBut label seen t C P k
+all_but label seen C P t k known all =
+    let keys = all.chooser_is in
+    record {
+      mirrors = all.mirrors;
+      tenant_known = known;
+      chooser_is = record { setting_is = keys.setting_is; sized = keys.sized; keys_are = λ u b ne. keys.keys_are u b tt; latest_low = keys.latest_low };
+    }
+
 -- ---- after an entry that concerns one tenant
 
 module _ {J X : Type 0} (label : J → ℕ) (seen : X → ChooserView) (C : Config) (P : History) (k n : Tracker J X) (old : Tracks label seen C P k) where

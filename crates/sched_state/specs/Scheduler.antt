@@ -1,10 +1,12 @@
 -- What contracts see of a scheduler.
-use Rattle.std.specs.Prelude.{List, refl}
+use Rattle.std.specs.Prelude.{ℕ, List, refl}
 use Rattle.std.specs.Coded.{Coded, code_by, coded×, coded_list, coded_ℕ}
 use Rattle.std.specs.Ordering.{nat_cmp}
 use Rattle.std.specs.FinMap as map
 use Rattle.fq_model.specs.declared.config.Config.{Config}
 use Rattle.fq_model.specs.declared.event.Entry.{Entry}
+use Rattle.fq_model.specs.History.{History}
+use Rattle.fq_model.specs.Time.{last_moment, virtual_time}
 use Rattle.fq_model.specs.contracts.config.Config as config_type
 use Rattle.fq_model.specs.contracts.event.Entry as entry_type
 use Rattle.sched_state.specs.Lists.{JobMap}
@@ -19,3 +21,7 @@ pub record SchedulerView (J : Type 0) : Type 0 where
 abbrev pub scheduler_code : {J : Type 0} → Coded J → Coded (SchedulerView J)
 scheduler_code {J} c =
     code_by (Config × (List Entry × JobMap J)) (coded× config_type.the_row.coded (coded× (coded_list entry_type.the_row.coded) (map.code {R = nat_cmp} coded_ℕ c))) (λ s. (s.config, (s.past, s.jobs))) (λ p. record { config = p.0; past = p.1.0; jobs = p.1.1 }) (λ _. refl)
+
+-- virtual time at the last entry
+abbrev pub virtual_time_now : Config → History → ℕ
+virtual_time_now C P = virtual_time C P (last_moment P)

@@ -1,10 +1,13 @@
 //! A scheduler.
-ghost use Rattle.std.specs.Prelude.{◌≡◌, [], IfOk, IfErr, OnErr};
+ghost use Rattle.std.specs.Prelude.{ℕ, ◌≡◌, ◌<◌, [], IfOk, IfErr, OnErr, length, pos, ◌≤ℤ◌};
 ghost use Rattle.std.specs.FinMap as map;
 ghost use Rattle.fq_model.specs.declared.event.Call.TheVariants as call;
-ghost use Rattle.fq_model.specs.History.{history_of};
+ghost use Rattle.fq_model.specs.History.{history_of, pool_at};
+ghost use Rattle.fq_model.specs.Keys.{keys_at};
 ghost use Rattle.fq_model.specs.Rules.{IsLegal};
+ghost use Rattle.fq_model.specs.Status.{status_of};
 ghost use Rattle.sched_state.specs.Lists.{HoldsWaiting};
+ghost use Rattle.sched_state.specs.Scheduler.{virtual_time_now};
 ghost use Rattle.sched_state.specs.Replies.{submit_reply, take_reply, change_reply, close_reply, AnswersCall, HandsOut};
 
 use crate::refusals;
@@ -13,10 +16,13 @@ use crate::tracker::Tracker;
 use fq_model::config::Checked;
 use fq_model::event::{Act, Cause, Entry};
 use fq_model::job::Job;
+use fq_model::limits::GREATEST_VIRTUAL_TIME;
+use fq_model::parts::Status;
 use sched_journal::{History, Journal};
 use std::alloc::{AllocError, Global};
 use std::marker::Model;
 use tag_rules::chooser::Chooser;
+use tag_rules::parts::Keys;
 use waiting_lists::item::Item;
 
 /// One history, from its opening on, and the jobs of the requests that wait in it. Contracts see the entries in
@@ -228,6 +234,43 @@ impl<J: Job + Drop, X: Chooser> Scheduler<J, X> {
         ensures { result.now ≡ self.now.config }
     {
         self.journal.config()
+    }
+
+    /// The keys of the tenant's head, if it has one. They are the same at any moment until the next entry.
+    pub fn keys(&self, tenant: u32) -> Option<Keys>
+        requires { tenant < length self.now.config.weights }
+        ensures { (m : ℕ) → result ≡ keys_at self.now.config (history_of self.now.past) m tenant }
+    {
+        self.tracker.keys_of(self.journal.config(), tenant)
+    }
+
+    /// Virtual time at the last entry, in steps.
+    pub fn virtual_time(&self) -> i128
+        ensures value { result ≡ pos (virtual_time_now self.now.config (history_of self.now.past)) }
+        ensures low { pos 0 ≤ℤ result }
+        ensures high { result ≤ℤ GREATEST_VIRTUAL_TIME }
+    {
+        self.tracker.times().now()
+    }
+
+    /// How many workers there are now: 1 to as many as at the opening.
+    pub fn pool(&self) -> u32
+        ensures { result ≡ pool_at self.now.config (history_of self.now.past) }
+    {
+        self.tracker.times().workers()
+    }
+
+    /// What is shown of the history at its last entry.
+    pub fn status(&self) -> Status
+        ensures { result ≡ status_of self.now.config (history_of self.now.past) }
+    {
+        Status {
+            entries: self.journal.past().len() as u64,
+            moment: self.journal.last_moment(),
+            vtime: self.tracker.times().now(),
+            waiting: self.tracker.lists().len(),
+            running: self.journal.running(),
+        }
     }
 }
 

@@ -187,8 +187,8 @@ impl<J: Job + Drop, X: Chooser> Tracker<J, X> {
         self.chooser.set(tenant, keys);
     }
 
-    // The keys of the tenant's head, if it has one.
-    fn keys_of(&self, config: &Checked, tenant: u32) -> Option<Keys>
+    /// The keys of the tenant's head, if it has one. Those that the chooser has of it are not looked at.
+    pub fn keys_of(&self, config: &Checked, tenant: u32) -> Option<Keys>
         requires { TracksSomeBut J.label_of X.seen tenant config.now self.now }
         ensures { (P : History) → Mirrors J.label_of config.now P self.now
             → result ≡ keys_at config.now P (last_moment P) tenant }

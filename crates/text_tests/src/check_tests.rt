@@ -75,9 +75,9 @@ fn expect_explained<R: Abort>(
     let Ok(Verdict::Legal) = verdict else {
         panic!(rt; "a legal journal")
     };
-    let explained = explain(alloc, journal, request);
+    let explained = explain::<IndexChooser>(alloc, journal, request);
     let Ok(explained) = explained else {
-        panic!(rt; "no memory for what stands")
+        panic!(rt; "no memory for a scheduler")
     };
     let told = explanation_text(alloc, journal.tenants(), request, explained);
     expect_text(rt, told, wanted.as_bytes());

@@ -2,7 +2,7 @@
 use command_line::command::command;
 use command_line::options::{Absent, OptionRow, Value, Values, values_in};
 use fq_model::config::{Estimator, Policy};
-use program_model::command::{Command, GenPrint, HistoryPrint, ScriptPrint};
+use program_model::command::{Command, GenPrint, HistoryPrint, PlainCommand, ScriptPrint};
 use program_model::trace::RunOptions;
 use std::alloc::Global;
 use std::process::Abort;
@@ -92,15 +92,17 @@ fn script_is_read(rt: HostRuntime) {
 }
 
 fn script(print: ScriptPrint) -> Command {
-    Command::Script { print }
+    Command::Plain(PlainCommand::Script { print })
 }
 
 fn run(options: RunOptions, slot: u64, print: HistoryPrint) -> Command {
-    Command::Run {
-        options,
-        slot,
-        print,
-    }
+    Command::Plain(
+        PlainCommand::Run {
+            options,
+            slot,
+            print,
+        },
+    )
 }
 
 fn live(options: RunOptions, slot: u64, print: HistoryPrint) -> Command {
@@ -112,12 +114,52 @@ fn live(options: RunOptions, slot: u64, print: HistoryPrint) -> Command {
 }
 
 fn generate(seed: u64, tenants: u32, requests: u32, print: GenPrint) -> Command {
-    Command::Gen {
-        seed,
-        tenants,
-        requests,
-        print,
-    }
+    Command::Plain(
+        PlainCommand::Gen {
+            seed,
+            tenants,
+            requests,
+            print,
+        },
+    )
+}
+
+fn checked(explain: Option<u32>) -> Command {
+    Command::Plain(PlainCommand::Check { explain })
+}
+
+fn shaped(rate: u64, burst: u64) -> Command {
+    Command::Plain(PlainCommand::Shape { rate, burst })
+}
+
+#[test]
+fn check_and_shape_are_read(rt: HostRuntime) {
+    let rows = [
+        ("check", Some(checked(None))),
+        ("check --", Some(checked(None))),
+        ("check --explain 0", Some(checked(Some(0)))),
+        ("check --explain=4294967295 --", Some(checked(Some(u32::MAX)))),
+        ("check --explain 4294967296", None),
+        ("check --explain", None),
+        ("check --explain -1", None),
+        ("check --explain 01", None),
+        ("check --explain 1 --explain 1", None),
+        ("check --print both", None),
+        ("shape --rate 1 --burst 1", Some(shaped(1, 1))),
+        (
+            "shape --burst=1000000000 --rate 1000000 --",
+            Some(shaped(1000000, 1000000000)),
+        ),
+        ("shape", None),
+        ("shape --rate 1", None),
+        ("shape --burst 1", None),
+        ("shape --rate 0 --burst 1", None),
+        ("shape --rate 1 --burst 0", None),
+        ("shape --rate 1000001 --burst 1", None),
+        ("shape --rate 1 --burst 1000000001", None),
+        ("shape --rate 1 --rate 1 --burst 1", None),
+    ];
+    expect_commands(&rt, rt.alloc(), &rows);
 }
 
 #[test]

@@ -3,7 +3,7 @@ mod Reached
 pub mod Lawful
 mod Printed
 mod Plain
-mod Numerals
+pub mod Numerals
 mod Texts
 pub mod ReadBack
 mod GeneratedTenants

@@ -145,7 +145,8 @@ fn add_all(alloc: Global, draft: &mut Draft, bytes: &[u8]) -> Result<u64, TraceF
     Ok(place)
 }
 
-/// Reads a trace, or names its first fault. An answer that memory ran out says nothing of the text.
+/// Reads a trace, or names its first fault. An answer that memory ran out says nothing of the text. It is also given for
+/// any other fault that `csv` tells: none can come over bytes in memory, but no clause of `csv` says so.
 pub fn read(alloc: Global, bytes: &[u8]) -> Result<Trace, TraceFault>
     ensures ok { IfOk result (λ t. trace_of bytes.now ≡ Ok t) }
     ensures lawful { IfOk result IsLawfulTrace }

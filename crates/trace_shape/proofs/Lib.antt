@@ -7,3 +7,4 @@ mod Names
 mod Order
 mod Moved
 mod Again
+pub mod Least

@@ -1,5 +1,5 @@
 -- Opening a scheduler from plain numbers.
-use Rattle.std.specs.Prelude.{◌≡◌, ◌≤◌, ℕ, List, [], Some, None, IsSome, Result, Ok, Err}
+use Rattle.std.specs.Prelude.{◌≡◌, ℕ, nat_le, if◌then◌else◌, List, [], Option, Some, None, IsSome, Result, Ok, Err}
 use Rattle.std.specs.FinMap as map
 use Rattle.fq_model.specs.declared.config.Config.{Config}
 use Rattle.fq_model.specs.declared.config.Policy.{Policy}
@@ -54,19 +54,19 @@ pub record IsConfigOf (o : Opening) (weights : List ℕ) (c : Config) : Type 0 w
   pub estimate_is : estimator_number c.estimate ≡ o.estimate
   pub initial : c.initial ≡ o.initial
 
--- why the numbers make no configuration: no policy or no estimator has the number, or memory was wanting
-abbrev pub WhyNoConfig : Opening → Refusal → Type 0
-WhyNoConfig o refusal.AlreadyOpen = ⊥
-WhyNoConfig o refusal.Policy = 4 ≤ o.policy
-WhyNoConfig o refusal.Estimator = 3 ≤ o.estimate
-WhyNoConfig o refusal.NoMemory = Unit {0}
-WhyNoConfig o (refusal.Config why) = ⊥
+-- the first number that names nothing: no policy has it, or no estimator
+abbrev pub unnamed_number : Opening → Option Refusal
+unnamed_number o =
+    if nat_le 4 o.policy then Some refusal.Policy
+    else if nat_le 3 o.estimate then Some refusal.Estimator
+    else None
 
--- why no scheduler was opened: one is there, the configuration's first fault, or what is said above
-abbrev pub WhyNotOpened : Held → Opening → List ℕ → Refusal → Type 0
-WhyNotOpened old o weights refusal.AlreadyOpen = IsSome old
-WhyNotOpened old o weights (refusal.Config why) = (c : Config) × IsConfigOf o weights c × (config_fault c ≡ Some why)
-WhyNotOpened old o weights why = WhyNoConfig o why
+-- why nothing is opened from the numbers: the first that names nothing; else the configuration's first fault, or memory
+-- was wanting
+abbrev pub WhyRefused : Opening → List ℕ → Refusal → Type 0
+WhyRefused o weights (refusal.Config why) = (c : Config) × IsConfigOf o weights c × (config_fault c ≡ Some why)
+WhyRefused o weights refusal.NoMemory = unnamed_number o ≡ None
+WhyRefused o weights why = unnamed_number o ≡ Some why
 
 -- a scheduler of this configuration, whose numbers are in their limits, with no entries
 pub record HoldsOpened (o : Opening) (weights : List ℕ) (new : Held) : Type 0 where
@@ -74,6 +74,11 @@ pub record HoldsOpened (o : Opening) (weights : List ℕ) (new : Held) : Type 0 
   pub config_is : IsConfigOf o weights config
   pub in_limits : InLimits config
   pub held : new ≡ Some (record { config = config; past = []; jobs = map.empty })
+
+-- why no scheduler was opened: one is there; else it is the numbers
+abbrev pub WhyNotOpened : Held → Opening → List ℕ → Refusal → Type 0
+WhyNotOpened old o weights refusal.AlreadyOpen = IsSome old
+WhyNotOpened old o weights why = (old ≡ None) × WhyRefused o weights why
 
 -- where none was held, such a scheduler; or what was held, for a cause
 abbrev pub OpensWith : Held → Opening → List ℕ → Result (Unit {0}) Refusal → Held → Type 0

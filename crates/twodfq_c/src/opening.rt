@@ -1,7 +1,7 @@
 //! Opening a scheduler from plain numbers.
-ghost use Rattle.std.specs.Prelude.{◌≡◌, ◌≤◌, IfOk, IfErr, IfSome, IfNone};
+ghost use Rattle.std.specs.Prelude.{◌≡◌, ◌≤◌, IfOk, IfErr, IfSome, IfNone, None};
 ghost use Rattle.twodfq_c.specs.declared.opening.Refusal.TheVariants as refusal;
-ghost use Rattle.twodfq_c.specs.Opening.{OpensWith, IsConfigOf, WhyNoConfig};
+ghost use Rattle.twodfq_c.specs.Opening.{OpensWith, HoldsOpened, IsConfigOf, WhyRefused, unnamed_number};
 ghost use Rattle.twodfq_c.specs.Opening.{status, fault_status, policy_number, estimator_number};
 
 use crate::handle::Handle;
@@ -58,6 +58,15 @@ pub(crate) fn open(
     if handle.is_open {
         return Err(Refusal::AlreadyOpen);
     }
+    *handle = opened(alloc, opening, weights)?;
+    Ok(())
+}
+
+// A handle that holds a scheduler of these numbers.
+fn opened(alloc: Global, opening: &Opening, weights: &[u32]) -> Result<Handle, Refusal>
+    ensures handle { IfOk result (λ handle. HoldsOpened opening.now weights.now handle.slot.held) }
+    ensures why { IfErr result (WhyRefused opening.now weights.now) }
+{
     let config = opening.config(alloc, weights)?;
     let checked = match config.check() {
         Ok(checked) => checked,
@@ -67,8 +76,7 @@ pub(crate) fn open(
     let Ok(served) = Box::new(alloc, scheduler) else {
         return Err(Refusal::NoMemory);
     };
-    *handle = Handle::holding(served);
-    Ok(())
+    Ok(Handle::holding(served))
 }
 
 /// 0 where a scheduler was opened, and else the number of the refusal.
@@ -104,7 +112,8 @@ impl Opening {
     // The configuration, whose limits nobody has looked at.
     fn config(&self, alloc: Global, weights: &[u32]) -> Result<Config, Refusal>
         ensures config { IfOk result (IsConfigOf self.now weights.now) }
-        ensures why { IfErr result (WhyNoConfig self.now) }
+        ensures named { IfOk result (λ _. unnamed_number self.now ≡ None) }
+        ensures why { IfErr result (WhyRefused self.now weights.now) }
     {
         let Some(policy) = policy_of(self.policy) else {
             return Err(Refusal::Policy);

@@ -54,3 +54,27 @@ fn changes_and_the_end(rt: HostRuntime) -> Result<(), Fail> {
     assert_eq!(rt; twodfq_take(&mut handle, rt.alloc(), 9, 0, 0).kind, 4);
     Ok(())
 }
+
+#[test]
+fn the_first_cause_is_told(rt: HostRuntime) -> Result<(), Fail> {
+    let mut handle = Handle::empty();
+    let mut opening = OPENING;
+    assert_eq!(rt; twodfq_open(&mut handle, rt.alloc(), &OPENING, &[1]), 0);
+    opening.workers = 0;
+    opening.kinds = 0;
+    opening.policy = 4;
+    opening.estimate = 3;
+    assert_eq!(rt; twodfq_open(&mut handle, rt.alloc(), &opening, &[0]), 1);
+    twodfq_free(&mut handle, rt.alloc());
+    assert_eq!(rt; twodfq_open(&mut handle, rt.alloc(), &opening, &[0]), 2);
+    opening.policy = 0;
+    assert_eq!(rt; twodfq_open(&mut handle, rt.alloc(), &opening, &[0]), 3);
+    opening.estimate = 0;
+    assert_eq!(rt; twodfq_open(&mut handle, rt.alloc(), &opening, &[0]), 16);
+    opening.workers = 1;
+    assert_eq!(rt; twodfq_open(&mut handle, rt.alloc(), &opening, &[0]), 18);
+    opening.kinds = 1;
+    assert_eq!(rt; twodfq_open(&mut handle, rt.alloc(), &opening, &[1]), 0);
+    twodfq_free(&mut handle, rt.alloc());
+    Ok(())
+}

@@ -4,3 +4,4 @@
 pub mod ending;
 mod live;
 pub mod program;
+mod reading;

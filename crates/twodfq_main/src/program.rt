@@ -1,28 +1,25 @@
 //! The program, over any source, sinks and clock: it reads what a command reads, has it answered, and writes the answer.
 ghost use Rattle.std.specs.Prelude.{◌≡◌, ◌≤◌, map, is_some, IfSome};
 ghost use Rattle.std.specs.String.{string_bytes};
-ghost use Rattle.command_line.specs.Commands.{IsInRange};
-ghost use Rattle.program_model.specs.Commands.{Untold, waits};
-ghost use Rattle.program_model.specs.Program.{asked, if_served, is_plain, is_any, Ends, IsRun, moved};
+ghost use Rattle.program_model.specs.CommandLimits.{IsInRange};
+ghost use Rattle.program_model.specs.Commands.{Untold, is_plain, is_live};
+ghost use Rattle.program_model.specs.Program.{asked, if_served, is_any, Ends, IsRun, moved};
 ghost use Rattle.program_model.specs.Statuses.{StatusMeans};
 
 use crate::ending::{told, written};
 use crate::live;
+use crate::reading::{read_input, reads_input};
 use command_line::command::command;
-use command_texts::{generation, run, script};
-use eligible_index::index::IndexChooser;
-use fq_io::{Clock, Sink, Source, read_all};
+use command_texts::plain;
+use fq_io::{Clock, Sink, Source};
 use program_model::command::Command;
 use program_model::ending::Failure;
 use std::alloc::Global;
 use std::sync::Wait;
 use std::thread::Threads;
 
-/// The greatest length of an input, in bytes.
-pub const GREATEST_INPUT: u64 = 67108864;
-
 /// The program: does what the words say, without the program's name before them, as `live` or `plain` would.
-/// The answer is the exit status: 0, or 2 to 7.
+/// The answer is the exit status: 0, or 2 to 8.
 pub fn twodfq<T: Wait + Threads + Sync, R: Source, W: Sink, E: Sink, K: Clock + Sync>(
     rt: &T,
     alloc: Global,
@@ -50,7 +47,7 @@ pub fn twodfq<T: Wait + Threads + Sync, R: Source, W: Sink, E: Sink, K: Clock + 
 
 // Whether a command is asked for that waits for threads.
 fn is_to_wait(ask: Option<Command>) -> bool
-    ensures { result ≡ is_some (if_served waits ask) }
+    ensures { result ≡ is_some (if_served is_live ask) }
 {
     matches!(ask, Some(Command::Live { .. }))
 }
@@ -71,10 +68,10 @@ pub fn live<T: Wait + Threads + Sync, R: Source, W: Sink, E: Sink, K: Clock + Sy
     errs: &mut E,
     clock: &K,
 ) -> u8
-    ensures run { IsRun (K.tells clock.now) (asked waits (map string_bytes words.now))
+    ensures run { IsRun (K.tells clock.now) (asked is_live (map string_bytes words.now))
         (moved R.left R.faults source.old source.new) (moved W.written W.faults sink.old sink.new)
         (moved E.written E.faults errs.old errs.new) result }
-    ensures status { StatusMeans (K.tells clock.now) (asked waits (map string_bytes words.now))
+    ensures status { StatusMeans (K.tells clock.now) (asked is_live (map string_bytes words.now))
         (moved R.left R.faults source.old source.new) (moved W.written W.faults sink.old sink.new) result }
     ensures sink_room { W.room sink.new ≡ W.room sink.old }
 {
@@ -112,7 +109,7 @@ fn live_end<T: Wait + Threads + Sync, R: Source, W: Sink, K: Clock + Sync>(
     clock: &K,
 ) -> Result<u8, Failure>
     requires range { IfSome ask IsInRange }
-    ensures ends { Ends (K.tells clock.now) (if_served waits ask) (moved R.left R.faults source.old source.new)
+    ensures ends { Ends (K.tells clock.now) (if_served is_live ask) (moved R.left R.faults source.old source.new)
         (moved W.written W.faults sink.old sink.new) result }
     ensures source_later { R.faults source.old ≤ R.faults source.new }
     ensures sink_later { W.faults sink.old ≤ W.faults sink.new }
@@ -126,7 +123,7 @@ fn live_end<T: Wait + Threads + Sync, R: Source, W: Sink, K: Clock + Sync>(
                 print,
             },
         ) => {
-            let input = read_all(alloc, source, GREATEST_INPUT)?;
+            let input = read_input(alloc, true, source)?;
             let output = live::answer(rt, alloc, options, slot, print, input, clock);
             written(sink, output)
         }
@@ -149,32 +146,9 @@ fn plain_end<R: Source, W: Sink>(
     ensures sink_room { W.room sink.new ≡ W.room sink.old }
 {
     match ask {
-        Some(Command::Script { print }) => {
-            let input = read_all(alloc, source, GREATEST_INPUT)?;
-            let output = script::answer::<IndexChooser>(alloc, print, input.as_slice());
-            drop(input);
-            written(sink, output)
-        }
-        Some(
-            Command::Run {
-                options,
-                slot,
-                print,
-            },
-        ) => {
-            let input = read_all(alloc, source, GREATEST_INPUT)?;
-            let output = run::answer(alloc, options, slot, print, input);
-            written(sink, output)
-        }
-        Some(
-            Command::Gen {
-                seed,
-                tenants,
-                requests,
-                print,
-            },
-        ) => {
-            let output = generation::answer(alloc, seed, tenants, requests, print);
+        Some(Command::Plain(command)) => {
+            let input = read_input(alloc, reads_input(command), source)?;
+            let output = plain::answer(alloc, command, input);
             written(sink, output)
         }
         Some(Command::Live { .. }) | None => Err(Failure::Words),

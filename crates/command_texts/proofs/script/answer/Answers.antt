@@ -5,4 +5,4 @@ pub returns-in-Ok : goal.returns-in-Ok
 returns-in-Ok g c = c.opened.ensures c.args.input.now c.in-Ok.ensures.ok
 
 pub returns-in-Err : goal.returns-in-Err
-returns-in-Err g c = head_stop c.args.what c.args.input.now c.in-Err.fault c.fault_stop.result c.in-Err.ensures.fault c.fault_stop.ensures
+returns-in-Err g c = head_stop c.args.what c.args.input.now c.in-Err.fault c.document_stop.result c.in-Err.ensures.fault c.document_stop.ensures

@@ -8,10 +8,10 @@ pub returns-in_ok-input-in-Some-Live-clause-ends : goal.returns-in_ok-input-in-S
 returns-in_ok-input-in-Some-Live-clause-ends g c =
     let told = g.K.Clock.tells c.args.clock.now in
     let command = Live c.in-Some-Live.options c.in-Some-Live.slot c.in-Some-Live.print in
-    let source = moved g.R.Source.left g.R.Source.faults c.args.source.now c.read_all.new.source in
+    let source = moved g.R.Source.left g.R.Source.faults c.args.source.now c.read_input.new.source in
     let sink = moved g.W.Sink.written g.W.Sink.faults c.args.sink.now c.written.new.sink in
     let read = c.in_ok-input-in-Some-Live in
     let end : EndsCommand told command source sink c.written.result =
-    output_ends told command source sink read.input.items read.ensures.ok read.ensures.limit c.read_all.ensures.taken
+    output_ends told command source sink read.input.items read.ensures.input
     c.answer-output.result c.written.result c.answer-output.ensures c.written.ensures.ends in
     search rules

@@ -1,4 +1,4 @@
-use Rattle.program_model.specs.Program.{is_plain}
+use Rattle.program_model.specs.Commands.{is_plain}
 use Rattle.command_texts.proofs.Runs.{run_is, run_means}
 use Rattle.twodfq_main.proofs.program.plain.Goals as goal
 
