@@ -14,7 +14,8 @@ then_own {row} {rows} own others = All-cons IsOwnRow row rows own others
 pub own_rows : AreOwnRows
 own_rows =
     then_own (λ values. refl) (then_own (λ values. refl) (then_own (λ values. refl)
-    (then_own (λ values. refl) (then_own (λ values. refl) (then_own (λ values. refl) (All-nil IsOwnRow))))))
+    (then_own (λ values. refl) (then_own (λ values. refl) (then_own (λ values. refl)
+    (then_own (λ values. refl) (All-nil IsOwnRow)))))))
 
 pub gen_runs_by_defaults : GenRunsByDefaults
 unfolding command_of values_in number_for number_of
