@@ -3,7 +3,7 @@
 _twodfq() {
     local command=${COMP_WORDS[1]:-} current=${COMP_WORDS[COMP_CWORD]} before=${COMP_WORDS[COMP_CWORD - 1]} words option
     if [ "$COMP_CWORD" = 1 ]; then
-        mapfile -t COMPREPLY < <(compgen -W 'script run live gen check shape help --help --version' -- "$current")
+        mapfile -t COMPREPLY < <(compgen -W 'script run live gen check shape compare help --help --version' -- "$current")
         return
     fi
     # (bash takes = for a word of its own)
@@ -32,6 +32,10 @@ _twodfq() {
     'check --explain') words='' ;;
     'shape --rate') words='' ;;
     'shape --burst') words='' ;;
+    'compare --workers') words='' ;;
+    'compare --initial') words='' ;;
+    'compare --refresh') words='' ;;
+    'compare --slot') words='' ;;
     *)
         case $command in
         script) words='--print' ;;
@@ -40,6 +44,7 @@ _twodfq() {
         gen) words='--seed --tenants --requests --print' ;;
         check) words='--explain' ;;
         shape) words='--rate --burst' ;;
+        compare) words='--workers --initial --refresh --slot' ;;
         *) words= ;;
         esac
         for option in "${COMP_WORDS[@]:2:COMP_CWORD - 2}"; do words=" $words " words=${words/ $option / }; done

@@ -5,7 +5,7 @@ use Rattle.std.specs.String.{string_bytes}
 use Rattle.std.proofs.lemmas.Bool.{false≢true, lt-ltb, ltb-true}
 use Rattle.fq_io.specs.Sources.{GaveAll, TookTooMany}
 use Rattle.program_model.specs.declared.command.Command.{Command}
-use Rattle.program_model.specs.declared.command.Command.TheVariants.{Plain, Live}
+use Rattle.program_model.specs.declared.command.Command.TheVariants.{Plain, Live, Compare}
 use Rattle.program_model.specs.declared.command.GenPrint.{GenPrint}
 use Rattle.program_model.specs.declared.command.GenPrint.TheVariants as gen
 use Rattle.program_model.specs.declared.command.PlainCommand.{PlainCommand}
@@ -17,6 +17,8 @@ use Rattle.program_model.specs.declared.verdict.Verdict.{Verdict}
 use Rattle.program_model.specs.declared.verdict.Verdict.TheVariants.{Legal, Bad}
 use Rattle.program_model.specs.Answer.{Answer, Text, Message, answer_status, IsReadAnswer, IsAnswerUnless}
 use Rattle.program_model.specs.CheckCommand.{verdict_status, IsJudged}
+use Rattle.program_model.specs.declared.compare.CompareOptions.{CompareOptions}
+use Rattle.program_model.specs.CompareCommand.{IsRowsAnswer, IsLongAnswer, IsComparisonAnswer}
 use Rattle.program_model.specs.Commands.{reads_input, IsPlainAnswer, IsAnswer}
 use Rattle.program_model.specs.Conforms.{too_big, too_late}
 use Rattle.program_model.specs.Ending.{failure_message, status_of}
@@ -109,11 +111,20 @@ plain_sound (Gen seed tenants requests print) input answer x = generated_sound p
 plain_sound (Check explain) input answer x = read_sound journal_fault_text (IsJudged explain) (journal_of input) answer (λ journal y. judged_sound explain journal answer y) x
 plain_sound (Shape rate burst) input answer x = trace_sound (IsShapedAnswer rate burst) input answer (λ T y. sized_sound rate burst T (too_big T burst) answer y) x
 
+compared_sound : (o : CompareOptions) (T : Trace) (answer : Answer) → IsComparisonAnswer o T answer → IsSound answer
+compared_sound o T answer x =
+    unless_sound (has_many_entries (needed_entries T.rows o.refresh)) (entries_answer (needed_entries T.rows o.refresh)) answer (λ a. IsRowsAnswer T o a ⊎ IsLongAnswer T o a) refl either x
+  where
+    either : IsRowsAnswer T o answer ⊎ IsLongAnswer T o answer → IsSound answer
+    either (inl y) = sound_as answer _ y.answer_is refl
+    either (inr y) = sound_as answer _ y.answer_is refl
+
 sound : (Told : ℕ → Type 0) (command : Command) (input : List ℕ) (answer : Answer) → IsAnswer Told command input answer → IsSound answer
 sound Told (Plain command) input answer x = plain_sound command input answer x
 sound Told (Live options slot print) input answer x =
     trace_sound (IsPoolAnswer Told options slot print) input answer
     (λ T y. counted_sound (PoolMakes Told T options) (needed_pool_entries T.rows options.refresh) print slot (pool_config T options) T.tenants T.kinds answer y) x
+sound Told (Compare options) input answer x = trace_sound (IsComparisonAnswer options) input answer (λ T y. compared_sound options T answer y) x
 
 -- ---- inputs that are known
 

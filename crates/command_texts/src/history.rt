@@ -1,5 +1,5 @@
 //! What is asked for of a history whose requests are all done: its journal, its lag report, both, or its summary.
-ghost use Rattle.std.specs.Prelude.{◌≡◌, ◌≤◌, ◌*◌, None, length, string_bytes, MatchResult, IfOk};
+ghost use Rattle.std.specs.Prelude.{◌≡◌, ◌≤◌, None, length, string_bytes, MatchResult, IfOk};
 ghost use Rattle.fq_model.specs.declared.limits.TheConstants.{GREATEST_SLOT};
 ghost use Rattle.fq_model.specs.History.{history_of};
 ghost use Rattle.fq_model.specs.Report.{unfinished};
@@ -121,17 +121,19 @@ fn made_report(alloc: Global, slot: u64, history: &History) -> Result<Report, St
     };
     match report(alloc, past, config, chosen) {
         Ok(report) => Ok(report),
-        Err(ReportFault::TooLong { slots, tenants }) => Err(too_many_cells(alloc, slots, tenants)),
+        Err(ReportFault::TooLong { slots, tenants }) => {
+            Err(too_many_cells(alloc, slots as u128 * tenants as u128))
+        }
         Err(ReportFault::Unfinished(_)) => unreachable!(),
         Err(ReportFault::NoMemory) => Err(Stop::NoMemory),
     }
 }
 
-// Where a report would have more cells than it may, a message that tells how many.
-fn too_many_cells(alloc: Global, slots: u64, tenants: u32) -> Stop
-    ensures { IsStop (λ answer. answer ≡ cells_answer (slots * tenants)) result }
+/// Where a report would have more cells than it may, a message that tells how many.
+pub fn too_many_cells(alloc: Global, cells: u128) -> Stop
+    ensures { IsStop (λ answer. answer ≡ cells_answer cells) result }
 {
-    told(alloc, 7, cells_text(alloc, slots as u128 * tenants as u128))
+    told(alloc, 7, cells_text(alloc, cells))
 }
 
 fn cells_text(alloc: Global, cells: u128) -> Result<String, AllocError>

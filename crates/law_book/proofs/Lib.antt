@@ -6,6 +6,7 @@ mod JournalsRead
 mod JudgedLegal
 mod Exists
 mod Entries
+mod OneComparison
 mod OneAnswer
 pub mod CleanRuns
 pub mod Rows

@@ -1,5 +1,5 @@
 -- Answers to one input.
-use Rattle.std.proofs.Common.{ℕ, ◌≡◌, ◌∙◌, sym, ap, refl, subst, Bool, true, false, List, [], ◌++◌, reverse, Option, Some, None, Result, Ok, Err}
+use Rattle.std.proofs.Common.{ℕ, ◌≡◌, ◌∙◌, sym, ap, refl, subst, Bool, true, false, List, [], ◌++◌, reverse, Option, Some, None, Result, Ok, Err, ◌⊎◌}
 use Rattle.std.proofs.lemmas.Bool.{false≢true}
 use Rattle.std.proofs.lemmas.List.{reverse-reverse}
 use Rattle.fq_model.specs.declared.config.Config.{Config}
@@ -8,7 +8,7 @@ use Rattle.fq_model.specs.declared.event.Reply.{Reply}
 use Rattle.fq_model.specs.History.{History, history_of}
 use Rattle.fq_laws.proofs.Outcome.{outcome_from_one}
 use Rattle.program_model.specs.declared.command.Command.{Command}
-use Rattle.program_model.specs.declared.command.Command.TheVariants.{Plain, Live}
+use Rattle.program_model.specs.declared.command.Command.TheVariants.{Plain, Live, Compare}
 use Rattle.program_model.specs.declared.command.GenPrint.{GenPrint}
 use Rattle.program_model.specs.declared.command.GenPrint.TheVariants as gen
 use Rattle.program_model.specs.declared.command.HistoryPrint.{HistoryPrint}
@@ -22,6 +22,7 @@ use Rattle.program_model.specs.declared.verdict.Verdict.{Verdict}
 use Rattle.program_model.specs.declared.verdict.Verdict.TheVariants.{Legal, Bad}
 use Rattle.program_model.specs.Answer.{Answer, Text, Message, answer_status, message_line, IsReadAnswer, IsAnswerUnless}
 use Rattle.program_model.specs.CheckCommand.{verdict_status, request_explained, IsExplanationIfAny, IsJudged}
+use Rattle.program_model.specs.CompareCommand.{IsRowsAnswer, IsLongAnswer, IsComparisonAnswer}
 use Rattle.program_model.specs.Commands.{is_live, IsPlainAnswer, IsAnswer}
 use Rattle.program_model.specs.Conforms.{too_big, too_late}
 use Rattle.program_model.specs.Document.{config_of}
@@ -48,6 +49,7 @@ use Rattle.trace_reader.proofs.Generated.{generated_lawful}
 use Rattle.trace_reader.proofs.Lawful.{lawful}
 use Rattle.trace_shape.proofs.Least.{least_is_one}
 use Rattle.trace_runner.proofs.Only.{one_simulated}
+use Rattle.law_book.proofs.OneComparison.{one_comparison}
 use Rattle.law_book.specs.Programs.{IsPlainWithinLimits, IsWithinLimits}
 
 -- one history is one list of entries in order of time
@@ -130,6 +132,9 @@ one_plain (Shape rate burst) input a b some x y =
 pub one_answer : (Told : ℕ → Type 0) (command : Command) (input : List ℕ) (a b : Answer) → is_live command ≡ false → IsWithinLimits command → IsAnswer Told command input a → IsAnswer Told command input b → a ≡ b
 one_answer Told (Plain command) input a b plain some x y = one_plain command input a b some x y
 one_answer Told (Live options slot print) input a b plain some x y = absurd (false≢true (sym plain))
+one_answer Told (Compare options) input a b plain some x y =
+    one_read trace_fault_text (IsComparisonAnswer options) (trace_of input) a b
+    (λ T is. one_unless (has_many_entries (needed_entries T.rows options.refresh)) (entries_answer (needed_entries T.rows options.refresh)) a b (λ c. IsRowsAnswer T options c ⊎ IsLongAnswer T options c) (one_comparison T options (lawful input T is) a b)) x y
 
 pub one_status : (Told : ℕ → Type 0) (command : Command) (input : List ℕ) (a b : Answer) → is_live command ≡ false → IsWithinLimits command → IsAnswer Told command input a → IsAnswer Told command input b → answer_status a ≡ answer_status b
 one_status Told command input a b plain some x y = ap answer_status (one_answer Told command input a b plain some x y)

@@ -5,6 +5,8 @@
 #[cfg(test)]
 mod clean_tests;
 #[cfg(test)]
+mod compared_tests;
+#[cfg(test)]
 mod cut_tests;
 #[cfg(test)]
 mod device_tests;

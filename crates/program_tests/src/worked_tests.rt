@@ -98,12 +98,13 @@ fn expect_no_command<R: Abort>(rt: &R, alloc: Global, words: &[&str]) {
     expect_left(rt, alloc, &mut source, SCRIPT);
 }
 
-// As do those for `live`, where only what waits for nobody is served.
+// As do those for `live` and for `compare`, where only what waits for nobody is served.
 #[test]
 fn words_of_no_command_leave_the_input(rt: HostRuntime) {
     expect_no_command(&rt, rt.alloc(), &[]);
     expect_no_command(&rt, rt.alloc(), &["script", "--help"]);
     expect_no_command(&rt, rt.alloc(), &["live"]);
+    expect_no_command(&rt, rt.alloc(), &["compare"]);
 }
 
 // The second write fails, after one of four bytes.

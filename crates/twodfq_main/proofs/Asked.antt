@@ -1,41 +1,54 @@
 -- What is asked of the program ends as it does in the part of it that serves it.
-use Rattle.std.proofs.Common.{ℕ, ◌≡◌, sym, true, false, Option, Some, None, is_some, Result, Ok, Err}
+use Rattle.std.proofs.Common.{ℕ, ◌≡◌, sym, refl, List, true, false, Option, Some, None, is_some, Result, Ok, Err}
 use Rattle.std.proofs.lemmas.Bool.{false≢true}
 use Rattle.std.specs.String.{string_bytes}
 use Rattle.program_model.specs.declared.command.Command.{Command}
-use Rattle.program_model.specs.declared.command.Command.TheVariants.{Plain, Live}
-use Rattle.program_model.specs.declared.command.PlainCommand.{PlainCommand}
+use Rattle.program_model.specs.declared.command.Command.TheVariants.{Plain, Live, Compare}
 use Rattle.program_model.specs.declared.ending.Failure.{Failure}
 use Rattle.program_model.specs.declared.ending.Failure.TheVariants.{Words, TooLong, Reading, Writing, Stopped}
 use Rattle.program_model.specs.declared.ending.Stop.TheVariants as stops
-use Rattle.program_model.specs.Answer.{Answer}
-use Rattle.program_model.specs.Commands.{is_plain, is_live}
+use Rattle.program_model.specs.Answer.{Answer, Text, Message}
+use Rattle.program_model.specs.Commands.{is_plain, is_live, is_compare, IsAnswer}
 use Rattle.program_model.specs.Program.{Move, if_served, is_any, IsAnswered, Ends, EndsCommand}
 
 -- whatever the clocks A and B tell
 module _ (A B : ℕ → Type 0) where
-  -- a command that waits for nobody answers the same
-  answered_alike : (command : PlainCommand) (source : Move) (answer : Answer) → IsAnswered A (Plain command) source answer → IsAnswered B (Plain command) source answer
-  answered_alike command source answer x = record { input = x.input; read = x.read; within = x.within; is_answer = x.is_answer }
+  -- a command that asks none answers the same
+  answers_alike : (command : Command) (input : List ℕ) (answer : Answer) → is_live command ≡ false → IsAnswer A command input answer → IsAnswer B command input answer
+  answers_alike (Plain command) input answer unasked x = x
+  answers_alike (Live options slot print) input answer unasked x = absurd (false≢true (sym unasked))
+  answers_alike (Compare options) input answer unasked x = x
+
+  answered_alike : (command : Command) (source : Move) (answer : Answer) → is_live command ≡ false → IsAnswered A command source answer → IsAnswered B command source answer
+  answered_alike command source answer unasked x = record { input = x.input; read = x.read; within = x.within; is_answer = answers_alike command x.input answer unasked x.is_answer }
 
   -- so it ends alike
-  ends_alike : (command : PlainCommand) (source sink : Move) (end : Result ℕ Failure) → EndsCommand A (Plain command) source sink end → EndsCommand B (Plain command) source sink end
-  ends_alike command source sink (Ok status) x = record { text = x.text; answered = answered_alike command source _ x.answered; wrote = x.wrote }
-  ends_alike command source sink (Err Words) x = x
-  ends_alike command source sink (Err Reading) x = x
-  ends_alike command source sink (Err TooLong) x = x
-  ends_alike command source sink (Err Writing) x = record { status = x.status; text = x.text; answered = answered_alike command source _ x.answered; wrote = x.wrote }
-  ends_alike command source sink (Err (Stopped (stops.Message status message))) x = (answered_alike command source _ x.0, x.1)
-  ends_alike command source sink (Err (Stopped stops.NoMemory)) x = x
+  ends_alike : (command : Command) (source sink : Move) (end : Result ℕ Failure) → is_live command ≡ false → EndsCommand A command source sink end → EndsCommand B command source sink end
+  ends_alike command source sink (Ok status) unasked x = record { text = x.text; answered = answered_alike command source (Text status x.text) unasked x.answered; wrote = x.wrote }
+  ends_alike command source sink (Err Words) unasked x = x
+  ends_alike command source sink (Err Reading) unasked x = x
+  ends_alike command source sink (Err TooLong) unasked x = x
+  ends_alike command source sink (Err Writing) unasked x = record { status = x.status; text = x.text; answered = answered_alike command source (Text x.status x.text) unasked x.answered; wrote = x.wrote }
+  ends_alike command source sink (Err (Stopped (stops.Message status message))) unasked x = (answered_alike command source (Message status (string_bytes message)) unasked x.0, x.1)
+  ends_alike command source sink (Err (Stopped stops.NoMemory)) unasked x = x
 
-  -- what is asked waits for nobody, and ended so
-  pub plain_ends : (ask : Option Command) (source sink : Move) (end : Result ℕ Failure) → is_some (if_served is_live ask) ≡ false → Ends A (if_served is_plain ask) source sink end → Ends B (if_served is_any ask) source sink end
-  plain_ends None source sink end other x = x
-  plain_ends (Some (Plain command)) source sink end other x = ends_alike command source sink end x
-  plain_ends (Some (Live options slot print)) source sink end other x = absurd (false≢true (sym other))
+  -- what is asked waits for nobody and compares nothing, and ended so
+  pub plain_ends : (ask : Option Command) (source sink : Move) (end : Result ℕ Failure) → is_some (if_served is_live ask) ≡ false → is_some (if_served is_compare ask) ≡ false → Ends A (if_served is_plain ask) source sink end → Ends B (if_served is_any ask) source sink end
+  plain_ends None source sink end waits compares x = x
+  plain_ends (Some (Plain command)) source sink end waits compares x = ends_alike (Plain command) source sink end refl x
+  plain_ends (Some (Live options slot print)) source sink end waits compares x = absurd (false≢true (sym waits))
+  plain_ends (Some (Compare options)) source sink end waits compares x = absurd (false≢true (sym compares))
+
+  -- it is a comparison, and ended so
+  pub compare_ends : (ask : Option Command) (source sink : Move) (end : Result ℕ Failure) → is_some (if_served is_compare ask) ≡ true → Ends A (if_served is_compare ask) source sink end → Ends B (if_served is_any ask) source sink end
+  compare_ends None source sink end compares x = absurd (false≢true compares)
+  compare_ends (Some (Plain command)) source sink end compares x = absurd (false≢true compares)
+  compare_ends (Some (Live options slot print)) source sink end compares x = absurd (false≢true compares)
+  compare_ends (Some (Compare options)) source sink end compares x = ends_alike (Compare options) source sink end refl x
 
 -- what is asked waits for threads, and ended so
 pub live_ends : (Told : ℕ → Type 0) (ask : Option Command) (source sink : Move) (end : Result ℕ Failure) → is_some (if_served is_live ask) ≡ true → Ends Told (if_served is_live ask) source sink end → Ends Told (if_served is_any ask) source sink end
 live_ends Told None source sink end live x = absurd (false≢true live)
 live_ends Told (Some (Plain command)) source sink end live x = absurd (false≢true live)
 live_ends Told (Some (Live options slot print)) source sink end live x = x
+live_ends Told (Some (Compare options)) source sink end live x = absurd (false≢true live)

@@ -1,3 +1,4 @@
 pub mod Pools
 pub mod Written
 pub mod Asked
+pub mod Comparisons

@@ -1,6 +1,7 @@
 //! The program over any source, sinks and clock.
 #![tactic(auto)]
 
+mod compare;
 pub mod ending;
 mod live;
 pub mod program;

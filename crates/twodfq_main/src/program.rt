@@ -2,10 +2,11 @@
 ghost use Rattle.std.specs.Prelude.{◌≡◌, ◌≤◌, map, is_some, IfSome};
 ghost use Rattle.std.specs.String.{string_bytes};
 ghost use Rattle.program_model.specs.CommandLimits.{IsInRange};
-ghost use Rattle.program_model.specs.Commands.{Untold, is_plain, is_live};
+ghost use Rattle.program_model.specs.Commands.{Untold, is_plain, is_live, is_compare};
 ghost use Rattle.program_model.specs.Program.{asked, if_served, is_any, Ends, IsRun, moved};
 ghost use Rattle.program_model.specs.Statuses.{StatusMeans};
 
+use crate::compare;
 use crate::ending::{told, written};
 use crate::live;
 use crate::reading::{read_input, reads_input};
@@ -18,7 +19,8 @@ use std::alloc::Global;
 use std::sync::Wait;
 use std::thread::Threads;
 
-/// The program: does what the words say, without the program's name before them, as `live` or `plain` would.
+/// The program: does what the words say, without the program's name before them, as `live`,
+/// `compare` or `plain` would.
 /// The answer is the exit status: 0, or 2 to 8.
 pub fn twodfq<T: Wait + Threads + Sync, R: Source, W: Sink, E: Sink, K: Clock + Sync>(
     rt: &T,
@@ -41,6 +43,10 @@ pub fn twodfq<T: Wait + Threads + Sync, R: Source, W: Sink, E: Sink, K: Clock + 
         let end = live_end(rt, alloc, ask, source, sink, clock);
         return told(errs, end);
     }
+    if is_to_compare(ask) {
+        let end = compare_end(rt, alloc, ask, source, sink);
+        return told(errs, end);
+    }
     let end = plain_end(alloc, ask, source, sink);
     told(errs, end)
 }
@@ -50,6 +56,13 @@ fn is_to_wait(ask: Option<Command>) -> bool
     ensures { result ≡ is_some (if_served is_live ask) }
 {
     matches!(ask, Some(Command::Live { .. }))
+}
+
+// Whether a comparison is asked for.
+fn is_to_compare(ask: Option<Command>) -> bool
+    ensures { result ≡ is_some (if_served is_compare ask) }
+{
+    matches!(ask, Some(Command::Compare { .. }))
 }
 
 /// The command `live`, which serves a trace by a pool of threads; words for another are no command line here. The
@@ -76,6 +89,27 @@ pub fn live<T: Wait + Threads + Sync, R: Source, W: Sink, E: Sink, K: Clock + Sy
     ensures sink_room { W.room sink.new ≡ W.room sink.old }
 {
     let end = live_end(rt, alloc, command(words), source, sink, clock);
+    told(errs, end)
+}
+
+/// The command `compare`, which simulates a trace under all policies and estimators; words for another are no command
+/// line here. Threads work for it, but it waits for nobody: it always returns. The answer is the exit status.
+pub fn compare<T: Threads + Sync, R: Source, W: Sink, E: Sink>(
+    rt: &T,
+    alloc: Global,
+    words: &[String],
+    source: &mut R,
+    sink: &mut W,
+    errs: &mut E,
+) -> u8
+    ensures run { IsRun Untold (asked is_compare (map string_bytes words.now))
+        (moved R.left R.faults source.old source.new) (moved W.written W.faults sink.old sink.new)
+        (moved E.written E.faults errs.old errs.new) result }
+    ensures status { StatusMeans Untold (asked is_compare (map string_bytes words.now))
+        (moved R.left R.faults source.old source.new) (moved W.written W.faults sink.old sink.new) result }
+    ensures sink_room { W.room sink.new ≡ W.room sink.old }
+{
+    let end = compare_end(rt, alloc, command(words), source, sink);
     told(errs, end)
 }
 
@@ -131,6 +165,31 @@ fn live_end<T: Wait + Threads + Sync, R: Source, W: Sink, K: Clock + Sync>(
     }
 }
 
+// Does what is asked, if it is `compare`, or says why not.
+fn compare_end<T: Threads + Sync, R: Source, W: Sink>(
+    rt: &T,
+    alloc: Global,
+    ask: Option<Command>,
+    source: &mut R,
+    sink: &mut W,
+) -> Result<u8, Failure>
+    requires range { IfSome ask IsInRange }
+    ensures ends { Ends Untold (if_served is_compare ask) (moved R.left R.faults source.old source.new)
+        (moved W.written W.faults sink.old sink.new) result }
+    ensures source_later { R.faults source.old ≤ R.faults source.new }
+    ensures sink_later { W.faults sink.old ≤ W.faults sink.new }
+    ensures sink_room { W.room sink.new ≡ W.room sink.old }
+{
+    match ask {
+        Some(Command::Compare { options }) => {
+            let input = read_input(alloc, true, source)?;
+            let output = compare::answer(rt, alloc, options, input);
+            written(sink, output)
+        }
+        _ => Err(Failure::Words),
+    }
+}
+
 // Does what is asked, if it waits for nobody, or says why not.
 fn plain_end<R: Source, W: Sink>(
     alloc: Global,
@@ -151,6 +210,6 @@ fn plain_end<R: Source, W: Sink>(
             let output = plain::answer(alloc, command, input);
             written(sink, output)
         }
-        Some(Command::Live { .. }) | None => Err(Failure::Words),
+        Some(Command::Live { .. } | Command::Compare { .. }) | None => Err(Failure::Words),
     }
 }
