@@ -4,7 +4,6 @@ use Rattle.std.specs.Prelude.{All}
 use Rattle.std.proofs.lemmas.List.Elements.{All-cons, All-nil}
 use Rattle.program_model.specs.declared.command.Command.{Command}
 use Rattle.program_model.specs.Commands.{built_commands}
-
 use Rattle.program_model.specs.Options.{CommandRow, command_of, values_in, number_for}
 use Rattle.law_book.specs.Programs.{IsOwnRow, AreOwnRows, GenRunsByDefaults}
 
