@@ -55,15 +55,11 @@ fn run_command(words: &[String]) -> Option<Command>
     ensures range { IfSome result IsInRange }
 {
     let (options, slot, print) = history_parts(words)?;
-    Some(
-        Command::Plain(
-            PlainCommand::Run {
-                options,
-                slot,
-                print,
-            },
-        ),
-    )
+    Some(Command::Plain(PlainCommand::Run {
+        options,
+        slot,
+        print,
+    }))
 }
 
 // `live`, by the words after it.
@@ -109,16 +105,12 @@ fn gen_command(words: &[String]) -> Option<Command>
     ensures range { IfSome result IsInRange }
 {
     let [seed, tenants, requests, print] = values_in::<4>(&GEN_OPTIONS, words)?;
-    Some(
-        Command::Plain(
-            PlainCommand::Gen {
-                seed: seed.unwrap_or(0),
-                tenants: tenants.unwrap_or(0) as u32,
-                requests: requests.unwrap_or(0) as u32,
-                print: choice(&GEN_PRINTS, print, GenPrint::Trace),
-            },
-        ),
-    )
+    Some(Command::Plain(PlainCommand::Gen {
+        seed: seed.unwrap_or(0),
+        tenants: tenants.unwrap_or(0) as u32,
+        requests: requests.unwrap_or(0) as u32,
+        print: choice(&GEN_PRINTS, print, GenPrint::Trace),
+    }))
 }
 
 // `check`, by the words after it.
@@ -148,14 +140,10 @@ fn shape_command(words: &[String]) -> Option<Command>
     ensures range { IfSome result IsInRange }
 {
     let [rate, burst] = values_in::<2>(&SHAPE_OPTIONS, words)?;
-    Some(
-        Command::Plain(
-            PlainCommand::Shape {
-                rate: rate.unwrap_or(0),
-                burst: burst.unwrap_or(0),
-            },
-        ),
-    )
+    Some(Command::Plain(PlainCommand::Shape {
+        rate: rate.unwrap_or(0),
+        burst: burst.unwrap_or(0),
+    }))
 }
 
 // What a value stands for that is a place among these.

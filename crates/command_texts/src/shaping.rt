@@ -60,8 +60,7 @@ fn too_big(alloc: Global, trace: &Trace, burst: u64, r: u32) -> Stop
 fn big_text(alloc: Global, r: u32, declared: u64, burst: u64) -> Result<String, AllocError>
     ensures { IfOk result (λ text. string_bytes text ≡ big_text r declared burst) }
 {
-    let text =
-        format!(in alloc; "request {r} has size {declared}, more than the burst {burst}")?;
+    let text = format!(in alloc; "request {r} has size {declared}, more than the burst {burst}")?;
     Ok(text)
 }
 

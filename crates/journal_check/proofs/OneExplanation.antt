@@ -111,6 +111,7 @@ module _ (C : Config) (entries : List Entry) (names : List (List ℕ)) (request 
     where
       act_same : take_in x a ≡ take_in y b → Take x.worker request a.estimate ≡ Take y.worker request b.estimate
       act_same is = ap (λ (e : Entry). e.act) is
+
       moment_same : take_in x a ≡ take_in y b → x.moment ≡ y.moment
       moment_same is = ap (λ (e : Entry). e.moment) is
 

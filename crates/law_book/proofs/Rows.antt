@@ -3,19 +3,24 @@ use Rattle.std.proofs.Common.{refl, List, [], ◌∷◌}
 use Rattle.std.specs.Prelude.{All}
 use Rattle.std.proofs.lemmas.List.Elements.{All-cons, All-nil}
 use Rattle.program_model.specs.declared.command.Command.{Command}
-use Rattle.program_model.specs.Numbers.{number_of}
+use Rattle.program_model.specs.Commands.{built_commands}
 use Rattle.program_model.specs.Options.{CommandRow, command_of, values_in, number_for}
 use Rattle.law_book.specs.Programs.{IsOwnRow, AreOwnRows, GenRunsByDefaults}
 
--- a row that means commands of its own, and others
-then_own : {row : CommandRow Command} {rows : List (CommandRow Command)} → IsOwnRow row → All IsOwnRow rows → All IsOwnRow (row ∷ rows)
-then_own {row} {rows} own others = All-cons IsOwnRow row rows own others
+-- each of these rows means commands of its own
+AllOwn : List (CommandRow Command) → Type 0
+AllOwn [] = Unit {0}
+AllOwn (row ∷ rows) = IsOwnRow row × AllOwn rows
+
+all_own : (rows : List (CommandRow Command)) → AllOwn rows → All IsOwnRow rows
+unfolding AllOwn
+all_own [] own = All-nil IsOwnRow
+all_own (row ∷ rows) own = All-cons IsOwnRow row rows own.0 (all_own rows own.1)
 
 pub own_rows : AreOwnRows
-own_rows =
-    then_own (λ values. refl) (then_own (λ values. refl) (then_own (λ values. refl)
-    (then_own (λ values. refl) (then_own (λ values. refl) (then_own (λ values. refl) (All-nil IsOwnRow))))))
+unfolding AllOwn
+own_rows = all_own built_commands ((λ values. refl), ((λ values. refl), ((λ values. refl), ((λ values. refl), ((λ values. refl), ((λ values. refl), tt))))))
 
 pub gen_runs_by_defaults : GenRunsByDefaults
-unfolding command_of values_in number_for number_of
+unfolding command_of values_in number_for
 gen_runs_by_defaults = refl

@@ -48,18 +48,39 @@ fn choices_in_a_legal_journal(rt: HostRuntime) {
     let explained = "legal entries 24\nrequest 1 worker 1 moment 5 virtual 5242880\n\
         tenant a head 1 start 8388608 finish 16777216 key 4194304 eligible\n\
         tenant b head 8 start 6291456 finish 7340032 key 5767168 later\n";
-    expect_answer(&rt, alloc, &["check", "--explain", "1"], STAGGER, 0, explained);
+    expect_answer(
+        &rt,
+        alloc,
+        &["check", "--explain", "1"],
+        STAGGER,
+        0,
+        explained,
+    );
     let waits = "legal entries 24\nrequest 9 was not taken\n";
     expect_answer(&rt, alloc, &["check", "--explain=9"], STAGGER, 0, waits);
     let never = "legal entries 0\nrequest 4294967295 was not taken\n";
-    expect_answer(&rt, alloc, &["check", "--explain=4294967295", "--"], HEAD, 0, never);
+    expect_answer(
+        &rt,
+        alloc,
+        &["check", "--explain=4294967295", "--"],
+        HEAD,
+        0,
+        never,
+    );
 }
 
 // These entries below the head are judged so at status 8, whether a choice is asked about or not.
 fn expect_illegal<R: Abort>(rt: &R, alloc: Global, entries: &str, written: &str) {
     let journal = joined(rt, alloc, &[HEAD, entries]);
     expect_answer(rt, alloc, &["check"], journal.as_str(), 8, written);
-    expect_answer(rt, alloc, &["check", "--explain", "0"], journal.as_str(), 8, written);
+    expect_answer(
+        rt,
+        alloc,
+        &["check", "--explain", "0"],
+        journal.as_str(),
+        8,
+        written,
+    );
 }
 
 #[test]
@@ -88,7 +109,14 @@ fn expect_fault<R: Abort>(rt: &R, alloc: Global, input: &str, told: &str) {
         written: "",
         told,
     };
-    check(rt, alloc, &["check", "--explain", "0"], &mut source, &mut sink, wanted);
+    check(
+        rt,
+        alloc,
+        &["check", "--explain", "0"],
+        &mut source,
+        &mut sink,
+        wanted,
+    );
 }
 
 #[test]
@@ -97,7 +125,12 @@ fn faults_are_told_of_a_journal(rt: HostRuntime) {
     expect_fault(&rt, alloc, "", "twodfq: line 1: not a journal\n");
     expect_fault(&rt, alloc, "script 1\n", "twodfq: line 1: not a journal\n");
     let head = "journal 1\nconfig 1 2dfq declared 1000 100 10\ntenant a 1\n";
-    expect_fault(&rt, alloc, head, "twodfq: line 4: the journal ends in its head\n");
+    expect_fault(
+        &rt,
+        alloc,
+        head,
+        "twodfq: line 4: the journal ends in its head\n",
+    );
     let call = joined(&rt, alloc, &[HEAD, "take 9 0 0\n"]);
     expect_fault(&rt, alloc, call.as_str(), "twodfq: line 6: 4 fields\n");
 }

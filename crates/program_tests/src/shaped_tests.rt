@@ -67,7 +67,8 @@ fn a_request_that_no_bucket_holds_is_told(rt: HostRuntime) {
 // The second request would come too late. That is told only where none is too big.
 #[test]
 fn a_request_that_comes_too_late_is_told(rt: HostRuntime) {
-    let late = "tenant,a,1\nrequest,100000000000000,0,a,get,2,1\nrequest,100000000000000,0,a,get,2,1\n\
+    let late =
+        "tenant,a,1\nrequest,100000000000000,0,a,get,2,1\nrequest,100000000000000,0,a,get,2,1\n\
         request,100000000000000,0,a,get,3,1\n";
     let told = "twodfq: request 1 would come after 100000000000000\n";
     let words = ["shape", "--rate", "1", "--burst", "3"];

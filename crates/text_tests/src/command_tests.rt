@@ -96,13 +96,11 @@ fn script(print: ScriptPrint) -> Command {
 }
 
 fn run(options: RunOptions, slot: u64, print: HistoryPrint) -> Command {
-    Command::Plain(
-        PlainCommand::Run {
-            options,
-            slot,
-            print,
-        },
-    )
+    Command::Plain(PlainCommand::Run {
+        options,
+        slot,
+        print,
+    })
 }
 
 fn live(options: RunOptions, slot: u64, print: HistoryPrint) -> Command {
@@ -114,14 +112,12 @@ fn live(options: RunOptions, slot: u64, print: HistoryPrint) -> Command {
 }
 
 fn generate(seed: u64, tenants: u32, requests: u32, print: GenPrint) -> Command {
-    Command::Plain(
-        PlainCommand::Gen {
-            seed,
-            tenants,
-            requests,
-            print,
-        },
-    )
+    Command::Plain(PlainCommand::Gen {
+        seed,
+        tenants,
+        requests,
+        print,
+    })
 }
 
 fn checked(explain: Option<u32>) -> Command {
@@ -138,7 +134,10 @@ fn check_and_shape_are_read(rt: HostRuntime) {
         ("check", Some(checked(None))),
         ("check --", Some(checked(None))),
         ("check --explain 0", Some(checked(Some(0)))),
-        ("check --explain=4294967295 --", Some(checked(Some(u32::MAX)))),
+        (
+            "check --explain=4294967295 --",
+            Some(checked(Some(u32::MAX))),
+        ),
         ("check --explain 4294967296", None),
         ("check --explain", None),
         ("check --explain -1", None),
