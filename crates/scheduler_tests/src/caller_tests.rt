@@ -64,3 +64,26 @@ fn call<X: Chooser + Drop + Send, R: Abort>(rt: &R, alloc: Global) {
 fn a_caller(rt: HostRuntime) {
     call::<PlainChooser, HostRuntime>(&rt, rt.alloc());
 }
+
+// Of two requests that come at once, that of the second tenant is taken a microsecond later: it is the longer one, and
+// ends first by its weight.
+fn show<X: Chooser + Drop, R: Abort>(rt: &R, alloc: Global) {
+    let mut scheduler = opened::<X, R>(rt, alloc);
+    assert_eq!(rt; scheduler.submit(0, 3, 0, 0, 5, 7), Ok(0));
+    assert_eq!(rt; scheduler.submit(0, 3, 1, 0, 6, 8), Ok(1));
+    assert!(rt; matches!(scheduler.take(1, 4, 0), Taken::Run { request: 1, .. }));
+    let status = scheduler.status();
+    assert_eq!(rt; status.entries, 3);
+    assert_eq!(rt; status.moment, 4);
+    assert_eq!(rt; status.vtime, 349_525); // a third of a unit, since the weights sum to 3
+    assert_eq!(rt; status.waiting, 1);
+    assert_eq!(rt; status.running, 1);
+    assert_eq!(rt; scheduler.virtual_time(), 349_525);
+    assert_eq!(rt; scheduler.pool(), 1);
+    drop(scheduler);
+}
+
+#[test]
+fn what_is_shown(rt: HostRuntime) {
+    show::<PlainChooser, HostRuntime>(&rt, rt.alloc());
+}
