@@ -34,16 +34,19 @@ module _ (T : Trace) (o : CompareOptions) where
       (few (λ many. let clash : Ok v ≡ Err (many_entries T o) = over many in absurd (cc)))
       (inl (record { rows = rows; are_all = all; answer_is = ap (Text 0) is }))
 
-  long_here : {V : Type 0} (row cells : ℕ) (stop : Stop) → (HasManyEntries T o → Err {T = V} (TooLong row cells) ≡ Err (many_entries T o)) → IsFirstLong T o row cells → IsStop (λ answer. answer ≡ cells_answer cells) stop → IsStop (IsComparisonAnswer o T) stop
+  long_here : {V : Type 0} (row cells : ℕ) (stop : Stop) → (HasManyEntries T o → ◌≡◌ {A = Result V CompareFault} (Err (TooLong row cells)) (Err (many_entries T o))) → IsFirstLong T o row cells → IsStop (λ answer. answer ≡ cells_answer cells) stop → IsStop (IsComparisonAnswer o T) stop
   long_here {V} row cells stop over first x =
       stop_as (λ answer. answer ≡ cells_answer cells) (IsComparisonAnswer o T) stop
       (λ answer y. else_answers (has_many_entries (needed_entries T.rows o.refresh)) (entries_answer (needed_entries T.rows o.refresh)) answer (λ a. IsRowsAnswer T o a ⊎ IsLongAnswer T o a)
-      (few (λ many. let clash : Err {T = V} (TooLong row cells) ≡ Err (many_entries T o) = over many in absurd (cc)))
+      (few (λ many. let clash : ◌≡◌ {A = Result V CompareFault} (Err (TooLong row cells)) (Err (many_entries T o)) = over many in absurd (cc)))
       (inr (record { row = row; cells = cells; first = first; answer_is = y }))) x
 
-  pub long_stop : {V : Type 0} (fault : CompareFault) (row cells : ℕ) (stop : Stop) → fault ≡ TooLong row cells → (HasManyEntries T o → Err {T = V} fault ≡ Err (many_entries T o)) → IsReason T o fault → IsStop (λ answer. answer ≡ cells_answer cells) stop → IsStop (IsComparisonAnswer o T) stop
+  pub long_stop : {V : Type 0} (fault : CompareFault) (row cells : ℕ) (stop : Stop) → fault ≡ TooLong row cells → (HasManyEntries T o → ◌≡◌ {A = Result V CompareFault} (Err fault) (Err (many_entries T o))) → IsReason T o fault → IsStop (λ answer. answer ≡ cells_answer cells) stop → IsStop (IsComparisonAnswer o T) stop
   long_stop {V} fault row cells stop is over reason x =
-      long_here {V} row cells stop (subst (λ f. HasManyEntries T o → Err {T = V} f ≡ Err (many_entries T o)) is over) (subst (IsReason T o) is reason) x
+      long_here {V = V} row cells stop (subst (λ f. HasManyEntries T o → ◌≡◌ {A = Result V CompareFault} (Err f) (Err (many_entries T o))) is over) (subst (IsReason T o) is reason) x
 
   pub twelve_rows : (rows : List CompareRow) → AreAllRows T o rows → length rows ≤ 4294967296
   twelve_rows rows all = omega (arith, AllZip-long (IsCompared T o) all_pairs rows all.compared)
+
+  pub many_reason : (fault : CompareFault) (needed : ℕ) → fault ≡ TooManyEntries needed → IsReason T o fault → HasManyEntries T o × (needed ≡ needed_entries T.rows o.refresh)
+  many_reason fault needed is reason = subst (IsReason T o) is reason

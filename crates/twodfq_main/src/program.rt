@@ -186,7 +186,7 @@ fn compare_end<T: Threads + Sync, R: Source, W: Sink>(
             let output = compare::answer(rt, alloc, options, input);
             written(sink, output)
         }
-        _ => Err(Failure::Words),
+        Some(Command::Plain(_) | Command::Live { .. }) | None => Err(Failure::Words),
     }
 }
 

@@ -2,11 +2,11 @@ use Rattle.std.proofs.Common.{◌⊎◌}
 use Rattle.program_model.specs.CompareCommand.{IsRowsAnswer, IsLongAnswer}
 use Rattle.program_model.specs.Simulated.{needed_entries}
 use Rattle.command_texts.proofs.Reports.{of_entries}
-use Rattle.twodfq_main.proofs.Comparisons.{rows_answer, long_stop, twelve_rows}
+use Rattle.twodfq_main.proofs.Comparisons.{rows_answer, long_stop, many_reason, twelve_rows}
 use Rattle.twodfq_main.proofs.compare.compared.Goals as goal
 
 pub print-text-requires : goal.print-text-requires
-print-text-requires g c = twelve_rows c.args.trace.now c.args.options c.in-Ok.rows.items c.in-Ok.ensures.rows
+print-text-requires g c = rw c.as_slice.ensures.value (twelve_rows c.args.trace.now c.args.options c.in-Ok.rows.items c.in-Ok.ensures.rows)
 
 pub returns-in_ok-text-in-Ok : goal.returns-in_ok-text-in-Ok
 returns-in_ok-text-in-Ok g c =
@@ -17,7 +17,8 @@ pub returns-in-Err-TooManyEntries : goal.returns-in-Err-TooManyEntries
 returns-in-Err-TooManyEntries g c =
     let T = c.args.trace.now in
     let o = c.args.options in
-    of_entries (λ a. IsRowsAnswer T o a ⊎ IsLongAnswer T o a) (needed_entries T.rows o.refresh) c.in-Err-TooManyEntries.needed c.too_many_entries.result c.in-Err-TooManyEntries.ensures.reason.0 c.in-Err-TooManyEntries.ensures.reason.1 c.too_many_entries.ensures
+    let many = many_reason T o c.in-Err-TooManyEntries.field-0 c.in-Err-TooManyEntries.needed c.in-Err-TooManyEntries.field-0-is c.in-Err-TooManyEntries.ensures.reason in
+    of_entries (λ a. IsRowsAnswer T o a ⊎ IsLongAnswer T o a) (needed_entries T.rows o.refresh) c.in-Err-TooManyEntries.needed c.too_many_entries.result many.0 many.1 c.too_many_entries.ensures
 
 pub returns-in-Err-TooLong : goal.returns-in-Err-TooLong
 returns-in-Err-TooLong g c =
