@@ -88,9 +88,7 @@ fn expect_fault<R: Abort + Threads + Sync>(
 {
     let trace = trace_in(rt, alloc, text);
     let rows = compare(rt, alloc, &trace, options);
-    let Err(fault) = rows else {
-        panic!(rt; "rows")
-    };
+    let Err(fault) = rows else { panic!(rt; "rows") };
     assert_eq!(rt; fault, wanted, "of {text}");
 }
 

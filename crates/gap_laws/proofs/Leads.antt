@@ -253,13 +253,13 @@ step_on cap low C P who m f g a B ne h shared None none =
     let w : BothWait P f g = both_wait P f g shared in
     let older : Premises cap low C P f g B = premises_older cap low C (record { who = who; moment = m; act = a }) P f g B h in
     inl (not_more _ _ _ _ _ _ _ _
-      (most_at C P who m f cap a h.limits h.legal h.caps older.caps none (start_step C P (record { who = who; moment = m; act = a }) f w.first h.legal.0 w.first_is))
-      (least_at C P who m g low a h.limits h.legal h.lows older.lows (start_rises C P (record { who = who; moment = m; act = a }) g)))
+    (most_at C P who m f cap a h.limits h.legal h.caps older.caps none (start_step C P (record { who = who; moment = m; act = a }) f w.first h.legal.0 w.first_is))
+    (least_at C P who m g low a h.limits h.legal h.lows older.lows (start_rises C P (record { who = who; moment = m; act = a }) g)))
 step_on cap low C P who m f g a B ne h shared (Some i) some =
     let w : BothWait P f g = both_wait P f g shared in
     let one : Entry = record { who = who; moment = m; act = a } in
     let ahead : (pos (start_now C (one_more who m a P) f) -ℤ pos (start_now C (one_more who m a P) g)) ≤ℤ lead_of_take C P i f g =
-        taken_ahead C P who m f g i w.second a ne h.limits h.legal some w.second_is (start_step C P one f w.first h.legal.0 w.first_is) (start_step C P one g w.second h.legal.0 w.second_is) in
+    taken_ahead C P who m f g i w.second a ne h.limits h.legal some w.second_is (start_step C P one f w.first h.legal.0 w.first_is) (start_step C P one g w.second h.legal.0 w.second_is) in
     inr (at_most _ _ _ _ (lead_of_take C P i f g) B ahead (h.takes one P i ([], refl) shared some))
 
 within_either : (x y z b : ℤ) → x ≤ℤ int_max z b → (y ≤ℤ x) ⊎ (y ≤ℤ b) → y ≤ℤ int_max z b
@@ -275,7 +275,7 @@ lead_on cap low C [] P f g B ne h shared = at_first (lead cap low C P f g) B
 lead_on cap low C (e ∷ newer) P f g B ne h shared =
     let before : is_shared (newer ++ P) f g ≡ true = shared (newer ++ P) (e ∷ [], refl) (newer, refl) in
     let older : lead cap low C (newer ++ P) f g ≤ℤ int_max (lead cap low C P f g) B =
-        lead_on cap low C newer P f g B ne (premises_older cap low C e (newer ++ P) f g B h) (λ R inner outer. shared R (prefix_older e (newer ++ P) R inner) outer) in
+    lead_on cap low C newer P f g B ne (premises_older cap low C e (newer ++ P) f g B h) (λ R inner outer. shared R (prefix_older e (newer ++ P) R inner) outer) in
     within_either _ _ _ _ older (step_on cap low C (newer ++ P) e.who e.moment f g e.act B ne h before (takes_of f (newer ++ P) e.act) refl)
 
 -- so at most what it was where the run began, or B
@@ -289,5 +289,5 @@ lead_below cap low C P f g B ne h shared =
     let newer : History = run.first.0.0.0 in
     let split : P ≡ newer ++ Q = run.first.0.0.1 in
     let on : lead cap low C (newer ++ Q) f g ≤ℤ int_max (lead cap low C Q f g) B =
-        lead_on cap low C newer Q f g B ne (subst (λ H. Premises cap low C H f g B) split h) (λ R inner outer. run.shared R (subst (IsPrefix R) (sym split) inner) outer) in
+    lead_on cap low C newer Q f g B ne (subst (λ H. Premises cap low C H f g B) split h) (λ R inner outer. run.shared R (subst (IsPrefix R) (sym split) inner) outer) in
     subst (λ H. lead cap low C H f g ≤ℤ int_max (lead cap low C Q f g) B) (sym split) on

@@ -107,12 +107,12 @@ takes_below C H f g l = λ e Q i is shared some.
     let split : H ≡ newer ++ e ∷ Q = is.1 in
     let at : is_lead_take Q e.act f g ≡ true = is_take Q e.act f g i shared some in
     let told : Member (head_length C Q f) (take_lengths C H f g) × Member (head_length C Q g) (take_lengths C H f g) =
-        subst (λ P. Member (head_length C Q f) (take_lengths C P f g) × Member (head_length C Q g) (take_lengths C P f g)) (sym split) (lengths_told C newer e Q f g at) in
+    subst (λ P. Member (head_length C Q f) (take_lengths C P f g) × Member (head_length C Q g) (take_lengths C P f g)) (sym split) (lengths_told C newer e Q f g at) in
     let doubted : Member (doubt (longest_of C H f) (shortest_of C H g) C (e ∷ Q) f g) (take_doubts C H H f g) =
-        subst (λ P. Member (doubt (longest_of C H f) (shortest_of C H g) C (e ∷ Q) f g) (take_doubts C H P f g)) (sym split) (doubt_told C H newer e Q f g at) in
+    subst (λ P. Member (doubt (longest_of C H f) (shortest_of C H g) C (e ∷ Q) f g) (take_doubts C H P f g)) (sym split) (doubt_told C H newer e Q f g at) in
     let legal : IsLegal C (e ∷ Q) = legal_prefix C newer (e ∷ Q) (subst (IsLegal C) split l) in
     let ahead : lead_of_take C Q i f g ≤ℤ pos (lengths_in_bound C.policy * greatest (take_lengths C H f g)) =
-        lead_low C.policy (head_length C Q f) (head_length C Q g) i (pool_at C Q) _ (taker_known C Q e.who e.moment f i e.act legal some) (greatest_covers _ _ told.0) (greatest_covers _ _ told.1) in
+    lead_low C.policy (head_length C Q f) (head_length C Q g) i (pool_at C Q) _ (taker_known C Q e.who e.moment f i e.act legal some) (greatest_covers _ _ told.0) (greatest_covers _ _ told.1) in
     with_doubts (lead_of_take C Q i f g) (lengths_in_bound C.policy * greatest (take_lengths C H f g)) _ (greatest (take_doubts C H H f g)) ahead (greatest_covers _ _ doubted)
 
 -- ---- where both begin to wait
@@ -130,7 +130,7 @@ unfolding first_test measured
 lead_counted C H P f g h =
     let split : H ≡ h.0.0.0 ++ P = h.0.0.1 in
     let counted : Among (measured C H f g P) (values_where (first_test f g) (measured C H f g) (h.0.0.0 ++ P)) =
-        value_counted (first_test f g) (measured C H f g) h.0.0.0 P (first_none f g) (and_from _ _ h.0.1 (not_from_false _ h.1)) in
+    value_counted (first_test f g) (measured C H f g) h.0.0.0 P (first_none f g) (and_from _ _ h.0.1 (not_from_false _ h.1)) in
     rw (leads_are C H H f g) (subst (λ Q. Among (measured C H f g P) (values_where (first_test f g) (measured C H f g) Q)) (sym split) counted)
 
 -- ---- the law

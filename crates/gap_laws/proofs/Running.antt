@@ -117,7 +117,7 @@ over_taken v C P who m t w q c l f =
     let before : term v C P t w ≡ 0 = rw none refl in
     let now : running_on Q w ≡ Some q = rw (eq-eqb w w refl) refl in
     let after : term v C Q t w ≡ cond (is_of_tenant t (request_at P q)) (v q (length_of c (weight_at C P t))) 0 =
-        rw now (measured_same v q _ _ _ _ _ _ refl (charge_take C P who m w q c l f) (taken_weight_take C P who m t w q c)) in
+    rw now (measured_same v q _ _ _ _ _ _ refl (charge_take C P who m w q c l f) (taken_weight_take C P who m t w q c)) in
     omega (arith, over_at v C P Q t w (omega (arith, f.worker_known, pool_high C P l)) (λ i ne. term_same v C P Q t i (rw (ne_eqb w i (λ e. ne (sym e))) refl) (λ r is. same_take C P who m t r w q c (untaken C P m w q c i r l f is))), before, after)
 
 -- a Report changes what its request adds
@@ -127,7 +127,7 @@ over_reported v C P who m t w q used l f =
     let runs : running_on P w ≡ Some q = runs_running C P w q l f.runs in
     let before : term v C P t w ≡ cond (is_of_tenant t (request_at P q)) (v q (request_length C P t q)) 0 = rw runs refl in
     let after : term v C Q t w ≡ cond (is_of_tenant t (request_at P q)) (v q (length_of (max used (charge P q)) (taken_weight C P t q))) 0 =
-        rw runs (measured_same v q _ _ _ _ _ _ refl (charge_report P who m w q used f) refl) in
+    rw runs (measured_same v q _ _ _ _ _ _ refl (charge_report P who m w q used f) refl) in
     omega (arith, over_at v C P Q t w (runs_worker_known C P w q l f.runs) (λ i ne. term_same v C P Q t i refl (λ r is. same_report C P who m t r w q used (apart C P w i q r l ne f.runs is))), before, after)
 
 -- a Done takes it away

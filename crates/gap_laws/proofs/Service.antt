@@ -26,7 +26,7 @@ worst_on C P Q f g M ne lim l h is shared =
     let split : Q ≡ newer ++ P = is.1 in
     subst (λ H. worst_lead M C H f g ≤ℤ int_max (worst_lead M C P f g) (worst C M)) (sym split)
     (lead_on (longest M) nothing C newer P f g (worst C M) ne (worst_premises C (newer ++ P) f g M ne lim (subst (IsLegal C) split l) (subst (λ H. IsLongest C H f g M) split h))
-      (λ R inner outer. shared R (subst (IsPrefix R) (sym split) inner) outer))
+    (λ R inner outer. shared R (subst (IsPrefix R) (sym split) inner) outer))
 
 -- (the starts of the two at P, what may be added to them and taken from them, and the accounts at P and at Q)
 gained : (sf sg rf rg lf lg all M : ℕ) (lead_q most_q least_q f_p f_q g_p g_q begun : ℤ) → lead_q ≤ℤ int_max (pos (sf + rf) -ℤ (pos sg -ℤ pos lg)) (pos (all + M) -ℤ pos 1) → (most_q -ℤ least_q) ≡ lead_q → f_q ≤ℤ most_q → least_q ≤ℤ g_q → (pos sf -ℤ pos lf) ≤ℤ f_p → g_p ≤ℤ pos (sg + rg) → (pos (sg + rg) -ℤ (pos sf -ℤ pos lf)) ≤ℤ int_max begun (pos (all + M) -ℤ pos 1) → rf + lg ≤ all → rg + lf ≤ all → ((f_q -ℤ f_p) -ℤ (g_q -ℤ g_p)) ≤ℤ (pos (all + M) +ℤ int_max begun (pos (all + M)))

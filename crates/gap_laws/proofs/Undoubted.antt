@@ -98,6 +98,7 @@ head_low C P t B l d low = go (head P t) refl
         let mine : is_of_tenant t (request_at P r) ≡ true = (and_parts (is_of_tenant t (request_at P r)) (not (is_taken P r)) y.waits_now).0 in
         let own : (q.tenant == t) ≡ true = rw was at mine in
         rw (estimate_declared C P q k.estimator) (length_now C P t r B q low was (eqb-true q.tenant t own))
+
     go : (o : Option ℕ) → head P t ≡ o → length_of_head C P t o ≤ B
     go None is = omega arith
     go (Some r) is = asked r is (request_at P r) refl

@@ -84,7 +84,7 @@ taker_doubt C P who m w q c f g M ne l fits own low =
     let runs : running_on Q w ≡ Some q = rw (eq-eqb w w refl) refl in
     let long : request_length C Q f q ≡ length_of c (weight_at C P f) = taken_length C P who m w q c f l fits in
     let less : cond (is_of_tenant f (request_at P q)) (M - request_length C Q f q) 0 + cond (is_of_tenant g (request_at P q)) (request_length C Q g q - 0) 0 + request_length C Q f q ≤ M =
-        doubt_taken (is_of_tenant f (request_at P q)) (is_of_tenant g (request_at P q)) (request_length C Q f q) (request_length C Q g q) M own (not_both f g (request_at P q) ne own) (rw long low) in
+    doubt_taken (is_of_tenant f (request_at P q)) (is_of_tenant g (request_at P q)) (request_length C Q f q) (request_length C Q g q) M own (not_both f g (request_at P q) ne own) (rw long low) in
     rw (runs, ← long) less
 
 doubt_after : (C : Config) (P : History) (who m w q c f g M : ℕ) → f ≢ g → IsLegal C (one_more who m (Take w q c) P) → AreCaps C (one_more who m (Take w q c) P) g (longest M) → is_of_tenant f (request_at P q) ≡ true → length_of c (weight_at C P f) ≤ M → doubt (longest M) nothing C (one_more who m (Take w q c) P) f g + length_of c (weight_at C P f) ≤ C.workers * M

@@ -117,7 +117,7 @@ GainStaysBelow =
     → IsLongest C Q f g M → IsLongest C Q g f M → IsPrefix P Q → AreSharedFrom P Q f g
     → IsAccount M C Q f of_f → IsAccount M C Q g of_g
     → ((of_f Q -ℤ of_f P) -ℤ (of_g Q -ℤ of_g P))
-        ≤ℤ (pos (all_and_one C M) +ℤ int_max (worst_lead M C (run_start P g f) g f) (pos (all_and_one C M)))
+    ≤ℤ (pos (all_and_one C M) +ℤ int_max (worst_lead M C (run_start P g f) g f) (pos (all_and_one C M)))
 
 -- while the head of g waits, from S on, f is taken no more often than its least length c goes into the lead of g at S
 -- and one request of the greatest length, and once more

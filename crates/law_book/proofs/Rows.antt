@@ -19,7 +19,7 @@ all_own (row ∷ rows) own = All-cons IsOwnRow row rows own.0 (all_own rows own.
 
 pub own_rows : AreOwnRows
 unfolding AllOwn
-own_rows = all_own built_commands ((λ values. refl) , ((λ values. refl) , ((λ values. refl) , ((λ values. refl) , ((λ values. refl) , ((λ values. refl) , ((λ values. refl) , tt)))))))
+own_rows = all_own built_commands ((λ values. refl), ((λ values. refl), ((λ values. refl), ((λ values. refl), ((λ values. refl), ((λ values. refl), ((λ values. refl), tt)))))))
 
 pub gen_runs_by_defaults : GenRunsByDefaults
 unfolding command_of values_in number_for

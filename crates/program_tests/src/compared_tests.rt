@@ -109,7 +109,15 @@ fn words_of_another_part_are_no_command_line(rt: HostRuntime) {
     let told = "twodfq: the words are not a command line\n";
     expect(&rt, rt.alloc(), "run", TRACE, 2, "", told);
     expect(&rt, rt.alloc(), "live", TRACE, 2, "", told);
-    expect(&rt, rt.alloc(), "compare --print report", TRACE, 2, "", told);
+    expect(
+        &rt,
+        rt.alloc(),
+        "compare --print report",
+        TRACE,
+        2,
+        "",
+        told,
+    );
 }
 
 // `live` takes the words of a comparison for no command line, and the whole program compares.

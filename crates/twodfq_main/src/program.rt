@@ -6,10 +6,9 @@ ghost use Rattle.program_model.specs.Commands.{Untold, is_plain, is_live, is_com
 ghost use Rattle.program_model.specs.Program.{asked, if_served, is_any, Ends, IsRun, moved};
 ghost use Rattle.program_model.specs.Statuses.{StatusMeans};
 
-use crate::compare;
 use crate::ending::{told, written};
-use crate::live;
 use crate::reading::{read_input, reads_input};
+use crate::{compare, live};
 use command_line::command::command;
 use command_texts::plain;
 use fq_io::{Clock, Sink, Source};
