@@ -1,5 +1,5 @@
 -- Comparisons of one trace.
-use Rattle.std.proofs.Common.{ℕ, ◌<◌, ◌≡◌, ◌∙◌, sym, ap, subst, refl, arith, cc, true, false, List, [], ◌∷◌, length, take, get_or, All, Some, Option, slice_get, ◌⊎◌, inl, inr, None, ◌≤◌, ◌==◌, nat_lt}
+use Rattle.std.proofs.Common.{ℕ, ◌<◌, ◌≡◌, ◌∙◌, sym, ap, subst, refl, arith, true, false, List, [], ◌∷◌, length, take, get_or, All, Some, Option, slice_get, ◌⊎◌, inl, inr, None, ◌≤◌, ◌==◌, nat_lt}
 use Rattle.std.specs.Prelude.{IsSomeAnd}
 use Rattle.std.specs.List.{AllZip}
 use Rattle.std.proofs.lemmas.Bool.{both_ways, cases_Bool, ltb-true, ltb-false, eqb-true, eqb-false}
