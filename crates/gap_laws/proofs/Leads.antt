@@ -20,7 +20,7 @@ use Rattle.fq_laws.specs.Words.{one_more}
 use Rattle.fq_laws.proofs.Charge.Tenants.{virtual_charge_submit, virtual_charge_taken, virtual_charge_reported, virtual_charge_finished, virtual_charge_quiet, taken_of, taken_of_report, taken_of_done}
 use Rattle.fq_laws.proofs.Charge.Requests.{charge_report, charge_done}
 use Rattle.fq_laws.proofs.History.Requests.{use_taken}
-use Rattle.gap_laws.specs.Words.{IsPrefix, RunBegins, AreCaps, AreLows, TakesStayBelow}
+use Rattle.gap_laws.specs.Words.{IsPrefix, RunBegins, AreSharedFrom, AreCaps, AreLows, TakesStayBelow}
 use Rattle.gap_laws.proofs.Running.{Measure, over_quiet, over_submit, over_taken, over_reported, over_finished}
 use Rattle.gap_laws.proofs.Runs.{BothWait, both_wait, prefix_older, run_begins}
 use Rattle.gap_laws.proofs.Starts.{start_step, start_rises}
@@ -232,35 +232,35 @@ at_most : (sf sg uf ug : ℕ) (T B : ℤ) → (pos sf -ℤ pos sg) ≤ℤ T → 
 at_most sf sg uf ug T B ahead with_doubt = omega (arith, ints, ahead, with_doubt)
 
 -- what holds of one entry more
-pub record Premises (cap low : ℕ → ℕ) (C : Config) (H : History) (f g : ℕ) (B : ℤ) : Type 0 where
+pub record Premises (cap low : ℕ → ℕ) (C : Config) (S H : History) (f g : ℕ) (B : ℤ) : Type 0 where
   pub limits : InLimits C
   pub legal : IsLegal C H
   pub caps : AreCaps C H f cap
   pub lows : AreLows C H g low
-  pub takes : TakesStayBelow cap low C H f g B
+  pub takes : TakesStayBelow cap low C S H f g B
 
-premises_older : (cap low : ℕ → ℕ) (C : Config) (e : Entry) (P : History) (f g : ℕ) (B : ℤ) → Premises cap low C (e ∷ P) f g B → Premises cap low C P f g B
-premises_older cap low C e P f g B h = record {
+premises_older : (cap low : ℕ → ℕ) (C : Config) (e : Entry) (S P : History) (f g : ℕ) (B : ℤ) → Premises cap low C S (e ∷ P) f g B → Premises cap low C S P f g B
+premises_older cap low C e S P f g B h = record {
   limits = h.limits;
   legal = h.legal.0;
   caps = λ Q r is taken. h.caps Q r (prefix_older e P Q is) taken;
   lows = λ Q r is taken. h.lows Q r (prefix_older e P Q is) taken;
-  takes = λ d Q i is shared takes. h.takes d Q i (prefix_older e P (d ∷ Q) is) shared takes;
+  takes = λ d Q i is from shared takes. h.takes d Q i (prefix_older e P (d ∷ Q) is) from shared takes;
 }
 
-step_on : (cap low : ℕ → ℕ) (C : Config) (P : History) (who m f g : ℕ) (a : Act) (B : ℤ) → f ≢ g → Premises cap low C (one_more who m a P) f g B → is_shared P f g ≡ true → (o : Option ℕ) → takes_of f P a ≡ o → Steps cap low C P (one_more who m a P) f g B
-step_on cap low C P who m f g a B ne h shared None none =
+step_on : (cap low : ℕ → ℕ) (C : Config) (S P : History) (who m f g : ℕ) (a : Act) (B : ℤ) → f ≢ g → Premises cap low C S (one_more who m a P) f g B → IsPrefix S P → is_shared P f g ≡ true → (o : Option ℕ) → takes_of f P a ≡ o → Steps cap low C P (one_more who m a P) f g B
+step_on cap low C S P who m f g a B ne h from shared None none =
     let w : BothWait P f g = both_wait P f g shared in
-    let older : Premises cap low C P f g B = premises_older cap low C (record { who = who; moment = m; act = a }) P f g B h in
+    let older : Premises cap low C S P f g B = premises_older cap low C (record { who = who; moment = m; act = a }) S P f g B h in
     inl (not_more _ _ _ _ _ _ _ _
     (most_at C P who m f cap a h.limits h.legal h.caps older.caps none (start_step C P (record { who = who; moment = m; act = a }) f w.first h.legal.0 w.first_is))
     (least_at C P who m g low a h.limits h.legal h.lows older.lows (start_rises C P (record { who = who; moment = m; act = a }) g)))
-step_on cap low C P who m f g a B ne h shared (Some i) some =
+step_on cap low C S P who m f g a B ne h from shared (Some i) some =
     let w : BothWait P f g = both_wait P f g shared in
     let one : Entry = record { who = who; moment = m; act = a } in
     let ahead : (pos (start_now C (one_more who m a P) f) -ℤ pos (start_now C (one_more who m a P) g)) ≤ℤ lead_of_take C P i f g =
     taken_ahead C P who m f g i w.second a ne h.limits h.legal some w.second_is (start_step C P one f w.first h.legal.0 w.first_is) (start_step C P one g w.second h.legal.0 w.second_is) in
-    inr (at_most _ _ _ _ (lead_of_take C P i f g) B ahead (h.takes one P i ([], refl) shared some))
+    inr (at_most _ _ _ _ (lead_of_take C P i f g) B ahead (h.takes one P i ([], refl) from shared some))
 
 within_either : (x y z b : ℤ) → x ≤ℤ int_max z b → (y ≤ℤ x) ⊎ (y ≤ℤ b) → y ≤ℤ int_max z b
 within_either x y z b h (inl k) = omega (arith, ints, clamps)
@@ -270,24 +270,27 @@ at_first : (x b : ℤ) → x ≤ℤ int_max x b
 at_first x b = omega (arith, ints, clamps)
 
 -- while both wait, from P on, the lead is at most what it was at P, or B
-pub lead_on : (cap low : ℕ → ℕ) (C : Config) (newer P : History) (f g : ℕ) (B : ℤ) → f ≢ g → Premises cap low C (newer ++ P) f g B → ((R : History) → IsPrefix R (newer ++ P) → IsPrefix P R → is_shared R f g ≡ true) → lead cap low C (newer ++ P) f g ≤ℤ int_max (lead cap low C P f g) B
+pub lead_on : (cap low : ℕ → ℕ) (C : Config) (newer P : History) (f g : ℕ) (B : ℤ) → f ≢ g → Premises cap low C P (newer ++ P) f g B → AreSharedFrom P (newer ++ P) f g → lead cap low C (newer ++ P) f g ≤ℤ int_max (lead cap low C P f g) B
 lead_on cap low C [] P f g B ne h shared = at_first (lead cap low C P f g) B
 lead_on cap low C (e ∷ newer) P f g B ne h shared =
     let before : is_shared (newer ++ P) f g ≡ true = shared (newer ++ P) (e ∷ [], refl) (newer, refl) in
     let older : lead cap low C (newer ++ P) f g ≤ℤ int_max (lead cap low C P f g) B =
-    lead_on cap low C newer P f g B ne (premises_older cap low C e (newer ++ P) f g B h) (λ R inner outer. shared R (prefix_older e (newer ++ P) R inner) outer) in
-    within_either _ _ _ _ older (step_on cap low C (newer ++ P) e.who e.moment f g e.act B ne h before (takes_of f (newer ++ P) e.act) refl)
+    lead_on cap low C newer P f g B ne (premises_older cap low C e P (newer ++ P) f g B h) (λ R inner outer. shared R (prefix_older e (newer ++ P) R inner) outer) in
+    within_either _ _ _ _ older (step_on cap low C P (newer ++ P) e.who e.moment f g e.act B ne h (newer, refl) before (takes_of f (newer ++ P) e.act) refl)
+
+-- to any later prefix
+pub lead_from : (cap low : ℕ → ℕ) (C : Config) (P Q : History) (f g : ℕ) (B : ℤ) → f ≢ g → Premises cap low C P Q f g B → IsPrefix P Q → AreSharedFrom P Q f g → lead cap low C Q f g ≤ℤ int_max (lead cap low C P f g) B
+lead_from cap low C P Q f g B ne h is shared =
+    let newer : History = is.0 in
+    let split : Q ≡ newer ++ P = is.1 in
+    subst (λ H. lead cap low C H f g ≤ℤ int_max (lead cap low C P f g) B) (sym split)
+    (lead_on cap low C newer P f g B ne (subst (λ H. Premises cap low C P H f g B) split h) (λ R inner outer. shared R (subst (IsPrefix R) (sym split) inner) outer))
 
 -- so at most what it was where the run began, or B
 abbrev pub StaysBelow : (ℕ → ℕ) → (ℕ → ℕ) → Config → History → ℕ → ℕ → ℤ → Type 0
 StaysBelow cap low C P f g B = lead cap low C P f g ≤ℤ int_max (lead cap low C (run_start P f g) f g) B
 
-pub lead_below : (cap low : ℕ → ℕ) (C : Config) (P : History) (f g : ℕ) (B : ℤ) → f ≢ g → Premises cap low C P f g B → is_shared P f g ≡ true → StaysBelow cap low C P f g B
+pub lead_below : (cap low : ℕ → ℕ) (C : Config) (P : History) (f g : ℕ) (B : ℤ) → f ≢ g → Premises cap low C (run_start P f g) P f g B → is_shared P f g ≡ true → StaysBelow cap low C P f g B
 lead_below cap low C P f g B ne h shared =
-    let Q : History = run_start P f g in
-    let run : RunBegins P f g Q = run_begins P f g shared in
-    let newer : History = run.first.0.0.0 in
-    let split : P ≡ newer ++ Q = run.first.0.0.1 in
-    let on : lead cap low C (newer ++ Q) f g ≤ℤ int_max (lead cap low C Q f g) B =
-    lead_on cap low C newer Q f g B ne (subst (λ H. Premises cap low C H f g B) split h) (λ R inner outer. run.shared R (subst (IsPrefix R) (sym split) inner) outer) in
-    subst (λ H. lead cap low C H f g ≤ℤ int_max (lead cap low C Q f g) B) (sym split) on
+    let run : RunBegins P f g (run_start P f g) = run_begins P f g shared in
+    lead_from cap low C (run_start P f g) P f g B ne h run.first.0.0 run.shared

@@ -16,13 +16,13 @@ use Rattle.fq_model.specs.Lead.{request_length, may_rise, may_fall, doubt, start
 use Rattle.fq_laws.specs.Words.{Member}
 use Rattle.fq_laws.proofs.History.Requests.{taken_known, asked_stays, untaken_nil}
 use Rattle.gap_laws.specs.Words.{IsSharedIn, IsFirstIn, RunBegins, IsGreatestAt, AreCaps, AreLows, TakesStayBelow}
-use Rattle.gap_laws.specs.Laws.{MeasuredIsBounded}
+use Rattle.gap_laws.specs.Laws.{MeasuredIsBounded, MeasuredAreCaps}
 use Rattle.gap_laws.proofs.Declared.{legal_prefix}
 use Rattle.gap_laws.proofs.Lengths.{greatest_covers}
 use Rattle.gap_laws.proofs.Runs.{prefix_of_prefix, run_begins}
 use Rattle.gap_laws.proofs.Told.{Among, among_low, values_where, value_counted, first_test, first_none, gap_parts, largest_at}
 use Rattle.gap_laws.proofs.Undoubted.{taken_stays, lead_low, taker_known}
-use Rattle.gap_laws.proofs.WorstCase.{lead_stays_below}
+use Rattle.gap_laws.proofs.WorstCase.{lead_stays_below, legal_in, caps_in}
 
 -- ---- caps and lows
 
@@ -101,8 +101,8 @@ at_takes C H f g = pos (lengths_in_bound C.policy * greatest (take_lengths C H f
 with_doubts : (x : ℤ) (lengths doubts most : ℕ) → x ≤ℤ pos lengths → doubts ≤ most → (x +ℤ pos doubts) ≤ℤ pos (lengths + most)
 with_doubts x lengths doubts most low few = omega (arith, ints, low, few)
 
-takes_below : (C : Config) (H : History) (f g : ℕ) → IsLegal C H → TakesStayBelow (longest_of C H f) (shortest_of C H g) C H f g (at_takes C H f g)
-takes_below C H f g l = λ e Q i is shared some.
+takes_below : (C : Config) (S H : History) (f g : ℕ) → IsLegal C H → TakesStayBelow (longest_of C H f) (shortest_of C H g) C S H f g (at_takes C H f g)
+takes_below C S H f g l = λ e Q i is from shared some.
     let newer : History = is.0 in
     let split : H ≡ newer ++ e ∷ Q = is.1 in
     let at : is_lead_take Q e.act f g ≡ true = is_take Q e.act f g i shared some in
@@ -146,7 +146,9 @@ measured_below C H P f g ne lim l is =
     let run : RunBegins P f g Q = run_begins P f g is.1 in
     let first : IsFirstIn H f g Q = ((prefix_of_prefix Q P H run.first.0.0 is.0, run.first.0.1), run.first.1) in
     starts_below (start_now C P f) (start_now C P g) (may_rise (longest_of C H f) C P f) (may_fall (shortest_of C H g) C P g) (measured_lead C H Q f g) (at_takes C H f g) _
-    (lead_stays_below (longest_of C H f) (shortest_of C H g) C H P f g (at_takes C H f g) ne lim l (caps_are C H f) (lows_are C H g l) (takes_below C H f g l) is)
+    (lead_stays_below (longest_of C H f) (shortest_of C H g) C Q P f g (at_takes C H f g) ne lim (legal_in C H P is.0 l)
+    (caps_in C H P f (longest_of C H f) is.0 (caps_are C H f)) (λ R r inner taken. lows_are C H g l R r (prefix_of_prefix R P H inner is.0) taken)
+    run.first.0.0 run.shared (λ e R i inner from shared act. takes_below C Q H f g l e R i (prefix_of_prefix (e ∷ R) P H inner is.0) from shared act))
     (among_low (measured_lead C H Q f g) (at_takes C H f g) (first_leads C H H f g) (inr (lead_counted C H Q f g first)))
     (among_low (at_takes C H f g) (at_takes C H f g) (first_leads C H H f g) (inl refl))
 
@@ -156,3 +158,6 @@ measured_bounded C H f g gap ne lim l h =
     let p = gap_parts (largest_difference C H f g) (lead_bound C H f g) gap h in
     let largest : IsGreatestAt (IsSharedIn H f g) (λ P. start_difference C P f g) gap.largest = largest_at C H f g gap.largest p.0 in
     rw (p.1, ← largest.reached.2) (measured_below C H largest.reached.0 f g ne lim l largest.reached.1)
+
+pub measured_caps : MeasuredAreCaps
+measured_caps C H t l = (caps_are C H t, lows_are C H t l)

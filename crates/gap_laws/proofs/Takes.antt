@@ -14,22 +14,23 @@ use Rattle.fq_model.specs.History.{History, head, request_at, is_of_tenant, is_t
 use Rattle.fq_model.specs.Charge.{is_taken_of, virtual_charge}
 use Rattle.fq_model.specs.Keys.{stagger}
 use Rattle.fq_model.specs.Rules.{IsLegal, FitsTake}
-use Rattle.fq_model.specs.Gap.{is_shared}
+use Rattle.fq_model.specs.Gap.{is_shared, run_start}
 use Rattle.fq_model.specs.Lead.{request_length, of_request, over_running, may_rise, may_fall, start_now, head_length, takes_of}
 use Rattle.fq_laws.specs.Words.{one_more}
 use Rattle.fq_laws.proofs.Sums.{sum_same}
 use Rattle.fq_laws.proofs.Charge.Tenants.{virtual_charge_taken, taken_of_take}
 use Rattle.fq_laws.proofs.History.Asked.{waits_untaken}
 use Rattle.fq_laws.proofs.Rules.Takes.{heads, TakesHead, take_head, take_waits}
-use Rattle.gap_laws.specs.Words.{AreLows, IsLongest, WaitsFrom, AreNoShorter, takes_after}
-use Rattle.gap_laws.specs.Laws.{TakesAreFew, worst_lead}
+use Rattle.gap_laws.specs.Words.{IsPrefix, AreLows, IsLongest, WaitsFrom, AreNoShorter, takes_after}
+use Rattle.gap_laws.specs.Laws.{TakesAreFew, TakesAreFewInRun, worst_lead}
+use Rattle.gap_laws.proofs.Service.{shared_both}
 use Rattle.gap_laws.proofs.Choices.{stagger_at_most}
 use Rattle.gap_laws.proofs.Undoubted.{taken_stays}
 use Rattle.gap_laws.proofs.Runs.{prefix_older}
 use Rattle.gap_laws.proofs.Running.{over_taken, running_taken, taken_length}
 use Rattle.gap_laws.proofs.Starts.{start_step, start_rises}
 use Rattle.gap_laws.proofs.Leads.{falling, most_at, least_at, OfHead, of_head, chosen_ahead}
-use Rattle.gap_laws.proofs.WorstCase.{longest, nothing, legal_in, longest_in, caps_in}
+use Rattle.gap_laws.proofs.WorstCase.{longest, nothing, legal_in, longest_in, caps_in, worst_lead_below}
 
 -- ---- the least length of what is taken after S
 
@@ -200,3 +201,13 @@ module _ (C : Config) (S : History) (f g r M c : ℕ) (ne : f ≢ g) (lim : InLi
 
 pub takes_few : TakesAreFew
 takes_few C newer S f g r M c ne lim l h short waits = (stand C S f g r M c ne lim newer l h short waits).few
+
+in_run : (takes worst begun : ℤ) (c all M : ℕ) → takes ≤ℤ (pos c +ℤ int_max (pos 0) (worst +ℤ pos M)) → worst ≤ℤ int_max begun (pos (all + M) -ℤ pos 1) → takes ≤ℤ (pos c +ℤ (int_max begun (pos (all + M)) +ℤ pos M))
+in_run takes worst begun c all M few low = omega (arith, ints, clamps, few, low)
+
+pub takes_few_in_run : TakesAreFewInRun
+takes_few_in_run C newer S f g r M c ne lim l longest_f longest_g short waits shared =
+    let at_s : IsPrefix S (newer ++ S) = (newer, refl) in
+    in_run (pos (takes_after f newer S * c)) (worst_lead M C S g f) (worst_lead M C (run_start S g f) g f) c (C.workers * M) M
+    (takes_few C newer S f g r M c ne lim l longest_f short waits)
+    (worst_lead_below C (newer ++ S) S g f M (λ e. ne (sym e)) lim l longest_g (at_s, shared_both S f g shared))

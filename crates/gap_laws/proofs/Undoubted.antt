@@ -141,13 +141,13 @@ module _ (C : Config) (P : History) (f g B : ℕ) (lim : InLimits C) (l : IsLega
       let y : head_length C Q g ≤ B = head_low C Q g B (older_legal Q inner) (older_declared Q inner) (lengths_prefix C inner.0 Q g B (subst (λ H. LengthsAtMost C H g B) inner.1 low_g)) in
       omega (arith, ints, rises_not (e ∷ Q) is, falls_not (e ∷ Q) is, lead_low C.policy (head_length C Q f) (head_length C Q g) i (pool_at C Q) B (taker_known C Q e.who e.moment f i e.act (older_legal (e ∷ Q) is) takes) x y)
 
-  undoubted : Premises cap low C P f g (pos (lengths_in_bound C.policy * B))
+  undoubted : Premises cap low C (run_start P f g) P f g (pos (lengths_in_bound C.policy * B))
   undoubted = record {
     limits = lim;
     legal = l;
     caps = λ Q r is taken. omega (arith, at_last_is C P f l d Q r is (taken_too Q f r taken));
     lows = λ Q r is taken. omega (arith, at_last_is C P g l d Q r is (taken_too Q g r taken));
-    takes = λ e Q i is shared takes. take_low e Q i is takes;
+    takes = λ e Q i is from shared takes. take_low e Q i is takes;
   }
 
   lead_is : (Q : History) → IsPrefix Q P → lead cap low C Q f g ≡ start_difference C Q f g

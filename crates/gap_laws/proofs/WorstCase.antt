@@ -30,7 +30,7 @@ use Rattle.gap_laws.specs.Laws.{LeadStaysBelow, WorstLeadStaysBelow, DifferenceS
 use Rattle.gap_laws.proofs.Declared.{legal_prefix}
 use Rattle.gap_laws.proofs.Runs.{prefix_of_prefix, run_begins}
 use Rattle.gap_laws.proofs.Running.{term, running_taken, taken_length}
-use Rattle.gap_laws.proofs.Leads.{Premises, lead_below, rising, falling, not_both, some_own, OfHead, of_head}
+use Rattle.gap_laws.proofs.Leads.{Premises, lead_from, lead_below, rising, falling, not_both, some_own, OfHead, of_head}
 
 -- ---- sums of two
 
@@ -156,13 +156,13 @@ caps_in C H P t cap is h = λ Q r inner taken. h Q r (prefix_of_prefix Q P H inn
 no_lower : (C : Config) (H : History) (t : ℕ) → AreLows C H t nothing
 no_lower C H t = λ Q r is taken. omega arith
 
-pub worst_premises : (C : Config) (H : History) (f g M : ℕ) → f ≢ g → InLimits C → IsLegal C H → IsLongest C H f g M → Premises (longest M) nothing C H f g (worst C M)
-worst_premises C H f g M ne lim l h = record {
+pub worst_premises : (C : Config) (S H : History) (f g M : ℕ) → f ≢ g → InLimits C → IsLegal C H → IsLongest C H f g M → Premises (longest M) nothing C S H f g (worst C M)
+worst_premises C S H f g M ne lim l h = record {
   limits = lim;
   legal = l;
   caps = h.of_f;
   lows = no_lower C H g;
-  takes = λ e Q i is shared takes. taken_within C Q e.who e.moment f g M i e.act ne lim (legal_in C H (e ∷ Q) is l) (caps_in C H (e ∷ Q) g (longest M) is h.of_g) takes (h.heads e Q i is shared takes);
+  takes = λ e Q i is from shared takes. taken_within C Q e.who e.moment f g M i e.act ne lim (legal_in C H (e ∷ Q) is l) (caps_in C H (e ∷ Q) g (longest M) is h.of_g) takes (h.heads e Q i is shared takes);
 }
 
 -- the longest of a history is so of a prefix
@@ -176,21 +176,13 @@ longest_in C H P f g M is h = record {
 -- ---- the laws
 
 pub lead_stays_below : LeadStaysBelow
-lead_stays_below cap low C H P f g B ne lim l caps lows takes is =
-    lead_below cap low C P f g B ne
-    (record {
-      limits = lim;
-      legal = legal_in C H P is.0 l;
-      caps = caps_in C H P f cap is.0 caps;
-      lows = λ Q r inner taken. lows Q r (prefix_of_prefix Q P H inner is.0) taken;
-      takes = λ e Q i inner shared act. takes e Q i (prefix_of_prefix (e ∷ Q) P H inner is.0) shared act;
-    })
-    is.1
+lead_stays_below cap low C P Q f g B ne lim l caps lows is shared takes =
+    lead_from cap low C P Q f g B ne (record { limits = lim; legal = l; caps = caps; lows = lows; takes = takes }) is shared
 
 pub worst_lead_below : WorstLeadStaysBelow
 worst_lead_below C H P f g M ne lim l h is =
     let at_P : IsLongest C P f g M = longest_in C H P f g M is.0 h in
-    lead_below (longest M) nothing C P f g (worst C M) ne (worst_premises C P f g M ne lim (legal_in C H P is.0 l) at_P) is.1
+    lead_below (longest M) nothing C P f g (worst C M) ne (worst_premises C (run_start P f g) P f g M ne lim (legal_in C H P is.0 l) at_P) is.1
 
 pub doubt_high : (C : Config) (P : History) (f g M : ℕ) → f ≢ g → IsLegal C P → AreCaps C P g (longest M) → doubt (longest M) nothing C P f g ≤ C.workers * M
 unfolding over_running

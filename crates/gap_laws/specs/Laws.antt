@@ -11,7 +11,7 @@ use Rattle.fq_model.specs.Keys.{start}
 use Rattle.fq_model.specs.Gap.{is_shared, start_difference, run_start, lengths_in_bound, longest_length, TagGap, tag_gap}
 use Rattle.fq_model.specs.Limits.{InLimits}
 use Rattle.fq_model.specs.Rules.{IsLegal}
-use Rattle.fq_model.specs.Lead.{lead, measured_gap}
+use Rattle.fq_model.specs.Lead.{lead, longest_of, shortest_of, measured_gap}
 use Rattle.gap_laws.specs.Words.{IsPrefix, AreSharedFrom, WaitsFrom, AreNoShorter, takes_after, AreCaps, AreLows, TakesStayBelow, IsLongest, IsAccount, HasDeclaredCosts, taken_length, IsSharedIn, IsFirstIn, RunBegins, IsGreatestAt, IsGreatestOver}
 
 -- ---- what moves a charge and a start
@@ -72,13 +72,13 @@ BoundIsGreatest =
 
 -- ---- where costs are not known
 
--- the lead of f over g, at a prefix P at which both wait, is at most what it was where the run of P began, or what no
--- Take of f passes, whatever caps and lows the lengths keep to
+-- while both wait, from P to Q, the lead of f over g is at most what it was at P, or what no Take of f passes in
+-- between, whatever caps and lows the lengths keep to
 abbrev pub LeadStaysBelow : Type 0
 LeadStaysBelow =
-    (cap low : ℕ → ℕ) (C : Config) (H P : History) (f g : ℕ) (B : ℤ) → f ≢ g → InLimits C → IsLegal C H
-    → AreCaps C H f cap → AreLows C H g low → TakesStayBelow cap low C H f g B → IsSharedIn H f g P
-    → lead cap low C P f g ≤ℤ int_max (lead cap low C (run_start P f g) f g) B
+    (cap low : ℕ → ℕ) (C : Config) (P Q : History) (f g : ℕ) (B : ℤ) → f ≢ g → InLimits C → IsLegal C Q
+    → AreCaps C Q f cap → AreLows C Q g low → IsPrefix P Q → AreSharedFrom P Q f g
+    → TakesStayBelow cap low C P Q f g B → lead cap low C Q f g ≤ℤ int_max (lead cap low C P f g) B
 
 -- how far f is ahead of g at most where no request is longer than M, whatever comes of what runs
 abbrev pub worst_lead : ℕ → Config → History → ℕ → ℕ → ℤ
@@ -109,6 +109,19 @@ MeasuredIsBounded =
     (C : Config) (H : History) (f g : ℕ) (gap : TagGap) → f ≢ g → InLimits C → IsLegal C H
     → measured_gap C H f g ≡ Some gap → gap.largest ≤ℤ gap.bound
 
+-- what each request of t became in H is the greatest and the least that it was there
+abbrev pub MeasuredAreCaps : Type 0
+MeasuredAreCaps =
+    (C : Config) (H : History) (t : ℕ) → IsLegal C H
+    → AreCaps C H t (longest_of C H t) × AreLows C H t (shortest_of C H t)
+
+-- by any account f is ahead of g, at a prefix P at which both wait, by no more than the worst case
+abbrev pub AccountsStayNear : Type 0
+AccountsStayNear =
+    (C : Config) (H P : History) (f g M : ℕ) (of_f of_g : History → ℤ) → f ≢ g → InLimits C → IsLegal C H
+    → IsLongest C H f g M → IsSharedIn H f g P → IsAccount M C H f of_f → IsAccount M C H g of_g
+    → (of_f P -ℤ of_g P) ≤ℤ int_max (worst_lead M C (run_start P f g) f g) (pos (all_and_one C M) -ℤ pos 1)
+
 -- by any account f gains on g, from P to Q and while both wait, no more than one request of the greatest length more
 -- than there are workers, and once more as much, or the lead that g had where both began to wait
 abbrev pub GainStaysBelow : Type 0
@@ -126,3 +139,12 @@ TakesAreFew =
     (C : Config) (newer S : History) (f g r M c : ℕ) → f ≢ g → InLimits C → IsLegal C (newer ++ S)
     → IsLongest C (newer ++ S) f g M → AreNoShorter C S (newer ++ S) f c → WaitsFrom S (newer ++ S) g r
     → pos (takes_after f newer S * c) ≤ℤ (pos c +ℤ int_max (pos 0) (worst_lead M C S g f +ℤ pos M))
+
+-- the same by the lead that g had where both began to wait, where both wait at S
+abbrev pub TakesAreFewInRun : Type 0
+TakesAreFewInRun =
+    (C : Config) (newer S : History) (f g r M c : ℕ) → f ≢ g → InLimits C → IsLegal C (newer ++ S)
+    → IsLongest C (newer ++ S) f g M → IsLongest C (newer ++ S) g f M → AreNoShorter C S (newer ++ S) f c
+    → WaitsFrom S (newer ++ S) g r → is_shared S f g ≡ true
+    → pos (takes_after f newer S * c)
+    ≤ℤ (pos c +ℤ (int_max (worst_lead M C (run_start S g f) g f) (pos (all_and_one C M)) +ℤ pos M))

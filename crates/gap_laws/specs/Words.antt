@@ -66,11 +66,12 @@ abbrev pub AreLows : Config → History → ℕ → (ℕ → ℕ) → Type 0
 AreLows C H t low =
     (Q : History) (r : ℕ) → IsPrefix Q H → is_taken_of Q t r ≡ true → low r ≤ request_length C Q t r
 
--- wherever a worker takes a request of f while both wait, f is then ahead of g by no more than B, with the doubt
-abbrev pub TakesStayBelow : (cap low : ℕ → ℕ) → Config → History → ℕ → ℕ → ℤ → Type 0
-TakesStayBelow cap low C H f g B =
-    (e : Entry) (Q : History) (i : ℕ) → IsPrefix (e ∷ Q) H → is_shared Q f g ≡ true → takes_of f Q e.act ≡ Some i
-    → (lead_of_take C Q i f g +ℤ pos (doubt cap low C (e ∷ Q) f g)) ≤ℤ B
+-- wherever, from P on in H, a request of f is taken while both wait: what the heads let the start of f be above that of
+-- g then, and what is in doubt after it, are together no more than B
+abbrev pub TakesStayBelow : (cap low : ℕ → ℕ) → Config → History → History → ℕ → ℕ → ℤ → Type 0
+TakesStayBelow cap low C P H f g B =
+    (e : Entry) (Q : History) (i : ℕ) → IsPrefix (e ∷ Q) H → IsPrefix P Q → is_shared Q f g ≡ true
+    → takes_of f Q e.act ≡ Some i → (lead_of_take C Q i f g +ℤ pos (doubt cap low C (e ∷ Q) f g)) ≤ℤ B
 
 -- no request of f or g that is taken at a prefix of H is longer there than M, and no head of the two is, where a
 -- request of f is taken while both wait
@@ -82,7 +83,8 @@ pub record IsLongest (C : Config) (H : History) (f g M : ℕ) : Type 0 where
       → (head_length C Q f ≤ M) × (head_length C Q g ≤ M)
 
 -- an account of what tenant t has, at the prefixes of H: no less than with nothing of what runs, no more than if each
--- request that runs is M long. The charged service by weight is one, and so is that of finished requests alone.
+-- request that runs is M long. Where t starts is one, and so is its start without what runs. (A start rises by the
+-- service that is charged, divided by weight, while the tenant waits.)
 abbrev pub IsAccount : ℕ → Config → History → ℕ → (History → ℤ) → Type 0
 IsAccount M C H t account =
     (P : History) → IsPrefix P H

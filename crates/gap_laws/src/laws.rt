@@ -1,5 +1,6 @@
 //! The laws, one function a law: its contract is the law, and its body is empty.
 ghost use Rattle.gap_laws.specs.Laws.{ChargeRisesAtTakes, StartRisesAtTakes, RunStartIs, GapStaysBelow, LargestIsBounded, GapIsThere, LargestIsGreatest, BoundIsGreatest, LeadStaysBelow, WorstLeadStaysBelow, DifferenceStaysBelow, MeasuredIsBounded, GainStaysBelow, TakesAreFew};
+ghost use Rattle.gap_laws.specs.Laws.{MeasuredAreCaps, AccountsStayNear, TakesAreFewInRun};
 
 /// Where every request costs what was declared, a Take adds the length of the declared cost to the virtual charge of
 /// its tenant, and nothing else changes a virtual charge: no Report and no Done.
@@ -48,15 +49,15 @@ pub fn bound_is_greatest()
 {}
 
 /// Where costs are not known: while two tenants both wait, and whatever comes of the requests that run, the one is
-/// ahead of the other by no more than it was when both began to wait, or than a Take of its own leaves it. Nothing else
-/// is asked of the history than that it is legal: not which estimator, not how wrong it is, not which weights and
+/// ahead of the other by no more than it was at any earlier prefix, or than a Take of its own leaves it since. Nothing
+/// else is asked of the history than that it is legal: not which estimator, not how wrong it is, not which weights and
 /// workers.
 pub fn lead_stays_below()
     ensures { LeadStaysBelow }
 {}
 
-/// So in the worst case, where no request is longer than `M` and some may turn out as long, or cost nothing: less than
-/// one request of the greatest length more than there are workers.
+/// So in the worst case, where no request is longer than `M` and some may turn out as long, or cost nothing: what it
+/// was when both began to wait, or less than one request of the greatest length more than there are workers.
 pub fn worst_lead_stays_below()
     ensures { WorstLeadStaysBelow }
 {}
@@ -86,4 +87,22 @@ pub fn gain_stays_below()
 /// premises are needed: where requests cost nothing a tenant may be taken for ever, and a lead has no bound of its own.
 pub fn takes_are_few()
     ensures { TakesAreFew }
+{}
+
+/// What each request became in a legal history is its greatest and its least length there, which the measured bound
+/// stands on.
+pub fn measured_are_caps()
+    ensures { MeasuredAreCaps }
+{}
+
+/// By any account of what the two have, charged, finished or measured otherwise, the one is ahead of the other by no
+/// more than the worst case.
+pub fn accounts_stay_near()
+    ensures { AccountsStayNear }
+{}
+
+/// So often at most is a tenant taken while a head waits, by the lead that the waiting tenant had when both began to
+/// wait.
+pub fn takes_are_few_in_run()
+    ensures { TakesAreFewInRun }
 {}

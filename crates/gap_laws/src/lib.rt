@@ -1,5 +1,5 @@
-//! What bounds the gap: where every request costs what was declared, how far one tenant that waits may get ahead of
-//! another that waits too, at weights and numbers of workers that change.
+//! How far one tenant that waits may get ahead of another that waits too, at weights and numbers of workers that
+//! change: whatever the costs, and where every request costs what was declared.
 #![tactic(auto)]
 
 pub mod examples;
