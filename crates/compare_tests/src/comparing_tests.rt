@@ -1,4 +1,5 @@
 //! Traces written by hand, with what each policy and estimator come to on them.
+ghost use Rattle.std.specs.Prelude.{◌≡◌};
 ghost use Rattle.program_model.specs.RunLimits.{CanCompare};
 ghost use Rattle.program_model.specs.TraceText.{IsLawfulTrace};
 
