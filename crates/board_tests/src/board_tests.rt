@@ -2,7 +2,7 @@ ghost use Rattle.std.specs.Prelude.{◌≡◌};
 ghost use Rattle.status_board.specs.Boards.{IsReaderOf};
 ghost use Rattle.board_tests.specs.Shown.{HasShown};
 
-use crate::show::{Show, next, show, tells, was_shown};
+use crate::show::{Show, next, started, tells, was_shown};
 use status_board::{Board, Reader};
 use std::alloc::Global;
 use std::process::Abort;
@@ -16,7 +16,7 @@ const LOOKS: u32 = 20000000;
 
 // One request from its coming to its end, with a look after each entry and another reader's at the end.
 fn one_request<R: Abort>(rt: &R, alloc: Global) {
-    let (board, mut show, mut reader) = show(rt, alloc);
+    let (board, mut show, mut reader) = started(rt, alloc);
     assert!(rt; tells(reader.read(&board), 0, 0, 0, 0, 0));
     next(rt, &board, &mut show, 0);
     assert!(rt; tells(reader.read(&board), 1, 5, 0, 1, 0));
@@ -40,7 +40,7 @@ fn one_request_from_its_coming_to_its_end(rt: HostRuntime) {
 
 // A reader that missed some entries, and one that comes late.
 fn late<R: Abort>(rt: &R, alloc: Global) {
-    let (board, mut show, mut reader) = show(rt, alloc);
+    let (board, mut show, mut reader) = started(rt, alloc);
     next(rt, &board, &mut show, 0);
     next(rt, &board, &mut show, 1);
     let second = board.second(&mut reader);
@@ -94,7 +94,7 @@ fn reads(board: &Board, reader: &mut Reader) -> bool
 
 // Two readers beside the writer.
 fn beside<R: Threads + Sync + Abort>(rt: &R, alloc: Global) {
-    let (board, mut show, mut one) = show(rt, alloc);
+    let (board, mut show, mut one) = started(rt, alloc);
     let second = board.second(&mut one);
     let Ok(mut two) = second else {
         panic!(rt; "no memory for a reader")

@@ -38,7 +38,7 @@ fn opened<R: Abort>(rt: &R, alloc: Global) -> Scheduler<u64, PlainChooser>
 }
 
 /// A board, what is shown on it and a reader.
-pub fn show<R: Abort>(rt: &R, alloc: Global) -> (Board, Show, Reader)
+pub fn started<R: Abort>(rt: &R, alloc: Global) -> (Board, Show, Reader)
     ensures shown { HasShown result.0 result.1.writer result.1.scheduler }
     ensures reader { IsReaderOf result.0 result.2 }
 {

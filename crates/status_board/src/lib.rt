@@ -7,10 +7,10 @@
 
 pub mod board;
 pub mod crossing;
-mod halves;
 mod plays;
 pub mod reader;
 mod table;
+mod words;
 pub mod writer;
 
 pub use board::Board;

@@ -9,7 +9,7 @@ ghost use Rattle.status_board.specs.Plays.{HasPeeked};
 ghost use Rattle.status_board.specs.Words.{status_in};
 
 use crate::board::Board;
-use crate::halves::joined;
+use crate::words::joined;
 use crate::plays::{Check, Look, Peek};
 use crate::table::{BoardTable, HIGH, LOW, MOMENT, Place, RUNNING, VERSION, WAITING};
 use fq_model::parts::Status;

@@ -7,7 +7,7 @@ ghost use Rattle.status_board.specs.declared.table.Stage.TheVariants.{Rests};
 ghost use Rattle.status_board.specs.Boards.{IsPlaceAt, IsWriterOf};
 
 use crate::board::Board;
-use crate::halves::halves;
+use crate::words::halves;
 use crate::plays::{Begin, Next, Publish, Put};
 use crate::table::{BoardTable, HIGH, LOW, MOMENT, Place, RUNNING, VERSION, WAITING};
 use fq_model::event::Entry;
