@@ -9,11 +9,10 @@ use Rattle.status_board.specs.Rule.{Marks, Knows, Kept}
 use Rattle.status_board.specs.Views.{first_writer}
 use Rattle.status_board.proofs.Statuses.{opening_words}
 
-start : Marks
+abbrev start : Marks
 start = record { shown = []; busy = 0; rest = 0 ∷ 0 ∷ 0 ∷ 0 ∷ 0 ∷ []; writer = 0 }
 
 pub opens : (C : Config) → Kept C (opening (0 ∷ 0 ∷ 0 ∷ 0 ∷ 0 ∷ 0 ∷ []) [] (first_writer C))
-unfolding start
 opens C = record {
   marks = start;
   words = refl;

@@ -6,10 +6,11 @@ use native.Mathlib.Decide.{ℕ_discrete}
 use Rattle.atomic_table.specs.Table.{State, step, keeps, Allows}
 use Rattle.fq_model.specs.declared.config.Config.{Config}
 use Rattle.fq_model.specs.declared.event.Entry.{Entry}
+use Rattle.history_lock.specs.Histories.{IsPrefix}
 use Rattle.status_board.specs.declared.table.View.{View}
 use Rattle.status_board.specs.declared.table.Stage.{Stage}
 use Rattle.status_board.specs.declared.table.Stage.TheVariants.{Idle, Reading}
-use Rattle.status_board.specs.Plays.{Holding, looked, peeked, checked}
+use Rattle.status_board.specs.Plays.{Holding, looked, peeked, HasPeeked, checked}
 use Rattle.status_board.specs.Rule.{Marks, Staged, Kept}
 use Rattle.status_board.specs.Words.{words_of, words_in, FitStatus}
 use Rattle.status_board.proofs.Lists.{prefix_of_itself, prefix_length, prefix_whole}
@@ -78,3 +79,24 @@ module _ (C : Config) where
 pub then_peeked : (slots i : ℕ) (me0 me me2 : Holding) (version found : ℕ) → me ≡ (record me0.0 { version = version }, me0.1) → peeked (step slots i 0 0 none) me found me2
     → (later : ℕ) × (me2 ≡ (record me0.0 { version = later }, me0.1)) × (version ≤ later) × (later ≤ 2 * length me0.0.noted → found ≡ get_or (words_in me0.0.config me0.0.noted) (i - 1) 0)
 then_peeked slots i me0 me me2 version found is told = subst (λ (m : Holding). peeked (step slots i 0 0 none) m found me2) is told
+
+module _ (slots : ℕ) (me0 me1 me2 me3 : Holding) (version found : ℕ) (words : List ℕ) where
+  -- a look at all words between two equal even versions
+  pub sees_whole : looked (step slots 0 0 0 none) me0 version me1 → version % 2 ≡ 0 → HasPeeked me1 words me2 → checked (step slots 0 0 0 none) me2 found me3 → found ≡ version
+      → (P : List Entry) × (later : ℕ) × (version ≡ 2 * length P) × IsPrefix me0.0.seen P × (words ≡ words_in me0.0.config P) × FitStatus words
+      × (me3 ≡ (record me0.0 { stage = Idle; seen = P; noted = P; version = later }, me0.1))
+  sees_whole look even peek check same =
+      let l = look.0 even in
+      let p = subst (λ (m : Holding). HasPeeked m words me2) l.1 peek in
+      let k = subst (λ (m : Holding). checked (step slots 0 0 0 none) m found me3) p.1 check in
+      let hit = k.0 (same ∙ l.2) in let words_is = p.3 hit.0 in
+      (l.0, p.0, l.2, l.3, words_is, subst FitStatus (sym words_is) hit.1, hit.2)
+
+  -- and between two others
+  pub sees_nothing : looked (step slots 0 0 0 none) me0 version me1 → version % 2 ≡ 0 → HasPeeked me1 words me2 → checked (step slots 0 0 0 none) me2 found me3 → found ≢ version
+      → (P : List Entry) × (later : ℕ) × (me3 ≡ (record me0.0 { stage = Idle; noted = P; version = later }, me0.1))
+  sees_nothing look even peek check other =
+      let l = look.0 even in
+      let p = subst (λ (m : Holding). HasPeeked m words me2) l.1 peek in
+      let k = subst (λ (m : Holding). checked (step slots 0 0 0 none) m found me3) p.1 check in
+      (l.0, p.0, k.1 (λ e. other (e ∙ sym l.2)))

@@ -41,7 +41,7 @@ module _ (C : Config) where
       let both : View = with_joined v w in
       let at_other : get_elem? s.views other ≡ some w = sym (set_else s.views id other both apart) ∙ there in
       let mine = known C s r id v Rests at rests in let theirs = known C s r other w Idle at_other idle in
-      let joined : Knows C r.marks id both = subst (Staged C r.marks id both) (sym rests) ((mine.0.0, mine.0.1, theirs.1), mine.1) in record {
+      let joined : Knows C r.marks id both = subst (Staged C r.marks id both) (sym rests) ((mine.0.0, mine.0.1, theirs.1), mine.1, mine.2, mine.3) in record {
         marks = r.marks;
         words = r.words;
         wide = r.wide;
