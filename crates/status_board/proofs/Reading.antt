@@ -1,14 +1,13 @@
 -- The steps of a look keep the rule.
 use Rattle.std.proofs.Common.{◌≡◌, ◌≢◌, ℕ, zero, suc, ◌+◌, ◌-◌, ◌*◌, ◌%◌, ◌<◌, ◌≤◌, List, ◌∷◌, length, get_or, set, sym, refl, ap, ◌∙◌, subst, arith, Option}
 use mathlib.Core.Logic.{dite}
-use mathlib.Core.Option.{none, some}
+use mathlib.Core.Option.{none}
 use native.Mathlib.Decide.{ℕ_discrete}
 use Rattle.atomic_table.specs.Table.{State, step, keeps, Allows}
 use Rattle.fq_model.specs.declared.config.Config.{Config}
 use Rattle.fq_model.specs.declared.event.Entry.{Entry}
 use Rattle.history_lock.specs.Histories.{IsPrefix}
 use Rattle.status_board.specs.declared.table.View.{View}
-use Rattle.status_board.specs.declared.table.Stage.{Stage}
 use Rattle.status_board.specs.declared.table.Stage.TheVariants.{Idle, Reading}
 use Rattle.status_board.specs.Plays.{Holding, looked, peeked, HasPeeked, checked}
 use Rattle.status_board.specs.Rule.{Marks, Staged, Kept}
@@ -65,14 +64,14 @@ module _ (C : Config) where
       let seen : View = record me.0 { stage = Idle; seen = me.0.noted } in let kept : View = record me.0 { stage = Idle } in
       dite (ℕ_discrete found (2 * length me.0.noted))
       (λ hit. let long = prefix_length me.0.noted k.shown know.1 in let quiet : k.busy ≡ 0 = omega arith in
-          let same : k.shown ≡ me.0.noted = prefix_whole me.0.noted k.shown know.1 (omega arith) in
-          let words : k.rest ≡ words_in me.0.config me.0.noted = (r.at_rest quiet).0 ∙ (ap (words_of C) same ∙ ap (λ (c : Option Config). words_in c me.0.noted) (sym config)) in (
-            seen,
-            keeps,
-            tt,
-            loaded C s r 0 id seen (know.0.0, know.1, know.0.2),
-            ((λ _. (omega arith, subst FitStatus words (r.at_rest quiet).1, refl)), λ miss. absurd (miss hit)),
-          ))
+      let same : k.shown ≡ me.0.noted = prefix_whole me.0.noted k.shown know.1 (omega arith) in
+      let words : k.rest ≡ words_in me.0.config me.0.noted = (r.at_rest quiet).0 ∙ (ap (words_of C) same ∙ ap (λ (c : Option Config). words_in c me.0.noted) (sym config)) in (
+        seen,
+        keeps,
+        tt,
+        loaded C s r 0 id seen (know.0.0, know.1, know.0.2),
+        ((λ _. (omega arith, subst FitStatus words (r.at_rest quiet).1, refl)), λ miss. absurd (miss hit)),
+      ))
       (λ miss. (kept, keeps, tt, loaded C s r 0 id kept know.0, ((λ hit. absurd (miss hit)), λ _. refl)))
 
 -- what a look at one word tells, said of the place as it was when the first was looked at

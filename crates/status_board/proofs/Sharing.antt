@@ -1,5 +1,5 @@
 -- A reader is made, or taken in by the writer: the rule stays.
-use Rattle.std.proofs.Common.{◌≡◌, ℕ, List, [], ◌∷◌, ◌++◌, length, set, sym, refl, ap, ◌∙◌, subst, ⊎_elim}
+use Rattle.std.proofs.Common.{◌≡◌, ℕ, List, [], ◌∷◌, ◌++◌, length, set, sym, refl, ◌∙◌, subst, ⊎_elim}
 use mathlib.Core.Option.{none, some}
 use lib.ListN.{get_elem?}
 use Rattle.atomic_table.specs.Table.{State, step, keeps, Allows, Splits, Joins}
@@ -9,7 +9,6 @@ use Rattle.fq_model.specs.declared.event.Entry.{Entry}
 use Rattle.history_lock.specs.Histories.{IsPrefix}
 use Rattle.history_lock.proofs.Lists.{seats_stay, at_end}
 use Rattle.status_board.specs.declared.table.View.{View}
-use Rattle.status_board.specs.declared.table.Stage.{Stage}
 use Rattle.status_board.specs.declared.table.Stage.TheVariants.{Idle, Rests}
 use Rattle.status_board.specs.Plays.{Holding, confirmed}
 use Rattle.status_board.specs.Rule.{IsLive, Staged, Knows, Kept}

@@ -1,5 +1,5 @@
 -- Statuses and their words.
-use Rattle.std.proofs.Common.{◌≡◌, ℕ, ◌+◌, ◌*◌, ◌/◌, ◌%◌, ◌^◌, ◌<◌, List, [], ◌∷◌, length, sym, refl, ap, ◌∙◌, subst, arith, pos, ℤ, Option, Some, None, unwrap_or}
+use Rattle.std.proofs.Common.{◌≡◌, ℕ, ◌+◌, ◌*◌, ◌/◌, ◌%◌, ◌<◌, List, [], ◌∷◌, length, sym, refl, ap, ◌∙◌, arith, pos, ℤ, Option, Some, None, unwrap_or}
 use Rattle.std.proofs.lemmas.Int.{ints}
 use Rattle.std.proofs.lemmas.List.{length-reverse}
 use Rattle.std.specs.Prelude.{slice_index}
@@ -10,7 +10,7 @@ use Rattle.fq_model.specs.declared.parts.Status.{Status}
 use Rattle.fq_model.specs.History.{history_of, waiting, running}
 use Rattle.fq_model.specs.Status.{status_of}
 use Rattle.fq_model.specs.Time.{last_moment, virtual_time}
-use Rattle.status_board.specs.Words.{status_at, status_in, virtual_now, words_of, words_in, FitStatus}
+use Rattle.status_board.specs.Words.{status_at, status_in, virtual_now, words_of, words_in}
 
 module _ (C : Config) (P : List Entry) (s : Status) (is : s ≡ status_at C P) where
   pub entries_are : s.entries ≡ length P

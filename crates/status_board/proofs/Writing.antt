@@ -1,14 +1,13 @@
 -- The writer's steps keep the rule.
-use Rattle.std.proofs.Common.{◌≡◌, ◌≢◌, ℕ, zero, suc, ◌+◌, ◌-◌, ◌*◌, ◌<◌, ◌≤◌, List, ◌∷◌, length, set, sym, refl, ap, ◌∙◌, subst, arith, length-set}
+use Rattle.std.proofs.Common.{◌≡◌, ℕ, zero, suc, ◌+◌, ◌-◌, ◌*◌, ◌<◌, List, ◌∷◌, length, set, sym, refl, ap, ◌∙◌, subst, arith, length-set}
 use mathlib.Core.Option.{none}
-use Rattle.atomic_table.specs.Table.{State, step, keeps, Allows}
+use Rattle.atomic_table.specs.Table.{step, keeps, Allows}
 use Rattle.fq_model.specs.declared.config.Config.{Config}
 use Rattle.fq_model.specs.declared.event.Entry.{Entry}
 use Rattle.history_lock.specs.Histories.{IsPrefix}
 use Rattle.history_lock.proofs.Histories.{prefix_through}
 use Rattle.history_lock.proofs.Lists.{seats_stay}
 use Rattle.status_board.specs.declared.table.View.{View}
-use Rattle.status_board.specs.declared.table.Stage.{Stage}
 use Rattle.status_board.specs.declared.table.Stage.TheVariants.{Rests, Writes}
 use Rattle.status_board.specs.Plays.{Holding, began, wrote, published}
 use Rattle.status_board.specs.Rule.{Marks, Staged, Knows, Kept}

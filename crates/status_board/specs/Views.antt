@@ -3,7 +3,7 @@ use Rattle.std.specs.Prelude.{Bool, true, false, [], Some, None}
 use Rattle.fq_model.specs.declared.config.Config.{Config}
 use Rattle.status_board.specs.declared.table.View.{View}
 use Rattle.status_board.specs.declared.table.Stage.{Stage}
-use Rattle.status_board.specs.declared.table.Stage.TheVariants.{Spent, Idle, Reading, Rests, Writes}
+use Rattle.status_board.specs.declared.table.Stage.TheVariants.{Spent, Idle, Rests}
 
 abbrev pub is_idle : Stage → Bool
 is_idle Idle = true

@@ -35,10 +35,7 @@ impl Model for Board {
 impl Board {
     /// A board that shows the empty history, with its writer and a first reader. It is for histories of schedulers
     /// with this configuration, which is looked at by proofs alone.
-    pub fn open(
-        alloc: Global,
-        config: &Checked,
-    ) -> Result<(Board, Writer, Reader), AllocError>
+    pub fn open(alloc: Global, config: &Checked) -> Result<(Board, Writer, Reader), AllocError>
         ensures config { IfOk result (λ r. r.0.config ≡ config.now) }
         ensures writer { IfOk result (λ r. IsWriterOf r.0 r.1) }
         ensures shown { IfOk result (λ r. r.1.shown ≡ []) }

@@ -9,9 +9,9 @@ ghost use Rattle.status_board.specs.Plays.{HasPeeked};
 ghost use Rattle.status_board.specs.Words.{status_in};
 
 use crate::board::Board;
-use crate::words::joined;
 use crate::plays::{Check, Look, Peek};
 use crate::table::{BoardTable, HIGH, LOW, MOMENT, Place, RUNNING, VERSION, WAITING};
+use crate::words::joined;
 use fq_model::parts::Status;
 use std::marker::Model;
 
@@ -33,6 +33,7 @@ impl Model for Reader {
 }
 
 // The words but for the version, as a look finds them.
+#[derive(Drop)]
 struct Found {
     moment: u64,
     low: u64,
@@ -74,7 +75,7 @@ fn try_read(table: &BoardTable, place: &mut Place) -> Option<Status>
     ensures config { place.new.me.0.config ≡ place.old.me.0.config }
     ensures seen { MatchOption result (place.new.me.0.seen ≡ place.old.me.0.seen)
         (λ s. (status_in place.new.me.0.config place.new.me.0.seen ≡ Some s)
-            × IsPrefix place.old.me.0.seen place.new.me.0.seen) }
+        × IsPrefix place.old.me.0.seen place.new.me.0.seen) }
 {
     let version = table.shared.load::<Look>(place, VERSION);
     if version % 2 != 0 {

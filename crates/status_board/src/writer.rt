@@ -7,9 +7,9 @@ ghost use Rattle.status_board.specs.declared.table.Stage.TheVariants.{Rests};
 ghost use Rattle.status_board.specs.Boards.{IsPlaceAt, IsWriterOf};
 
 use crate::board::Board;
-use crate::words::halves;
 use crate::plays::{Begin, Next, Publish, Put};
 use crate::table::{BoardTable, HIGH, LOW, MOMENT, Place, RUNNING, VERSION, WAITING};
+use crate::words::halves;
 use fq_model::event::Entry;
 use fq_model::parts::Status;
 use std::marker::{Brand, Model};
@@ -32,28 +32,34 @@ impl Model for Writer {
 }
 
 // Writes the words of the next history, between two writes of the version.
-fn publish<B: Next>(table: &BoardTable, place: &mut Place, old: u64, status: Status)
+fn publish<B: Next>(
+    table: &BoardTable,
+    place: &mut Place,
+    shown: u64,
+    past: &[Entry],
+    status: Status,
+)
     requires own { IsPlaceAt place.old.table_id table.now.shared.table_id }
     requires rests { (place.old.me.0.stage ≡ Rests) × (place.old.me.1 ≡ []) }
-    requires status { status ≡ status_of table.now.shared.key.value (history_of B.next) }
-    requires old { old ≡ length place.old.me.0.seen }
-    requires next { IsPrefix place.old.me.0.seen B.next }
-    requires longer { length place.old.me.0.seen < length B.next }
-    requires small { length B.next < 2 ^ 63 }
+    requires picked { past.now ≡ B.next }
+    requires status { status ≡ status_of table.now.shared.key.value (history_of past.now) }
+    requires shown { shown ≡ length place.old.me.0.seen }
+    requires past { IsPrefix place.old.me.0.seen past.now }
+    requires longer { length place.old.me.0.seen < length past.now }
     ensures own { place.new.table_id ≡ place.old.table_id }
     ensures rests { (place.new.me.0.stage ≡ Rests) × (place.new.me.1 ≡ []) }
     ensures config { place.new.me.0.config ≡ place.old.me.0.config }
-    ensures shown { place.new.me.0.seen ≡ B.next }
+    ensures seen { place.new.me.0.seen ≡ past.now }
 {
     let shared = &table.shared;
     let (low, high) = halves(status.vtime);
-    shared.store::<Begin>(place, VERSION, 2 * old + 1);
+    shared.store::<Begin>(place, VERSION, 2 * shown + 1);
     shared.store::<Put>(place, MOMENT, status.moment);
     shared.store::<Put>(place, LOW, low);
     shared.store::<Put>(place, HIGH, high);
     shared.store::<Put>(place, WAITING, status.waiting as u64);
     shared.store::<Put>(place, RUNNING, status.running as u64);
-    shared.store::<Publish<B>>(place, VERSION, 2 * status.entries);
+    shared.store::<Publish<B>>(place, VERSION, 2 * past.len() as u64);
 }
 
 impl Writer {
@@ -70,7 +76,7 @@ impl Writer {
         if entries == self.entries {
             return;
         }
-        publish::<Brand>(&board.table, &mut self.place, self.entries, status);
+        publish::<Brand>(&board.table, &mut self.place, self.entries, past, status);
         self.entries = entries;
     }
 

@@ -11,21 +11,21 @@ load-low-requires c = let a = c.load-moment.ensures.2 in
     (search rules, search rules, peeks _ _ _ 2 _ (ap (λ m. m.0.stage) a.1 ∙ c.requires.reading) (ap (λ m. m.0.config) a.1 ∙ c.requires.config) (omega arith) (omega arith))
 
 pub load-high-requires : goal.load-high-requires
-load-high-requires c = let a = c.load-moment.ensures.2 in let b = then_peeked _ 2 c.args.place.now.me _ _ _ _ a.1 c.load-low.ensures.2 in
+load-high-requires c = let a = c.load-moment.ensures.2 in let b = then_peeked c.args.table.now.shared.table_id.slots 2 c.args.place.now.me _ _ _ _ a.1 c.load-low.ensures.2 in
     (search rules, search rules, peeks _ _ _ 3 _ (ap (λ m. m.0.stage) b.1 ∙ c.requires.reading) (ap (λ m. m.0.config) b.1 ∙ c.requires.config) (omega arith) (omega arith))
 
 pub load-waiting-requires : goal.load-waiting-requires
-load-waiting-requires c = let a = c.load-moment.ensures.2 in let b = then_peeked _ 2 c.args.place.now.me _ _ _ _ a.1 c.load-low.ensures.2 in let d = then_peeked _ 3 c.args.place.now.me _ _ _ _ b.1 c.load-high.ensures.2 in
+load-waiting-requires c = let a = c.load-moment.ensures.2 in let b = then_peeked c.args.table.now.shared.table_id.slots 2 c.args.place.now.me _ _ _ _ a.1 c.load-low.ensures.2 in let d = then_peeked c.args.table.now.shared.table_id.slots 3 c.args.place.now.me _ _ _ _ b.1 c.load-high.ensures.2 in
     (search rules, search rules, peeks _ _ _ 4 _ (ap (λ m. m.0.stage) d.1 ∙ c.requires.reading) (ap (λ m. m.0.config) d.1 ∙ c.requires.config) (omega arith) (omega arith))
 
 pub load-running-requires : goal.load-running-requires
-load-running-requires c = let a = c.load-moment.ensures.2 in let b = then_peeked _ 2 c.args.place.now.me _ _ _ _ a.1 c.load-low.ensures.2 in let d = then_peeked _ 3 c.args.place.now.me _ _ _ _ b.1 c.load-high.ensures.2 in let e = then_peeked _ 4 c.args.place.now.me _ _ _ _ d.1 c.load-waiting.ensures.2 in
+load-running-requires c = let a = c.load-moment.ensures.2 in let b = then_peeked c.args.table.now.shared.table_id.slots 2 c.args.place.now.me _ _ _ _ a.1 c.load-low.ensures.2 in let d = then_peeked c.args.table.now.shared.table_id.slots 3 c.args.place.now.me _ _ _ _ b.1 c.load-high.ensures.2 in let e = then_peeked c.args.table.now.shared.table_id.slots 4 c.args.place.now.me _ _ _ _ d.1 c.load-waiting.ensures.2 in
     (search rules, search rules, peeks _ _ _ 5 _ (ap (λ m. m.0.stage) e.1 ∙ c.requires.reading) (ap (λ m. m.0.config) e.1 ∙ c.requires.config) (omega arith) (omega arith))
 
 pub returns-clause-found : goal.returns-clause-found
 returns-clause-found c =
-    let a = c.load-moment.ensures.2 in let b = then_peeked _ 2 c.args.place.now.me _ _ _ _ a.1 c.load-low.ensures.2 in let d = then_peeked _ 3 c.args.place.now.me _ _ _ _ b.1 c.load-high.ensures.2 in
-    let e = then_peeked _ 4 c.args.place.now.me _ _ _ _ d.1 c.load-waiting.ensures.2 in let f = then_peeked _ 5 c.args.place.now.me _ _ _ _ e.1 c.load-running.ensures.2 in
+    let a = c.load-moment.ensures.2 in let b = then_peeked c.args.table.now.shared.table_id.slots 2 c.args.place.now.me _ _ _ _ a.1 c.load-low.ensures.2 in let d = then_peeked c.args.table.now.shared.table_id.slots 3 c.args.place.now.me _ _ _ _ b.1 c.load-high.ensures.2 in
+    let e = then_peeked c.args.table.now.shared.table_id.slots 4 c.args.place.now.me _ _ _ _ d.1 c.load-waiting.ensures.2 in let f = then_peeked c.args.table.now.shared.table_id.slots 5 c.args.place.now.me _ _ _ _ e.1 c.load-running.ensures.2 in
     let from = a.2 in let to_b = b.2 in let to_d = d.2 in let to_e = e.2 in let to_f = f.2 in (
       f.0,
       f.1,
