@@ -1,0 +1,56 @@
+-- What contracts see of a board, of its writer and of a reader.
+use Rattle.std.specs.Prelude.{◌≡◌, ℕ, true, List, [], length, Option, Some}
+use Rattle.atomic_table.specs.Seated.{TableId}
+use Rattle.fq_model.specs.declared.config.Config.{Config}
+use Rattle.fq_model.specs.declared.event.Entry.{Entry}
+use Rattle.fq_model.specs.declared.parts.Status.{Status}
+use Rattle.status_board.specs.Plays.{Holding}
+use Rattle.status_board.specs.Views.{is_idle, is_resting}
+use Rattle.status_board.specs.Words.{word_count, status_in}
+
+-- a board: which table is its, and the configuration whose virtual time it shows
+pub record BoardView : Type 0 where
+  pub table : TableId
+  pub config : Config
+
+-- a writer: which board it is of, by table and configuration, and the history that it has shown
+pub record WriterView : Type 0 where
+  pub table : TableId
+  pub config : Option Config
+  pub shown : List Entry
+
+-- a reader: which board it is of, and the history that it has seen
+pub record ReaderView : Type 0 where
+  pub table : TableId
+  pub config : Option Config
+  pub seen : List Entry
+
+abbrev pub writer_view : TableId → Holding → WriterView
+writer_view table me = record { table = table; config = me.0.config; shown = me.0.seen }
+
+abbrev pub reader_view : TableId → Holding → ReaderView
+reader_view table me = record { table = table; config = me.0.config; seen = me.0.seen }
+
+-- the writer is of this board
+abbrev pub IsWriterOf : BoardView → WriterView → Type 0
+IsWriterOf board writer = (writer.table ≡ board.table) × (writer.config ≡ Some board.config)
+
+-- the reader is of this board
+abbrev pub IsReaderOf : BoardView → ReaderView → Type 0
+IsReaderOf board reader = (reader.table ≡ board.table) × (reader.config ≡ Some board.config)
+
+-- the place is one at the table, which has a board's words
+abbrev pub IsPlaceAt : TableId → TableId → Type 0
+IsPlaceAt place table = (place ≡ table) × (table.words ≡ word_count)
+
+-- between two calls a writer has counted what it has shown
+pub record WriterRests (entries : ℕ) (me : Holding) : Type 0 where
+  pub bare : me.1 ≡ []
+  pub rests : is_resting me.0.stage ≡ true
+  pub counted : entries ≡ length me.0.seen
+
+-- between two calls a reader keeps the status of what it has seen
+pub record ReaderRests (status : Status) (me : Holding) : Type 0 where
+  pub bare : me.1 ≡ []
+  pub idle : is_idle me.0.stage ≡ true
+  pub told : status_in me.0.config me.0.seen ≡ Some status

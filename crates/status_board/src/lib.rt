@@ -1,0 +1,18 @@
+//! How a scheduler stands, shown by one writer to readers that never wait.
+//!
+//! A sequence lock of one writer (Boehm, Can Seqlocks Get Along with Programming Language Memory Models?, 2012), by
+//! sequentially consistent steps. A reader tries once. Where the writer is at work it keeps to what it knew, so
+//! neither side ever waits.
+#![tactic(auto)]
+
+pub mod board;
+pub mod crossing;
+mod plays;
+pub mod reader;
+mod table;
+mod words;
+pub mod writer;
+
+pub use board::Board;
+pub use reader::Reader;
+pub use writer::Writer;

@@ -1,0 +1,87 @@
+//! What each step on the table tells.
+ghost use Rattle.std.specs.Prelude.{List, []};
+ghost use Rattle.fq_model.specs.declared.event.Entry.{Entry};
+ghost use Rattle.status_board.specs.Plays.{looked, peeked, checked, began, wrote, published, confirmed};
+ghost use Rattle.status_board.specs.Views.{same_view, new_reader, with_joined, spent_view};
+
+use crate::table::View;
+use atomic_table::{Join, Play, Split};
+use std::marker::{Brand, PhantomData};
+
+/// A reader's first look at the version.
+pub(crate) struct Look;
+
+impl Play<(), View> for Look {
+    ghost then = { looked };
+}
+
+/// A reader looks at another word.
+pub(crate) struct Peek;
+
+impl Play<(), View> for Peek {
+    ghost then = { peeked };
+}
+
+/// A reader's second look at the version.
+pub(crate) struct Check;
+
+impl Play<(), View> for Check {
+    ghost then = { checked };
+}
+
+/// The version becomes odd, before any other word changes.
+pub(crate) struct Begin;
+
+impl Play<(), View> for Begin {
+    ghost then = { began };
+}
+
+/// Another word is written.
+pub(crate) struct Put;
+
+impl Play<(), View> for Put {
+    ghost then = { wrote };
+}
+
+/// Which history is shown next. It stands in proofs alone, and each call of `publish` picks it.
+pub(crate) trait Next {
+    ghost next: { List Entry };
+}
+
+impl Next for Brand {
+    ghost next = { [] };
+}
+
+/// The version becomes that of the next history.
+pub(crate) struct Publish<B> {
+    next: PhantomData<B>,
+}
+
+impl<B: Next> Play<(), View> for Publish<B> {
+    ghost then = { published B.next };
+}
+
+/// The writer learns what the rule says of the reader that it took in.
+pub(crate) struct Confirm;
+
+impl Play<(), View> for Confirm {
+    ghost then = { confirmed };
+}
+
+/// A reader is made.
+pub(crate) struct Fork;
+
+impl Split<View> for Fork {
+    ghost left = { same_view };
+
+    ghost right = { new_reader };
+}
+
+/// A reader is taken in by the writer.
+pub(crate) struct Merge;
+
+impl Join<View> for Merge {
+    ghost both = { with_joined };
+
+    ghost spent = { spent_view };
+}

@@ -1,0 +1,87 @@
+//! The writer.
+ghost use Rattle.std.specs.Prelude.{◌≡◌, ℕ, ◌<◌, ◌^◌, [], length, Some};
+ghost use Rattle.fq_model.specs.History.{history_of};
+ghost use Rattle.fq_model.specs.Status.{status_of};
+ghost use Rattle.history_lock.specs.Histories.{IsPrefix};
+ghost use Rattle.status_board.specs.declared.table.Stage.TheVariants.{Rests};
+ghost use Rattle.status_board.specs.Boards.{IsPlaceAt, IsWriterOf};
+
+use crate::board::Board;
+use crate::plays::{Begin, Next, Publish, Put};
+use crate::table::{BoardTable, HIGH, LOW, MOMENT, Place, RUNNING, VERSION, WAITING};
+use crate::words::halves;
+use fq_model::event::Entry;
+use fq_model::parts::Status;
+use std::marker::{Brand, Model};
+
+/// The right to write on one board. There is one writer of a board and no copy of it.
+#[derive(Drop)]
+pub struct Writer {
+    pub(crate) place: Place,
+    pub(crate) entries: u64,
+}
+
+impl Model for Writer {
+    ghost use Rattle.status_board.specs.Boards.{WriterView, WriterRests, writer_view};
+
+    ghost Value = { WriterView };
+
+    ghost view = { λ w. writer_view w.place.table_id w.place.me };
+
+    ghost invariant = { λ w. WriterRests w.entries w.place.me };
+}
+
+// Writes the words of the next history, between two writes of the version.
+fn publish<B: Next>(
+    table: &BoardTable,
+    place: &mut Place,
+    shown: u64,
+    past: &[Entry],
+    status: Status,
+)
+    requires own { IsPlaceAt place.old.table_id table.now.shared.table_id }
+    requires rests { (place.old.me.0.stage ≡ Rests) × (place.old.me.1 ≡ []) }
+    requires picked { past.now ≡ B.next }
+    requires status { status ≡ status_of table.now.shared.key.value (history_of past.now) }
+    requires shown { shown ≡ length place.old.me.0.seen }
+    requires past { IsPrefix place.old.me.0.seen past.now }
+    requires longer { length place.old.me.0.seen < length past.now }
+    ensures own { place.new.table_id ≡ place.old.table_id }
+    ensures rests { (place.new.me.0.stage ≡ Rests) × (place.new.me.1 ≡ []) }
+    ensures config { place.new.me.0.config ≡ place.old.me.0.config }
+    ensures seen { place.new.me.0.seen ≡ past.now }
+{
+    let shared = &table.shared;
+    let (low, high) = halves(status.vtime);
+    shared.store::<Begin>(place, VERSION, 2 * shown + 1);
+    shared.store::<Put>(place, MOMENT, status.moment);
+    shared.store::<Put>(place, LOW, low);
+    shared.store::<Put>(place, HIGH, high);
+    shared.store::<Put>(place, WAITING, status.waiting as u64);
+    shared.store::<Put>(place, RUNNING, status.running as u64);
+    shared.store::<Publish<B>>(place, VERSION, 2 * past.len() as u64);
+}
+
+impl Writer {
+    /// Shows how things stand in a history that goes on from the one that it has shown. `past` is in order of time,
+    /// and only its length is looked at.
+    pub fn show(&mut self, board: &Board, past: &[Entry], status: Status)
+        requires own { IsWriterOf board.now self.old }
+        requires past { IsPrefix self.old.shown past.now }
+        requires status { status ≡ status_of board.now.config (history_of past.now) }
+        ensures own { IsWriterOf board.now self.new }
+        ensures shown { self.new.shown ≡ past.now }
+    {
+        let entries = past.len() as u64;
+        if entries == self.entries {
+            return;
+        }
+        publish::<Brand>(&board.table, &mut self.place, self.entries, past, status);
+        self.entries = entries;
+    }
+
+    /// Lets the writer go: what is shown stays.
+    pub fn end(self) {
+        drop(self);
+    }
+}
