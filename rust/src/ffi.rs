@@ -1,5 +1,5 @@
-//! The library for C, as its header has it, and its numbers as Rust's types.
-use std::ffi::c_void;
+//! The library for C, as its header has it, and its numbers as Rust's types; and the processor time of a thread.
+use std::ffi::{c_int, c_long, c_void};
 
 use crate::{Act, Entry, Refusal};
 
@@ -67,6 +67,25 @@ extern "C" {
     pub(crate) fn twodfq_workers(handle: *mut Handle, who: u32, moment: u64, count: u32) -> Reply;
     pub(crate) fn twodfq_entry(handle: *mut Handle, index: u64) -> Line;
     pub(crate) fn twodfq_free(handle: *mut Handle);
+    fn clock_gettime(clock: c_int, time: *mut Time) -> c_int;
+}
+
+/// `struct timespec` of 64-bit Linux.
+#[repr(C)]
+struct Time {
+    seconds: i64,
+    nanoseconds: c_long,
+}
+
+/// `CLOCK_THREAD_CPUTIME_ID` of Linux.
+const THREAD_TIME: c_int = 3;
+
+/// The processor time that the calling thread has used, in nanoseconds.
+pub(crate) fn thread_time() -> u64 {
+    let mut time = Time { seconds: 0, nanoseconds: 0 };
+    // It writes the struct and nothing else, and a thread may always ask for its own clock.
+    unsafe { clock_gettime(THREAD_TIME, &mut time) };
+    time.seconds as u64 * 1_000_000_000 + time.nanoseconds as u64
 }
 
 impl Reply {

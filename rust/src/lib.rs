@@ -29,10 +29,12 @@
 //! ```
 
 mod ffi;
+mod pool;
 mod refusal;
 
 use std::ptr;
 
+pub use pool::{tick, BuildFault, Builder, Cause, Handle, Measure, Panicked, Pool, Rejected};
 pub use refusal::{OpenFault, Refusal};
 
 /// Which waiting request a worker takes.

@@ -1,0 +1,226 @@
+//! A pool of threads that runs the jobs of many tenants, each in its turn.
+mod builder;
+mod cause;
+mod clock;
+mod handle;
+mod jobs;
+mod rolling;
+mod shared;
+mod state;
+mod worker;
+
+use std::fmt;
+use std::io;
+use std::mem;
+use std::sync::{Arc, Mutex, PoisonError};
+use std::thread::{self, JoinHandle};
+
+pub use builder::Builder;
+pub use cause::{BuildFault, Cause, Rejected};
+pub use clock::Measure;
+pub use handle::{Handle, Panicked};
+pub use worker::tick;
+
+use handle::Place;
+use jobs::{Job, Work};
+use rolling::Settings;
+use shared::Shared;
+use state::Request;
+
+/// A thread pool that shares its workers fairly among tenants: who waits is served in its turn, however many jobs others
+/// hand in and however long these take. Which job a worker takes next is decided by a [`Scheduler`](crate::Scheduler).
+///
+/// The pool has no end: before the room of its scheduler ends it opens the next, and workers take from the old one until
+/// that is drained. Dropped, it closes, and waits until all accepted jobs are done.
+///
+/// ```
+/// use twodfq::Pool;
+///
+/// let pool = Pool::builder().workers(4).tenant("acme", 1).tenant("globex", 2).open().unwrap();
+/// let globex = pool.tenant("globex").unwrap();
+/// let handle = pool.submit(globex, 0, || 6 * 7).unwrap();
+/// assert_eq!(handle.join().unwrap(), 42);
+/// ```
+pub struct Pool {
+    shared: Arc<Shared>,
+    settings: Arc<Settings>,
+    threads: Mutex<Vec<JoinHandle<()>>>,
+}
+
+impl Pool {
+    /// What a pool is opened with.
+    ///
+    /// ```
+    /// let pool = twodfq::Pool::builder().tenant("acme", 1).open().unwrap();
+    /// ```
+    pub fn builder() -> Builder {
+        Builder::new()
+    }
+
+    pub(crate) fn start(shared: Arc<Shared>, settings: Arc<Settings>) -> io::Result<Pool> {
+        let pool = Pool { shared, settings, threads: Mutex::default() };
+        for worker in 0..pool.settings.most_workers {
+            let shared = pool.shared.clone();
+            let name = format!("twodfq-{worker}");
+            let thread = thread::Builder::new().name(name).spawn(move || worker::work(shared, worker))?;
+            pool.keep(thread);
+        }
+        Ok(pool)
+    }
+
+    /// Notes a thread to wait for at the end.
+    fn keep(&self, thread: JoinHandle<()>) {
+        self.threads.lock().unwrap_or_else(PoisonError::into_inner).push(thread);
+    }
+
+    /// Hands in a job for a tenant, of a kind. What it declares to cost is the initial estimate.
+    ///
+    /// ```
+    /// use twodfq::{Cause, Pool};
+    ///
+    /// let pool = Pool::builder().tenant("acme", 1).open().unwrap();
+    /// let handle = pool.submit(0, 0, || "hello".len()).unwrap();
+    /// assert_eq!(handle.join().unwrap(), 5);
+    /// let rejected = pool.submit(7, 0, || 42).unwrap_err();
+    /// assert_eq!(rejected.cause, Cause::Tenant(7));
+    /// assert_eq!((rejected.job)(), 42);
+    /// ```
+    pub fn submit<T, F>(&self, tenant: u32, kind: u32, job: F) -> Result<Handle<T>, Rejected<F>>
+    where
+        T: Send + 'static,
+        F: FnOnce() -> T + Send + 'static,
+    {
+        self.submit_declared(tenant, kind, self.settings.initial, job)
+    }
+
+    /// Hands in a job that declares its cost in microseconds, 1 to 1,000,000,000. It counts under
+    /// [`Estimator::Declared`](crate::Estimator::Declared).
+    ///
+    /// ```
+    /// use twodfq::{Estimator, Pool};
+    ///
+    /// let pool = Pool::builder().tenant("acme", 1).estimator(Estimator::Declared).open().unwrap();
+    /// let handle = pool.submit_declared(0, 0, 250, || 42).unwrap();
+    /// assert_eq!(handle.join().unwrap(), 42);
+    /// ```
+    pub fn submit_declared<T, F>(&self, tenant: u32, kind: u32, cost: u64, job: F) -> Result<Handle<T>, Rejected<F>>
+    where
+        T: Send + 'static,
+        F: FnOnce() -> T + Send + 'static,
+    {
+        let request = Request { tenant, kind, declared: cost };
+        hand_in(&self.shared, request, job, |work| work as Box<dyn Job>)
+    }
+
+    /// The number of the tenant of this name.
+    ///
+    /// ```
+    /// let pool = twodfq::Pool::builder().tenant("acme", 1).tenant("globex", 2).open().unwrap();
+    /// assert_eq!(pool.tenant("globex"), Some(1));
+    /// assert_eq!(pool.tenant("initech"), None);
+    /// ```
+    pub fn tenant(&self, name: &str) -> Option<u32> {
+        place(&self.settings.tenants, name)
+    }
+
+    /// The number of the kind of this name.
+    ///
+    /// ```
+    /// let pool = twodfq::Pool::builder().tenant("acme", 1).kind("get").kind("scan").open().unwrap();
+    /// assert_eq!(pool.kind("scan"), Some(1));
+    /// ```
+    pub fn kind(&self, name: &str) -> Option<u32> {
+        place(&self.settings.kinds, name)
+    }
+
+    /// The tenant has this weight from now on, 1 to 1,000. A scheduler that drains keeps the weights it has where it has no
+    /// room for another entry.
+    ///
+    /// ```
+    /// let pool = twodfq::Pool::builder().tenant("acme", 1).open().unwrap();
+    /// pool.weight(0, 5).unwrap();
+    /// assert_eq!(pool.weight(3, 5), Err(twodfq::Cause::Tenant(3)));
+    /// ```
+    pub fn weight(&self, tenant: u32, weight: u32) -> Result<(), Cause> {
+        self.shared.change(|state, moment| state.rolling.weight(moment, tenant, weight).map_err(Cause::of))
+    }
+
+    /// There are so many workers from now on: 1 to as many as the builder said. A worker that is no longer wanted ends what
+    /// it runs, and then sleeps.
+    ///
+    /// ```
+    /// let pool = twodfq::Pool::builder().tenant("acme", 1).workers(2).most_workers(8).open().unwrap();
+    /// pool.workers(8).unwrap();
+    /// assert_eq!(pool.workers(9), Err(twodfq::Cause::Workers(9)));
+    /// ```
+    pub fn workers(&self, count: u32) -> Result<(), Cause> {
+        self.shared.change(|state, moment| state.rolling.workers(moment, count).map_err(Cause::of))
+    }
+
+    /// No more jobs are taken. Those that were are run.
+    ///
+    /// ```
+    /// let pool = twodfq::Pool::builder().tenant("acme", 1).open().unwrap();
+    /// let handle = pool.submit(0, 0, || 42).unwrap();
+    /// pool.close();
+    /// assert_eq!(pool.submit(0, 0, || 43).unwrap_err().cause, twodfq::Cause::Closed);
+    /// assert_eq!(handle.join().unwrap(), 42);
+    /// ```
+    pub fn close(&self) {
+        // closed already, it has nothing to change
+        let _ = self.shared.change(|state, moment| {
+            state.is_closed = true;
+            state.rolling.close(moment);
+            Ok(())
+        });
+    }
+
+    /// Closes, and waits until all accepted jobs are done. Dropping the pool does the same.
+    ///
+    /// ```
+    /// let pool = twodfq::Pool::builder().tenant("acme", 1).open().unwrap();
+    /// let handle = pool.submit(0, 0, || 42).unwrap();
+    /// pool.join();
+    /// assert_eq!(handle.join().unwrap(), 42);
+    /// ```
+    pub fn join(self) {}
+}
+
+impl Drop for Pool {
+    fn drop(&mut self) {
+        self.close();
+        let threads = mem::take(&mut *self.threads.lock().unwrap_or_else(PoisonError::into_inner));
+        for thread in threads {
+            // where a job drops the last owner of its pool, its worker can't wait for itself
+            if thread.thread().id() != thread::current().id() {
+                let _ = thread.join();
+            }
+        }
+    }
+}
+
+impl fmt::Debug for Pool {
+    fn fmt(&self, f: &mut fmt::Formatter<'_>) -> fmt::Result {
+        f.debug_struct("Pool").field("settings", &self.settings).finish_non_exhaustive()
+    }
+}
+
+/// Hands in a job, boxed by `boxed` once it is accepted.
+fn hand_in<T, F, B>(shared: &Shared, request: Request, closure: F, boxed: B) -> Result<Handle<T>, Rejected<F>>
+where
+    T: Send,
+    F: FnOnce() -> T + Send,
+    B: Fn(Box<Work<T, F>>) -> Box<dyn Job>,
+{
+    let place = Arc::new(Place::new());
+    let mut work = Some(Box::new(Work { closure, place: place.clone() }));
+    let mut job = || boxed(work.take().expect("a job is asked for once"));
+    match shared.admit(request, &mut job) {
+        Ok(()) => Ok(Handle::new(place)),
+        Err(cause) => Err(Rejected { job: work.expect("a refused job was not asked for").closure, cause }),
+    }
+}
+
+fn place(names: &[String], name: &str) -> Option<u32> {
+    names.iter().position(|other| other == name).map(|place| place as u32)
+}

@@ -1,0 +1,68 @@
+//! The life of a worker, and what a job may tell while it runs.
+use std::cell::RefCell;
+use std::panic::{self, AssertUnwindSafe};
+use std::sync::Arc;
+use std::time::Instant;
+
+use super::shared::Shared;
+use super::state::{Ended, Run};
+
+/// The job that the thread runs.
+struct Course {
+    shared: Arc<Shared>,
+    worker: u32,
+    tenant: u32,
+    history: u64,
+    begun: u64,
+    reported: u64,
+    last: Instant,
+}
+
+thread_local! {
+    static COURSE: RefCell<Option<Course>> = const { RefCell::new(None) };
+}
+
+/// Runs jobs until the pool has no more for this worker.
+pub(crate) fn work(shared: Arc<Shared>, worker: u32) {
+    let mut ended = None;
+    while let Some(run) = shared.next(worker, ended.take()) {
+        ended = Some(perform(&shared, worker, run));
+    }
+}
+
+/// Runs a job, and measures it.
+fn perform(shared: &Arc<Shared>, worker: u32, run: Run) -> Ended {
+    let Run { job, tenant, history } = run;
+    let begun = shared.clock.reading();
+    let course = Course { shared: shared.clone(), worker, tenant, history, begun, reported: 0, last: Instant::now() };
+    COURSE.set(Some(course));
+    // the job catches its own panic; what it leaves behind may panic too
+    let panicked = panic::catch_unwind(AssertUnwindSafe(|| job.run())).unwrap_or(true);
+    let reported = COURSE.take().map_or(0, |course| course.reported);
+    let cost = shared.clock.used_since(begun).max(reported);
+    Ended { tenant, history, cost, panicked }
+}
+
+/// Tells the pool what the job that calls it has used so far, so that a long job is charged while it runs and not only at
+/// its end. It may be called as often as one likes: most calls only look at the clock (see `Builder::refresh`). Outside of
+/// a job it does nothing.
+///
+/// ```
+/// let pool = twodfq::Pool::builder().tenant("acme", 1).open().unwrap();
+/// let sum = pool.submit(0, 0, || {
+///     (0..1_000_000_u64).inspect(|i| if i % 1000 == 0 { twodfq::tick() }).sum::<u64>()
+/// });
+/// assert_eq!(sum.unwrap().join().unwrap(), 499_999_500_000);
+/// ```
+pub fn tick() {
+    COURSE.with_borrow_mut(|course| {
+        let Some(course) = course else { return };
+        let now = Instant::now();
+        if now.duration_since(course.last) < course.shared.refresh {
+            return;
+        }
+        course.last = now;
+        course.reported = course.shared.clock.used_since(course.begun);
+        course.shared.report(course.worker, course.history, course.tenant, course.reported);
+    });
+}
