@@ -34,7 +34,10 @@ mod refusal;
 
 use std::ptr;
 
-pub use pool::{tick, BuildFault, Builder, Cause, Handle, Measure, Panicked, Pool, Rejected};
+pub use pool::{
+    tick, BuildFault, Builder, Cause, Handle, Journal, Measure, Panicked, Pool, Rejected, Scope, Status, TenantStatus,
+    Written,
+};
 pub use refusal::{OpenFault, Refusal};
 
 /// Which waiting request a worker takes.

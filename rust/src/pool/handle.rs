@@ -111,7 +111,7 @@ impl<T> Place<T> {
         }
     }
 
-    fn wait(&self) -> Outcome<T> {
+    pub(crate) fn wait(&self) -> Outcome<T> {
         let mut stage = self.lock();
         loop {
             if let Some(outcome) = Self::get(&mut stage) {

@@ -4,13 +4,16 @@ mod cause;
 mod clock;
 mod handle;
 mod jobs;
+mod journal;
 mod rolling;
+mod scope;
 mod shared;
 mod state;
+mod status;
 mod worker;
 
 use std::fmt;
-use std::io;
+use std::io::{self, Write};
 use std::mem;
 use std::sync::{Arc, Mutex, PoisonError};
 use std::thread::{self, JoinHandle};
@@ -19,10 +22,15 @@ pub use builder::Builder;
 pub use cause::{BuildFault, Cause, Rejected};
 pub use clock::Measure;
 pub use handle::{Handle, Panicked};
+pub use journal::{Journal, Written};
+pub use scope::Scope;
+pub use status::{Status, TenantStatus};
 pub use worker::tick;
 
 use handle::Place;
-use jobs::{Job, Work};
+pub(crate) use jobs::Job;
+use jobs::Work;
+use journal::Reader;
 use rolling::Settings;
 use shared::Shared;
 use state::Request;
@@ -175,19 +183,58 @@ impl Pool {
         });
     }
 
-    /// Closes, and waits until all accepted jobs are done. Dropping the pool does the same.
+    /// What waits and runs now, and what was counted since the opening.
+    ///
+    /// ```
+    /// let pool = twodfq::Pool::builder().tenant("acme", 1).open().unwrap();
+    /// pool.submit(0, 0, || ()).unwrap();
+    /// assert_eq!(pool.status().tenants[0].submitted, 1);
+    /// ```
+    pub fn status(&self) -> Status {
+        Status::of(&self.shared.lock(), &self.settings)
+    }
+
+    /// Has the journals of the pool's schedulers written while it runs, in the format of `docs/FORMATS.md`: one after
+    /// another, each from its line `journal 2` on, and each to be judged by `twodfq check`. It begins with the scheduler
+    /// that serves now, and ends with the pool. The writer has a thread of its own, and no worker ever waits for it. Where
+    /// it is so slow that five schedulers are over before it has come to them, the oldest of these is left out.
+    ///
+    /// Fails where a journal is being written already, or its thread does not start.
+    ///
+    /// ```no_run
+    /// use std::fs::File;
+    ///
+    /// let pool = twodfq::Pool::builder().tenant("acme", 1).open().unwrap();
+    /// let journal = pool.journal(File::create("acme.journal").unwrap()).unwrap();
+    /// pool.submit(0, 0, || ()).unwrap();
+    /// pool.join();
+    /// assert_eq!(journal.join().unwrap().missed, 0);
+    /// ```
+    pub fn journal(&self, to: impl Write + Send + 'static) -> io::Result<Journal> {
+        let there_is_one = || io::Error::new(io::ErrorKind::AlreadyExists, "a journal is being written already");
+        let reader = Reader::new(&self.shared).ok_or_else(there_is_one)?;
+        let place = Arc::new(Place::new());
+        let work = Box::new(Work { closure: move || reader.write(to), place: place.clone() });
+        let thread = thread::Builder::new().name("twodfq-journal".to_string());
+        self.keep(thread.spawn(move || _ = work.run())?);
+        Ok(Journal::new(place))
+    }
+
+    /// Closes, waits until all accepted jobs are done, and tells what was counted. Dropping the pool waits too.
     ///
     /// ```
     /// let pool = twodfq::Pool::builder().tenant("acme", 1).open().unwrap();
     /// let handle = pool.submit(0, 0, || 42).unwrap();
-    /// pool.join();
+    /// let status = pool.join();
+    /// assert_eq!((status.waiting, status.tenants[0].done), (0, 1));
     /// assert_eq!(handle.join().unwrap(), 42);
     /// ```
-    pub fn join(self) {}
-}
+    pub fn join(self) -> Status {
+        self.end();
+        self.status()
+    }
 
-impl Drop for Pool {
-    fn drop(&mut self) {
+    fn end(&self) {
         self.close();
         let threads = mem::take(&mut *self.threads.lock().unwrap_or_else(PoisonError::into_inner));
         for thread in threads {
@@ -196,6 +243,12 @@ impl Drop for Pool {
                 let _ = thread.join();
             }
         }
+    }
+}
+
+impl Drop for Pool {
+    fn drop(&mut self) {
+        self.end();
     }
 }
 

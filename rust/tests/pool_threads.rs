@@ -1,0 +1,163 @@
+//! The pool under many threads: each job once while all else changes, schedulers one after another, and sleep.
+use std::collections::BTreeSet;
+use std::sync::atomic::{AtomicBool, AtomicU64, AtomicU8, Ordering};
+use std::sync::{mpsc, Arc, Mutex};
+use std::thread;
+use std::time::Duration;
+
+use twodfq::{Builder, Cause, Pool};
+
+fn builder() -> Builder {
+    Pool::builder().tenant("acme", 1).tenant("globex", 2).tenant("hooli", 3).kind("get").kind("scan")
+}
+
+/// How often each of so many jobs was run.
+#[derive(Clone)]
+struct Runs(Arc<Vec<AtomicU8>>);
+
+impl Runs {
+    fn new(jobs: usize) -> Runs {
+        Runs(Arc::new((0..jobs).map(|_| AtomicU8::new(0)).collect()))
+    }
+
+    fn job(&self, number: usize) -> impl FnOnce() + Send + 'static {
+        let runs = self.0.clone();
+        move || {
+            runs[number].fetch_add(1, Ordering::SeqCst);
+        }
+    }
+
+    fn each_once(&self) -> bool {
+        self.0.iter().all(|runs| runs.load(Ordering::SeqCst) == 1)
+    }
+}
+
+/// Hands a job in until there is room for it.
+fn insist(pool: &Pool, tenant: u32, kind: u32, mut job: impl FnOnce() + Send + 'static) {
+    loop {
+        match pool.submit(tenant, kind, job) {
+            Ok(_) => return,
+            Err(rejected) => {
+                assert_eq!(rejected.cause, Cause::TooManyWait(500));
+                job = rejected.job;
+                thread::sleep(Duration::from_millis(1));
+            }
+        }
+    }
+}
+
+#[test]
+fn each_job_once_while_sixteen_submit_and_the_pool_changes() {
+    const SUBMITTERS: usize = 16;
+    const EACH: usize = 2000;
+    let pool = builder().workers(3).most_workers(8).room(500).entries(1000).open().unwrap();
+    let runs = Runs::new(SUBMITTERS * EACH);
+    let goes_on = AtomicBool::new(true);
+    thread::scope(|scope| {
+        let (pool, runs, goes_on) = (&pool, &runs, &goes_on);
+        scope.spawn(move || {
+            for count in (1..=8).cycle().take_while(|_| goes_on.load(Ordering::SeqCst)) {
+                pool.workers(count).unwrap();
+                pool.weight(count % 3, 1 + 100 * count).unwrap();
+                thread::sleep(Duration::from_micros(300));
+            }
+        });
+        let submitters = (0..SUBMITTERS).map(|submitter| {
+            scope.spawn(move || {
+                for i in 0..EACH {
+                    insist(pool, (i % 3) as u32, (i % 2) as u32, runs.job(submitter * EACH + i));
+                }
+            })
+        });
+        for submitter in submitters.collect::<Vec<_>>() {
+            submitter.join().unwrap();
+        }
+        goes_on.store(false, Ordering::SeqCst);
+    });
+    pool.join();
+    assert!(runs.each_once());
+}
+
+#[test]
+fn a_thousand_rollings_lose_nothing() {
+    const JOBS: usize = 20_000;
+    let pool = builder().workers(4).room(500).entries(60).open().unwrap();
+    let runs = Runs::new(JOBS);
+    for i in 0..JOBS {
+        insist(&pool, (i % 3) as u32, 0, runs.job(i));
+    }
+    // a job makes three entries, and so each scheduler has served 20 at most
+    assert!(pool.status().schedulers >= 1000);
+    pool.join();
+    assert!(runs.each_once());
+}
+
+#[test]
+fn a_long_job_of_an_old_scheduler_runs_on() {
+    let pool = builder().workers(2).entries(16).open().unwrap();
+    let (sender, receiver) = mpsc::channel::<()>();
+    let long = pool.submit(0, 0, move || receiver.recv().is_ok()).unwrap();
+    let runs = Runs::new(300);
+    for i in 0..300 {
+        pool.submit(1, 0, runs.job(i)).unwrap().join().unwrap();
+    }
+    assert!(runs.each_once() && !long.is_done());
+    sender.send(()).unwrap();
+    assert_eq!(long.join(), Ok(true));
+}
+
+#[test]
+fn dropped_while_it_runs_it_does_what_it_has() {
+    let runs = Runs::new(1000);
+    let pool = builder().workers(4).entries(100).open().unwrap();
+    for i in 0..1000 {
+        let job = runs.job(i);
+        let slow = move || {
+            thread::sleep(Duration::from_micros(50));
+            job();
+        };
+        pool.submit((i % 3) as u32, 1, slow).unwrap();
+    }
+    drop(pool);
+    assert!(runs.each_once());
+}
+
+#[test]
+fn a_job_may_drop_its_pool() {
+    let pool = builder().workers(2).open().unwrap();
+    let (sender, receiver) = mpsc::channel::<Pool>();
+    let handle = pool.submit(0, 0, move || drop(receiver.recv().unwrap())).unwrap();
+    sender.send(pool).unwrap();
+    handle.join().unwrap();
+}
+
+#[test]
+fn jobs_that_find_the_workers_asleep() {
+    let pool = builder().workers(4).open().unwrap();
+    for i in 0..200_u64 {
+        thread::sleep(Duration::from_micros(i % 50 * 20));
+        assert_eq!(pool.submit(0, 0, move || i).unwrap().join(), Ok(i));
+    }
+}
+
+#[test]
+fn every_worker_takes_part() {
+    let pool = builder().workers(4).entries(1000).open().unwrap();
+    let names = Arc::new(Mutex::new(BTreeSet::new()));
+    let sum = Arc::new(AtomicU64::new(0));
+    let handles = (0..400_u64).map(|i| {
+        let (names, sum) = (names.clone(), sum.clone());
+        let job = move || {
+            names.lock().unwrap().insert(thread::current().name().unwrap().to_string());
+            thread::sleep(Duration::from_micros(100));
+            sum.fetch_add(i, Ordering::SeqCst);
+        };
+        pool.submit((i % 3) as u32, 0, job).unwrap()
+    });
+    for handle in handles.collect::<Vec<_>>() {
+        handle.join().unwrap();
+    }
+    assert_eq!(sum.load(Ordering::SeqCst), 399 * 400 / 2);
+    let wanted = ["twodfq-0", "twodfq-1", "twodfq-2", "twodfq-3"].map(String::from);
+    assert_eq!(*names.lock().unwrap(), BTreeSet::from(wanted));
+}
