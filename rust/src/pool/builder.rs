@@ -64,12 +64,22 @@ impl Builder {
     }
 
     /// How many workers run jobs at first: 1 to 64, by default 4.
+    ///
+    /// ```
+    /// let pool = twodfq::Pool::builder().tenant("acme", 1).workers(8).open().unwrap();
+    /// assert_eq!(pool.status().workers, 8);
+    /// ```
     pub fn workers(mut self, count: u32) -> Builder {
         self.workers = count;
         self
     }
 
     /// How many workers there may ever be, each of which has a thread from the opening on; by default as many as at first.
+    ///
+    /// ```
+    /// let pool = twodfq::Pool::builder().tenant("acme", 1).workers(1).most_workers(8).open().unwrap();
+    /// pool.workers(8).unwrap();
+    /// ```
     pub fn most_workers(mut self, count: u32) -> Builder {
         self.settings.most_workers = count;
         self
@@ -77,6 +87,11 @@ impl Builder {
 
     /// One more tenant, of a weight from 1 to 1,000; 1 to 4,096 tenants. They are numbered from 0. A name has 1 to 64
     /// ASCII letters, digits, `_`, `-` and `.`.
+    ///
+    /// ```
+    /// let pool = twodfq::Pool::builder().tenant("acme", 1).tenant("globex", 7).open().unwrap();
+    /// assert_eq!(pool.tenant("globex"), Some(1));
+    /// ```
     pub fn tenant(mut self, name: &str, weight: u32) -> Builder {
         self.settings.tenants.push(name.to_string());
         self.weights.push(weight);
@@ -85,42 +100,81 @@ impl Builder {
 
     /// One more kind of jobs, numbered from 0; by default there is one, `-`. At most 64, and 65,536 pairs of a tenant and
     /// a kind. Costs are estimated for each tenant and kind.
+    ///
+    /// ```
+    /// let pool = twodfq::Pool::builder().tenant("acme", 1).kind("get").kind("scan").open().unwrap();
+    /// assert_eq!(pool.kind("scan"), Some(1));
+    /// ```
     pub fn kind(mut self, name: &str) -> Builder {
         self.settings.kinds.push(name.to_string());
         self
     }
 
     /// Which waiting job a worker takes; by default [`Policy::TwoDfq`].
+    ///
+    /// ```
+    /// let pool = twodfq::Pool::builder().tenant("acme", 1).policy(twodfq::Policy::Wf2q).open().unwrap();
+    /// pool.submit(0, 0, || ()).unwrap();
+    /// ```
     pub fn policy(mut self, policy: Policy) -> Builder {
         self.settings.policy = policy;
         self
     }
 
     /// What a job is thought to cost before it is done; by default [`Estimator::Pessimistic`].
+    ///
+    /// ```
+    /// let pool = twodfq::Pool::builder().tenant("acme", 1).estimator(twodfq::Estimator::Recent).open().unwrap();
+    /// pool.submit(0, 0, || ()).unwrap();
+    /// ```
     pub fn estimator(mut self, estimator: Estimator) -> Builder {
         self.settings.estimator = estimator;
         self
     }
 
     /// The estimate before any completion, and what `submit` declares: 1 to 1,000,000,000 microseconds, by default 1000.
+    ///
+    /// ```
+    /// let pool = twodfq::Pool::builder().tenant("acme", 1).initial(20_000).open().unwrap();
+    /// pool.submit(0, 0, || ()).unwrap();
+    /// ```
     pub fn initial(mut self, microseconds: u64) -> Builder {
         self.settings.initial = microseconds;
         self
     }
 
     /// By which clock costs are measured; by default [`Measure::Wall`].
+    ///
+    /// ```
+    /// let pool = twodfq::Pool::builder().tenant("acme", 1).measure(twodfq::Measure::Processor).open().unwrap();
+    /// pool.submit(0, 0, || ()).unwrap();
+    /// ```
     pub fn measure(mut self, measure: Measure) -> Builder {
         self.measure = measure;
         self
     }
 
     /// After what time a running job reports once more where it calls [`tick`](crate::tick); by default 10 milliseconds.
+    ///
+    /// ```
+    /// use std::time::Duration;
+    ///
+    /// let pool = twodfq::Pool::builder().tenant("acme", 1).refresh(Duration::ZERO).open().unwrap();
+    /// pool.submit(0, 0, twodfq::tick).unwrap();
+    /// assert_eq!(pool.join().tenants[0].reports, 1);
+    /// ```
     pub fn refresh(mut self, time: Duration) -> Builder {
         self.refresh = time;
         self
     }
 
     /// How many jobs may wait at once: 1 to 262,144, by default 10,000.
+    ///
+    /// ```
+    /// let pool = twodfq::Pool::builder().tenant("acme", 1).workers(1).room(1).open().unwrap();
+    /// let accepted = (0..1000).filter(|_| pool.submit(0, 0, || ()).is_ok()).count();
+    /// assert_eq!(pool.join().tenants[0].refused, 1000 - accepted as u64);
+    /// ```
     pub fn room(mut self, jobs: u32) -> Builder {
         self.settings.room = jobs;
         self
@@ -128,6 +182,14 @@ impl Builder {
 
     /// After how many entries the next scheduler takes over: 16 to 4,194,304, by default 1,000,000. A job makes three, and
     /// each report and change one. An entry takes 48 bytes while its scheduler is kept.
+    ///
+    /// ```
+    /// let pool = twodfq::Pool::builder().tenant("acme", 1).entries(16).open().unwrap();
+    /// for _ in 0..100 {
+    ///     pool.submit(0, 0, || ()).unwrap();
+    /// }
+    /// assert!(pool.join().schedulers > 10);
+    /// ```
     pub fn entries(mut self, entries: u32) -> Builder {
         self.settings.entries = entries;
         self
@@ -153,6 +215,11 @@ impl Builder {
     }
 
     /// Opens the pool and starts its threads.
+    ///
+    /// ```
+    /// let pool = twodfq::Pool::builder().tenant("acme", 1).open().unwrap();
+    /// assert!(twodfq::Pool::builder().open().is_err()); // there is no tenant
+    /// ```
     pub fn open(mut self) -> Result<Pool, BuildFault> {
         if self.settings.most_workers == 0 {
             self.settings.most_workers = self.workers;

@@ -1,5 +1,5 @@
 //! The journals of a pool's schedulers, written while it runs.
-use std::fmt::Write as _;
+use std::fmt::{self, Write as _};
 use std::io::{self, Write};
 use std::mem;
 use std::sync::{Arc, PoisonError};
@@ -45,6 +45,12 @@ pub struct Written {
     pub journals: u64,
     /// How many schedulers have no journal, since they were over before the earlier journals were written.
     pub missed: u64,
+}
+
+impl fmt::Debug for Journal {
+    fn fmt(&self, f: &mut fmt::Formatter<'_>) -> fmt::Result {
+        f.debug_struct("Journal").finish_non_exhaustive()
+    }
 }
 
 impl Journal {
@@ -210,7 +216,7 @@ fn add_head(settings: &Settings, weights: &[u32], text: &mut String) {
 }
 
 fn add_entry(Entry { who, moment, act }: &Entry, text: &mut String) {
-    let mut line = |word: &str, rest: std::fmt::Arguments| add(text, format_args!("{word} {who} {moment}{rest}\n"));
+    let mut line = |word: &str, rest: fmt::Arguments| add(text, format_args!("{word} {who} {moment}{rest}\n"));
     match act {
         Act::Submit { request, tenant, kind, declared, label } => {
             line("submit", format_args!(" {request} {tenant} {kind} {declared} {label}"))
@@ -224,7 +230,7 @@ fn add_entry(Entry { who, moment, act }: &Entry, text: &mut String) {
     }
 }
 
-fn add(text: &mut String, words: std::fmt::Arguments) {
+fn add(text: &mut String, words: fmt::Arguments) {
     text.write_fmt(words).expect("a text takes all that is written");
 }
 

@@ -1,4 +1,6 @@
 //! Jobs that borrow.
+use std::fmt;
+
 use super::jobs::{Job, Work};
 use super::state::Request;
 use super::{hand_in, Handle, Pool, Rejected};
@@ -29,6 +31,12 @@ use crate::ffi::{self, Lender};
 pub struct Scope<'scope, 'env: 'scope> {
     pool: &'env Pool,
     lender: &'scope Lender<'scope, 'env>,
+}
+
+impl fmt::Debug for Scope<'_, '_> {
+    fn fmt(&self, f: &mut fmt::Formatter<'_>) -> fmt::Result {
+        f.debug_struct("Scope").field("pool", self.pool).finish_non_exhaustive()
+    }
 }
 
 impl Pool {
