@@ -179,6 +179,30 @@ fn a_job_is_dropped_once_it_has_run() {
     assert_eq!(drops.load(Ordering::SeqCst), 2);
 }
 
+/// What panics whenever it is dropped.
+struct PanicsWhenDropped;
+
+impl Drop for PanicsWhenDropped {
+    fn drop(&mut self) {
+        panic::panic_any(PanicsWhenDropped);
+    }
+}
+
+#[test]
+fn a_payload_that_panics_does_no_harm() {
+    let pool = builder().workers(1).open().unwrap();
+    let fails = pool
+        .submit(0, 0, || {
+            if true {
+                panic::panic_any(PanicsWhenDropped)
+            }
+        })
+        .unwrap();
+    assert_eq!(fails.join().unwrap_err().message(), "no message");
+    pool.submit(0, 0, || ()).unwrap().then(|_| panic::panic_any(PanicsWhenDropped));
+    assert_eq!(pool.submit(1, 0, || 42).unwrap().join().unwrap(), 42);
+}
+
 #[test]
 fn every_wanted_worker_runs_at_once_and_no_other() {
     let pool = builder().workers(2).most_workers(6).open().unwrap();

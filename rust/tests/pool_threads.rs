@@ -1,11 +1,11 @@
 //! The pool under many threads: each job once while all else changes, schedulers one after another, and sleep.
 use std::collections::BTreeSet;
 use std::sync::atomic::{AtomicBool, AtomicU64, AtomicU8, Ordering};
-use std::sync::{mpsc, Arc, Mutex};
+use std::sync::{mpsc, Arc, Barrier, Mutex};
 use std::thread;
 use std::time::Duration;
 
-use twodfq::{Builder, Cause, Pool};
+use twodfq::{Builder, Cause, Handle, Pool};
 
 fn builder() -> Builder {
     Pool::builder().tenant("acme", 1).tenant("globex", 2).tenant("hooli", 3).kind("get").kind("scan")
@@ -104,6 +104,38 @@ fn a_long_job_of_an_old_scheduler_runs_on() {
     assert!(runs.each_once() && !long.is_done());
     sender.send(()).unwrap();
     assert_eq!(long.join(), Ok(true));
+}
+
+/// Jobs that go on only where so many run at once.
+fn hand_in_jobs_that_meet(pool: &Pool, meeting: usize, jobs: usize) -> Vec<Handle<()>> {
+    let barrier = Arc::new(Barrier::new(meeting));
+    let meet = |i: usize| {
+        let barrier = barrier.clone();
+        pool.submit((i % 3) as u32, 0, move || drop(barrier.wait())).unwrap()
+    };
+    (0..jobs).map(meet).collect()
+}
+
+#[test]
+fn no_worker_idles_while_old_schedulers_drain() {
+    let pool = builder().workers(4).entries(16).open().unwrap();
+    for handle in hand_in_jobs_that_meet(&pool, 4, 400) {
+        handle.join().unwrap();
+    }
+    assert!(pool.join().schedulers >= 100);
+}
+
+#[test]
+fn workers_that_join_take_from_old_schedulers_too() {
+    let pool = builder().workers(2).most_workers(6).entries(64).open().unwrap();
+    let handles = hand_in_jobs_that_meet(&pool, 6, 120);
+    let schedulers = pool.status().schedulers;
+    assert!(schedulers >= 6);
+    pool.workers(6).unwrap();
+    for handle in handles {
+        handle.join().unwrap();
+    }
+    assert_eq!(pool.join().schedulers, schedulers);
 }
 
 #[test]

@@ -3,7 +3,7 @@ use std::time::Instant;
 
 use crate::ffi;
 
-/// By which clock a job's cost is measured.
+/// By which clock a job's cost is measured: at least one microsecond, and at most 1,000 seconds.
 ///
 /// ```
 /// use twodfq::{Measure, Pool};

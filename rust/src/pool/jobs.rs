@@ -19,10 +19,17 @@ pub(crate) struct Work<T, F> {
 impl<T: Send, F: FnOnce() -> T + Send> Job for Work<T, F> {
     fn run(self: Box<Self>) -> bool {
         let Work { closure, place } = *self;
-        let outcome = panic::catch_unwind(AssertUnwindSafe(closure)).map_err(|payload| Panicked::of(&*payload));
-        let panicked = outcome.is_err();
-        place.put(outcome);
-        panicked
+        match panic::catch_unwind(AssertUnwindSafe(closure)) {
+            Ok(result) => {
+                place.put(Ok(result));
+                false
+            }
+            Err(payload) => {
+                // told before the payload is dropped, since that may panic too
+                place.put(Err(Panicked::of(&*payload)));
+                true
+            }
+        }
     }
 }
 

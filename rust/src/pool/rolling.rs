@@ -7,6 +7,9 @@ use crate::{Config, Estimator, OpenFault, Policy, Refusal, Scheduler, Submit, Ta
 /// The caller whom entries name that no worker made.
 const CALLER: u32 = 64;
 
+/// The entries of one job more, and of the close.
+const ONE_JOB_AND_CLOSE: u64 = 4;
+
 /// What all schedulers of a pool are opened with, but for the weights.
 #[derive(Clone, Debug)]
 pub(crate) struct Settings {
@@ -150,10 +153,14 @@ impl Rolling {
         self.histories.last_mut().expect("there is one until the pool is closed")
     }
 
-    /// Whether seven parts of eight are used and nothing waits: then the next scheduler begins without a rest of this one.
+    /// Whether the next job should begin the next scheduler: a sixteenth of the room is kept for changes while this one
+    /// drains. Where nothing waits an eighth is left unused, so that the next begins without a rest of this one.
     fn is_time_to_roll(&self) -> bool {
-        let newest = self.histories.last();
-        newest.is_some_and(|newest| newest.waiting == 0 && newest.entries * 8 >= u64::from(self.settings.entries) * 7)
+        let Some(newest) = self.histories.last() else { return false };
+        let room = u64::from(self.settings.entries);
+        let to_come = 2 * u64::from(newest.waiting) + u64::from(newest.running) + ONE_JOB_AND_CLOSE;
+        let is_at_rest = newest.waiting == 0 && newest.entries * 8 >= room * 7;
+        is_at_rest || newest.entries + to_come + room / 16 > room
     }
 
     /// Makes a call on the newest scheduler, and on the next where there is no room.

@@ -1,5 +1,6 @@
 //! The life of a worker, and what a job may tell while it runs.
 use std::cell::RefCell;
+use std::mem;
 use std::panic::{self, AssertUnwindSafe};
 use std::sync::Arc;
 use std::time::Instant;
@@ -36,8 +37,11 @@ fn perform(shared: &Arc<Shared>, worker: u32, run: Run) -> Ended {
     let begun = shared.clock.reading();
     let course = Course { shared: shared.clone(), worker, tenant, history, begun, reported: 0, last: Instant::now() };
     COURSE.set(Some(course));
-    // the job catches its own panic; what it leaves behind may panic too
-    let panicked = panic::catch_unwind(AssertUnwindSafe(|| job.run())).unwrap_or(true);
+    // the job catches its own panic; what it leaves behind may panic too, even what that panic says
+    let panicked = panic::catch_unwind(AssertUnwindSafe(|| job.run())).unwrap_or_else(|payload| {
+        mem::forget(payload);
+        true
+    });
     let reported = COURSE.take().map_or(0, |course| course.reported);
     let cost = shared.clock.used_since(begun).max(reported);
     Ended { tenant, history, cost, panicked }
