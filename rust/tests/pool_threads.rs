@@ -93,6 +93,22 @@ fn a_thousand_rollings_lose_nothing() {
 }
 
 #[test]
+fn changes_alone_roll_over_too() {
+    let pool = builder().workers(1).most_workers(2).entries(16).open().unwrap();
+    for i in 0..500_u32 {
+        pool.weight(i % 3, 1 + i).unwrap();
+        pool.workers(1 + i % 2).unwrap();
+    }
+    let status = pool.status();
+    assert!(status.schedulers >= 1000 / 16);
+    assert_eq!(status.tenants.iter().map(|tenant| tenant.weight).collect::<Vec<_>>(), [499, 500, 498]);
+    assert_eq!(status.workers, 2);
+    for handle in hand_in_jobs_that_meet(&pool, 2, 10) {
+        handle.join().unwrap();
+    }
+}
+
+#[test]
 fn a_long_job_of_an_old_scheduler_runs_on() {
     let pool = builder().workers(2).entries(16).open().unwrap();
     let (sender, receiver) = mpsc::channel::<()>();
