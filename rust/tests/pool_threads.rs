@@ -127,7 +127,7 @@ fn hand_in_jobs_that_meet(pool: &Pool, meeting: usize, jobs: usize) -> Vec<Handl
     let barrier = Arc::new(Barrier::new(meeting));
     let meet = |i: usize| {
         let barrier = barrier.clone();
-        pool.submit((i % 3) as u32, 0, move || drop(barrier.wait())).unwrap()
+        pool.submit((i % 3) as u32, 0, move || _ = barrier.wait()).unwrap()
     };
     (0..jobs).map(meet).collect()
 }

@@ -31,21 +31,21 @@ pub(crate) struct Clock {
 
 impl Clock {
     /// The moment of a call, in microseconds since the pool was opened.
-    pub(crate) fn moment(&self) -> u64 {
-        self.start.elapsed().as_micros() as u64
+    pub(crate) fn moment(&self, now: Instant) -> u64 {
+        now.duration_since(self.start).as_micros() as u64
     }
 
     /// A reading by which the calling thread's job is measured, in nanoseconds.
-    pub(crate) fn reading(&self) -> u64 {
+    pub(crate) fn reading(&self, now: Instant) -> u64 {
         match self.measure {
-            Measure::Wall => self.start.elapsed().as_nanos() as u64,
+            Measure::Wall => now.duration_since(self.start).as_nanos() as u64,
             Measure::Processor => ffi::thread_time(),
         }
     }
 
     /// What was used since a reading, in microseconds: at least one, since a tenant whose work costs nothing would keep all
     /// others waiting.
-    pub(crate) fn used_since(&self, reading: u64) -> u64 {
-        self.reading().saturating_sub(reading).div_ceil(1000).clamp(1, GREATEST_COST)
+    pub(crate) fn used_since(&self, reading: u64, now: Instant) -> u64 {
+        self.reading(now).saturating_sub(reading).div_ceil(1000).clamp(1, GREATEST_COST)
     }
 }

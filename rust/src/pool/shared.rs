@@ -1,6 +1,6 @@
 //! What the pool, its workers and its journal share, and how they wake each other.
 use std::sync::{Condvar, Mutex, MutexGuard, PoisonError};
-use std::time::Duration;
+use std::time::{Duration, Instant};
 
 use super::cause::Cause;
 use super::clock::Clock;
@@ -25,6 +25,10 @@ impl Shared {
     pub(crate) fn new(state: State, clock: Clock, refresh: Duration) -> Shared {
         let [news, change, written] = [(); 3].map(|()| Condvar::new());
         Shared { state: Mutex::new(state), clock, refresh, news, change, written }
+    }
+
+    fn moment(&self) -> u64 {
+        self.clock.moment(Instant::now())
     }
 
     /// Nothing of a caller's own runs under this lock, but for the allocator.
@@ -57,7 +61,7 @@ impl Shared {
     }
 
     pub(crate) fn admit(&self, request: Request, job: &mut dyn FnMut() -> Box<dyn Job>) -> Result<(), Cause> {
-        let moment = self.clock.moment();
+        let moment = self.moment();
         let mut state = self.lock();
         let reply = state.admit(moment, request, job);
         let wakes_worker = reply.is_ok() && state.wakes_worker();
@@ -71,10 +75,10 @@ impl Shared {
     /// Notes the job that the worker has ended, and gives it the next; none where the worker is to end. It sleeps while there
     /// is nothing for it.
     pub(crate) fn next(&self, worker: u32, ended: Option<Ended>) -> Option<Run> {
-        let mut moment = self.clock.moment();
+        let mut moment = ended.as_ref().map_or_else(|| self.moment(), |ended| ended.moment);
         let mut state = self.lock();
         if let Some(ended) = ended {
-            state.done(moment, worker, &ended);
+            state.done(worker, &ended);
         }
         loop {
             let run = if worker < state.rolling.workers { state.take(moment, worker) } else { None };
@@ -90,7 +94,7 @@ impl Shared {
                 self.carry_out(effects);
                 state = self.lock();
             }
-            moment = self.clock.moment();
+            moment = self.moment();
         }
     }
 
@@ -112,8 +116,7 @@ impl Shared {
         news.wait(state).unwrap_or_else(PoisonError::into_inner)
     }
 
-    pub(crate) fn report(&self, worker: u32, history: u64, tenant: u32, used: u64) {
-        let moment = self.clock.moment();
+    pub(crate) fn report(&self, moment: u64, worker: u32, history: u64, tenant: u32, used: u64) {
         let mut state = self.lock();
         state.report(moment, worker, history, tenant, used);
         let effects = state.effects();
@@ -123,7 +126,7 @@ impl Shared {
 
     /// Makes a change, which all workers learn.
     pub(crate) fn change(&self, change: impl FnOnce(&mut State, u64) -> Result<(), Cause>) -> Result<(), Cause> {
-        let moment = self.clock.moment();
+        let moment = self.moment();
         let mut state = self.lock();
         let reply = if state.is_closed { Err(Cause::Closed) } else { change(&mut state, moment) };
         state.sleeping = 0;

@@ -44,6 +44,7 @@ pub(crate) struct Run {
 pub(crate) struct Ended {
     pub(crate) tenant: u32,
     pub(crate) history: u64,
+    pub(crate) moment: u64,
     pub(crate) cost: u64,
     pub(crate) panicked: bool,
 }
@@ -152,8 +153,8 @@ impl State {
         }
     }
 
-    pub(crate) fn done(&mut self, moment: u64, worker: u32, ended: &Ended) {
-        self.rolling.done(moment, worker, ended.history, ended.cost);
+    pub(crate) fn done(&mut self, worker: u32, ended: &Ended) {
+        self.rolling.done(ended.moment, worker, ended.history, ended.cost);
         self.running -= 1;
         let count = &mut self.counts[ended.tenant as usize];
         count.running -= 1;

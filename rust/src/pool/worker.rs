@@ -8,10 +8,14 @@ use std::time::Instant;
 use super::shared::Shared;
 use super::state::{Ended, Run};
 
-/// The job that the thread runs.
+/// A worker, and the job that its thread runs.
 struct Course {
     shared: Arc<Shared>,
     worker: u32,
+    job: Option<Running>,
+}
+
+struct Running {
     tenant: u32,
     history: u64,
     begun: u64,
@@ -23,28 +27,34 @@ thread_local! {
     static COURSE: RefCell<Option<Course>> = const { RefCell::new(None) };
 }
 
+/// Notes which job the thread runs, and gives the one before.
+fn exchange(job: Option<Running>) -> Option<Running> {
+    COURSE.with_borrow_mut(|course| mem::replace(&mut course.as_mut()?.job, job))
+}
+
 /// Runs jobs until the pool has no more for this worker.
 pub(crate) fn work(shared: Arc<Shared>, worker: u32) {
+    COURSE.set(Some(Course { shared: shared.clone(), worker, job: None }));
     let mut ended = None;
     while let Some(run) = shared.next(worker, ended.take()) {
-        ended = Some(perform(&shared, worker, run));
+        ended = Some(perform(&shared, run));
     }
 }
 
 /// Runs a job, and measures it.
-fn perform(shared: &Arc<Shared>, worker: u32, run: Run) -> Ended {
-    let Run { job, tenant, history } = run;
-    let begun = shared.clock.reading();
-    let course = Course { shared: shared.clone(), worker, tenant, history, begun, reported: 0, last: Instant::now() };
-    COURSE.set(Some(course));
+fn perform(shared: &Shared, Run { job, tenant, history }: Run) -> Ended {
+    let last = Instant::now();
+    let begun = shared.clock.reading(last);
+    exchange(Some(Running { tenant, history, begun, reported: 0, last }));
     // the job catches its own panic; what it leaves behind may panic too, even what that panic says
     let panicked = panic::catch_unwind(AssertUnwindSafe(|| job.run())).unwrap_or_else(|payload| {
         mem::forget(payload);
         true
     });
-    let reported = COURSE.take().map_or(0, |course| course.reported);
-    let cost = shared.clock.used_since(begun).max(reported);
-    Ended { tenant, history, cost, panicked }
+    let reported = exchange(None).map_or(0, |running| running.reported);
+    let now = Instant::now();
+    let cost = shared.clock.used_since(begun, now).max(reported);
+    Ended { tenant, history, moment: shared.clock.moment(now), cost, panicked }
 }
 
 /// Tells the pool what the job that calls it has used so far, so that a long job is charged while it runs and not only at
@@ -60,13 +70,14 @@ fn perform(shared: &Arc<Shared>, worker: u32, run: Run) -> Ended {
 /// ```
 pub fn tick() {
     COURSE.with_borrow_mut(|course| {
-        let Some(course) = course else { return };
+        let Some(Course { shared, worker, job: Some(job) }) = course else { return };
         let now = Instant::now();
-        if now.duration_since(course.last) < course.shared.refresh {
+        if now.duration_since(job.last) < shared.refresh {
             return;
         }
-        course.last = now;
-        course.reported = course.shared.clock.used_since(course.begun);
-        course.shared.report(course.worker, course.history, course.tenant, course.reported);
+        job.last = now;
+        job.reported = shared.clock.used_since(job.begun, now);
+        let moment = shared.clock.moment(now);
+        shared.report(moment, *worker, job.history, job.tenant, job.reported);
     });
 }
