@@ -44,10 +44,20 @@ use state::Request;
 /// ```
 /// use twodfq::Pool;
 ///
-/// let pool = Pool::builder().workers(4).tenant("acme", 1).tenant("globex", 2).open().unwrap();
-/// let globex = pool.tenant("globex").unwrap();
-/// let handle = pool.submit(globex, 0, || 6 * 7).unwrap();
-/// assert_eq!(handle.join().unwrap(), 42);
+/// # fn search(part: &&str) -> u64 { part.len() as u64 }
+/// # fn main() -> Result<(), Box<dyn std::error::Error>> {
+/// # let parts = vec!["one", "three"];
+/// let pool = Pool::builder().workers(8).tenant("acme", 1).tenant("globex", 2).kind("get").kind("scan").open()?;
+/// let (globex, scan) = (pool.tenant("globex").unwrap(), pool.kind("scan").unwrap());
+/// let handle = pool.submit(globex, scan, move || {
+///     parts.iter().inspect(|_| twodfq::tick()).map(search).sum::<u64>() // a long job tells what it has used so far
+/// })?;
+/// let found = handle.join()?;
+/// println!("{}", pool.status().prometheus());
+/// pool.join();
+/// # assert_eq!(found, 8);
+/// # Ok(())
+/// # }
 /// ```
 pub struct Pool {
     shared: Arc<Shared>,
