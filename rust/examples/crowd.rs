@@ -1,16 +1,22 @@
 //! A crowd at the server of `server.rs`: one tenant floods it with costly requests, and three send a cheap one now and then.
 //! For each way to serve them it prints how long the tenants' requests took, in milliseconds.
 //!
-//!     cargo build --release --examples && cargo run --release --example crowd -- 10      # seconds for each
+//!     cargo build --release --examples
+//!     cargo run --release --example crowd -- 10 crowd.svg      # seconds for each, and a file for a picture
 //!
 //! The flood keeps 60 requests under way. The others send one every 10 milliseconds, whether the last was answered or not,
 //! and a time counts from the moment at which its request was due.
+mod bars;
+
 use std::env;
+use std::fs;
 use std::io::{self, BufRead, BufReader, Write};
 use std::net::{Shutdown, TcpStream};
 use std::process::{Child, Command, Stdio};
 use std::thread;
 use std::time::{Duration, Instant};
+
+use bars::Bar;
 
 const MODES: [&str; 4] = ["fifo", "wfq", "wf2q", "2dfq"];
 const UNDER_WAY: usize = 60;
@@ -98,14 +104,16 @@ fn visit(stream: TcpStream, key: &str, begun: Instant, until: Instant) -> io::Re
     reader.join().expect("the reader does not panic")
 }
 
-fn print(mode: &str, tenant: &str, mut times: Vec<Duration>) {
+/// Prints a line of the table.
+fn row(mode: &str, tenant: &str, mut times: Vec<Duration>) -> Bar {
     times.sort_unstable();
     let rank = |part: usize| times[(times.len() * part).div_ceil(100).max(1) - 1].as_secs_f64() * 1000.0;
     let [median, ninety, most, greatest] = [50, 90, 99, 100].map(rank);
     println!("{mode:5} {tenant:7} {:8} {median:8.1} {ninety:8.1} {most:8.1} {greatest:8.1}", times.len());
+    Bar { group: mode.to_string(), name: tenant.to_string(), median, most }
 }
 
-fn try_mode(mode: &str, time: Duration) -> io::Result<()> {
+fn try_mode(mode: &str, time: Duration) -> io::Result<Vec<Bar>> {
     let server = Server::start(mode)?;
     let begun = Instant::now();
     let until = begun + time;
@@ -116,15 +124,19 @@ fn try_mode(mode: &str, time: Duration) -> io::Result<()> {
         let stream = server.connect()?;
         visitors.push(thread::spawn(move || visit(stream, key, begun, until)));
     }
-    print(mode, "flood", flood.join().expect("the flood does not panic")?);
+    let mut rows = vec![row(mode, "flood", flood.join().expect("the flood does not panic")?)];
     for (visitor, name) in visitors.into_iter().zip(["acme", "globex", "hooli"]) {
-        print(mode, name, visitor.join().expect("a visitor does not panic")?);
+        rows.push(row(mode, name, visitor.join().expect("a visitor does not panic")?));
     }
-    Ok(())
+    Ok(rows)
 }
 
 fn main() -> io::Result<()> {
     let seconds = env::args().nth(1).and_then(|word| word.parse().ok()).unwrap_or(10);
     println!("{:5} {:7} {:>8} {:>8} {:>8} {:>8} {:>8}", "mode", "tenant", "requests", "50", "90", "99", "100");
-    MODES.iter().try_for_each(|mode| try_mode(mode, Duration::from_secs(seconds)))
+    let mut rows = Vec::new();
+    for mode in MODES {
+        rows.append(&mut try_mode(mode, Duration::from_secs(seconds))?);
+    }
+    env::args().nth(2).map_or(Ok(()), |file| fs::write(file, bars::picture(&rows)))
 }
