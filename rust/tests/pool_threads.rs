@@ -1,7 +1,6 @@
 //! The pool under many threads: each job once while all else changes, schedulers one after another, and sleep.
-use std::collections::BTreeSet;
-use std::sync::atomic::{AtomicBool, AtomicU64, AtomicU8, Ordering};
-use std::sync::{mpsc, Arc, Barrier, Mutex};
+use std::sync::atomic::{AtomicBool, AtomicU8, Ordering};
+use std::sync::{mpsc, Arc, Barrier};
 use std::thread;
 use std::time::Duration;
 
@@ -186,26 +185,4 @@ fn jobs_that_find_the_workers_asleep() {
         thread::sleep(Duration::from_micros(i % 50 * 20));
         assert_eq!(pool.submit(0, 0, move || i).unwrap().join(), Ok(i));
     }
-}
-
-#[test]
-fn every_worker_takes_part() {
-    let pool = builder().workers(4).entries(1000).open().unwrap();
-    let names = Arc::new(Mutex::new(BTreeSet::new()));
-    let sum = Arc::new(AtomicU64::new(0));
-    let handles = (0..400_u64).map(|i| {
-        let (names, sum) = (names.clone(), sum.clone());
-        let job = move || {
-            names.lock().unwrap().insert(thread::current().name().unwrap().to_string());
-            thread::sleep(Duration::from_micros(100));
-            sum.fetch_add(i, Ordering::SeqCst);
-        };
-        pool.submit((i % 3) as u32, 0, job).unwrap()
-    });
-    for handle in handles.collect::<Vec<_>>() {
-        handle.join().unwrap();
-    }
-    assert_eq!(sum.load(Ordering::SeqCst), 399 * 400 / 2);
-    let wanted = ["twodfq-0", "twodfq-1", "twodfq-2", "twodfq-3"].map(String::from);
-    assert_eq!(*names.lock().unwrap(), BTreeSet::from(wanted));
 }
