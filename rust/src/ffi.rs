@@ -1,6 +1,12 @@
-//! The library for C, as its header has it, and its numbers as Rust's types.
-use std::ffi::c_void;
+//! What Rust can't judge: the library for C, as its header has it, and its numbers as Rust's types; the processor time of a
+//! thread; and jobs that borrow.
+use std::ffi::{c_int, c_long, c_void};
+use std::marker::PhantomData;
+use std::mem;
+use std::panic::{self, AssertUnwindSafe};
+use std::sync::{Arc, Condvar, Mutex, PoisonError};
 
+use crate::pool::Job;
 use crate::{Act, Entry, Refusal};
 
 #[repr(C)]
@@ -67,6 +73,25 @@ extern "C" {
     pub(crate) fn twodfq_workers(handle: *mut Handle, who: u32, moment: u64, count: u32) -> Reply;
     pub(crate) fn twodfq_entry(handle: *mut Handle, index: u64) -> Line;
     pub(crate) fn twodfq_free(handle: *mut Handle);
+    fn clock_gettime(clock: c_int, time: *mut Time) -> c_int;
+}
+
+/// `struct timespec` of 64-bit Linux.
+#[repr(C)]
+struct Time {
+    seconds: i64,
+    nanoseconds: c_long,
+}
+
+/// `CLOCK_THREAD_CPUTIME_ID` of Linux.
+const THREAD_TIME: c_int = 3;
+
+/// The processor time that the calling thread has used, in nanoseconds.
+pub(crate) fn thread_time() -> u64 {
+    let mut time = Time { seconds: 0, nanoseconds: 0 };
+    // It writes the struct and nothing else, and a thread may always ask for its own clock.
+    unsafe { clock_gettime(THREAD_TIME, &mut time) };
+    time.seconds as u64 * 1_000_000_000 + time.nanoseconds as u64
 }
 
 impl Reply {
@@ -92,4 +117,73 @@ impl Line {
         };
         Some(Entry { who: self.who, moment: self.moment, act })
     }
+}
+
+/// How many jobs are lent.
+#[derive(Default)]
+struct Lent {
+    count: Mutex<usize>,
+    change: Condvar,
+}
+
+impl Lent {
+    fn change(&self, change: impl FnOnce(&mut usize)) {
+        change(&mut self.count.lock().unwrap_or_else(PoisonError::into_inner));
+        self.change.notify_all();
+    }
+
+    fn wait_until_none(&self) {
+        let count = self.count.lock().unwrap_or_else(PoisonError::into_inner);
+        drop(self.change.wait_while(count, |count| *count > 0).unwrap_or_else(PoisonError::into_inner));
+    }
+}
+
+/// Makes jobs that borrow for `'scope` into jobs of which nothing says so.
+pub(crate) struct Lender<'scope, 'env: 'scope> {
+    lent: Arc<Lent>,
+    /// As in `std::thread::Scope`: neither time may be taken for another.
+    scope: PhantomData<&'scope mut &'scope ()>,
+    env: PhantomData<&'env mut &'env ()>,
+}
+
+impl<'scope> Lender<'scope, '_> {
+    pub(crate) fn lend(&'scope self, job: Box<dyn Job + 'scope>) -> Box<dyn Job> {
+        // `lending` makes every lender, and does not end, by return or by panic, before each job that was lent has been
+        // dropped, and with it all that it borrows: it is gone before its guard counts it down. `'scope` outlives `lending`.
+        let job = unsafe { mem::transmute::<Box<dyn Job + 'scope>, Box<dyn Job + 'static>>(job) };
+        self.lent.change(|count| *count += 1);
+        Box::new(LentJob { job: Some(job), guard: Guard(self.lent.clone()) })
+    }
+}
+
+/// Fields are dropped in this order.
+struct LentJob {
+    job: Option<Box<dyn Job>>,
+    guard: Guard,
+}
+
+struct Guard(Arc<Lent>);
+
+impl Drop for Guard {
+    fn drop(&mut self) {
+        self.0.change(|count| *count -= 1);
+    }
+}
+
+impl Job for LentJob {
+    fn run(self: Box<Self>) -> bool {
+        let LentJob { job, guard } = *self;
+        // by return or by panic, the job is gone when this call ends, and then the guard is dropped
+        let panicked = job.is_none_or(|job| job.run());
+        drop(guard);
+        panicked
+    }
+}
+
+/// Calls the body with a lender, and waits until all that it lent is back.
+pub(crate) fn lending<'env, R>(body: impl for<'scope> FnOnce(&'scope Lender<'scope, 'env>) -> R) -> R {
+    let lender = Lender { lent: Arc::default(), scope: PhantomData, env: PhantomData };
+    let reply = panic::catch_unwind(AssertUnwindSafe(|| body(&lender)));
+    lender.lent.wait_until_none();
+    reply.unwrap_or_else(|payload| panic::resume_unwind(payload))
 }

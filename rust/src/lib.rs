@@ -1,6 +1,8 @@
 //! A request scheduler that shares workers fairly among tenants (Two-Dimensional Fair Queuing, Mace and others, 2016), for
 //! Rust: safe calls over the library for C (`c/twodfq.h`), whose contracts are proved. What is here is not proved.
 //!
+//! A service that wants a thread pool takes a [`Pool`], and makes none of the scheduler's calls itself.
+//!
 //! A [`Scheduler`] goes from thread to thread and is not shared: threads keep it in a `Mutex`, and those with nothing to do
 //! wait at a `Condvar`.
 //!
@@ -29,13 +31,25 @@
 //! ```
 
 mod ffi;
+mod pool;
 mod refusal;
 
 use std::ptr;
 
+pub use pool::{
+    tick, BuildFault, Builder, Cause, Handle, Journal, Measure, Panicked, Pool, Rejected, Scope, Status, TenantStatus,
+    Written,
+};
 pub use refusal::{OpenFault, Refusal};
 
 /// Which waiting request a worker takes.
+///
+/// ```
+/// use twodfq::{Config, Policy};
+///
+/// let config = Config { policy: Policy::Wf2q, ..Config::default() };
+/// assert!(twodfq::Scheduler::open(&config).is_ok());
+/// ```
 #[derive(Clone, Copy, Debug, PartialEq, Eq)]
 pub enum Policy {
     /// The least finish tag.
@@ -49,6 +63,13 @@ pub enum Policy {
 }
 
 /// What a request is thought to cost before it is done.
+///
+/// ```
+/// use twodfq::{Config, Estimator};
+///
+/// let config = Config { estimate: Estimator::Recent, ..Config::default() };
+/// assert!(twodfq::Scheduler::open(&config).is_ok());
+/// ```
 #[derive(Clone, Copy, Debug, PartialEq, Eq)]
 pub enum Estimator {
     /// What its submit names.
@@ -60,6 +81,13 @@ pub enum Estimator {
 }
 
 /// What a scheduler is opened with.
+///
+/// ```
+/// use twodfq::Config;
+///
+/// let config = Config { workers: 8, weights: &[1, 1, 5], ..Config::default() };
+/// assert!(twodfq::Scheduler::open(&config).is_ok());
+/// ```
 #[derive(Clone, Copy, Debug)]
 pub struct Config<'a> {
     /// 1 to 64.
@@ -78,7 +106,30 @@ pub struct Config<'a> {
     pub initial: u64,
 }
 
+/// Four workers, one tenant and kind, 1,000,000 entries, 10,000 requests, `TwoDfq`, `Pessimistic`, 1,000 microseconds.
+impl Default for Config<'_> {
+    fn default() -> Self {
+        Config {
+            workers: 4,
+            weights: &[1],
+            kinds: 1,
+            entries: 1_000_000,
+            requests: 10_000,
+            policy: Policy::TwoDfq,
+            estimate: Estimator::Pessimistic,
+            initial: 1000,
+        }
+    }
+}
+
 /// A request that comes.
+///
+/// ```
+/// use twodfq::{Config, Scheduler, Submit};
+///
+/// let mut scheduler = Scheduler::open(&Config { weights: &[1, 2], ..Config::default() }).unwrap();
+/// assert_eq!(scheduler.submit(0, 0, Submit { tenant: 1, kind: 0, declared: 5, label: 42 }), Ok(0));
+/// ```
 #[derive(Clone, Copy, Debug, PartialEq, Eq)]
 pub struct Submit {
     pub tenant: u32,
@@ -90,6 +141,13 @@ pub struct Submit {
 }
 
 /// What a worker that asks for work is given.
+///
+/// ```
+/// use twodfq::{Config, Scheduler, Taken};
+///
+/// let mut scheduler = Scheduler::open(&Config { weights: &[1, 2], ..Config::default() }).unwrap();
+/// assert_eq!(scheduler.take(1, 0, 0), Ok(Taken::Idle));
+/// ```
 #[derive(Clone, Copy, Debug, PartialEq, Eq)]
 pub enum Taken {
     /// The worker runs this request from now on.
@@ -103,6 +161,14 @@ pub enum Taken {
 }
 
 /// What an accepted call did.
+///
+/// ```
+/// use twodfq::{Config, Scheduler, Act};
+///
+/// let mut scheduler = Scheduler::open(&Config { weights: &[1, 2], ..Config::default() }).unwrap();
+/// scheduler.weight(0, 0, 1, 7).unwrap();
+/// assert_eq!(scheduler.entry(0).unwrap().act, Act::Weight { tenant: 1, weight: 7 });
+/// ```
 #[derive(Clone, Copy, Debug, PartialEq, Eq)]
 pub enum Act {
     Submit { request: u32, tenant: u32, kind: u32, declared: u64, label: u64 },
@@ -115,6 +181,14 @@ pub enum Act {
 }
 
 /// An entry of the history: who made the call, when it took effect, and what it did.
+///
+/// ```
+/// use twodfq::{Config, Scheduler, Act, Entry};
+///
+/// let mut scheduler = Scheduler::open(&Config { weights: &[1, 2], ..Config::default() }).unwrap();
+/// scheduler.close(9, 5).unwrap();
+/// assert_eq!(scheduler.entry(0), Some(Entry { who: 9, moment: 5, act: Act::Close }));
+/// ```
 #[derive(Clone, Copy, Debug, PartialEq, Eq)]
 pub struct Entry {
     pub who: u32,
@@ -123,6 +197,13 @@ pub struct Entry {
 }
 
 /// A scheduler. No call but [`Scheduler::open`] takes memory.
+///
+/// ```
+/// use twodfq::{Config, Scheduler};
+///
+/// let mut scheduler = Scheduler::open(&Config { weights: &[1, 2], ..Config::default() }).unwrap();
+/// scheduler.close(0, 0).unwrap();
+/// ```
 #[derive(Debug)]
 pub struct Scheduler {
     handle: ffi::Handle,
@@ -133,6 +214,14 @@ unsafe impl Send for Scheduler {}
 
 impl Scheduler {
     /// Takes all the memory that the scheduler will use.
+    ///
+    /// ```
+    /// use twodfq::{Config, Scheduler, OpenFault};
+    ///
+    /// assert!(Scheduler::open(&Config::default()).is_ok());
+    /// let fault = Scheduler::open(&Config { workers: 65, ..Config::default() }).unwrap_err();
+    /// assert_eq!(fault, OpenFault::Workers);
+    /// ```
     pub fn open(config: &Config) -> Result<Scheduler, OpenFault> {
         let opening = ffi::Opening {
             workers: config.workers,
@@ -150,6 +239,15 @@ impl Scheduler {
     }
 
     /// A request comes; it gets the next number.
+    ///
+    /// ```
+    /// use twodfq::{Config, Scheduler, Refusal, Submit};
+    ///
+    /// let mut scheduler = Scheduler::open(&Config { weights: &[1, 2], ..Config::default() }).unwrap();
+    /// let request = Submit { tenant: 1, kind: 0, declared: 5, label: 42 };
+    /// assert_eq!(scheduler.submit(0, 0, request), Ok(0));
+    /// assert_eq!(scheduler.submit(0, 0, Submit { tenant: 2, ..request }), Err(Refusal::Tenant(2)));
+    /// ```
     pub fn submit(&mut self, who: u32, moment: u64, request: Submit) -> Result<u32, Refusal> {
         let Submit { tenant, kind, declared, label } = request;
         let reply = unsafe { ffi::twodfq_submit(&mut self.handle, who, moment, tenant, kind, declared, label) };
@@ -157,6 +255,14 @@ impl Scheduler {
     }
 
     /// A worker asks for work.
+    ///
+    /// ```
+    /// use twodfq::{Config, Scheduler, Submit, Taken};
+    ///
+    /// let mut scheduler = Scheduler::open(&Config { weights: &[1, 2], ..Config::default() }).unwrap();
+    /// scheduler.submit(0, 0, Submit { tenant: 1, kind: 0, declared: 5, label: 42 }).unwrap();
+    /// assert_eq!(scheduler.take(1, 3, 0), Ok(Taken::Run { request: 0, estimate: 1000, label: 42 }));
+    /// ```
     pub fn take(&mut self, who: u32, moment: u64, worker: u32) -> Result<Taken, Refusal> {
         let reply = unsafe { ffi::twodfq_take(&mut self.handle, who, moment, worker) }.accepted()?;
         Ok(match reply.kind {
@@ -168,36 +274,95 @@ impl Scheduler {
     }
 
     /// What the worker's request has used so far; it runs on.
+    ///
+    /// ```
+    /// use twodfq::{Config, Scheduler, Refusal};
+    ///
+    /// let mut scheduler = Scheduler::open(&Config { weights: &[1, 2], ..Config::default() }).unwrap();
+    /// assert_eq!(scheduler.report(1, 5, 0, 2), Err(Refusal::NotRunning));
+    /// ```
     pub fn report(&mut self, who: u32, moment: u64, worker: u32, used: u64) -> Result<(), Refusal> {
         unsafe { ffi::twodfq_report(&mut self.handle, who, moment, worker, used) }.accepted().map(drop)
     }
 
     /// The worker's request has ended, and this is its measured cost.
+    ///
+    /// ```
+    /// use twodfq::{Config, Scheduler, Submit};
+    ///
+    /// let mut scheduler = Scheduler::open(&Config { weights: &[1, 2], ..Config::default() }).unwrap();
+    /// scheduler.submit(0, 0, Submit { tenant: 1, kind: 0, declared: 5, label: 42 }).unwrap();
+    /// scheduler.take(1, 3, 0).unwrap();
+    /// assert_eq!(scheduler.done(1, 8, 0, 5), Ok(()));
+    /// ```
     pub fn done(&mut self, who: u32, moment: u64, worker: u32, cost: u64) -> Result<(), Refusal> {
         unsafe { ffi::twodfq_done(&mut self.handle, who, moment, worker, cost) }.accepted().map(drop)
     }
 
     /// Nothing more is submitted; workers that wait have to be woken to learn it.
+    ///
+    /// ```
+    /// use twodfq::{Config, Scheduler, Refusal, Taken};
+    ///
+    /// let mut scheduler = Scheduler::open(&Config { weights: &[1, 2], ..Config::default() }).unwrap();
+    /// scheduler.close(0, 0).unwrap();
+    /// assert_eq!(scheduler.close(0, 0), Err(Refusal::Closed));
+    /// assert_eq!(scheduler.take(1, 0, 0), Ok(Taken::Drained));
+    /// ```
     pub fn close(&mut self, who: u32, moment: u64) -> Result<(), Refusal> {
         unsafe { ffi::twodfq_close(&mut self.handle, who, moment) }.accepted().map(drop)
     }
 
     /// The tenant has this weight from now on, 1 to 1,000.
+    ///
+    /// ```
+    /// use twodfq::{Config, Scheduler, Refusal};
+    ///
+    /// let mut scheduler = Scheduler::open(&Config { weights: &[1, 2], ..Config::default() }).unwrap();
+    /// assert_eq!(scheduler.weight(0, 0, 1, 7), Ok(()));
+    /// assert_eq!(scheduler.weight(0, 0, 1, 0), Err(Refusal::Weight(0)));
+    /// ```
     pub fn weight(&mut self, who: u32, moment: u64, tenant: u32, weight: u32) -> Result<(), Refusal> {
         unsafe { ffi::twodfq_weight(&mut self.handle, who, moment, tenant, weight) }.accepted().map(drop)
     }
 
     /// There are so many workers from now on, those with lower numbers; 1 to as many as at the opening.
+    ///
+    /// ```
+    /// use twodfq::{Config, Scheduler, Taken};
+    ///
+    /// let mut scheduler = Scheduler::open(&Config { weights: &[1, 2], ..Config::default() }).unwrap();
+    /// scheduler.workers(0, 0, 1).unwrap();
+    /// assert_eq!(scheduler.take(1, 0, 3), Ok(Taken::Retired { workers: 1 }));
+    /// ```
     pub fn workers(&mut self, who: u32, moment: u64, count: u32) -> Result<(), Refusal> {
         unsafe { ffi::twodfq_workers(&mut self.handle, who, moment, count) }.accepted().map(drop)
     }
 
     /// The entry of the history with this index, in order of time, the first with 0.
+    ///
+    /// ```
+    /// use twodfq::{Config, Scheduler};
+    ///
+    /// let mut scheduler = Scheduler::open(&Config { weights: &[1, 2], ..Config::default() }).unwrap();
+    /// scheduler.close(0, 7).unwrap();
+    /// assert_eq!(scheduler.entry(0).map(|entry| entry.moment), Some(7));
+    /// assert_eq!(scheduler.entry(1), None);
+    /// ```
     pub fn entry(&mut self, index: u64) -> Option<Entry> {
         unsafe { ffi::twodfq_entry(&mut self.handle, index) }.entry()
     }
 
     /// The entries of the history, in order of time.
+    ///
+    /// ```
+    /// use twodfq::{Config, Scheduler};
+    ///
+    /// let mut scheduler = Scheduler::open(&Config { weights: &[1, 2], ..Config::default() }).unwrap();
+    /// scheduler.workers(0, 0, 1).unwrap();
+    /// scheduler.close(0, 7).unwrap();
+    /// assert_eq!(scheduler.entries().map(|entry| entry.moment).collect::<Vec<_>>(), [0, 7]);
+    /// ```
     pub fn entries(&mut self) -> impl Iterator<Item = Entry> + '_ {
         (0..).map_while(|index| self.entry(index))
     }

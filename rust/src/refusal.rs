@@ -5,6 +5,15 @@ use std::fmt;
 use crate::ffi::Reply;
 
 /// Why a call is refused, with the numbers concerned. Nothing has changed then.
+///
+/// ```
+/// use twodfq::{Config, Scheduler, Refusal};
+///
+/// let mut scheduler = Scheduler::open(&Config::default()).unwrap();
+/// let refusal = scheduler.take(0, 0, 9).unwrap_err();
+/// assert_eq!(refusal, Refusal::Worker(9));
+/// assert_eq!(refusal.to_string(), "no worker has the number 9");
+/// ```
 #[derive(Clone, Copy, Debug, PartialEq, Eq)]
 pub enum Refusal {
     /// The history is closed.
@@ -80,6 +89,14 @@ impl fmt::Display for Refusal {
 impl Error for Refusal {}
 
 /// Why no scheduler is opened: memory was wanting, or which number is the first that is out of its limits.
+///
+/// ```
+/// use twodfq::{Config, Scheduler, OpenFault};
+///
+/// let fault = Scheduler::open(&Config { kinds: 65, ..Config::default() }).unwrap_err();
+/// assert_eq!(fault, OpenFault::Kinds);
+/// assert_eq!(fault.to_string(), "there may be 1 to 64 kinds");
+/// ```
 #[derive(Clone, Copy, Debug, PartialEq, Eq)]
 pub enum OpenFault {
     NoMemory,

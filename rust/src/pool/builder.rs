@@ -1,0 +1,244 @@
+//! How a pool is opened.
+use std::sync::Arc;
+use std::time::{Duration, Instant};
+
+use super::cause::BuildFault;
+use super::clock::{Clock, Measure};
+use super::rolling::{Rolling, Settings};
+use super::shared::Shared;
+use super::state::State;
+use super::Pool;
+use crate::{Estimator, Policy};
+
+/// The least room that a scheduler of a pool has: what its opening and one job take is surely less.
+const LEAST_ENTRIES: u32 = 16;
+
+/// What a pool is opened with. All but the tenants have a default.
+///
+/// ```
+/// use std::time::Duration;
+/// use twodfq::{Estimator, Measure, Policy, Pool};
+///
+/// let pool = Pool::builder()
+///     .workers(4)
+///     .most_workers(8)
+///     .tenant("acme", 1)
+///     .tenant("globex", 2)
+///     .kind("get")
+///     .kind("scan")
+///     .policy(Policy::TwoDfq)
+///     .estimator(Estimator::Pessimistic)
+///     .initial(1000)
+///     .measure(Measure::Wall)
+///     .refresh(Duration::from_millis(10))
+///     .room(10_000)
+///     .entries(1_000_000)
+///     .open()
+///     .unwrap();
+/// assert_eq!(pool.tenant("globex"), Some(1));
+/// assert_eq!(pool.kind("scan"), Some(1));
+/// ```
+#[derive(Clone, Debug)]
+pub struct Builder {
+    workers: u32,
+    weights: Vec<u32>,
+    settings: Settings,
+    measure: Measure,
+    refresh: Duration,
+}
+
+impl Builder {
+    pub(crate) fn new() -> Builder {
+        let settings = Settings {
+            most_workers: 0,
+            tenants: Vec::new(),
+            kinds: Vec::new(),
+            entries: 1_000_000,
+            room: 10_000,
+            policy: Policy::TwoDfq,
+            estimator: Estimator::Pessimistic,
+            initial: 1000,
+        };
+        let refresh = Duration::from_millis(10);
+        Builder { workers: 4, weights: Vec::new(), settings, measure: Measure::Wall, refresh }
+    }
+
+    /// How many workers run jobs at first: 1 to 64, by default 4.
+    ///
+    /// ```
+    /// let pool = twodfq::Pool::builder().tenant("acme", 1).workers(8).open().unwrap();
+    /// assert_eq!(pool.status().workers, 8);
+    /// ```
+    pub fn workers(mut self, count: u32) -> Builder {
+        self.workers = count;
+        self
+    }
+
+    /// How many workers there may ever be, each of which has a thread from the opening on; by default as many as at first.
+    ///
+    /// ```
+    /// let pool = twodfq::Pool::builder().tenant("acme", 1).workers(1).most_workers(8).open().unwrap();
+    /// pool.workers(8).unwrap();
+    /// ```
+    pub fn most_workers(mut self, count: u32) -> Builder {
+        self.settings.most_workers = count;
+        self
+    }
+
+    /// One more tenant, of a weight from 1 to 1,000; 1 to 4,096 tenants. They are numbered from 0. A name has 1 to 64
+    /// ASCII letters, digits, `_`, `-` and `.`.
+    ///
+    /// ```
+    /// let pool = twodfq::Pool::builder().tenant("acme", 1).tenant("globex", 7).open().unwrap();
+    /// assert_eq!(pool.tenant("globex"), Some(1));
+    /// ```
+    pub fn tenant(mut self, name: &str, weight: u32) -> Builder {
+        self.settings.tenants.push(name.to_string());
+        self.weights.push(weight);
+        self
+    }
+
+    /// One more kind of jobs, numbered from 0; by default there is one, `-`. At most 64, and 65,536 pairs of a tenant and
+    /// a kind. Costs are estimated for each tenant and kind.
+    ///
+    /// ```
+    /// let pool = twodfq::Pool::builder().tenant("acme", 1).kind("get").kind("scan").open().unwrap();
+    /// assert_eq!(pool.kind("scan"), Some(1));
+    /// ```
+    pub fn kind(mut self, name: &str) -> Builder {
+        self.settings.kinds.push(name.to_string());
+        self
+    }
+
+    /// Which waiting job a worker takes; by default [`Policy::TwoDfq`].
+    ///
+    /// ```
+    /// let pool = twodfq::Pool::builder().tenant("acme", 1).policy(twodfq::Policy::Wf2q).open().unwrap();
+    /// pool.submit(0, 0, || ()).unwrap();
+    /// ```
+    pub fn policy(mut self, policy: Policy) -> Builder {
+        self.settings.policy = policy;
+        self
+    }
+
+    /// What a job is thought to cost before it is done; by default [`Estimator::Pessimistic`].
+    ///
+    /// ```
+    /// let pool = twodfq::Pool::builder().tenant("acme", 1).estimator(twodfq::Estimator::Recent).open().unwrap();
+    /// pool.submit(0, 0, || ()).unwrap();
+    /// ```
+    pub fn estimator(mut self, estimator: Estimator) -> Builder {
+        self.settings.estimator = estimator;
+        self
+    }
+
+    /// The estimate before any completion, and what `submit` declares: 1 to 1,000,000,000 microseconds, by default 1000.
+    ///
+    /// ```
+    /// let pool = twodfq::Pool::builder().tenant("acme", 1).initial(20_000).open().unwrap();
+    /// pool.submit(0, 0, || ()).unwrap();
+    /// ```
+    pub fn initial(mut self, microseconds: u64) -> Builder {
+        self.settings.initial = microseconds;
+        self
+    }
+
+    /// By which clock costs are measured; by default [`Measure::Wall`].
+    ///
+    /// ```
+    /// let pool = twodfq::Pool::builder().tenant("acme", 1).measure(twodfq::Measure::Processor).open().unwrap();
+    /// pool.submit(0, 0, || ()).unwrap();
+    /// ```
+    pub fn measure(mut self, measure: Measure) -> Builder {
+        self.measure = measure;
+        self
+    }
+
+    /// After what time a running job reports once more where it calls [`tick`](crate::tick); by default 10 milliseconds.
+    ///
+    /// ```
+    /// use std::time::Duration;
+    ///
+    /// let pool = twodfq::Pool::builder().tenant("acme", 1).refresh(Duration::ZERO).open().unwrap();
+    /// pool.submit(0, 0, twodfq::tick).unwrap();
+    /// assert_eq!(pool.join().tenants[0].reports, 1);
+    /// ```
+    pub fn refresh(mut self, time: Duration) -> Builder {
+        self.refresh = time;
+        self
+    }
+
+    /// How many jobs may wait at once: 1 to 262,144, by default 10,000.
+    ///
+    /// ```
+    /// let pool = twodfq::Pool::builder().tenant("acme", 1).workers(1).room(1).open().unwrap();
+    /// let accepted = (0..1000).filter(|_| pool.submit(0, 0, || ()).is_ok()).count();
+    /// assert_eq!(pool.join().tenants[0].refused, 1000 - accepted as u64);
+    /// ```
+    pub fn room(mut self, jobs: u32) -> Builder {
+        self.settings.room = jobs;
+        self
+    }
+
+    /// After how many entries the next scheduler takes over: 16 to 4,194,304, by default 1,000,000. A job makes three, and
+    /// each report and change one. An entry takes 48 bytes while its scheduler is kept.
+    ///
+    /// ```
+    /// let pool = twodfq::Pool::builder().tenant("acme", 1).entries(16).open().unwrap();
+    /// for _ in 0..100 {
+    ///     pool.submit(0, 0, || ()).unwrap();
+    /// }
+    /// assert!(pool.join().schedulers > 10);
+    /// ```
+    pub fn entries(mut self, entries: u32) -> Builder {
+        self.settings.entries = entries;
+        self
+    }
+
+    fn fault(&self) -> Option<BuildFault> {
+        let Settings { most_workers, tenants, kinds, entries, .. } = &self.settings;
+        for names in [tenants, kinds] {
+            let mut sorted: Vec<&String> = names.iter().collect();
+            sorted.sort_unstable();
+            if let Some(name) = names.iter().find(|name| !is_name(name)) {
+                return Some(BuildFault::Name(name.clone()));
+            }
+            if let Some(pair) = sorted.windows(2).find(|pair| pair[0] == pair[1]) {
+                return Some(BuildFault::Twice(pair[0].clone()));
+            }
+        }
+        if *entries < LEAST_ENTRIES {
+            return Some(BuildFault::Entries(*entries));
+        }
+        let may_be = 1..=*most_workers;
+        (!may_be.contains(&self.workers)).then_some(BuildFault::Workers(self.workers))
+    }
+
+    /// Opens the pool and starts its threads.
+    ///
+    /// ```
+    /// let pool = twodfq::Pool::builder().tenant("acme", 1).open().unwrap();
+    /// assert!(twodfq::Pool::builder().open().is_err()); // there is no tenant
+    /// ```
+    pub fn open(mut self) -> Result<Pool, BuildFault> {
+        if self.settings.most_workers == 0 {
+            self.settings.most_workers = self.workers;
+        }
+        if self.settings.kinds.is_empty() {
+            self.settings.kinds.push("-".to_string());
+        }
+        if let Some(fault) = self.fault() {
+            return Err(fault);
+        }
+        let settings = Arc::new(self.settings);
+        let rolling = Rolling::open(settings.clone(), self.weights, self.workers).map_err(BuildFault::Scheduler)?;
+        let clock = Clock { start: Instant::now(), measure: self.measure };
+        let shared = Arc::new(Shared::new(State::new(rolling), clock, self.refresh));
+        Pool::start(shared, settings).map_err(BuildFault::Thread)
+    }
+}
+
+fn is_name(text: &str) -> bool {
+    let is_in_name = |byte: u8| byte.is_ascii_alphanumeric() || b"_-.".contains(&byte);
+    (1..=64).contains(&text.len()) && text.bytes().all(is_in_name)
+}

@@ -1,0 +1,252 @@
+//! The journals of a pool's schedulers, written while it runs.
+use std::fmt::{self, Write as _};
+use std::io::{self, Write};
+use std::mem;
+use std::sync::{Arc, PoisonError};
+use std::thread;
+use std::time::Duration;
+
+use super::handle::Place;
+use super::rolling::{History, Settings};
+use super::shared::Shared;
+use super::state::State;
+use crate::{Act, Entry, Estimator, Policy};
+
+/// How many entries are read under the lock at once.
+const BATCH: usize = 256;
+
+/// How long the journal waits for more once there is news.
+const REST: Duration = Duration::from_millis(10);
+
+/// A journal that is being written. Dropped, it is written all the same, and the pool waits for it at its end.
+///
+/// ```
+/// let pool = twodfq::Pool::builder().tenant("acme", 1).open().unwrap();
+/// let journal: twodfq::Journal = pool.journal(std::io::sink()).unwrap();
+/// pool.join();
+/// assert_eq!(journal.join().unwrap().journals, 1);
+/// ```
+pub struct Journal {
+    place: Arc<Place<io::Result<Written>>>,
+}
+
+/// What was written of a journal.
+///
+/// ```
+/// let pool = twodfq::Pool::builder().tenant("acme", 1).open().unwrap();
+/// let journal = pool.journal(std::io::sink()).unwrap();
+/// drop(pool);
+/// let written = journal.join().unwrap();
+/// assert_eq!(written, twodfq::Written { journals: 1, missed: 0 });
+/// ```
+#[derive(Clone, Copy, Debug, Default, PartialEq, Eq)]
+pub struct Written {
+    /// How many journals were written whole, one for each scheduler.
+    pub journals: u64,
+    /// How many schedulers have no journal, since they were over before the earlier journals were written.
+    pub missed: u64,
+}
+
+impl fmt::Debug for Journal {
+    fn fmt(&self, f: &mut fmt::Formatter<'_>) -> fmt::Result {
+        f.debug_struct("Journal").finish_non_exhaustive()
+    }
+}
+
+impl Journal {
+    pub(crate) fn new(place: Arc<Place<io::Result<Written>>>) -> Journal {
+        Journal { place }
+    }
+
+    /// Waits for the pool's end and the journal's, and tells what was written. The first fault of the writer ends the
+    /// journal, and not the pool.
+    ///
+    /// ```
+    /// let pool = twodfq::Pool::builder().tenant("acme", 1).open().unwrap();
+    /// let no_room: &mut [u8] = Box::leak(Box::new([0; 10]));
+    /// let journal = pool.journal(no_room).unwrap();
+    /// pool.submit(0, 0, || ()).unwrap().join().unwrap();
+    /// pool.join();
+    /// assert_eq!(journal.join().unwrap_err().kind(), std::io::ErrorKind::WriteZero);
+    /// ```
+    pub fn join(self) -> io::Result<Written> {
+        self.place.wait().unwrap_or_else(|panicked| Err(io::Error::other(panicked.message().to_string())))
+    }
+}
+
+/// Where the journal is. While it is kept, so are histories for it.
+pub(crate) struct Reader {
+    shared: Arc<Shared>,
+    /// The history that is read, or the least that may be read next.
+    next: u64,
+    is_begun: bool,
+    index: u64,
+    written: Written,
+}
+
+impl Drop for Reader {
+    fn drop(&mut self) {
+        let mut state = self.shared.lock();
+        state.journal = None;
+        let over = mem::take(&mut state.rolling.over);
+        drop(state);
+        drop(over);
+    }
+}
+
+/// What there is to write next.
+enum Piece {
+    Head(Vec<u32>),
+    Entries(Vec<Entry>),
+    /// A journal is whole, and its history gives its memory back.
+    Whole(#[expect(dead_code, reason = "it is dropped without the lock")] History),
+    Nothing,
+    End,
+}
+
+impl Reader {
+    /// Begins with the oldest scheduler that is not over; none where there is a journal already.
+    pub(crate) fn new(shared: &Arc<Shared>) -> Option<Reader> {
+        let mut state = shared.lock();
+        if state.journal.is_some() {
+            return None;
+        }
+        let next = state.rolling.histories.first().map_or(state.rolling.opened, |history| history.number);
+        state.journal = Some(next);
+        Some(Reader { shared: shared.clone(), next, is_begun: false, index: 0, written: Written::default() })
+    }
+
+    /// Writes all journals until the pool is at its end.
+    pub(crate) fn write(mut self, mut to: impl Write) -> io::Result<Written> {
+        let shared = self.shared.clone();
+        let settings = shared.lock().rolling.settings.clone();
+        let mut text = String::new();
+        loop {
+            let piece = self.piece(&mut shared.lock());
+            text.clear();
+            match piece {
+                Piece::Head(weights) => add_head(&settings, &weights, &mut text),
+                Piece::Entries(entries) => entries.iter().for_each(|entry| add_entry(entry, &mut text)),
+                Piece::Whole(_) => {}
+                Piece::Nothing => {
+                    to.flush()?;
+                    self.rest();
+                }
+                Piece::End => return to.flush().map(|()| self.written),
+            }
+            to.write_all(text.as_bytes())?;
+        }
+    }
+
+    fn piece(&mut self, state: &mut State) -> Piece {
+        if !self.is_begun {
+            return self.begin(state);
+        }
+        let State { rolling, .. } = state;
+        let mut histories = rolling.histories.iter_mut().chain(&mut rolling.over);
+        let history = histories.find(|history| history.number == self.next).expect("it is kept while it is read");
+        let entries: Vec<Entry> = (self.index..).map_while(|i| history.scheduler.entry(i)).take(BATCH).collect();
+        if !entries.is_empty() {
+            self.index += entries.len() as u64;
+            return Piece::Entries(entries);
+        }
+        match rolling.over.iter().position(|history| history.number == self.next) {
+            Some(place) => {
+                self.is_begun = false;
+                self.next += 1;
+                self.written.journals += 1;
+                state.journal = Some(self.next);
+                Piece::Whole(state.rolling.over.remove(place))
+            }
+            None => Piece::Nothing,
+        }
+    }
+
+    /// Begins with the next history that there is.
+    fn begin(&mut self, state: &mut State) -> Piece {
+        let rolling = &state.rolling;
+        let histories = rolling.histories.iter().chain(&rolling.over).filter(|history| history.number >= self.next);
+        let Some(history) = histories.min_by_key(|history| history.number) else {
+            return if state.is_closed { Piece::End } else { Piece::Nothing };
+        };
+        self.written.missed += history.number - self.next;
+        self.next = history.number;
+        self.is_begun = true;
+        self.index = 0;
+        let weights = history.weights.clone();
+        state.journal = Some(self.next);
+        Piece::Head(weights)
+    }
+
+    /// Sleeps until there is something to write, and then a little more, so that it is woken seldom.
+    fn rest(&self) {
+        let mut state = self.shared.lock();
+        if self.is_behind(&state) {
+            return;
+        }
+        state.journal_sleeps = true;
+        while state.journal_sleeps {
+            state = self.shared.written.wait(state).unwrap_or_else(PoisonError::into_inner);
+        }
+        let is_closed = state.is_closed;
+        drop(state);
+        if !is_closed {
+            thread::sleep(REST);
+        }
+    }
+
+    /// Whether something came since the last look.
+    fn is_behind(&self, state: &State) -> bool {
+        let mut live = state.rolling.histories.iter();
+        let at = live.find(|history| history.number == self.next);
+        at.is_none_or(|history| !self.is_begun || history.entries > self.index)
+    }
+}
+
+fn add_head(settings: &Settings, weights: &[u32], text: &mut String) {
+    let Settings { most_workers, tenants, kinds, entries, room, policy, estimator, initial } = settings;
+    let (policy, estimator) = (policy_name(*policy), estimator_name(*estimator));
+    add(text, format_args!("journal 2\nconfig {most_workers} {policy} {estimator} {initial} {entries} {room}\n"));
+    for (tenant, weight) in tenants.iter().zip(weights) {
+        add(text, format_args!("tenant {tenant} {weight}\n"));
+    }
+    for kind in kinds {
+        add(text, format_args!("kind {kind}\n"));
+    }
+}
+
+fn add_entry(Entry { who, moment, act }: &Entry, text: &mut String) {
+    let mut line = |word: &str, rest: fmt::Arguments| add(text, format_args!("{word} {who} {moment}{rest}\n"));
+    match act {
+        Act::Submit { request, tenant, kind, declared, label } => {
+            line("submit", format_args!(" {request} {tenant} {kind} {declared} {label}"))
+        }
+        Act::Take { worker, request, estimate } => line("take", format_args!(" {worker} {request} {estimate}")),
+        Act::Report { worker, request, used } => line("report", format_args!(" {worker} {request} {used}")),
+        Act::Done { worker, request, cost } => line("done", format_args!(" {worker} {request} {cost}")),
+        Act::Close => line("close", format_args!("")),
+        Act::Weight { tenant, weight } => line("weight", format_args!(" {tenant} {weight}")),
+        Act::Workers { count } => line("workers", format_args!(" {count}")),
+    }
+}
+
+fn add(text: &mut String, words: fmt::Arguments) {
+    text.write_fmt(words).expect("a text takes all that is written");
+}
+
+fn policy_name(policy: Policy) -> &'static str {
+    match policy {
+        Policy::Wfq => "wfq",
+        Policy::Wf2q => "wf2q",
+        Policy::Msf2q => "msf2q",
+        Policy::TwoDfq => "2dfq",
+    }
+}
+
+fn estimator_name(estimator: Estimator) -> &'static str {
+    match estimator {
+        Estimator::Declared => "declared",
+        Estimator::Recent => "recent",
+        Estimator::Pessimistic => "pessimistic",
+    }
+}

@@ -1,0 +1,289 @@
+//! A pool of threads that runs the jobs of many tenants, each in its turn.
+mod builder;
+mod cause;
+mod clock;
+mod handle;
+mod jobs;
+mod journal;
+mod rolling;
+mod scope;
+mod shared;
+mod state;
+mod status;
+mod worker;
+
+use std::fmt;
+use std::io::{self, Write};
+use std::mem;
+use std::sync::{Arc, Mutex, PoisonError};
+use std::thread::{self, JoinHandle};
+
+pub use builder::Builder;
+pub use cause::{BuildFault, Cause, Rejected};
+pub use clock::Measure;
+pub use handle::{Handle, Panicked};
+pub use journal::{Journal, Written};
+pub use scope::Scope;
+pub use status::{Status, TenantStatus};
+pub use worker::tick;
+
+use handle::Place;
+pub(crate) use jobs::Job;
+use jobs::Work;
+use journal::Reader;
+use rolling::Settings;
+use shared::Shared;
+use state::Request;
+
+/// A thread pool that shares its workers fairly among tenants: who waits is served in its turn, however many jobs others
+/// hand in and however long these take. Which job a worker takes next is decided by a [`Scheduler`](crate::Scheduler).
+///
+/// The pool has no end: before the room of its scheduler ends it opens the next, and workers take from the old one until
+/// that is drained. Dropped, it closes, and waits until all accepted jobs are done.
+///
+/// ```
+/// use twodfq::Pool;
+///
+/// # fn search(part: &&str) -> u64 { part.len() as u64 }
+/// # fn main() -> Result<(), Box<dyn std::error::Error>> {
+/// # let parts = vec!["one", "three"];
+/// let pool = Pool::builder().workers(8).tenant("acme", 1).tenant("globex", 2).kind("get").kind("scan").open()?;
+/// let (globex, scan) = (pool.tenant("globex").unwrap(), pool.kind("scan").unwrap());
+/// let handle = pool.submit(globex, scan, move || {
+///     parts.iter().inspect(|_| twodfq::tick()).map(search).sum::<u64>() // a long job tells what it has used so far
+/// })?;
+/// let found = handle.join()?;
+/// println!("{}", pool.status().prometheus());
+/// pool.join();
+/// # assert_eq!(found, 8);
+/// # Ok(())
+/// # }
+/// ```
+pub struct Pool {
+    shared: Arc<Shared>,
+    settings: Arc<Settings>,
+    threads: Mutex<Vec<JoinHandle<()>>>,
+}
+
+impl Pool {
+    /// What a pool is opened with.
+    ///
+    /// ```
+    /// let pool = twodfq::Pool::builder().tenant("acme", 1).open().unwrap();
+    /// ```
+    pub fn builder() -> Builder {
+        Builder::new()
+    }
+
+    pub(crate) fn start(shared: Arc<Shared>, settings: Arc<Settings>) -> io::Result<Pool> {
+        let pool = Pool { shared, settings, threads: Mutex::default() };
+        for worker in 0..pool.settings.most_workers {
+            let shared = pool.shared.clone();
+            let name = format!("twodfq-{worker}");
+            let thread = thread::Builder::new().name(name).spawn(move || worker::work(shared, worker))?;
+            pool.keep(thread);
+        }
+        Ok(pool)
+    }
+
+    /// Notes a thread to wait for at the end.
+    fn keep(&self, thread: JoinHandle<()>) {
+        self.threads.lock().unwrap_or_else(PoisonError::into_inner).push(thread);
+    }
+
+    /// Hands in a job for a tenant, of a kind. What it declares to cost is the initial estimate.
+    ///
+    /// ```
+    /// use twodfq::{Cause, Pool};
+    ///
+    /// let pool = Pool::builder().tenant("acme", 1).open().unwrap();
+    /// let handle = pool.submit(0, 0, || "hello".len()).unwrap();
+    /// assert_eq!(handle.join().unwrap(), 5);
+    /// let rejected = pool.submit(7, 0, || 42).unwrap_err();
+    /// assert_eq!(rejected.cause, Cause::Tenant(7));
+    /// assert_eq!((rejected.job)(), 42);
+    /// ```
+    pub fn submit<T, F>(&self, tenant: u32, kind: u32, job: F) -> Result<Handle<T>, Rejected<F>>
+    where
+        T: Send + 'static,
+        F: FnOnce() -> T + Send + 'static,
+    {
+        self.submit_declared(tenant, kind, self.settings.initial, job)
+    }
+
+    /// Hands in a job that declares its cost in microseconds, 1 to 1,000,000,000. It counts under
+    /// [`Estimator::Declared`](crate::Estimator::Declared).
+    ///
+    /// ```
+    /// use twodfq::{Estimator, Pool};
+    ///
+    /// let pool = Pool::builder().tenant("acme", 1).estimator(Estimator::Declared).open().unwrap();
+    /// let handle = pool.submit_declared(0, 0, 250, || 42).unwrap();
+    /// assert_eq!(handle.join().unwrap(), 42);
+    /// ```
+    pub fn submit_declared<T, F>(&self, tenant: u32, kind: u32, cost: u64, job: F) -> Result<Handle<T>, Rejected<F>>
+    where
+        T: Send + 'static,
+        F: FnOnce() -> T + Send + 'static,
+    {
+        let request = Request { tenant, kind, declared: cost };
+        hand_in(&self.shared, request, job, |work| work as Box<dyn Job>)
+    }
+
+    /// The number of the tenant of this name.
+    ///
+    /// ```
+    /// let pool = twodfq::Pool::builder().tenant("acme", 1).tenant("globex", 2).open().unwrap();
+    /// assert_eq!(pool.tenant("globex"), Some(1));
+    /// assert_eq!(pool.tenant("initech"), None);
+    /// ```
+    pub fn tenant(&self, name: &str) -> Option<u32> {
+        place(&self.settings.tenants, name)
+    }
+
+    /// The number of the kind of this name.
+    ///
+    /// ```
+    /// let pool = twodfq::Pool::builder().tenant("acme", 1).kind("get").kind("scan").open().unwrap();
+    /// assert_eq!(pool.kind("scan"), Some(1));
+    /// ```
+    pub fn kind(&self, name: &str) -> Option<u32> {
+        place(&self.settings.kinds, name)
+    }
+
+    /// The tenant has this weight from now on, 1 to 1,000. A scheduler that drains keeps the weights it has where it has no
+    /// room for another entry.
+    ///
+    /// ```
+    /// let pool = twodfq::Pool::builder().tenant("acme", 1).open().unwrap();
+    /// pool.weight(0, 5).unwrap();
+    /// assert_eq!(pool.weight(3, 5), Err(twodfq::Cause::Tenant(3)));
+    /// ```
+    pub fn weight(&self, tenant: u32, weight: u32) -> Result<(), Cause> {
+        self.shared.change(|state, moment| state.rolling.weight(moment, tenant, weight).map_err(Cause::of))
+    }
+
+    /// There are so many workers from now on: 1 to as many as the builder said. A worker that is no longer wanted ends what
+    /// it runs, and then sleeps.
+    ///
+    /// ```
+    /// let pool = twodfq::Pool::builder().tenant("acme", 1).workers(2).most_workers(8).open().unwrap();
+    /// pool.workers(8).unwrap();
+    /// assert_eq!(pool.workers(9), Err(twodfq::Cause::Workers(9)));
+    /// ```
+    pub fn workers(&self, count: u32) -> Result<(), Cause> {
+        self.shared.change(|state, moment| state.rolling.workers(moment, count).map_err(Cause::of))
+    }
+
+    /// No more jobs are taken. Those that were are run.
+    ///
+    /// ```
+    /// let pool = twodfq::Pool::builder().tenant("acme", 1).open().unwrap();
+    /// let handle = pool.submit(0, 0, || 42).unwrap();
+    /// pool.close();
+    /// assert_eq!(pool.submit(0, 0, || 43).unwrap_err().cause, twodfq::Cause::Closed);
+    /// assert_eq!(handle.join().unwrap(), 42);
+    /// ```
+    pub fn close(&self) {
+        // closed already, it has nothing to change
+        let _ = self.shared.change(|state, moment| {
+            state.is_closed = true;
+            state.rolling.close(moment);
+            Ok(())
+        });
+    }
+
+    /// What waits and runs now, and what was counted since the opening.
+    ///
+    /// ```
+    /// let pool = twodfq::Pool::builder().tenant("acme", 1).open().unwrap();
+    /// pool.submit(0, 0, || ()).unwrap();
+    /// assert_eq!(pool.status().tenants[0].submitted, 1);
+    /// ```
+    pub fn status(&self) -> Status {
+        Status::of(&self.shared.lock(), &self.settings)
+    }
+
+    /// Has the journals of the pool's schedulers written while it runs, in the format of `docs/FORMATS.md`: one after
+    /// another, each from its line `journal 2` on, and each to be judged by `twodfq check`. It begins with the scheduler
+    /// that serves now, and ends with the pool. The writer has a thread of its own, and no worker ever waits for it. Where
+    /// it is so slow that five schedulers are over before it has come to them, the oldest of these is left out.
+    ///
+    /// Fails where a journal is being written already, or its thread does not start.
+    ///
+    /// ```no_run
+    /// use std::fs::File;
+    ///
+    /// let pool = twodfq::Pool::builder().tenant("acme", 1).open().unwrap();
+    /// let journal = pool.journal(File::create("acme.journal").unwrap()).unwrap();
+    /// pool.submit(0, 0, || ()).unwrap();
+    /// pool.join();
+    /// assert_eq!(journal.join().unwrap().missed, 0);
+    /// ```
+    pub fn journal(&self, to: impl Write + Send + 'static) -> io::Result<Journal> {
+        let there_is_one = || io::Error::new(io::ErrorKind::AlreadyExists, "a journal is being written already");
+        let reader = Reader::new(&self.shared).ok_or_else(there_is_one)?;
+        let place = Arc::new(Place::new());
+        let work = Box::new(Work { closure: move || reader.write(to), place: place.clone() });
+        let thread = thread::Builder::new().name("twodfq-journal".to_string());
+        self.keep(thread.spawn(move || _ = work.run())?);
+        Ok(Journal::new(place))
+    }
+
+    /// Closes, waits until all accepted jobs are done, and tells what was counted. Dropping the pool waits too.
+    ///
+    /// ```
+    /// let pool = twodfq::Pool::builder().tenant("acme", 1).open().unwrap();
+    /// let handle = pool.submit(0, 0, || 42).unwrap();
+    /// let status = pool.join();
+    /// assert_eq!((status.waiting, status.tenants[0].done), (0, 1));
+    /// assert_eq!(handle.join().unwrap(), 42);
+    /// ```
+    pub fn join(self) -> Status {
+        self.end();
+        self.status()
+    }
+
+    fn end(&self) {
+        self.close();
+        let threads = mem::take(&mut *self.threads.lock().unwrap_or_else(PoisonError::into_inner));
+        for thread in threads {
+            // where a job drops the last owner of its pool, its worker can't wait for itself
+            if thread.thread().id() != thread::current().id() {
+                let _ = thread.join();
+            }
+        }
+    }
+}
+
+impl Drop for Pool {
+    fn drop(&mut self) {
+        self.end();
+    }
+}
+
+impl fmt::Debug for Pool {
+    fn fmt(&self, f: &mut fmt::Formatter<'_>) -> fmt::Result {
+        f.debug_struct("Pool").field("settings", &self.settings).finish_non_exhaustive()
+    }
+}
+
+/// Hands in a job, boxed by `boxed` once it is accepted.
+fn hand_in<T, F, B>(shared: &Shared, request: Request, closure: F, boxed: B) -> Result<Handle<T>, Rejected<F>>
+where
+    T: Send,
+    F: FnOnce() -> T + Send,
+    B: Fn(Box<Work<T, F>>) -> Box<dyn Job>,
+{
+    let place = Arc::new(Place::new());
+    let mut work = Some(Box::new(Work { closure, place: place.clone() }));
+    let mut job = || boxed(work.take().expect("a job is asked for once"));
+    match shared.admit(request, &mut job) {
+        Ok(()) => Ok(Handle::new(place)),
+        Err(cause) => Err(Rejected { job: work.expect("a refused job was not asked for").closure, cause }),
+    }
+}
+
+fn place(names: &[String], name: &str) -> Option<u32> {
+    names.iter().position(|other| other == name).map(|place| place as u32)
+}

@@ -1,0 +1,272 @@
+//! Schedulers one after another: before the room of one ends the next is opened, and takes what comes. Workers take from the
+//! older ones until these are drained.
+use std::sync::Arc;
+
+use crate::{Config, Estimator, OpenFault, Policy, Refusal, Scheduler, Submit, Taken};
+
+/// The caller whom entries name that no worker made.
+const CALLER: u32 = 64;
+
+/// The entries of one job more, and of the close.
+const ONE_JOB_AND_CLOSE: u64 = 4;
+
+/// What all schedulers of a pool are opened with, but for the weights.
+#[derive(Clone, Debug)]
+pub(crate) struct Settings {
+    pub(crate) most_workers: u32,
+    pub(crate) tenants: Vec<String>,
+    pub(crate) kinds: Vec<String>,
+    pub(crate) entries: u32,
+    pub(crate) room: u32,
+    pub(crate) policy: Policy,
+    pub(crate) estimator: Estimator,
+    pub(crate) initial: u64,
+}
+
+impl Settings {
+    pub(crate) fn open(&self, weights: &[u32]) -> Result<Scheduler, OpenFault> {
+        Scheduler::open(&Config {
+            workers: self.most_workers,
+            weights,
+            kinds: self.kinds.len() as u32,
+            entries: self.entries,
+            requests: self.room,
+            policy: self.policy,
+            estimate: self.estimator,
+            initial: self.initial,
+        })
+    }
+}
+
+/// A scheduler that was opened ahead, and the weights that it has.
+pub(crate) struct Spare {
+    pub(crate) scheduler: Scheduler,
+    pub(crate) weights: Vec<u32>,
+}
+
+/// A scheduler, and what of it is in use.
+pub(crate) struct History {
+    /// How many schedulers of the pool were opened before it.
+    pub(crate) number: u64,
+    pub(crate) scheduler: Scheduler,
+    /// The weights that it was opened with.
+    pub(crate) weights: Vec<u32>,
+    /// How many calls it has accepted.
+    pub(crate) entries: u64,
+    waiting: u32,
+    running: u32,
+    closed: bool,
+}
+
+impl History {
+    fn new(number: u64, scheduler: Scheduler, weights: Vec<u32>) -> History {
+        History { number, scheduler, weights, entries: 0, waiting: 0, running: 0, closed: false }
+    }
+
+    fn close(&mut self, moment: u64) {
+        if !self.closed && self.scheduler.close(CALLER, moment).is_ok() {
+            self.closed = true;
+            self.entries += 1;
+        }
+    }
+
+    fn is_over(&self) -> bool {
+        self.closed && self.waiting == 0 && self.running == 0
+    }
+
+    fn counted<T>(&mut self, reply: Result<T, Refusal>) -> Result<T, Refusal> {
+        self.entries += u64::from(reply.is_ok());
+        reply
+    }
+}
+
+/// A dispatch: which history it is of, and the number of its job.
+pub(crate) struct Dispatch {
+    pub(crate) history: u64,
+    pub(crate) label: u64,
+}
+
+/// The schedulers that have work or may get some, the oldest first. All but the last are closed.
+pub(crate) struct Rolling {
+    pub(crate) settings: Arc<Settings>,
+    pub(crate) histories: Vec<History>,
+    pub(crate) weights: Vec<u32>,
+    pub(crate) workers: u32,
+    /// How many schedulers were opened.
+    pub(crate) opened: u64,
+    pub(crate) spare: Option<Spare>,
+    pub(crate) is_opening: bool,
+    /// Those that are over and that nobody has yet.
+    pub(crate) over: Vec<History>,
+}
+
+impl Rolling {
+    pub(crate) fn open(settings: Arc<Settings>, weights: Vec<u32>, workers: u32) -> Result<Rolling, OpenFault> {
+        let mut rolling = Rolling {
+            settings,
+            histories: Vec::new(),
+            weights,
+            workers,
+            opened: 0,
+            spare: None,
+            is_opening: false,
+            over: Vec::new(),
+        };
+        rolling.open_next(0)?;
+        Ok(rolling)
+    }
+
+    /// Opens the next scheduler, or takes the one that was opened ahead. With the present number of workers.
+    fn open_next(&mut self, moment: u64) -> Result<(), OpenFault> {
+        let spare = self.spare.take().filter(|spare| spare.weights == self.weights);
+        let scheduler = match spare {
+            Some(spare) => spare.scheduler,
+            None => self.settings.open(&self.weights)?,
+        };
+        let mut next = History::new(self.opened, scheduler, self.weights.clone());
+        if self.workers != self.settings.most_workers {
+            let reply = next.scheduler.workers(CALLER, moment, self.workers);
+            let _ = next.counted(reply); // an empty history has room for it
+        }
+        self.opened += 1;
+        self.histories.push(next);
+        Ok(())
+    }
+
+    /// Closes the newest scheduler once the next is open.
+    fn roll(&mut self, moment: u64) -> Result<(), OpenFault> {
+        self.open_next(moment)?;
+        let last = self.histories.len() - 2;
+        self.histories[last].close(moment);
+        self.clear(last);
+        Ok(())
+    }
+
+    /// Puts a history aside that is over.
+    fn clear(&mut self, place: usize) {
+        if self.histories[place].is_over() {
+            self.over.push(self.histories.remove(place));
+        }
+    }
+
+    fn newest(&mut self) -> &mut History {
+        self.histories.last_mut().expect("there is one until the pool is closed")
+    }
+
+    /// Whether the next job should begin the next scheduler: a sixteenth of the room is kept for changes while this one
+    /// drains. Where nothing waits an eighth is left unused, so that the next begins without a rest of this one.
+    fn is_time_to_roll(&self) -> bool {
+        let Some(newest) = self.histories.last() else { return false };
+        let room = u64::from(self.settings.entries);
+        let to_come = 2 * u64::from(newest.waiting) + u64::from(newest.running) + ONE_JOB_AND_CLOSE;
+        let is_at_rest = newest.waiting == 0 && newest.entries * 8 >= room * 7;
+        is_at_rest || newest.entries + to_come + room / 16 > room
+    }
+
+    /// Makes a call on the newest scheduler, and on the next where there is no room.
+    fn call<T>(
+        &mut self,
+        moment: u64,
+        mut call: impl FnMut(&mut Scheduler) -> Result<T, Refusal>,
+    ) -> Result<T, Refusal> {
+        let newest = self.newest();
+        let full = match call(&mut newest.scheduler) {
+            Err(full @ Refusal::Full(_)) => full,
+            reply => return newest.counted(reply),
+        };
+        if self.roll(moment).is_err() {
+            return Err(full);
+        }
+        let newest = self.newest();
+        let reply = call(&mut newest.scheduler);
+        newest.counted(reply)
+    }
+
+    pub(crate) fn submit(&mut self, moment: u64, request: Submit) -> Result<(), Refusal> {
+        if self.is_time_to_roll() {
+            let _ = self.roll(moment); // without memory it is tried once more when there is no room
+        }
+        self.call(moment, |scheduler| scheduler.submit(CALLER, moment, request))?;
+        self.newest().waiting += 1;
+        Ok(())
+    }
+
+    /// What the worker runs next, by the oldest scheduler that has something for it.
+    pub(crate) fn take(&mut self, moment: u64, worker: u32) -> Option<Dispatch> {
+        for history in self.histories.iter_mut().filter(|history| history.waiting > 0) {
+            if let Ok(Taken::Run { label, .. }) = history.scheduler.take(worker, moment, worker) {
+                history.entries += 1;
+                history.waiting -= 1;
+                history.running += 1;
+                return Some(Dispatch { history: history.number, label });
+            }
+        }
+        None
+    }
+
+    fn place(&self, number: u64) -> Option<usize> {
+        self.histories.iter().position(|history| history.number == number)
+    }
+
+    /// The worker's job has used so much. Whether that was noted: it is not where the history has no room for it.
+    pub(crate) fn report(&mut self, moment: u64, worker: u32, number: u64, used: u64) -> bool {
+        let Some(place) = self.place(number) else { return false };
+        let history = &mut self.histories[place];
+        let reply = history.scheduler.report(worker, moment, worker, used);
+        history.counted(reply).is_ok()
+    }
+
+    /// The worker's job has ended.
+    pub(crate) fn done(&mut self, moment: u64, worker: u32, number: u64, cost: u64) {
+        let Some(place) = self.place(number) else { return };
+        let history = &mut self.histories[place];
+        let reply = history.scheduler.done(worker, moment, worker, cost);
+        let reply = history.counted(reply);
+        debug_assert_eq!(reply, Ok(()));
+        history.running -= 1;
+        self.clear(place);
+    }
+
+    /// The tenant has another weight. Older schedulers have it too where they have room.
+    pub(crate) fn weight(&mut self, moment: u64, tenant: u32, weight: u32) -> Result<(), Refusal> {
+        self.call(moment, |scheduler| scheduler.weight(CALLER, moment, tenant, weight))?;
+        self.weights[tenant as usize] = weight;
+        self.spare = None;
+        self.tell_older(|scheduler| scheduler.weight(CALLER, moment, tenant, weight));
+        Ok(())
+    }
+
+    /// There is another number of workers. Older schedulers know it too where they have room.
+    pub(crate) fn workers(&mut self, moment: u64, count: u32) -> Result<(), Refusal> {
+        self.call(moment, |scheduler| scheduler.workers(CALLER, moment, count))?;
+        self.workers = count;
+        self.tell_older(|scheduler| scheduler.workers(CALLER, moment, count));
+        Ok(())
+    }
+
+    fn tell_older(&mut self, call: impl Fn(&mut Scheduler) -> Result<(), Refusal>) {
+        let older = self.histories.len() - 1;
+        for history in &mut self.histories[..older] {
+            let reply = call(&mut history.scheduler);
+            let _ = history.counted(reply);
+        }
+    }
+
+    /// Nothing more comes.
+    pub(crate) fn close(&mut self, moment: u64) {
+        self.newest().close(moment);
+        self.clear(self.histories.len() - 1);
+        self.spare = None;
+    }
+
+    /// The weights of the scheduler that should be opened ahead, where it is time for that. Who asks opens it.
+    pub(crate) fn ahead(&mut self) -> Option<Vec<u32>> {
+        let newest = self.histories.last()?;
+        let is_time = newest.entries * 4 >= u64::from(self.settings.entries) * 3;
+        if !is_time || self.is_opening || self.spare.is_some() {
+            return None;
+        }
+        self.is_opening = true;
+        Some(self.weights.clone())
+    }
+}

@@ -1,0 +1,97 @@
+//! Jobs that borrow.
+use std::fmt;
+
+use super::jobs::{Job, Work};
+use super::state::Request;
+use super::{hand_in, Handle, Pool, Rejected};
+use crate::ffi::{self, Lender};
+
+/// Where jobs that borrow are handed in: all of them have ended when [`Pool::scope`] returns.
+///
+/// ```
+/// let pool = twodfq::Pool::builder().tenant("acme", 1).open().unwrap();
+/// let words = vec!["two", "three", "four"];
+/// let total: usize = pool.scope(|scope: twodfq::Scope| {
+///     let lengths: Vec<_> = words.iter().map(|word| scope.submit(0, 0, move || word.len()).unwrap()).collect();
+///     lengths.into_iter().map(|length| length.join().unwrap()).sum()
+/// });
+/// assert_eq!(total, 12);
+/// ```
+///
+/// What a job borrows has to outlive the scope:
+///
+/// ```compile_fail
+/// let pool = twodfq::Pool::builder().tenant("acme", 1).open().unwrap();
+/// pool.scope(|scope| {
+///     let inner = 42;
+///     scope.submit(0, 0, || inner + 1).unwrap();
+/// });
+/// ```
+#[derive(Clone, Copy)]
+pub struct Scope<'scope, 'env: 'scope> {
+    pool: &'env Pool,
+    lender: &'scope Lender<'scope, 'env>,
+}
+
+impl fmt::Debug for Scope<'_, '_> {
+    fn fmt(&self, f: &mut fmt::Formatter<'_>) -> fmt::Result {
+        f.debug_struct("Scope").field("pool", self.pool).finish_non_exhaustive()
+    }
+}
+
+impl Pool {
+    /// Calls the body, whose jobs may borrow what is around it, and waits for the end of all of them. The pool serves others
+    /// meanwhile. A job that panics tells its handle, and no one else.
+    ///
+    /// A job of the pool that waits here for others holds its worker. Where every worker does, none is left for them.
+    ///
+    /// ```
+    /// let pool = twodfq::Pool::builder().tenant("acme", 1).open().unwrap();
+    /// let mut numbers = [1, 2, 3, 4];
+    /// pool.scope(|scope| {
+    ///     for number in &mut numbers {
+    ///         scope.submit(0, 0, || *number *= 10).unwrap();
+    ///     }
+    /// });
+    /// assert_eq!(numbers, [10, 20, 30, 40]);
+    /// ```
+    pub fn scope<'env, R>(&'env self, body: impl for<'scope> FnOnce(Scope<'scope, 'env>) -> R) -> R {
+        ffi::lending(|lender| body(Scope { pool: self, lender }))
+    }
+}
+
+impl<'scope> Scope<'scope, '_> {
+    /// Hands in a job that may borrow, as [`Pool::submit`] does.
+    ///
+    /// ```
+    /// let pool = twodfq::Pool::builder().tenant("acme", 1).open().unwrap();
+    /// let text = String::from("borrowed");
+    /// let first = pool.scope(|scope| scope.submit(0, 0, || &text[..1]).unwrap().join().unwrap());
+    /// assert_eq!(first, "b");
+    /// ```
+    pub fn submit<T, F>(&self, tenant: u32, kind: u32, job: F) -> Result<Handle<T>, Rejected<F>>
+    where
+        T: Send + 'scope,
+        F: FnOnce() -> T + Send + 'scope,
+    {
+        self.submit_declared(tenant, kind, self.pool.settings.initial, job)
+    }
+
+    /// Hands in a job that may borrow and declares its cost, as [`Pool::submit_declared`] does.
+    ///
+    /// ```
+    /// let pool = twodfq::Pool::builder().tenant("acme", 1).open().unwrap();
+    /// let text = String::from("borrowed");
+    /// let length = pool.scope(|scope| scope.submit_declared(0, 0, 5, || text.len()).unwrap().join().unwrap());
+    /// assert_eq!(length, 8);
+    /// ```
+    pub fn submit_declared<T, F>(&self, tenant: u32, kind: u32, cost: u64, job: F) -> Result<Handle<T>, Rejected<F>>
+    where
+        T: Send + 'scope,
+        F: FnOnce() -> T + Send + 'scope,
+    {
+        let request = Request { tenant, kind, declared: cost };
+        let lend = |work: Box<Work<T, F>>| self.lender.lend(work as Box<dyn Job + 'scope>);
+        hand_in(&self.pool.shared, request, job, lend)
+    }
+}

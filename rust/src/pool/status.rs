@@ -1,0 +1,151 @@
+//! What a pool has done and does, for those who watch it.
+use std::fmt::{self, Display, Write};
+
+use super::rolling::Settings;
+use super::state::{Count, State};
+
+/// A tenant of a pool at some moment. What is counted is counted since the opening.
+///
+/// ```
+/// let pool = twodfq::Pool::builder().tenant("acme", 5).open().unwrap();
+/// let status: twodfq::TenantStatus = pool.status().tenants[0].clone();
+/// assert_eq!((status.name.as_str(), status.weight, status.waiting), ("acme", 5, 0));
+/// ```
+#[derive(Clone, Debug, PartialEq, Eq)]
+#[non_exhaustive]
+pub struct TenantStatus {
+    pub name: String,
+    /// The present weight.
+    pub weight: u32,
+    /// How many jobs wait.
+    pub waiting: u32,
+    /// How many jobs run.
+    pub running: u32,
+    /// How many jobs were accepted.
+    pub submitted: u64,
+    /// How many were given back.
+    pub refused: u64,
+    /// How many have ended, those that panicked among them.
+    pub done: u64,
+    /// How many ended by a panic.
+    pub panicked: u64,
+    /// How many reports of running jobs were noted.
+    pub reports: u64,
+    /// What the jobs that have ended cost together.
+    pub microseconds: u64,
+}
+
+/// A pool at some moment. A result may be there a little before its worker has told the job's end.
+///
+/// ```
+/// let pool = twodfq::Pool::builder().workers(2).tenant("acme", 1).open().unwrap();
+/// let status: twodfq::Status = pool.join();
+/// assert_eq!((status.workers, status.waiting, status.running, status.schedulers), (2, 0, 0, 1));
+/// ```
+#[derive(Clone, Debug, PartialEq, Eq)]
+#[non_exhaustive]
+pub struct Status {
+    /// How many workers are wanted.
+    pub workers: u32,
+    /// How many jobs wait.
+    pub waiting: u32,
+    /// How many jobs run.
+    pub running: u32,
+    /// How many schedulers were opened since the opening, one after another.
+    pub schedulers: u64,
+    /// The tenants by their numbers.
+    pub tenants: Vec<TenantStatus>,
+}
+
+impl Status {
+    pub(crate) fn of(state: &State, settings: &Settings) -> Status {
+        let weights = state.rolling.weights.iter();
+        let tenants = settings.tenants.iter().zip(weights).zip(&state.counts);
+        Status {
+            workers: state.rolling.workers,
+            waiting: state.waiting,
+            running: state.running,
+            schedulers: state.rolling.opened,
+            tenants: tenants.map(|((name, weight), count)| TenantStatus::of(name, *weight, count)).collect(),
+        }
+    }
+
+    /// All of it in the text format of Prometheus.
+    ///
+    /// ```
+    /// let pool = twodfq::Pool::builder().tenant("acme", 1).open().unwrap();
+    /// pool.submit(0, 0, || ()).unwrap().join().unwrap();
+    /// let text = pool.join().prometheus();
+    /// assert!(text.contains("# TYPE twodfq_jobs_done_total counter\ntwodfq_jobs_done_total{tenant=\"acme\"} 1\n"));
+    /// ```
+    pub fn prometheus(&self) -> String {
+        let mut text = String::new();
+        let mut add = |metric| self.add(&mut text, metric);
+        add(Metric("twodfq_workers", "gauge", "Workers that are wanted.", Values::One(self.workers.into())));
+        add(Metric("twodfq_schedulers_total", "counter", "Schedulers that were opened.", Values::One(self.schedulers)));
+        for (name, kind, help, value) in TENANT_METRICS {
+            add(Metric(name, kind, help, Values::Tenants(value)));
+        }
+        text
+    }
+
+    fn add(&self, text: &mut String, Metric(name, kind, help, values): Metric) {
+        let mut line = |words: fmt::Arguments| text.write_fmt(words).expect("a text takes all that is written");
+        line(format_args!("# HELP {name} {help}\n# TYPE {name} {kind}\n"));
+        match values {
+            Values::One(value) => line(format_args!("{name} {value}\n")),
+            Values::Tenants(value) => {
+                for tenant in &self.tenants {
+                    line(format_args!("{name}{{tenant=\"{}\"}} {}\n", tenant.name, value(tenant)));
+                }
+            }
+        }
+    }
+}
+
+/// Name, type, help and values.
+struct Metric(&'static str, &'static str, &'static str, Values);
+
+enum Values {
+    One(u64),
+    Tenants(fn(&TenantStatus) -> Value),
+}
+
+/// A number, or microseconds that are written as seconds.
+enum Value {
+    Count(u64),
+    Microseconds(u64),
+}
+
+impl Display for Value {
+    fn fmt(&self, f: &mut fmt::Formatter<'_>) -> fmt::Result {
+        match self {
+            Value::Count(count) => write!(f, "{count}"),
+            Value::Microseconds(time) => write!(f, "{}.{:06}", time / 1_000_000, time % 1_000_000),
+        }
+    }
+}
+
+type TenantMetric = (&'static str, &'static str, &'static str, fn(&TenantStatus) -> Value);
+
+const TENANT_METRICS: [TenantMetric; 9] = [
+    ("twodfq_weight", "gauge", "The tenant's weight.", |tenant| Value::Count(tenant.weight.into())),
+    ("twodfq_jobs_waiting", "gauge", "Jobs that wait.", |tenant| Value::Count(tenant.waiting.into())),
+    ("twodfq_jobs_running", "gauge", "Jobs that run.", |tenant| Value::Count(tenant.running.into())),
+    ("twodfq_jobs_submitted_total", "counter", "Jobs accepted.", |tenant| Value::Count(tenant.submitted)),
+    ("twodfq_jobs_refused_total", "counter", "Jobs given back.", |tenant| Value::Count(tenant.refused)),
+    ("twodfq_jobs_done_total", "counter", "Jobs that ended.", |tenant| Value::Count(tenant.done)),
+    ("twodfq_jobs_panicked_total", "counter", "Jobs that ended by a panic.", |tenant| Value::Count(tenant.panicked)),
+    ("twodfq_reports_total", "counter", "Reports of running jobs.", |tenant| Value::Count(tenant.reports)),
+    ("twodfq_cost_seconds_total", "counter", "What ended jobs cost.", |tenant| {
+        Value::Microseconds(tenant.microseconds)
+    }),
+];
+
+impl TenantStatus {
+    fn of(name: &str, weight: u32, count: &Count) -> TenantStatus {
+        let Count { waiting, running, submitted, refused, done, panicked, reports, microseconds } = *count;
+        let name = name.to_string();
+        TenantStatus { name, weight, waiting, running, submitted, refused, done, panicked, reports, microseconds }
+    }
+}

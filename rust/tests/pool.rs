@@ -1,0 +1,236 @@
+//! The pool: results in each way, refusals, panics, changes, and that each job is run once.
+use std::future::Future;
+use std::panic;
+use std::pin::pin;
+use std::sync::atomic::{AtomicU32, AtomicUsize, Ordering};
+use std::sync::{mpsc, Arc, Barrier};
+use std::task::{Context, Poll, Wake, Waker};
+use std::thread::{self, Thread};
+use std::time::Duration;
+
+use twodfq::{BuildFault, Builder, Cause, Measure, OpenFault, Pool};
+
+fn builder() -> Builder {
+    Pool::builder().workers(4).tenant("acme", 1).tenant("globex", 2).tenant("hooli", 3).kind("get").kind("scan")
+}
+
+/// A pool of one worker which waits until the sender is used or dropped.
+fn held(builder: Builder) -> (Pool, mpsc::Sender<()>) {
+    let pool = builder.workers(1).open().unwrap();
+    let (sender, receiver) = mpsc::channel::<()>();
+    let (begins, begun) = mpsc::channel();
+    let job = move || {
+        begins.send(()).unwrap();
+        let _ = receiver.recv();
+    };
+    pool.submit(0, 0, job).unwrap();
+    begun.recv().unwrap();
+    (pool, sender)
+}
+
+#[test]
+fn join_gives_the_result() {
+    let pool = builder().open().unwrap();
+    let handles: Vec<_> = (0..100_u32).map(|i| pool.submit(i % 3, i % 2, move || i * i).unwrap()).collect();
+    let squares: Vec<u32> = handles.into_iter().map(|handle| handle.join().unwrap()).collect();
+    assert_eq!(squares, (0..100).map(|i| i * i).collect::<Vec<_>>());
+}
+
+#[test]
+fn try_join_gives_the_handle_again_while_the_job_waits() {
+    let (pool, sender) = held(builder());
+    let handle = pool.submit(1, 0, || 42).unwrap();
+    assert!(!handle.is_done());
+    let handle = handle.try_join().unwrap_err();
+    sender.send(()).unwrap();
+    pool.join();
+    assert_eq!(handle.try_join().unwrap().unwrap(), 42);
+}
+
+#[test]
+fn a_callback_gets_the_result_before_and_after_the_end() {
+    let (pool, sender) = held(builder());
+    let (results, received) = mpsc::channel();
+    let (early, late) = (results.clone(), results);
+    let waits = pool.submit(1, 0, || 1).unwrap();
+    waits.then(move |result| early.send((thread::current().name().map(String::from), result.unwrap())).unwrap());
+    sender.send(()).unwrap();
+    assert_eq!(received.recv().unwrap(), (Some("twodfq-0".to_string()), 1));
+    let done = pool.submit(1, 0, || 2).unwrap();
+    pool.join();
+    let here = thread::current().name().map(String::from);
+    done.then(move |result| late.send((thread::current().name().map(String::from), result.unwrap())).unwrap());
+    assert_eq!(received.recv().unwrap(), (here, 2));
+}
+
+struct Unpark(Thread);
+
+impl Wake for Unpark {
+    fn wake(self: Arc<Self>) {
+        self.0.unpark();
+    }
+}
+
+/// A runtime of one future.
+fn block_on<F: Future>(future: F) -> F::Output {
+    let waker = Waker::from(Arc::new(Unpark(thread::current())));
+    let mut future = pin!(future);
+    loop {
+        match future.as_mut().poll(&mut Context::from_waker(&waker)) {
+            Poll::Ready(output) => return output,
+            Poll::Pending => thread::park(),
+        }
+    }
+}
+
+#[test]
+fn a_handle_is_a_future() {
+    let pool = Arc::new(builder().open().unwrap());
+    let slow = pool.submit(0, 1, || thread::sleep(Duration::from_millis(20))).unwrap();
+    let other = pool.clone();
+    let sum = block_on(async move {
+        slow.await.unwrap();
+        let first = other.submit(1, 0, || 40).unwrap().await.unwrap();
+        first + other.submit(2, 0, || 2).unwrap().await.unwrap()
+    });
+    assert_eq!(sum, 42);
+}
+
+#[test]
+fn each_cause_gives_the_job_back() {
+    let (pool, _sender) = held(builder().room(2));
+    let cause = |tenant, kind, cost| pool.submit_declared(tenant, kind, cost, || 7).map(drop);
+    for (tenant, kind, cost, wanted) in [
+        (3, 0, 5, Cause::Tenant(3)),
+        (0, 2, 5, Cause::Kind(2)),
+        (0, 0, 0, Cause::Cost(0)),
+        (0, 0, 1_000_000_001, Cause::Cost(1_000_000_001)),
+    ] {
+        let rejected = cause(tenant, kind, cost).unwrap_err();
+        assert_eq!((rejected.cause, (rejected.job)()), (wanted, 7));
+    }
+    assert!(cause(0, 0, 5).is_ok() && cause(1, 0, 5).is_ok());
+    assert_eq!(cause(2, 0, 5).unwrap_err().cause, Cause::TooManyWait(2));
+    assert_eq!(pool.weight(0, 1001), Err(Cause::Weight(1001)));
+    assert_eq!(pool.weight(3, 1), Err(Cause::Tenant(3)));
+    assert_eq!(pool.workers(0), Err(Cause::Workers(0)));
+    assert_eq!(pool.workers(2), Err(Cause::Workers(2)));
+    pool.close();
+    assert_eq!(cause(3, 0, 5).unwrap_err().cause, Cause::Closed);
+    assert_eq!(pool.weight(0, 1), Err(Cause::Closed));
+    assert_eq!(pool.workers(1), Err(Cause::Closed));
+}
+
+#[test]
+fn what_no_pool_is_opened_with() {
+    let fault = |builder: Builder| builder.open().unwrap_err();
+    assert!(matches!(fault(builder().tenant("acme", 1)), BuildFault::Twice(name) if name == "acme"));
+    assert!(matches!(fault(builder().kind("get")), BuildFault::Twice(name) if name == "get"));
+    assert!(matches!(fault(builder().kind("")), BuildFault::Name(name) if name.is_empty()));
+    assert!(matches!(fault(builder().tenant(&"a".repeat(65), 1)), BuildFault::Name(_)));
+    assert!(matches!(fault(builder().entries(15)), BuildFault::Entries(15)));
+    assert!(matches!(fault(builder().most_workers(3)), BuildFault::Workers(4)));
+    assert!(matches!(fault(builder().workers(0)), BuildFault::Workers(0)));
+    assert!(matches!(fault(builder().workers(65)), BuildFault::Scheduler(OpenFault::Workers)));
+    assert!(matches!(fault(builder().tenant("a", 0)), BuildFault::Scheduler(OpenFault::Weight)));
+    assert!(matches!(fault(builder().room(0)), BuildFault::Scheduler(OpenFault::Requests)));
+}
+
+#[test]
+fn a_job_that_panics_is_done_and_its_worker_goes_on() {
+    let pool = builder().workers(1).open().unwrap();
+    let fails = pool
+        .submit(0, 0, || {
+            if true {
+                panic!("by {}", "number")
+            }
+        })
+        .unwrap();
+    let odd = pool
+        .submit(0, 0, || {
+            if true {
+                panic::panic_any(5_u8)
+            }
+        })
+        .unwrap();
+    pool.submit(0, 0, || ()).unwrap().then(|_| panic!("a callback"));
+    assert_eq!(fails.join().unwrap_err().message(), "by number");
+    assert_eq!(odd.join().unwrap_err().message(), "no message");
+    assert_eq!(pool.submit(1, 0, || 42).unwrap().join().unwrap(), 42);
+}
+
+#[test]
+fn a_job_is_dropped_once_it_has_run() {
+    struct Counted(Arc<AtomicUsize>);
+    impl Drop for Counted {
+        fn drop(&mut self) {
+            self.0.fetch_add(1, Ordering::SeqCst);
+            panic::panic_any("dropped"); // which the worker bears, too
+        }
+    }
+    let drops = Arc::new(AtomicUsize::new(0));
+    let pool = builder().workers(1).open().unwrap();
+    let counted = Counted(drops.clone());
+    pool.submit(0, 0, move || drop(counted)).unwrap();
+    let counted = Counted(drops.clone());
+    drop(pool.submit(0, 0, move || counted).unwrap()); // its result is nobody's
+    assert_eq!(pool.submit(1, 0, || 42).unwrap().join().unwrap(), 42);
+    pool.join();
+    assert_eq!(drops.load(Ordering::SeqCst), 2);
+}
+
+/// What panics whenever it is dropped.
+struct PanicsWhenDropped;
+
+impl Drop for PanicsWhenDropped {
+    fn drop(&mut self) {
+        panic::panic_any(PanicsWhenDropped);
+    }
+}
+
+#[test]
+fn a_payload_that_panics_does_no_harm() {
+    let pool = builder().workers(1).open().unwrap();
+    let fails = pool
+        .submit(0, 0, || {
+            if true {
+                panic::panic_any(PanicsWhenDropped)
+            }
+        })
+        .unwrap();
+    assert_eq!(fails.join().unwrap_err().message(), "no message");
+    pool.submit(0, 0, || ()).unwrap().then(|_| panic::panic_any(PanicsWhenDropped));
+    assert_eq!(pool.submit(1, 0, || 42).unwrap().join().unwrap(), 42);
+}
+
+#[test]
+fn every_wanted_worker_runs_at_once_and_no_other() {
+    let pool = builder().workers(2).most_workers(6).open().unwrap();
+    for count in [2, 6, 3, 6, 1] {
+        pool.workers(count).unwrap();
+        let barrier = Arc::new(Barrier::new(count as usize));
+        let (now, most) = (Arc::new(AtomicU32::new(0)), Arc::new(AtomicU32::new(0)));
+        let job = |barrier: Arc<Barrier>, now: Arc<AtomicU32>, most: Arc<AtomicU32>| {
+            move || {
+                most.fetch_max(now.fetch_add(1, Ordering::SeqCst) + 1, Ordering::SeqCst);
+                barrier.wait();
+                now.fetch_sub(1, Ordering::SeqCst);
+            }
+        };
+        let jobs =
+            (0..4 * count).map(|i| pool.submit(i % 3, 0, job(barrier.clone(), now.clone(), most.clone())).unwrap());
+        for handle in jobs.collect::<Vec<_>>() {
+            handle.join().unwrap();
+        }
+        assert_eq!(most.load(Ordering::SeqCst), count);
+    }
+}
+
+#[test]
+fn both_measures_serve() {
+    for measure in [Measure::Wall, Measure::Processor] {
+        let pool = builder().measure(measure).refresh(Duration::ZERO).open().unwrap();
+        let sum = pool.submit(0, 1, || (0..1000_u64).inspect(|_| twodfq::tick()).sum::<u64>()).unwrap();
+        assert_eq!(sum.join().unwrap(), 499_500);
+    }
+}

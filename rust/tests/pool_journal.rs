@@ -1,0 +1,230 @@
+//! The journals that a pool writes, and its counts.
+use std::env;
+use std::io::{self, Write};
+use std::process::{Command, Stdio};
+use std::sync::{mpsc, Arc, Mutex};
+use std::thread;
+use std::time::{Duration, Instant};
+
+use twodfq::{Builder, Estimator, Policy, Pool, Written};
+
+fn builder() -> Builder {
+    Pool::builder().workers(3).most_workers(4).tenant("acme", 1).tenant("globex", 2).kind("get").kind("scan")
+}
+
+/// A writer whose text others may read.
+#[derive(Clone, Default)]
+struct Text(Arc<Mutex<Vec<u8>>>);
+
+impl Write for Text {
+    fn write(&mut self, bytes: &[u8]) -> io::Result<usize> {
+        self.0.lock().unwrap().write(bytes)
+    }
+
+    fn flush(&mut self) -> io::Result<()> {
+        Ok(())
+    }
+}
+
+impl Text {
+    /// The journals, each with its head.
+    fn journals(&self) -> Vec<String> {
+        let text = String::from_utf8(self.0.lock().unwrap().clone()).unwrap();
+        text.split("journal 2\n").skip(1).map(|rest| format!("journal 2\n{rest}")).collect()
+    }
+}
+
+/// The numbers of the lines that begin with this word, line by line.
+fn lines(journal: &str, word: &str) -> Vec<Vec<u64>> {
+    let rows = journal.lines().filter_map(|line| line.strip_prefix(word)?.strip_prefix(' '));
+    rows.map(|row| row.split(' ').map(|number| number.parse().unwrap()).collect()).collect()
+}
+
+/// What the proved program says of a journal, where `TWODFQ_PROGRAM` names it.
+fn judge(journal: &str) {
+    let Some(program) = env::var_os("TWODFQ_PROGRAM") else { return };
+    let mut child = Command::new(program).arg("check").stdin(Stdio::piped()).stdout(Stdio::piped()).spawn().unwrap();
+    child.stdin.take().unwrap().write_all(journal.as_bytes()).unwrap();
+    let verdict = String::from_utf8(child.wait_with_output().unwrap().stdout).unwrap();
+    let head = journal.lines().filter(|line| !line.starts_with("journal") && !line.starts_with("config")).count();
+    let names = lines_of_the_head(journal);
+    assert_eq!(verdict, format!("legal entries {}\n", head - names));
+}
+
+fn lines_of_the_head(journal: &str) -> usize {
+    journal.lines().filter(|line| line.starts_with("tenant ") || line.starts_with("kind ")).count()
+}
+
+/// What the jobs of a pool that rolls over leave in its journals under a policy and an estimator.
+fn each_job_in_a_journal(policy: Policy, estimator: Estimator) {
+    let text = Text::default();
+    let pool = builder().policy(policy).estimator(estimator).entries(200).refresh(Duration::ZERO).open().unwrap();
+    let journal = pool.journal(text.clone()).unwrap();
+    for i in 0..1000_u32 {
+        let job = move || {
+            twodfq::tick();
+            thread::sleep(Duration::from_micros(u64::from(i % 4) * 20));
+        };
+        pool.submit_declared(i % 2, i / 2 % 2, 1 + u64::from(i % 4) * 20, job).unwrap();
+        if i % 100 == 0 {
+            pool.weight(i % 2, 1 + i).unwrap();
+            pool.workers(1 + i / 100 % 4).unwrap();
+        }
+        if i % 250 == 0 {
+            thread::sleep(Duration::from_millis(2));
+        }
+        while pool.status().waiting > 40 {
+            thread::yield_now();
+        }
+    }
+    let status = pool.join();
+    let Written { journals, missed } = journal.join().unwrap();
+    assert_eq!(journals + missed, status.schedulers);
+    let texts = text.journals();
+    assert_eq!(texts.len() as u64, journals);
+    for journal in &texts {
+        let numbers = |word, place: usize| lines(journal, word).iter().map(|row| row[place]).collect::<Vec<_>>();
+        let submitted = numbers("submit", 2);
+        assert_eq!(submitted, (0..submitted.len() as u64).collect::<Vec<_>>());
+        for word in ["take", "done"] {
+            let mut requests = numbers(word, 3);
+            requests.sort_unstable();
+            assert_eq!(requests, submitted);
+        }
+        assert!(numbers("done", 4).iter().all(|&cost| cost >= 1));
+        assert_eq!(lines(journal, "close").len(), 1);
+        judge(journal);
+    }
+    let done: usize = texts.iter().map(|journal| lines(journal, "done").len()).sum();
+    let reports: usize = texts.iter().map(|journal| lines(journal, "report").len()).sum();
+    let counted: u64 = status.tenants.iter().map(|tenant| tenant.reports).sum();
+    if missed == 0 {
+        assert_eq!((done, reports as u64), (1000, counted));
+    }
+}
+
+#[test]
+fn each_job_stands_once_in_a_journal() {
+    for policy in [Policy::Wfq, Policy::Wf2q, Policy::Msf2q, Policy::TwoDfq] {
+        for estimator in [Estimator::Declared, Estimator::Recent, Estimator::Pessimistic] {
+            each_job_in_a_journal(policy, estimator);
+        }
+    }
+}
+
+#[test]
+fn the_journal_comes_while_the_pool_runs() {
+    let text = Text::default();
+    let pool = builder().open().unwrap();
+    let _dropped = pool.journal(text.clone()).unwrap();
+    assert_eq!(pool.journal(io::sink()).err().unwrap().kind(), io::ErrorKind::AlreadyExists);
+    pool.submit(1, 1, || ()).unwrap().join().unwrap();
+    let begun = Instant::now();
+    while text.journals().first().is_none_or(|journal| lines(journal, "done").len() != 1) {
+        assert!(begun.elapsed() < Duration::from_secs(10));
+        thread::sleep(Duration::from_millis(1));
+    }
+    let head = "journal 2\nconfig 4 2dfq pessimistic 1000 1000000 10000\ntenant acme 1\ntenant globex 2\nkind get\n\
+                kind scan\nworkers 64 0 3\nsubmit 64 ";
+    assert!(text.journals()[0].starts_with(head), "{}", text.journals()[0]);
+}
+
+/// A writer that waits at every call.
+struct Slow(Text);
+
+impl Write for Slow {
+    fn write(&mut self, bytes: &[u8]) -> io::Result<usize> {
+        thread::sleep(Duration::from_millis(5));
+        self.0.write(bytes)
+    }
+
+    fn flush(&mut self) -> io::Result<()> {
+        Ok(())
+    }
+}
+
+#[test]
+fn a_slow_journal_holds_nobody_up_and_leaves_out_whole_histories() {
+    let text = Text::default();
+    let pool = builder().entries(30).open().unwrap();
+    let journal = pool.journal(Slow(text.clone())).unwrap();
+    for i in 0..2000_u32 {
+        pool.submit(i % 2, 0, || ()).unwrap();
+    }
+    let status = pool.join();
+    let Written { journals, missed } = journal.join().unwrap();
+    assert_eq!(journals + missed, status.schedulers);
+    assert!(missed > 0 && journals > 0);
+    for journal in text.journals() {
+        assert_eq!(lines(&journal, "done").len(), lines(&journal, "submit").len());
+        judge(&journal);
+    }
+}
+
+#[test]
+fn a_writer_that_fails_ends_the_journal_alone() {
+    struct Fails;
+    impl Write for Fails {
+        fn write(&mut self, _: &[u8]) -> io::Result<usize> {
+            Err(io::Error::from(io::ErrorKind::StorageFull))
+        }
+
+        fn flush(&mut self) -> io::Result<()> {
+            Ok(())
+        }
+    }
+    let pool = builder().entries(16).open().unwrap();
+    let journal = pool.journal(Fails).unwrap();
+    assert_eq!(journal.join().unwrap_err().kind(), io::ErrorKind::StorageFull);
+    for _ in 0..100 {
+        pool.submit(0, 0, || ()).unwrap().join().unwrap();
+    }
+    assert!(pool.journal(io::sink()).is_ok()); // there may be another
+    assert_eq!(pool.join().tenants[0].done, 100);
+}
+
+#[test]
+fn the_status_counts_everything() {
+    let pool = builder().workers(1).room(2).refresh(Duration::ZERO).open().unwrap();
+    let (sender, receiver) = mpsc::channel::<()>();
+    let (begins, begun) = mpsc::channel();
+    let job = move || {
+        begins.send(()).unwrap();
+        receiver.recv().unwrap();
+        twodfq::tick();
+        thread::sleep(Duration::from_millis(2));
+        panic!("on purpose");
+    };
+    pool.submit(0, 0, job).unwrap();
+    begun.recv().unwrap();
+    pool.submit(1, 0, || ()).unwrap();
+    pool.submit(1, 1, || ()).unwrap();
+    assert!(pool.submit(0, 0, || ()).is_err());
+    pool.weight(1, 7).unwrap();
+    let status = pool.status();
+    assert_eq!((status.workers, status.waiting, status.running), (1, 2, 1));
+    let [acme, globex] = &status.tenants[..] else { panic!("two tenants") };
+    assert_eq!((acme.waiting, acme.running, acme.submitted, acme.refused, acme.done), (0, 1, 1, 1, 0));
+    assert_eq!((globex.weight, globex.waiting, globex.running, globex.submitted, globex.refused), (7, 2, 0, 2, 0));
+    sender.send(()).unwrap();
+    let status = pool.join();
+    let [acme, globex] = &status.tenants[..] else { panic!("two tenants") };
+    assert_eq!((acme.done, acme.panicked, acme.reports, acme.running), (1, 1, 1, 0));
+    assert!(acme.microseconds >= 2000);
+    assert_eq!((globex.done, globex.panicked, globex.waiting), (2, 0, 0));
+    let text = status.prometheus();
+    for line in [
+        "# HELP twodfq_jobs_waiting Jobs that wait.",
+        "# TYPE twodfq_jobs_waiting gauge",
+        "twodfq_workers 1",
+        "twodfq_weight{tenant=\"globex\"} 7",
+        "twodfq_jobs_refused_total{tenant=\"acme\"} 1",
+        "twodfq_jobs_panicked_total{tenant=\"acme\"} 1",
+        "twodfq_jobs_done_total{tenant=\"globex\"} 2",
+        "twodfq_reports_total{tenant=\"acme\"} 1",
+    ] {
+        assert!(text.lines().any(|other| other == line), "{line}");
+    }
+    let seconds = format!("twodfq_cost_seconds_total{{tenant=\"acme\"}} 0.{:06}", acme.microseconds);
+    assert!(text.lines().any(|line| line == seconds), "{seconds}");
+}
