@@ -225,6 +225,7 @@ fn the_status_counts_everything() {
     ] {
         assert!(text.lines().any(|other| other == line), "{line}");
     }
-    let seconds = format!("twodfq_cost_seconds_total{{tenant=\"acme\"}} 0.{:06}", acme.microseconds);
+    let (whole, part) = (acme.microseconds / 1_000_000, acme.microseconds % 1_000_000);
+    let seconds = format!("twodfq_cost_seconds_total{{tenant=\"acme\"}} {whole}.{part:06}");
     assert!(text.lines().any(|line| line == seconds), "{seconds}");
 }
