@@ -1,12 +1,15 @@
-ghost use Rattle.std.specs.Prelude.{◌≡◌};
+ghost use Rattle.std.specs.Prelude.{◌≡◌, [], ◌<◌};
 ghost use Rattle.status_board.specs.Boards.{IsReaderOf};
 ghost use Rattle.board_tests.specs.Shown.{HasShown};
 
-use crate::show::{Show, next, started, tells, was_shown};
+use crate::show::{Served, Show, next, tells, was_shown};
+use fq_model::config::Config;
+use sched_state::Scheduler;
 use status_board::{Board, Reader};
 use std::alloc::Global;
 use std::process::Abort;
 use std::thread::{Threads, join_mut, yield_now};
+use test_samples::sample_config;
 
 /// How many entries the threads' history has.
 const ENTRIES: u64 = 6000;
@@ -14,15 +17,45 @@ const ENTRIES: u64 = 6000;
 /// How often a reader looks at most.
 const LOOKS: u32 = 20000000;
 
+// A scheduler of one tenant of weight 1 and one worker.
+fn opened<R: Abort>(rt: &R, alloc: Global) -> Served
+    ensures { result.past ≡ [] }
+{
+    let weights = vec![in alloc; 1].expect(rt, "memory for a weight");
+    let config = Config {
+        entries: 10000,
+        ..sample_config(weights)
+    };
+    let config = config.check().expect(rt, "numbers in their limits");
+    let scheduler = Scheduler::open(alloc, config);
+    let Ok(scheduler) = scheduler else {
+        panic!(rt; "no memory for a scheduler")
+    };
+    scheduler
+}
+
+// A board, what is shown on it and a reader.
+fn started<R: Abort>(rt: &R, alloc: Global) -> (Board, Show, Reader)
+    ensures shown { HasShown result.0 result.1.writer result.1.scheduler }
+    ensures reader { IsReaderOf result.0 result.2 }
+{
+    let scheduler = opened(rt, alloc);
+    let board = Board::open(alloc, scheduler.config());
+    let Ok((board, writer, reader)) = board else {
+        panic!(rt; "no memory for a board")
+    };
+    (board, Show { scheduler, writer }, reader)
+}
+
 // One request from its coming to its end, with a look after each entry and another reader's at the end.
 fn one_request<R: Abort>(rt: &R, alloc: Global) {
     let (board, mut show, mut reader) = started(rt, alloc);
     assert!(rt; tells(reader.read(&board), 0, 0, 0, 0, 0));
-    next(rt, &board, &mut show, 0);
+    assert!(rt; next(&board, &mut show, 0));
     assert!(rt; tells(reader.read(&board), 1, 5, 0, 1, 0));
-    next(rt, &board, &mut show, 1);
+    assert!(rt; next(&board, &mut show, 1));
     assert!(rt; tells(reader.read(&board), 2, 5, 0, 0, 1));
-    next(rt, &board, &mut show, 2);
+    assert!(rt; next(&board, &mut show, 2));
     assert!(rt; tells(reader.read(&board), 3, 10, 5242880, 0, 0));
     let second = board.second(&mut reader);
     let Ok(mut second) = second else {
@@ -41,14 +74,14 @@ fn one_request_from_its_coming_to_its_end(rt: HostRuntime) {
 // A reader that missed some entries, and one that comes late.
 fn late<R: Abort>(rt: &R, alloc: Global) {
     let (board, mut show, mut reader) = started(rt, alloc);
-    next(rt, &board, &mut show, 0);
-    next(rt, &board, &mut show, 1);
+    assert!(rt; next(&board, &mut show, 0));
+    assert!(rt; next(&board, &mut show, 1));
     let second = board.second(&mut reader);
     let Ok(mut second) = second else {
         panic!(rt; "no memory for a reader")
     };
     assert!(rt; tells(second.read(&board), 2, 5, 0, 0, 1));
-    next(rt, &board, &mut show, 2);
+    assert!(rt; next(&board, &mut show, 2));
     assert!(rt; tells(reader.read(&board), 3, 10, 5242880, 0, 0));
     assert!(rt; tells(second.read(&board), 3, 10, 5242880, 0, 0));
     show.writer.end();
@@ -68,7 +101,7 @@ fn shows<R: Abort>(rt: &R, board: &Board, show: &mut Show)
     ensures shown { HasShown board.now show.new.writer show.new.scheduler }
 {
     for entry in 0..ENTRIES {
-        next(rt, board, show, entry);
+        assert!(rt; next(board, show, entry));
     }
 }
 

@@ -3,5 +3,4 @@
 
 #[cfg(test)]
 mod board_tests;
-#[cfg(test)]
-mod show;
+pub mod show;

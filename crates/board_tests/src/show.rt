@@ -1,87 +1,69 @@
 //! A scheduler whose history is known beforehand, and a writer that shows it.
-ghost use Rattle.std.specs.Prelude.{◌≡◌, []};
+ghost use Rattle.std.specs.Prelude.{◌≡◌, ◌<◌};
 ghost use Rattle.history_lock.specs.Histories.{IsPrefix};
-ghost use Rattle.status_board.specs.Boards.{IsReaderOf};
 ghost use Rattle.board_tests.specs.Shown.{HasShown};
 
-use fq_model::config::Config;
 use fq_model::parts::Status;
 use rival_policies::plain::PlainChooser;
 use sched_state::{Scheduler, Taken};
-use status_board::{Board, Reader, Writer};
-use std::alloc::Global;
-use std::process::Abort;
-use test_samples::sample_config;
+use status_board::{Board, Writer};
+
+pub type Served = Scheduler<u64, PlainChooser>;
 
 /// A scheduler, and the writer that shows its past.
 #[derive(Drop)]
 pub struct Show {
-    pub scheduler: Scheduler<u64, PlainChooser>,
+    pub scheduler: Served,
     pub writer: Writer,
 }
 
-// A scheduler of one tenant of weight 1 and one worker.
-fn opened<R: Abort>(rt: &R, alloc: Global) -> Scheduler<u64, PlainChooser>
-    ensures { result.past ≡ [] }
+fn submit(scheduler: &mut Served, moment: u64) -> bool
+    ensures past { IsPrefix scheduler.old.past scheduler.new.past }
+    ensures config { scheduler.new.config ≡ scheduler.old.config }
 {
-    let weights = vec![in alloc; 1].expect(rt, "memory for a weight");
-    let config = Config {
-        entries: 10000,
-        ..sample_config(weights)
-    };
-    let config = config.check().expect(rt, "numbers in their limits");
-    let scheduler = Scheduler::open(alloc, config);
-    let Ok(scheduler) = scheduler else {
-        panic!(rt; "no memory for a scheduler")
-    };
-    scheduler
+    scheduler.submit(0, moment, 0, 0, 5, 0).is_ok()
 }
 
-/// A board, what is shown on it and a reader.
-pub fn started<R: Abort>(rt: &R, alloc: Global) -> (Board, Show, Reader)
-    ensures shown { HasShown result.0 result.1.writer result.1.scheduler }
-    ensures reader { IsReaderOf result.0 result.2 }
+fn take(scheduler: &mut Served, moment: u64) -> bool
+    ensures past { IsPrefix scheduler.old.past scheduler.new.past }
+    ensures config { scheduler.new.config ≡ scheduler.old.config }
 {
-    let scheduler = opened(rt, alloc);
-    let board = Board::open(alloc, scheduler.config());
-    let Ok((board, writer, reader)) = board else {
-        panic!(rt; "no memory for a board")
-    };
-    (board, Show { scheduler, writer }, reader)
+    let taken = scheduler.take(1, moment, 0);
+    matches!(taken, Taken::Run { .. })
 }
 
-// A request comes every 10 microseconds, first at 5. It is taken at once, and takes 5.
-fn enter<R: Abort>(rt: &R, scheduler: &mut Scheduler<u64, PlainChooser>, entry: u64)
+fn done(scheduler: &mut Served, moment: u64) -> bool
+    ensures past { IsPrefix scheduler.old.past scheduler.new.past }
+    ensures config { scheduler.new.config ≡ scheduler.old.config }
+{
+    scheduler.done(1, moment, 0, 5).is_ok()
+}
+
+// Whether the call of this entry was accepted. A request comes every 10 microseconds, first at 5. It is taken at once,
+// and takes 5.
+fn enter(scheduler: &mut Served, entry: u64) -> bool
     requires { entry < 10000 }
     ensures past { IsPrefix scheduler.old.past scheduler.new.past }
     ensures config { scheduler.new.config ≡ scheduler.old.config }
 {
     let moment = 10 * (entry / 3) + 5;
     match entry % 3 {
-        0 => {
-            let came = scheduler.submit(0, moment, 0, 0, 5, 0);
-            assert!(rt; came.is_ok());
-        }
-        1 => {
-            let taken = scheduler.take(1, moment, 0);
-            assert!(rt; matches!(taken, Taken::Run { .. }));
-        }
-        _ => {
-            let ended = scheduler.done(1, moment + 5, 0, 5);
-            assert!(rt; ended.is_ok());
-        }
+        0 => submit(scheduler, moment),
+        1 => take(scheduler, moment),
+        _ => done(scheduler, moment + 5),
     }
 }
 
-/// Makes the call of this entry, and shows what it leaves.
-pub fn next<R: Abort>(rt: &R, board: &Board, show: &mut Show, entry: u64)
+/// Makes the call of this entry, shows what it leaves, and says whether it was accepted.
+pub fn next(board: &Board, show: &mut Show, entry: u64) -> bool
     requires entry { entry < 10000 }
     requires shown { HasShown board.now show.old.writer show.old.scheduler }
     ensures shown { HasShown board.now show.new.writer show.new.scheduler }
 {
-    enter(rt, &mut show.scheduler, entry);
+    let accepted = enter(&mut show.scheduler, entry);
     let status = show.scheduler.status();
     show.writer.show(board, show.scheduler.past(), status);
+    accepted
 }
 
 /// Whether these are the numbers of a status.
