@@ -1,5 +1,5 @@
 //! The writer.
-ghost use Rattle.std.specs.Prelude.{◌≡◌, ℕ, ◌<◌, ◌^◌, [], length, Some};
+ghost use Rattle.std.specs.Prelude.{◌≡◌, ◌<◌, [], length, Some};
 ghost use Rattle.fq_model.specs.History.{history_of};
 ghost use Rattle.fq_model.specs.Status.{status_of};
 ghost use Rattle.history_lock.specs.Histories.{IsPrefix};

@@ -1,7 +1,0 @@
-//! Tests of the status board, with threads.
-#![tactic(auto)]
-
-#[cfg(test)]
-mod board_tests;
-#[cfg(test)]
-mod show;
