@@ -1,0 +1,108 @@
+package twodfq
+
+import (
+	"errors"
+	"sync"
+	"sync/atomic"
+	"testing"
+)
+
+// Each job is run once, whoever hands it in, while schedulers of few entries follow one another.
+func TestEachJobRunsOnce(t *testing.T) {
+	const submitters, each = 8, 2000
+	config := Default(1, 2, 3)
+	config.Entries, config.Requests = 1000, submitters*each
+	pool, err := NewPool(config)
+	if err != nil {
+		t.Fatal(err)
+	}
+	runs := make([]int32, submitters*each)
+	var done sync.WaitGroup
+	for submitter := 0; submitter < submitters; submitter++ {
+		done.Add(1)
+		go func(first int) {
+			defer done.Done()
+			for i := first; i < first+each; i++ {
+				i := i
+				if err := pool.Submit(uint32(i%3), func() { atomic.AddInt32(&runs[i], 1) }); err != nil {
+					t.Error(err)
+				}
+			}
+		}(submitter * each)
+	}
+	done.Wait()
+	pool.Close()
+	for i, count := range runs {
+		if count != 1 {
+			t.Fatalf("job %d ran %d times", i, count)
+		}
+	}
+}
+
+// A job beside a queue of another tenant's is served before that queue.
+func TestATenantIsServedInItsTurn(t *testing.T) {
+	config := Default(1, 1)
+	config.Workers = 1
+	pool, err := NewPool(config)
+	if err != nil {
+		t.Fatal(err)
+	}
+	var order []string // by the one worker
+	begin := make(chan struct{})
+	submit := func(tenant uint32, job func()) {
+		if err := pool.Submit(tenant, job); err != nil {
+			t.Error(err)
+		}
+	}
+	submit(0, func() { <-begin })
+	for i := 0; i < 10; i++ {
+		submit(0, func() { order = append(order, "flood") })
+	}
+	submit(1, func() { order = append(order, "other") })
+	close(begin)
+	pool.Close()
+	if len(order) != 11 || (order[0] != "other" && order[1] != "other") {
+		t.Fatalf("served in the order %v", order)
+	}
+}
+
+func TestRefusals(t *testing.T) {
+	config := Default(1)
+	config.Workers, config.Requests = 1, 2
+	pool, err := NewPool(config)
+	if err != nil {
+		t.Fatal(err)
+	}
+	begin, begun := make(chan struct{}), make(chan struct{})
+	refused := func(tenant uint32, cause error) {
+		if err := pool.Submit(tenant, func() {}); !errors.Is(err, cause) {
+			t.Errorf("%v in place of %v", err, cause)
+		}
+	}
+	refused(1, RefusedTenant)
+	refused(0, nil)
+	if err := pool.Submit(0, func() { close(begun); <-begin }); err != nil {
+		t.Fatal(err)
+	}
+	<-begun
+	refused(0, nil)
+	refused(0, nil)
+	refused(0, RefusedSlots)
+	close(begin)
+	pool.Close()
+	refused(0, RefusedClosed)
+}
+
+func TestNumbersOutOfRange(t *testing.T) {
+	for _, change := range []func(*Config){
+		func(c *Config) { c.Workers = 65 },
+		func(c *Config) { c.Weights = nil },
+		func(c *Config) { c.Entries = 3 },
+	} {
+		config := Default(1)
+		change(&config)
+		if pool, err := NewPool(config); pool != nil || err == nil {
+			t.Errorf("a pool of %v", config)
+		}
+	}
+}

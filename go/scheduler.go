@@ -1,0 +1,188 @@
+// Package twodfq shares the workers of a service fairly among its tenants (Two-Dimensional Fair Queuing, Mace and others,
+// 2016), over the library for C, whose contracts are proved. What is here is not proved.
+//
+// A service that wants a pool of goroutines takes a Pool. One that has goroutines of its own makes the calls of a
+// Scheduler, under a lock.
+//
+// Moments and costs are in microseconds. Tenants, kinds, workers and requests are numbered from 0.
+package twodfq
+
+// #cgo CFLAGS: -I${SRCDIR}/../c/out
+// #cgo LDFLAGS: -L${SRCDIR}/../c/out -ltwodfq
+// #include "twodfq.h"
+import "C"
+
+import "fmt"
+
+// Policy says which waiting request a worker takes.
+type Policy uint32
+
+const (
+	WFQ    Policy = C.TWODFQ_WFQ   // the least finish tag
+	WF2Q   Policy = C.TWODFQ_WF2Q  // the least finish tag of those that have started in virtual time
+	MSF2Q  Policy = C.TWODFQ_MSF2Q // as WF2Q, with starts by the virtual time that passed while a tenant was idle
+	TwoDFQ Policy = C.TWODFQ_2DFQ  // as WF2Q, with starts that differ from worker to worker
+)
+
+// Estimator says what a request is thought to cost before it is done.
+type Estimator uint32
+
+const (
+	Declared    Estimator = C.TWODFQ_DECLARED    // what its submit names
+	Recent      Estimator = C.TWODFQ_RECENT      // the mean of the last eight costs of its tenant and kind
+	Pessimistic Estimator = C.TWODFQ_PESSIMISTIC // the greatest of the costs of its tenant and kind, which decay
+)
+
+// Config is what a scheduler is opened with.
+type Config struct {
+	Workers  uint32   // 1 to 64
+	Weights  []uint32 // one a tenant, each 1 to 1,000; 1 to 4,096 tenants
+	Kinds    uint32   // 1 to 64; tenants times kinds is at most 65,536
+	Entries  uint32   // how many entries the history may have: 4 to 4,194,304. A request takes three, and each report one
+	Requests uint32   // how many requests may wait at once: 1 to 262,144
+	Policy   Policy
+	Estimate Estimator
+	Initial  uint64 // the estimate before any completion: 1 to 1,000,000,000
+}
+
+// Default gives four workers, 1,000,000 entries, 10,000 requests, TwoDFQ, Pessimistic and 1,000 microseconds.
+func Default(weights ...uint32) Config {
+	return Config{Workers: 4, Weights: weights, Kinds: 1, Entries: 1_000_000, Requests: 10_000, Policy: TwoDFQ,
+		Estimate: Pessimistic, Initial: 1000}
+}
+
+// OpenFault is a status of twodfq_open: why there is no scheduler.
+type OpenFault uint32
+
+func (f OpenFault) Error() string {
+	if f == C.TWODFQ_OPEN_NO_MEMORY {
+		return "no memory for a scheduler"
+	}
+	return fmt.Sprintf("no scheduler has these numbers (TWODFQ_OPEN_..., status %d)", uint32(f))
+}
+
+// Refusal is a kind of reply with which a call is refused.
+type Refusal uint32
+
+const (
+	RefusedClosed  Refusal = C.TWODFQ_REFUSED_CLOSED
+	RefusedTenant  Refusal = C.TWODFQ_REFUSED_TENANT
+	RefusedKind    Refusal = C.TWODFQ_REFUSED_KIND
+	RefusedCost    Refusal = C.TWODFQ_REFUSED_COST
+	RefusedSlots   Refusal = C.TWODFQ_REFUSED_SLOTS
+	RefusedFull    Refusal = C.TWODFQ_REFUSED_FULL
+	RefusedWorker  Refusal = C.TWODFQ_REFUSED_WORKER
+	RefusedBusy    Refusal = C.TWODFQ_REFUSED_BUSY
+	RefusedIdle    Refusal = C.TWODFQ_REFUSED_NOT_RUNNING
+	RefusedFalling Refusal = C.TWODFQ_REFUSED_FALLING
+	RefusedWeight  Refusal = C.TWODFQ_REFUSED_WEIGHT
+	RefusedWorkers Refusal = C.TWODFQ_REFUSED_WORKERS
+	NoScheduler    Refusal = C.TWODFQ_NO_SCHEDULER
+)
+
+var causes = map[Refusal]string{
+	RefusedClosed: "closed", RefusedTenant: "no such tenant", RefusedKind: "no such kind", RefusedCost: "no such cost",
+	RefusedSlots: "as many requests wait as may", RefusedFull: "the history has no room", RefusedWorker: "no such worker",
+	RefusedBusy: "the worker runs a request", RefusedIdle: "the worker runs nothing", RefusedFalling: "less than was reported",
+	RefusedWeight: "no such weight", RefusedWorkers: "no such number of workers", NoScheduler: "no scheduler is open",
+}
+
+func (r Refusal) Error() string { return "refused: " + causes[r] }
+
+// Taken is what a worker that asks for work is given.
+type Taken struct {
+	Kind     TakenKind
+	Request  uint32 // these three are of a Run
+	Estimate uint64
+	Label    uint64
+}
+
+// TakenKind is the kind of a Taken.
+type TakenKind uint32
+
+const (
+	Run     TakenKind = C.TWODFQ_RUN     // the worker runs the request from now on
+	Idle    TakenKind = C.TWODFQ_IDLE    // nothing waits; more may come
+	Drained TakenKind = C.TWODFQ_DRAINED // nothing waits, and nothing more will come
+	Retired TakenKind = C.TWODFQ_RETIRED // the worker is not among those that there are now; it may ask again
+)
+
+// Request is one that comes.
+type Request struct {
+	Tenant, Kind uint32
+	Declared     uint64 // the cost that its submitter names
+	Label        uint64 // any number, which comes back when a worker runs it
+}
+
+// Scheduler holds a C.twodfq. It may lie in Go's memory: no call keeps a pointer to it, and the pointer in it is to C's
+// memory. One call at a time is made on it, and Free at the end.
+type Scheduler struct {
+	handle C.twodfq
+}
+
+// Open takes all the memory that the scheduler will use.
+func Open(config Config) (*Scheduler, error) {
+	weights := append(make([]uint32, 0, len(config.Weights)+1), config.Weights...)
+	opening := C.twodfq_opening{workers: C.uint32_t(config.Workers), kinds: C.uint32_t(config.Kinds),
+		entries: C.uint32_t(config.Entries), requests: C.uint32_t(config.Requests), policy: C.uint32_t(config.Policy),
+		estimate: C.uint32_t(config.Estimate), initial: C.uint64_t(config.Initial)}
+	s := new(Scheduler)
+	first := (*C.uint32_t)(&weights[:1][0]) // there is one more than are said, so that none still have an address
+	status := C.twodfq_open(&s.handle, &opening, first, C.size_t(len(weights)))
+	if status != C.TWODFQ_OPENED {
+		return nil, OpenFault(status)
+	}
+	return s, nil
+}
+
+func refusal(reply C.twodfq_reply) error {
+	if reply.kind >= C.TWODFQ_REFUSED_CLOSED {
+		return Refusal(reply.kind)
+	}
+	return nil
+}
+
+// Submit gives the request the next number.
+func (s *Scheduler) Submit(who uint32, moment uint64, request Request) (uint32, error) {
+	reply := C.twodfq_submit(&s.handle, C.uint32_t(who), C.uint64_t(moment), C.uint32_t(request.Tenant),
+		C.uint32_t(request.Kind), C.uint64_t(request.Declared), C.uint64_t(request.Label))
+	return uint32(reply.request), refusal(reply)
+}
+
+// Take asks for work for a worker.
+func (s *Scheduler) Take(who uint32, moment uint64, worker uint32) (Taken, error) {
+	reply := C.twodfq_take(&s.handle, C.uint32_t(who), C.uint64_t(moment), C.uint32_t(worker))
+	taken := Taken{Kind: TakenKind(reply.kind), Request: uint32(reply.request)}
+	if taken.Kind == Run {
+		taken.Estimate, taken.Label = uint64(reply.first), uint64(reply.second)
+	}
+	return taken, refusal(reply)
+}
+
+// Report tells what the worker's request has used so far; it runs on.
+func (s *Scheduler) Report(who uint32, moment uint64, worker uint32, used uint64) error {
+	return refusal(C.twodfq_report(&s.handle, C.uint32_t(who), C.uint64_t(moment), C.uint32_t(worker), C.uint64_t(used)))
+}
+
+// Done tells that the worker's request has ended, and its measured cost.
+func (s *Scheduler) Done(who uint32, moment uint64, worker uint32, cost uint64) error {
+	return refusal(C.twodfq_done(&s.handle, C.uint32_t(who), C.uint64_t(moment), C.uint32_t(worker), C.uint64_t(cost)))
+}
+
+// Close says that nothing more is submitted.
+func (s *Scheduler) Close(who uint32, moment uint64) error {
+	return refusal(C.twodfq_close(&s.handle, C.uint32_t(who), C.uint64_t(moment)))
+}
+
+// Weight gives the tenant this weight from now on, 1 to 1,000.
+func (s *Scheduler) Weight(who uint32, moment uint64, tenant, weight uint32) error {
+	return refusal(C.twodfq_weight(&s.handle, C.uint32_t(who), C.uint64_t(moment), C.uint32_t(tenant), C.uint32_t(weight)))
+}
+
+// SetWorkers says how many workers there are from now on, at most as many as at the opening.
+func (s *Scheduler) SetWorkers(who uint32, moment uint64, count uint32) error {
+	return refusal(C.twodfq_workers(&s.handle, C.uint32_t(who), C.uint64_t(moment), C.uint32_t(count)))
+}
+
+// Free gives the scheduler's memory back. Calls from here on are refused with NoScheduler.
+func (s *Scheduler) Free() { C.twodfq_free(&s.handle) }
