@@ -5,6 +5,7 @@ import (
 	"sync"
 	"sync/atomic"
 	"testing"
+	"time"
 )
 
 // Each job is run once, whoever hands it in, while schedulers of few entries follow one another.
@@ -39,7 +40,7 @@ func TestEachJobRunsOnce(t *testing.T) {
 	}
 }
 
-// A job beside a queue of another tenant's is served before that queue.
+// A job beside a queue of another tenant's, whose jobs cost more, is served before that queue.
 func TestATenantIsServedInItsTurn(t *testing.T) {
 	config := Default(1, 1)
 	config.Workers = 1
@@ -56,7 +57,7 @@ func TestATenantIsServedInItsTurn(t *testing.T) {
 	}
 	submit(0, func() { <-begin })
 	for i := 0; i < 10; i++ {
-		submit(0, func() { order = append(order, "flood") })
+		submit(0, func() { time.Sleep(2 * time.Millisecond); order = append(order, "flood") })
 	}
 	submit(1, func() { order = append(order, "other") })
 	close(begin)
