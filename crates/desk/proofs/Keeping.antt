@@ -1,14 +1,18 @@
 -- Every call keeps the past legal and staffed.
-use Rattle.std.proofs.Common.{◌≡◌, ℕ, ◌+◌, Bool, true, false, Option, sym, ap, ◌∙◌, subst, ◌==◌}
-use Rattle.std.specs.Prelude.{MatchBool, nat_le, Result, Ok, Err, IfErr}
+use Rattle.std.proofs.Common.{◌≡◌, ℕ, ◌+◌, Bool, true, false, List, [], Option, Some, None, sym, ap, ◌∙◌, subst, ◌==◌, append-nil}
+use Rattle.std.specs.Prelude.{MatchBool, nat_le, Result, Ok, Err, IfErr, IfSome}
 use Rattle.fq_model.specs.declared.config.Config.{Config}
 use Rattle.fq_model.specs.declared.event.Act.{Act}
 use Rattle.fq_model.specs.declared.event.Cause.{Cause}
+use Rattle.fq_model.specs.declared.event.Entry.{Entry}
 use Rattle.fq_model.specs.declared.event.Reply.{Reply}
+use Rattle.fq_model.specs.Limits.{InLimits}
 use Rattle.fq_model.specs.History.{History, history_of, waiting, pool_at}
 use Rattle.fq_model.specs.Rules.{Answers, IsAnswered, IsAccepted, RefusedOrElse, AnswersPooled, RunsChosen, take_refusal, IsLegal}
 use Rattle.fq_laws.proofs.Rules.Answers.{answer_legal}
 use Rattle.fq_laws.proofs.Rules.Refusals.{refused_keeps}
+use Rattle.history_lock.specs.Histories.{IsPrefix}
+use Rattle.history_lock.proofs.Histories.{starts_more}
 use Rattle.sched_state.specs.Scheduler.{SchedulerView}
 use Rattle.sched_state.specs.declared.replies.Refused.{Refused}
 use Rattle.sched_state.specs.Replies.{AnswersCall}
@@ -18,7 +22,10 @@ use Rattle.desk.specs.declared.told.Ask.TheVariants as ask
 use Rattle.desk.specs.declared.told.Told.{Told}
 use Rattle.desk.specs.declared.told.Told.TheVariants as told
 use Rattle.desk.specs.Staffed.{IsMadeBy, IsStaffed, MayAsk}
-use Rattle.desk.specs.Floors.{FloorView, crew_of, KeepsFloor}
+use Rattle.status_board.specs.Boards.{BoardView, ReaderView}
+use Rattle.desk.specs.Floors.{FloorView, crew_for, crew_of, opened, KeepsFloor}
+use Rattle.desk.specs.Growing.{answers_grow}
+use Rattle.desk.specs.Shown.{ShownView, board_of, Shows, ShowsPart, AreReadersOf, HaveSeen}
 use Rattle.desk.specs.Ending.{IsGivenBack}
 use Rattle.desk.specs.Told.{call_of, reply_of, Suits, AnswersAsk}
 
@@ -45,32 +52,47 @@ staffed_on label crew P who (ask.Weight moment tenant weight) reply Q may st x =
 staffed_on label crew P who (ask.Workers moment count) reply Q may st x = staffed_more crew.submitters who moment _ _ P _ reply Q may st x
 
 -- what a call on a floor that is seen so leaves keeps what a floor keeps
-pub kept : {J : Type 0} (label : J → ℕ) (before after : SchedulerView J) (s : ℕ) (seen : FloorView J) (who : ℕ) (given asked : Ask J) (reply : Reply) → record { scheduler = before; submitters = s } ≡ seen → given ≡ asked → MayAsk (crew_of seen) who given
+pub kept : {J : Type 0} (label : J → ℕ) (before after : SchedulerView J) (s : ℕ) (b : Option BoardView) (seen : FloorView J) (who : ℕ) (asked : Ask J) (reply : Reply) → record { scheduler = before; submitters = s; board = b } ≡ seen → MayAsk (crew_of seen) who asked
     → AnswersCall before (call_of label who asked) reply after → KeepsFloor before s → KeepsFloor after s
-kept {J = J} label before after s seen who given asked reply view is may a k =
-    let crew : Crew = record { config = before.config; submitters = s } in
-    let by : MayAsk crew who asked = subst (λ (f : FloorView J). MayAsk (crew_of f) who asked) (sym view) (subst (MayAsk (crew_of seen) who) is may) in record {
+kept {J = J} label before after s b seen who asked reply view may a k =
+    let crew : Crew = crew_for before.config s b in
+    let by : MayAsk crew who asked = subst (λ (f : FloorView J). MayAsk (crew_of f) who asked) (sym view) may in record {
       limits = rw a.config_is k.limits;
       legal = subst (λ (C : Config). IsLegal C (history_of after.past)) (sym a.config_is) (answer_legal before.config (history_of before.past) (call_of label who asked) reply (history_of after.past) k.limits k.legal a.answers);
       staffed = staffed_on label crew (history_of before.past) who asked reply (history_of after.past) by k.staffed a.answers;
     }
 
 -- and answers what is asked so
-pub answers_so : {J : Type 0} (label : J → ℕ) (before after : SchedulerView J) (s : ℕ) (seen : FloorView J) (who : ℕ) (given asked : Ask J) (reply : Told J) → record { scheduler = before; submitters = s } ≡ seen → given ≡ asked
-    → AnswersCall before (call_of label who asked) (reply_of label reply) after → Suits asked reply → KeepsFloor before s → AnswersAsk label (crew_of seen) seen.scheduler.past who given reply after.past
-answers_so {J = J} label before after s seen who given asked reply view is a suits k =
-    subst (λ (f : FloorView J). AnswersAsk label (crew_of f) f.scheduler.past who given reply after.past) view
-    (subst (λ (x : Ask J). AnswersAsk label (record { config = before.config; submitters = s }) before.past who x reply after.past) (sym is)
-    (record { legal = k.legal; staffed = k.staffed; answers = a.answers; suits = suits }))
+pub answers_so : {J : Type 0} (label : J → ℕ) (before after : SchedulerView J) (s : ℕ) (b : Option BoardView) (seen : FloorView J) (who : ℕ) (asked : Ask J) (reply : Told J) → record { scheduler = before; submitters = s; board = b } ≡ seen
+    → AnswersCall before (call_of label who asked) (reply_of label reply) after → Suits asked reply → KeepsFloor before s → AnswersAsk label (crew_of seen) seen.scheduler.past who asked reply after.past
+answers_so {J = J} label before after s b seen who asked reply view a suits k =
+    subst (λ (f : FloorView J). AnswersAsk label (crew_of f) f.scheduler.past who asked reply after.past) view
+    (record { legal = k.legal; staffed = k.staffed; answers = a.answers; suits = suits })
 
 -- a refused Submit gives its job back
 pub suits_submit : {J : Type 0} (moment tenant kind declared : ℕ) (job : J) (result : Result ℕ (Refused J)) → IfErr result (λ f. f.job ≡ job) → Suits (ask.Submit moment tenant kind declared job) (told.Submitted result)
 suits_submit moment tenant kind declared job (Ok request) back = tt
 suits_submit moment tenant kind declared job (Err refused) back = back
 
+-- what is told to what was found to be asked is told to what is asked
+pub told_so : {J : Type 0} (label : J → ℕ) (before after : SchedulerView J) (who : ℕ) (given asked : Ask J) (reply : Told J) → given ≡ asked → AnswersCall before (call_of label who asked) (reply_of label reply) after → AnswersCall before (call_of label who given) (reply_of label reply) after
+told_so {J = J} label before after who given asked reply is a = subst (λ (x : Ask J). AnswersCall before (call_of label who x) (reply_of label reply) after) (sym is) a
+
+pub suits_so : {J : Type 0} (given asked : Ask J) (reply : Told J) → given ≡ asked → Suits asked reply → Suits given reply
+suits_so {J = J} given asked reply is a = subst (λ (x : Ask J). Suits x reply) (sym is) a
+
 -- the crew stays
-pub crew_stays : {J : Type 0} (before after : SchedulerView J) (s : ℕ) (seen : FloorView J) → record { scheduler = before; submitters = s } ≡ seen → after.config ≡ before.config → record { config = after.config; submitters = s } ≡ crew_of seen
-crew_stays {J = J} before after s seen view same = ap (λ (C : Config). record { config = C; submitters = s }) same ∙ ap (λ (f : FloorView J). crew_of f) view
+pub crew_stays : {J : Type 0} (before after : SchedulerView J) (s : ℕ) (b b2 : Option BoardView) (seen : FloorView J) → record { scheduler = before; submitters = s; board = b } ≡ seen → after.config ≡ before.config → b2 ≡ b → crew_for after.config s b2 ≡ crew_of seen
+crew_stays {J = J} before after s b b2 seen view same board = (λ i. crew_for (same i) s (board i)) ∙ ap (λ (f : FloorView J). crew_of f) view
+
+-- the past goes on, so what was shown is a front part of it
+pub shows_part : {J : Type 0} (label : J → ℕ) (before after : SchedulerView J) (s : ℕ) (who : ℕ) (asked : Ask J) (reply : Told J) (shown : Option ShownView)
+    → AnswersCall before (call_of label who asked) (reply_of label reply) after → Suits asked reply → KeepsFloor before s → Shows before.config before.past shown → ShowsPart after.config after.past shown
+shows_part label before after s who asked reply None a suits k shows = tt
+shows_part label before after s who asked reply (Some v) a suits k shows =
+    let told : AnswersAsk label (crew_for before.config s None) before.past who asked reply after.past = record { legal = k.legal; staffed = k.staffed; answers = a.answers; suits = suits } in
+    let more : IsPrefix before.past after.past = starts_more who before.past after.past before.past (answers_grow label (crew_for before.config s None) before.past who asked reply after.past told) ([], sym (append-nil before.past)) in
+    (shows.0 ∙ sym a.config_is, subst (λ P. IsPrefix P after.past) (sym shows.1) more)
 
 -- what a floor keeps, a desk gives back
 pub given_back : {J : Type 0} (crew : Crew) (floor : FloorView J) (scheduler : SchedulerView J) → crew_of floor ≡ crew → scheduler ≡ floor.scheduler → KeepsFloor scheduler floor.submitters → IsGivenBack crew scheduler
@@ -81,3 +103,23 @@ given_back crew floor scheduler is same k =
       legal = subst (λ (C : Config). IsLegal C (history_of scheduler.past)) own k.legal;
       staffed = subst (λ n. IsStaffed n (history_of scheduler.past)) (ap (λ (c : Crew). c.submitters) is) k.staffed;
     }
+
+-- and so is what shows its past
+pub shown_back : {J : Type 0} (crew : Crew) (floor : FloorView J) (scheduler : SchedulerView J) (shown : Option ShownView) → crew_of floor ≡ crew → scheduler ≡ floor.scheduler → board_of shown ≡ floor.board → Shows scheduler.config scheduler.past shown
+    → Shows crew.config scheduler.past shown × (board_of shown ≡ crew.board)
+shown_back crew floor scheduler shown is same board shows = (
+  subst (λ (C : Config). Shows C scheduler.past shown) (ap (λ s. s.config) same ∙ ap (λ (c : Crew). c.config) is) shows,
+  board ∙ ap (λ (c : Crew). c.board) is,
+)
+
+-- what the readers of a board have seen is of the past that is shown there
+pub all_seen : (C : Config) (P : List Entry) (shown : Option ShownView) (board : Option BoardView) (readers : List ReaderView) → Shows C P shown → board_of shown ≡ board → AreReadersOf board readers → IfSome shown (λ s. HaveSeen s.past readers)
+    → HaveSeen P readers
+all_seen C P (Some v) board readers shows is own seen = subst (λ (l : List Entry). HaveSeen l readers) shows.1 seen
+all_seen C P None board readers shows is own seen = absurd (subst (λ (b : Option BoardView). AreReadersOf b readers) (sym is) own)
+
+-- a floor that was just opened keeps what a floor keeps
+pub opens_keeping : {J : Type 0} (config : Config) (submitters : ℕ) (scheduler : SchedulerView J) (shown : Option ShownView) → scheduler ≡ (opened config submitters None).scheduler → InLimits config → Shows config [] shown
+    → KeepsFloor scheduler submitters × Shows scheduler.config scheduler.past shown
+opens_keeping {J = J} config submitters scheduler shown is limits shows =
+    subst (λ (s : SchedulerView J). KeepsFloor s submitters × Shows s.config s.past shown) (sym is) (record { limits = limits; legal = tt; staffed = tt }, shows)

@@ -4,3 +4,4 @@ pub mod Left
 pub mod Turned
 pub mod Splitting
 pub mod Joins
+pub mod Reading

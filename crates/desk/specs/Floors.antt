@@ -1,31 +1,41 @@
 -- What contracts see of a floor, and what it keeps.
-use Rattle.std.specs.Prelude.{ℕ, refl, []}
-use Rattle.std.specs.Coded.{Coded, code_by, coded×, coded_ℕ}
+use Rattle.std.specs.Prelude.{ℕ, refl, [], Option}
+use Rattle.std.specs.Coded.{Coded, code_by, coded×, coded_option, coded_ℕ}
 use Rattle.std.specs.FinMap as map
 use Rattle.fq_model.specs.declared.config.Config.{Config}
 use Rattle.fq_model.specs.Limits.{InLimits}
 use Rattle.fq_model.specs.History.{history_of}
 use Rattle.fq_model.specs.Rules.{IsLegal}
 use Rattle.sched_state.specs.Scheduler.{SchedulerView, scheduler_code}
+use Rattle.status_board.specs.Boards.{BoardView}
 use Rattle.desk.specs.declared.floor.Crew.{Crew}
+use Rattle.desk.specs.Shown.{board_code}
 use Rattle.desk.specs.Staffed.{IsStaffed}
 
--- a scheduler, and how many submitters it has
+-- a scheduler, how many submitters it has, and the board that shows its past, if there is one
 pub record FloorView (J : Type 0) : Type 0 where
   pub scheduler : SchedulerView J
   pub submitters : ℕ
+  pub board : Option BoardView
 
--- as the pair of its fields
+-- as the tuple of its fields
 abbrev pub floor_code : {J : Type 0} → Coded J → Coded (FloorView J)
-floor_code {J} c = code_by (SchedulerView J × ℕ) (coded× (scheduler_code c) coded_ℕ) (λ f. (f.scheduler, f.submitters)) (λ p. record { scheduler = p.0; submitters = p.1 }) (λ _. refl)
+floor_code {J} c =
+    code_by (SchedulerView J × (ℕ × Option BoardView)) (coded× (scheduler_code c) (coded× coded_ℕ (coded_option board_code)))
+    (λ f. (f.scheduler, (f.submitters, f.board))) (λ p. record { scheduler = p.0; submitters = p.1.0; board = p.1.1 }) (λ _. refl)
+
+-- what a desk is opened for, and the board that shows its past, if there is one
+abbrev pub crew_for : Config → ℕ → Option BoardView → Crew
+crew_for config submitters board = record { config = config; submitters = submitters; board = board }
 
 -- what no call changes
 abbrev pub crew_of : {J : Type 0} → FloorView J → Crew
-crew_of f = record { config = f.scheduler.config; submitters = f.submitters }
+crew_of f = crew_for f.scheduler.config f.submitters f.board
 
 -- a floor with no past
-abbrev pub opened : {J : Type 0} → Config → ℕ → FloorView J
-opened config submitters = record { scheduler = record { config = config; past = []; jobs = map.empty }; submitters = submitters }
+abbrev pub opened : {J : Type 0} → Config → ℕ → Option BoardView → FloorView J
+opened config submitters board =
+    record { scheduler = record { config = config; past = []; jobs = map.empty }; submitters = submitters; board = board }
 
 -- its past is legal, and each entry of it is made by the caller that may make it
 pub record KeepsFloor {J : Type 0} (scheduler : SchedulerView J) (submitters : ℕ) : Type 0 where

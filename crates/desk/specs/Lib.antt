@@ -1,4 +1,5 @@
 pub mod Staffed
+pub mod Shown
 pub mod Floors
 pub mod Told
 pub mod Growing

@@ -1,7 +1,12 @@
-//! The desk, its opening and its end.
+//! The desk.
+ghost use Rattle.std.specs.Prelude.{◌≡◌, option_copied, option_map};
+ghost use Rattle.std.specs.Arc.{arc_value};
+
 use crate::bell::Bell;
 use crate::floor::Floor;
 use history_lock::{HistoryLock, Machine};
+use status_board::Board;
+use std::sync::Arc;
 
 /// The most submitters; the fewest is 1.
 pub const MOST_SUBMITTERS: u32 = 64;
@@ -10,7 +15,18 @@ pub const MOST_SUBMITTERS: u32 = 64;
 pub struct DeskOf<M: Machine> {
     pub(crate) lock: HistoryLock<M>,
     pub(crate) bell: Bell,
+    pub(crate) board: Option<Arc<Board>>,
 }
 
 /// A desk whose jobs are J and whose chooser is X.
 pub type Desk<J, X> = DeskOf<Floor<J, X>>;
+
+impl<M: Machine> DeskOf<M> {
+    /// The board that shows what the desk's calls come to, for readers that wait for nobody. There is one where the
+    /// desk was opened by `open_shown`.
+    pub fn board(&self) -> Option<&Board>
+        ensures { option_copied result ≡ option_map arc_value self.now.board }
+    {
+        self.board.as_deref()
+    }
+}

@@ -1,65 +1,81 @@
 //! The machine in the lock.
-ghost use Rattle.std.specs.Prelude.{◌≡◌, IfOk};
+ghost use Rattle.std.specs.Prelude.{◌≡◌, [], IfOk};
 ghost use Rattle.fq_model.specs.Limits.{InLimits};
 ghost use Rattle.desk.specs.Floors.{opened, KeepsFloor};
+ghost use Rattle.desk.specs.Shown.{board_of, Shows};
 
+use crate::answering::answer;
+use crate::shown::{Shown, show_past};
 use crate::told::{Ask, Told};
 use fq_model::config::Checked;
 use fq_model::job::Job;
 use history_lock::Machine;
 use sched_state::Scheduler;
+use status_board::Board;
 use std::alloc::{AllocError, Global};
 use std::marker::Model;
 use tag_rules::chooser::Chooser;
 
-/// What no call changes: what the scheduler was opened with, and how many submitters there are. No value of it is
-/// ever made: it stands in contracts alone.
+/// What no call changes: what the scheduler was opened with, how many submitters there are, and the board that shows
+/// the past, if there is one. No value of it is ever made: it stands in contracts alone.
 pub struct Crew {
     pub config: Checked,
     pub submitters: u32,
+    pub board: Option<Board>,
 }
 
-/// A scheduler and the number of its submitters. Submitters come before workers in the numbers of callers: with s
-/// submitters these are the callers 0 to s - 1, and worker i is the caller s + i.
+/// A scheduler, the number of its submitters, and what shows its past, if it is shown. Submitters come before workers
+/// in the numbers of callers: with s submitters these are the callers 0 to s - 1, and worker i is the caller s + i.
 #[derive(Drop)]
 pub struct Floor<J: Job, X: Chooser> {
     scheduler: Scheduler<J, X>,
     submitters: u32,
+    shown: Option<Shown>,
 }
 
 impl<J: Job, X: Chooser> Model for Floor<J, X> {
     ghost use Rattle.desk.specs.Floors.{FloorView, floor_code, KeepsFloor};
+    ghost use Rattle.desk.specs.Shown.{board_of, Shows};
 
     ghost Value = { FloorView J };
 
     ghost coded = { floor_code J.code };
 
-    ghost view = { λ f. record { scheduler = f.scheduler; submitters = f.submitters } };
+    ghost view = { λ f. record { scheduler = f.scheduler; submitters = f.submitters; board = board_of f.shown } };
 
-    ghost invariant = { λ f. KeepsFloor f.scheduler f.submitters };
+    ghost invariant = { λ f. KeepsFloor f.scheduler f.submitters
+        × Shows f.scheduler.config f.scheduler.past f.shown };
 }
 
 impl<J: Job + Drop, X: Chooser> Floor<J, X> {
-    /// A floor with no past. All its memory is taken here.
-    pub fn open(alloc: Global, config: Checked, submitters: u32) -> Result<Floor<J, X>, AllocError>
-        requires { InLimits config }
-        ensures { IfOk result (λ f. f ≡ opened config submitters) }
+    /// A floor with no past. All its memory is taken here, but for that of what shows its past.
+    pub(crate) fn open(
+        alloc: Global,
+        config: Checked,
+        submitters: u32,
+        shown: Option<Shown>,
+    ) -> Result<Floor<J, X>, AllocError>
+        requires limits { InLimits config }
+        requires shown { Shows config [] shown }
+        ensures { IfOk result (λ f. f ≡ opened config submitters (board_of shown)) }
     {
         let scheduler = Scheduler::open(alloc, config)?;
         Ok(Floor {
             scheduler,
             submitters,
+            shown,
         })
     }
 }
 
 impl<J: Job, X: Chooser> Floor<J, X> {
-    /// The scheduler.
-    pub fn into_scheduler(self) -> Scheduler<J, X>
-        ensures same { result ≡ self.scheduler }
-        ensures kept { KeepsFloor result self.submitters }
+    /// The scheduler, and what shows its past.
+    pub(crate) fn into_parts(self) -> (Scheduler<J, X>, Option<Shown>)
+        ensures same { (result.0 ≡ self.scheduler) × (board_of result.1 ≡ self.board) }
+        ensures kept { KeepsFloor result.0 self.submitters }
+        ensures shows { Shows result.0.config result.0.past result.1 }
     {
-        self.scheduler
+        (self.scheduler, self.shown)
     }
 }
 
@@ -86,37 +102,8 @@ impl<J: Job + Drop, X: Chooser> Machine for Floor<J, X> {
     ghost grows = { answers_grow J.label_of };
 
     fn step(&mut self, who: u32, call: Ask<J>) -> Told<J> {
-        match call {
-            Ask::Submit {
-                moment,
-                tenant,
-                kind,
-                declared,
-                job,
-            } => Told::Submitted(
-                self.scheduler
-                    .submit(who, moment, tenant, kind, declared, job),
-            ),
-            Ask::Take { moment, worker } => Told::Took(self.scheduler.take(who, moment, worker)),
-            Ask::Report {
-                moment,
-                worker,
-                used,
-            } => Told::Reported(self.scheduler.report(who, moment, worker, used)),
-            Ask::Done {
-                moment,
-                worker,
-                cost,
-            } => Told::Ended(self.scheduler.done(who, moment, worker, cost)),
-            Ask::Close { moment } => Told::Closed(self.scheduler.close(who, moment)),
-            Ask::Weight {
-                moment,
-                tenant,
-                weight,
-            } => Told::Changed(self.scheduler.weight(who, moment, tenant, weight)),
-            Ask::Workers { moment, count } => {
-                Told::Changed(self.scheduler.workers(who, moment, count))
-            }
-        }
+        let told = answer(&mut self.scheduler, who, call);
+        show_past(&mut self.shown, &self.scheduler);
+        told
     }
 }

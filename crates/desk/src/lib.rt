@@ -1,6 +1,7 @@
 //! The desk: one scheduler behind one lock, whose submitters and workers are threads that each hold a token.
 #![tactic(auto)]
 
+mod answering;
 mod bell;
 mod calls;
 pub mod crossing;
@@ -9,6 +10,7 @@ mod ending;
 mod floor;
 mod opening;
 mod refusals;
+mod shown;
 mod tokens;
 mod told;
 

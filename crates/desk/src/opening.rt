@@ -1,19 +1,37 @@
 //! How a desk is opened.
-ghost use Rattle.std.specs.Prelude.{◌≡◌, ◌≤◌, ◌+◌, ◌-◌, [], length, IfOk, IfErr, IfSome, false, vec_capacity};
-ghost use Rattle.fq_model.specs.Limits.{InLimits, is_outside};
+ghost use Rattle.std.specs.Prelude.{◌≡◌, ◌≤◌, ◌+◌, ◌-◌, [], length, IfOk, IfErr, IfSome, None, false};
+ghost use Rattle.std.specs.Prelude.{option_map, vec_capacity};
+ghost use Rattle.std.specs.Arc.{arc_value};
+ghost use Rattle.fq_model.specs.Limits.{InLimits, IsWithin, is_outside};
 ghost use Rattle.desk.specs.declared.desk.TheConstants.{MOST_SUBMITTERS};
-ghost use Rattle.desk.specs.Opening.{IsSplit, IsFresh, AreSubmitters, AreWorkers, AreTokens, IsOutside};
+ghost use Rattle.desk.specs.Floors.{crew_for};
+ghost use Rattle.desk.specs.Opening.{IsSplit, IsFresh, AreSubmitters, AreWorkers, AreTokens, AreShownTokens, IsOutside};
+ghost use Rattle.desk.specs.Shown.{board_of, Shows};
 
 use crate::bell::Bell;
 use crate::desk::{DeskOf, MOST_SUBMITTERS};
 use crate::floor::{Crew, Floor};
 use crate::refusals::OpenFault;
+use crate::shown::{Shown, show_nothing};
 use crate::tokens::{Submitter, Worker};
 use fq_model::config::Checked;
 use fq_model::job::Job;
 use history_lock::{HistoryLock, Pass};
+use status_board::Reader;
 use std::alloc::Global;
 use tag_rules::chooser::Chooser;
+
+// Whether a desk may have so many submitters.
+fn check_submitters(submitters: u32) -> Result<(), OpenFault>
+    ensures range { IfOk result (λ _. IsWithin 1 MOST_SUBMITTERS submitters) }
+    ensures within { IfOk result (λ _. is_outside 1 MOST_SUBMITTERS submitters ≡ false) }
+    ensures fault { IfErr result (IsOutside submitters) }
+{
+    if submitters < 1 || submitters > MOST_SUBMITTERS {
+        return Err(OpenFault::Submitters(submitters));
+    }
+    Ok(())
+}
 
 // Room for the tokens, taken first, so that no token is stranded for want of memory.
 fn room(alloc: Global, submitters: u32, workers: u32) -> Option<(Vec<Submitter>, Vec<Worker>)>
@@ -35,11 +53,13 @@ fn locked<J: Job + Drop, X: Chooser + Drop>(
     alloc: Global,
     config: Checked,
     submitters: u32,
+    shown: Option<Shown>,
 ) -> Option<(HistoryLock<Floor<J, X>>, Pass<Crew>)>
-    requires { InLimits config }
-    ensures { IfSome result (λ r. IsFresh config submitters r.0 r.1) }
+    requires limits { InLimits config }
+    requires shown { Shows config [] shown }
+    ensures { IfSome result (λ r. IsFresh (crew_for config submitters (board_of shown)) r.0 r.1) }
 {
-    let floor = Floor::open(alloc, config, submitters).ok()?;
+    let floor = Floor::open(alloc, config, submitters, shown).ok()?;
     HistoryLock::open(alloc, floor).ok()
 }
 
@@ -87,6 +107,31 @@ fn split_workers<J: Job + Drop, X: Chooser>(
     }
 }
 
+// A lock round a floor with no past, and the tokens of all its callers.
+fn staffed<J: Job + Drop, X: Chooser + Drop>(
+    alloc: Global,
+    config: Checked,
+    submitters: u32,
+    shown: Option<Shown>,
+) -> Option<(HistoryLock<Floor<J, X>>, Vec<Submitter>, Vec<Worker>)>
+    requires submitters { IsWithin 1 MOST_SUBMITTERS submitters }
+    requires shown { Shows config [] shown }
+    ensures { IfSome result (λ r. AreTokens (crew_for config submitters (board_of shown)) r.0 r.1.items r.2.items) }
+{
+    let staff = config.workers();
+    let (mut first, mut second) = room(alloc, submitters, staff)?;
+    let Some((lock, mut zero)) = locked(alloc, config, submitters, shown) else {
+        first.destroy_empty();
+        second.destroy_empty();
+        return None;
+    };
+    split_submitters(&lock, &mut zero, &mut first, submitters);
+    split_workers(&lock, &mut zero, &mut second, staff);
+    let placed = first.insert(0, Submitter { pass: zero });
+    let Ok(()) = placed else { unreachable!() };
+    Some((lock, first, second))
+}
+
 impl<J: Job + Drop, X: Chooser + Drop> DeskOf<Floor<J, X>> {
     /// A desk with no past, for 1 to `MOST_SUBMITTERS` submitters, and its tokens: those of the submitters, and those
     /// of as many workers as the configuration has. All memory of the desk is taken here.
@@ -95,27 +140,48 @@ impl<J: Job + Drop, X: Chooser + Drop> DeskOf<Floor<J, X>> {
         config: Checked,
         submitters: u32,
     ) -> Result<(DeskOf<Floor<J, X>>, Vec<Submitter>, Vec<Worker>), OpenFault>
-        ensures tokens { IfOk result (λ r. AreTokens config submitters r.0.lock r.1.items r.2.items) }
+        ensures tokens { IfOk result (λ r. AreTokens (crew_for config submitters None) r.0.lock r.1.items r.2.items) }
+        ensures board { IfOk result (λ r. r.0.board ≡ None) }
         ensures within { IfOk result (λ r. is_outside 1 MOST_SUBMITTERS submitters ≡ false) }
         ensures fault { IfErr result (IsOutside submitters) }
     {
-        if submitters < 1 || submitters > MOST_SUBMITTERS {
-            return Err(OpenFault::Submitters(submitters));
-        }
-        let staff = config.workers();
-        let Some((mut first, mut second)) = room(alloc, submitters, staff) else {
+        check_submitters(submitters)?;
+        let Some((lock, first, second)) = staffed(alloc, config, submitters, None) else {
             return Err(OpenFault::NoMemory);
         };
-        let Some((lock, mut zero)) = locked(alloc, config, submitters) else {
-            first.destroy_empty();
-            second.destroy_empty();
+        let desk = DeskOf {
+            lock,
+            bell: Bell::new(),
+            board: None,
+        };
+        Ok((desk, first, second))
+    }
+
+    /// The same, where each call that adds to the past shows on a board what the past then comes to. It also gives a
+    /// first reader of that board, for whom `board` gives the desk's; `finish_shown` ends such a desk.
+    pub fn open_shown(
+        alloc: Global,
+        config: Checked,
+        submitters: u32,
+    ) -> Result<(DeskOf<Floor<J, X>>, Reader, Vec<Submitter>, Vec<Worker>), OpenFault>
+        ensures tokens { IfOk result (λ r. AreShownTokens config submitters r.0.lock (option_map arc_value r.0.board)
+            r.1 r.2.items r.3.items) }
+        ensures within { IfOk result (λ r. is_outside 1 MOST_SUBMITTERS submitters ≡ false) }
+        ensures fault { IfErr result (IsOutside submitters) }
+    {
+        check_submitters(submitters)?;
+        let Some((board, shown, reader)) = show_nothing(alloc, &config) else {
             return Err(OpenFault::NoMemory);
         };
-        split_submitters(&lock, &mut zero, &mut first, submitters);
-        split_workers(&lock, &mut zero, &mut second, staff);
-        let placed = first.insert(0, Submitter { pass: zero });
-        let Ok(()) = placed else { unreachable!() };
-        let bell = Bell::new();
-        Ok((DeskOf { lock, bell }, first, second))
+        let Some((lock, first, second)) = staffed(alloc, config, submitters, Some(shown)) else {
+            reader.end();
+            return Err(OpenFault::NoMemory);
+        };
+        let desk = DeskOf {
+            lock,
+            bell: Bell::new(),
+            board: Some(board),
+        };
+        Ok((desk, reader, first, second))
     }
 }

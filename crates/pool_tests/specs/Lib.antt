@@ -1,1 +1,2 @@
 pub mod Hired
+pub mod Watched

@@ -4,6 +4,8 @@
 #[cfg(test)]
 mod bell_tests;
 #[cfg(test)]
+mod board_tests;
+#[cfg(test)]
 mod desk_tests;
 #[cfg(test)]
 mod feed_tests;

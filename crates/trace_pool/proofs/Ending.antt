@@ -1,6 +1,5 @@
 -- The end of a pool, as its tokens and the past tell it.
 use Rattle.std.proofs.Common.{ℕ, ◌<◌, ◌≤◌, ◌≡◌, List, [], ◌∷◌, length, ap, ◌∙◌, arith}
-use Rattle.fq_model.specs.declared.config.Config.{Config}
 use Rattle.fq_model.specs.declared.event.Entry.{Entry}
 use Rattle.program_model.specs.declared.trace.RunOptions.{RunOptions}
 use Rattle.program_model.specs.declared.trace.TraceRow.{TraceRow}
@@ -29,8 +28,8 @@ some_submitter [] = omega arith
 some_submitter (row ∷ rows) = omega arith
 
 -- the crew of a desk that was opened for the submitters of the rows
-pub crew_is : (T : Trace) (rows : List TraceRow) (count : ℕ) (lock : LockView Crew) {config : Config} → lock.frame ≡ record { config = config; submitters = count } → count ≡ submitters rows → rows ≡ T.rows → IsCrewOf T.rows lock
-crew_is T rows count lock frame counted same = ap (λ (f : Crew). f.submitters) frame ∙ (counted ∙ ap submitters same)
+pub crew_is : (T : Trace) (rows : List TraceRow) (lock : LockView Crew) {crew : Crew} → lock.frame ≡ crew → crew.submitters ≡ submitters rows → rows ≡ T.rows → IsCrewOf T.rows lock
+crew_is T rows lock frame counted same = ap (λ (f : Crew). f.submitters) frame ∙ (counted ∙ ap submitters same)
 
 pub crew_some : (T : Trace) (lock : LockView Crew) → IsCrewOf T.rows lock → 0 < lock.frame.submitters
 crew_some T lock crew = omega (arith, some_submitter T.rows, crew)

@@ -53,8 +53,7 @@ fn serve_rows<'a, X: Chooser + Drop + Send, K: Clock + Sync, R: Threads + Wait +
     requires crew { IsCrewOf rows.now desk.now.lock }
     requires queues { HoldsFrom (λ j q. AreRowsOf rows.now j q.items) 0 queues.items
         × (length queues.items ≡ length submitters.old.items) }
-    requires tokens { AreTokens desk.now.lock.frame.config desk.now.lock.frame.submitters desk.now.lock
-        submitters.old.items workers.old.items }
+    requires tokens { AreTokens desk.now.lock.frame desk.now.lock submitters.old.items workers.old.items }
     requires room { (hands.items ≡ [])
         × (length submitters.old.items + length workers.old.items ≤ vec_capacity hands) }
     ensures { HaveDone rows.now desk.now.lock refresh (K.tells clock.now) submitters.new.items workers.new.items }

@@ -18,21 +18,21 @@ serve_rows-requires-clause-queues g c κs within = (
 pub finish-requires : goal.finish-requires
 finish-requires g c =
     let T = c.args.trace.now in let lock = c.in-Ok.desk.lock in
-    let crew = crew_is T T.rows c.args.count lock c.in-Ok.ensures.tokens.frame c.requires.trace.2 refl in
+    let crew = crew_is T T.rows lock c.in-Ok.ensures.tokens.frame c.requires.trace.2 refl in
     let done : HaveDone T.rows lock c.args.options.refresh (g.K.Clock.tells c.args.clock.now) c.serve_rows.new.submitters.items c.serve_rows.new.workers.items = subst (λ rows. HaveDone rows lock c.args.options.refresh (g.K.Clock.tells c.args.clock.now) c.serve_rows.new.submitters.items c.serve_rows.new.workers.items) c.rows.ensures c.serve_rows.ensures in
     are_of T.rows lock c.args.options.refresh (g.K.Clock.tells c.args.clock.now) c.serve_rows.new.submitters.items c.serve_rows.new.workers.items done (crew_some T lock crew)
 
 pub unreachable-requires : goal.unreachable-requires
 unreachable-requires g c =
     let T = c.args.trace.now in let lock = c.in-Ok.desk.lock in
-    let crew = crew_is T T.rows c.args.count lock c.in-Ok.ensures.tokens.frame c.requires.trace.2 refl in
+    let crew = crew_is T T.rows lock c.in-Ok.ensures.tokens.frame c.requires.trace.2 refl in
     let done : HaveDone T.rows lock c.args.options.refresh (g.K.Clock.tells c.args.clock.now) c.serve_rows.new.submitters.items c.serve_rows.new.workers.items = subst (λ rows. HaveDone rows lock c.args.options.refresh (g.K.Clock.tells c.args.clock.now) c.serve_rows.new.submitters.items c.serve_rows.new.workers.items) c.rows.ensures c.serve_rows.ensures in
     false≢true (c.in_default-finish.ensures.settled (are_all T.rows lock c.args.options.refresh (g.K.Clock.tells c.args.clock.now) c.serve_rows.new.submitters.items c.serve_rows.new.workers.items done (crew_some T lock crew) crew))
 
 pub returns-clause-history : goal.returns-clause-history
 returns-clause-history g c =
     let T = c.args.trace.now in let O = c.args.options in let lock = c.in-Ok.desk.lock in
-    let crew = crew_is T T.rows c.args.count lock c.in-Ok.ensures.tokens.frame c.requires.trace.2 refl in
+    let crew = crew_is T T.rows lock c.in-Ok.ensures.tokens.frame c.requires.trace.2 refl in
     let done : HaveDone T.rows lock O.refresh (g.K.Clock.tells c.args.clock.now) c.serve_rows.new.submitters.items c.serve_rows.new.workers.items = subst (λ rows. HaveDone rows lock O.refresh (g.K.Clock.tells c.args.clock.now) c.serve_rows.new.submitters.items c.serve_rows.new.workers.items) c.rows.ensures c.serve_rows.ensures in
     let opened : lock.frame.config ≡ pool_config T O = ap (λ f. f.config) c.in-Ok.ensures.tokens.frame ∙ c.requires.config in
     subst (λ past. IsPoolHistory T O (history_of past) × HasToldMoments (g.K.Clock.tells c.args.clock.now) (history_of past)) (sym c.into_history.ensures.past)
