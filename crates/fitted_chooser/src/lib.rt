@@ -1,0 +1,5 @@
+//! The chooser that suits a configuration: one of two, by how many workers and tenants there are.
+#![tactic(auto)]
+
+pub mod bounds;
+pub mod chooser;
