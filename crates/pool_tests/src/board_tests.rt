@@ -73,11 +73,7 @@ fn read<X: Chooser, R: Abort>(rt: &R, desk: &Desk<u64, X>, reader: &mut Reader) 
 }
 
 // Another reader.
-fn another<X: Chooser, R: Abort>(
-    rt: &R,
-    desk: &Desk<u64, X>,
-    reader: &mut Reader,
-) -> Reader
+fn another<X: Chooser, R: Abort>(rt: &R, desk: &Desk<u64, X>, reader: &mut Reader) -> Reader
     requires { IsReaderAt desk.now.lock (option_map arc_value desk.now.board) reader.old }
     ensures same { reader.new ≡ reader.old }
     ensures second { IsReaderAt desk.now.lock (option_map arc_value desk.now.board) result }
