@@ -4,7 +4,9 @@
 
 mod history;
 mod journal;
+mod ledger;
 mod tally;
 
 pub use history::History;
 pub use journal::Journal;
+pub use ledger::Ledger;
