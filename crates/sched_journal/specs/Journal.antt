@@ -1,5 +1,5 @@
--- What contracts see of a journal, and what it keeps.
-use Rattle.std.specs.Prelude.{ℕ, ◌≡◌, ◌≤◌, nat_le, Bool, List, [], ◌∷◌, ◌++◌, length, Option, Some, None}
+-- What contracts see of a journal, and what is kept of it.
+use Rattle.std.specs.Prelude.{ℕ, ◌≡◌, nat_le, Bool, List, [], ◌∷◌, ◌++◌, length, Option, Some, None}
 use Rattle.fq_model.specs.declared.config.Config.{Config}
 use Rattle.fq_model.specs.declared.event.Act.{Act}
 use Rattle.fq_model.specs.declared.event.Entry.{Entry}
@@ -35,14 +35,6 @@ MayGain j m act = (who : ℕ) → IsLegal j.config (one_more who m act (history 
 -- where so many requests wait, whether there is room for so many entries more
 abbrev pub IsRoomFor : JournalView → ℕ → ℕ → Bool → Type 0
 IsRoomFor j backlog more room = backlog ≡ waiting (history j) → room ≡ nat_le (needed_room (history j) more) j.config.entries
-
--- its configuration is in its limits, it keeps a legal history and has room for all entries that may come, and its
--- tally is that of the history
-pub record KeepsJournal (C : Config) (past : List Entry) (capacity : ℕ) (tally : Tally) : Type 0 where
-  pub limits : InLimits C
-  pub legal : IsLegal C (history_of past)
-  pub entries_fit : C.entries ≤ capacity
-  pub tally_is : TallyIs (history_of past) tally
 
 -- its configuration is in its limits, its history is legal, and these are how many entries it has, the last of them,
 -- and its tally

@@ -5,8 +5,10 @@ mod answering;
 mod refusals;
 mod replies;
 mod scheduler;
+mod scheduler_core;
 mod tracker;
 
 pub use answering::answer;
 pub use replies::{AlreadyClosed, Refused, Taken};
 pub use scheduler::Scheduler;
+pub use scheduler_core::Core;

@@ -7,7 +7,7 @@ use Rattle.fq_laws.proofs.Keys.Others.{keys_still}
 use Rattle.sched_journal.specs.Journal.{history}
 use Rattle.sched_state.specs.Scheduler.{SchedulerView}
 use Rattle.sched_state.proofs.TrackerLemmas.{all_but}
-use Rattle.sched_state.proofs.scheduler.Scheduler.keys.Goals as goal
+use Rattle.sched_state.proofs.scheduler_core.Core.keys.Goals as goal
 
 pub keys_of-requires : goal.keys_of-requires
 keys_of-requires g c =
