@@ -1,7 +1,7 @@
 //! One history of one scheduler, with the jobs of the requests that wait.
 #![tactic(auto)]
 
-mod answering;
+pub mod answering;
 mod refusals;
 mod replies;
 mod scheduler;

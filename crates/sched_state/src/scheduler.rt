@@ -76,9 +76,7 @@ impl<J: Job + Drop, X: Chooser> Scheduler<J, X> {
         ensures job_back { IfErr result (λ f. f.job ≡ job) }
         ensures unchanged { OnErr result (self.new ≡ self.old) }
     {
-        let outcome = self
-            .core
-            .submit(who, moment, tenant, kind, declared, job);
+        let outcome = self.core.submit(who, moment, tenant, kind, declared, job);
         keep_newest(&mut self.entries, &self.core);
         outcome
     }
