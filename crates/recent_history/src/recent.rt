@@ -190,7 +190,8 @@ impl<J: Job + Drop, X: Chooser> Recent<J, X> {
 
     /// The entry with this index in the whole history, the first having 0, if it is kept.
     pub fn entry(&self, index: u64) -> Option<Entry>
-        ensures { result ≡ kept_entry self.now.keep self.now.scheduler.past index }
+        ensures entry { result ≡ kept_entry self.now.keep self.now.scheduler.past index }
+        ensures legal { IsLegal self.now.scheduler.config (history_of self.now.scheduler.past) }
     {
         let first = self.core.len() as u64 - self.ring.len() as u64;
         if index < first {
