@@ -88,7 +88,11 @@ fn expect_kept<R: Abort>(
     let first = past.len().saturating_sub(keep as usize);
     assert_eq!(rt; recent.first_kept() as usize, first);
     for index in 0..past.len() + 1 {
-        let wanted = if index < first { None } else { past.get(index).copied() };
+        let wanted = if index < first {
+            None
+        } else {
+            past.get(index).copied()
+        };
         assert!(rt; recent.entry(index as u64) == wanted);
     }
 }
