@@ -1,5 +1,8 @@
 // Makes the calls of a script, which is read from standard input and is taken to be one (docs/FORMATS.md), and writes what
-// `twodfq script --print both` does: the replies, and the journal, by the entries of the history.
+// `twodfq script --print both` does: the replies, and the journal, by the entries of the history. These it reads after each call, on
+// from where it was.
+//
+//   script [KEEP]            with so many of the last entries kept: 1 is enough
 #include <stdlib.h>
 #include <string.h>
 
@@ -10,6 +13,8 @@ enum { MOST_TENANTS = 4096, WORDS = 8 };
 static char *head[MOST_TENANTS + 128]; // the lines of the head, for the journal
 static size_t head_lines;
 static uint32_t weights[MOST_TENANTS];
+static twodfq_line *entries; // what was read of the history
+static size_t entries_read, entries_room;
 
 static uint64_t number(const char *word) { return strtoull(word, NULL, 10); }
 
@@ -74,20 +79,32 @@ static void write_entry(twodfq_line e) {
     putchar('\n');
 }
 
-static void write_journal(twodfq *scheduler) {
-    twodfq_line entry;
-    int version = 1;
-    for (uint64_t i = 0; (entry = twodfq_entry(scheduler, i)).kind != TWODFQ_ENTRY_NONE; i++)
-        if (entry.kind == TWODFQ_ENTRY_WEIGHT || entry.kind == TWODFQ_ENTRY_WORKERS) version = 2;
-    printf("journal %d\n", version);
-    for (size_t i = 0; i < head_lines; i++) puts(head[i]);
-    for (uint64_t i = 0; (entry = twodfq_entry(scheduler, i)).kind != TWODFQ_ENTRY_NONE; i++) write_entry(entry);
+// Reads what came since it was read last.
+static void read_on(twodfq *scheduler) {
+    twodfq_line line;
+    while ((line = twodfq_entry(scheduler, entries_read)).kind != TWODFQ_ENTRY_NONE) {
+        if (entries_read == entries_room) entries = realloc(entries, (entries_room = 2 * entries_room + 64) * sizeof *entries);
+        if (!entries) exit(1);
+        entries[entries_read++] = line;
+    }
+    if (line.amount <= entries_read) return;
+    fprintf(stderr, "script: the entries below %" PRIu64 " are gone\n", line.amount);
+    exit(1);
 }
 
-int main(void) {
+static void write_journal(void) {
+    int version = 1;
+    for (size_t i = 0; i < entries_read; i++)
+        if (entries[i].kind == TWODFQ_ENTRY_WEIGHT || entries[i].kind == TWODFQ_ENTRY_WORKERS) version = 2;
+    printf("journal %d\n", version);
+    for (size_t i = 0; i < head_lines; i++) puts(head[i]);
+    for (size_t i = 0; i < entries_read; i++) write_entry(entries[i]);
+}
+
+int main(int count, char **arguments) {
     static char line[1024];
     twodfq scheduler = TWODFQ_NONE;
-    twodfq_opening opening = { 0 };
+    twodfq_opening opening = { .keep = count > 1 ? (uint32_t)number(arguments[1]) : 0 };
     uint32_t tenants = 0;
     bool is_open = false;
     char *words[WORDS];
@@ -109,9 +126,11 @@ int main(void) {
         if (!is_open) open(&scheduler, &opening, tenants);
         is_open = true;
         write_reply(call(&scheduler, words));
+        read_on(&scheduler);
     }
     if (!is_open) open(&scheduler, &opening, tenants);
-    write_journal(&scheduler);
     twodfq_free(&scheduler);
+    write_journal();
+    free(entries);
     for (size_t i = 0; i < head_lines; i++) free(head[i]);
 }

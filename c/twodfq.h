@@ -52,6 +52,7 @@ typedef struct {
     uint32_t policy;   /* TWODFQ_WFQ to TWODFQ_2DFQ */
     uint32_t estimate; /* TWODFQ_DECLARED to TWODFQ_PESSIMISTIC */
     uint64_t initial;  /* the estimate before any completion: 1 to 1,000,000,000 */
+    uint32_t keep;     /* how many of the last entries can be read; 0 and any number above entries: all of them */
 } twodfq_opening;
 
 /* What twodfq_open gives: the first that is so, in this order. */
@@ -140,7 +141,7 @@ enum {
     TWODFQ_ENTRY_NONE = 255
 };
 
-/* Numbers that a kind does not use are 0. moment: when the call took effect. */
+/* Numbers that a kind does not use are 0. moment: when the call took effect. NONE uses amount, for an index. */
 typedef struct {
     uint32_t kind, who;
     uint64_t moment;
@@ -148,7 +149,9 @@ typedef struct {
     uint64_t amount, label;
 } twodfq_line;
 
-/* The entry with this index, in order of time; the first has 0. NONE where there is no such entry, or no scheduler. */
+/* The entry with this index, in order of time; the first of all has 0. NONE where there is no such entry, where it is kept no longer,
+   or no scheduler is held; amount is then the least index of those that are kept, and how many entries there are where none is. A
+   log that comes by at least once every `keep` entries and reads on from where it was finds them all. */
 twodfq_line twodfq_entry(twodfq *handle, uint64_t index);
 
 /* Gives the scheduler's memory back. The handle holds none from here on; once more does nothing. */

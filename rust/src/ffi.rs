@@ -25,6 +25,7 @@ pub(crate) struct Opening {
     pub(crate) policy: u32,
     pub(crate) estimate: u32,
     pub(crate) initial: u64,
+    pub(crate) keep: u32,
 }
 
 #[repr(C)]
@@ -102,6 +103,11 @@ impl Reply {
 }
 
 impl Line {
+    /// Of a line that is no entry, the least index of the entries that are kept.
+    pub(crate) fn first_kept(&self) -> u64 {
+        self.amount
+    }
+
     /// The entry, where there is one.
     pub(crate) fn entry(self) -> Option<Entry> {
         let Line { request, tenant, worker, amount, label, .. } = self;

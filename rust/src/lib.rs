@@ -104,9 +104,12 @@ pub struct Config<'a> {
     pub estimate: Estimator,
     /// The estimate before any completion: 1 to 1,000,000,000.
     pub initial: u64,
+    /// How many of the last entries can be read; 0, and any number above `entries`, keeps all.
+    pub keep: u32,
 }
 
-/// Four workers, one tenant and kind, 1,000,000 entries, 10,000 requests, `TwoDfq`, `Pessimistic`, 1,000 microseconds.
+/// Four workers, one tenant and kind, 1,000,000 entries, 10,000 requests, `TwoDfq`, `Pessimistic`, 1,000 microseconds; all
+/// entries are kept.
 impl Default for Config<'_> {
     fn default() -> Self {
         Config {
@@ -118,6 +121,7 @@ impl Default for Config<'_> {
             policy: Policy::TwoDfq,
             estimate: Estimator::Pessimistic,
             initial: 1000,
+            keep: 0,
         }
     }
 }
@@ -231,6 +235,7 @@ impl Scheduler {
             policy: config.policy as u32,
             estimate: config.estimate as u32,
             initial: config.initial,
+            keep: config.keep,
         };
         let mut scheduler = Scheduler { handle: ffi::Handle { hidden: ptr::null_mut(), is_open: false } };
         let weights = config.weights;
@@ -339,7 +344,7 @@ impl Scheduler {
         unsafe { ffi::twodfq_workers(&mut self.handle, who, moment, count) }.accepted().map(drop)
     }
 
-    /// The entry of the history with this index, in order of time, the first with 0.
+    /// The entry of the history with this index, in order of time, the first with 0, if there is one and it is kept.
     ///
     /// ```
     /// use twodfq::{Config, Scheduler};
@@ -353,7 +358,21 @@ impl Scheduler {
         unsafe { ffi::twodfq_entry(&mut self.handle, index) }.entry()
     }
 
-    /// The entries of the history, in order of time.
+    /// The least index of the entries that are kept, and how many entries there are where none is kept.
+    ///
+    /// ```
+    /// use twodfq::{Config, Scheduler};
+    ///
+    /// let mut scheduler = Scheduler::open(&Config { weights: &[1, 2], keep: 1, ..Config::default() }).unwrap();
+    /// scheduler.workers(0, 0, 1).unwrap();
+    /// scheduler.close(0, 7).unwrap();
+    /// assert_eq!(scheduler.first_kept(), 1);
+    /// ```
+    pub fn first_kept(&mut self) -> u64 {
+        unsafe { ffi::twodfq_entry(&mut self.handle, u64::MAX) }.first_kept() // no history has this entry
+    }
+
+    /// The entries that are kept, in order of time.
     ///
     /// ```
     /// use twodfq::{Config, Scheduler};
@@ -364,7 +383,27 @@ impl Scheduler {
     /// assert_eq!(scheduler.entries().map(|entry| entry.moment).collect::<Vec<_>>(), [0, 7]);
     /// ```
     pub fn entries(&mut self) -> impl Iterator<Item = Entry> + '_ {
-        (0..).map_while(|index| self.entry(index))
+        (self.first_kept()..).map_while(|index| self.entry(index))
+    }
+
+    /// The entries from this index on, in order of time. Where the entry with this index is kept no longer, the least index
+    /// of those that are.
+    ///
+    /// ```
+    /// use twodfq::{Config, Scheduler};
+    ///
+    /// let mut scheduler = Scheduler::open(&Config { weights: &[1, 2], keep: 1, ..Config::default() }).unwrap();
+    /// scheduler.workers(0, 0, 1).unwrap();
+    /// scheduler.close(0, 7).unwrap();
+    /// assert_eq!(scheduler.entries_from(1).unwrap().map(|entry| entry.moment).collect::<Vec<_>>(), [7]);
+    /// assert_eq!(scheduler.entries_from(0).err(), Some(1));
+    /// ```
+    pub fn entries_from(&mut self, index: u64) -> Result<impl Iterator<Item = Entry> + '_, u64> {
+        let first = self.first_kept();
+        if index < first {
+            return Err(first);
+        }
+        Ok((index..).map_while(|index| self.entry(index)))
     }
 }
 

@@ -13,10 +13,26 @@ const CONFIG: Config = Config {
     policy: Policy::TwoDfq,
     estimate: Estimator::Declared,
     initial: 10,
+    keep: 0,
 };
 
 fn labelled(label: u64) -> Submit {
     Submit { tenant: (label % 3) as u32, kind: 0, declared: 10, label }
+}
+
+#[test]
+fn a_log_reads_on() {
+    let mut scheduler = Scheduler::open(&Config { keep: 4, ..CONFIG }).unwrap();
+    let (mut read, mut log) = (0, Vec::new());
+    for label in 0..100 {
+        assert_eq!(scheduler.submit(5, label, labelled(label)), Ok(label as u32));
+        log.extend(scheduler.entries_from(read).unwrap());
+        read = log.len() as u64;
+    }
+    assert_eq!(log.iter().map(|entry| entry.moment).collect::<Vec<_>>(), (0..100).collect::<Vec<_>>());
+    assert_eq!(scheduler.entries_from(95).err(), Some(96));
+    assert_eq!(scheduler.entry(95), None);
+    assert_eq!(scheduler.entries().count(), 4);
 }
 
 #[test]

@@ -1,2 +1,3 @@
 pub mod TallyLemmas
 pub mod JournalLemmas
+pub mod LedgerLemmas

@@ -1,5 +1,5 @@
--- What contracts see of a journal, and what it keeps.
-use Rattle.std.specs.Prelude.{ℕ, ◌≡◌, ◌≤◌, nat_le, Bool, List, [], ◌∷◌, ◌++◌}
+-- What contracts see of a journal, and what is kept of it.
+use Rattle.std.specs.Prelude.{ℕ, ◌≡◌, nat_le, Bool, List, [], ◌∷◌, ◌++◌, length, Option, Some, None}
 use Rattle.fq_model.specs.declared.config.Config.{Config}
 use Rattle.fq_model.specs.declared.event.Act.{Act}
 use Rattle.fq_model.specs.declared.event.Entry.{Entry}
@@ -23,6 +23,11 @@ history j = history_of j.past
 abbrev pub with_entry : JournalView → Entry → JournalView
 with_entry j e = record { config = j.config; past = j.past ++ e ∷ [] }
 
+-- the last entry of a history
+abbrev pub newest : History → Option Entry
+newest [] = None
+newest (e ∷ P) = Some e
+
 -- an entry with this act may come at m, whoever makes the call
 abbrev pub MayGain : JournalView → ℕ → Act → Type 0
 MayGain j m act = (who : ℕ) → IsLegal j.config (one_more who m act (history j))
@@ -31,10 +36,11 @@ MayGain j m act = (who : ℕ) → IsLegal j.config (one_more who m act (history 
 abbrev pub IsRoomFor : JournalView → ℕ → ℕ → Bool → Type 0
 IsRoomFor j backlog more room = backlog ≡ waiting (history j) → room ≡ nat_le (needed_room (history j) more) j.config.entries
 
--- its configuration is in its limits, it keeps a legal history and has room for all entries that may come, and its
--- tally is that of the history
-pub record KeepsJournal (C : Config) (past : List Entry) (capacity : ℕ) (tally : Tally) : Type 0 where
+-- its configuration is in its limits, its history is legal, and these are how many entries it has, the last of them,
+-- and its tally
+pub record KeepsLedger (C : Config) (past : List Entry) (count : ℕ) (last : Option Entry) (tally : Tally) : Type 0 where
   pub limits : InLimits C
   pub legal : IsLegal C (history_of past)
-  pub entries_fit : C.entries ≤ capacity
+  pub count_is : count ≡ length past
+  pub last_is : last ≡ newest (history_of past)
   pub tally_is : TallyIs (history_of past) tally

@@ -29,7 +29,7 @@ impl Model for History {
 
 impl History {
     /// The history of these entries.
-    pub(crate) fn of(config: Checked, past: Vec<Entry>) -> History
+    pub fn of(config: Checked, past: Vec<Entry>) -> History
         requires { IsLegal config (history_of past.items) }
         ensures { result ≡ record { config = config; past = past.items } }
     {

@@ -1,10 +1,10 @@
-//! The journal of a scheduler: its entries in order of time, what they come to in numbers, and what they leave room
-//! for.
+//! What a scheduler asks of its journal: what its entries come to in numbers, and what they leave room for; and a history
+//! by itself, with all its entries.
 #![tactic(auto)]
 
 mod history;
-mod journal;
+mod ledger;
 mod tally;
 
 pub use history::History;
-pub use journal::Journal;
+pub use ledger::Ledger;

@@ -4,4 +4,5 @@ pub mod Keys
 pub mod Tracker
 pub mod Scheduler
 pub mod Replies
+pub mod Kept
 pub mod Refusals

@@ -1,4 +1,4 @@
-//! Any call on a scheduler, and its reply.
+//! Any call on a scheduler, and its reply; and the reply that each result of a call is.
 ghost use Rattle.std.specs.Prelude.{◌≡◌};
 ghost use Rattle.sched_state.specs.Replies.{AnswersCall, submit_reply, take_reply, change_reply, close_reply};
 
@@ -48,8 +48,8 @@ pub fn answer<X: Chooser>(scheduler: &mut Scheduler<u64, X>, call: Call) -> Repl
     }
 }
 
-// The reply to a submit.
-fn submitted(outcome: Result<u32, Refused<u64>>) -> Reply
+/// The reply to a submit.
+pub fn submitted(outcome: Result<u32, Refused<u64>>) -> Reply
     ensures { result ≡ submit_reply outcome }
 {
     match outcome {
@@ -58,8 +58,8 @@ fn submitted(outcome: Result<u32, Refused<u64>>) -> Reply
     }
 }
 
-// The reply to a take. The label of a job is the job.
-fn taken(outcome: Taken<u64>) -> Reply
+/// The reply to a take. The label of a job is the job.
+pub fn taken(outcome: Taken<u64>) -> Reply
     ensures { result ≡ take_reply (λ job. job) outcome }
 {
     match outcome {
@@ -80,8 +80,8 @@ fn taken(outcome: Taken<u64>) -> Reply
     }
 }
 
-// The reply to a report, a done, or a change of a weight or of the number of workers.
-fn told(outcome: Result<(), Cause>) -> Reply
+/// The reply to a report, a done, or a change of a weight or of the number of workers.
+pub fn told(outcome: Result<(), Cause>) -> Reply
     ensures { result ≡ change_reply outcome }
 {
     match outcome {
@@ -90,8 +90,8 @@ fn told(outcome: Result<(), Cause>) -> Reply
     }
 }
 
-// The reply to a close.
-fn closed(outcome: Result<(), AlreadyClosed>) -> Reply
+/// The reply to a close.
+pub fn closed(outcome: Result<(), AlreadyClosed>) -> Reply
     ensures { result ≡ close_reply outcome }
 {
     match outcome {

@@ -1,12 +1,14 @@
 //! One history of one scheduler, with the jobs of the requests that wait.
 #![tactic(auto)]
 
-mod answering;
+pub mod answering;
 mod refusals;
 mod replies;
 mod scheduler;
+mod scheduler_core;
 mod tracker;
 
 pub use answering::answer;
 pub use replies::{AlreadyClosed, Refused, Taken};
 pub use scheduler::Scheduler;
+pub use scheduler_core::Core;

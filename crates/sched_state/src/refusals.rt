@@ -15,12 +15,12 @@ use charge_book::row::RunRow;
 use fq_model::event::Cause;
 use fq_model::job::Job;
 use fq_model::limits::{GREATEST_COST, GREATEST_WEIGHT};
-use sched_journal::Journal;
+use sched_journal::Ledger;
 use tag_rules::chooser::Chooser;
 
 /// Why a submit is refused, if it is. Its declared cost is in microseconds.
 pub fn submit<J: Job + Drop, X: Chooser>(
-    journal: &Journal,
+    journal: &Ledger,
     tracker: &Tracker<J, X>,
     tenant: u32,
     kind: u32,
@@ -48,7 +48,7 @@ pub fn submit<J: Job + Drop, X: Chooser>(
 
 /// What a worker that asks for work is told, if it gets none.
 pub fn take<J: Job + Drop, X: Chooser>(
-    journal: &Journal,
+    journal: &Ledger,
     tracker: &Tracker<J, X>,
     worker: u32,
 ) -> Option<Taken<J>>
@@ -78,7 +78,7 @@ pub fn take<J: Job + Drop, X: Chooser>(
 
 /// Why a report of this use, in microseconds, is refused, or else the row of what runs on the worker.
 pub fn report<J: Job + Drop, X: Chooser>(
-    journal: &Journal,
+    journal: &Ledger,
     tracker: &Tracker<J, X>,
     worker: u32,
     used: u64,
@@ -95,7 +95,7 @@ pub fn report<J: Job + Drop, X: Chooser>(
 
 /// Why a done at this cost, in microseconds, is refused, or else the row of what runs on the worker.
 pub fn done<J: Job + Drop, X: Chooser>(
-    journal: &Journal,
+    journal: &Ledger,
     tracker: &Tracker<J, X>,
     worker: u32,
     cost: u64,
@@ -111,7 +111,7 @@ pub fn done<J: Job + Drop, X: Chooser>(
 }
 
 /// Why a close is refused, if it is.
-pub fn close(journal: &Journal) -> Result<(), AlreadyClosed>
+pub fn close(journal: &Ledger) -> Result<(), AlreadyClosed>
     ensures { closed_cause result ≡ close_refusal (history journal.now) }
 {
     if journal.is_closed() {
@@ -123,7 +123,7 @@ pub fn close(journal: &Journal) -> Result<(), AlreadyClosed>
 
 /// Why a change of a tenant's weight is refused, if it is.
 pub fn weight<J: Job + Drop, X: Chooser>(
-    journal: &Journal,
+    journal: &Ledger,
     tracker: &Tracker<J, X>,
     tenant: u32,
     weight: u32,
@@ -142,7 +142,7 @@ pub fn weight<J: Job + Drop, X: Chooser>(
 
 /// Why a change of the number of workers is refused, if it is.
 pub fn workers<J: Job + Drop, X: Chooser>(
-    journal: &Journal,
+    journal: &Ledger,
     tracker: &Tracker<J, X>,
     count: u32,
 ) -> Result<(), Cause>
@@ -158,7 +158,7 @@ pub fn workers<J: Job + Drop, X: Chooser>(
 
 // Why so many entries more are refused, if they are, where so many requests wait: those that are left are needed for
 // what is submitted.
-fn room(journal: &Journal, backlog: u32, more: u64) -> Result<(), Cause>
+fn room(journal: &Ledger, backlog: u32, more: u64) -> Result<(), Cause>
     requires { more ≤ 4 }
     ensures { backlog ≡ waiting (history journal.now)
         → result_err result ≡ room_refusal journal.now.config (history journal.now) more }

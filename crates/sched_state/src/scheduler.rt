@@ -1,29 +1,28 @@
 //! A scheduler.
-ghost use Rattle.std.specs.Prelude.{ℕ, ◌≡◌, ◌<◌, [], IfOk, IfErr, OnErr, length, pos, ◌≤ℤ◌};
+ghost use Rattle.std.specs.Prelude.{ℕ, ◌≡◌, ◌<◌, ◌≤◌, [], IfOk, IfErr, OnErr, length, pos, ◌≤ℤ◌, vec_capacity};
 ghost use Rattle.std.specs.FinMap as map;
 ghost use Rattle.fq_model.specs.declared.event.Call.TheVariants as call;
 ghost use Rattle.fq_model.specs.History.{history_of, pool_at};
 ghost use Rattle.fq_model.specs.Keys.{keys_at};
 ghost use Rattle.fq_model.specs.Rules.{IsLegal};
 ghost use Rattle.fq_model.specs.Status.{status_of};
+ghost use Rattle.sched_state.specs.Kept.{IsBehind};
 ghost use Rattle.sched_state.specs.Lists.{HoldsWaiting};
 ghost use Rattle.sched_state.specs.Scheduler.{virtual_time_now};
 ghost use Rattle.sched_state.specs.Replies.{submit_reply, take_reply, change_reply, close_reply, AnswersCall, HandsOut};
 
-use crate::refusals;
 use crate::replies::{AlreadyClosed, Refused, Taken};
-use crate::tracker::Tracker;
+use crate::scheduler_core::Core;
 use fq_model::config::Checked;
-use fq_model::event::{Act, Cause, Entry};
+use fq_model::event::{Cause, Entry};
 use fq_model::job::Job;
 use fq_model::limits::GREATEST_VIRTUAL_TIME;
 use fq_model::parts::Status;
-use sched_journal::{History, Journal};
+use sched_journal::History;
 use std::alloc::{AllocError, Global};
 use std::marker::Model;
 use tag_rules::chooser::Chooser;
 use tag_rules::parts::Keys;
-use waiting_lists::item::Item;
 
 /// One history, from its opening on, and the jobs of the requests that wait in it. Contracts see the entries in
 /// order of time, and the jobs by the numbers of their requests. Whoever makes a call names itself by `who`, which
@@ -32,27 +31,22 @@ use waiting_lists::item::Item;
 /// the entries: what it needs of them is kept, and `X` chooses among the heads of the tenants.
 #[derive(Drop)]
 pub struct Scheduler<J: Job, X: Chooser> {
-    journal: Journal,
-    tracker: Tracker<J, X>,
+    core: Core<J, X>,
+    entries: Vec<Entry>,
 }
 
 impl<J: Job, X: Chooser> Model for Scheduler<J, X> {
+    ghost use Rattle.std.specs.Prelude.{vec_capacity};
+    ghost use Rattle.sched_state.specs.Kept.{HoldsAll};
     ghost use Rattle.sched_state.specs.Scheduler.{SchedulerView, scheduler_code};
-    ghost use Rattle.sched_journal.specs.Journal.{history};
-    ghost use Rattle.sched_state.specs.Lists.{jobs_in};
-    ghost use Rattle.sched_state.specs.Tracker.{Tracks};
 
     ghost Value = { SchedulerView J };
 
     ghost coded = { scheduler_code J.code };
 
-    ghost view = { λ s. record {
-      config = s.journal.config;
-      past = s.journal.past;
-      jobs = jobs_in s.tracker.lists.lists;
-    } };
+    ghost view = { λ s. s.core };
 
-    ghost invariant = { λ s. Tracks J.label_of X.seen s.journal.config (history s.journal) s.tracker };
+    ghost invariant = { λ s. HoldsAll s.core.config s.core.past s.entries.items (vec_capacity s.entries) };
 }
 
 impl<J: Job + Drop, X: Chooser> Scheduler<J, X> {
@@ -60,9 +54,9 @@ impl<J: Job + Drop, X: Chooser> Scheduler<J, X> {
     pub fn open(alloc: Global, config: Checked) -> Result<Scheduler<J, X>, AllocError>
         ensures { IfOk result (λ s. s ≡ record { config = config; past = []; jobs = map.empty }) }
     {
-        let journal = Journal::open(alloc, config)?;
-        let tracker = Tracker::open(alloc, journal.config())?;
-        Ok(Scheduler { journal, tracker })
+        let entries = Vec::with_capacity(alloc, config.entries() as usize)?;
+        let core = Core::open(alloc, config)?;
+        Ok(Scheduler { core, entries })
     }
 
     /// A request of this tenant and kind comes, with the cost that its submitter names for it, in microseconds.
@@ -82,29 +76,9 @@ impl<J: Job + Drop, X: Chooser> Scheduler<J, X> {
         ensures job_back { IfErr result (λ f. f.job ≡ job) }
         ensures unchanged { OnErr result (self.new ≡ self.old) }
     {
-        let allowed = refusals::submit(&self.journal, &self.tracker, tenant, kind, declared);
-        if let Err(cause) = allowed {
-            return Err(Refused { job, cause });
-        }
-        let moment = self.journal.effective(moment);
-        let request = self.journal.submits();
-        let label = job.label();
-        let item = Item {
-            request,
-            kind,
-            declared,
-            job,
-        };
-        self.tracker.submit(&self.journal, moment, tenant, item);
-        let act = Act::Submit {
-            request,
-            tenant,
-            kind,
-            declared,
-            label,
-        };
-        self.journal.enter(Entry { who, moment, act });
-        Ok(request)
+        let outcome = self.core.submit(who, moment, tenant, kind, declared, job);
+        keep_newest(&mut self.entries, &self.core);
+        outcome
     }
 
     /// A worker asks for work, and gets the job of the request that is its turn, if one waits and the worker is below
@@ -113,23 +87,9 @@ impl<J: Job + Drop, X: Chooser> Scheduler<J, X> {
         ensures answers { AnswersCall self.old (call.Take who moment worker) (take_reply J.label_of result) self.new }
         ensures jobs { HandsOut self.old result self.new }
     {
-        if let Some(told) = refusals::take(&self.journal, &self.tracker, worker) {
-            return told;
-        }
-        let moment = self.journal.effective(moment);
-        let (item, estimate) = self.tracker.take(&self.journal, moment, worker);
-        let request = item.request;
-        let act = Act::Take {
-            worker,
-            request,
-            estimate,
-        };
-        self.journal.enter(Entry { who, moment, act });
-        Taken::Run {
-            request,
-            estimate,
-            job: item.job,
-        }
+        let outcome = self.core.take(who, moment, worker);
+        keep_newest(&mut self.entries, &self.core);
+        outcome
     }
 
     /// The worker's request has come to this use, in microseconds, and runs on. Its charge is from now on the greater
@@ -141,17 +101,9 @@ impl<J: Job + Drop, X: Chooser> Scheduler<J, X> {
         ensures jobs { self.new.jobs ≡ self.old.jobs }
         ensures unchanged { OnErr result (self.new ≡ self.old) }
     {
-        let row = refusals::report(&self.journal, &self.tracker, worker, used)?;
-        let moment = self.journal.effective(moment);
-        self.tracker
-            .report(&self.journal, moment, worker, row, used);
-        let act = Act::Report {
-            worker,
-            request: row.request,
-            used,
-        };
-        self.journal.enter(Entry { who, moment, act });
-        Ok(())
+        let outcome = self.core.report(who, moment, worker, used);
+        keep_newest(&mut self.entries, &self.core);
+        outcome
     }
 
     /// The worker's request has ended, and this is its measured cost, in microseconds.
@@ -160,16 +112,9 @@ impl<J: Job + Drop, X: Chooser> Scheduler<J, X> {
         ensures jobs { self.new.jobs ≡ self.old.jobs }
         ensures unchanged { OnErr result (self.new ≡ self.old) }
     {
-        let row = refusals::done(&self.journal, &self.tracker, worker, cost)?;
-        let moment = self.journal.effective(moment);
-        self.tracker.done(&self.journal, moment, worker, row, cost);
-        let act = Act::Done {
-            worker,
-            request: row.request,
-            cost,
-        };
-        self.journal.enter(Entry { who, moment, act });
-        Ok(())
+        let outcome = self.core.done(who, moment, worker, cost);
+        keep_newest(&mut self.entries, &self.core);
+        outcome
     }
 
     /// Nothing more is submitted from here on.
@@ -178,12 +123,9 @@ impl<J: Job + Drop, X: Chooser> Scheduler<J, X> {
         ensures jobs { self.new.jobs ≡ self.old.jobs }
         ensures unchanged { OnErr result (self.new ≡ self.old) }
     {
-        refusals::close(&self.journal)?;
-        let moment = self.journal.effective(moment);
-        self.tracker.close(&self.journal, moment);
-        let act = Act::Close;
-        self.journal.enter(Entry { who, moment, act });
-        Ok(())
+        let outcome = self.core.close(who, moment);
+        keep_newest(&mut self.entries, &self.core);
+        outcome
     }
 
     /// The tenant has this weight from here on, 1 to 1,000. What it runs stays charged at the weight that it had at
@@ -195,12 +137,9 @@ impl<J: Job + Drop, X: Chooser> Scheduler<J, X> {
         ensures jobs { self.new.jobs ≡ self.old.jobs }
         ensures unchanged { OnErr result (self.new ≡ self.old) }
     {
-        refusals::weight(&self.journal, &self.tracker, tenant, weight)?;
-        let moment = self.journal.effective(moment);
-        self.tracker.reweigh(&self.journal, moment, tenant, weight);
-        let act = Act::Weight { tenant, weight };
-        self.journal.enter(Entry { who, moment, act });
-        Ok(())
+        let outcome = self.core.weight(who, moment, tenant, weight);
+        keep_newest(&mut self.entries, &self.core);
+        outcome
     }
 
     /// There are so many workers from here on: those with lower numbers. There may be 1 to as many as the scheduler
@@ -212,12 +151,9 @@ impl<J: Job + Drop, X: Chooser> Scheduler<J, X> {
         ensures jobs { self.new.jobs ≡ self.old.jobs }
         ensures unchanged { OnErr result (self.new ≡ self.old) }
     {
-        refusals::workers(&self.journal, &self.tracker, count)?;
-        let moment = self.journal.effective(moment);
-        self.tracker.staff(&self.journal, moment, count);
-        let act = Act::Workers { count };
-        self.journal.enter(Entry { who, moment, act });
-        Ok(())
+        let outcome = self.core.workers(who, moment, count);
+        keep_newest(&mut self.entries, &self.core);
+        outcome
     }
 
     /// The entries, in order of time. Each request that waits has its job here, and no other has.
@@ -226,14 +162,16 @@ impl<J: Job + Drop, X: Chooser> Scheduler<J, X> {
         ensures legal { IsLegal self.now.config (history_of self.now.past) }
         ensures held { HoldsWaiting J.label_of (history_of self.now.past) self.now.jobs }
     {
-        self.journal.past()
+        // its clauses say what is so of all entries
+        self.core.len();
+        self.entries.as_slice()
     }
 
     /// What the scheduler was opened with.
     pub fn config(&self) -> &Checked
         ensures { result.now ≡ self.now.config }
     {
-        self.journal.config()
+        self.core.config()
     }
 
     /// The keys of the tenant's head, if it has one. They are the same at any moment until the next entry.
@@ -241,7 +179,7 @@ impl<J: Job + Drop, X: Chooser> Scheduler<J, X> {
         requires { tenant < length self.now.config.weights }
         ensures { (m : ℕ) → result ≡ keys_at self.now.config (history_of self.now.past) m tenant }
     {
-        self.tracker.keys_of(self.journal.config(), tenant)
+        self.core.keys(tenant)
     }
 
     /// Virtual time at the last entry, in steps.
@@ -250,27 +188,21 @@ impl<J: Job + Drop, X: Chooser> Scheduler<J, X> {
         ensures low { pos 0 ≤ℤ result }
         ensures high { result ≤ℤ GREATEST_VIRTUAL_TIME }
     {
-        self.tracker.times().now()
+        self.core.virtual_time()
     }
 
     /// How many workers there are now: 1 to as many as at the opening.
     pub fn pool(&self) -> u32
         ensures { result ≡ pool_at self.now.config (history_of self.now.past) }
     {
-        self.tracker.times().workers()
+        self.core.pool()
     }
 
     /// What is shown of the history at its last entry.
     pub fn status(&self) -> Status
         ensures { result ≡ status_of self.now.config (history_of self.now.past) }
     {
-        Status {
-            entries: self.journal.past().len() as u64,
-            moment: self.journal.last_moment(),
-            vtime: self.tracker.times().now(),
-            waiting: self.tracker.lists().len(),
-            running: self.journal.running(),
-        }
+        self.core.status()
     }
 }
 
@@ -280,8 +212,21 @@ impl<J: Job + Drop, X: Chooser + Drop> Scheduler<J, X> {
         ensures past { result.past ≡ self.past }
         ensures config { result.config ≡ self.config }
     {
-        let Scheduler { journal, tracker } = self;
-        drop(tracker);
-        journal.into_history()
+        let Scheduler { core, entries } = self;
+        History::of(core.into_config(), entries)
+    }
+}
+
+// Keeps the core's last entry, where it is not kept yet.
+fn keep_newest<J: Job + Drop, X: Chooser>(entries: &mut Vec<Entry>, core: &Core<J, X>)
+    requires behind { IsBehind entries.old.items core.now.past }
+    requires room { core.now.config.entries ≤ vec_capacity entries.old }
+    ensures entries { entries.new.items ≡ core.now.past }
+    ensures room { vec_capacity entries.new ≡ vec_capacity entries.old }
+{
+    if entries.len() < core.len() as usize {
+        if let Some(entry) = core.last() {
+            entries.push_reserved(entry);
+        }
     }
 }

@@ -17,7 +17,7 @@ use cost_estimate::estimate::Estimate;
 use fq_model::config::{Checked, Policy};
 use fq_model::job::Job;
 use fq_model::limits::GREATEST_VIRTUAL_TIME;
-use sched_journal::Journal;
+use sched_journal::Ledger;
 use std::alloc::{AllocError, Global};
 use tag_rules::accounts::Accounts;
 use tag_rules::chooser::Chooser;
@@ -79,7 +79,7 @@ impl<J: Job + Drop, X: Chooser> Tracker<J, X> {
     }
 
     /// A request of this tenant comes at this moment, in microseconds.
-    pub fn submit(&mut self, journal: &Journal, moment: u64, tenant: u32, item: Item<J>)
+    pub fn submit(&mut self, journal: &Ledger, moment: u64, tenant: u32, item: Item<J>)
         requires tracked { Tracks J.label_of X.seen journal.now.config (history journal.now) self.old }
         requires legal { MayGain journal.now moment (submit_act J.label_of tenant item) }
         ensures tracked { TracksAfter J.label_of X.seen journal.now moment (submit_act J.label_of tenant item)
@@ -95,7 +95,7 @@ impl<J: Job + Drop, X: Chooser> Tracker<J, X> {
 
     /// A worker that runs nothing takes the request that is its turn at this moment, in microseconds. Gives what
     /// waited, and the estimate that is charged.
-    pub fn take(&mut self, journal: &Journal, moment: u64, worker: u32) -> (Item<J>, u64)
+    pub fn take(&mut self, journal: &Ledger, moment: u64, worker: u32) -> (Item<J>, u64)
         requires tracked { Tracks J.label_of X.seen journal.now.config (history journal.now) self.old }
         requires may { MayBegin journal.now moment worker }
         ensures { Begins J.label_of X.seen journal.now moment worker self.old result.0 result.1 self.new }
@@ -114,7 +114,7 @@ impl<J: Job + Drop, X: Chooser> Tracker<J, X> {
     }
 
     /// The worker's request, which has this row, has come to this use at this moment, both in microseconds.
-    pub fn report(&mut self, journal: &Journal, moment: u64, worker: u32, row: RunRow, used: u64)
+    pub fn report(&mut self, journal: &Ledger, moment: u64, worker: u32, row: RunRow, used: u64)
         requires tracked { Tracks J.label_of X.seen journal.now.config (history journal.now) self.old }
         requires legal { MayGain journal.now moment (act.Report worker row.request used) }
         requires row { MayUse self.old.book worker row used }
@@ -129,7 +129,7 @@ impl<J: Job + Drop, X: Chooser> Tracker<J, X> {
     }
 
     /// The worker's request, which has this row, has ended at this moment and cost so much, both in microseconds.
-    pub fn done(&mut self, journal: &Journal, moment: u64, worker: u32, row: RunRow, cost: u64)
+    pub fn done(&mut self, journal: &Ledger, moment: u64, worker: u32, row: RunRow, cost: u64)
         requires tracked { Tracks J.label_of X.seen journal.now.config (history journal.now) self.old }
         requires legal { MayGain journal.now moment (act.Done worker row.request cost) }
         requires row { MayUse self.old.book worker row cost }
@@ -145,7 +145,7 @@ impl<J: Job + Drop, X: Chooser> Tracker<J, X> {
     }
 
     /// Nothing more is submitted from this moment on, in microseconds.
-    pub fn close(&mut self, journal: &Journal, moment: u64)
+    pub fn close(&mut self, journal: &Ledger, moment: u64)
         requires tracked { Tracks J.label_of X.seen journal.now.config (history journal.now) self.old }
         requires legal { MayGain journal.now moment act.Close }
         ensures tracked { TracksAfter J.label_of X.seen journal.now moment act.Close self.new }
@@ -155,7 +155,7 @@ impl<J: Job + Drop, X: Chooser> Tracker<J, X> {
     }
 
     /// The tenant has this weight from this moment on, in microseconds.
-    pub fn reweigh(&mut self, journal: &Journal, moment: u64, tenant: u32, weight: u32)
+    pub fn reweigh(&mut self, journal: &Ledger, moment: u64, tenant: u32, weight: u32)
         requires tracked { Tracks J.label_of X.seen journal.now.config (history journal.now) self.old }
         requires legal { MayGain journal.now moment (act.Weight tenant weight) }
         ensures tracked { TracksAfter J.label_of X.seen journal.now moment (act.Weight tenant weight) self.new }
@@ -166,7 +166,7 @@ impl<J: Job + Drop, X: Chooser> Tracker<J, X> {
     }
 
     /// There are so many workers from this moment on, in microseconds.
-    pub fn staff(&mut self, journal: &Journal, moment: u64, count: u32)
+    pub fn staff(&mut self, journal: &Ledger, moment: u64, count: u32)
         requires tracked { Tracks J.label_of X.seen journal.now.config (history journal.now) self.old }
         requires legal { MayGain journal.now moment (act.Workers count) }
         ensures tracked { TracksAfter J.label_of X.seen journal.now moment (act.Workers count) self.new }

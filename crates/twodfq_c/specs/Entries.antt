@@ -1,10 +1,11 @@
 -- Entries of a history in plain numbers.
-use Rattle.std.specs.Prelude.{◌≡◌, ℕ, Option, Some, None, slice_get}
+use Rattle.std.specs.Prelude.{◌≡◌, ◌-◌, ℕ, length, Option, Some, None}
 use Rattle.fq_model.specs.declared.event.Entry.{Entry}
 use Rattle.fq_model.specs.declared.event.Act.{Act}
 use Rattle.fq_model.specs.declared.event.Act.TheVariants as act
 use Rattle.fq_model.specs.History.{history_of}
 use Rattle.fq_model.specs.Rules.{IsLegal}
+use Rattle.recent_history.specs.Kept.{kept_entry}
 use Rattle.twodfq_c.specs.declared.entry.PlainEntry.{PlainEntry}
 use Rattle.twodfq_c.specs.Held.{Held}
 
@@ -23,9 +24,9 @@ numbers kind request tenant request_kind worker amount label = record {
   label = label;
 }
 
--- where no entry has the index
-abbrev pub no_entry : PlainEntry
-no_entry = numbers 255 0 0 0 0 0 0
+-- where no entry that is kept has the index: the first that has one that is
+abbrev pub no_entry : ℕ → PlainEntry
+no_entry first = numbers 255 0 0 0 0 first 0
 
 -- an act of a worker on the request that it runs
 abbrev pub run_by : ℕ → ℕ → ℕ → ℕ → PlainEntry
@@ -55,11 +56,13 @@ plain_entry entry =
       label = plain.label;
     }
 
-abbrev pub plain_found : Option Entry → PlainEntry
-plain_found None = no_entry
-plain_found (Some entry) = plain_entry entry
+abbrev pub plain_found : ℕ → Option Entry → PlainEntry
+plain_found first None = no_entry first
+plain_found first (Some entry) = plain_entry entry
 
--- the entry with this index of the history that is held, which is legal
+-- the entry with this index of the history that is held, which is legal, if it is one of those that are kept
 abbrev pub ReadsHeld : Held → ℕ → PlainEntry → Type 0
-ReadsHeld None index plain = plain ≡ no_entry
-ReadsHeld (Some s) index plain = (plain ≡ plain_found (slice_get s.past index)) × IsLegal s.config (history_of s.past)
+ReadsHeld None index plain = plain ≡ no_entry 0
+ReadsHeld (Some s) index plain =
+    (plain ≡ plain_found (length s.scheduler.past - s.keep) (kept_entry s.keep s.scheduler.past index))
+    × IsLegal s.scheduler.config (history_of s.scheduler.past)

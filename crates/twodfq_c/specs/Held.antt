@@ -1,7 +1,7 @@
 -- What a handle holds.
 use Rattle.std.specs.Prelude.{ℕ, Option}
-use Rattle.sched_state.specs.Scheduler.{SchedulerView}
+use Rattle.recent_history.specs.Views.{RecentView}
 
--- a scheduler, or none; its jobs are the labels of the requests that wait
+-- a scheduler and how many of its last entries are kept, or none; its jobs are the labels of the requests that wait
 abbrev pub Held : Type 0
-Held = Option (SchedulerView ℕ)
+Held = Option (RecentView ℕ)

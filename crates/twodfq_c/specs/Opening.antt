@@ -1,5 +1,5 @@
 -- Opening a scheduler from plain numbers.
-use Rattle.std.specs.Prelude.{◌≡◌, ℕ, nat_le, if◌then◌else◌, List, [], Option, Some, None, IsSome, Result, Ok, Err}
+use Rattle.std.specs.Prelude.{◌≡◌, ◌==◌, ◌||◌, ℕ, nat_le, nat_lt, if◌then◌else◌, List, [], Option, Some, None, IsSome, Result, Ok, Err}
 use Rattle.std.specs.FinMap as map
 use Rattle.fq_model.specs.declared.config.Config.{Config}
 use Rattle.fq_model.specs.declared.config.Policy.{Policy}
@@ -68,12 +68,19 @@ WhyRefused o weights (refusal.Config why) = (c : Config) × IsConfigOf o weights
 WhyRefused o weights refusal.NoMemory = unnamed_number o ≡ None
 WhyRefused o weights why = unnamed_number o ≡ Some why
 
--- a scheduler of this configuration, whose numbers are in their limits, with no entries
+-- how many of the last entries are kept: as many as are asked for, or all
+abbrev pub kept_of : Opening → ℕ
+kept_of o = if o.keep == 0 || nat_lt o.entries o.keep then o.entries else o.keep
+
+-- a scheduler of this configuration, whose numbers are in their limits, with no entries, which keeps the last so many
 pub record HoldsOpened (o : Opening) (weights : List ℕ) (new : Held) : Type 0 where
   pub config : Config
   pub config_is : IsConfigOf o weights config
   pub in_limits : InLimits config
-  pub held : new ≡ Some (record { config = config; past = []; jobs = map.empty })
+  pub held : new ≡ Some (record {
+    scheduler = record { config = config; past = []; jobs = map.empty };
+    keep = kept_of o;
+  })
 
 -- why no scheduler was opened: one is there; else it is the numbers
 abbrev pub WhyNotOpened : Held → Opening → List ℕ → Refusal → Type 0

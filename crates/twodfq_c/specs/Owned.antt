@@ -2,7 +2,7 @@
 use Rattle.std.specs.Prelude.{Option, Some, None}
 use Rattle.std_heap.specs.contracts.GlobalAllocator.TheImpl as heap_impl
 use Rattle.std.specs.Box.Ownership.{box_owns}
-use Rattle.sched_state.specs.contracts.scheduler.Scheduler.{the_row}
+use Rattle.recent_history.specs.contracts.recent.Recent.{the_row}
 use Rattle.tag_rules.specs.declared.chooser.Chooser.{Ghosts}
 use Rattle.shared_order.specs.contracts.chooser.SharedChooser as chooser
 use Rattle.shared_order.specs.contracts.chooser.SharedChooserChooser.TheImpl as choosing
@@ -20,7 +20,7 @@ chooser_row = chooser.the_row
 abbrev pub chooser_seen : Ghosts chooser_row.Denot
 chooser_seen = choosing.ghosts
 
--- a scheduler whose jobs are their labels
+-- a scheduler that keeps its last entries, and whose jobs are their labels
 abbrev pub served : RattleType
 served = the_row u64 chooser_row job.ghosts chooser_seen
 

@@ -16,7 +16,7 @@ use fq_model::event::{Act, Entry};
 /// | 4 | close | | | | | | |
 /// | 5 | weight | | the tenant | | | weight | |
 /// | 6 | workers | | | | | how many | |
-/// | 255 | no entry has the index | | | | | | |
+/// | 255 | no entry that is kept has the index | | | | | first index of one that is | |
 #[repr(C)]
 #[derive(Clone, Copy, Debug, PartialEq, Eq)]
 pub struct PlainEntry {
@@ -44,18 +44,21 @@ const BLANK: PlainEntry = PlainEntry {
 };
 
 impl PlainEntry {
-    /// What stands for an entry where none has the index.
-    pub(crate) fn missing() -> PlainEntry
-        ensures { result ≡ no_entry }
+    /// What stands for an entry where none that is kept has the index: the first index that one of them has.
+    pub(crate) fn missing(first: u64) -> PlainEntry
+        ensures { result ≡ no_entry first }
     {
-        BLANK
+        PlainEntry {
+            amount: first,
+            ..BLANK
+        }
     }
 
     /// The entry in numbers.
-    pub(crate) fn of(entry: &Entry) -> PlainEntry
-        ensures { result ≡ plain_entry entry.now }
+    pub(crate) fn of(entry: Entry) -> PlainEntry
+        ensures { result ≡ plain_entry entry }
     {
-        let Entry { who, moment, act } = *entry;
+        let Entry { who, moment, act } = entry;
         PlainEntry {
             who,
             moment,

@@ -7,7 +7,7 @@ use crate::entry::PlainEntry;
 use crate::reply::PlainReply;
 use crate::slot::{Served, Slot};
 use fq_model::event::Call;
-use sched_state::answer;
+use recent_history::answer;
 use std::alloc::Global;
 use std::marker::Send;
 
@@ -66,13 +66,13 @@ impl Handle {
         PlainReply::of(reply)
     }
 
-    /// Reads the entry with this index.
+    /// Reads the entry with this index, if it is kept.
     pub(crate) fn entry(&mut self, alloc: Global, index: u64) -> PlainEntry
         ensures entry { ReadsHeld self.old.slot.held index result }
         ensures unchanged { self.new.slot.held ≡ self.old.slot.held }
     {
         let Some(held) = self.take(alloc) else {
-            return PlainEntry::missing();
+            return PlainEntry::missing(0);
         };
         let entry = entry_of(&held, index);
         *self = Handle::holding(held);
@@ -80,13 +80,13 @@ impl Handle {
     }
 }
 
-// The entry of this scheduler with this index.
+// The entry of this scheduler with this index, if it is kept.
 fn entry_of(served: &Served, index: u64) -> PlainEntry
     ensures { ReadsHeld (Some served.now) index result }
 {
-    match served.past().get(index as usize) {
+    match served.entry(index) {
         Some(entry) => PlainEntry::of(entry),
-        None => PlainEntry::missing(),
+        None => PlainEntry::missing(served.first_kept() as u64),
     }
 }
 

@@ -175,7 +175,7 @@ pub extern "C" fn twodfq_workers(
     handle.call(alloc, call)
 }
 
-/// Reads one entry of the history; the first has the index 0.
+/// Reads one entry of the history, if it is among the last that are kept; the first of all has the index 0.
 #[unsafe(no_mangle)]
 pub extern "C" fn twodfq_entry(handle: &mut Handle, alloc: Global, index: u64) -> PlainEntry
     ensures entry { ReadsHeld handle.old.slot.held index result }

@@ -1,16 +1,17 @@
 //! Opening a scheduler from plain numbers.
 ghost use Rattle.std.specs.Prelude.{◌≡◌, ◌≤◌, IfOk, IfErr, IfSome, IfNone, None};
 ghost use Rattle.twodfq_c.specs.declared.opening.Refusal.TheVariants as refusal;
-ghost use Rattle.twodfq_c.specs.Opening.{OpensWith, HoldsOpened, IsConfigOf, WhyRefused, unnamed_number};
+ghost use Rattle.twodfq_c.specs.Opening.{OpensWith, HoldsOpened, IsConfigOf, WhyRefused, unnamed_number, kept_of};
 ghost use Rattle.twodfq_c.specs.Opening.{status, fault_status, policy_number, estimator_number};
 
 use crate::handle::Handle;
 use fq_model::config::{Config, ConfigFault, Estimator, Policy, Weights};
-use sched_state::Scheduler;
+use recent_history::Recent;
 use std::alloc::{AllocError, Global};
 
 /// A configuration without its weights. `policy` is 0 for wfq, 1 for wf2q, 2 for msf2q, 3 for 2dfq; `estimate` is 0 for
-/// declared, 1 for recent, 2 for pessimistic. The other numbers have the limits of `fq_model`'s `Config`.
+/// declared, 1 for recent, 2 for pessimistic. `keep` is how many of the last entries can be read; 0, and a number above
+/// that of the entries, keeps all. The other numbers have the limits of `fq_model`'s `Config`.
 #[repr(C)]
 #[derive(Clone, Copy, Debug, PartialEq, Eq)]
 pub struct Opening {
@@ -21,6 +22,7 @@ pub struct Opening {
     pub policy: u32,
     pub estimate: u32,
     pub initial: u64,
+    pub keep: u32,
 }
 
 /// Why no scheduler was opened.
@@ -72,7 +74,7 @@ fn opened(alloc: Global, opening: &Opening, weights: &[u32]) -> Result<Handle, R
         Ok(checked) => checked,
         Err(fault) => return Err(Refusal::Config(fault)),
     };
-    let scheduler = Scheduler::open(alloc, checked)?;
+    let scheduler = Recent::open(alloc, checked, opening.kept())?;
     let Ok(served) = Box::new(alloc, scheduler) else {
         return Err(Refusal::NoMemory);
     };
@@ -109,6 +111,17 @@ fn fault_status(fault: ConfigFault) -> u32
 }
 
 impl Opening {
+    // How many of the last entries are kept.
+    fn kept(&self) -> u32
+        ensures { result ≡ kept_of self.now }
+    {
+        if self.keep == 0 || self.keep > self.entries {
+            self.entries
+        } else {
+            self.keep
+        }
+    }
+
     // The configuration, whose limits nobody has looked at.
     fn config(&self, alloc: Global, weights: &[u32]) -> Result<Config, Refusal>
         ensures config { IfOk result (IsConfigOf self.now weights.now) }

@@ -4,14 +4,14 @@ ghost use Rattle.std.specs.Coded.{coded_option};
 ghost use Rattle.twodfq_c.specs.Owned.{served, slot_owns};
 
 use crate::loose::Loose;
-use sched_state::Scheduler;
+use recent_history::Recent;
 use shared_order::chooser::SharedChooser;
 use std::alloc::Global;
 use std::marker::{Model, Send};
 
 /// What a handle holds: jobs are their labels. The chooser is named here alone, beside its names for contracts in
 /// `specs/Owned.antt` and for `Send`.
-pub(crate) type Served = Scheduler<u64, SharedChooser>;
+pub(crate) type Served = Recent<u64, SharedChooser>;
 
 /// What stands at the pointer, as C sees it.
 #[repr(C)]

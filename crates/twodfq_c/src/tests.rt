@@ -13,6 +13,7 @@ const OPENING: Opening = Opening {
     policy: 3,
     estimate: 0,
     initial: 1000,
+    keep: 0,
 };
 
 #[test]
@@ -35,6 +36,25 @@ fn a_request_from_its_submit_to_its_entry(rt: HostRuntime) -> Result<(), Fail> {
     assert_eq!(rt; twodfq_entry(&mut handle, rt.alloc(), 4).kind, 255);
     twodfq_free(&mut handle, rt.alloc());
     assert_eq!(rt; twodfq_take(&mut handle, rt.alloc(), 9, 7, 0).kind, 255);
+    Ok(())
+}
+
+#[test]
+fn of_two_kept_the_last_two_are_read(rt: HostRuntime) -> Result<(), Fail> {
+    let mut handle = Handle::empty();
+    let mut opening = OPENING;
+    opening.keep = 2;
+    assert_eq!(rt; twodfq_open(&mut handle, rt.alloc(), &opening, &[1, 1]), 0);
+    for moment in 0..5u64 {
+        let submitted = twodfq_submit(&mut handle, rt.alloc(), 5, moment, 1, 0, 10, 77);
+        assert_eq!(rt; submitted.kind, 0);
+    }
+    let gone = twodfq_entry(&mut handle, rt.alloc(), 2);
+    assert_eq!(rt; (gone.kind, gone.amount), (255, 3));
+    assert_eq!(rt; twodfq_entry(&mut handle, rt.alloc(), 3).moment, 3);
+    assert_eq!(rt; twodfq_entry(&mut handle, rt.alloc(), 4).moment, 4);
+    assert_eq!(rt; twodfq_entry(&mut handle, rt.alloc(), 5).kind, 255);
+    twodfq_free(&mut handle, rt.alloc());
     Ok(())
 }
 

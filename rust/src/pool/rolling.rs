@@ -34,6 +34,7 @@ impl Settings {
             policy: self.policy,
             estimate: self.estimator,
             initial: self.initial,
+            keep: 0,
         })
     }
 }

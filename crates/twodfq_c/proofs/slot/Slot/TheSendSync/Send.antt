@@ -4,7 +4,7 @@ use Rattle.std.proofs.Crossing as heap
 use Rattle.std_alloc.proofs.SendSync.{quiet, lies}
 use Rattle.fq_model.specs.contracts.job.U64Job.TheImpl as job
 use Rattle.shared_order.proofs.chooser.SharedChooser.TheSendSync as chooser_send
-use Rattle.sched_state.proofs.scheduler.Scheduler.TheSendSync as scheduler_send
+use Rattle.recent_history.proofs.recent.Recent.TheSendSync as scheduler_send
 use mir.Raw.{raw as bare}
 use base.Shift.{Keyless}
 use denote.Builtin.{u64}
