@@ -33,9 +33,10 @@ type history struct {
 	waiting, running uint32
 }
 
-// NewPool opens a pool of config.Workers goroutines. A pool has one kind of request, whatever config.Kinds says.
+// NewPool opens a pool of config.Workers goroutines. It has one kind of request and keeps one entry, whatever config says
+// of both.
 func NewPool(config Config) (*Pool, error) {
-	config.Kinds = 1
+	config.Kinds, config.Keep = 1, 1
 	pool := &Pool{config: config, begun: time.Now(), jobs: make(map[uint64]func())}
 	pool.news = sync.NewCond(&pool.lock)
 	if err := pool.open(); err != nil {

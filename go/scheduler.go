@@ -43,6 +43,7 @@ type Config struct {
 	Policy   Policy
 	Estimate Estimator
 	Initial  uint64 // the estimate before any completion: 1 to 1,000,000,000
+	Keep     uint32 // for how many of the last entries memory is taken; 0, and any number above Entries, is all of them
 }
 
 // Default gives four workers, 1,000,000 entries, 10,000 requests, TwoDFQ, Pessimistic and 1,000 microseconds.
@@ -125,7 +126,7 @@ func Open(config Config) (*Scheduler, error) {
 	weights := append(make([]uint32, 0, len(config.Weights)+1), config.Weights...)
 	opening := C.twodfq_opening{workers: C.uint32_t(config.Workers), kinds: C.uint32_t(config.Kinds),
 		entries: C.uint32_t(config.Entries), requests: C.uint32_t(config.Requests), policy: C.uint32_t(config.Policy),
-		estimate: C.uint32_t(config.Estimate), initial: C.uint64_t(config.Initial)}
+		estimate: C.uint32_t(config.Estimate), initial: C.uint64_t(config.Initial), keep: C.uint32_t(config.Keep)}
 	s := new(Scheduler)
 	first := (*C.uint32_t)(&weights[:1][0]) // there is one more than are said, so that none still have an address
 	status := C.twodfq_open(&s.handle, &opening, first, C.size_t(len(weights)))
