@@ -1,9 +1,9 @@
 -- The bound that is measured on a history: what each request became there is its cap and its low.
-use Rattle.std.proofs.Common.{ℕ, ◌+◌, ◌*◌, ◌≤◌, ◌≡◌, ◌≢◌, ◌∙◌, min, cond, Bool, true, false, refl, sym, ap, subst, arith, inl, inr, [], ◌∷◌, ◌++◌, Some, ℤ, pos, ◌≤ℤ◌}
-use Rattle.std.specs.Prelude.{◌+ℤ◌, ◌-ℤ◌}
+use Rattle.std.proofs.Common.{ℕ, ◌+◌, ◌*◌, ◌≤◌, ◌≡◌, ◌≢◌, ◌∙◌, min, cond, Bool, true, false, refl, sym, ap, subst, arith, inl, inr, List, [], ◌∷◌, ◌++◌, Some, None, ℤ, pos, ◌≤ℤ◌}
+use Rattle.std.specs.Prelude.{◌+ℤ◌, ◌-ℤ◌, option_map, ◌↔◌}
 use Rattle.std.specs.Int.{int_max}
 use Rattle.std.proofs.lemmas.Int.{ints, clamps}
-use Rattle.std.proofs.lemmas.Bool.{both_ways, cond_both, and_parts, and_from, not_from_false}
+use Rattle.std.proofs.lemmas.Bool.{both_ways, cond_both, and_parts, and_from, not-true, not_from_false}
 use Rattle.fq_model.specs.declared.config.Config.{Config}
 use Rattle.fq_model.specs.declared.event.Act.{Act}
 use Rattle.fq_model.specs.declared.event.Entry.{Entry}
@@ -11,16 +11,16 @@ use Rattle.fq_model.specs.Limits.{InLimits}
 use Rattle.fq_model.specs.History.{History, request_at, is_of_tenant, is_taken, pool_at}
 use Rattle.fq_model.specs.Charge.{is_taken_of, charged, greatest}
 use Rattle.fq_model.specs.Rules.{IsLegal}
-use Rattle.fq_model.specs.Gap.{is_shared, run_start, start_difference, lengths_in_bound, largest_difference}
+use Rattle.fq_model.specs.Gap.{is_shared, run_start, start_difference, shared_differences, lengths_in_bound, greatest_of, largest_difference, TagGap}
 use Rattle.fq_model.specs.Lead.{request_length, may_rise, may_fall, doubt, start_now, head_length, lead_of_take, takes_of, is_lead_take, longest_of, shortest_of, measured_lead, first_leads, take_lengths, take_doubts, lead_bound, measured_gap}
 use Rattle.fq_laws.specs.Words.{Member}
 use Rattle.fq_laws.proofs.History.Requests.{taken_known, asked_stays, untaken_nil}
 use Rattle.gap_laws.specs.Words.{IsSharedIn, IsFirstIn, RunBegins, IsGreatestAt, AreCaps, AreLows, TakesStayBelow}
-use Rattle.gap_laws.specs.Laws.{MeasuredIsBounded, MeasuredAreCaps}
+use Rattle.gap_laws.specs.Laws.{bound_of_takes, MeasuredIsBounded, MeasuredAreCaps, MeasuredIsThere, MeasuredIsGreatest, LeadBoundIsGreatest}
 use Rattle.gap_laws.proofs.Declared.{legal_prefix}
 use Rattle.gap_laws.proofs.Lengths.{greatest_covers}
 use Rattle.gap_laws.proofs.Runs.{prefix_of_prefix, run_begins}
-use Rattle.gap_laws.proofs.Told.{Among, among_low, values_where, value_counted, first_test, first_none, gap_parts, largest_at}
+use Rattle.gap_laws.proofs.Told.{Among, among_low, greatest_among, values_where, value_counted, FoundAt, value_found, first_test, first_none, shared_counted, shared_found, gap_parts, largest_at}
 use Rattle.gap_laws.proofs.Undoubted.{taken_stays, lead_low, taker_known}
 use Rattle.gap_laws.proofs.WorstCase.{lead_stays_below, legal_in, caps_in}
 
@@ -94,14 +94,10 @@ doubt_told C H (d ∷ newer) e P f g h =
     let older = doubt_told C H newer e P f g h in
     cond_both (is_lead_take Q d.act f g) (doubt (longest_of C H f) (shortest_of C H g) C (d ∷ Q) f g ∷ take_doubts C H Q f g) (take_doubts C H Q f g) (Member (doubt (longest_of C H f) (shortest_of C H g) C (e ∷ P) f g)) (λ _. inr older) (λ _. older)
 
--- what the Takes come to: one length of a head, or two, and the doubt
-abbrev at_takes : Config → History → ℕ → ℕ → ℤ
-at_takes C H f g = pos (lengths_in_bound C.policy * greatest (take_lengths C H f g) + greatest (take_doubts C H H f g))
-
 with_doubts : (x : ℤ) (lengths doubts most : ℕ) → x ≤ℤ pos lengths → doubts ≤ most → (x +ℤ pos doubts) ≤ℤ pos (lengths + most)
 with_doubts x lengths doubts most low few = omega (arith, ints, low, few)
 
-takes_below : (C : Config) (S H : History) (f g : ℕ) → IsLegal C H → TakesStayBelow (longest_of C H f) (shortest_of C H g) C S H f g (at_takes C H f g)
+takes_below : (C : Config) (S H : History) (f g : ℕ) → IsLegal C H → TakesStayBelow (longest_of C H f) (shortest_of C H g) C S H f g (bound_of_takes C H f g)
 takes_below C S H f g l = λ e Q i is from shared some.
     let newer : History = is.0 in
     let split : H ≡ newer ++ e ∷ Q = is.1 in
@@ -133,6 +129,14 @@ lead_counted C H P f g h =
     value_counted (first_test f g) (measured C H f g) h.0.0.0 P (first_none f g) (and_from _ _ h.0.1 (not_from_false _ h.1)) in
     rw (leads_are C H H f g) (subst (λ Q. Among (measured C H f g P) (values_where (first_test f g) (measured C H f g) Q)) (sym split) counted)
 
+-- each of them is one there
+lead_found : (C : Config) (H : History) (f g : ℕ) (x : ℤ) → Among x (first_leads C H H f g) → (P : History) × IsFirstIn H f g P × (measured_lead C H P f g ≡ x)
+unfolding first_test measured
+lead_found C H f g x h =
+    let w : FoundAt (first_test f g) (measured C H f g) H x = value_found (first_test f g) (measured C H f g) H x (rw (leads_are C H H f g) at h) in
+    let p = and_parts _ _ w.passes in
+    (w.at, ((w.is_prefix, p.0), not-true _ p.1), w.is)
+
 -- ---- the law
 
 starts_below : (sf sg uf ug : ℕ) (b B bound : ℤ) → (pos (sf + uf) -ℤ (pos sg -ℤ pos ug)) ≤ℤ int_max b B → b ≤ℤ bound → B ≤ℤ bound → (pos sf -ℤ pos sg) ≤ℤ bound
@@ -145,12 +149,12 @@ measured_below C H P f g ne lim l is =
     let Q : History = run_start P f g in
     let run : RunBegins P f g Q = run_begins P f g is.1 in
     let first : IsFirstIn H f g Q = ((prefix_of_prefix Q P H run.first.0.0 is.0, run.first.0.1), run.first.1) in
-    starts_below (start_now C P f) (start_now C P g) (may_rise (longest_of C H f) C P f) (may_fall (shortest_of C H g) C P g) (measured_lead C H Q f g) (at_takes C H f g) _
-    (lead_stays_below (longest_of C H f) (shortest_of C H g) C Q P f g (at_takes C H f g) ne lim (legal_in C H P is.0 l)
+    starts_below (start_now C P f) (start_now C P g) (may_rise (longest_of C H f) C P f) (may_fall (shortest_of C H g) C P g) (measured_lead C H Q f g) (bound_of_takes C H f g) _
+    (lead_stays_below (longest_of C H f) (shortest_of C H g) C Q P f g (bound_of_takes C H f g) ne lim (legal_in C H P is.0 l)
     (caps_in C H P f (longest_of C H f) is.0 (caps_are C H f)) (λ R r inner taken. lows_are C H g l R r (prefix_of_prefix R P H inner is.0) taken)
     run.first.0.0 run.shared (λ e R i inner from shared act. takes_below C Q H f g l e R i (prefix_of_prefix (e ∷ R) P H inner is.0) from shared act))
-    (among_low (measured_lead C H Q f g) (at_takes C H f g) (first_leads C H H f g) (inr (lead_counted C H Q f g first)))
-    (among_low (at_takes C H f g) (at_takes C H f g) (first_leads C H H f g) (inl refl))
+    (among_low (measured_lead C H Q f g) (bound_of_takes C H f g) (first_leads C H H f g) (inr (lead_counted C H Q f g first)))
+    (among_low (bound_of_takes C H f g) (bound_of_takes C H f g) (first_leads C H H f g) (inl refl))
 
 pub measured_bounded : MeasuredIsBounded
 unfolding measured_gap
@@ -158,6 +162,33 @@ measured_bounded C H f g gap ne lim l h =
     let p = gap_parts (largest_difference C H f g) (lead_bound C H f g) gap h in
     let largest : IsGreatestAt (IsSharedIn H f g) (λ P. start_difference C P f g) gap.largest = largest_at C H f g gap.largest p.0 in
     rw (p.1, ← largest.reached.2) (measured_below C H largest.reached.0 f g ne lim l largest.reached.1)
+
+-- ---- what it tells
+
+pub measured_greatest : MeasuredIsGreatest
+unfolding measured_gap
+measured_greatest C H f g gap h = largest_at C H f g gap.largest (gap_parts (largest_difference C H f g) (lead_bound C H f g) gap h).0
+
+pub lead_bound_greatest : LeadBoundIsGreatest
+unfolding measured_gap lead_bound
+lead_bound_greatest C H f g gap h =
+    let p = gap_parts (largest_difference C H f g) (lead_bound C H f g) gap h in
+    record {
+      reached = elim (greatest_among (bound_of_takes C H f g) (first_leads C H H f g)) [
+        | inl e ↦ inl (rw p.1 e)
+        | inr k ↦ inr (lead_found C H f g gap.bound (rw p.1 k))
+      ];
+      least = rw p.1 (among_low (bound_of_takes C H f g) (bound_of_takes C H f g) (first_leads C H H f g) (inl refl));
+      greatest = λ P s. rw p.1 (among_low (measured_lead C H P f g) (bound_of_takes C H f g) (first_leads C H H f g) (inr (lead_counted C H P f g s)));
+    }
+
+none_measured : (C : Config) (H : History) (f g : ℕ) (xs : List ℤ) → shared_differences C H f g ≡ xs → (option_map {U = TagGap} (λ largest. record { largest = largest; bound = lead_bound C H f g }) (greatest_of xs) ≡ None) ↔ ((P : History) → ¬ IsSharedIn H f g P)
+none_measured C H f g [] is = (λ h P s. rw is at (shared_counted C H P f g s), λ h. refl)
+none_measured C H f g (x ∷ xs) is = (λ h. absurd (cc), λ h. let w = shared_found C H f g x (rw is (inl refl)) in absurd (h w.0 w.1))
+
+pub measured_there : MeasuredIsThere
+unfolding measured_gap largest_difference
+measured_there C H f g = none_measured C H f g (shared_differences C H f g) refl
 
 pub measured_caps : MeasuredAreCaps
 measured_caps C H t l = (caps_are C H t, lows_are C H t l)

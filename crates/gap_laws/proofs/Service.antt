@@ -10,7 +10,7 @@ use Rattle.fq_model.specs.History.{History, head}
 use Rattle.fq_model.specs.Rules.{IsLegal}
 use Rattle.fq_model.specs.Gap.{is_shared, run_start}
 use Rattle.fq_model.specs.Lead.{may_rise, may_fall, start_now, most, least}
-use Rattle.gap_laws.specs.Words.{IsPrefix, AreSharedFrom, IsLongest}
+use Rattle.gap_laws.specs.Words.{IsPrefix, AreSharedFrom, AreNoLonger}
 use Rattle.gap_laws.specs.Laws.{GainStaysBelow, AccountsStayNear, worst_lead}
 use Rattle.gap_laws.proofs.Leads.{lead_from}
 use Rattle.gap_laws.proofs.WorstCase.{longest, nothing, worst, worst_premises, legal_in, caps_in, doubt_high, worst_lead_below}
@@ -20,7 +20,7 @@ unfolding is_shared
 shared_both P f g h = let p = and_parts (is_some (head P f)) (is_some (head P g)) h in and_from (is_some (head P g)) (is_some (head P f)) p.1 p.0
 
 -- from P on, with P as the start
-worst_on : (C : Config) (P Q : History) (f g M : ℕ) → f ≢ g → InLimits C → IsLegal C Q → IsLongest C Q f g M → IsPrefix P Q → AreSharedFrom P Q f g → worst_lead M C Q f g ≤ℤ int_max (worst_lead M C P f g) (worst C M)
+worst_on : (C : Config) (P Q : History) (f g M : ℕ) → f ≢ g → InLimits C → IsLegal C Q → AreNoLonger C Q f g M → IsPrefix P Q → AreSharedFrom P Q f g → worst_lead M C Q f g ≤ℤ int_max (worst_lead M C P f g) (worst C M)
 worst_on C P Q f g M ne lim l h is shared = lead_from (longest M) nothing C P Q f g (worst C M) ne (worst_premises C P Q f g M ne lim l h) is shared
 
 -- (the starts of the two at P, what may be added to them and taken from them, and the accounts at P and at Q)

@@ -21,7 +21,7 @@ use Rattle.fq_laws.proofs.Sums.{sum_same}
 use Rattle.fq_laws.proofs.Charge.Tenants.{virtual_charge_taken, taken_of_take}
 use Rattle.fq_laws.proofs.History.Asked.{waits_untaken}
 use Rattle.fq_laws.proofs.Rules.Takes.{heads, TakesHead, take_head, take_waits}
-use Rattle.gap_laws.specs.Words.{IsPrefix, AreLows, IsLongest, WaitsFrom, AreNoShorter, takes_after}
+use Rattle.gap_laws.specs.Words.{IsPrefix, AreLows, AreNoLonger, WaitsFrom, AreNoShorter, takes_after}
 use Rattle.gap_laws.specs.Laws.{TakesAreFew, TakesAreFewInRun, worst_lead}
 use Rattle.gap_laws.proofs.Service.{shared_both}
 use Rattle.gap_laws.proofs.Choices.{stagger_at_most}
@@ -134,11 +134,11 @@ module _ (C : Config) (S P : History) (who m f g r M c : ℕ) (ne : f ≢ g) (li
   after a = one_more who m a P
 
   -- g has at most what it had
-  still_most : (a : Act) → IsLegal C (after a) → IsLongest C (after a) f g M → head (after a) g ≡ Some r → start_now C (after a) g + may_rise (longest M) C (after a) g ≤ start_now C P g + may_rise (longest M) C P g
+  still_most : (a : Act) → IsLegal C (after a) → AreNoLonger C (after a) f g M → head (after a) g ≡ Some r → start_now C (after a) g + may_rise (longest M) C (after a) g ≤ start_now C P g + may_rise (longest M) C P g
   still_most a l h waits_on = most_at C P who m g (longest M) a lim l h.of_g (caps_in C (after a) P g (longest M) (record { who = who; moment = m; act = a } ∷ [], refl) h.of_g)
       (other_taken C P who m g r a l waits waits_on) (start_step C P (record { who = who; moment = m; act = a }) g r l.0 waits)
 
-  none_on : (a : Act) (k : ℕ) → IsLegal C (after a) → IsLongest C (after a) f g M → AreNoShorter C S (after a) f c → head (after a) g ≡ Some r → takes_of f P a ≡ None → Stands C S P f g M c k → Stands C S (after a) f g M c k
+  none_on : (a : Act) (k : ℕ) → IsLegal C (after a) → AreNoLonger C (after a) f g M → AreNoShorter C S (after a) f c → head (after a) g ≡ Some r → takes_of f P a ≡ None → Stands C S P f g M c k → Stands C S (after a) f g M c k
   none_on a k l h short waits_on none st =
       let lows : AreLows C (after a) f (later_low S c) = lows_later C S (after a) f c short in
       let older : AreLows C P f (later_low S c) = λ Q q is taken. lows Q q (prefix_older (record { who = who; moment = m; act = a }) P Q is) taken in
@@ -148,7 +148,7 @@ module _ (C : Config) (S P : History) (who m f g r M c : ℕ) (ne : f ≢ g) (li
         few = st.few;
       }
 
-  some_on : (w q estimate k : ℕ) → IsLegal C (after (Take w q estimate)) → IsLongest C (after (Take w q estimate)) f g M → AreNoShorter C S (after (Take w q estimate)) f c → head (after (Take w q estimate)) g ≡ Some r → is_of_tenant f (request_at P q) ≡ true → Stands C S P f g M c k → Stands C S (after (Take w q estimate)) f g M c (1 + k)
+  some_on : (w q estimate k : ℕ) → IsLegal C (after (Take w q estimate)) → AreNoLonger C (after (Take w q estimate)) f g M → AreNoShorter C S (after (Take w q estimate)) f c → head (after (Take w q estimate)) g ≡ Some r → is_of_tenant f (request_at P q) ≡ true → Stands C S P f g M c k → Stands C S (after (Take w q estimate)) f g M c (1 + k)
   some_on w q estimate k l h short waits_on own st =
       let a : Act = Take w q estimate in
       let new : is_taken S q ≡ false = before q (waits_untaken P q (take_waits C P m w q estimate l.3)) in
@@ -176,7 +176,7 @@ counted_some : (own : Bool) (w k : ℕ) → own ≡ true → cond (is_some (cond
 counted_some own w k e = rw e refl
 
 -- a Take of f after P is one more
-some_at : (C : Config) (S P : History) (who m f g r M c k : ℕ) (a : Act) (w q estimate : ℕ) → f ≢ g → InLimits C → ((q : ℕ) → is_taken P q ≡ false → is_taken S q ≡ false) → head P g ≡ Some r → may_fall (later_low S c) C S f ≡ may_fall nothing C S f → a ≡ Take w q estimate → is_of_tenant f (request_at P q) ≡ true → IsLegal C (one_more who m a P) → IsLongest C (one_more who m a P) f g M → AreNoShorter C S (one_more who m a P) f c → head (one_more who m a P) g ≡ Some r → Stands C S P f g M c k → Stands C S (one_more who m a P) f g M c (cond (is_some (takes_of f P a)) 1 0 + k)
+some_at : (C : Config) (S P : History) (who m f g r M c k : ℕ) (a : Act) (w q estimate : ℕ) → f ≢ g → InLimits C → ((q : ℕ) → is_taken P q ≡ false → is_taken S q ≡ false) → head P g ≡ Some r → may_fall (later_low S c) C S f ≡ may_fall nothing C S f → a ≡ Take w q estimate → is_of_tenant f (request_at P q) ≡ true → IsLegal C (one_more who m a P) → AreNoLonger C (one_more who m a P) f g M → AreNoShorter C S (one_more who m a P) f c → head (one_more who m a P) g ≡ Some r → Stands C S P f g M c k → Stands C S (one_more who m a P) f g M c (cond (is_some (takes_of f P a)) 1 0 + k)
 some_at C S P who m f g r M c k (Take v p x) w q estimate ne lim before here first e own l h short on st =
     let same : p ≡ q = cc in
     let mine : is_of_tenant f (request_at P p) ≡ true = subst (λ z. is_of_tenant f (request_at P z) ≡ true) (sym same) own in
@@ -185,7 +185,7 @@ some_at C S P who m f g r M c k (Take v p x) w q estimate ne lim before here fir
 some_at C S P who m f g r M c k _ w q estimate ne lim before here first e own l h short on st = absurd (cc)
 
 module _ (C : Config) (S : History) (f g r M c : ℕ) (ne : f ≢ g) (lim : InLimits C) where
-  stand : (newer : History) → IsLegal C (newer ++ S) → IsLongest C (newer ++ S) f g M → AreNoShorter C S (newer ++ S) f c → WaitsFrom S (newer ++ S) g r → Stands C S (newer ++ S) f g M c (takes_after f newer S)
+  stand : (newer : History) → IsLegal C (newer ++ S) → AreNoLonger C (newer ++ S) f g M → AreNoShorter C S (newer ++ S) f c → WaitsFrom S (newer ++ S) g r → Stands C S (newer ++ S) f g M c (takes_after f newer S)
   stand [] l h short waits = record { of_f = omega arith; of_g = omega arith; few = omega (arith, ints, clamps) }
   stand (e ∷ newer) l h short waits =
       let P : History = newer ++ S in

@@ -34,7 +34,7 @@ among_greater x y g z ys e h = by_lt_z y g
     (λ less. let is : g ≡ z = omega (arith, ints, clamps) in subst (λ w. Among w (x ∷ y ∷ ys)) is (among_more g x y ys h))
     (λ more. inr (inl (omega (arith, ints, clamps))))
 
-greatest_among : (x : ℤ) (ys : List ℤ) → Among (greatest_with x ys) (x ∷ ys)
+pub greatest_among : (x : ℤ) (ys : List ℤ) → Among (greatest_with x ys) (x ∷ ys)
 greatest_among x [] = inl refl
 greatest_among x (y ∷ ys) = among_greater x y (greatest_with x ys) (greatest_with x (y ∷ ys)) ys refl (greatest_among x ys)
 
@@ -55,17 +55,17 @@ value_counted test value (e ∷ newer) P none h =
     cond_both (test (e ∷ newer ++ P)) (value (e ∷ newer ++ P) ∷ values_where test value (newer ++ P)) (values_where test value (newer ++ P)) (Among (value P)) (λ _. inr older) (λ _. older)
 
 -- P is a prefix of H that passes, and has this value
-record FoundAt (test : History → Bool) (value : History → ℤ) (H : History) (x : ℤ) : Type 0 where
-  at : History
-  is_prefix : IsPrefix at H
-  passes : test at ≡ true
-  is : value at ≡ x
+pub record FoundAt (test : History → Bool) (value : History → ℤ) (H : History) (x : ℤ) : Type 0 where
+  pub at : History
+  pub is_prefix : IsPrefix at H
+  pub passes : test at ≡ true
+  pub is : value at ≡ x
 
 found_older : (test : History → Bool) (value : History → ℤ) (e : Entry) (P : History) (x : ℤ) → FoundAt test value P x → FoundAt test value (e ∷ P) x
 found_older test value e P x w = record { at = w.at; is_prefix = prefix_older e P w.at w.is_prefix; passes = w.passes; is = w.is }
 
 -- and none is counted else
-value_found : (test : History → Bool) (value : History → ℤ) (H : History) (x : ℤ) → Among x (values_where test value H) → FoundAt test value H x
+pub value_found : (test : History → Bool) (value : History → ℤ) (H : History) (x : ℤ) → Among x (values_where test value H) → FoundAt test value H x
 unfolding values_where
 value_found test value [] x h = absurd h
 value_found test value (e ∷ P) x h = elim (cases_Bool (test (e ∷ P))) [
@@ -107,11 +107,11 @@ first_none f g = and_left _ _ (nil_unshared f g)
 
 -- ---- the gap
 
-shared_counted : (C : Config) (H P : History) (f g : ℕ) → IsSharedIn H f g P → Among (start_difference C P f g) (shared_differences C H f g)
+pub shared_counted : (C : Config) (H P : History) (f g : ℕ) → IsSharedIn H f g P → Among (start_difference C P f g) (shared_differences C H f g)
 unfolding shared_test difference
 shared_counted C H P f g h = rw (h.0.1, shared_are C (h.0.0 ++ P) f g) (value_counted (shared_test f g) (difference C f g) h.0.0 P (shared_none f g) h.1)
 
-shared_found : (C : Config) (H : History) (f g : ℕ) (x : ℤ) → Among x (shared_differences C H f g) → (P : History) × IsSharedIn H f g P × (start_difference C P f g ≡ x)
+pub shared_found : (C : Config) (H : History) (f g : ℕ) (x : ℤ) → Among x (shared_differences C H f g) → (P : History) × IsSharedIn H f g P × (start_difference C P f g ≡ x)
 unfolding shared_test difference
 shared_found C H f g x h =
     let w : FoundAt (shared_test f g) (difference C f g) H x = value_found (shared_test f g) (difference C f g) H x (rw (shared_are C H f g) at h) in

@@ -25,7 +25,7 @@ use Rattle.fq_laws.proofs.Charge.Tenants.{taken_of}
 use Rattle.fq_laws.proofs.Charge.Estimates.{estimate_range}
 use Rattle.fq_laws.proofs.History.Requests.{tenant_below}
 use Rattle.fq_laws.proofs.History.Weights.{weight_low, pool_high}
-use Rattle.gap_laws.specs.Words.{IsPrefix, RunBegins, AreCaps, AreLows, IsLongest}
+use Rattle.gap_laws.specs.Words.{IsPrefix, RunBegins, AreCaps, AreLows, AreNoLonger}
 use Rattle.gap_laws.specs.Laws.{LeadStaysBelow, WorstLeadStaysBelow, DifferenceStaysBelow}
 use Rattle.gap_laws.proofs.Declared.{legal_prefix}
 use Rattle.gap_laws.proofs.Runs.{prefix_of_prefix, run_begins}
@@ -156,7 +156,7 @@ caps_in C H P t cap is h = λ Q r inner taken. h Q r (prefix_of_prefix Q P H inn
 no_lower : (C : Config) (H : History) (t : ℕ) → AreLows C H t nothing
 no_lower C H t = λ Q r is taken. omega arith
 
-pub worst_premises : (C : Config) (S H : History) (f g M : ℕ) → f ≢ g → InLimits C → IsLegal C H → IsLongest C H f g M → Premises (longest M) nothing C S H f g (worst C M)
+pub worst_premises : (C : Config) (S H : History) (f g M : ℕ) → f ≢ g → InLimits C → IsLegal C H → AreNoLonger C H f g M → Premises (longest M) nothing C S H f g (worst C M)
 worst_premises C S H f g M ne lim l h = record {
   limits = lim;
   legal = l;
@@ -166,7 +166,7 @@ worst_premises C S H f g M ne lim l h = record {
 }
 
 -- the longest of a history is so of a prefix
-pub longest_in : (C : Config) (H P : History) (f g M : ℕ) → IsPrefix P H → IsLongest C H f g M → IsLongest C P f g M
+pub longest_in : (C : Config) (H P : History) (f g M : ℕ) → IsPrefix P H → AreNoLonger C H f g M → AreNoLonger C P f g M
 longest_in C H P f g M is h = record {
   of_f = caps_in C H P f (longest M) is h.of_f;
   of_g = caps_in C H P g (longest M) is h.of_g;
@@ -181,7 +181,7 @@ lead_stays_below cap low C P Q f g B ne lim l caps lows is shared takes =
 
 pub worst_lead_below : WorstLeadStaysBelow
 worst_lead_below C H P f g M ne lim l h is =
-    let at_P : IsLongest C P f g M = longest_in C H P f g M is.0 h in
+    let at_P : AreNoLonger C P f g M = longest_in C H P f g M is.0 h in
     lead_below (longest M) nothing C P f g (worst C M) ne (worst_premises C (run_start P f g) P f g M ne lim (legal_in C H P is.0 l) at_P) is.1
 
 pub doubt_high : (C : Config) (P : History) (f g M : ℕ) → f ≢ g → IsLegal C P → AreCaps C P g (longest M) → doubt (longest M) nothing C P f g ≤ C.workers * M

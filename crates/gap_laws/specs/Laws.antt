@@ -6,13 +6,13 @@ use Rattle.fq_model.specs.declared.config.Config.{Config}
 use Rattle.fq_model.specs.declared.event.Entry.{Entry}
 use Rattle.fq_model.specs.History.{History, head}
 use Rattle.fq_model.specs.Time.{last_moment}
-use Rattle.fq_model.specs.Charge.{virtual_charge}
+use Rattle.fq_model.specs.Charge.{virtual_charge, greatest}
 use Rattle.fq_model.specs.Keys.{start}
 use Rattle.fq_model.specs.Gap.{is_shared, start_difference, run_start, lengths_in_bound, longest_length, TagGap, tag_gap}
 use Rattle.fq_model.specs.Limits.{InLimits}
 use Rattle.fq_model.specs.Rules.{IsLegal}
-use Rattle.fq_model.specs.Lead.{lead, longest_of, shortest_of, measured_gap}
-use Rattle.gap_laws.specs.Words.{IsPrefix, AreSharedFrom, WaitsFrom, AreNoShorter, takes_after, AreCaps, AreLows, TakesStayBelow, IsLongest, IsAccount, HasDeclaredCosts, taken_length, IsSharedIn, IsFirstIn, RunBegins, IsGreatestAt, IsGreatestOver}
+use Rattle.fq_model.specs.Lead.{lead, longest_of, shortest_of, measured_lead, take_lengths, take_doubts, measured_gap}
+use Rattle.gap_laws.specs.Words.{IsPrefix, AreSharedFrom, WaitsFrom, AreNoShorter, takes_after, AreCaps, AreLows, TakesStayBelow, AreNoLonger, IsAccount, HasDeclaredCosts, taken_length, IsSharedIn, IsFirstIn, RunBegins, IsGreatestAt, IsGreatestOver}
 
 -- ---- what moves a charge and a start
 
@@ -91,7 +91,7 @@ all_and_one C M = C.workers * M + M
 -- the worst case: that many requests, less a step
 abbrev pub WorstLeadStaysBelow : Type 0
 WorstLeadStaysBelow =
-    (C : Config) (H P : History) (f g M : ℕ) → f ≢ g → InLimits C → IsLegal C H → IsLongest C H f g M
+    (C : Config) (H P : History) (f g M : ℕ) → f ≢ g → InLimits C → IsLegal C H → AreNoLonger C H f g M
     → IsSharedIn H f g P
     → worst_lead M C P f g ≤ℤ int_max (worst_lead M C (run_start P f g) f g) (pos (all_and_one C M) -ℤ pos 1)
 
@@ -99,7 +99,7 @@ WorstLeadStaysBelow =
 -- and by one more for each worker
 abbrev pub DifferenceStaysBelow : Type 0
 DifferenceStaysBelow =
-    (C : Config) (H P : History) (f g M : ℕ) → f ≢ g → InLimits C → IsLegal C H → IsLongest C H f g M
+    (C : Config) (H P : History) (f g M : ℕ) → f ≢ g → InLimits C → IsLegal C H → AreNoLonger C H f g M
     → IsSharedIn H f g P
     → start_difference C P f g ≤ℤ (int_max (start_difference C (run_start P f g) f g) (pos M) +ℤ pos (C.workers * M))
 
@@ -108,6 +108,29 @@ abbrev pub MeasuredIsBounded : Type 0
 MeasuredIsBounded =
     (C : Config) (H : History) (f g : ℕ) (gap : TagGap) → f ≢ g → InLimits C → IsLegal C H
     → measured_gap C H f g ≡ Some gap → gap.largest ≤ℤ gap.bound
+
+-- there is one exactly where some prefix is shared
+abbrev pub MeasuredIsThere : Type 0
+MeasuredIsThere =
+    (C : Config) (H : History) (f g : ℕ) → (measured_gap C H f g ≡ None) ↔ ((P : History) → ¬ IsSharedIn H f g P)
+
+-- its largest difference is the greatest at a shared prefix
+abbrev pub MeasuredIsGreatest : Type 0
+MeasuredIsGreatest =
+    (C : Config) (H : History) (f g : ℕ) (gap : TagGap) → measured_gap C H f g ≡ Some gap
+    → IsGreatestAt (IsSharedIn H f g) (λ P. start_difference C P f g) gap.largest
+
+-- what the Takes of f come to while both wait: the greatest length of a head, or twice that under 2dfq, and the
+-- greatest doubt just after
+abbrev pub bound_of_takes : Config → History → ℕ → ℕ → ℤ
+bound_of_takes C H f g =
+    pos (lengths_in_bound C.policy * greatest (take_lengths C H f g) + greatest (take_doubts C H H f g))
+
+-- its bound is the greater of these and of the greatest lead where both begin to wait
+abbrev pub LeadBoundIsGreatest : Type 0
+LeadBoundIsGreatest =
+    (C : Config) (H : History) (f g : ℕ) (gap : TagGap) → measured_gap C H f g ≡ Some gap
+    → IsGreatestOver (IsFirstIn H f g) (λ P. measured_lead C H P f g) (bound_of_takes C H f g) gap.bound
 
 -- what each request of t became in H is the greatest and the least that it was there
 abbrev pub MeasuredAreCaps : Type 0
@@ -119,7 +142,7 @@ MeasuredAreCaps =
 abbrev pub AccountsStayNear : Type 0
 AccountsStayNear =
     (C : Config) (H P : History) (f g M : ℕ) (of_f of_g : History → ℤ) → f ≢ g → InLimits C → IsLegal C H
-    → IsLongest C H f g M → IsSharedIn H f g P → IsAccount M C H f of_f → IsAccount M C H g of_g
+    → AreNoLonger C H f g M → IsSharedIn H f g P → IsAccount M C H f of_f → IsAccount M C H g of_g
     → (of_f P -ℤ of_g P) ≤ℤ int_max (worst_lead M C (run_start P f g) f g) (pos (all_and_one C M) -ℤ pos 1)
 
 -- by any account f gains on g, from P to Q and while both wait, no more than one request of the greatest length more
@@ -127,7 +150,7 @@ AccountsStayNear =
 abbrev pub GainStaysBelow : Type 0
 GainStaysBelow =
     (C : Config) (P Q : History) (f g M : ℕ) (of_f of_g : History → ℤ) → f ≢ g → InLimits C → IsLegal C Q
-    → IsLongest C Q f g M → IsLongest C Q g f M → IsPrefix P Q → AreSharedFrom P Q f g
+    → AreNoLonger C Q f g M → AreNoLonger C Q g f M → IsPrefix P Q → AreSharedFrom P Q f g
     → IsAccount M C Q f of_f → IsAccount M C Q g of_g
     → ((of_f Q -ℤ of_f P) -ℤ (of_g Q -ℤ of_g P))
     ≤ℤ (pos (all_and_one C M) +ℤ int_max (worst_lead M C (run_start P g f) g f) (pos (all_and_one C M)))
@@ -137,14 +160,14 @@ GainStaysBelow =
 abbrev pub TakesAreFew : Type 0
 TakesAreFew =
     (C : Config) (newer S : History) (f g r M c : ℕ) → f ≢ g → InLimits C → IsLegal C (newer ++ S)
-    → IsLongest C (newer ++ S) f g M → AreNoShorter C S (newer ++ S) f c → WaitsFrom S (newer ++ S) g r
+    → AreNoLonger C (newer ++ S) f g M → AreNoShorter C S (newer ++ S) f c → WaitsFrom S (newer ++ S) g r
     → pos (takes_after f newer S * c) ≤ℤ (pos c +ℤ int_max (pos 0) (worst_lead M C S g f +ℤ pos M))
 
 -- the same by the lead that g had where both began to wait, where both wait at S
 abbrev pub TakesAreFewInRun : Type 0
 TakesAreFewInRun =
     (C : Config) (newer S : History) (f g r M c : ℕ) → f ≢ g → InLimits C → IsLegal C (newer ++ S)
-    → IsLongest C (newer ++ S) f g M → IsLongest C (newer ++ S) g f M → AreNoShorter C S (newer ++ S) f c
+    → AreNoLonger C (newer ++ S) f g M → AreNoLonger C (newer ++ S) g f M → AreNoShorter C S (newer ++ S) f c
     → WaitsFrom S (newer ++ S) g r → is_shared S f g ≡ true
     → pos (takes_after f newer S * c)
     ≤ℤ (pos c +ℤ (int_max (worst_lead M C (run_start S g f) g f) (pos (all_and_one C M)) +ℤ pos M))

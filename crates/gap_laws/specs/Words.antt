@@ -75,7 +75,7 @@ TakesStayBelow cap low C P H f g B =
 
 -- no request of f or g that is taken at a prefix of H is longer there than M, and no head of the two is, where a
 -- request of f is taken while both wait
-pub record IsLongest (C : Config) (H : History) (f g M : ℕ) : Type 0 where
+pub record AreNoLonger (C : Config) (H : History) (f g M : ℕ) : Type 0 where
   pub of_f : AreCaps C H f (λ r. M)
   pub of_g : AreCaps C H g (λ r. M)
   pub heads :

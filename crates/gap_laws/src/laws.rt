@@ -1,6 +1,6 @@
 //! The laws, one function a law: its contract is the law, and its body is empty.
 ghost use Rattle.gap_laws.specs.Laws.{ChargeRisesAtTakes, StartRisesAtTakes, RunStartIs, GapStaysBelow, LargestIsBounded, GapIsThere, LargestIsGreatest, BoundIsGreatest, LeadStaysBelow, WorstLeadStaysBelow, DifferenceStaysBelow, MeasuredIsBounded, GainStaysBelow, TakesAreFew};
-ghost use Rattle.gap_laws.specs.Laws.{MeasuredAreCaps, AccountsStayNear, TakesAreFewInRun};
+ghost use Rattle.gap_laws.specs.Laws.{MeasuredAreCaps, MeasuredIsThere, MeasuredIsGreatest, LeadBoundIsGreatest, AccountsStayNear, TakesAreFewInRun};
 
 /// Where every request costs what was declared, a Take adds the length of the declared cost to the virtual charge of
 /// its tenant, and nothing else changes a virtual charge: no Report and no Done.
@@ -72,6 +72,21 @@ pub fn difference_stays_below()
 /// that it tells.
 pub fn measured_is_bounded()
     ensures { MeasuredIsBounded }
+{}
+
+/// A measured gap is told exactly where both tenants wait at some prefix.
+pub fn measured_is_there()
+    ensures { MeasuredIsThere }
+{}
+
+/// What it tells as the largest difference is reached at such a prefix, and never passed.
+pub fn measured_is_greatest()
+    ensures { MeasuredIsGreatest }
+{}
+
+/// What it tells as the bound is what its Takes come to, or the greatest lead where both begin to wait: the greater.
+pub fn lead_bound_is_greatest()
+    ensures { LeadBoundIsGreatest }
 {}
 
 /// What the one gains on the other over a while in which both wait, in the manner of Golestani (1994), and by any

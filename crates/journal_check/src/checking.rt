@@ -1,6 +1,8 @@
 //! The verdict on a journal.
-ghost use Rattle.std.specs.Prelude.{◌≡◌, ◌↔◌, [], IsTrue, Some, IfOk, slice_get};
+ghost use Rattle.std.specs.Prelude.{◌≡◌, ◌↔◌, [], ◌∷◌, IsTrue, Some, IfOk, slice_get};
+ghost use Rattle.fq_model.specs.History.{history_of};
 ghost use Rattle.fq_model.specs.Limits.{InLimits};
+ghost use Rattle.fq_model.specs.Rules.{IsLegal};
 ghost use Rattle.program_model.specs.Document.{config_of};
 ghost use Rattle.program_model.specs.Journal.{call_of};
 ghost use Rattle.program_model.specs.Verdicts.{IsVerdict};
@@ -59,6 +61,16 @@ fn is_given(wanted: Option<Entry>, given: Entry) -> bool
     wanted == Some(given)
 }
 
+/// Makes the call of an entry that may come next, which adds it.
+pub fn enter<X: Chooser>(scheduler: &mut Scheduler<u64, X>, entry: Entry)
+    requires limits { InLimits scheduler.old.config }
+    requires legal { IsLegal scheduler.old.config (entry ∷ history_of scheduler.old.past) }
+    ensures config { scheduler.new.config ≡ scheduler.old.config }
+    ensures past { history_of scheduler.new.past ≡ entry ∷ history_of scheduler.old.past }
+{
+    answer(scheduler, call_of(entry));
+}
+
 /// The call whose entry this may be.
 pub(crate) fn call_of(entry: Entry) -> Call
     ensures { result ≡ call_of entry }
@@ -108,7 +120,7 @@ pub(crate) fn call_of(entry: Entry) -> Call
 }
 
 /// The same configuration once more.
-pub(crate) fn copy_of(alloc: Global, config: &Checked) -> Result<Checked, AllocError>
+pub fn copy_of(alloc: Global, config: &Checked) -> Result<Checked, AllocError>
     ensures copy { IfOk result (λ copy. copy ≡ config.now) }
     ensures limits { IfOk result (λ copy. InLimits copy) }
 {

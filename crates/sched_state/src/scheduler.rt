@@ -6,6 +6,7 @@ ghost use Rattle.fq_model.specs.History.{history_of, pool_at};
 ghost use Rattle.fq_model.specs.Keys.{keys_at};
 ghost use Rattle.fq_model.specs.Rules.{IsLegal};
 ghost use Rattle.fq_model.specs.Status.{status_of};
+ghost use Rattle.charge_book.specs.Histories.{row_of_worker};
 ghost use Rattle.sched_state.specs.Kept.{IsBehind};
 ghost use Rattle.sched_state.specs.Lists.{HoldsWaiting};
 ghost use Rattle.sched_state.specs.Scheduler.{virtual_time_now};
@@ -13,6 +14,7 @@ ghost use Rattle.sched_state.specs.Replies.{submit_reply, take_reply, change_rep
 
 use crate::replies::{AlreadyClosed, Refused, Taken};
 use crate::scheduler_core::Core;
+use charge_book::row::RunRow;
 use fq_model::config::Checked;
 use fq_model::event::{Cause, Entry};
 use fq_model::job::Job;
@@ -196,6 +198,14 @@ impl<J: Job + Drop, X: Chooser> Scheduler<J, X> {
         ensures { result ≡ pool_at self.now.config (history_of self.now.past) }
     {
         self.core.pool()
+    }
+
+    /// What runs on the worker: the request, and what decides its charge.
+    pub fn running(&self, worker: u32) -> Option<RunRow>
+        requires { worker < self.now.config.workers }
+        ensures { result ≡ row_of_worker self.now.config (history_of self.now.past) worker }
+    {
+        self.core.running(worker)
     }
 
     /// What is shown of the history at its last entry.

@@ -19,7 +19,7 @@ greatest_swapped : (x y : ℤ) (zs : List ℤ) → int_max (greatest_with y zs) 
 greatest_swapped x y [] = refl
 greatest_swapped x y (z ∷ zs) = omega (arith, ints, clamps, greatest_swapped x y zs)
 
-at_least_is : (x : ℤ) (ys : List ℤ) → at_least x (greatest_of ys) ≡ greatest_with x ys
+pub at_least_is : (x : ℤ) (ys : List ℤ) → at_least x (greatest_of ys) ≡ greatest_with x ys
 at_least_is x [] = refl
 at_least_is x (y ∷ ys) = greatest_swapped x y ys
 
@@ -52,7 +52,7 @@ module _ (C : Config) (P : History) (e : Entry) (f g : ℕ) (x : Found) (is : Fo
   ]
 
 -- the gap of what was found, by its parts
-gap_is : (largest : Option ℤ) (b c : ℤ) → b ≡ c → option_map told (option_map (λ x. record { largest = x; bound = b }) largest) ≡ option_map (λ x. record { largest = x; bound = c }) largest
+pub gap_is : (largest : Option ℤ) (b c : ℤ) → b ≡ c → option_map told (option_map (λ x. record { largest = x; bound = b }) largest) ≡ option_map (λ x. record { largest = x; bound = c }) largest
 gap_is None b c same = refl
 gap_is (Some x) b c same = rw same refl
 

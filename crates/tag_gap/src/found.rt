@@ -58,8 +58,8 @@ impl Found {
     }
 }
 
-// The greater of d and what was found.
-fn at_least(d: i128, found: Option<i128>) -> i128
+/// The greater of d and what was found.
+pub fn at_least(d: i128, found: Option<i128>) -> i128
     ensures { result ≡ at_least d found }
 {
     match found {

@@ -1,0 +1,6 @@
+pub mod Rows
+pub mod Telling
+pub mod Entering
+pub mod SpanLemmas
+pub mod DoubtLemmas
+pub mod LeadLemmas

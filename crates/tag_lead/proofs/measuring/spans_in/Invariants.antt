@@ -1,0 +1,13 @@
+use Rattle.std.proofs.Common.{◌≡◌, length}
+use Rattle.fq_model.specs.History.{history_of}
+use Rattle.tag_gap.proofs.Prefixes.{first_entries}
+use Rattle.tag_lead.specs.Spans.{LongestAre, ShortestAre}
+use Rattle.tag_lead.proofs.measuring.spans_in.Given as goal
+
+abbrev pub invariant-loop-entry : goal.invariant-loop-entry
+invariant-loop-entry g l = record {
+  config_is : l.scheduler.config ≡ l.fn.scheduler.config;
+  past_is : history_of l.scheduler.past ≡ first_entries l.past l.entry-index;
+  longest : LongestAre l.fn.scheduler.config (first_entries l.past l.entry-index) l.f (length l.past) l.spans.longest.items;
+  shortest : ShortestAre l.fn.scheduler.config (first_entries l.past l.entry-index) l.g (length l.past) l.spans.shortest.items;
+}

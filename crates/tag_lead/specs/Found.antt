@@ -1,0 +1,63 @@
+-- What the leads of one tenant over another come to.
+use Rattle.std.specs.Prelude.{ℕ, ℤ, ◌+◌, ◌*◌, ◌≤◌, ◌≡◌, max, if◌then◌else◌, Option, Some, None, option_map, pos}
+use Rattle.fq_model.specs.declared.config.Config.{Config}
+use Rattle.fq_model.specs.declared.config.Policy.{Policy}
+use Rattle.fq_model.specs.Charge.{greatest}
+use Rattle.fq_model.specs.History.{History}
+use Rattle.fq_model.specs.Gap.{greatest_of, lengths_in_bound}
+use Rattle.fq_model.specs.Lead.{first_leads, take_lengths, take_doubts}
+use Rattle.tag_gap.specs.declared.gap.Gap.{Gap}
+use Rattle.tag_gap.specs.Found.{nothing, at_least, with_difference, FoundIn}
+use Rattle.tag_lead.specs.declared.found.Ahead.{Ahead}
+use Rattle.tag_lead.specs.declared.found.Leads.{Leads}
+
+-- no prefix yet
+abbrev pub no_leads : Leads
+no_leads = record { starts = nothing; first = None; longest = 0; doubt = 0 }
+
+abbrev pub difference_of : Option Ahead → Option ℤ
+difference_of None = None
+difference_of (Some ahead) = Some ahead.difference
+
+-- the greatest lead with which both begin to wait, with one prefix more
+abbrev pub first_with : Leads → Option Ahead → Option ℤ
+first_with leads None = leads.first
+first_with leads (Some ahead) = if leads.starts.shared then leads.first else Some (at_least ahead.lead leads.first)
+
+-- the greatest length with that of a Take, if there is one
+abbrev pub longest_with : ℕ → Option ℕ → ℕ
+longest_with longest None = longest
+longest_with longest (Some length) = max longest length
+
+-- the greatest doubt with that after a Take, if there is one
+abbrev pub doubt_with : ℕ → Option ℕ → ℕ → ℕ
+doubt_with greatest None doubt = greatest
+doubt_with greatest (Some length) doubt = max greatest doubt
+
+-- all of these with one entry more
+abbrev pub leads_with : Leads → Option Ahead → Option ℕ → ℕ → Leads
+leads_with leads ahead taken doubt = record {
+  starts = with_difference leads.starts (difference_of ahead);
+  first = first_with leads ahead;
+  longest = longest_with leads.longest taken;
+  doubt = doubt_with leads.doubt taken doubt;
+}
+
+abbrev pub heads_in_bound : Policy → ℕ → ℕ
+heads_in_bound policy longest = lengths_in_bound policy * longest
+
+-- the largest difference and its bound, if some prefix is shared
+abbrev pub lead_from : Leads → Policy → Option Gap
+lead_from leads policy =
+    option_map
+    (λ x. record { largest = x; bound = at_least (pos (heads_in_bound policy leads.longest + leads.doubt)) leads.first })
+    leads.starts.largest
+
+-- what was found at the prefixes of P is that of P, where all turned out as in H
+pub record LeadsIn (C : Config) (H P : History) (f g : ℕ) (leads : Leads) : Type 0 where
+  pub starts_in : FoundIn C P f g leads.starts
+  pub first_is : leads.first ≡ greatest_of (first_leads C H P f g)
+  pub longest_is : leads.longest ≡ greatest (take_lengths C P f g)
+  pub doubt_is : leads.doubt ≡ greatest (take_doubts C H P f g)
+  pub longest_low : leads.longest ≤ 1048576000000000
+  pub doubt_low : leads.doubt ≤ 2361183241434822606720

@@ -1,0 +1,34 @@
+-- How far one tenant is ahead of another at a prefix, and what a Take tells.
+use Rattle.std.specs.Prelude.{ℕ, ◌==◌, max, if◌then◌else◌, Option, Some, None, pos, unsigned_abs, ◌+ℤ◌, ◌-ℤ◌}
+use Rattle.fq_model.specs.declared.config.Config.{Config}
+use Rattle.fq_model.specs.declared.event.Act.{Act}
+use Rattle.fq_model.specs.declared.event.Act.TheVariants.{Take}
+use Rattle.fq_model.specs.History.{History}
+use Rattle.fq_model.specs.Keys.{HeadKeys}
+use Rattle.fq_model.specs.Gap.{is_shared, start_difference}
+use Rattle.fq_model.specs.Lead.{head_length, is_lead_take}
+use Rattle.tag_lead.specs.declared.found.Ahead.{Ahead}
+
+-- how far f is ahead of g, where both wait and so much is in doubt
+abbrev pub ahead_at : Config → History → ℕ → ℕ → ℕ → Option Ahead
+ahead_at C P f g doubt =
+    if is_shared P f g
+    then Some (record { difference = start_difference C P f g; lead = start_difference C P f g +ℤ pos doubt })
+    else None
+
+-- the same by the keys of their heads
+abbrev pub ahead_by : Option HeadKeys → Option HeadKeys → ℕ → Option Ahead
+ahead_by (Some k) (Some l) doubt =
+    Some (record { difference = k.start -ℤ l.start; lead = (k.start -ℤ l.start) +ℤ pos doubt })
+ahead_by _ _ doubt = None
+
+-- the greater length of their heads, where this act after P takes a request of f while both wait
+abbrev pub taken_at : Config → History → Act → ℕ → ℕ → Option ℕ
+taken_at C P a f g =
+    if is_lead_take P a f g then Some (max (head_length C P f) (head_length C P g)) else None
+
+-- the same by the keys of their heads: what is taken of f is its head
+abbrev pub taken_by : Act → Option HeadKeys → Option HeadKeys → Option ℕ
+taken_by (Take worker request estimate) (Some k) (Some l) =
+    if request == k.request then Some (max (unsigned_abs k.len) (unsigned_abs l.len)) else None
+taken_by _ _ _ = None

@@ -1,0 +1,4 @@
+pub mod Spans
+pub mod Doubts
+pub mod Found
+pub mod Leads

@@ -1,0 +1,120 @@
+//! What the leads of one tenant over another come to.
+ghost use Rattle.std.specs.Prelude.{◌≡◌, ◌≤◌};
+ghost use Rattle.tag_lead.specs.Found.{no_leads, difference_of, first_with, longest_with, doubt_with, leads_with, heads_in_bound, lead_from};
+
+use fq_model::config::Policy;
+use tag_gap::found::{Found, at_least};
+use tag_gap::gap::Gap;
+
+/// How far one tenant is ahead of another at a prefix in which both wait, in steps.
+#[derive(Clone, Copy, Debug, PartialEq, Eq)]
+pub struct Ahead {
+    /// How far its start is above the other's.
+    pub difference: i128,
+    /// The same if all that runs turns out as it did: its lead.
+    pub lead: i128,
+}
+
+/// What the prefixes of a history come to, in steps. A Take counts where it takes a request of the first tenant while
+/// both wait.
+#[derive(Clone, Copy, Debug, PartialEq, Eq)]
+pub struct Leads {
+    /// What the differences of the starts come to.
+    pub starts: Found,
+    /// The greatest lead at a prefix with which both begin to wait.
+    pub first: Option<i128>,
+    /// The greatest length of a head of the two at a Take.
+    pub longest: u128,
+    /// The greatest doubt just after a Take.
+    pub doubt: u128,
+}
+
+impl Leads {
+    /// No prefix yet.
+    pub fn new() -> Leads
+        ensures { result ≡ no_leads }
+    {
+        Leads {
+            starts: Found::new(),
+            first: None,
+            longest: 0,
+            doubt: 0,
+        }
+    }
+
+    /// With one entry more: how far the first is ahead after it, where both wait; the greater length of their heads
+    /// before it, where it is a Take that counts; and the doubt after it.
+    pub fn with(&self, ahead: Option<Ahead>, taken: Option<u128>, doubt: u128) -> Leads
+        ensures { result ≡ leads_with self.now ahead taken doubt }
+    {
+        Leads {
+            starts: self.starts.with(difference_of(ahead)),
+            first: self.first_with(ahead),
+            longest: longest_with(self.longest, taken),
+            doubt: doubt_with(self.doubt, taken, doubt),
+        }
+    }
+
+    // The greatest lead with which both begin to wait.
+    fn first_with(&self, ahead: Option<Ahead>) -> Option<i128>
+        ensures { result ≡ first_with self.now ahead }
+    {
+        match ahead {
+            Some(ahead) if !self.starts.shared => Some(at_least(ahead.lead, self.first)),
+            _ => self.first,
+        }
+    }
+
+    /// The largest difference and its bound under the policy, if both waited at some prefix.
+    pub fn lead(&self, policy: Policy) -> Option<Gap>
+        requires longest { self.now.longest ≤ 1048576000000000 }
+        requires doubt { self.now.doubt ≤ 2361183241434822606720 }
+        ensures { result ≡ lead_from self.now policy }
+    {
+        let largest = self.starts.largest?;
+        let takes = heads_in_bound(policy, self.longest) + self.doubt;
+        let bound = at_least(takes as i128, self.first);
+        Some(Gap { largest, bound })
+    }
+}
+
+fn difference_of(ahead: Option<Ahead>) -> Option<i128>
+    ensures { result ≡ difference_of ahead }
+{
+    match ahead {
+        Some(ahead) => Some(ahead.difference),
+        None => None,
+    }
+}
+
+// The greatest length with that of a Take, if there is one.
+fn longest_with(longest: u128, taken: Option<u128>) -> u128
+    ensures { result ≡ longest_with longest taken }
+{
+    match taken {
+        Some(length) => longest.max(length),
+        None => longest,
+    }
+}
+
+// The greatest doubt with that after a Take, if there is one.
+fn doubt_with(greatest: u128, taken: Option<u128>, doubt: u128) -> u128
+    ensures { result ≡ doubt_with greatest taken doubt }
+{
+    match taken {
+        Some(_) => greatest.max(doubt),
+        None => greatest,
+    }
+}
+
+// One length of a head, or two under 2dfq.
+fn heads_in_bound(policy: Policy, longest: u128) -> u128
+    requires { longest ≤ 1048576000000000 }
+    ensures value { result ≡ heads_in_bound policy longest }
+    ensures low { result ≤ 2097152000000000 }
+{
+    match policy {
+        Policy::TwoDfq => 2 * longest,
+        Policy::Wfq | Policy::Wf2q | Policy::Msf2q => longest,
+    }
+}

@@ -1,0 +1,152 @@
+//! How far one tenant got ahead of another while both waited.
+ghost use Rattle.std.specs.Prelude.{◌≡◌, ◌≢◌, ◌<◌, ◌≤◌, ◌∷◌, [], length, IfOk, IfSome, option_map, ◌≤ℤ◌};
+ghost use Rattle.fq_model.specs.History.{history_of};
+ghost use Rattle.fq_model.specs.Lead.{measured_gap};
+ghost use Rattle.fq_model.specs.Limits.{InLimits};
+ghost use Rattle.fq_model.specs.Rules.{IsLegal};
+ghost use Rattle.tag_gap.specs.Gaps.{told};
+ghost use Rattle.tag_lead.specs.Found.{LeadsIn};
+ghost use Rattle.tag_lead.specs.Leads.{ahead_by, ahead_at, taken_by, taken_at};
+ghost use Rattle.tag_lead.specs.Spans.{LongestAre, ShortestAre};
+
+use crate::doubts::doubt;
+use crate::found::{Ahead, Leads};
+use crate::measuring::measure;
+use crate::spans::Spans;
+use fq_model::config::Checked;
+use fq_model::event::{Act, Entry};
+use journal_check::checking::{copy_of, enter};
+use sched_state::Scheduler;
+use std::alloc::{AllocError, Global};
+use tag_gap::gap::Gap;
+use tag_rules::chooser::Chooser;
+use tag_rules::parts::Keys;
+
+/// How far the start of tenant f was above that of tenant g at most, at the prefixes of a past in which both wait, and
+/// what bounds it, whatever requests cost; none where they never wait both. The bound is the greater of two numbers: the
+/// greatest lead with which both began to wait, and one length of a head, or two under 2dfq, with what was in doubt of
+/// the requests that ran: each may turn out as long, or as short, as it did in this past. Nothing is asked of the past
+/// but that it is legal. Its calls are made twice on a scheduler over any chooser, and what runs on each worker is
+/// looked at after each.
+pub fn tag_lead<X: Chooser + Drop>(
+    alloc: Global,
+    past: &[Entry],
+    config: &Checked,
+    f: u32,
+    g: u32,
+) -> Result<Option<Gap>, AllocError>
+    requires legal { IsLegal config.now (history_of past.now) }
+    requires f_known { f < length config.now.weights }
+    requires g_known { g < length config.now.weights }
+    requires apart { f ≢ g }
+    ensures lead { IfOk result (λ lead. option_map told lead ≡ measured_gap config.now (history_of past.now) f g) }
+    ensures bounded { IfOk result (λ lead. IfSome lead (λ x. x.largest ≤ℤ x.bound)) }
+{
+    let spans = measure::<X>(alloc, past, config, f, g)?;
+    let leads = leads_of::<X>(alloc, past, config, &spans, f, g);
+    drop(spans);
+    Ok(leads?.lead(config.policy()))
+}
+
+// What the leads come to, where all turned out as it is known.
+fn leads_of<X: Chooser + Drop>(
+    alloc: Global,
+    past: &[Entry],
+    config: &Checked,
+    spans: &Spans,
+    f: u32,
+    g: u32,
+) -> Result<Leads, AllocError>
+    requires legal { IsLegal config.now (history_of past.now) }
+    requires f_known { f < length config.now.weights }
+    requires g_known { g < length config.now.weights }
+    requires longest { LongestAre config.now (history_of past.now) f (length past.now) spans.now.longest.items }
+    requires shortest { ShortestAre config.now (history_of past.now) g (length past.now) spans.now.shortest.items }
+    ensures { IfOk result (LeadsIn config.now (history_of past.now) (history_of past.now) f g) }
+{
+    let config = copy_of(alloc, config)?;
+    let mut scheduler = Scheduler::<u64, X>::open(alloc, config)?;
+    let leads = leads_in(&mut scheduler, past, spans, f, g);
+    drop(scheduler);
+    Ok(leads)
+}
+
+// The same by a scheduler that was just opened.
+fn leads_in<X: Chooser>(
+    scheduler: &mut Scheduler<u64, X>,
+    past: &[Entry],
+    spans: &Spans,
+    f: u32,
+    g: u32,
+) -> Leads
+    requires opened { scheduler.old.past ≡ [] }
+    requires limits { InLimits scheduler.old.config }
+    requires legal { IsLegal scheduler.old.config (history_of past.now) }
+    requires f_known { f < length scheduler.old.config.weights }
+    requires g_known { g < length scheduler.old.config.weights }
+    requires longest { LongestAre scheduler.old.config (history_of past.now) f (length past.now)
+        spans.now.longest.items }
+    requires shortest { ShortestAre scheduler.old.config (history_of past.now) g (length past.now)
+        spans.now.shortest.items }
+    ensures { LeadsIn scheduler.old.config (history_of past.now) (history_of past.now) f g result }
+{
+    let mut leads = Leads::new();
+    for entry in past {
+        let taken = taken(scheduler, *entry, f, g);
+        enter(scheduler, *entry);
+        let doubt = doubt(scheduler, spans, f, g);
+        leads = leads.with(ahead(scheduler, f, g, doubt), taken, doubt);
+    }
+    leads
+}
+
+// How far f is ahead of g now, where both wait and so much is in doubt.
+fn ahead<X: Chooser>(scheduler: &Scheduler<u64, X>, f: u32, g: u32, doubt: u128) -> Option<Ahead>
+    requires limits { InLimits scheduler.now.config }
+    requires legal { IsLegal scheduler.now.config (history_of scheduler.now.past) }
+    requires f_known { f < length scheduler.now.config.weights }
+    requires g_known { g < length scheduler.now.config.weights }
+    requires doubt { doubt ≤ 2361183241434822606720 }
+    ensures { result ≡ ahead_at scheduler.now.config (history_of scheduler.now.past) f g doubt }
+{
+    ahead_by(scheduler.keys(f), scheduler.keys(g), doubt)
+}
+
+// The same by the keys of their heads.
+fn ahead_by(first: Option<Keys>, second: Option<Keys>, doubt: u128) -> Option<Ahead>
+    requires { doubt ≤ 2361183241434822606720 }
+    ensures { result ≡ ahead_by first second doubt }
+{
+    match (first, second) {
+        (Some(first), Some(second)) => {
+            let difference = first.start - second.start;
+            let lead = difference + doubt as i128;
+            Some(Ahead { difference, lead })
+        }
+        _ => None,
+    }
+}
+
+// The greater length of their heads, where this entry takes a request of f while both wait.
+fn taken<X: Chooser>(scheduler: &Scheduler<u64, X>, entry: Entry, f: u32, g: u32) -> Option<u128>
+    requires limits { InLimits scheduler.now.config }
+    requires legal { IsLegal scheduler.now.config (entry ∷ history_of scheduler.now.past) }
+    requires f_known { f < length scheduler.now.config.weights }
+    requires g_known { g < length scheduler.now.config.weights }
+    ensures value { result ≡ taken_at scheduler.now.config (history_of scheduler.now.past) entry.act f g }
+    ensures low { IfSome result (λ x. x ≤ 1048576000000000) }
+{
+    taken_by(entry.act, scheduler.keys(f), scheduler.keys(g))
+}
+
+// The same by the keys of their heads: what is taken of f is its head.
+fn taken_by(act: Act, first: Option<Keys>, second: Option<Keys>) -> Option<u128>
+    ensures { result ≡ taken_by act first second }
+{
+    match (act, first, second) {
+        (Act::Take { request, .. }, Some(first), Some(second)) if request == first.request => {
+            Some(first.len.unsigned_abs().max(second.len.unsigned_abs()))
+        }
+        _ => None,
+    }
+}
