@@ -75,6 +75,7 @@ static void serve(twodfq *scheduler, uint32_t tenants) {
     want("one is retired", twodfq_take(scheduler, 1, 0, 1).kind == TWODFQ_RETIRED);
     want("it closes", twodfq_close(scheduler, 0, 0).kind == TWODFQ_ACCEPTED);
     want("an entry is read", twodfq_entry(scheduler, 5).kind == TWODFQ_ENTRY_SUBMIT);
+    want("it tells what waits", twodfq_status(scheduler).waiting == tenants);
     uint32_t kind;
     while ((kind = twodfq_take(scheduler, 1, 0, 0).kind) == TWODFQ_RUN)
         want("it is done", twodfq_done(scheduler, 1, 0, 0, 1).kind == TWODFQ_ACCEPTED);

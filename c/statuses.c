@@ -54,6 +54,7 @@ static void no_scheduler(twodfq *handle) {
     want("weight", twodfq_weight(handle, 0, 0, 0, 1).kind, TWODFQ_NO_SCHEDULER);
     want("workers", twodfq_workers(handle, 0, 0, 1).kind, TWODFQ_NO_SCHEDULER);
     want("entry", twodfq_entry(handle, 0).kind, TWODFQ_ENTRY_NONE);
+    want("status", twodfq_status(handle).kind, TWODFQ_NO_SCHEDULER);
     twodfq_free(handle);
 }
 
@@ -87,6 +88,7 @@ int main(void) {
     want("open", twodfq_open(&scheduler, &opening, weights, 1), TWODFQ_OPENED);
     want("open again", twodfq_open(&scheduler, &opening, weights, 1), TWODFQ_OPEN_ALREADY);
     want("what was held", twodfq_submit(&scheduler, 0, 0, 0, 0, 1, 0).kind, TWODFQ_REQUEST);
+    want("what waits", twodfq_status(&scheduler).waiting, 1);
     twodfq_free(&scheduler);
     no_scheduler(&scheduler);
     printf("statuses: %d answers at and beyond the limits, and of a handle that holds none\n", count);

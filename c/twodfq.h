@@ -154,6 +154,20 @@ typedef struct {
    log that comes by at least once every `keep` entries and reads on from where it was finds them all. */
 twodfq_line twodfq_entry(twodfq *handle, uint64_t index);
 
+/* Numbers are 0 where there is no scheduler. Virtual time is in steps, of which a unit has 1,048,576. */
+typedef struct {
+    uint32_t kind;          /* 0, or TWODFQ_NO_SCHEDULER */
+    uint32_t waiting;       /* how many requests wait */
+    uint32_t running;       /* how many requests run */
+    uint32_t virtual_steps; /* virtual time beyond its whole units */
+    uint64_t virtual_units; /* virtual time at the last entry, in whole units */
+    uint64_t entries;       /* how many entries the history has */
+    uint64_t moment;        /* the moment of the last one, or 0 */
+} twodfq_standing;
+
+/* How the scheduler stands after its last entry. */
+twodfq_standing twodfq_status(twodfq *handle);
+
 /* Gives the scheduler's memory back. The handle holds none from here on; once more does nothing. */
 void twodfq_free(twodfq *handle);
 

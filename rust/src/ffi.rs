@@ -49,6 +49,18 @@ pub(crate) struct Line {
     label: u64,
 }
 
+#[repr(C)]
+pub(crate) struct Standing {
+    /// 0, since a scheduler is held.
+    _kind: u32,
+    waiting: u32,
+    running: u32,
+    virtual_steps: u32,
+    virtual_units: u64,
+    entries: u64,
+    moment: u64,
+}
+
 /// Kinds of a reply to a take.
 pub(crate) const IDLE: u32 = 3;
 pub(crate) const DRAINED: u32 = 4;
@@ -73,6 +85,7 @@ extern "C" {
     pub(crate) fn twodfq_weight(handle: *mut Handle, who: u32, moment: u64, tenant: u32, weight: u32) -> Reply;
     pub(crate) fn twodfq_workers(handle: *mut Handle, who: u32, moment: u64, count: u32) -> Reply;
     pub(crate) fn twodfq_entry(handle: *mut Handle, index: u64) -> Line;
+    pub(crate) fn twodfq_status(handle: *mut Handle) -> Standing;
     pub(crate) fn twodfq_free(handle: *mut Handle);
     fn clock_gettime(clock: c_int, time: *mut Time) -> c_int;
 }
@@ -122,6 +135,17 @@ impl Line {
             _ => return None,
         };
         Some(Entry { who: self.who, moment: self.moment, act })
+    }
+}
+
+/// How many steps of virtual time a unit has.
+const STEPS: u128 = 1 << 20;
+
+impl Standing {
+    pub(crate) fn standing(self) -> crate::Standing {
+        let Standing { waiting, running, entries, moment, .. } = self;
+        let virtual_time = u128::from(self.virtual_units) * STEPS + u128::from(self.virtual_steps);
+        crate::Standing { entries, moment, virtual_time, waiting, running }
     }
 }
 

@@ -200,6 +200,30 @@ pub struct Entry {
     pub act: Act,
 }
 
+/// How a scheduler stands after its last entry.
+///
+/// ```
+/// use twodfq::{Config, Scheduler, Standing};
+///
+/// let mut scheduler = Scheduler::open(&Config { weights: &[1, 2], ..Config::default() }).unwrap();
+/// scheduler.close(0, 7).unwrap();
+/// let standing = Standing { entries: 1, moment: 7, virtual_time: 0, waiting: 0, running: 0 };
+/// assert_eq!(scheduler.status(), standing);
+/// ```
+#[derive(Clone, Copy, Debug, PartialEq, Eq)]
+pub struct Standing {
+    /// How many entries the history has.
+    pub entries: u64,
+    /// The moment of the last one, or 0.
+    pub moment: u64,
+    /// Virtual time at that moment, in steps, of which a unit has 1,048,576.
+    pub virtual_time: u128,
+    /// How many requests wait.
+    pub waiting: u32,
+    /// How many requests run.
+    pub running: u32,
+}
+
 /// A scheduler. No call but [`Scheduler::open`] takes memory.
 ///
 /// ```
@@ -370,6 +394,19 @@ impl Scheduler {
     /// ```
     pub fn first_kept(&mut self) -> u64 {
         unsafe { ffi::twodfq_entry(&mut self.handle, u64::MAX) }.first_kept() // no history has this entry
+    }
+
+    /// How the scheduler stands after its last entry, whatever the length of its history.
+    ///
+    /// ```
+    /// use twodfq::{Config, Scheduler, Submit};
+    ///
+    /// let mut scheduler = Scheduler::open(&Config { weights: &[1, 2], ..Config::default() }).unwrap();
+    /// scheduler.submit(0, 5, Submit { tenant: 1, kind: 0, declared: 5, label: 42 }).unwrap();
+    /// assert_eq!((scheduler.status().waiting, scheduler.status().moment), (1, 5));
+    /// ```
+    pub fn status(&mut self) -> Standing {
+        unsafe { ffi::twodfq_status(&mut self.handle) }.standing()
     }
 
     /// The entries that are kept, in order of time.

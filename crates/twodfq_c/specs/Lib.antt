@@ -4,3 +4,4 @@ pub mod Replies
 pub mod Answering
 pub mod Entries
 pub mod Opening
+pub mod Statuses

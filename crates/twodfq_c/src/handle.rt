@@ -2,10 +2,12 @@
 ghost use Rattle.std.specs.Prelude.{◌≡◌, Some, None, is_some, option_map};
 ghost use Rattle.twodfq_c.specs.Answering.{AnswersHeld};
 ghost use Rattle.twodfq_c.specs.Entries.{ReadsHeld};
+ghost use Rattle.twodfq_c.specs.Statuses.{TellsHeld};
 
 use crate::entry::PlainEntry;
 use crate::reply::PlainReply;
 use crate::slot::{Served, Slot};
+use crate::status::{PlainStatus, status_of};
 use fq_model::event::Call;
 use recent_history::answer;
 use std::alloc::Global;
@@ -77,6 +79,19 @@ impl Handle {
         let entry = entry_of(&held, index);
         *self = Handle::holding(held);
         entry
+    }
+
+    /// Tells how the scheduler stands.
+    pub(crate) fn status(&mut self, alloc: Global) -> PlainStatus
+        ensures status { TellsHeld self.old.slot.held result }
+        ensures unchanged { self.new.slot.held ≡ self.old.slot.held }
+    {
+        let Some(held) = self.take(alloc) else {
+            return PlainStatus::missing();
+        };
+        let status = status_of(&held);
+        *self = Handle::holding(held);
+        status
     }
 }
 

@@ -7,6 +7,7 @@ ghost use Rattle.fq_model.specs.declared.event.Call.TheVariants as call;
 ghost use Rattle.twodfq_c.specs.Answering.{AnswersHeld};
 ghost use Rattle.twodfq_c.specs.Opening.{Opens};
 ghost use Rattle.twodfq_c.specs.Entries.{ReadsHeld};
+ghost use Rattle.twodfq_c.specs.Statuses.{TellsHeld};
 
 mod entry;
 mod handle;
@@ -14,6 +15,7 @@ mod loose;
 mod opening;
 mod reply;
 mod slot;
+mod status;
 #[cfg(test)]
 mod tests;
 
@@ -22,6 +24,7 @@ use fq_model::event::Call;
 pub use handle::Handle;
 pub use opening::Opening;
 pub use reply::PlainReply;
+pub use status::PlainStatus;
 use std::alloc::Global;
 
 /// Opens a scheduler in a handle that holds none; `weights` has one number a tenant. All the memory that the scheduler
@@ -182,6 +185,15 @@ pub extern "C" fn twodfq_entry(handle: &mut Handle, alloc: Global, index: u64) -
     ensures unchanged { handle.new.slot.held ≡ handle.old.slot.held }
 {
     handle.entry(alloc, index)
+}
+
+/// Tells how the scheduler stands after its last entry.
+#[unsafe(no_mangle)]
+pub extern "C" fn twodfq_status(handle: &mut Handle, alloc: Global) -> PlainStatus
+    ensures status { TellsHeld handle.old.slot.held result }
+    ensures unchanged { handle.new.slot.held ≡ handle.old.slot.held }
+{
+    handle.status(alloc)
 }
 
 /// Gives the scheduler's memory back, if the handle holds one.

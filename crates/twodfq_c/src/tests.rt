@@ -1,6 +1,6 @@
 use crate::{
     Handle, Opening, twodfq_close, twodfq_done, twodfq_entry, twodfq_free, twodfq_open,
-    twodfq_report, twodfq_submit, twodfq_take, twodfq_weight, twodfq_workers,
+    twodfq_report, twodfq_status, twodfq_submit, twodfq_take, twodfq_weight, twodfq_workers,
 };
 use std::test::Fail;
 
@@ -36,6 +36,29 @@ fn a_request_from_its_submit_to_its_entry(rt: HostRuntime) -> Result<(), Fail> {
     assert_eq!(rt; twodfq_entry(&mut handle, rt.alloc(), 4).kind, 255);
     twodfq_free(&mut handle, rt.alloc());
     assert_eq!(rt; twodfq_take(&mut handle, rt.alloc(), 9, 7, 0).kind, 255);
+    Ok(())
+}
+
+// One request from its coming to its end, looked at after each call.
+#[test]
+fn a_request_is_watched(rt: HostRuntime) -> Result<(), Fail> {
+    let mut handle = Handle::empty();
+    assert_eq!(rt; twodfq_status(&mut handle, rt.alloc()).kind, 255);
+    assert_eq!(rt; twodfq_open(&mut handle, rt.alloc(), &OPENING, &[1]), 0);
+    assert_eq!(rt;
+        twodfq_submit(&mut handle, rt.alloc(), 5, 3, 0, 0, 10, 77).kind,
+        0
+    );
+    let waits = twodfq_status(&mut handle, rt.alloc());
+    assert_eq!(rt; (waits.kind, waits.waiting, waits.running), (0, 1, 0));
+    assert_eq!(rt; twodfq_take(&mut handle, rt.alloc(), 9, 4, 0).kind, 1);
+    let runs = twodfq_status(&mut handle, rt.alloc());
+    assert_eq!(rt; (runs.waiting, runs.running), (0, 1));
+    assert_eq!(rt;
+        (runs.entries, runs.moment, runs.units, runs.steps),
+        (2, 4, 2, 0)
+    );
+    twodfq_free(&mut handle, rt.alloc());
     Ok(())
 }
 
