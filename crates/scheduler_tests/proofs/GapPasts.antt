@@ -12,20 +12,20 @@ use Rattle.worked_histories.proofs.Computed.Histories.{computing}
 use Rattle.worked_histories.proofs.Computed.Legal.{legal_is}
 use Rattle.scheduler_tests.specs.Gaps.{gap_config}
 
-abbrev at : ℕ → Act → Entry
+abbrev pub at : ℕ → Act → Entry
 at moment act = record { who = 0; moment = moment; act = act }
 
-abbrev submit : ℕ → ℕ → ℕ → ℕ → Entry
+abbrev pub submit : ℕ → ℕ → ℕ → ℕ → Entry
 submit moment request tenant declared = at moment (Submit request tenant 0 declared 0)
 
-abbrev take : ℕ → ℕ → ℕ → ℕ → Entry
+abbrev pub take : ℕ → ℕ → ℕ → ℕ → Entry
 take moment worker request estimate = at moment (Take worker request estimate)
 
-abbrev done : ℕ → ℕ → ℕ → ℕ → Entry
+abbrev pub done : ℕ → ℕ → ℕ → ℕ → Entry
 done moment worker request cost = at moment (Done worker request cost)
 
 -- what is legal is legal under an equal name
-named : (C : Config) (past entries : List Entry) → past ≡ entries → IsLegal C (history_of entries) → IsLegal C (history_of past)
+pub named : (C : Config) (past entries : List Entry) → past ≡ entries → IsLegal C (history_of entries) → IsLegal C (history_of past)
 named C past entries same l = subst (λ (x : List Entry). IsLegal C (history_of x)) (sym same) l
 
 -- ---- two workers that stagger

@@ -1,3 +1,4 @@
 pub mod ByTenant
 pub mod NumberedHeads
 pub mod GapPasts
+pub mod LeadPasts

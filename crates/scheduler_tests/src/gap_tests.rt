@@ -14,7 +14,7 @@ use tag_gap::gaps::tag_gap;
 use test_samples::sample_config;
 
 // Two tenants, the first of weight 1.
-fn two_tenants<R: Abort>(
+pub(crate) fn two_tenants<R: Abort>(
     rt: &R,
     alloc: Global,
     workers: u32,
@@ -70,7 +70,7 @@ fn expect_gaps<R: Abort>(
 }
 
 // An entry of caller 0, with this act, and with a Submit, a Take and a Done.
-fn at(moment: u64, act: Act) -> Entry
+pub(crate) fn at(moment: u64, act: Act) -> Entry
     ensures { result ≡ record { who = 0; moment = moment; act = act } }
 {
     Entry {
@@ -80,7 +80,7 @@ fn at(moment: u64, act: Act) -> Entry
     }
 }
 
-fn submit(moment: u64, request: u32, tenant: u32, declared: u64) -> Entry
+pub(crate) fn submit(moment: u64, request: u32, tenant: u32, declared: u64) -> Entry
     ensures { result ≡ record { who = 0; moment = moment; act = act.Submit request tenant 0 declared 0 } }
 {
     at(
@@ -95,7 +95,7 @@ fn submit(moment: u64, request: u32, tenant: u32, declared: u64) -> Entry
     )
 }
 
-fn take(moment: u64, worker: u32, request: u32, estimate: u64) -> Entry
+pub(crate) fn take(moment: u64, worker: u32, request: u32, estimate: u64) -> Entry
     ensures { result ≡ record { who = 0; moment = moment; act = act.Take worker request estimate } }
 {
     at(
@@ -108,7 +108,7 @@ fn take(moment: u64, worker: u32, request: u32, estimate: u64) -> Entry
     )
 }
 
-fn done(moment: u64, worker: u32, request: u32, cost: u64) -> Entry
+pub(crate) fn done(moment: u64, worker: u32, request: u32, cost: u64) -> Entry
     ensures { result ≡ record { who = 0; moment = moment; act = act.Done worker request cost } }
 {
     at(

@@ -20,6 +20,8 @@ mod index_tests;
 #[cfg(test)]
 mod key_tests;
 #[cfg(test)]
+mod lead_tests;
+#[cfg(test)]
 mod list_tests;
 #[cfg(test)]
 mod order_tests;
