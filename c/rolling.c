@@ -9,7 +9,7 @@
 #include "twodfq.h"
 
 enum { WORKERS = 4, PRODUCERS = 2, TENANTS = 8, EACH = 10000, JOBS = PRODUCERS * EACH };
-enum { ENTRIES = 64, KEEP = 4, LIVE = 64 }; // entries of a history, those kept of it, and most schedulers at once
+enum { ENTRIES = 48, KEEP = 4, LIVE = 64 }; // entries of a history, those kept of it, and most schedulers at once
 
 // A scheduler, how many of its jobs are not done, and whether it is closed. Once it is, and none is left, it is given back.
 typedef struct {

@@ -1,5 +1,5 @@
 use fq_model::config::Checked;
-use fq_model::event::Call;
+use fq_model::event::{Call, Reply};
 use recent_history::Recent;
 use rival_policies::plain::PlainChooser;
 use sched_state::Scheduler;
@@ -60,6 +60,28 @@ fn calls() -> [Call; 12] {
     ]
 }
 
+// Of the replies that come here.
+fn is_same(a: Reply, b: Reply) -> bool {
+    match (a, b) {
+        (Reply::Request(a), Reply::Request(b)) => a == b,
+        (
+            Reply::Run {
+                request,
+                estimate,
+                ..
+            },
+            Reply::Run {
+                request: r,
+                estimate: e,
+                ..
+            },
+        ) => request == r && estimate == e,
+        (Reply::Refused(a), Reply::Refused(b)) => a == b,
+        (Reply::Accepted, Reply::Accepted) => true,
+        _ => false,
+    }
+}
+
 // Each call is answered as by a scheduler that keeps all, and the last entries are told as it has them.
 fn expect_last<R: Abort>(rt: &R, alloc: Global, keep: u32) {
     let whole = Scheduler::<u64, PlainChooser>::open(alloc, short_history(rt, alloc));
@@ -69,7 +91,7 @@ fn expect_last<R: Abort>(rt: &R, alloc: Global, keep: u32) {
     };
     for call in calls() {
         let reply = sched_state::answer(&mut whole, call);
-        assert!(rt; recent_history::answer(&mut recent, call) == reply);
+        assert!(rt; is_same(recent_history::answer(&mut recent, call), reply));
         expect_kept(rt, &whole, &recent, keep);
     }
     assert_eq!(rt; recent.len(), 10);
