@@ -1,4 +1,4 @@
-use Rattle.std.proofs.Common.{sym, arith, ◌∙◌}
+use Rattle.std.proofs.Common.{sym, ◌∙◌}
 use Rattle.lag_report.proofs.Gains.{whole, none, part}
 use Rattle.lag_report.proofs.work.worked.Goals as goal
 
