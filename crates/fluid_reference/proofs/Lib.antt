@@ -7,3 +7,4 @@ pub mod Known
 pub mod Backlogged
 pub mod OfTenants
 pub mod Replays
+pub mod Dealt

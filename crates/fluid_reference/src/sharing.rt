@@ -1,59 +1,54 @@
 //! What a slot gives each tenant.
-ghost use Rattle.std.specs.Prelude.{◌≡◌, ◌<◌, length, map, filter, IfOk, All};
+ghost use Rattle.std.specs.Prelude.{◌≡◌, ◌<◌, length, map, filter, IfOk, OnOk, All};
 ghost use Rattle.fq_model.specs.Level.{level};
 ghost use Rattle.fluid_reference.specs.Slots.{CanShare, AreBacklogged, want_of, wants_of, served_next, has_backlog};
 
 use fq_model::level::{Backlog, Level};
-use std::alloc::{AllocError, Global};
+use std::alloc::AllocError;
 use water_level::gifts::give;
 use water_level::levels::level;
 
-/// At which level a slot was shared, and which tenants have a backlog after it.
-#[derive(Drop)]
-pub struct Shared {
-    pub level: Level,
-    pub backlogged: Vec<u32>,
-}
-
-/// Serves the tenants that have a backlog what a slot that shares this many units gives them. The others get nothing,
-/// and no step is taken for them.
+/// Serves the tenants that have a backlog what a slot that shares this many units gives them, and gives the level at
+/// which it was shared. The others get nothing, and no step is taken for them. What `wants` and `left` hold is put into
+/// their memory: what the tenants wanted, and which have a backlog after the slot.
 pub fn share(
-    alloc: Global,
     cap: u64,
     costs: &[u64],
     served: &mut [u64],
     weights: &[u32],
     backlogged: &[u32],
-) -> Result<Shared, AllocError>
+    wants: &mut Vec<Backlog>,
+    left: &mut Vec<u32>,
+) -> Result<Level, AllocError>
     requires in_range { CanShare costs.now served.old weights.now }
     requires backlogged { AreBacklogged costs.now served.old backlogged.now }
-    ensures next { IfOk result (λ _. served.new ≡ served_next cap costs.now served.old weights.now) }
-    ensures level { IfOk result (λ s. s.level ≡ level cap (wants_of costs.now served.old weights.now)) }
-    ensures backlogged { IfOk result (λ s. AreBacklogged costs.now served.new s.backlogged.items) }
+    ensures next { OnOk result (served.new ≡ served_next cap costs.now served.old weights.now) }
+    ensures level { IfOk result (λ l. l ≡ level cap (wants_of costs.now served.old weights.now)) }
+    ensures left { OnOk result (AreBacklogged costs.now served.new left.new.items) }
 {
-    let wants = wants(alloc, costs, served, weights, backlogged)?;
-    let level = level(alloc, cap, wants.as_slice())?;
+    note_wants(costs, served, weights, backlogged, wants)?;
+    let level = level(cap, wants.as_slice());
     for k in 0..backlogged.len() {
         served[backlogged[k] as usize] += give(level, wants[k]);
     }
-    let backlogged = still_backlogged(alloc, costs, served, backlogged)?;
-    Ok(Shared { level, backlogged })
+    note_backlogged(costs, served, backlogged, left)?;
+    Ok(level)
 }
 
 // What each of these tenants still wants: what its requests that joined cost, less what it was served.
-fn wants(
-    alloc: Global,
+fn note_wants(
     costs: &[u64],
     served: &[u64],
     weights: &[u32],
     tenants: &[u32],
-) -> Result<Vec<Backlog>, AllocError>
+    wants: &mut Vec<Backlog>,
+) -> Result<(), AllocError>
     requires served { length served.now ≡ length costs.now }
     requires weights { length weights.now ≡ length costs.now }
     requires known { All (λ t. t < length costs.now) tenants.now }
-    ensures { IfOk result (λ v. v.items ≡ map (want_of costs.now served.now weights.now) tenants.now) }
+    ensures { OnOk result (wants.new.items ≡ map (want_of costs.now served.now weights.now) tenants.now) }
 {
-    let mut wants = Vec::with_capacity(alloc, tenants.len())?;
+    wants.clear();
     for t in tenants {
         let tenant = *t as usize;
         wants.push(Backlog {
@@ -61,25 +56,25 @@ fn wants(
             weight: weights[tenant],
         })?;
     }
-    Ok(wants)
+    Ok(())
 }
 
 // Those of these tenants that have a backlog.
-fn still_backlogged(
-    alloc: Global,
+fn note_backlogged(
     costs: &[u64],
     served: &[u64],
     tenants: &[u32],
-) -> Result<Vec<u32>, AllocError>
+    left: &mut Vec<u32>,
+) -> Result<(), AllocError>
     requires served { length served.now ≡ length costs.now }
     requires known { All (λ t. t < length costs.now) tenants.now }
-    ensures { IfOk result (λ v. v.items ≡ filter (has_backlog costs.now served.now) tenants.now) }
+    ensures { OnOk result (left.new.items ≡ filter (has_backlog costs.now served.now) tenants.now) }
 {
-    let mut backlogged = Vec::with_capacity(alloc, tenants.len())?;
+    left.clear();
     for t in tenants {
         if served[*t as usize] < costs[*t as usize] {
-            backlogged.push(*t)?;
+            left.push(*t)?;
         }
     }
-    Ok(backlogged)
+    Ok(())
 }

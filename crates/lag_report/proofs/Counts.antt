@@ -1,6 +1,6 @@
 -- How many requests and changes a legal history has, and that their numbers are in their limits.
-use Rattle.std.proofs.Common.{ℕ, ◌+◌, ◌-◌, ◌*◌, ◌<◌, ◌≤◌, ◌≡◌, List, [], ◌∷◌, ◌++◌, length, arith, refl, ap, ◌∙◌, All, length-append}
-use Rattle.std.proofs.lemmas.List.Elements.{All-push}
+use Rattle.std.proofs.Common.{ℕ, ◌+◌, ◌-◌, ◌*◌, ◌<◌, ◌≤◌, ◌≡◌, List, [], ◌∷◌, ◌++◌, length, true, arith, refl, ap, ◌∙◌, All, length-append}
+use Rattle.std.proofs.lemmas.List.Elements.{All-push, All-set}
 use Rattle.std.proofs.lemmas.List.Sorted.{IsNonDecreasingBy-push}
 use Rattle.std.specs.List.Sorted.{IsNonDecreasingBy}
 use Rattle.fq_model.specs.declared.config.Config.{Config}
@@ -20,8 +20,9 @@ use Rattle.fq_laws.proofs.Rules.Room.{has_room}
 use Rattle.fq_laws.proofs.History.Requests.{use_known, request_known}
 use Rattle.fq_laws.proofs.History.Numbers.{waiting_submitted, waiting_taken, running_taken, running_finished}
 use Rattle.fq_laws.proofs.History.Counts.{running_submit, running_report, waiting_report, waiting_done, running_quiet, waiting_quiet, waiting_none, running_none}
-use Rattle.lag_report.specs.Courses.{course_at, courses_of, rows_after, rows_of}
-use Rattle.lag_report.proofs.CoursesAre.{tenant_in, courses_are, names_known}
+use Rattle.lag_report.specs.declared.course.Course.{Course}
+use Rattle.lag_report.specs.Courses.{course_at, courses_after, courses_of, rows_after, rows_of, submitted, NamesOneOf}
+use Rattle.lag_report.proofs.CoursesAre.{tenant_in, courses_are, names_known, names_submitted}
 
 -- ---- requests
 
@@ -75,6 +76,18 @@ row_in C P m _ rows l f ih = ih
 pub rows_in : (C : Config) (H : History) → IsLegal C H → All (IsRowOf (length C.weights)) (rows_of H)
 rows_in C [] l = λ k d b. absurd (omega (arith, b))
 rows_in C (e ∷ P) l = row_in C P e.moment e.act (rows_of P) l.0 l.3 (rows_in C P l.0)
+
+-- ---- courses
+
+course_in : (C : Config) (P : History) (m : ℕ) (a : Act) (courses : List Course) → Fits C P m a → NamesOneOf (length courses) a → All (λ c. c.tenant < length C.weights) courses → All (λ c. c.tenant < length C.weights) (courses_after m a courses)
+course_in C P m (Submit q tenant kind declared label) courses f named ih = All-push (λ (c : Course). c.tenant < length C.weights) courses (submitted tenant m) ih f.tenant_known
+course_in C P m (Take w q estimate) courses f named ih = All-set (λ (c : Course). c.tenant < length C.weights) courses q (record (course_at courses q) { taken = m }) (ih q (submitted 0 0) named) ih
+course_in C P m (Done w q cost) courses f named ih = All-set (λ (c : Course). c.tenant < length C.weights) courses q (record (course_at courses q) { ended = m; cost = cost; is_done = true }) (ih q (submitted 0 0) named) ih
+course_in C P m _ courses f named ih = ih
+
+pub courses_in : (C : Config) (H : History) → IsLegal C H → All (λ c. c.tenant < length C.weights) (courses_of H)
+courses_in C [] l = λ k d b. absurd (omega (arith, b))
+courses_in C (e ∷ P) l = course_in C P e.moment e.act (courses_of P) l.3 (names_submitted C (e ∷ P) l).1 (courses_in C P l.0)
 
 -- ---- changes
 

@@ -18,6 +18,7 @@ use fq_model::config::Checked;
 use fq_model::event::Entry;
 use fq_model::limits::GREATEST_SLOT;
 use std::alloc::Global;
+use std::mem;
 
 /// What each tenant of a history was served against its fluid service, in slots of so many microseconds from moment 0
 /// on, the last of which holds the last entry's moment.
@@ -40,7 +41,7 @@ pub fn report(
     report
 }
 
-// The same, where the history says this. Leaves its courses in the order of their tenants.
+// The same, where the history says this. Takes its courses.
 fn report_of(
     alloc: Global,
     past: &[Entry],
@@ -62,7 +63,8 @@ fn report_of(
     if let Some(request) = unfinished(contents.courses.as_slice()) {
         return Err(ReportFault::Unfinished(request as u32));
     }
-    by_tenant(&mut contents.courses)?;
+    let taken = mem::replace(&mut contents.courses, Vec::new(alloc));
+    let courses = by_tenant(alloc, taken)?;
     let end = last_moment(past);
     let count = end / slot + 1;
     let fluid = slots(
@@ -73,6 +75,6 @@ fn report_of(
         slot,
         count,
     )?;
-    let rows = lines(alloc, contents.courses.as_slice(), &fluid, weights, slot)?;
+    let rows = lines(alloc, courses.as_slice(), &fluid, weights, slot)?;
     Ok(Report::new(slot, count, rows, end, past.len() as u64))
 }

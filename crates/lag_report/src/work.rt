@@ -1,5 +1,5 @@
 //! The work done on requests, by slot.
-ghost use Rattle.std.specs.Prelude.{◌≡◌, ◌≤◌, ◌<◌, ◌+◌, ◌*◌, length, take, sum, All, IfOk, ℕ};
+ghost use Rattle.std.specs.Prelude.{◌≡◌, ◌≤◌, ◌<◌, ◌+◌, ◌*◌, ◌/◌, length, take, sum, All, IfOk, ℕ};
 ghost use Rattle.vt_fixed.specs.declared.limits.TheConstants.{GREATEST_COST};
 ghost use Rattle.lag_report.specs.Work.{worked, work_in, EndsWithin, GainsAre};
 
@@ -57,7 +57,28 @@ fn worked(course: Course, moment: u64) -> u64
     } else if moment <= course.taken {
         0
     } else {
-        let part = course.cost as u128 * (moment - course.taken) as u128;
-        (part / (course.ended - course.taken) as u128) as u64
+        part(
+            course.cost,
+            moment - course.taken,
+            course.ended - course.taken,
+        )
+    }
+}
+
+// The part of a cost that so much of its time is, in microseconds, rounded down. What was worked on all the time is not
+// divided, and most else fits 64 bits, which a processor divides faster than 128.
+fn part(cost: u64, gone: u64, time: u64) -> u64
+    requires cost { cost ≤ GREATEST_COST }
+    requires gone { gone < time }
+    ensures { result ≡ cost * gone / time }
+{
+    if cost == time {
+        return gone;
+    }
+    let product = cost as u128 * gone as u128;
+    if product <= u64::MAX as u128 {
+        product as u64 / time
+    } else {
+        (product / time as u128) as u64
     }
 }

@@ -3,7 +3,6 @@ ghost use Rattle.fq_model.specs.Limits.{IsWeight};
 ghost use Rattle.water_level.specs.Backlogs.{IsBacklog};
 
 use fq_model::level::{Backlog, Level};
-use std::alloc::Global;
 use std::process::Abort;
 use water_level::gifts::give;
 use water_level::levels::level;
@@ -18,23 +17,23 @@ fn backlog(units: u64, weight: u32) -> Backlog
 }
 
 // The level of so much service for these is this one.
-fn expect_level<R: Abort>(rt: &R, alloc: Global, cap: u64, rows: &[Backlog], wanted: Level)
+fn expect_level<R: Abort>(rt: &R, cap: u64, rows: &[Backlog], wanted: Level)
     requires few { length rows.now ≤ 4 }
     requires in_range { All IsBacklog rows.now }
 {
-    let told = level(alloc, cap, rows);
-    assert!(rt; told == Ok(wanted), "for {cap} in {} backlogs", rows.len());
+    let told = level(cap, rows);
+    assert!(rt; told == wanted, "for {cap} in {} backlogs", rows.len());
 }
 
 #[test]
 fn levels(rt: HostRuntime) {
     let three = [backlog(3, 1), backlog(100, 1), backlog(100, 2)];
-    expect_level(&rt, rt.alloc(), 10, &three, Level::At(3071));
+    expect_level(&rt, 10, &three, Level::At(3071));
     let two = [backlog(4, 1), backlog(6, 1)];
-    expect_level(&rt, rt.alloc(), 10, &two, Level::All);
-    expect_level(&rt, rt.alloc(), 0, &[], Level::All);
+    expect_level(&rt, 10, &two, Level::All);
+    expect_level(&rt, 0, &[], Level::All);
     let heavy = [backlog(7, 3), backlog(7, 3)];
-    expect_level(&rt, rt.alloc(), 7, &heavy, Level::At(1365));
+    expect_level(&rt, 7, &heavy, Level::At(1365));
 }
 
 #[test]
@@ -56,6 +55,6 @@ fn what_small_backlogs_leave_is_given_on(rt: HostRuntime) {
         backlog(1, 1000),
         backlog(50, 1),
     ];
-    expect_level(&rt, rt.alloc(), 41, &rows, Level::At(21503));
-    expect_level(&rt, rt.alloc(), 0, &rows, Level::At(1));
+    expect_level(&rt, 41, &rows, Level::At(21503));
+    expect_level(&rt, 0, &rows, Level::At(1));
 }

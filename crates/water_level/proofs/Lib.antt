@@ -1,5 +1,3 @@
 pub mod Sums
 pub mod TheOne
-pub mod Segments
-pub mod Order
-pub mod Wanting
+pub mod Left

@@ -6,7 +6,7 @@ use Rattle.std.proofs.Math.Nat.{div-mul-le_self, lt-div-mul-add, add-mul}
 use Rattle.std.proofs.lemmas.Bool.Decides.{nat_tests}
 use Rattle.fq_model.specs.declared.level.Backlog.{Backlog}
 use Rattle.fq_model.specs.Level.{gift_at, gifts_at, total_units, with_backlog}
-use Rattle.water_level.specs.Backlogs.{IsBacklog, total_weight}
+use Rattle.water_level.specs.Backlogs.{IsBacklog}
 
 pub div_mono : (a b k : ℕ) → 0 < k → a ≤ b → a / k ≤ b / k
 div_mono a b k h ab = let t : a / k * k ≤ b = omega (arith, div-mul-le_self a k) in le-div (a / k) b k h t
@@ -50,6 +50,3 @@ gifts_step x (b ∷ rows) a =
 -- what few backlogs have in all
 pub total_bound : (rows : List Backlog) → All IsBacklog rows → length rows ≤ 4096 → total_units rows ≤ 8192000000000000000
 total_bound rows a h = omega (arith, sum_by-le (λ b. b.units) 2000000000000000 rows (λ k d l. (a k d l).units))
-
-pub weight_bound : (rows : List Backlog) → All IsBacklog rows → length rows ≤ 4096 → total_weight rows ≤ 4096000
-weight_bound rows a h = omega (arith, sum_by-le (λ b. b.weight) 1000 rows (λ k d l. (a k d l).weight.1))

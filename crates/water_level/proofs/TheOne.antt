@@ -8,6 +8,7 @@ use Rattle.fq_model.specs.declared.level.Level.{Level}
 use Rattle.fq_model.specs.declared.level.Level.TheVariants as levels
 use Rattle.fq_model.specs.Sums.{greatest_below}
 use Rattle.fq_model.specs.Level.{gift_at, gifts_at, gifts_fit, total_units, IsGreatestLevel, IsLevel, greatest_level, level, LevelIsTheOne}
+use Rattle.water_level.specs.Backlogs.{IsBacklog}
 use Rattle.water_level.proofs.Sums.{gifts_mono, gifts_none}
 
 -- from 1024 times its units on a level serves a backlog whole
@@ -23,6 +24,15 @@ gifts_all x (b ∷ rows) a h =
     let one = gift_all x b (a 0 b (omega arith)) (omega (arith, c)) in
     let rest : total_units rows ≤ gifts_at x rows = gifts_all x rows (λ k d l. a (suc k) d (omega arith)) (omega (arith, c)) in
     rw (sum_by-cons (gift_at x) b rows) (omega (arith, c, one, rest))
+
+-- at the highest level all backlogs in their limits are
+pub gifts_highest : (rows : List Backlog) → All IsBacklog rows → total_units rows ≤ gifts_at 2048000000000000000 rows
+gifts_highest [] a = omega arith
+gifts_highest (b ∷ rows) a =
+    let r : IsBacklog b = a 0 b (omega arith) in
+    let one = gift_all 2048000000000000000 b r.weight.0 (omega (arith, r.units)) in
+    let rest : total_units rows ≤ gifts_at 2048000000000000000 rows = gifts_highest rows (λ k d l. a (suc k) d (omega (arith, l))) in
+    rw (sum_by-cons (gift_at 2048000000000000000) b rows, sum_by-cons (λ c. c.units) b rows) (omega (arith, one, rest))
 
 -- the greatest number below n that passes, where 0 does
 abbrev IsFound : (ℕ → Bool) → ℕ → ℕ → Type 0

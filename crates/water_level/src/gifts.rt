@@ -1,7 +1,7 @@
 //! What backlogs are given at a level, and sums over backlogs.
 ghost use Rattle.std.specs.Prelude.{◌≡◌, ◌≤◌, length, All};
 ghost use Rattle.fq_model.specs.Level.{gift, gift_at, gifts_at, total_units};
-ghost use Rattle.water_level.specs.Backlogs.{IsBacklog, total_weight};
+ghost use Rattle.water_level.specs.Backlogs.{IsBacklog};
 
 use fq_model::level::{Backlog, Level};
 use fq_model::limits::MOST_TENANTS;
@@ -48,15 +48,43 @@ pub(crate) fn sum_of_units(rows: &[Backlog]) -> u64
     sum
 }
 
-/// The sum of the weights.
-pub(crate) fn sum_of_weights(rows: &[Backlog]) -> u64
+/// What backlogs come to at a level. The sum of the gifts is promised, and the others guide a search.
+#[derive(Clone, Copy)]
+pub(crate) struct Measure {
+    /// The sum of the gifts.
+    pub sum: u64,
+    /// The units of those that are served whole.
+    pub whole: u64,
+    /// The weights of the others.
+    pub weights: u64,
+    /// How many these are.
+    pub others: u64,
+}
+
+/// What they come to.
+pub(crate) fn measured(x: u64, rows: &[Backlog]) -> Measure
     requires few { length rows.now ≤ MOST_TENANTS }
     requires in_range { All IsBacklog rows.now }
-    ensures { result ≡ total_weight rows.now }
+    ensures { result.sum ≡ gifts_at x rows.now }
 {
     let mut sum: u64 = 0;
+    let mut whole: u64 = 0;
+    let mut weights: u64 = 0;
+    let mut others: u64 = 0;
     for b in rows {
-        sum += b.weight as u64;
+        let gift = gift_at(x, *b);
+        sum += gift;
+        if gift == b.units {
+            whole = whole.wrapping_add(gift);
+        } else {
+            weights = weights.wrapping_add(b.weight as u64);
+            others = others.wrapping_add(1);
+        }
     }
-    sum
+    Measure {
+        sum,
+        whole,
+        weights,
+        others,
+    }
 }

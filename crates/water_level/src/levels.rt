@@ -1,91 +1,84 @@
 //! The level at which a capacity is shared.
-ghost use Rattle.std.specs.Prelude.{◌≡◌, ◌<◌, ◌≤◌, ◌-◌, length, All, IfOk, IsOk, filter};
-ghost use Rattle.std.specs.List.Sorted.{IsNonDecreasingBy};
+ghost use Rattle.std.specs.Prelude.{◌<◌, ◌≤◌, length, All};
 ghost use Rattle.fq_model.specs.Level.{IsLevel, IsGreatestLevel, LeavesFewUnits, gifts_at, total_units};
-ghost use Rattle.water_level.specs.Backlogs.{IsBacklog, backlog_of, break_point, wants};
+ghost use Rattle.water_level.specs.Backlogs.{IsBacklog};
 
-use crate::gifts::{sum_of_gifts, sum_of_units, sum_of_weights};
+use crate::gifts::{Measure, measured, sum_of_gifts, sum_of_units};
 use fq_model::level::{Backlog, Level};
 use fq_model::limits::MOST_TENANTS;
-use std::alloc::{AllocError, Global};
+
+/// A level that serves each backlog whole: 1024 times the greatest of all backlogs.
+const HIGHEST: u64 = 2048000000000000000;
 
 /// The level at which a capacity is shared, in microseconds of work: all are served whole where they fit, and else up
-/// to the greatest level whose gifts fit. It is found by break points, the levels from which on a backlog is served
-/// whole; nothing here takes a step for each level between them.
-pub fn level(alloc: Global, cap: u64, rows: &[Backlog]) -> Result<Level, AllocError>
+/// to the greatest level whose gifts fit. It is found by guesses, each by what the last one leaves; nothing here takes
+/// a step for each level, or memory.
+pub fn level(cap: u64, rows: &[Backlog]) -> Level
     requires few { length rows.now ≤ MOST_TENANTS }
     requires in_range { All IsBacklog rows.now }
-    ensures level { IfOk result (IsLevel cap rows.now) }
-    ensures leaves { IfOk result (LeavesFewUnits cap rows.now) }
-    ensures whole { total_units rows.now ≤ cap → IsOk result }
+    ensures level { IsLevel cap rows.now result }
+    ensures leaves { LeavesFewUnits cap rows.now result }
 {
     if sum_of_units(rows) <= cap {
-        return Ok(Level::All);
+        return Level::All;
     }
-    let mut wanting = those_that_want(alloc, rows)?;
-    wanting.sort_by_cached_key(|b| break_point(b))?;
-    Ok(Level::At(greatest(cap, wanting.as_slice())))
+    let Bounds { low, high } = between(cap, rows);
+    Level::At(search(cap, rows, low, high))
 }
 
-// The backlogs that aren't empty.
-fn those_that_want(alloc: Global, rows: &[Backlog]) -> Result<Vec<Backlog>, AllocError>
-    ensures { IfOk result (λ v. v.items ≡ filter wants rows.now) }
-{
-    let mut wanting = Vec::with_capacity(alloc, rows.len())?;
-    for b in rows {
-        if b.units > 0 {
-            wanting.push(*b)?;
-        }
-    }
-    Ok(wanting)
+// A level whose gifts fit, and a higher one whose gifts don't.
+#[derive(Clone, Copy)]
+struct Bounds {
+    low: u64,
+    high: u64,
 }
 
-// The least level that serves a backlog whole.
-fn break_point(b: &Backlog) -> u128
-    ensures { result ≡ break_point b.now }
+// Levels between which is the greatest whose gifts fit, where it is no more than 1023 of each backlog over all weights.
+fn between(cap: u64, rows: &[Backlog]) -> Bounds
+    requires few { length rows.now ≤ MOST_TENANTS }
+    requires in_range { All IsBacklog rows.now }
+    requires over { cap < total_units rows.now }
+    ensures fits { gifts_at result.low rows.now ≤ cap }
+    ensures over { cap < gifts_at result.high rows.now }
 {
-    (b.units as u128 * 1024).div_ceil(b.weight.max(1) as u128)
-}
-
-// The greatest level whose gifts fit, of backlogs in the order of their break points.
-fn greatest(cap: u64, sorted: &[Backlog]) -> u64
-    requires few { length sorted.now ≤ MOST_TENANTS }
-    requires in_range { All IsBacklog sorted.now }
-    requires order { IsNonDecreasingBy break_point sorted.now }
-    requires over { cap < total_units sorted.now }
-    ensures { IsGreatestLevel cap sorted.now result }
-{
-    let served = count_served(cap, sorted);
-    let (whole, left) = sorted.split_at(served);
-    let room = (cap - sum_of_units(whole)) as u128 * 1024;
-    let weights = sum_of_weights(left) as u128;
-    let low = room / weights;
-    let high = ((room + 1023 * left.len() as u128) / weights + 1).min(break_point(&sorted[served]));
-    search(cap, sorted, low as u64, high as u64)
-}
-
-// How many backlogs the greatest level serves whole: the gifts at the last one's break point fit, and those at the
-// next one's don't.
-fn count_served(cap: u64, sorted: &[Backlog]) -> usize
-    requires few { length sorted.now ≤ MOST_TENANTS }
-    requires in_range { All IsBacklog sorted.now }
-    requires order { IsNonDecreasingBy break_point sorted.now }
-    requires over { cap < total_units sorted.now }
-    ensures some_left { result < length sorted.now }
-    ensures fits { 0 < result → gifts_at (break_point (backlog_of sorted.now (result - 1))) sorted.now ≤ cap }
-    ensures over { cap < gifts_at (break_point (backlog_of sorted.now result)) sorted.now }
-{
-    let mut served: usize = 0;
-    let mut beyond = sorted.len() - 1;
-    'halve: while served < beyond {
-        let middle = served + (beyond - served) / 2;
-        if sum_of_gifts(break_point(&sorted[middle]) as u64, sorted) <= cap {
-            served = middle + 1;
+    let mut low: u64 = 0;
+    let mut high: u64 = HIGHEST;
+    let mut guess = next_guess(cap, measured(0, rows), 0);
+    'closer: while low < guess && guess < high {
+        let at = measured(guess, rows);
+        if at.sum <= cap {
+            low = guess;
+            guess = next_guess(cap, at, guess);
         } else {
-            beyond = middle;
+            high = guess;
         }
     }
-    served
+    Bounds { low, high }
+}
+
+// The next level to look at, after one whose gifts fit, at which backlogs come to this. It is the one at which those that
+// are not served whole share what the others leave, if that is higher: a step of Newton's method, since the sum of gifts
+// rises by less and less. Else it is one that is too high for them, whatever is lost by rounding. Nothing is promised of it,
+// since only time hangs on it.
+fn next_guess(cap: u64, at: Measure, low: u64) -> u64 {
+    let room = cap.saturating_sub(at.whole) as u128 * 1024;
+    let share = quotient(room, at.weights);
+    if share > low {
+        share
+    } else {
+        quotient(room + 1023 * at.others as u128, at.weights).saturating_add(1)
+    }
+}
+
+// What a number divided by another comes to, as far as 64 bits hold it. Most that are divided here fit 64 bits, and a
+// processor divides those faster than 128.
+fn quotient(number: u128, by: u64) -> u64 {
+    let by = by.max(1);
+    if number <= u64::MAX as u128 {
+        number as u64 / by
+    } else {
+        (number / by as u128).min(u64::MAX as u128) as u64
+    }
 }
 
 // The greatest level whose gifts fit, from `low`, where they do, to below `high`, where they don't.

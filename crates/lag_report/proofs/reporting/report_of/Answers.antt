@@ -16,7 +16,7 @@ use Rattle.lag_report.specs.Reports.{report_refusal, IsReason}
 use Rattle.lag_report.proofs.CoursesAre.{courses_are, rows_are}
 use Rattle.lag_report.proofs.Totals.{unfinished_is, all_done}
 use Rattle.lag_report.proofs.Ends.{courses_end}
-use Rattle.lag_report.proofs.Counts.{submits_few, rows_few, rows_in, changes_in, changes_order}
+use Rattle.lag_report.proofs.Counts.{courses_in, submits_few, rows_few, rows_in, changes_in, changes_order}
 use Rattle.lag_report.proofs.TenantLines.{is_table, lines_from, table_is, report_of}
 use Rattle.lag_report.proofs.Refusals.{small, for_request, for_none, for_fluid, few_slots, none_from, given_reason}
 use Rattle.lag_report.specs.Faults.{fault_from}
@@ -79,12 +79,17 @@ table_now c = table_is c.args.config.now (history_of c.args.past.now) c.args.slo
     c.in_ok-fluid.ensures.table
 
 -- the courses are those of the history, in another order
-sorted_now : (c : After-as_slice-4) → c.as_slice-4.result.now ≡ c.by_tenant.new.items.items
+sorted_now : (c : After-as_slice-4) → c.as_slice-4.result.now ≡ c.in_ok-courses.courses.items
 sorted_now c = c.as_slice-4.ensures.value
 
 courses_now : (c : After-as_slice-4) → IsPermutation (courses_of (history_of c.args.past.now)) c.as_slice-4.result.now
 courses_now c =
-    subst (λ cs. IsPermutation cs c.as_slice-4.result.now) c.requires.courses (subst (IsPermutation c.args.contents.now.courses.items) (sym (sorted_now c)) c.in_ok-by_tenant.ensures.same)
+    subst (λ cs. IsPermutation cs c.as_slice-4.result.now) (ap (λ v. v.items) c.replace-taken.ensures.value ∙ c.requires.courses) (subst (IsPermutation c.replace-taken.result.items) (sym (sorted_now c)) c.in_ok-courses.ensures.same)
+
+pub by_tenant-requires : goal.by_tenant-requires
+by_tenant-requires c =
+    let taken : c.replace-taken.result.items ≡ courses_of (history_of c.args.past.now) = ap (λ v. v.items) c.replace-taken.ensures.value ∙ c.requires.courses in
+    subst (All (λ (x : Course). x.tenant ≤ 4096)) (sym taken) (λ k d l. omega (arith, courses_in c.args.config.now (history_of c.args.past.now) c.requires.legal k d l, c.weights-weights.ensures.limits.tenants.1))
 
 all_are_done : (c : After-as_slice-4) → (r : ℕ) → r < submits (history_of c.args.past.now) → is_done (history_of c.args.past.now) r ≡ true
 all_are_done c =
@@ -107,7 +112,7 @@ lines-requires-clause-table c =
 pub lines-requires-clause-order : goal.lines-requires-clause-order
 lines-requires-clause-order c =
     let b : After-as_slice-4 = (goal.at.lines-requires-clause-order c).After-as_slice-4 in
-    subst (IsNonDecreasingBy (λ (x : Course). x.tenant)) (sym (sorted_now b)) c.in_ok-by_tenant.ensures.order
+    subst (IsNonDecreasingBy (λ (x : Course). x.tenant)) (sym (sorted_now b)) c.in_ok-courses.ensures.order
 
 pub lines-requires-clause-requests : goal.lines-requires-clause-requests
 lines-requires-clause-requests c =
@@ -122,8 +127,8 @@ lines-requires-clause-end c =
     let long : length c.in_ok-fluid.fluid ≡ slots_of H c.args.slot = c.in_ok-fluid.ensures.len ∙ ap (λ n. n / c.args.slot + 1) c.last_moment-end.ensures in
     subst (λ n. All (EndsWithin c.args.slot n) c.as_slice-4.result.now) (sym long) (All-permutation (EndsWithin c.args.slot (slots_of H c.args.slot)) _ _ (courses_now b) (courses_end C H c.args.slot c.requires.positive c.requires.legal (all_are_done b)))
 
-pub new-requires : goal.new-requires
-new-requires c = omega (
+pub new-requires-2 : goal.new-requires-2
+new-requires-2 c = omega (
   arith,
   ap length c.in_ok-rows.ensures,
   list_length (line_for c.weights-weights.result.now c.as_slice-4.result.now c.in_ok-fluid.fluid c.args.slot) (length c.weights-weights.result.now),
@@ -136,7 +141,7 @@ returns-clause-report c =
     let b : After-as_slice-4 = (goal.at.returns-clause-report c).After-as_slice-4 in
     let C = c.args.config.now in
     let H = history_of c.args.past.now in
-    c.new.ensures
+    c.new-2.ensures
     ∙ report_of c.args.slot _ _ _ _ _ _ _ _
     (ap (λ n. n / c.args.slot + 1) c.last_moment-end.ensures)
     (lines_from C H c.args.slot c.as_slice-4.result.now c.in_ok-fluid.fluid c.weights-weights.result.now c.in_ok-rows.rows.items c.weights-weights.ensures.limits c.requires.legal (all_are_done b) (courses_now b) (table_now b) c.weights-weights.ensures.value c.in_ok-rows.ensures)

@@ -2,7 +2,7 @@ use Rattle.std.proofs.Common.{ℕ, ◌∙◌, sym, ap, ◌++◌, ◌∷◌, [], 
 use Rattle.std.proofs.lemmas.List.{take_all, map_more}
 use Rattle.fq_model.specs.declared.level.Backlog.{Backlog}
 use Rattle.fluid_reference.specs.Slots.{want_of}
-use Rattle.fluid_reference.proofs.sharing.wants.Goals as goal
+use Rattle.fluid_reference.proofs.sharing.note_wants.Goals as goal
 
 abbrev wanted : ℕ → ℕ → Backlog
 wanted units weight = record { units = units; weight = weight }
