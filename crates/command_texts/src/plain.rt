@@ -4,7 +4,7 @@ ghost use Rattle.program_model.specs.Commands.{IsPlainAnswer};
 ghost use Rattle.command_texts.specs.Making.{Makes};
 
 use crate::{checking, generation, run, script, shaping};
-use eligible_index::index::IndexChooser;
+use fitted_chooser::chooser::ProgramChooser;
 use program_model::command::PlainCommand;
 use program_model::ending::{Output, Stop};
 use std::alloc::Global;
@@ -16,7 +16,7 @@ pub fn answer(alloc: Global, command: PlainCommand, input: Vec<u8>) -> Result<Ou
 {
     match command {
         PlainCommand::Script { print } => {
-            let output = script::answer::<IndexChooser>(alloc, print, input.as_slice());
+            let output = script::answer::<ProgramChooser>(alloc, print, input.as_slice());
             drop(input);
             output
         }

@@ -10,7 +10,7 @@ ghost use Rattle.command_texts.specs.Making.{Makes, IsStop};
 use crate::history::last_history;
 use crate::messages::told;
 use crate::traces::trace;
-use eligible_index::index::IndexChooser;
+use fitted_chooser::chooser::ProgramChooser;
 use program_model::command::HistoryPrint;
 use program_model::ending::{Output, Stop};
 use program_model::trace::RunOptions;
@@ -50,7 +50,7 @@ pub fn simulated(
     requires slot { slot ≤ GREATEST_SLOT }
     ensures { Makes (IsSimulationAnswer options slot what trace.now) result }
 {
-    match simulate::<IndexChooser>(alloc, trace, options) {
+    match simulate::<ProgramChooser>(alloc, trace, options) {
         Ok(history) => {
             let (tenants, kinds) = (trace.tenants(), trace.kinds());
             last_history(alloc, what, slot, history, tenants, kinds)

@@ -11,7 +11,7 @@ ghost use Rattle.program_model.specs.Simulated.{needed_entries};
 ghost use Rattle.program_model.specs.TraceText.{IsLawfulTrace};
 ghost use Rattle.compare_all.specs.Rows.{IsMade, IsMadeOf};
 
-use eligible_index::index::IndexChooser;
+use fitted_chooser::chooser::ProgramChooser;
 use fq_model::config::{Checked, Estimator, Policy};
 use lag_report::automatic::auto_slot;
 use lag_report::extremes::{greatest_lag, least_lag};
@@ -92,7 +92,7 @@ fn row(
         initial,
         refresh,
     };
-    match simulate::<IndexChooser>(alloc, trace, options) {
+    match simulate::<ProgramChooser>(alloc, trace, options) {
         Ok(history) => {
             let row = row_of_history(alloc, &history, policy, estimate, slot);
             drop(history);

@@ -9,7 +9,7 @@ ghost use Rattle.command_texts.specs.Making.{Makes};
 use command_texts::history::last_history;
 use command_texts::run::too_many_entries;
 use command_texts::traces::trace;
-use eligible_index::index::IndexChooser;
+use fitted_chooser::chooser::ProgramChooser;
 use fq_io::Clock;
 use program_model::command::HistoryPrint;
 use program_model::ending::{Output, Stop};
@@ -57,7 +57,7 @@ fn served<T: Wait + Threads + Sync, K: Clock + Sync>(
     requires slot { slot ≤ GREATEST_SLOT }
     ensures { Makes (IsPoolAnswer (K.tells clock.now) options slot what trace.now) result }
 {
-    match serve::<IndexChooser, K, T>(rt, alloc, trace, options, clock) {
+    match serve::<ProgramChooser, K, T>(rt, alloc, trace, options, clock) {
         Ok(history) => {
             let (tenants, kinds) = (trace.tenants(), trace.kinds());
             last_history(alloc, what, slot, history, tenants, kinds)
