@@ -107,3 +107,21 @@ func TestNumbersOutOfRange(t *testing.T) {
 		}
 	}
 }
+
+func TestStatus(t *testing.T) {
+	scheduler, err := Open(Default(1))
+	if err != nil {
+		t.Fatal(err)
+	}
+	if _, err := scheduler.Submit(0, 7, Request{Declared: 5}); err != nil {
+		t.Fatal(err)
+	}
+	standing, err := scheduler.Status()
+	if want := (Standing{Waiting: 1, Entries: 1, Moment: 7}); standing != want || err != nil {
+		t.Errorf("%v in place of %v, %v", standing, want, err)
+	}
+	scheduler.Free()
+	if _, err := scheduler.Status(); !errors.Is(err, NoScheduler) {
+		t.Errorf("%v of a scheduler that was given back", err)
+	}
+}

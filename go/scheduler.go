@@ -185,5 +185,24 @@ func (s *Scheduler) SetWorkers(who uint32, moment uint64, count uint32) error {
 	return refusal(C.twodfq_workers(&s.handle, C.uint32_t(who), C.uint64_t(moment), C.uint32_t(count)))
 }
 
+// Standing is how a scheduler stands after its last entry.
+type Standing struct {
+	Waiting, Running uint32 // how many requests wait, and how many run
+	VirtualSteps     uint32 // virtual time beyond its whole units, in steps, of which a unit has 1,048,576
+	VirtualUnits     uint64 // virtual time in whole units
+	Entries          uint64 // how many entries the history has
+	Moment           uint64 // of the last entry, or 0
+}
+
+// Status tells how the scheduler stands; NoScheduler is its only refusal.
+func (s *Scheduler) Status() (Standing, error) {
+	told := C.twodfq_status(&s.handle)
+	if told.kind != 0 {
+		return Standing{}, Refusal(told.kind)
+	}
+	return Standing{Waiting: uint32(told.waiting), Running: uint32(told.running), VirtualSteps: uint32(told.virtual_steps),
+		VirtualUnits: uint64(told.virtual_units), Entries: uint64(told.entries), Moment: uint64(told.moment)}, nil
+}
+
 // Free gives the scheduler's memory back. Calls from here on are refused with NoScheduler.
 func (s *Scheduler) Free() { C.twodfq_free(&s.handle) }
