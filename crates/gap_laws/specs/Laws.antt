@@ -132,7 +132,7 @@ LeadBoundIsGreatest =
     (C : Config) (H : History) (f g : ℕ) (gap : TagGap) → measured_gap C H f g ≡ Some gap
     → IsGreatestOver (IsFirstIn H f g) (λ P. measured_lead C H P f g) (bound_of_takes C H f g) gap.bound
 
--- what each request of t became in H is the greatest and the least that it was there
+-- what each request of t became in H is no less, and no more, than what it was at any prefix
 abbrev pub MeasuredAreCaps : Type 0
 MeasuredAreCaps =
     (C : Config) (H : History) (t : ℕ) → IsLegal C H

@@ -33,7 +33,7 @@ struct Bounds {
     high: u64,
 }
 
-// Levels between which is the greatest whose gifts fit, where it is no more than 1023 of each backlog over all weights.
+// A level whose gifts fit, and a greater one whose gifts do not.
 fn between(cap: u64, rows: &[Backlog]) -> Bounds
     requires few { length rows.now ≤ MOST_TENANTS }
     requires in_range { All IsBacklog rows.now }
