@@ -1,9 +1,13 @@
 -- What the reader returns, against what a trace's text says.
-use Rattle.std.specs.Prelude.{ℕ, ◌*◌, ◌≡◌, nat_lt, Bool, ◌||◌, List, Result, Ok, Err}
+use Rattle.std.specs.Prelude.{ℕ, ◌*◌, ◌≡◌, nat_lt, Bool, ◌||◌, List, Result, Ok, Err, Some}
+use denote.Ref.{Bor}
+use Rattle.csv.specs.Reading.{ReadRecord}
+use Rattle.csv.specs.declared.reader.Reader.{Reader}
 use Rattle.program_model.specs.declared.fault.TraceKind.{TraceKind}
 use Rattle.program_model.specs.declared.trace.TraceRow.{TraceRow}
 use Rattle.fq_model.specs.declared.limits.TheConstants.{MOST_TENANTS, MOST_KINDS, MOST_PAIRS, MOST_ROWS}
 use Rattle.program_model.specs.Trace.{Trace}
+use Rattle.program_model.specs.TraceGrammar.{Record}
 use Rattle.tenant_table.specs.Names.{names_of, weights_of}
 use Rattle.trace_reader.specs.declared.fault.RecordError.{RecordError}
 use Rattle.trace_reader.specs.declared.fault.RecordError.TheVariants as errors
@@ -38,3 +42,7 @@ IsFirstFault faults.NoMemory read = Unit {0}
 abbrev pub fault_at : ℕ → RecordError → TraceFault
 fault_at line (errors.Fault kind) = faults.At line kind
 fault_at line errors.NoMemory = faults.NoMemory
+
+-- a reader over a text in memory has read a record with these fields, or found that there is none
+abbrev pub IsReadBy : Reader (Bor (List ℕ)) → Reader (Bor (List ℕ)) → Bool → Record → Type 0
+IsReadBy old new found fields = ReadRecord (λ (b : Bor (List ℕ)). Some b.now) old new found fields

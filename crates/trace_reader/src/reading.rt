@@ -1,11 +1,14 @@
 //! The reader of traces.
-ghost use Rattle.std.specs.Prelude.{◌≡◌, ◌+◌, IsTrue, Ok, IfOk, IfErr};
+ghost use Rattle.std.specs.Prelude.{◌≡◌, ◌+◌, IsTrue, true, Ok, IfOk, IfErr, OnOk};
 ghost use Rattle.std.specs.List.{list_all};
 ghost use Rattle.std.specs.Str.{is_utf8};
+ghost use Rattle.csv.specs.Reading.{Ready, reader_trim, took_first};
 ghost use Rattle.csv.specs.Records.{fields_of};
+ghost use Rattle.csv.specs.declared.reader.Trim.TheVariants as trims;
 ghost use Rattle.program_model.specs.TraceGrammar.{no_records, with_tenant, with_request, with_record, at_end, trace_of};
 ghost use Rattle.program_model.specs.TraceText.{IsLawfulTrace};
-ghost use Rattle.trace_reader.specs.Reading.{Gives, IsFirstFault, are_too_many};
+ghost use Rattle.trace_reader.specs.Reading.{Gives, IsFirstFault, IsReadBy, are_too_many};
+ghost use Rattle.trace_reader.specs.declared.fault.TraceFault.TheVariants as faults;
 
 use crate::draft::Draft;
 use crate::fault::{RecordError, TraceFault};
@@ -14,7 +17,7 @@ use crate::fields::{
     texts,
 };
 use crate::trace::Trace;
-use csv::{ByteRecord, ReaderBuilder, StringRecord};
+use csv::{ByteRecord, Reader, ReaderBuilder, StringRecord};
 use fq_model::limits::{
     GREATEST_COST, GREATEST_SUBMITTER, GREATEST_WEIGHT, MOST_KINDS, MOST_PAIRS, MOST_ROWS,
     MOST_TENANTS,
@@ -95,13 +98,16 @@ fn add_texts(draft: &mut Draft, fields: &StringRecord) -> Result<(), RecordError
     }
 }
 
-// Adds a record.
+// Adds a record, and gives its memory back for the next one.
 #[tactic(auto, unfolding(program_model::specs::TraceGrammar::with_record))]
-fn add_record(draft: &mut Draft, bytes: ByteRecord) -> Result<(), RecordError>
+fn add_record(draft: &mut Draft, bytes: ByteRecord) -> Result<ByteRecord, RecordError>
     ensures { Gives (λ _. draft.new) result (with_record draft.old (fields_of bytes)) }
 {
     match texts(bytes) {
-        Some(fields) => add_texts(draft, &fields),
+        Some(fields) => {
+            add_texts(draft, &fields)?;
+            Ok(fields.into_byte_record())
+        }
         None => Err(RecordError::Fault(TraceKind::NotUtf8)),
     }
 }
@@ -128,21 +134,34 @@ fn add_all(alloc: Global, draft: &mut Draft, bytes: &[u8]) -> Result<u64, TraceF
     ensures ok { IfOk result (λ place. trace_of bytes.now ≡ at_end place draft.new) }
     ensures fault { IfErr result (λ f. IsFirstFault f (trace_of bytes.now)) }
 {
-    let reader = ReaderBuilder::new()
+    let mut reader = ReaderBuilder::new()
         .has_headers(false)
         .flexible(true)
         .from_reader(alloc, bytes);
+    let mut record = ByteRecord::new(alloc);
     let mut place: u64 = 1;
-    for record in reader.into_byte_records() {
-        let Ok(record) = record else {
-            return Err(TraceFault::NoMemory);
-        };
-        if let Err(e) = add_record(draft, record) {
-            return Err(e.at(place));
+    'record: while is_read(&mut reader, &mut record)? {
+        match add_record(draft, record) {
+            Ok(used) => record = used,
+            Err(e) => return Err(e.at(place)),
         }
         place += 1;
     }
     Ok(place)
+}
+
+// Whether there is one more record, which is then read into this one.
+fn is_read(reader: &mut Reader<&[u8]>, row: &mut ByteRecord) -> Result<bool, TraceFault>
+    requires ready { Ready reader.old }
+    requires untrimmed { reader_trim reader.old ≡ trims.None }
+    ensures read { IfOk result (λ found. IsReadBy reader.old reader.new found (fields_of row.new)) }
+    ensures first { OnOk result (took_first reader.new ≡ true) }
+    ensures fault { IfErr result (λ fault. fault ≡ faults.NoMemory) }
+{
+    match reader.read_byte_record(row) {
+        Ok(found) => Ok(found),
+        Err(_) => Err(TraceFault::NoMemory),
+    }
 }
 
 /// Reads a trace, or names its first fault. An answer that memory ran out says nothing of the text. It is also given for
