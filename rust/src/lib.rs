@@ -22,6 +22,7 @@
 //!     policy: Policy::TwoDfq,
 //!     estimate: Estimator::Declared,
 //!     initial: 1000,
+//!     keep: 0, // all entries
 //! };
 //! let mut scheduler = Scheduler::open(&config).unwrap();
 //! scheduler.submit(0, 0, Submit { tenant: 1, kind: 0, declared: 5, label: 42 }).unwrap();
