@@ -14,8 +14,6 @@ mod clock_tests;
 #[cfg(test)]
 mod estimate_tests;
 #[cfg(test)]
-mod fitted_tests;
-#[cfg(test)]
 mod gap_tests;
 #[cfg(test)]
 mod index_tests;
@@ -29,8 +27,6 @@ mod list_tests;
 mod order_tests;
 #[cfg(test)]
 mod policy_tests;
-#[cfg(test)]
-mod recent_tests;
 #[cfg(test)]
 mod samples;
 #[cfg(test)]
