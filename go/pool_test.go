@@ -125,3 +125,40 @@ func TestStatus(t *testing.T) {
 		t.Errorf("%v of a scheduler that was given back", err)
 	}
 }
+
+// The last two entries are kept, and told with their numbers.
+func TestEntries(t *testing.T) {
+	config := Default(1, 2)
+	config.Keep, config.Estimate = 2, Declared
+	s, err := Open(config)
+	if err != nil {
+		t.Fatal(err)
+	}
+	defer s.Free()
+	if _, err := s.Submit(7, 5, Request{Tenant: 1, Declared: 30, Label: 42}); err != nil {
+		t.Fatal(err)
+	}
+	want := []Entry{{Act: Submitted, Who: 7, Moment: 5, Tenant: 1, Amount: 30, Label: 42},
+		{Act: Dispatched, Who: 9, Moment: 6, Worker: 3, Amount: 30}, {Act: Completed, Who: 9, Moment: 8, Worker: 3, Amount: 20}}
+	if entry, is := s.Entry(0); !is || entry != want[0] {
+		t.Errorf("entry 0 is %v", entry)
+	}
+	if _, err := s.Take(9, 6, 3); err != nil {
+		t.Fatal(err)
+	}
+	if err := s.Done(9, 8, 3, 20); err != nil {
+		t.Fatal(err)
+	}
+	if first := s.FirstKept(); first != 1 {
+		t.Errorf("the first kept is %d", first)
+	}
+	for index, entry := range want {
+		told, is := s.Entry(uint64(index))
+		if is != (index > 0) || is && told != entry {
+			t.Errorf("entry %d is %v", index, told)
+		}
+	}
+	if _, is := s.Entry(3); is {
+		t.Error("there is an entry 3")
+	}
+}

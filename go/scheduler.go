@@ -12,7 +12,10 @@ package twodfq
 // #include "twodfq.h"
 import "C"
 
-import "fmt"
+import (
+	"fmt"
+	"math"
+)
 
 // Policy says which waiting request a worker takes.
 type Policy uint32
@@ -183,6 +186,44 @@ func (s *Scheduler) Weight(who uint32, moment uint64, tenant, weight uint32) err
 // SetWorkers says how many workers there are from now on, at most as many as at the opening.
 func (s *Scheduler) SetWorkers(who uint32, moment uint64, count uint32) error {
 	return refusal(C.twodfq_workers(&s.handle, C.uint32_t(who), C.uint64_t(moment), C.uint32_t(count)))
+}
+
+// Act says which call an entry is of.
+type Act uint32
+
+const (
+	Submitted     Act = C.TWODFQ_ENTRY_SUBMIT  // Request, Tenant, Kind, Amount: the declared cost, Label
+	Dispatched    Act = C.TWODFQ_ENTRY_TAKE    // Request, Worker, Amount: the estimate
+	Reported      Act = C.TWODFQ_ENTRY_REPORT  // Request, Worker, Amount: the use
+	Completed     Act = C.TWODFQ_ENTRY_DONE    // Request, Worker, Amount: the cost
+	Closed        Act = C.TWODFQ_ENTRY_CLOSE   // no number
+	WeightChanged Act = C.TWODFQ_ENTRY_WEIGHT  // Tenant, Amount: the weight
+	WorkersSet    Act = C.TWODFQ_ENTRY_WORKERS // Amount: how many
+)
+
+// Entry is an accepted call. Numbers that its act does not use are 0.
+type Entry struct {
+	Act                           Act
+	Who                           uint32
+	Moment                        uint64
+	Request, Tenant, Kind, Worker uint32
+	Amount, Label                 uint64
+}
+
+// Entry gives the entry of the history with this index, in order of time, the first with 0, if there is one and it is kept.
+func (s *Scheduler) Entry(index uint64) (Entry, bool) {
+	line := C.twodfq_entry(&s.handle, C.uint64_t(index))
+	if line.kind == C.TWODFQ_ENTRY_NONE {
+		return Entry{}, false
+	}
+	return Entry{Act: Act(line.kind), Who: uint32(line.who), Moment: uint64(line.moment), Request: uint32(line.request),
+		Tenant: uint32(line.tenant), Kind: uint32(line.request_kind), Worker: uint32(line.worker),
+		Amount: uint64(line.amount), Label: uint64(line.label)}, true
+}
+
+// FirstKept gives the least index of the entries that are kept, and how many entries there are where none is.
+func (s *Scheduler) FirstKept() uint64 {
+	return uint64(C.twodfq_entry(&s.handle, math.MaxUint64).amount) // no history has this entry
 }
 
 // Standing is how a scheduler stands after its last entry.

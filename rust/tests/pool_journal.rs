@@ -78,8 +78,8 @@ fn each_job_in_a_journal(policy: Policy, estimator: Estimator) {
         }
     }
     let status = pool.join();
-    let Written { journals, missed } = journal.join().unwrap();
-    assert_eq!(journals + missed, status.schedulers);
+    let Written { journals, cut, missed } = journal.join().unwrap();
+    assert_eq!((journals + missed, cut), (status.schedulers, 0));
     let texts = text.journals();
     assert_eq!(texts.len() as u64, journals);
     for journal in &texts {
@@ -152,13 +152,60 @@ fn a_slow_journal_holds_nobody_up_and_leaves_out_whole_histories() {
         pool.submit(i % 2, 0, || ()).unwrap();
     }
     let status = pool.join();
-    let Written { journals, missed } = journal.join().unwrap();
-    assert_eq!(journals + missed, status.schedulers);
+    let Written { journals, cut, missed } = journal.join().unwrap();
+    assert_eq!((journals + missed, cut), (status.schedulers, 0));
     assert!(missed > 0 && journals > 0);
     for journal in text.journals() {
         assert_eq!(lines(&journal, "done").len(), lines(&journal, "submit").len());
         judge(&journal);
     }
+}
+
+#[test]
+fn a_slow_journal_of_few_kept_entries_ends_early_and_the_next_begins() {
+    let text = Text::default();
+    let pool = builder().workers(1).entries(1000).keep(64).open().unwrap();
+    let journal = pool.journal(Slow(text.clone())).unwrap();
+    for i in 0..2000_u32 {
+        pool.submit(i % 2, 0, || ()).unwrap();
+        if i % 100 == 99 {
+            while pool.status().waiting > 0 {
+                thread::yield_now();
+            }
+        }
+    }
+    let status = pool.join();
+    let Written { journals, cut, missed } = journal.join().unwrap();
+    assert_eq!(journals + cut + missed, status.schedulers);
+    assert!(cut > 0);
+    let texts = text.journals();
+    assert_eq!(texts.len() as u64, journals + cut);
+    for journal in &texts {
+        judge(journal);
+    }
+    let whole = texts.iter().filter(|journal| lines(journal, "close").len() == 1);
+    assert!(whole.count() as u64 >= journals);
+}
+
+#[test]
+fn a_journal_that_keeps_up_has_all_though_few_entries_are_kept() {
+    let text = Text::default();
+    let pool = builder().entries(100_000).keep(1000).open().unwrap();
+    let journal = pool.journal(text.clone()).unwrap();
+    for i in 0..5000_u32 {
+        pool.submit(i % 2, 0, || ()).unwrap();
+        if i % 100 == 99 {
+            let written = || text.journals().first().map_or(0, |journal| lines(journal, "submit").len());
+            while written() <= i as usize {
+                thread::sleep(Duration::from_millis(1));
+            }
+        }
+    }
+    pool.join();
+    assert_eq!(journal.join().unwrap(), Written { journals: 1, cut: 0, missed: 0 });
+    let texts = text.journals();
+    assert_eq!(lines(&texts[0], "done").len(), 5000);
+    judge(&texts[0]);
 }
 
 #[test]

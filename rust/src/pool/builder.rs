@@ -33,6 +33,7 @@ const LEAST_ENTRIES: u32 = 16;
 ///     .refresh(Duration::from_millis(10))
 ///     .room(10_000)
 ///     .entries(1_000_000)
+///     .keep(100_000)
 ///     .open()
 ///     .unwrap();
 /// assert_eq!(pool.tenant("globex"), Some(1));
@@ -54,6 +55,7 @@ impl Builder {
             tenants: Vec::new(),
             kinds: Vec::new(),
             entries: 1_000_000,
+            keep: 65_536,
             room: 10_000,
             policy: Policy::TwoDfq,
             estimator: Estimator::Pessimistic,
@@ -181,7 +183,7 @@ impl Builder {
     }
 
     /// After how many entries the next scheduler takes over: 16 to 4,194,304, by default 1,000,000. A job makes three, and
-    /// each report and change one. An entry takes 48 bytes while its scheduler is kept.
+    /// each report and change one.
     ///
     /// ```
     /// let pool = twodfq::Pool::builder().tenant("acme", 1).entries(16).open().unwrap();
@@ -192,6 +194,18 @@ impl Builder {
     /// ```
     pub fn entries(mut self, entries: u32) -> Builder {
         self.settings.entries = entries;
+        self
+    }
+
+    /// How many of a scheduler's last entries are kept, for a journal to read: by default 65,536. Each takes 48 bytes. 0, and
+    /// any number above `entries`, keeps all, so that a journal of a scheduler is whole however slow its writer is.
+    ///
+    /// ```
+    /// let pool = twodfq::Pool::builder().tenant("acme", 1).keep(1024).open().unwrap();
+    /// pool.submit(0, 0, || ()).unwrap();
+    /// ```
+    pub fn keep(mut self, entries: u32) -> Builder {
+        self.settings.keep = entries;
         self
     }
 

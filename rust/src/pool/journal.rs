@@ -37,12 +37,14 @@ pub struct Journal {
 /// let journal = pool.journal(std::io::sink()).unwrap();
 /// drop(pool);
 /// let written = journal.join().unwrap();
-/// assert_eq!(written, twodfq::Written { journals: 1, missed: 0 });
+/// assert_eq!(written, twodfq::Written { journals: 1, cut: 0, missed: 0 });
 /// ```
 #[derive(Clone, Copy, Debug, Default, PartialEq, Eq)]
 pub struct Written {
     /// How many journals were written whole, one for each scheduler.
     pub journals: u64,
+    /// How many journals end before their schedulers do: what came after was kept no longer when the writer came to it.
+    pub cut: u64,
     /// How many schedulers have no journal, since they were over before the earlier journals were written.
     pub missed: u64,
 }
@@ -88,6 +90,7 @@ impl Drop for Reader {
     fn drop(&mut self) {
         let mut state = self.shared.lock();
         state.journal = None;
+        state.rolling.is_cut = false;
         let over = mem::take(&mut state.rolling.over);
         drop(state);
         drop(over);
@@ -98,8 +101,8 @@ impl Drop for Reader {
 enum Piece {
     Head(Vec<u32>),
     Entries(Vec<Entry>),
-    /// A journal is whole, and its history gives its memory back.
-    Whole(#[expect(dead_code, reason = "it is dropped without the lock")] History),
+    /// A journal ends, and its history, if that is over, gives its memory back.
+    Ends(#[expect(dead_code, reason = "it is dropped without the lock")] Option<History>),
     Nothing,
     End,
 }
@@ -127,7 +130,7 @@ impl Reader {
             match piece {
                 Piece::Head(weights) => add_head(&settings, &weights, &mut text),
                 Piece::Entries(entries) => entries.iter().for_each(|entry| add_entry(entry, &mut text)),
-                Piece::Whole(_) => {}
+                Piece::Ends(_) => {}
                 Piece::Nothing => {
                     to.flush()?;
                     self.rest();
@@ -142,24 +145,37 @@ impl Reader {
         if !self.is_begun {
             return self.begin(state);
         }
-        let State { rolling, .. } = state;
+        let rolling = &mut state.rolling;
         let mut histories = rolling.histories.iter_mut().chain(&mut rolling.over);
         let history = histories.find(|history| history.number == self.next).expect("it is kept while it is read");
-        let entries: Vec<Entry> = (self.index..).map_while(|i| history.scheduler.entry(i)).take(BATCH).collect();
+        let entries: Vec<Entry> = match history.scheduler.entries_from(self.index) {
+            Ok(entries) => entries.take(BATCH).collect(),
+            Err(_) => {
+                self.written.cut += 1;
+                rolling.is_cut = self.next + 1 == rolling.opened;
+                return self.end(state);
+            }
+        };
         if !entries.is_empty() {
             self.index += entries.len() as u64;
             return Piece::Entries(entries);
         }
-        match rolling.over.iter().position(|history| history.number == self.next) {
-            Some(place) => {
-                self.is_begun = false;
-                self.next += 1;
-                self.written.journals += 1;
-                state.journal = Some(self.next);
-                Piece::Whole(state.rolling.over.remove(place))
-            }
-            None => Piece::Nothing,
+        if rolling.over.iter().any(|history| history.number == self.next) {
+            self.written.journals += 1;
+            return self.end(state);
         }
+        Piece::Nothing
+    }
+
+    /// Ends the journal, so that the next begins.
+    fn end(&mut self, state: &mut State) -> Piece {
+        let over = &mut state.rolling.over;
+        let place = over.iter().position(|history| history.number == self.next);
+        let history = place.map(|place| over.remove(place));
+        self.is_begun = false;
+        self.next += 1;
+        state.journal = Some(self.next);
+        Piece::Ends(history)
     }
 
     /// Begins with the next history that there is.
@@ -197,6 +213,9 @@ impl Reader {
 
     /// Whether something came since the last look.
     fn is_behind(&self, state: &State) -> bool {
+        if self.next >= state.rolling.opened {
+            return state.is_closed; // the next is not opened yet, or will not be
+        }
         let mut live = state.rolling.histories.iter();
         let at = live.find(|history| history.number == self.next);
         at.is_none_or(|history| !self.is_begun || history.entries > self.index)

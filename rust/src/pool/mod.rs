@@ -201,13 +201,15 @@ impl Pool {
     /// assert_eq!(pool.status().tenants[0].submitted, 1);
     /// ```
     pub fn status(&self) -> Status {
-        Status::of(&self.shared.lock(), &self.settings)
+        Status::of(&mut self.shared.lock(), &self.settings)
     }
 
     /// Has the journals of the pool's schedulers written while it runs, in the format of `docs/FORMATS.md`: one after
     /// another, each from its line `journal 2` on, and each to be judged by `twodfq check`. It begins with the scheduler
     /// that serves now, and ends with the pool. The writer has a thread of its own, and no worker ever waits for it. Where
-    /// it is so slow that five schedulers are over before it has come to them, the oldest of these is left out.
+    /// it is so slow that an entry is kept no longer (see [`Builder::keep`]), the journal of that scheduler ends before that
+    /// entry. Where nothing waits at a submit the next scheduler takes over then, and has the next journal. Where five
+    /// schedulers are over before it has come to them, the oldest of these is left out.
     ///
     /// Fails where a journal is being written already, or its thread does not start.
     ///

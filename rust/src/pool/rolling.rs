@@ -17,6 +17,7 @@ pub(crate) struct Settings {
     pub(crate) tenants: Vec<String>,
     pub(crate) kinds: Vec<String>,
     pub(crate) entries: u32,
+    pub(crate) keep: u32,
     pub(crate) room: u32,
     pub(crate) policy: Policy,
     pub(crate) estimator: Estimator,
@@ -34,7 +35,7 @@ impl Settings {
             policy: self.policy,
             estimate: self.estimator,
             initial: self.initial,
-            keep: 0,
+            keep: self.keep,
         })
     }
 }
@@ -97,6 +98,8 @@ pub(crate) struct Rolling {
     pub(crate) opened: u64,
     pub(crate) spare: Option<Spare>,
     pub(crate) is_opening: bool,
+    /// Whether entries of the newest are gone that the journal lacks, so that it goes on with the next.
+    pub(crate) is_cut: bool,
     /// Those that are over and that nobody has yet.
     pub(crate) over: Vec<History>,
 }
@@ -111,6 +114,7 @@ impl Rolling {
             opened: 0,
             spare: None,
             is_opening: false,
+            is_cut: false,
             over: Vec::new(),
         };
         rolling.open_next(0)?;
@@ -130,6 +134,7 @@ impl Rolling {
             let _ = next.counted(reply); // an empty history has room for it
         }
         self.opened += 1;
+        self.is_cut = false;
         self.histories.push(next);
         Ok(())
     }
@@ -150,17 +155,23 @@ impl Rolling {
         }
     }
 
+    /// Virtual time of the newest, where not all is over.
+    pub(crate) fn virtual_time(&mut self) -> Option<u128> {
+        self.histories.last_mut().map(|newest| newest.scheduler.status().virtual_time)
+    }
+
     fn newest(&mut self) -> &mut History {
         self.histories.last_mut().expect("there is one until the pool is closed")
     }
 
     /// Whether the next job should begin the next scheduler: a sixteenth of the room is kept for changes while this one
-    /// drains. Where nothing waits an eighth is left unused, so that the next begins without a rest of this one.
+    /// drains. Where nothing waits an eighth is left unused, so that the next begins without a rest of this one; or more,
+    /// where the journal waits for the next.
     fn is_time_to_roll(&self) -> bool {
         let Some(newest) = self.histories.last() else { return false };
         let room = u64::from(self.settings.entries);
         let to_come = 2 * u64::from(newest.waiting) + u64::from(newest.running) + ONE_JOB_AND_CLOSE;
-        let is_at_rest = newest.waiting == 0 && newest.entries * 8 >= room * 7;
+        let is_at_rest = newest.waiting == 0 && (self.is_cut || newest.entries * 8 >= room * 7);
         is_at_rest || newest.entries + to_come + room / 16 > room
     }
 

@@ -186,7 +186,9 @@ impl State {
     fn released(&mut self) -> Vec<History> {
         let over = &mut self.rolling.over;
         let Some(at) = self.journal else { return mem::take(over) };
-        let mut released = Vec::new();
+        let (kept, mut released): (Vec<History>, Vec<History>) =
+            mem::take(over).into_iter().partition(|history| history.number >= at);
+        *over = kept;
         while over.len() > MOST_KEPT {
             let oldest = (0..over.len()).filter(|&i| over[i].number != at).min_by_key(|&i| over[i].number);
             released.extend(oldest.map(|i| over.remove(i)));

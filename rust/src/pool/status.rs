@@ -41,6 +41,7 @@ pub struct TenantStatus {
 /// let pool = twodfq::Pool::builder().workers(2).tenant("acme", 1).open().unwrap();
 /// let status: twodfq::Status = pool.join();
 /// assert_eq!((status.workers, status.waiting, status.running, status.schedulers), (2, 0, 0, 1));
+/// assert_eq!(status.virtual_time, None);
 /// ```
 #[derive(Clone, Debug, PartialEq, Eq)]
 #[non_exhaustive]
@@ -53,12 +54,16 @@ pub struct Status {
     pub running: u32,
     /// How many schedulers were opened since the opening, one after another.
     pub schedulers: u64,
+    /// Virtual time of the newest of these, in steps, of which a unit has 1,048,576; it begins at 0 with each. None once the
+    /// pool is closed and all is done.
+    pub virtual_time: Option<u128>,
     /// The tenants by their numbers.
     pub tenants: Vec<TenantStatus>,
 }
 
 impl Status {
-    pub(crate) fn of(state: &State, settings: &Settings) -> Status {
+    pub(crate) fn of(state: &mut State, settings: &Settings) -> Status {
+        let virtual_time = state.rolling.virtual_time();
         let weights = state.rolling.weights.iter();
         let tenants = settings.tenants.iter().zip(weights).zip(&state.counts);
         Status {
@@ -66,6 +71,7 @@ impl Status {
             waiting: state.waiting,
             running: state.running,
             schedulers: state.rolling.opened,
+            virtual_time,
             tenants: tenants.map(|((name, weight), count)| TenantStatus::of(name, *weight, count)).collect(),
         }
     }
