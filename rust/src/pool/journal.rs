@@ -148,13 +148,11 @@ impl Reader {
         let rolling = &mut state.rolling;
         let mut histories = rolling.histories.iter_mut().chain(&mut rolling.over);
         let history = histories.find(|history| history.number == self.next).expect("it is kept while it is read");
-        let entries: Vec<Entry> = match history.scheduler.entries_from(self.index) {
-            Ok(entries) => entries.take(BATCH).collect(),
-            Err(_) => {
-                self.written.cut += 1;
-                rolling.is_cut = self.next + 1 == rolling.opened;
-                return self.end(state);
-            }
+        let kept = history.scheduler.entries_from(self.index);
+        let Ok(entries) = kept.map(|entries| entries.take(BATCH).collect::<Vec<Entry>>()) else {
+            self.written.cut += 1;
+            rolling.is_cut = self.next + 1 == rolling.opened;
+            return self.end(state);
         };
         if !entries.is_empty() {
             self.index += entries.len() as u64;
@@ -223,7 +221,7 @@ impl Reader {
 }
 
 fn add_head(settings: &Settings, weights: &[u32], text: &mut String) {
-    let Settings { most_workers, tenants, kinds, entries, room, policy, estimator, initial } = settings;
+    let Settings { most_workers, tenants, kinds, entries, room, policy, estimator, initial, .. } = settings;
     let (policy, estimator) = (policy_name(*policy), estimator_name(*estimator));
     add(text, format_args!("journal 2\nconfig {most_workers} {policy} {estimator} {initial} {entries} {room}\n"));
     for (tenant, weight) in tenants.iter().zip(weights) {
