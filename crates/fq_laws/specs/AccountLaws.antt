@@ -92,4 +92,4 @@ TagCatchesUp = (C : Config) (P : History) (e : Entry) (request tenant kind decla
 
 -- where a tenant starts is bounded
 abbrev pub StartLimit : Type 0
-StartLimit = (C : Config) (P : History) (m t : ℕ) → InLimits C → IsLegal C P → last_moment P ≤ m → m ≤ GREATEST_MOMENT → start C P m t ≤ 10 ^ 23
+StartLimit = (C : Config) (P : History) (m t : ℕ) → InLimits C → IsLegal C P → last_moment P ≤ m → m ≤ GREATEST_MOMENT → start C P m t ≤ 10 ^ 25

@@ -17,8 +17,11 @@ pub const MOST_PAIRS: u64 = 65536;
 /// The fewest entries that a history may be given room for: one request's Submit, Take and Done, and the Close.
 pub const LEAST_ENTRIES: u32 = 4;
 
-/// The most entries that a history may be given room for.
+/// The most entries that a history may be given room for where it is kept whole.
 pub const MOST_ENTRIES: u32 = 4194304;
+
+/// The most entries that a history may be given room for where only its last entries are kept.
+pub const MOST_LONG_ENTRIES: u32 = 4000000000;
 
 /// The most requests that may be let wait at once; the fewest is 1.
 pub const MOST_REQUESTS: u32 = 262144;
@@ -60,7 +63,7 @@ pub const GREATEST_BURST: u64 = 1000000000;
 pub const GREATEST_VIRTUAL_TIME: i128 = 100000000000000000000000;
 
 /// More than a tenant's virtual charge reaches, in steps: the greatest length for each entry of the longest history.
-pub const GREATEST_VIRTUAL_CHARGE: i128 = 10000000000000000000000;
+pub const GREATEST_VIRTUAL_CHARGE: i128 = 10000000000000000000000000;
 
 /// More than a tenant's start reaches, in steps.
-pub const GREATEST_START: i128 = 200000000000000000000000;
+pub const GREATEST_START: i128 = 20000000000000000000000000;
