@@ -20,22 +20,22 @@ built_commands = script_row ∷ run_row ∷ live_row ∷ gen_row ∷ check_row �
 
 -- The part of the program that serves a command.
 
--- one that waits for nobody
+-- one that has no threads
 abbrev pub is_plain : Command → Bool
 is_plain (Plain command) = true
-is_plain (Live options slot print) = false
+is_plain (Live options) = false
 is_plain (Compare options) = false
 
 -- one that waits for threads, and asks a clock
 abbrev pub is_live : Command → Bool
 is_live (Plain command) = false
-is_live (Live options slot print) = true
+is_live (Live options) = true
 is_live (Compare options) = false
 
 -- one that has threads work for it, which wait for nobody, and asks no clock
 abbrev pub is_compare : Command → Bool
 is_compare (Plain command) = false
-is_compare (Live options slot print) = false
+is_compare (Live options) = false
 is_compare (Compare options) = true
 
 -- The row of a command.
@@ -49,7 +49,7 @@ plain_row_of (Shape rate burst) = shape_row
 
 abbrev pub row_of : Command → CommandRow Command
 row_of (Plain command) = plain_row_of command
-row_of (Live options slot print) = live_row
+row_of (Live options) = live_row
 row_of (Compare options) = compare_row
 
 -- the command reads an input
@@ -68,7 +68,7 @@ IsPlainAnswer (Shape rate burst) input answer = IsShapeAnswer rate burst input a
 -- the same of any command, at moments that a clock tells
 abbrev pub IsAnswer : (ℕ → Type 0) → Command → List ℕ → Answer → Type 0
 IsAnswer Told (Plain command) input answer = IsPlainAnswer command input answer
-IsAnswer Told (Live options slot print) input answer = IsLiveAnswer Told options slot print input answer
+IsAnswer Told (Live options) input answer = IsLiveAnswer Told options input answer
 IsAnswer Told (Compare options) input answer = IsCompareAnswer options input answer
 
 -- what a clock tells that is not asked

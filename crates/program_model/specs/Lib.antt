@@ -26,6 +26,7 @@ pub mod Options
 pub mod CommandOptions
 pub mod Answer
 pub mod HistoryAnswer
+pub mod Readings
 pub mod TraceCommand
 pub mod ScriptCommand
 pub mod RunCommand

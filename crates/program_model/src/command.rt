@@ -36,7 +36,7 @@ pub enum GenPrint {
     Summary,
 }
 
-/// What is asked for that waits for nobody. A slot is in microseconds, and 0 stands for the automatic slot.
+/// What is asked for that needs no threads. A slot is in microseconds, and 0 stands for the automatic slot.
 #[derive(Clone, Copy, PartialEq, Eq)]
 pub enum PlainCommand {
     /// Makes the calls of a script.
@@ -69,20 +69,27 @@ pub enum PlainCommand {
     },
 }
 
-/// What a command line asks for, by the part of the program that serves it. A slot is in microseconds, and 0 stands for
-/// the automatic slot.
+/// How many times `live` may be asked to read how its scheduler stands.
+pub const MOST_READINGS: u32 = 1000;
+
+/// What `live` is asked for.
+#[derive(Clone, Copy, PartialEq, Eq)]
+pub struct LiveOptions {
+    pub run: RunOptions,
+    /// In microseconds: up to 1,000,000,000,000,000, and 0 for the automatic slot.
+    pub slot: u64,
+    pub print: HistoryPrint,
+    /// How many times the scheduler's status is read while its threads work: 0 to 1000.
+    pub watch: u32,
+}
+
+/// What a command line asks for, by the part of the program that serves it.
 #[derive(Clone, Copy, PartialEq, Eq)]
 pub enum Command {
-    /// What waits for nobody.
+    /// What needs no threads.
     Plain(PlainCommand),
     /// Serves a trace by a pool of threads.
-    Live {
-        options: RunOptions,
-        slot: u64,
-        print: HistoryPrint,
-    },
+    Live { options: LiveOptions },
     /// Simulates a trace under all policies and estimators, on threads that end by themselves.
-    Compare {
-        options: CompareOptions,
-    },
+    Compare { options: CompareOptions },
 }
