@@ -44,6 +44,15 @@ impl History {
         self.past.as_slice()
     }
 
+    /// What it was kept under, and the entries, in order of time: for who needs them one after another.
+    pub fn into_parts(self) -> (Checked, Vec<Entry>)
+        ensures config { result.0 ≡ self.config }
+        ensures entries { result.1.items ≡ self.past }
+        ensures legal { IsLegal self.config (history_of self.past) }
+    {
+        (self.config, self.past)
+    }
+
     /// What it was kept under.
     pub fn config(&self) -> &Checked
         ensures { result.now ≡ self.now.config }
