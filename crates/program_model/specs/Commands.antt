@@ -3,11 +3,12 @@ use Rattle.std.specs.Prelude.{ℕ, Bool, true, false, List, [], ◌∷◌}
 use Rattle.program_model.specs.declared.command.Command.{Command}
 use Rattle.program_model.specs.declared.command.Command.TheVariants.{Plain, Live, Compare}
 use Rattle.program_model.specs.declared.command.PlainCommand.{PlainCommand}
-use Rattle.program_model.specs.declared.command.PlainCommand.TheVariants.{Script, Run, Gen, Check, Shape}
+use Rattle.program_model.specs.declared.command.PlainCommand.TheVariants.{Script, Run, Gen, Check, Lead, Shape}
 use Rattle.program_model.specs.Answer.{Answer}
 use Rattle.program_model.specs.CheckCommand.{check_row, IsCheckAnswer}
 use Rattle.program_model.specs.CompareCommand.{compare_row, IsCompareAnswer}
 use Rattle.program_model.specs.GenCommand.{gen_row, IsGenAnswer}
+use Rattle.program_model.specs.LeadCommand.{lead_row, IsLeadAnswer}
 use Rattle.program_model.specs.LiveCommand.{live_row, IsLiveAnswer}
 use Rattle.program_model.specs.Options.{CommandRow}
 use Rattle.program_model.specs.RunCommand.{run_row, IsRunAnswer}
@@ -16,7 +17,7 @@ use Rattle.program_model.specs.ShapeCommand.{shape_row, IsShapeAnswer}
 
 -- the table by which the program's words are read
 abbrev pub built_commands : List (CommandRow Command)
-built_commands = script_row ∷ run_row ∷ live_row ∷ gen_row ∷ check_row ∷ shape_row ∷ compare_row ∷ []
+built_commands = script_row ∷ run_row ∷ live_row ∷ gen_row ∷ check_row ∷ lead_row ∷ shape_row ∷ compare_row ∷ []
 
 -- The part of the program that serves a command.
 
@@ -45,6 +46,7 @@ plain_row_of (Script print) = script_row
 plain_row_of (Run options slot print) = run_row
 plain_row_of (Gen seed tenants requests print) = gen_row
 plain_row_of (Check explain) = check_row
+plain_row_of (Lead of over) = lead_row
 plain_row_of (Shape rate burst) = shape_row
 
 abbrev pub row_of : Command → CommandRow Command
@@ -63,6 +65,7 @@ IsPlainAnswer (Script print) input answer = IsScriptAnswer print input answer
 IsPlainAnswer (Run options slot print) input answer = IsRunAnswer options slot print input answer
 IsPlainAnswer (Gen seed tenants requests print) input answer = IsGenAnswer seed tenants requests print answer
 IsPlainAnswer (Check explain) input answer = IsCheckAnswer explain input answer
+IsPlainAnswer (Lead of over) input answer = IsLeadAnswer of over input answer
 IsPlainAnswer (Shape rate burst) input answer = IsShapeAnswer rate burst input answer
 
 -- the same of any command, at moments that a clock tells

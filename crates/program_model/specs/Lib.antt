@@ -1,3 +1,4 @@
+pub mod Padded
 pub mod Numbers
 pub mod Reading
 pub mod Texts
@@ -33,6 +34,7 @@ pub mod RunCommand
 pub mod LiveCommand
 pub mod GenCommand
 pub mod CheckCommand
+pub mod LeadCommand
 pub mod ShapeCommand
 pub mod CompareCommand
 pub mod Commands

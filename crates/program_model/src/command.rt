@@ -1,6 +1,7 @@
 //! The commands of the program, in groups by the part of it that serves them.
 
 use crate::compare::CompareOptions;
+use crate::name::Name;
 use crate::trace::RunOptions;
 
 /// What `script` writes.
@@ -59,6 +60,13 @@ pub enum PlainCommand {
     /// Judges a journal, and explains why a worker took a request, if one is asked about.
     Check {
         explain: Option<u32>,
+    },
+    /// Tells how far one tenant of a journal got ahead of another.
+    Lead {
+        /// Whose lead it is.
+        of: Name,
+        /// Over whom it is.
+        over: Name,
     },
     /// Delays the requests of a trace as a bucket of tokens for each tenant would.
     Shape {
