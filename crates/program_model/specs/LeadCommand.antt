@@ -8,6 +8,7 @@ use Rattle.fq_model.specs.Names.{number_among}
 use Rattle.program_model.specs.declared.command.Command.{Command}
 use Rattle.program_model.specs.declared.command.Command.TheVariants.{Plain}
 use Rattle.program_model.specs.declared.command.PlainCommand.TheVariants as commands
+use Rattle.program_model.specs.declared.name.Name.{Name}
 use Rattle.program_model.specs.declared.verdict.Verdict.{Verdict}
 use Rattle.program_model.specs.declared.verdict.Verdict.TheVariants.{Legal, Bad}
 use Rattle.program_model.specs.Answer.{Answer, Text, Message, message_line, IsReadAnswer}
@@ -15,6 +16,7 @@ use Rattle.program_model.specs.CommandOptions.{given_at, name_given, name_option
 use Rattle.program_model.specs.Document.{config_of}
 use Rattle.program_model.specs.FaultTexts.{journal_fault_text}
 use Rattle.program_model.specs.Journal.{Journal, journal_of}
+use Rattle.program_model.specs.Names.{text_of}
 use Rattle.program_model.specs.Options.{OptionRow, Value, CommandRow}
 use Rattle.program_model.specs.Verdicts.{IsVerdict}
 use Rattle.program_model.specs.VerdictTexts.{verdict_text}
@@ -70,5 +72,6 @@ pub record IsLeadTold (of over : List ℕ) (journal : Journal) (answer : Answer)
   pub answer_is : answer ≡ lead_answer of over journal verdict
 
 -- what is answered of a journal, and of an input that is none its first fault
-abbrev pub IsLeadAnswer : (of over : List ℕ) → List ℕ → Answer → Type 0
-IsLeadAnswer of over input answer = IsReadAnswer journal_fault_text (IsLeadTold of over) (journal_of input) answer
+abbrev pub IsLeadAnswer : (of over : Name) → List ℕ → Answer → Type 0
+IsLeadAnswer of over input answer =
+    IsReadAnswer journal_fault_text (IsLeadTold (text_of of) (text_of over)) (journal_of input) answer

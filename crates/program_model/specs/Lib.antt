@@ -1,8 +1,8 @@
-pub mod Padded
 pub mod Numbers
 pub mod Reading
 pub mod Texts
 pub mod Lines
+pub mod Names
 pub mod Document
 pub mod Script
 pub mod Trace

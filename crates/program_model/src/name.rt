@@ -1,43 +1,25 @@
-//! Names that are held in place, so that what holds one can be copied.
+//! Names that are held in place, so that what has one can be copied.
 ghost use Rattle.std.specs.Prelude.{◌≡◌, ◌≤◌, nat_le, if◌then◌else◌, Some, None, length};
+ghost use Rattle.program_model.specs.Names.{text_of, name_of, IsName};
 
-use std::marker::Model;
 use std::str;
 
 /// The most bytes of a name.
 pub const MOST_NAME_BYTES: usize = 64;
 
-/// A text of at most 64 bytes. Contracts see the bytes.
+/// A text of at most 64 bytes.
 #[derive(Clone, Copy, PartialEq, Eq)]
 pub struct Name {
-    // Above the length all bytes are 0.
-    bytes: [u8; 64],
-    len: usize,
-}
-
-impl Model for Name {
-    ghost use Rattle.std.specs.Prelude.{List, ℕ, length, take};
-    ghost use Rattle.std.proofs.Common.{arith, length-take-le};
-    ghost use Rattle.program_model.specs.Padded.{padded, IsPadded};
-
-    ghost Value = { List ℕ };
-
-    ghost view = { λ n. take n.len n.bytes };
-
-    ghost invariant = { λ n. IsPadded n.bytes n.len };
-
-    ghost inverse = { λ text. record { bytes = padded text; len = length text } };
-
-    ghost inverse_ok = { λ n h i. record {
-      bytes = h.filled i;
-      len = length-take-le n.len n.bytes (omega (arith, h.few, h.sized)) i;
-    } };
+    /// The bytes of the text, and 0 above them.
+    pub bytes: [u8; 64],
+    /// How many bytes the text has.
+    pub len: usize,
 }
 
 impl Name {
-    /// The name that is this text; None where it has more than 64 bytes.
+    /// The name with this text; None where that has more than 64 bytes.
     pub fn new(text: &str) -> Option<Name>
-        ensures { result ≡ (if nat_le (length text.now) 64 then Some text.now else None) }
+        ensures { result ≡ (if nat_le (length text.now) 64 then Some (name_of text.now) else None) }
     {
         if text.len() > MOST_NAME_BYTES {
             return None;
@@ -52,7 +34,8 @@ impl Name {
 
     /// The text.
     pub fn as_str(&self) -> &str
-        ensures { result.now ≡ self.now }
+        requires { IsName self.now }
+        ensures { result.now ≡ text_of self.now }
     {
         match str::from_utf8(&self.bytes[..self.len]) {
             Ok(text) => text,
