@@ -305,7 +305,8 @@ impl Config {
         }
     }
 
-    /// As `check`, for a scheduler that keeps the last of its entries alone: its history may be long.
+    /// As `check`, for a scheduler that keeps the last of its entries alone: there may be 4 to 4,000,000,000. Takes no
+    /// memory.
     pub fn check_long(self) -> Result<Checked, ConfigFault>
         ensures ok { IfOk result (λ c. c ≡ self) }
         ensures sound { IfOk result (λ _. long_config_fault self ≡ None) }
@@ -318,11 +319,11 @@ impl Config {
         }
     }
 
-    // The first number that is out of its limit, where there may be so many entries at most, and this is the fault of
+    // The first number that is out of its limit, where there may be `most` entries at most, and `many` is the fault of
     // any other number of them.
-    fn fault_by(&self, most: u32, entries: ConfigFault) -> Option<ConfigFault>
+    fn fault_by(&self, most: u32, many: ConfigFault) -> Option<ConfigFault>
         requires { most ≤ MOST_LONG_ENTRIES }
-        ensures first { result ≡ fault_by most entries self.now }
+        ensures first { result ≡ fault_by most many self.now }
         ensures limits { IfNone result (InLimits self.now) }
         ensures entries { IfNone result (self.now.entries ≤ most) }
     {
@@ -344,7 +345,7 @@ impl Config {
             return Some(ConfigFault::Pairs(pairs));
         }
         if is_outside(LEAST_ENTRIES, most, self.entries) {
-            return Some(entries);
+            return Some(many);
         }
         if is_outside(1, MOST_REQUESTS, self.requests) {
             return Some(ConfigFault::Requests(self.requests));

@@ -41,7 +41,7 @@ pub const MOST_SLICES: u32 = 10000;
 /// The greatest length of a lag report's slots, in microseconds; the least is 1.
 pub const GREATEST_SLOT: u64 = 1000000000000000;
 
-/// The most completed requests that a fluid reference reads: more than any history has.
+/// The most completed requests that a fluid reference reads: more than any history has that is kept whole.
 pub const MOST_FLUID_ROWS: u32 = 2000000;
 
 /// The most that a tenant may still want, in microseconds of work: the greatest cost of that many requests.
@@ -50,7 +50,7 @@ pub const GREATEST_BACKLOG: u64 = 2000000000000000;
 /// The most cells of a lag report: its slots times its tenants.
 pub const MOST_CELLS: u64 = 4000000;
 
-/// The most lines of status that are read while a pool runs.
+/// The most times that the status is read while a pool runs.
 pub const MOST_STATUSES: u32 = 1000;
 
 /// The greatest rate at which a trace is shaped, in units a millisecond for weight 1; the least is 1.

@@ -1,8 +1,7 @@
 -- The limits of what a command is asked with.
 use Rattle.std.specs.Prelude.{◌≤◌}
-use Rattle.fq_model.specs.declared.limits.TheConstants.{MOST_TENANTS, MOST_ROWS, GREATEST_BURST, GREATEST_RATE, GREATEST_SLOT}
+use Rattle.fq_model.specs.declared.limits.TheConstants.{MOST_TENANTS, MOST_ROWS, MOST_STATUSES, GREATEST_BURST, GREATEST_RATE, GREATEST_SLOT}
 use Rattle.fq_model.specs.Limits.{IsWithin}
-use Rattle.program_model.specs.declared.command.TheConstants.{MOST_READINGS}
 use Rattle.program_model.specs.declared.command.Command.{Command}
 use Rattle.program_model.specs.declared.command.Command.TheVariants.{Plain, Live, Compare}
 use Rattle.program_model.specs.declared.command.PlainCommand.{PlainCommand}
@@ -23,5 +22,5 @@ IsPlainInRange (Shape rate burst) = IsWithin 1 GREATEST_RATE rate × IsWithin 1 
 abbrev pub IsInRange : Command → Type 0
 IsInRange (Plain command) = IsPlainInRange command
 IsInRange (Live options) =
-    AreInRange options.run × (options.slot ≤ GREATEST_SLOT) × (options.watch ≤ MOST_READINGS)
+    AreInRange options.run × (options.slot ≤ GREATEST_SLOT) × (options.watch ≤ MOST_STATUSES)
 IsInRange (Compare options) = CanCompare options

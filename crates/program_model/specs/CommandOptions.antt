@@ -35,7 +35,7 @@ name_given _ = name_of []
 abbrev pub given_at : List Value → ℕ → Value
 given_at values k = slice_index_or values k None
 
--- the number that it is, or 0 where it has none
+-- the number that option k has, or 0
 abbrev pub value_at : List Value → ℕ → ℕ
 value_at values k = unwrap_or (number_given (given_at values k)) 0
 

@@ -21,7 +21,7 @@ built_commands = script_row ∷ run_row ∷ live_row ∷ gen_row ∷ check_row �
 
 -- The part of the program that serves a command.
 
--- one that has no threads
+-- one that needs no threads
 abbrev pub is_plain : Command → Bool
 is_plain (Plain command) = true
 is_plain (Live options) = false

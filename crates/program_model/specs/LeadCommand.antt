@@ -1,4 +1,4 @@
--- `lead`: tells how far one tenant of a journal got ahead of another while both waited, and what is promised of that.
+-- `lead`: tells how far one tenant of a journal got ahead of another while both waited, and what bounds that.
 use Rattle.std.specs.Prelude.{ℕ, ◌≡◌, ◌==◌, true, if◌then◌else◌, List, [], ◌∷◌, ◌++◌, Option, Some, None, codes}
 use Rattle.std.specs.Fmt.{signed_decimal}
 use Rattle.fq_model.specs.Gap.{TagGap}
@@ -12,6 +12,7 @@ use Rattle.program_model.specs.declared.name.Name.{Name}
 use Rattle.program_model.specs.declared.verdict.Verdict.{Verdict}
 use Rattle.program_model.specs.declared.verdict.Verdict.TheVariants.{Legal, Bad}
 use Rattle.program_model.specs.Answer.{Answer, Text, Message, message_line, IsReadAnswer}
+use Rattle.program_model.specs.CheckCommand.{verdict_status}
 use Rattle.program_model.specs.CommandOptions.{given_at, name_given, name_option}
 use Rattle.program_model.specs.Document.{config_of}
 use Rattle.program_model.specs.FaultTexts.{journal_fault_text}
@@ -36,7 +37,8 @@ lead_row = record {
   reads_input = true;
 }
 
--- the line of what was measured: the largest lead and its bound, in steps, or that the two never waited together
+-- the line of what was measured: the largest difference of their starts and its bound, in steps, or that the two never
+-- waited together
 abbrev pub lead_text : (of over : List ℕ) → Option TagGap → List ℕ
 lead_text of over None = of ++ codes " and " ++ over ++ codes " never waited together\n"
 lead_text of over (Some gap) =
@@ -51,7 +53,8 @@ unknown_answer name = Message 7 (message_line (codes "the journal has no tenant 
 abbrev pub same_answer : List ℕ → Answer
 same_answer name = Message 7 (message_line (codes "--of and --over are both " ++ name))
 
--- what is answered of two tenants of a legal journal, with these names and, where they are tenants of it, these numbers
+-- what is answered of two tenants of a legal journal, with these names and, where they are tenants of it, these
+-- numbers: an unknown name comes before one name given for both, and that of `--of` before that of `--over`
 abbrev pub pair_answer : Journal → (of over : List ℕ) → (f g : Option ℕ) → Answer
 pair_answer journal of over None g = unknown_answer of
 pair_answer journal of over (Some f) None = unknown_answer over
@@ -63,7 +66,7 @@ pair_answer journal of over (Some f) (Some g) =
 abbrev pub lead_answer : (of over : List ℕ) → Journal → Verdict → Answer
 lead_answer of over journal Legal =
     pair_answer journal of over (number_among journal.tenants of) (number_among journal.tenants over)
-lead_answer of over journal (Bad place reply wanted) = Text 8 (verdict_text journal.body (Bad place reply wanted))
+lead_answer of over journal (Bad place reply wanted) = Text (verdict_status (Bad place reply wanted)) (verdict_text journal.body (Bad place reply wanted))
 
 -- what is answered of a journal
 pub record IsLeadTold (of over : List ℕ) (journal : Journal) (answer : Answer) : Type 0 where

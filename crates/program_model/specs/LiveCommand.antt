@@ -1,9 +1,9 @@
 -- `live`: serves a trace by a pool of threads, at moments that a clock tells.
 use Rattle.std.specs.Prelude.{ℕ, ◌≡◌, true, List, [], ◌∷◌, ◌++◌, length, codes}
 use Rattle.fq_model.specs.declared.event.Entry.{Entry}
+use Rattle.fq_model.specs.declared.limits.TheConstants.{MOST_STATUSES}
 use Rattle.fq_model.specs.declared.parts.Status.{Status}
 use Rattle.fq_model.specs.History.{History, history_of}
-use Rattle.program_model.specs.declared.command.TheConstants.{MOST_READINGS}
 use Rattle.program_model.specs.declared.command.Command.{Command}
 use Rattle.program_model.specs.declared.command.Command.TheVariants.{Live}
 use Rattle.program_model.specs.declared.command.LiveOptions.{LiveOptions}
@@ -19,7 +19,7 @@ use Rattle.program_model.specs.TraceCommand.{trace_options, run_options_of, hist
 
 -- those of `run`, and how many times the status is read
 abbrev pub live_options : List OptionRow
-live_options = trace_options ++ number_option (codes "--watch") 0 MOST_READINGS (codes "0") ∷ []
+live_options = trace_options ++ number_option (codes "--watch") 0 MOST_STATUSES (codes "0") ∷ []
 
 abbrev pub live_options_of : List Value → LiveOptions
 live_options_of values = record {
@@ -46,9 +46,9 @@ pub record PoolMakes (Told : ℕ → Type 0) (T : Trace) (options : RunOptions) 
   pub moments : HasToldMoments Told H
 
 -- the same answer; where it is a text these lines come before it
-abbrev pub with_lines : List ℕ → Answer → Answer
-with_lines lines (Text status bytes) = Text status (lines ++ bytes)
-with_lines lines (Message status bytes) = Message status bytes
+abbrev pub after_lines : List ℕ → Answer → Answer
+after_lines lines (Text status bytes) = Text status (lines ++ bytes)
+after_lines lines (Message status bytes) = Message status bytes
 
 -- the answer is that of one such history, its entries in order of time, after a line for each time that the status was
 -- read while it grew
@@ -60,7 +60,7 @@ pub record IsWatchedAnswer (Told : ℕ → Type 0) (options : LiveOptions) (T : 
   pub readings : AreReadings (pool_config T options.run) past 0 statuses
   pub answer_is :
       answer
-      ≡ with_lines (status_lines statuses)
+      ≡ after_lines (status_lines statuses)
       (history_answer options.print options.slot (pool_config T options.run) T.tenants T.kinds past)
 
 -- the same, or that the history would have too many entries

@@ -10,7 +10,7 @@ use Rattle.program_model.specs.Names.{name_of}
 use Rattle.program_model.specs.Numbers.{number_of}
 
 -- what may be written as the value of an option: a number from low to high; one of these words, which stands for its
--- place among them, counted from 0; or any name
+-- place among them, counted from 0; or a name. None begins with `-`
 pub data Values : Type 0 where
   Within : (low high : ℕ) → Values
   Among : (words : Words) → Values
@@ -29,7 +29,7 @@ pub record OptionRow : Type 0 where
   pub values : Values
   pub absent : Absent
 
--- the value of an option, if it has one
+-- what an option is given, if it is given anything
 abbrev pub Value : Type 0
 Value = Option Argument
 

@@ -1,4 +1,4 @@
--- How a scheduler stands, read again and again while its history grows, and the lines that tell it.
+-- The status of a scheduler, read again and again while its history grows, and the lines that tell it.
 use Rattle.std.specs.Prelude.{ℕ, ◌≡◌, ◌≤◌, List, [], ◌∷◌, ◌++◌, length, take, codes}
 use Rattle.std.specs.Fmt.{decimal, signed_decimal}
 use Rattle.fq_model.specs.declared.config.Config.{Config}
@@ -7,12 +7,13 @@ use Rattle.fq_model.specs.declared.parts.Status.{Status}
 use Rattle.fq_model.specs.History.{history_of}
 use Rattle.fq_model.specs.Status.{status_of}
 
--- the status is that of the first entries of these, which are in order of time: of as many as it says
+-- the status is that of the first of these entries, given in order of time: of as many as it says
 pub record IsStatusIn (C : Config) (past : List Entry) (status : Status) : Type 0 where
   pub within : status.entries ≤ length past
   pub is_status : status ≡ status_of C (history_of (take status.entries past))
 
--- each status is one of these entries, and none has fewer than the one before it, or the first fewer than `least`
+-- each is the status of the first of these entries, of as many as it says; none says fewer than the one before it, nor
+-- the first fewer than `least`
 abbrev pub AreReadings : Config → List Entry → (least : ℕ) → List Status → Type 0
 AreReadings C past least [] = Unit {0}
 AreReadings C past least (status ∷ later) =

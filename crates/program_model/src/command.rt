@@ -63,7 +63,7 @@ pub enum PlainCommand {
     },
     /// Tells how far one tenant of a journal got ahead of another.
     Lead {
-        /// Whose lead it is.
+        /// Whose lead it is: the name of a tenant.
         of: Name,
         /// Over whom it is.
         over: Name,
@@ -76,9 +76,6 @@ pub enum PlainCommand {
         burst: u64,
     },
 }
-
-/// How many times `live` may be asked to read how its scheduler stands.
-pub const MOST_READINGS: u32 = 1000;
 
 /// What `live` is asked for.
 #[derive(Clone, Copy, PartialEq, Eq)]

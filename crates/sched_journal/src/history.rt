@@ -44,7 +44,7 @@ impl History {
         self.past.as_slice()
     }
 
-    /// What it was kept under, and the entries, in order of time: for who needs them one after another.
+    /// What it was kept under, and the entries, in order of time: for a caller that lets go of one before the other.
     pub fn into_parts(self) -> (Checked, Vec<Entry>)
         ensures config { result.0 ≡ self.config }
         ensures entries { result.1.items ≡ self.past }
