@@ -1,5 +1,6 @@
 // What memory the scheduler takes, by a heap that counts: all at the opening, each block given back, and a status, with nothing
 // lost, where any of the blocks is wanting. It defines the functions of the heap itself, in place of heap.c.
+#include <malloc.h>
 #include <stdio.h>
 #include <stdlib.h>
 
@@ -13,6 +14,7 @@ typedef struct {
 static char nothing;
 static long taken, held, failing = -1; // blocks asked for, blocks not given back, and which request fails
 static long calls;                     // of all three
+static size_t bytes;                   // of the blocks not given back
 
 static bool fails(void) {
     calls++;
@@ -22,18 +24,22 @@ static bool fails(void) {
 tried rattle_alloc(size_t size, size_t align) {
     void *at = fails() ? NULL : malloc(size ? size : align);
     held += at != NULL;
+    bytes += malloc_usable_size(at);
     return at ? (tried){ true, at } : (tried){ false, &nothing };
 }
 
 tried rattle_realloc(void *at, size_t kept, size_t size, size_t align) {
     (void)kept;
+    size_t before = malloc_usable_size(at);
     void *moved = fails() ? NULL : realloc(at, size ? size : align);
+    if (moved) bytes += malloc_usable_size(moved) - before;
     return moved ? (tried){ true, moved } : (tried){ false, &nothing };
 }
 
 void rattle_dealloc(void *at) {
     calls++;
     held--;
+    bytes -= malloc_usable_size(at);
     free(at);
 }
 
@@ -109,6 +115,21 @@ static void fail_each(long blocks, uint32_t tenants, uint32_t estimate) {
     }
 }
 
+// What a service takes that keeps 1,024 of as many entries as there may be, where 4,096 requests may wait.
+static void of_a_service(void) {
+    twodfq scheduler = TWODFQ_NONE;
+    twodfq_opening opening = opening_for(64, TWODFQ_PESSIMISTIC);
+    opening.entries = 4000000000;
+    opening.requests = 4096;
+    opening.keep = 1024;
+    failing = -1;
+    want("a service opens", twodfq_open(&scheduler, &opening, weights, 64) == TWODFQ_OPENED);
+    want("it takes less than two megabytes", bytes < 2000000);
+    printf("memory: %zu bytes for 64 tenants, %d workers, 1,024 entries kept and 4,096 requests waiting\n", bytes, WORKERS);
+    twodfq_free(&scheduler);
+    want("all bytes come back", bytes == 0);
+}
+
 int main(void) {
     for (uint32_t tenant = 0; tenant < MOST_TENANTS; tenant++) weights[tenant] = 1 + tenant % 1000;
     for (uint32_t estimate = TWODFQ_DECLARED; estimate <= TWODFQ_PESSIMISTIC; estimate++) {
@@ -117,4 +138,5 @@ int main(void) {
         printf("memory: estimate %u, %ld blocks at the opening for 64 tenants, each failed in turn; %ld for %d; none after it\n",
             estimate, few, many, MOST_TENANTS);
     }
+    of_a_service();
 }

@@ -17,6 +17,8 @@ static void want(const char *what, uint32_t given, uint32_t wanted) {
     exit(1);
 }
 
+static uint32_t kept; // how many of the last entries are kept
+
 static twodfq_opening plain(void) {
     return (twodfq_opening){
         .workers = 1,
@@ -26,6 +28,7 @@ static twodfq_opening plain(void) {
         .policy = TWODFQ_WFQ,
         .estimate = TWODFQ_DECLARED,
         .initial = 1,
+        .keep = kept,
     };
 }
 
@@ -64,6 +67,9 @@ int main(void) {
     LIMITS(workers, 1, 64, TWODFQ_OPEN_WORKERS);
     LIMITS(kinds, 1, 64, TWODFQ_OPEN_KINDS);
     LIMITS(entries, 4, 4194304, TWODFQ_OPEN_ENTRIES);
+    kept = 1;
+    LIMITS(entries, 4, 4000000000, TWODFQ_OPEN_ENTRIES);
+    kept = 0;
     LIMITS(requests, 1, 262144, TWODFQ_OPEN_REQUESTS);
     LIMITS(initial, 1, 1000000000, TWODFQ_OPEN_INITIAL);
     twodfq_opening opening = plain();

@@ -47,7 +47,7 @@ enum {
 typedef struct {
     uint32_t workers;  /* 1 to 64 */
     uint32_t kinds;    /* 1 to 64; tenants times kinds is at most 65,536 */
-    uint32_t entries;  /* how many entries the history may have: 4 to 4,194,304 */
+    uint32_t entries;  /* how many entries the history may have: 4 to 4,194,304; where keep is not 0, 4 to 4,000,000,000 */
     uint32_t requests; /* how many requests may wait at once: 1 to 262,144 */
     uint32_t policy;   /* TWODFQ_WFQ to TWODFQ_2DFQ */
     uint32_t estimate; /* TWODFQ_DECLARED to TWODFQ_PESSIMISTIC */

@@ -2,7 +2,8 @@
 // a log that comes by every 1,024 entries finds each entry, as the other has it. An entry that is gone is told by the first that is
 // not. Then the scheduler goes on alone.
 //
-//   window [REQUESTS]        and what a call takes, from the first to the last of ten parts (200,000 requests where none are named)
+//   window [REQUESTS]        and what a call takes, from the first to the last of ten parts, or of millions of requests where there
+//                            are more of these (200,000 requests where none are named)
 #include <stdio.h>
 #include <stdlib.h>
 #include <string.h>
@@ -11,7 +12,7 @@
 
 #include "twodfq.h"
 
-enum { KEEP = 1024, TENANTS = 64, WORKERS = 8, SLOTS = 4096, WAITING = 1000, MOST_ENTRIES = 4194304, PARTS = 10 };
+enum { KEEP = 1024, TENANTS = 64, WORKERS = 8, SLOTS = 4096, WAITING = 1000, MOST_ENTRIES = 4194304, MILLION = 1000000, PARTS = 10 };
 
 static uint32_t weights[TENANTS];
 static uint64_t state = 7, read_on; // of the numbers drawn; up to which index the log has read
@@ -106,22 +107,26 @@ static long kilobytes(void) {
     return usage.ru_maxrss;
 }
 
-// The scheduler by itself: what a call takes in the first part and in the last, and how the peak of memory grows between them.
+// The scheduler by itself: what a call takes in the first part and in the last, and in the quickest and the slowest; and how the peak
+// of memory grows after the first.
 static void alone(uint64_t requests) {
     twodfq recent = TWODFQ_NONE;
     open_with(&recent, requests, KEEP);
     for (uint64_t i = 0; i < WAITING; i++) submit(&recent, NULL, i);
-    double first = 0, last = 0;
+    double first = 0, last = 0, least = 0, most = 0;
     long before = 0;
-    for (uint64_t part = 0; part < PARTS; part++) {
+    uint64_t parts = requests / MILLION > PARTS ? requests / MILLION : PARTS;
+    for (uint64_t part = 0; part < parts; part++) {
         double began = nanoseconds();
-        uint64_t from = part * requests / PARTS, to = (part + 1) * requests / PARTS;
+        uint64_t from = part * requests / parts, to = (part + 1) * requests / parts;
         for (uint64_t i = from; i < to; i++) serve(&recent, NULL, i);
         last = (nanoseconds() - began) / (3 * (double)(to - from));
-        if (part == 0) first = last, before = kilobytes();
+        if (part == 0) first = least = most = last, before = kilobytes();
+        if (last < least) least = last;
+        if (last > most) most = last;
     }
-    fprintf(stderr, "window: %.0f ns a call in the first part, %.0f in the last; %ld KB, and %ld more in between\n", first, last,
-        before, kilobytes() - before);
+    fprintf(stderr, "window: %.0f ns a call in the first of %llu parts, %.0f in the last, %.0f to %.0f in all; %ld KB, and %ld more after "
+        "the first\n", first, (unsigned long long)parts, last, least, most, before, kilobytes() - before);
     twodfq_free(&recent);
 }
 

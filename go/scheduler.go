@@ -41,7 +41,7 @@ type Config struct {
 	Workers  uint32   // 1 to 64
 	Weights  []uint32 // one a tenant, each 1 to 1,000; 1 to 4,096 tenants
 	Kinds    uint32   // 1 to 64; tenants times kinds is at most 65,536
-	Entries  uint32   // how many entries the history may have: 4 to 4,194,304. A request takes three, and each report one
+	Entries  uint32   // how many entries the history may have: 4 to 4,194,304, and up to 4,000,000,000 where Keep is not 0
 	Requests uint32   // how many requests may wait at once: 1 to 262,144
 	Policy   Policy
 	Estimate Estimator

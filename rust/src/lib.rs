@@ -97,7 +97,8 @@ pub struct Config<'a> {
     pub weights: &'a [u32],
     /// 1 to 64; tenants times kinds is at most 65,536.
     pub kinds: u32,
-    /// How many entries the history may have: 4 to 4,194,304. A request takes three, and each report one.
+    /// How many entries the history may have: 4 to 4,194,304, and up to 4,000,000,000 where `keep` is not 0. A request
+    /// takes three, and each report one.
     pub entries: u32,
     /// How many requests may wait at once: 1 to 262,144.
     pub requests: u32,

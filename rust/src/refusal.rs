@@ -138,7 +138,7 @@ impl fmt::Display for OpenFault {
             OpenFault::Weight => "a weight may be 1 to 1000",
             OpenFault::Kinds => "there may be 1 to 64 kinds",
             OpenFault::Pairs => "there may be 65536 pairs of a tenant and a kind",
-            OpenFault::Entries => "there may be 4 to 4194304 entries",
+            OpenFault::Entries => "there may be 4 to 4194304 entries, and up to 4000000000 where keep is not 0",
             OpenFault::Requests => "there may be 1 to 262144 requests that wait",
             OpenFault::Initial => "the initial estimate may be 1 to 1000000000 microseconds",
         })

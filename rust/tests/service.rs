@@ -36,6 +36,15 @@ fn a_log_reads_on() {
 }
 
 #[test]
+fn a_long_history_is_not_kept_whole() {
+    let long = Config { entries: 4_000_000_000, ..CONFIG };
+    assert_eq!(Scheduler::open(&long).unwrap_err(), OpenFault::Entries);
+    assert!(Scheduler::open(&Config { keep: 1, ..long }).is_ok());
+    let longer = Config { entries: 4_000_000_001, keep: 1, ..CONFIG };
+    assert_eq!(Scheduler::open(&longer).unwrap_err(), OpenFault::Entries);
+}
+
+#[test]
 fn each_call_once() {
     let none = Scheduler::open(&Config { weights: &[1, 0], ..CONFIG });
     assert_eq!(none.unwrap_err(), OpenFault::Weight);

@@ -3,7 +3,7 @@ use Rattle.std.proofs.Common.{ℕ, ◌*◌, ◌≤◌, ◌≡◌, nat_lt, Bool, 
 use Rattle.std.proofs.lemmas.Bool.{ltb-true, false≢true}
 use Rattle.std.proofs.lemmas.List.Quantifiers.{position-Some}
 use Rattle.fq_model.specs.declared.config.Config.{Config}
-use Rattle.fq_model.specs.Limits.{IsWithin, IsWeight, InLimits, is_outside, bad_weight, config_fault}
+use Rattle.fq_model.specs.Limits.{IsWithin, IsWeight, InLimits, HasShortHistory, is_outside, bad_weight, config_fault}
 use Rattle.vt_fixed.specs.declared.limits.TheConstants.{GREATEST_COST, GREATEST_WEIGHT, MOST_WORKERS}
 use Rattle.fq_model.specs.declared.limits.TheConstants.{MOST_TENANTS, MOST_KINDS, MOST_PAIRS, LEAST_ENTRIES, MOST_ENTRIES, MOST_REQUESTS}
 
@@ -26,15 +26,15 @@ no_bad_weight weights all = go (bad_weight weights) refl
         let at = position-Some (is_outside 1 GREATEST_WEIGHT) weights i 0 e in
         absurd (false≢true (sym (inside 1 GREATEST_WEIGHT _ (all i 0 at.0)) ∙ at.1))
 
-pub no_fault : (C : Config) → InLimits C → config_fault C ≡ None
-no_fault C h =
+pub no_fault : (C : Config) → InLimits C → HasShortHistory C → config_fault C ≡ None
+no_fault C h short =
     rw (
       inside 1 MOST_WORKERS C.workers h.workers,
       inside 1 MOST_TENANTS (length C.weights) h.tenants,
       no_bad_weight C.weights h.weights,
       inside 1 MOST_KINDS C.kinds h.kinds,
       not_below MOST_PAIRS (length C.weights * C.kinds) h.pairs,
-      inside LEAST_ENTRIES MOST_ENTRIES C.entries h.entries,
+      inside LEAST_ENTRIES MOST_ENTRIES C.entries (h.entries.0, short),
       inside 1 MOST_REQUESTS C.requests h.requests,
       inside 1 GREATEST_COST C.initial h.initial,
     ) refl

@@ -90,6 +90,8 @@ BaseRises = (C : Config) (P : History) (e : Entry) (t : ℕ) → tag_base C P t 
 abbrev pub TagCatchesUp : Type 0
 TagCatchesUp = (C : Config) (P : History) (e : Entry) (request tenant kind declared label : ℕ) → IsLegal C (e ∷ P) → e.act ≡ Submit request tenant kind declared label → head P tenant ≡ None → tag C (e ∷ P) tenant ≡ max (virtual_time C P e.moment) (tag C P tenant)
 
--- where a tenant starts is bounded
+-- where a tenant starts is bounded by the number of requests and the moment
 abbrev pub StartLimit : Type 0
-StartLimit = (C : Config) (P : History) (m t : ℕ) → InLimits C → IsLegal C P → last_moment P ≤ m → m ≤ GREATEST_MOMENT → start C P m t ≤ 10 ^ 23
+StartLimit =
+    (C : Config) (P : History) (m t : ℕ) → InLimits C → IsLegal C P → last_moment P ≤ m
+    → start C P m t ≤ submits P * greatest_length + m * greatest_rate

@@ -1,10 +1,19 @@
 //! What a scheduler is opened with.
 ghost use Rattle.std.specs.Prelude.{◌≡◌, ◌<◌, ◌≤◌, length, IfOk, IfErr, IfNone, All, Some, None, slice_index};
-ghost use Rattle.fq_model.specs.Limits.{InLimits, IsWeight, is_outside, bad_weight, config_fault};
+ghost use Rattle.fq_model.specs.Limits.{
+  InLimits,
+  HasShortHistory,
+  IsWeight,
+  is_outside,
+  bad_weight,
+  fault_by,
+  config_fault,
+  long_config_fault,
+};
 
 use crate::limits::{
-    GREATEST_COST, GREATEST_WEIGHT, LEAST_ENTRIES, MOST_ENTRIES, MOST_KINDS, MOST_PAIRS,
-    MOST_REQUESTS, MOST_TENANTS, MOST_WORKERS,
+    GREATEST_COST, GREATEST_WEIGHT, LEAST_ENTRIES, MOST_ENTRIES, MOST_KINDS, MOST_LONG_ENTRIES,
+    MOST_PAIRS, MOST_REQUESTS, MOST_TENANTS, MOST_WORKERS,
 };
 use crate::messages::{out_of_range, two_numbers};
 use std::error::Error;
@@ -83,7 +92,7 @@ pub struct Config {
     pub weights: Weights,
     /// 1 to 64; tenants times kinds is at most 65,536.
     pub kinds: u32,
-    /// How many entries the history may have: 4 to 4,194,304.
+    /// How many entries the history may have: 4 to 4,194,304 where it is kept whole, else up to 4,000,000,000.
     pub entries: u32,
     /// How many requests may wait at once: 1 to 262,144.
     pub requests: u32,
@@ -108,6 +117,8 @@ pub enum ConfigFault {
     Pairs(u64),
     /// So many entries; there may be 4 to 4,194,304.
     Entries(u32),
+    /// So many entries of a long history; there may be 4 to 4,000,000,000.
+    LongEntries(u32),
     /// So many requests that may wait; there may be 1 to 262,144.
     Requests(u32),
     /// This initial value, in microseconds; it may be 1 to 10^9.
@@ -144,6 +155,15 @@ impl fmt::Display for ConfigFault {
                     MOST_ENTRIES as u64,
                 )
             }
+            ConfigFault::LongEntries(n) => {
+                out_of_range(
+                    f,
+                    n as u64,
+                    "entries",
+                    LEAST_ENTRIES as u64,
+                    MOST_LONG_ENTRIES as u64,
+                )
+            }
             ConfigFault::Requests(n) => {
                 out_of_range(
                     f,
@@ -169,7 +189,7 @@ impl fmt::Debug for ConfigFault {
     }
 }
 
-/// A configuration whose numbers are in their limits.
+/// A configuration whose numbers are in their limits. Its history may be long, unless `Config::check` made it.
 #[derive(Drop)]
 pub struct Checked {
     config: Config,
@@ -229,7 +249,7 @@ impl Checked {
         self.config.kinds
     }
 
-    /// 4 to 4,194,304.
+    /// 4 to 4,000,000,000.
     pub fn entries(&self) -> u32
         ensures value { result ≡ self.now.entries }
         ensures limits { InLimits self.now }
@@ -276,18 +296,36 @@ impl Config {
         ensures ok { IfOk result (λ c. c ≡ self) }
         ensures sound { IfOk result (λ _. config_fault self ≡ None) }
         ensures limits { IfOk result (λ _. InLimits self) }
+        ensures short { IfOk result (λ _. HasShortHistory self) }
         ensures fault { IfErr result (λ f. config_fault self ≡ Some f) }
     {
-        match self.fault() {
+        match self.fault_by(MOST_ENTRIES, ConfigFault::Entries(self.entries)) {
             Some(fault) => Err(fault),
             None => Ok(Checked { config: self }),
         }
     }
 
-    // The first number that is out of its limit.
-    fn fault(&self) -> Option<ConfigFault>
-        ensures first { result ≡ config_fault self.now }
+    /// As `check`, for a scheduler that keeps the last of its entries alone: there may be 4 to 4,000,000,000. Takes no
+    /// memory.
+    pub fn check_long(self) -> Result<Checked, ConfigFault>
+        ensures ok { IfOk result (λ c. c ≡ self) }
+        ensures sound { IfOk result (λ _. long_config_fault self ≡ None) }
+        ensures limits { IfOk result (λ _. InLimits self) }
+        ensures fault { IfErr result (λ f. long_config_fault self ≡ Some f) }
+    {
+        match self.fault_by(MOST_LONG_ENTRIES, ConfigFault::LongEntries(self.entries)) {
+            Some(fault) => Err(fault),
+            None => Ok(Checked { config: self }),
+        }
+    }
+
+    // The first number that is out of its limit, where there may be `most` entries at most, and `many` is the fault of
+    // any other number of them.
+    fn fault_by(&self, most: u32, many: ConfigFault) -> Option<ConfigFault>
+        requires { most ≤ MOST_LONG_ENTRIES }
+        ensures first { result ≡ fault_by most many self.now }
         ensures limits { IfNone result (InLimits self.now) }
+        ensures entries { IfNone result (self.now.entries ≤ most) }
     {
         let tenants = self.weights.as_slice().len();
         if is_outside(1, MOST_WORKERS, self.workers) {
@@ -306,8 +344,8 @@ impl Config {
         if pairs > MOST_PAIRS {
             return Some(ConfigFault::Pairs(pairs));
         }
-        if is_outside(LEAST_ENTRIES, MOST_ENTRIES, self.entries) {
-            return Some(ConfigFault::Entries(self.entries));
+        if is_outside(LEAST_ENTRIES, most, self.entries) {
+            return Some(many);
         }
         if is_outside(1, MOST_REQUESTS, self.requests) {
             return Some(ConfigFault::Requests(self.requests));

@@ -17,8 +17,11 @@ pub const MOST_PAIRS: u64 = 65536;
 /// The fewest entries that a history may be given room for: one request's Submit, Take and Done, and the Close.
 pub const LEAST_ENTRIES: u32 = 4;
 
-/// The most entries that a history may be given room for.
+/// The most entries that a history may be given room for where it is kept whole.
 pub const MOST_ENTRIES: u32 = 4194304;
+
+/// The most entries that a history may be given room for where only its last entries are kept.
+pub const MOST_LONG_ENTRIES: u32 = 4000000000;
 
 /// The most requests that may be let wait at once; the fewest is 1.
 pub const MOST_REQUESTS: u32 = 262144;
@@ -38,7 +41,7 @@ pub const MOST_SLICES: u32 = 10000;
 /// The greatest length of a lag report's slots, in microseconds; the least is 1.
 pub const GREATEST_SLOT: u64 = 1000000000000000;
 
-/// The most completed requests that a fluid reference reads: more than any history has.
+/// The most completed requests that a fluid reference reads: more than any history has that is kept whole.
 pub const MOST_FLUID_ROWS: u32 = 2000000;
 
 /// The most that a tenant may still want, in microseconds of work: the greatest cost of that many requests.
@@ -47,7 +50,7 @@ pub const GREATEST_BACKLOG: u64 = 2000000000000000;
 /// The most cells of a lag report: its slots times its tenants.
 pub const MOST_CELLS: u64 = 4000000;
 
-/// The most lines of status that are read while a pool runs.
+/// The most times that the status is read while a pool runs.
 pub const MOST_STATUSES: u32 = 1000;
 
 /// The greatest rate at which a trace is shaped, in units a millisecond for weight 1; the least is 1.
@@ -60,7 +63,7 @@ pub const GREATEST_BURST: u64 = 1000000000;
 pub const GREATEST_VIRTUAL_TIME: i128 = 100000000000000000000000;
 
 /// More than a tenant's virtual charge reaches, in steps: the greatest length for each entry of the longest history.
-pub const GREATEST_VIRTUAL_CHARGE: i128 = 10000000000000000000000;
+pub const GREATEST_VIRTUAL_CHARGE: i128 = 10000000000000000000000000;
 
 /// More than a tenant's start reaches, in steps.
-pub const GREATEST_START: i128 = 200000000000000000000000;
+pub const GREATEST_START: i128 = 20000000000000000000000000;

@@ -134,5 +134,5 @@ pub fn copy_of(alloc: Global, config: &Checked) -> Result<Checked, AllocError>
         estimate: config.estimate(),
         initial: config.initial(),
     };
-    Ok(copy.check().unwrap())
+    Ok(copy.check_long().unwrap()) // whatever room the history has
 }

@@ -4,7 +4,7 @@ use borrow.Author.Tests.{ltb-false}
 use Rattle.std.specs.Prelude.{codes}
 use Rattle.std.proofs.lemmas.Bool.{eqb-true, eqb-false}
 use Rattle.std.proofs.lemmas.List.Elements.{All-append}
-use Rattle.fq_model.specs.Limits.{IsWithin, IsWeight, InLimits}
+use Rattle.fq_model.specs.Limits.{IsWithin, IsWeight, InLimits, HasShortHistory}
 use Rattle.vt_fixed.specs.declared.limits.TheConstants.{GREATEST_COST, GREATEST_WEIGHT, MOST_WORKERS}
 use Rattle.fq_model.specs.declared.limits.TheConstants.{MOST_TENANTS, MOST_KINDS, MOST_PAIRS, LEAST_ENTRIES, MOST_ENTRIES, MOST_REQUESTS}
 use Rattle.program_model.specs.declared.fault.ScriptKind.{ScriptKind}
@@ -199,7 +199,11 @@ config_of-in_limits s kept some =
       weights = kept.weights;
       kinds = (omega (arith, some), kept.kinds);
       pairs = rw kept.same kept.pairs;
-      entries = kept.settings.entries;
+      entries = (kept.settings.entries.0, omega (arith, kept.settings.entries.1));
       requests = kept.settings.requests;
       initial = kept.settings.initial;
     }
+
+-- and its history is a short one
+pub config_of-short : {A : Type 0} (s : Document A) → IsKept s → HasShortHistory (config_of s)
+config_of-short s kept = kept.settings.entries.1

@@ -1,10 +1,22 @@
 -- What printing adds to a text, and what it leaves of it.
 use Rattle.std.specs.Prelude.{ℕ, ◌≡◌, List, ◌++◌}
-use Rattle.program_model.specs.JournalText.{numbers_text}
+use Rattle.fq_model.specs.declared.config.Config.{Config}
+use Rattle.fq_model.specs.declared.event.Entry.{Entry}
+use Rattle.program_model.specs.declared.version.Version.{Version}
+use Rattle.program_model.specs.declared.version.Version.TheVariants.{Second}
+use Rattle.program_model.specs.JournalText.{numbers_text, header_line, head_text, entries_text}
 
 -- a line: a word, and numbers, each after a space
 abbrev pub row_text : List ℕ → List ℕ → List ℕ
 row_text word numbers = word ++ numbers_text numbers
+
+-- what stands above the entries of a journal of this version
+abbrev pub top_text : Version → Config → List (List ℕ) → List (List ℕ) → List ℕ
+top_text version C tenants kinds = header_line version ++ head_text C tenants kinds
+
+-- the journal of entries that are written as they come, in order of time: its version allows any
+abbrev pub streamed_text : Config → List (List ℕ) → List (List ℕ) → List Entry → List ℕ
+streamed_text C tenants kinds entries = top_text Second C tenants kinds ++ entries_text entries
 
 -- what stood there stands there, with perhaps more after it
 abbrev pub IsKept : List ℕ → List ℕ → Type 0

@@ -4,9 +4,10 @@ ghost use Rattle.std.specs.Fmt.{decimal};
 ghost use Rattle.std.specs.List.{list_any};
 ghost use Rattle.fq_model.specs.History.{is_change};
 ghost use Rattle.fq_model.specs.Spelling.{policy_word, estimator_word};
+ghost use Rattle.program_model.specs.declared.version.Version.TheVariants.{Second};
 ghost use Rattle.program_model.specs.JournalText.{entry_line, entries_text, version_for, header_line, tenants_text, kinds_text, head_text, journal_text};
 ghost use Rattle.tenant_table.specs.Names.{names_of};
-ghost use Rattle.journal_text.specs.Printing.{row_text, IsKept};
+ghost use Rattle.journal_text.specs.Printing.{row_text, top_text, IsKept};
 
 use crate::rows::add_row;
 use fq_model::config::Checked;
@@ -68,9 +69,47 @@ fn add_lines(
         ≡ text.old.items ++ journal_text config.now (names_of tenants.now) kinds.now past.now) }
     ensures kept { IsKept text.old.items text.new.items }
 {
-    text.extend_from_slice(header(version_for(past)).as_bytes())?;
-    add_head(alloc, config, tenants, kinds, text)?;
+    add_top(alloc, version_for(past), config, tenants, kinds, text)?;
     add_entries(past, text)
+}
+
+/// Begins a journal that is written while its scheduler runs: appends what stands above the entries, each of which
+/// `entry_line` then appends. It is of the version that allows any entry. Where memory runs out, the text stays as it
+/// was.
+pub fn begin_journal(
+    alloc: Global,
+    config: &Checked,
+    tenants: &Tenants,
+    kinds: &Kinds,
+    text: &mut Vec<u8>,
+) -> Result<(), AllocError>
+    ensures added { OnOk result (text.new.items
+        ≡ text.old.items ++ top_text Second config.now (names_of tenants.now) kinds.now) }
+    ensures unchanged { OnErr result (text.new.items ≡ text.old.items) }
+{
+    let start = text.len();
+    if add_top(alloc, Version::Second, config, tenants, kinds, text).is_err() {
+        text.truncate(start);
+        return Err(AllocError);
+    }
+    Ok(())
+}
+
+// Appends the first line and the head.
+fn add_top(
+    alloc: Global,
+    version: Version,
+    config: &Checked,
+    tenants: &Tenants,
+    kinds: &Kinds,
+    text: &mut Vec<u8>,
+) -> Result<(), AllocError>
+    ensures added { OnOk result (text.new.items
+        ≡ text.old.items ++ top_text version config.now (names_of tenants.now) kinds.now) }
+    ensures kept { IsKept text.old.items text.new.items }
+{
+    text.extend_from_slice(header(version).as_bytes())?;
+    add_head(alloc, config, tenants, kinds, text)
 }
 
 fn header(version: Version) -> &'static str

@@ -12,7 +12,7 @@ use Rattle.fq_model.specs.declared.config.Config.{Config}
 use Rattle.fq_model.specs.declared.event.Entry.{Entry}
 use Rattle.fq_model.specs.declared.limits.TheConstants.{MOST_TENANTS, MOST_KINDS, MOST_PAIRS}
 use Rattle.fq_model.specs.History.{is_change}
-use Rattle.fq_model.specs.Limits.{InLimits, IsWeight}
+use Rattle.fq_model.specs.Limits.{InLimits, HasShortHistory, IsWeight}
 use Rattle.fq_model.specs.Names.{AreNames}
 use Rattle.fq_model.specs.Spelling.{is_name, policy_word, estimator_word}
 use Rattle.program_model.specs.declared.version.Version.{Version}
@@ -22,8 +22,9 @@ use Rattle.program_model.specs.Journal.{Journal, entry_of_words, journal_of}
 use Rattle.program_model.specs.JournalText.{numbers_text, entry_line, entries_text, header_line, head_text, journal_text, kinds_text, settings_line, tenants_text, version_for}
 use Rattle.program_model.specs.Lines.{Words, lines_of}
 use Rattle.program_model.specs.Reading.{◌>>=◌, at_line}
+use Rattle.journal_text.specs.Printing.{top_text}
 use Rattle.journal_text.specs.Reading.{settings_in}
-use Rattle.law_book.specs.Journals.{IsEntry, AreEntries, AreNamesFor, journal_with, JournalsReadBack}
+use Rattle.law_book.specs.Journals.{IsEntry, AreEntries, AreNamesFor, IsReadBack, journal_with, JournalsReadBack, StreamedReadBack}
 use Rattle.law_book.proofs.Apart.{word_of, is_word, row_of, row_small, line_row}
 use Rattle.law_book.proofs.Lines.{AreWords, spaced, words_first, row_spaced, numbers_words, line_read}
 use Rattle.law_book.proofs.LinesRead.{MayStand, document, body_line_read, is_new, tenant_read, kind_read, config_read, name_word, policy_is_word, estimator_is_word}
@@ -179,7 +180,7 @@ settings_are_words C limits = (
 some_names : (names : List (List ℕ)) → 1 ≤ length names → (length names == 0) ≡ false
 some_names names some = false_from_ne_true (length names == 0) (λ none. omega (arith, eqb-true (length names) 0 none, some))
 
-module _ (C : Config) (tenants kinds : List (List ℕ)) (past : List Entry) (limits : InLimits C) (names : AreNamesFor C tenants kinds) (are : AreEntries past) where
+module _ (C : Config) (tenants kinds : List (List ℕ)) (past : List Entry) (limits : InLimits C) (short : HasShortHistory C) (names : AreNamesFor C tenants kinds) (are : AreEntries past) where
   abbrev below_tenants : List ℕ
   below_tenants = kinds_text kinds ++ entries_text past
 
@@ -195,16 +196,15 @@ module _ (C : Config) (tenants kinds : List (List ℕ)) (past : List Entry) (lim
       let word : IsWord (codes "config") = omega arith in
       let has = words_first (codes "config") (settings_words C) below_settings word words in
       ap (below_header (entry_of_words v)) (ap lines_of (settings_text C below_settings) ∙ has.first.lines)
-      ∙ ap (λ r. at_line 2 r >>= λ d. with_lines (entry_of_words v) 3 d (lines_of below_settings)) (ap config_line has.split ∙ config_read C limits)
+      ∙ ap (λ r. at_line 2 r >>= λ d. with_lines (entry_of_words v) 3 d (lines_of below_settings)) (ap config_line has.split ∙ config_read C limits short)
       ∙ tenants_read (entry_of_words v) (settings_in C) below_tenants (journal_with C tenants kinds past) tenants C.weights 3 [] [] names.tenants_are names.weighed limits.weights
       (λ p. kinds_read (entry_of_words v) (settings_in C) tenants C.weights (entries_text past) (journal_with C tenants kinds past) some_tenant names.tenants_are.few kinds p [] names.kinds_are pairs
       (λ q. entries_read v q (settings_in C) tenants C.weights kinds [] past some_kind are of))
 
-  parts : journal_text C tenants kinds past ≡ header_line (version_for past) ++ (settings_line C ++ below_settings)
-  unfolding journal_text
-  parts =
-      append_assoc (header_line (version_for past)) (head_text C tenants kinds) (entries_text past)
-      ∙ ap (λ l. header_line (version_for past) ++ l) (
+  parts : (v : Version) → top_text v C tenants kinds ++ entries_text past ≡ header_line v ++ (settings_line C ++ below_settings)
+  parts v =
+      append_assoc (header_line v) (head_text C tenants kinds) (entries_text past)
+      ∙ ap (λ l. header_line v ++ l) (
       append_assoc (settings_line C ++ tenants_text tenants C.weights) (kinds_text kinds) (entries_text past)
       ∙ append_assoc (settings_line C) (tenants_text tenants C.weights) below_tenants
       )
@@ -213,12 +213,17 @@ module _ (C : Config) (tenants kinds : List (List ℕ)) (past : List Entry) (lim
   text_read First of = head_read First of
   text_read Second of = head_read Second of
 
-  read : journal_of (journal_text C tenants kinds past) ≡ Ok (journal_with C tenants kinds past)
+  -- a text of either version that may have these entries
+  text_of : (v : Version) → AreOf v past → IsReadBack C tenants kinds past (top_text v C tenants kinds ++ entries_text past)
   unfolding document_of
-  read = ap (λ l. document_of_lines (codes "journal") entry_of_words (lines_of l)) parts ∙ text_read (version_for past) (of_version past)
+  text_of v of = record {
+    read = ap (λ l. document_of_lines (codes "journal") entry_of_words (lines_of l)) (parts v) ∙ text_read v of;
+    config_is = ap (λ (n : ℕ). record C { kinds = n }) (sym names.counted);
+  }
 
 pub read_back : JournalsReadBack
-read_back C tenants kinds past limits names are = record {
-  read = read C tenants kinds past limits names are;
-  config_is = ap (λ (n : ℕ). record C { kinds = n }) (sym names.counted);
-}
+unfolding journal_text
+read_back C tenants kinds past limits short names are = text_of C tenants kinds past limits short names are (version_for past) (of_version past)
+
+pub streamed_back : StreamedReadBack
+streamed_back C tenants kinds past limits short names are = text_of C tenants kinds past limits short names are Second tt

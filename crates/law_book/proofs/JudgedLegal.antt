@@ -1,4 +1,4 @@
--- The printed journal of a legal history is judged legal.
+-- A journal of a legal history is judged legal.
 use Rattle.std.proofs.Common.{ℕ, zero, suc, List, [], ◌∷◌, ◌++◌, All, arith, refl, subst, sym, append_assoc}
 use Rattle.std.proofs.lemmas.List.Elements.{All-head, All-tail}
 use Rattle.fq_model.specs.declared.config.Config.{Config}
@@ -14,8 +14,8 @@ use Rattle.fq_laws.proofs.History.Weights.{pool_high}
 use Rattle.fq_laws.proofs.History.Workers.{runs_worker_known}
 use Rattle.program_model.specs.Document.{config_of}
 use Rattle.journal_check.proofs.OneVerdict.{legal_among, legal_is_legal}
-use Rattle.law_book.specs.Journals.{FitsTypes, FitsLabel, IsEntry, IsUnreadFit, LegalEntriesFit, LegalIsJudgedLegal, journal_with}
-use Rattle.law_book.proofs.JournalsRead.{read_back}
+use Rattle.law_book.specs.Journals.{FitsTypes, FitsLabel, IsEntry, IsUnreadFit, LegalEntriesFit, IsReadBack, IsJudgedLegal, LegalIsJudgedLegal, StreamedIsJudgedLegal, journal_with}
+use Rattle.law_book.proofs.JournalsRead.{read_back, streamed_back}
 
 -- the numbers of an act that fits a legal history
 act_fits : (C : Config) (P : History) (m : ℕ) (act : Act) → InLimits C → IsLegal C P → Fits C P m act → FitsLabel act → FitsTypes act
@@ -65,9 +65,9 @@ all_fit C before (e ∷ past) limits legal unread (suc k) d there =
 pub entries_fit : LegalEntriesFit
 entries_fit C past limits legal unread = all_fit C [] past limits legal unread
 
-pub judged_legal : LegalIsJudgedLegal
-judged_legal C tenants kinds past limits names unread legal =
-    let back = read_back C tenants kinds past limits names (entries_fit C past limits legal unread) in
+-- what is read back is judged
+judged : (C : Config) (tenants kinds : List (List ℕ)) (past : List Entry) (text : List ℕ) → IsReadBack C tenants kinds past text → IsLegal C (history_of past) → IsJudgedLegal C past text
+judged C tenants kinds past text back legal =
     let here : IsLegal (config_of (journal_with C tenants kinds past)) (history_of past) = subst (λ (B : Config). IsLegal B (history_of past)) (sym back.config_is) legal in
     record {
       journal = journal_with C tenants kinds past;
@@ -77,3 +77,11 @@ judged_legal C tenants kinds past limits names unread legal =
       legal = here;
       no_other = λ v is. (legal_is_legal (config_of (journal_with C tenants kinds past)) past v is).1 here;
     }
+
+pub judged_legal : LegalIsJudgedLegal
+judged_legal C tenants kinds past limits short names unread legal =
+    judged C tenants kinds past _ (read_back C tenants kinds past limits short names (entries_fit C past limits legal unread)) legal
+
+pub streamed_legal : StreamedIsJudgedLegal
+streamed_legal C tenants kinds past limits short names unread legal =
+    judged C tenants kinds past _ (streamed_back C tenants kinds past limits short names (entries_fit C past limits legal unread)) legal

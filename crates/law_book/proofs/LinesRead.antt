@@ -16,7 +16,7 @@ use Rattle.fq_model.specs.declared.event.Act.TheVariants.{Submit, Take, Report, 
 use Rattle.fq_model.specs.declared.event.Entry.{Entry}
 use Rattle.fq_model.specs.declared.limits.TheConstants.{LEAST_ENTRIES, MOST_ENTRIES, MOST_REQUESTS, MOST_TENANTS, MOST_KINDS, MOST_PAIRS}
 use Rattle.fq_model.specs.History.{is_change}
-use Rattle.fq_model.specs.Limits.{InLimits, IsWeight, IsWithin}
+use Rattle.fq_model.specs.Limits.{InLimits, HasShortHistory, IsWeight, IsWithin}
 use Rattle.fq_model.specs.Spelling.{is_name, is_name_byte, policy_word, estimator_word}
 use Rattle.fq_laws.proofs.Rules.Passes.{within}
 use Rattle.program_model.specs.declared.version.Version.{Version}
@@ -251,22 +251,22 @@ kind_read reader s tenants weights kinds name some spelled new a b c =
 abbrev pub config_words : Config → Words
 config_words C = codes "config" ∷ decimal C.workers ∷ policy_word C.policy ∷ estimator_word C.estimate ∷ decimal C.initial ∷ decimal C.entries ∷ decimal C.requests ∷ []
 
-settings_read : (C : Config) → InLimits C → settings_of (config_words C) ≡ Ok (settings_in C)
+settings_read : (C : Config) → InLimits C → HasShortHistory C → settings_of (config_words C) ≡ Ok (settings_in C)
 unfolding settings_of
-settings_read C limits =
+settings_read C limits short =
     let words = config_words C in
     rw (
       ranged_read words 1 1 MOST_WORKERS C.workers refl (omega (arith, limits.workers.1)) limits.workers,
       policy_read words 2 C.policy refl,
       estimator_read words 3 C.estimate refl,
       ranged_read words 4 1 GREATEST_COST C.initial refl (omega (arith, limits.initial.1)) limits.initial,
-      ranged_read words 5 LEAST_ENTRIES MOST_ENTRIES C.entries refl (omega (arith, limits.entries.1)) limits.entries,
+      ranged_read words 5 LEAST_ENTRIES MOST_ENTRIES C.entries refl (omega (arith, short)) (limits.entries.0, short),
       ranged_read words 6 1 MOST_REQUESTS C.requests refl (omega (arith, limits.requests.1)) limits.requests,
     ) refl
 
-pub config_read : (C : Config) → InLimits C → config_line (config_words C) ≡ Ok (document (settings_in C) [] [] [] [])
+pub config_read : (C : Config) → InLimits C → HasShortHistory C → config_line (config_words C) ≡ Ok (document (settings_in C) [] [] [] [])
 unfolding config_line
-config_read C limits = rw (settings_read C limits) refl
+config_read C limits short = rw (settings_read C limits short) refl
 
 -- ---- names and words
 

@@ -7,7 +7,7 @@ use Rattle.fq_model.specs.declared.event.Act.{Act}
 use Rattle.fq_model.specs.declared.event.Act.TheVariants.{Submit, Take, Report, Done, Close, Weight, Workers}
 use Rattle.fq_model.specs.declared.event.Entry.{Entry}
 use Rattle.fq_model.specs.History.{history_of}
-use Rattle.fq_model.specs.Limits.{InLimits}
+use Rattle.fq_model.specs.Limits.{InLimits, HasShortHistory}
 use Rattle.fq_model.specs.Names.{AreNames}
 use Rattle.fq_model.specs.Rules.{IsLegal}
 use Rattle.program_model.specs.Document.{config_of}
@@ -16,6 +16,7 @@ use Rattle.program_model.specs.JournalText.{journal_text}
 use Rattle.program_model.specs.declared.verdict.Verdict.{Verdict}
 use Rattle.program_model.specs.declared.verdict.Verdict.TheVariants.{Legal}
 use Rattle.program_model.specs.Verdicts.{IsVerdict}
+use Rattle.journal_text.specs.Printing.{streamed_text}
 use Rattle.journal_text.specs.Reading.{settings_in}
 
 -- each number of an act fits its type
@@ -64,16 +65,25 @@ journal_with C tenants kinds past = record {
   body = past;
 }
 
--- the text of a journal spells the document that was printed, and that document is about its configuration
-pub record IsReadBack (C : Config) (tenants kinds : List (List ℕ)) (past : List Entry) : Type 0 where
-  pub read : journal_of (journal_text C tenants kinds past) ≡ Ok (journal_with C tenants kinds past)
+-- a text spells the journal of these entries, and that document is about this configuration
+pub record IsReadBack (C : Config) (tenants kinds : List (List ℕ)) (past : List Entry) (text : List ℕ) : Type 0 where
+  pub read : journal_of text ≡ Ok (journal_with C tenants kinds past)
   pub config_is : config_of (journal_with C tenants kinds past) ≡ C
 
--- so it is where the configuration is in its limits, the names are lawful and each number of an entry fits its type
+-- so the text of a journal is read, where the configuration is in its limits, with a history that may be kept whole,
+-- the names are lawful and each number of an entry fits its type
 abbrev pub JournalsReadBack : Type 0
 JournalsReadBack =
     (C : Config) (tenants kinds : List (List ℕ)) (past : List Entry)
-    → InLimits C → AreNamesFor C tenants kinds → AreEntries past → IsReadBack C tenants kinds past
+    → InLimits C → HasShortHistory C → AreNamesFor C tenants kinds → AreEntries past
+    → IsReadBack C tenants kinds past (journal_text C tenants kinds past)
+
+-- and so is one that was written as the entries came
+abbrev pub StreamedReadBack : Type 0
+StreamedReadBack =
+    (C : Config) (tenants kinds : List (List ℕ)) (past : List Entry)
+    → InLimits C → HasShortHistory C → AreNamesFor C tenants kinds → AreEntries past
+    → IsReadBack C tenants kinds past (streamed_text C tenants kinds past)
 
 -- what no rule looks at fits its type: the number of the caller, and the label of a Submit
 abbrev pub FitsLabel : Act → Type 0
@@ -99,9 +109,16 @@ pub record IsJudgedLegal (C : Config) (past : List Entry) (text : List ℕ) : Ty
   pub legal : IsVerdict (config_of journal) journal.body Legal
   pub no_other : (v : Verdict) → IsVerdict (config_of journal) journal.body v → v ≡ Legal
 
--- the printed journal of a legal history is judged legal where it is read
+-- the printed journal of a legal history that may be kept whole is judged legal where it is read
 abbrev pub LegalIsJudgedLegal : Type 0
 LegalIsJudgedLegal =
     (C : Config) (tenants kinds : List (List ℕ)) (past : List Entry)
-    → InLimits C → AreNamesFor C tenants kinds → All IsUnreadFit past → IsLegal C (history_of past)
+    → InLimits C → HasShortHistory C → AreNamesFor C tenants kinds → All IsUnreadFit past → IsLegal C (history_of past)
     → IsJudgedLegal C past (journal_text C tenants kinds past)
+
+-- and so is what was written of it as its entries came
+abbrev pub StreamedIsJudgedLegal : Type 0
+StreamedIsJudgedLegal =
+    (C : Config) (tenants kinds : List (List ℕ)) (past : List Entry)
+    → InLimits C → HasShortHistory C → AreNamesFor C tenants kinds → All IsUnreadFit past
+    → IsLegal C (history_of past) → IsJudgedLegal C past (streamed_text C tenants kinds past)

@@ -7,7 +7,7 @@ use Rattle.program_model.specs.declared.explained.Explained.{Explained}
 use Rattle.program_model.specs.declared.verdict.Verdict.{Verdict}
 use Rattle.program_model.specs.declared.verdict.Verdict.TheVariants.{Legal, Bad}
 use Rattle.program_model.specs.Answer.{Answer, Text, IsReadAnswer}
-use Rattle.program_model.specs.CommandOptions.{given_at}
+use Rattle.program_model.specs.CommandOptions.{given_at, number_given}
 use Rattle.program_model.specs.Document.{config_of}
 use Rattle.program_model.specs.Explanations.{Explains}
 use Rattle.program_model.specs.FaultTexts.{journal_fault_text}
@@ -24,7 +24,7 @@ abbrev pub check_options : List OptionRow
 check_options = explain_option ∷ []
 
 abbrev pub check_of_values : List Value → Command
-check_of_values values = Plain (commands.Check (given_at values 0))
+check_of_values values = Plain (commands.Check (number_given (given_at values 0)))
 
 abbrev pub check_row : CommandRow Command
 check_row = record {

@@ -1,14 +1,17 @@
 -- What the options of commands are made of, and the options that several commands have.
-use Rattle.std.specs.Prelude.{ℕ, List, [], ◌∷◌, map, None, unwrap_or, slice_index_or, codes}
+use Rattle.std.specs.Prelude.{ℕ, List, [], ◌∷◌, map, Option, Some, None, unwrap_or, slice_index_or, codes}
 use Rattle.fq_model.specs.declared.config.Policy.{Policy}
 use Rattle.fq_model.specs.declared.config.Policy.TheVariants.{Wfq, Wf2q, Msf2q, TwoDfq}
 use Rattle.fq_model.specs.declared.config.Estimator.{Estimator}
 use Rattle.fq_model.specs.declared.config.Estimator.TheVariants.{Declared, Recent, Pessimistic}
 use Rattle.vt_fixed.specs.declared.limits.TheConstants.{GREATEST_COST, MOST_WORKERS}
 use Rattle.fq_model.specs.declared.limits.TheConstants.{GREATEST_SLOT}
+use Rattle.program_model.specs.declared.argument.Argument.TheVariants.{Number, Name}
+use Rattle.program_model.specs.declared.name.Name as held
 use Rattle.program_model.specs.Lines.{Words}
+use Rattle.program_model.specs.Names.{name_of}
 use Rattle.fq_model.specs.Spelling.{policy_word, estimator_word}
-use Rattle.program_model.specs.Options.{Within, Among, Required, Default, OptionRow, Value}
+use Rattle.program_model.specs.Options.{Within, Among, Named, Required, Default, OptionRow, Value}
 
 -- the policies, in the order in which an option lists their words
 abbrev pub policies : List Policy
@@ -18,13 +21,23 @@ policies = Wfq ∷ Wf2q ∷ Msf2q ∷ TwoDfq ∷ []
 abbrev pub estimators : List Estimator
 estimators = Declared ∷ Recent ∷ Pessimistic ∷ []
 
+-- the number that a value is, if it is one
+abbrev pub number_given : Value → Option ℕ
+number_given (Some (Number n)) = Some n
+number_given _ = None
+
+-- the name that it is, or that of no bytes
+abbrev pub name_given : Value → held.Name
+name_given (Some (Name name)) = name
+name_given _ = name_of []
+
 -- the value of option k, if it has one; the first is option 0
 abbrev pub given_at : List Value → ℕ → Value
 given_at values k = slice_index_or values k None
 
--- the same, or 0 where it has none
+-- the number that option k has, or 0
 abbrev pub value_at : List Value → ℕ → ℕ
-value_at values k = unwrap_or (given_at values k) 0
+value_at values k = unwrap_or (number_given (given_at values k)) 0
 
 -- an option whose value is one of these words, and this one where none is given
 abbrev pub listed_option : List ℕ → Words → List ℕ → OptionRow
@@ -37,6 +50,10 @@ number_option name low high default = record { name = name; values = Within low 
 -- an option whose value is a number from low to high, and which has to be given
 abbrev pub required_option : List ℕ → ℕ → ℕ → OptionRow
 required_option name low high = record { name = name; values = Within low high; absent = Required }
+
+-- an option whose value is a name, and which has to be given
+abbrev pub name_option : List ℕ → OptionRow
+name_option name = record { name = name; values = Named; absent = Required }
 
 -- how many workers there are
 abbrev pub workers_option : OptionRow

@@ -2,6 +2,7 @@ pub mod Numbers
 pub mod Reading
 pub mod Texts
 pub mod Lines
+pub mod Names
 pub mod Document
 pub mod Script
 pub mod Trace
@@ -26,12 +27,14 @@ pub mod Options
 pub mod CommandOptions
 pub mod Answer
 pub mod HistoryAnswer
+pub mod Readings
 pub mod TraceCommand
 pub mod ScriptCommand
 pub mod RunCommand
 pub mod LiveCommand
 pub mod GenCommand
 pub mod CheckCommand
+pub mod LeadCommand
 pub mod ShapeCommand
 pub mod CompareCommand
 pub mod Commands

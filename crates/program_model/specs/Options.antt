@@ -1,15 +1,20 @@
 -- Command lines by a table: its commands, their options, and what a list of words is by such a table.
 use Rattle.std.specs.Prelude.{ℕ, ◌==◌, Bool, false, not, if◌then◌else◌, List, [], ◌∷◌, map, filter, find, position, Option, Some, None, option_map, option_and_then, codes, bytes_eq}
 use Rattle.std.specs.List.{list_any, list_all, before_first, after_first}
-use Rattle.program_model.specs.Lines.{Words}
 use Rattle.fq_model.specs.Limits.{is_outside}
+use Rattle.fq_model.specs.Spelling.{is_name}
+use Rattle.program_model.specs.declared.argument.Argument.{Argument}
+use Rattle.program_model.specs.declared.argument.Argument.TheVariants.{Number, Name}
+use Rattle.program_model.specs.Lines.{Words}
+use Rattle.program_model.specs.Names.{name_of}
 use Rattle.program_model.specs.Numbers.{number_of}
 
--- what may be written as the value of an option: a number from low to high, or one of these words, which stands for its
--- place among them, counted from 0
+-- what may be written as the value of an option: a number from low to high; one of these words, which stands for its
+-- place among them, counted from 0; or a name. None begins with `-`
 pub data Values : Type 0 where
   Within : (low high : ℕ) → Values
   Among : (words : Words) → Values
+  Named : Values
 
 -- what it means that an option is not given: that the words are no command line, that the option has no value, or the
 -- same as this text
@@ -24,9 +29,9 @@ pub record OptionRow : Type 0 where
   pub values : Values
   pub absent : Absent
 
--- the value of an option, if it has one
+-- what an option is given, if it is given anything
 abbrev pub Value : Type 0
-Value = Option ℕ
+Value = Option Argument
 
 -- a command: its word, its options, what it means by the values of these, in this order, and whether it reads an input
 pub record CommandRow (C : Type 0) : Type 0 where
@@ -81,25 +86,26 @@ is_value (b ∷ bs) = not (b == 45)
 abbrev pub within : ℕ → ℕ → ℕ → Option ℕ
 within low high n = if is_outside low high n then None else Some n
 
--- the number for which a text stands, if it is one of the values
-abbrev pub number_among : Values → List ℕ → Option ℕ
-number_among (Within low high) text = option_and_then (within low high) (number_of text)
-number_among (Among words) text = position (λ w. bytes_eq w text) words
+-- what a text stands for, if it is one of the values
+abbrev pub argument_among : Values → List ℕ → Option Argument
+argument_among (Within low high) text = option_map (λ n. Number n) (option_and_then (within low high) (number_of text))
+argument_among (Among words) text = option_map (λ n. Number n) (position (λ w. bytes_eq w text) words)
+argument_among Named text = if is_name text then Some (Name (name_of text)) else None
 
 -- the same, where the text may be a value at all
-unfoldable pub number_for : Values → List ℕ → Option ℕ
-number_for values text = if is_value text then number_among values text else None
+unfoldable pub argument_for : Values → List ℕ → Option Argument
+argument_for values text = if is_value text then argument_among values text else None
 
 -- the value of an option that is not given
 abbrev pub absent_value : Values → Absent → Option Value
 absent_value values Required = None
 absent_value values Nothing = Some None
-absent_value values (Default text) = option_map (λ n. Some n) (number_for values text)
+absent_value values (Default text) = option_map (λ a. Some a) (argument_for values text)
 
 -- the value of an option for which these texts are given: one at most
 abbrev pub value_of : OptionRow → List (List ℕ) → Option Value
 value_of row [] = absent_value row.values row.absent
-value_of row (text ∷ []) = option_map (λ n. Some n) (number_for row.values text)
+value_of row (text ∷ []) = option_map (λ a. Some a) (argument_for row.values text)
 value_of row _ = None
 
 -- the values of the options, in order, where each has what it needs

@@ -1,6 +1,7 @@
 //! The commands of the program, in groups by the part of it that serves them.
 
 use crate::compare::CompareOptions;
+use crate::name::Name;
 use crate::trace::RunOptions;
 
 /// What `script` writes.
@@ -36,7 +37,7 @@ pub enum GenPrint {
     Summary,
 }
 
-/// What is asked for that waits for nobody. A slot is in microseconds, and 0 stands for the automatic slot.
+/// What is asked for that needs no threads. A slot is in microseconds, and 0 stands for the automatic slot.
 #[derive(Clone, Copy, PartialEq, Eq)]
 pub enum PlainCommand {
     /// Makes the calls of a script.
@@ -60,6 +61,13 @@ pub enum PlainCommand {
     Check {
         explain: Option<u32>,
     },
+    /// Tells how far one tenant of a journal got ahead of another.
+    Lead {
+        /// Whose lead it is: the name of a tenant.
+        of: Name,
+        /// Over whom it is.
+        over: Name,
+    },
     /// Delays the requests of a trace as a bucket of tokens for each tenant would.
     Shape {
         /// How many tokens a tenant of weight 1 gains in 1000 microseconds: 1 to 1,000,000.
@@ -69,20 +77,24 @@ pub enum PlainCommand {
     },
 }
 
-/// What a command line asks for, by the part of the program that serves it. A slot is in microseconds, and 0 stands for
-/// the automatic slot.
+/// What `live` is asked for.
+#[derive(Clone, Copy, PartialEq, Eq)]
+pub struct LiveOptions {
+    pub run: RunOptions,
+    /// In microseconds: up to 1,000,000,000,000,000, and 0 for the automatic slot.
+    pub slot: u64,
+    pub print: HistoryPrint,
+    /// How many times the scheduler's status is read while its threads work: 0 to 1000.
+    pub watch: u32,
+}
+
+/// What a command line asks for, by the part of the program that serves it.
 #[derive(Clone, Copy, PartialEq, Eq)]
 pub enum Command {
-    /// What waits for nobody.
+    /// What needs no threads.
     Plain(PlainCommand),
     /// Serves a trace by a pool of threads.
-    Live {
-        options: RunOptions,
-        slot: u64,
-        print: HistoryPrint,
-    },
+    Live { options: LiveOptions },
     /// Simulates a trace under all policies and estimators, on threads that end by themselves.
-    Compare {
-        options: CompareOptions,
-    },
+    Compare { options: CompareOptions },
 }

@@ -44,6 +44,15 @@ impl History {
         self.past.as_slice()
     }
 
+    /// What it was kept under, and the entries, in order of time: for a caller that lets go of one before the other.
+    pub fn into_parts(self) -> (Checked, Vec<Entry>)
+        ensures config { result.0 ≡ self.config }
+        ensures entries { result.1.items ≡ self.past }
+        ensures legal { IsLegal self.config (history_of self.past) }
+    {
+        (self.config, self.past)
+    }
+
     /// What it was kept under.
     pub fn config(&self) -> &Checked
         ensures { result.now ≡ self.now.config }

@@ -63,11 +63,11 @@ start_tag C P m t p e (inr (inl is)) = start_by C P m t Wf2q (sym is ∙ e)
 start_tag C P m t p e (inr (inr is)) = start_by C P m t TwoDfq (sym is ∙ e)
 
 -- a natural number as it is handed on
-pub handed_on : (z : ℤ) (n : ℕ) → z ≡ pos n → n ≤ 10 ^ 23 → to_z w128 (of_z w128 z) ≡ pos n
+pub handed_on : (z : ℤ) (n : ℕ) → z ≡ pos n → n ≤ 10 ^ 25 → to_z w128 (of_z w128 z) ≡ pos n
 handed_on z n e low = omega (arith, ints, e, low)
 
 module _ {J X : Type 0} (label : J → ℕ) (C : Config) (P : History) (t : ℕ) (k : Tracker J X) (m : Mirrors label C P k) (known : t < length C.weights) where
-  pub start_low : start C P (last_moment P) t ≤ 10 ^ 23
+  pub start_low : start C P (last_moment P) t ≤ 10 ^ 25
   start_low = start_within C P (last_moment P) t m.limits m.legal (omega arith) (last_moment_small C P m.legal)
 
   -- ---- the head of a list

@@ -28,6 +28,8 @@ mod order_tests;
 #[cfg(test)]
 mod policy_tests;
 #[cfg(test)]
+mod recent_tests;
+#[cfg(test)]
 mod samples;
 #[cfg(test)]
 mod shared_tests;

@@ -110,6 +110,6 @@ reach_bounded at F L G M lt b p =
 
 pub products_fit : ProductsFit
 products_fit i n ahead len lt small near short = (
-  omega (arith, ints, mul-le n ahead 4294967296 200000001048576000000000 (omega arith) (omega (arith, ints, near))),
+  omega (arith, ints, mul-le n ahead 4294967296 20000000001048576000000000 (omega arith) (omega (arith, ints, near))),
   omega (arith, ints, mul-le (n + i) len 8589934592 1048576000000000 (omega arith) (omega (arith, ints, short))),
 )

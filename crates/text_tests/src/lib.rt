@@ -25,6 +25,8 @@ mod samples;
 #[cfg(test)]
 mod slot_tests;
 #[cfg(test)]
+mod stream_tests;
+#[cfg(test)]
 mod time_tests;
 #[cfg(test)]
 mod trace_tests;

@@ -106,6 +106,10 @@ fn says_what_is_wrong_with_a_configuration(rt: HostRuntime) {
             "3 entries, and there may be 4 to 4194304",
         ),
         (
+            ConfigFault::LongEntries(4000000001),
+            "4000000001 entries, and there may be 4 to 4000000000",
+        ),
+        (
             ConfigFault::Requests(0),
             "0 requests that may wait, and there may be 1 to 262144",
         ),

@@ -19,15 +19,15 @@ module _ (T : Trace) (O : RunOptions) where
     weights = lawful.weights;
     kinds = (lawful.some_kind, lawful.kinds.few);
     pairs = subst (λ n. n * length T.kinds ≤ MOST_PAIRS) (sym lawful.weighed) lawful.pairs;
-    entries = within;
+    entries = (within.0, omega (arith, within.1));
     requests = (omega arith, omega (arith, lawful.few));
     initial = options.initial;
   }
 
   -- a configuration of these numbers has no fault
-  pub no_fault_here : (weights : List ℕ) (kinds entries requests : ℕ) (f : ConfigFault) → InLimits (trace_config T O entries) → weights ≡ T.weights → kinds ≡ length T.kinds → requests ≡ max 1 (length T.rows) →
+  pub no_fault_here : (weights : List ℕ) (kinds entries requests : ℕ) (f : ConfigFault) → InLimits (trace_config T O entries) → entries ≤ MOST_ENTRIES → weights ≡ T.weights → kinds ≡ length T.kinds → requests ≡ max 1 (length T.rows) →
       config_fault (record { workers = O.workers; weights = weights; kinds = kinds; entries = entries; requests = requests; policy = O.policy; estimate = O.estimate; initial = O.initial }) ≡ Some f → ⊥
-  no_fault_here weights kinds entries requests f p w k r h =
+  no_fault_here weights kinds entries requests f p short w k r h =
       let D : Config = record { workers = O.workers; weights = weights; kinds = kinds; entries = entries; requests = requests; policy = O.policy; estimate = O.estimate; initial = O.initial } in
       let same : D ≡ trace_config T O entries = rw (w, k, r) refl in
-      let n : None ≡ Some f = sym (no_fault (trace_config T O entries) p) ∙ sym (ap config_fault same) ∙ h in cc
+      let n : None ≡ Some f = sym (no_fault (trace_config T O entries) p short) ∙ sym (ap config_fault same) ∙ h in cc

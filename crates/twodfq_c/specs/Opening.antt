@@ -8,7 +8,7 @@ use Rattle.fq_model.specs.declared.config.Estimator.{Estimator}
 use Rattle.fq_model.specs.declared.config.Estimator.TheVariants as estimator
 use Rattle.fq_model.specs.declared.config.ConfigFault.{ConfigFault}
 use Rattle.fq_model.specs.declared.config.ConfigFault.TheVariants as fault
-use Rattle.fq_model.specs.Limits.{InLimits, config_fault}
+use Rattle.fq_model.specs.Limits.{InLimits, HasShortHistory, config_fault, long_config_fault}
 use Rattle.twodfq_c.specs.declared.opening.Opening.{Opening}
 use Rattle.twodfq_c.specs.declared.opening.Refusal.{Refusal}
 use Rattle.twodfq_c.specs.declared.opening.Refusal.TheVariants as refusal
@@ -32,6 +32,7 @@ fault_status (fault.Weight tenant) = 18
 fault_status (fault.Kinds kinds) = 19
 fault_status (fault.Pairs pairs) = 20
 fault_status (fault.Entries entries) = 21
+fault_status (fault.LongEntries entries) = 21
 fault_status (fault.Requests requests) = 22
 fault_status (fault.Initial initial) = 23
 
@@ -61,10 +62,14 @@ unnamed_number o =
     else if nat_le 3 o.estimate then Some refusal.Estimator
     else None
 
+-- the first fault of the configuration: where all entries are kept its history is a short one, and else it may be long
+abbrev pub opening_fault : Opening → Config → Option ConfigFault
+opening_fault o c = if o.keep == 0 then config_fault c else long_config_fault c
+
 -- why nothing is opened from the numbers: the first that names nothing; else the configuration's first fault, or memory
 -- was wanting
 abbrev pub WhyRefused : Opening → List ℕ → Refusal → Type 0
-WhyRefused o weights (refusal.Config why) = (c : Config) × IsConfigOf o weights c × (config_fault c ≡ Some why)
+WhyRefused o weights (refusal.Config why) = (c : Config) × IsConfigOf o weights c × (opening_fault o c ≡ Some why)
 WhyRefused o weights refusal.NoMemory = unnamed_number o ≡ None
 WhyRefused o weights why = unnamed_number o ≡ Some why
 
@@ -72,11 +77,13 @@ WhyRefused o weights why = unnamed_number o ≡ Some why
 abbrev pub kept_of : Opening → ℕ
 kept_of o = if o.keep == 0 || nat_lt o.entries o.keep then o.entries else o.keep
 
--- a scheduler of this configuration, whose numbers are in their limits, with no entries, which keeps the last so many
+-- a scheduler of this configuration, whose numbers are in their limits, with no entries, which keeps the last so many; its
+-- history is a short one where it keeps all because none were asked for
 pub record HoldsOpened (o : Opening) (weights : List ℕ) (new : Held) : Type 0 where
   pub config : Config
   pub config_is : IsConfigOf o weights config
   pub in_limits : InLimits config
+  pub short : o.keep ≡ 0 → HasShortHistory config
   pub held : new ≡ Some (record {
     scheduler = record { config = config; past = []; jobs = map.empty };
     keep = kept_of o;

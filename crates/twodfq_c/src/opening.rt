@@ -1,17 +1,20 @@
 //! Opening a scheduler from plain numbers.
-ghost use Rattle.std.specs.Prelude.{◌≡◌, ◌≤◌, IfOk, IfErr, IfSome, IfNone, None};
+ghost use Rattle.std.specs.Prelude.{◌≡◌, ◌≤◌, IfOk, IfErr, IfSome, IfNone, Some, None};
 ghost use Rattle.twodfq_c.specs.declared.opening.Refusal.TheVariants as refusal;
+ghost use Rattle.fq_model.specs.Limits.{InLimits, HasShortHistory};
 ghost use Rattle.twodfq_c.specs.Opening.{OpensWith, HoldsOpened, IsConfigOf, WhyRefused, unnamed_number, kept_of};
+ghost use Rattle.twodfq_c.specs.Opening.{opening_fault};
 ghost use Rattle.twodfq_c.specs.Opening.{status, fault_status, policy_number, estimator_number};
 
 use crate::handle::Handle;
-use fq_model::config::{Config, ConfigFault, Estimator, Policy, Weights};
+use fq_model::config::{Checked, Config, ConfigFault, Estimator, Policy, Weights};
 use recent_history::Recent;
 use std::alloc::{AllocError, Global};
 
 /// A configuration without its weights. `policy` is 0 for wfq, 1 for wf2q, 2 for msf2q, 3 for 2dfq; `estimate` is 0 for
 /// declared, 1 for recent, 2 for pessimistic. `keep` is how many of the last entries can be read; 0, and a number above
-/// that of the entries, keeps all. The other numbers have the limits of `fq_model`'s `Config`.
+/// that of the entries, keeps all. The other numbers have the limits of `fq_model`'s `Config`; a history may be long
+/// where `keep` is not 0.
 #[repr(C)]
 #[derive(Clone, Copy, Debug, PartialEq, Eq)]
 pub struct Opening {
@@ -70,7 +73,7 @@ fn opened(alloc: Global, opening: &Opening, weights: &[u32]) -> Result<Handle, R
     ensures why { IfErr result (WhyRefused opening.now weights.now) }
 {
     let config = opening.config(alloc, weights)?;
-    let checked = match config.check() {
+    let checked = match opening.checked(config) {
         Ok(checked) => checked,
         Err(fault) => return Err(Refusal::Config(fault)),
     };
@@ -104,7 +107,7 @@ fn fault_status(fault: ConfigFault) -> u32
         ConfigFault::Weight(_) => 18,
         ConfigFault::Kinds(_) => 19,
         ConfigFault::Pairs(_) => 20,
-        ConfigFault::Entries(_) => 21,
+        ConfigFault::Entries(_) | ConfigFault::LongEntries(_) => 21,
         ConfigFault::Requests(_) => 22,
         ConfigFault::Initial(_) => 23,
     }
@@ -119,6 +122,20 @@ impl Opening {
             self.entries
         } else {
             self.keep
+        }
+    }
+
+    // The configuration, where its numbers are in their limits.
+    fn checked(&self, config: Config) -> Result<Checked, ConfigFault>
+        ensures ok { IfOk result (λ checked. checked ≡ config) }
+        ensures limits { IfOk result (λ _. InLimits config) }
+        ensures short { IfOk result (λ _. self.now.keep ≡ 0 → HasShortHistory config) }
+        ensures fault { IfErr result (λ why. opening_fault self.now config ≡ Some why) }
+    {
+        if self.keep == 0 {
+            config.check()
+        } else {
+            config.check_long()
         }
     }
 

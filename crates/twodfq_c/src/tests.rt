@@ -121,3 +121,18 @@ fn the_first_cause_is_told(rt: HostRuntime) -> Result<(), Fail> {
     twodfq_free(&mut handle, rt.alloc());
     Ok(())
 }
+
+// Where one entry is kept the history may be long, and else it may not.
+#[test]
+fn a_long_history_is_not_kept_whole(rt: HostRuntime) -> Result<(), Fail> {
+    let mut handle = Handle::empty();
+    let mut opening = OPENING;
+    opening.entries = 4000000000;
+    assert_eq!(rt; twodfq_open(&mut handle, rt.alloc(), &opening, &[1]), 21);
+    opening.keep = 1;
+    assert_eq!(rt; twodfq_open(&mut handle, rt.alloc(), &opening, &[1]), 0);
+    twodfq_free(&mut handle, rt.alloc());
+    opening.entries = 4000000001;
+    assert_eq!(rt; twodfq_open(&mut handle, rt.alloc(), &opening, &[1]), 21);
+    Ok(())
+}

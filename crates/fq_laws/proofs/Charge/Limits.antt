@@ -12,7 +12,7 @@ use Rattle.fq_model.specs.Charge.{charge, taken_weight, charged, virtual_charge,
 use Rattle.fq_model.specs.Rules.{IsLegal, Fits}
 use Rattle.fq_model.specs.Sums.{count_below}
 use Rattle.vt_fixed.specs.declared.limits.TheConstants.{GREATEST_COST}
-use Rattle.fq_model.specs.declared.limits.TheConstants.{MOST_ENTRIES}
+use Rattle.fq_model.specs.declared.limits.TheConstants.{MOST_LONG_ENTRIES}
 use Rattle.fq_laws.specs.Words.{one_more, greatest_length}
 use Rattle.fq_laws.proofs.Charge.Requests.{charge_submit, charge_quiet, charge_take, charge_take_other, charge_report, charge_report_other, charge_done, charge_done_other}
 use Rattle.fq_laws.proofs.Charge.Estimates.{estimate_range}
@@ -84,5 +84,5 @@ net_charge_low C P t lim l =
     let a : net_charge P t ≤ count_below (is_taken P) request_bound * GREATEST_COST = sum_at_most (net_charged P t) (is_taken P) GREATEST_COST request_bound (λ r. net_charged_at_most C P t r lim l) in
     omega (arith, a, taken_count_low C P lim l)
 
-pub virtual_charge_within : (C : Config) (P : History) (t : ℕ) → InLimits C → IsLegal C P → virtual_charge C P t ≤ MOST_ENTRIES * greatest_length
+pub virtual_charge_within : (C : Config) (P : History) (t : ℕ) → InLimits C → IsLegal C P → virtual_charge C P t ≤ MOST_LONG_ENTRIES * greatest_length
 virtual_charge_within C P t lim l = let k = submits_low C P lim l in omega (arith, virtual_charge_low C P t lim l, k.1)

@@ -117,5 +117,5 @@ start_low C P m t lim l h = rw (start_is C P m t) (go C.policy)
     go Msf2q = omega (arith, virtual_charge_low C P t lim l, virtual_idle_time_low C P m t lim l h)
     go TwoDfq = omega (arith, virtual_charge_low C P t lim l, base_low C P t lim l)
 
-pub start_within : (C : Config) (P : History) (m t : ℕ) → InLimits C → IsLegal C P → last_moment P ≤ m → m ≤ GREATEST_MOMENT → start C P m t ≤ 10 ^ 23
+pub start_within : (C : Config) (P : History) (m t : ℕ) → InLimits C → IsLegal C P → last_moment P ≤ m → m ≤ GREATEST_MOMENT → start C P m t ≤ 10 ^ 25
 start_within C P m t lim l h b = let k = submits_low C P lim l in omega (arith, start_low C P m t lim l h, k.1)

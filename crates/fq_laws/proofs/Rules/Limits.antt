@@ -10,7 +10,7 @@ use Rattle.fq_model.specs.declared.event.Act.{Act}
 use Rattle.fq_model.specs.declared.event.Act.TheVariants.{Submit, Take}
 use Rattle.fq_model.specs.Limits.{InLimits}
 use Rattle.fq_model.specs.Sums.{count_below}
-use Rattle.fq_model.specs.declared.limits.TheConstants.{MOST_ENTRIES}
+use Rattle.fq_model.specs.declared.limits.TheConstants.{MOST_LONG_ENTRIES}
 use Rattle.fq_laws.specs.Words.{one_more}
 use Rattle.fq_laws.specs.Laws.{Room}
 use Rattle.fq_laws.proofs.Rules.Takes.{take_waits}
@@ -106,10 +106,10 @@ unfolding is_submitted request_bound
 submitted_count C [] lim l = count_zero (is_submitted []) (2 ^ 32) (λ r. refl)
 submitted_count C (e ∷ P) lim l = submitted_count_at C P e.who e.moment e.act lim l.0 l.3 (submitted_count C P lim l.0)
 
-pub entries_low : (C : Config) (P : History) → InLimits C → IsLegal C P → (length P ≤ C.entries) × (length P ≤ MOST_ENTRIES)
+pub entries_low : (C : Config) (P : History) → InLimits C → IsLegal C P → (length P ≤ C.entries) × (length P ≤ MOST_LONG_ENTRIES)
 entries_low C P lim l = let k : needs P ≤ C.entries = has_room C P lim l in (omega arith, omega (arith, lim.entries.1))
 
-pub submits_low : (C : Config) (P : History) → InLimits C → IsLegal C P → (submits P ≤ length P) × (submits P ≤ MOST_ENTRIES)
+pub submits_low : (C : Config) (P : History) → InLimits C → IsLegal C P → (submits P ≤ length P) × (submits P ≤ MOST_LONG_ENTRIES)
 submits_low C P lim l = let k = entries_low C P lim l in (submits_le_length P, omega (arith, submits_le_length P, k.1))
 
 pub taken_count_low : (C : Config) (P : History) → InLimits C → IsLegal C P → count_below (is_taken P) request_bound ≤ submits P

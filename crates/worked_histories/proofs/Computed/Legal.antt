@@ -175,7 +175,7 @@ limits_are C h =
       weights = weights_true C.weights p3.0;
       kinds = within_true 1 MOST_KINDS _ p4.0;
       pairs = leb-true _ _ p5.0;
-      entries = within_true LEAST_ENTRIES MOST_ENTRIES _ p6.0;
+      entries = let within = within_true LEAST_ENTRIES MOST_ENTRIES _ p6.0 in (within.0, omega (arith, within.1));
       requests = within_true 1 MOST_REQUESTS _ p7.0;
       initial = within_true 1 GREATEST_COST _ p7.1;
     }

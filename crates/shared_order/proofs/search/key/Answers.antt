@@ -11,7 +11,7 @@ use Rattle.shared_order.proofs.search.key.Goals as goal
 
 record Parts (finish len part : ℤ) : Type 0 where
   finish_low : pos 0 ≤ℤ finish
-  finish_high : finish ≤ℤ pos 200000001048576000000000
+  finish_high : finish ≤ℤ pos 20000000001048576000000000
   len_low : pos 0 ≤ℤ len
   len_high : len ≤ℤ pos 1048576000000000
   part_low : pos 0 ≤ℤ part
@@ -21,14 +21,14 @@ record Parts (finish len part : ℤ) : Type 0 where
 without_casts : (finish len part : ℤ) → Parts finish len part → (to_z w128 (of_z w128 (to_z w128 (of_z w128 finish) -ℤ to_z w128 (of_z w128 len))) -ℤ to_z w128 (of_z w128 part)) ≡ ((finish -ℤ len) -ℤ part)
 without_casts finish len part p = omega (arith, ints, p.finish_low, p.finish_high, p.len_low, p.len_high, p.part_low, p.part_high)
 
-small : (z : ℤ) → z ≤ℤ pos 300000000000000000000000 → pos 0 ≤ℤ (z +ℤ pos 300000000000000000000000) → FitsSigned w128 z
+small : (z : ℤ) → z ≤ℤ pos 30000000000000000000000000 → pos 0 ≤ℤ (z +ℤ pos 30000000000000000000000000) → FitsSigned w128 z
 small (pos n) high low = record { sfits = omega (arith, ints, high) }
 small (negsuc n) high low = record { sfits = omega (arith, ints, low) }
 
 fits : (finish len part : ℤ) → Parts finish len part → FitsSigned w128 ((finish -ℤ len) -ℤ part)
 fits finish len part p = small ((finish -ℤ len) -ℤ part) (omega (arith, ints, p.finish_high, p.len_low, p.part_low)) (omega (arith, ints, p.finish_low, p.len_high, p.part_high))
 
-parts : (finish len part : ℤ) (i n : ℕ) → i < n → pos 0 ≤ℤ finish → finish ≤ℤ pos 200000001048576000000000 → pos 0 ≤ℤ len → len ≤ℤ pos 1048576000000000 → part ≡ pos (part_of (unsigned_abs (to_z w128 (of_z w128 len))) i n) → Parts finish len part
+parts : (finish len part : ℤ) (i n : ℕ) → i < n → pos 0 ≤ℤ finish → finish ≤ℤ pos 20000000001048576000000000 → pos 0 ≤ℤ len → len ≤ℤ pos 1048576000000000 → part ≡ pos (part_of (unsigned_abs (to_z w128 (of_z w128 len))) i n) → Parts finish len part
 parts finish len part i n lt low high len_low len_high is =
     let same : to_z w128 (of_z w128 len) ≡ len = omega (arith, ints, len_low, len_high) in
     let part_is : part ≡ pos (part_of (unsigned_abs len) i n) = rw same at is in

@@ -1,0 +1,140 @@
+use fq_model::config::Checked;
+use fq_model::event::{Call, Reply};
+use recent_history::Recent;
+use rival_policies::plain::PlainChooser;
+use sched_state::Scheduler;
+use std::alloc::Global;
+use std::process::Abort;
+use test_samples::sample_config;
+
+// Two tenants share one worker, in a history of at most 12 entries.
+fn short_history<R: Abort>(rt: &R, alloc: Global) -> Checked {
+    let mut config = sample_config(vec![in alloc; 1, 2].expect(rt, "memory for weights"));
+    config.entries = 12;
+    config.check().expect(rt, "numbers in their limits")
+}
+
+fn submit(moment: u64, tenant: u32) -> Call {
+    Call::Submit {
+        who: 0,
+        moment,
+        tenant,
+        kind: 0,
+        declared: 5,
+        label: moment,
+    }
+}
+
+fn take(moment: u64) -> Call {
+    Call::Take {
+        who: 1,
+        moment,
+        worker: 0,
+    }
+}
+
+fn done(moment: u64) -> Call {
+    Call::Done {
+        who: 1,
+        moment,
+        worker: 0,
+        cost: 4,
+    }
+}
+
+// Three requests come, are taken and end; for a fourth there is no room, and the room left takes a close.
+fn calls() -> [Call; 12] {
+    [
+        submit(1, 0),
+        submit(2, 1),
+        take(2),
+        done(6),
+        take(7),
+        submit(8, 1),
+        done(12),
+        take(12),
+        take(13),
+        done(16),
+        submit(17, 0),
+        Call::Close { who: 0, moment: 18 },
+    ]
+}
+
+// Of the replies that come here.
+fn is_same(a: Reply, b: Reply) -> bool {
+    match (a, b) {
+        (Reply::Request(a), Reply::Request(b)) => a == b,
+        (
+            Reply::Run {
+                request,
+                estimate,
+                ..
+            },
+            Reply::Run {
+                request: r,
+                estimate: e,
+                ..
+            },
+        ) => request == r && estimate == e,
+        (Reply::Refused(a), Reply::Refused(b)) => a == b,
+        (Reply::Accepted, Reply::Accepted) => true,
+        _ => false,
+    }
+}
+
+// Each call is answered as by a scheduler that keeps all, and the last entries are told as it has them.
+fn expect_last<R: Abort>(rt: &R, alloc: Global, keep: u32) {
+    let whole = Scheduler::<u64, PlainChooser>::open(alloc, short_history(rt, alloc));
+    let recent = Recent::<u64, PlainChooser>::open(alloc, short_history(rt, alloc), keep);
+    let (Ok(mut whole), Ok(mut recent)) = (whole, recent) else {
+        panic!(rt; "no memory for schedulers")
+    };
+    for call in calls() {
+        let reply = sched_state::answer(&mut whole, call);
+        assert!(rt; is_same(recent_history::answer(&mut recent, call), reply));
+        expect_kept(rt, &whole, &recent, keep);
+    }
+    assert_eq!(rt; recent.len(), 10);
+    drop(recent);
+    drop(whole);
+}
+
+// Of these histories the last entries are told alike, and no others.
+fn expect_kept<R: Abort>(
+    rt: &R,
+    whole: &Scheduler<u64, PlainChooser>,
+    recent: &Recent<u64, PlainChooser>,
+    keep: u32,
+) {
+    let past = whole.past();
+    let first = past.len().saturating_sub(keep as usize);
+    assert_eq!(rt; recent.first_kept() as usize, first);
+    for index in 0..past.len() + 1 {
+        let wanted = if index < first {
+            None
+        } else {
+            past.get(index).copied()
+        };
+        assert!(rt; recent.entry(index as u64) == wanted);
+    }
+}
+
+#[test]
+fn none_is_kept(rt: HostRuntime) {
+    expect_last(&rt, rt.alloc(), 0);
+}
+
+#[test]
+fn one_is_kept(rt: HostRuntime) {
+    expect_last(&rt, rt.alloc(), 1);
+}
+
+#[test]
+fn four_are_kept(rt: HostRuntime) {
+    expect_last(&rt, rt.alloc(), 4);
+}
+
+#[test]
+fn more_are_kept_than_come(rt: HostRuntime) {
+    expect_last(&rt, rt.alloc(), 100);
+}

@@ -1,0 +1,115 @@
+//! Journals that are written while their scheduler runs.
+use crate::samples::expect_text;
+use eligible_index::index::IndexChooser;
+use fq_model::event::Call;
+use journal_check::checking::check;
+use journal_check::read_journal;
+use journal_text::calls::read_script;
+use journal_text::printing::{begin_journal, entry_line};
+use program_model::verdict::Verdict;
+use recent_history::{Recent, answer};
+use std::alloc::{AllocError, Global};
+use std::process::Abort;
+
+// Two requests, each of which is taken in its turn; a weight changes in between.
+const SCRIPT: &str = "script 2\nconfig 1 2dfq declared 1000 100 10\ntenant a 1\ntenant b 1\nkind get\n\
+    submit 0 0 0 0 5 7\nsubmit 0 1 1 0 30 8\ntake 9 1 0\ndone 9 6 0 5\nweight 0 6 1 4\ntake 9 6 0\n\
+    done 9 9 0 3\nclose 0 9\n";
+
+const JOURNAL: &str = "journal 2\nconfig 1 2dfq declared 1000 100 10\ntenant a 1\ntenant b 1\nkind get\n\
+    submit 0 0 0 0 0 5 7\nsubmit 0 1 1 1 0 30 8\ntake 9 1 0 0 5\ndone 9 6 0 0 5\nweight 0 6 1 4\n\
+    take 9 6 0 1 30\ndone 9 9 0 1 3\nclose 0 9\n";
+
+// How many of the last entries are kept.
+const KEPT: u32 = 3;
+
+type Kept = Recent<u64, IndexChooser>;
+
+// The log comes by: it writes the entries from this one on, and gives the number of all.
+fn read_on<R: Abort>(rt: &R, recent: &Kept, next: u64, text: &mut Vec<u8>) -> u64 {
+    let count = recent.len() as u64;
+    for index in next..count {
+        let Some(entry) = recent.entry(index) else {
+            panic!(rt; "an entry that is kept")
+        };
+        expect_added(rt, entry_line(entry, text));
+    }
+    count
+}
+
+fn expect_added<R: Abort>(rt: &R, added: Result<(), AllocError>) {
+    assert!(rt; added.is_ok());
+}
+
+// The calls are made, and a log comes by after every so many of them.
+fn streamed<R: Abort>(
+    rt: &R,
+    recent: &mut Kept,
+    calls: &[Call],
+    every: usize,
+    text: &mut Vec<u8>,
+) {
+    let mut next = 0;
+    for some in calls.chunks(every) {
+        for call in some {
+            answer(recent, *call);
+        }
+        next = read_on(rt, recent, next, text);
+    }
+}
+
+// What a log writes that comes by so often is this journal, and is legal.
+fn expect_streamed<R: Abort>(rt: &R, alloc: Global, every: usize) {
+    let Ok(script) = read_script(alloc, SCRIPT.as_bytes()) else {
+        panic!(rt; "a script")
+    };
+    let (config, tenants, kinds, calls) = script.into_parts();
+    let Ok(mut recent) = Kept::open(alloc, config, KEPT) else {
+        panic!(rt; "no memory for a scheduler")
+    };
+    let mut text = Vec::new(alloc);
+    expect_added(rt, begin_journal(alloc, recent.config(), &tenants, &kinds, &mut text));
+    streamed(rt, &mut recent, calls.as_slice(), every, &mut text);
+    expect_legal(rt, alloc, text.as_slice());
+    expect_text(rt, Ok::<Vec<u8>, AllocError>(text), JOURNAL.as_bytes());
+}
+
+fn expect_legal<R: Abort>(rt: &R, alloc: Global, text: &[u8]) {
+    let Ok(journal) = read_journal(alloc, text) else {
+        panic!(rt; "a journal")
+    };
+    let Ok(Verdict::Legal) = check::<IndexChooser>(alloc, &journal) else {
+        panic!(rt; "a legal journal")
+    };
+}
+
+#[test]
+fn a_log_that_comes_by_at_each_call(rt: HostRuntime) {
+    expect_streamed(&rt, rt.alloc(), 1);
+}
+
+#[test]
+fn a_log_that_comes_by_in_time(rt: HostRuntime) {
+    expect_streamed(&rt, rt.alloc(), 3);
+}
+
+// It is told from where on it can still read, and reads these.
+#[test]
+fn a_log_that_comes_too_late(rt: HostRuntime) {
+    let Ok(script) = read_script(rt.alloc(), SCRIPT.as_bytes()) else {
+        panic!(&rt; "a script")
+    };
+    let (config, _, _, calls) = script.into_parts();
+    let Ok(mut recent) = Kept::open(rt.alloc(), config, KEPT) else {
+        panic!(&rt; "no memory for a scheduler")
+    };
+    for call in calls.as_slice() {
+        answer(&mut recent, *call);
+    }
+    assert!(rt; recent.entry(0).is_none());
+    assert_eq!(rt; recent.first_kept(), 5);
+    let mut text = Vec::new(rt.alloc());
+    read_on(&rt, &recent, 5, &mut text);
+    let wanted = "take 9 6 0 1 30\ndone 9 9 0 1 3\nclose 0 9\n";
+    expect_text(&rt, Ok::<Vec<u8>, AllocError>(text), wanted.as_bytes());
+}
