@@ -6,7 +6,7 @@ use Rattle.command_line.specs.declared.options.OptionRow as code
 use Rattle.program_model.specs.Options.{OptionRow, Value}
 use Rattle.command_line.specs.Rows.{seen_row, or_absent}
 use Rattle.command_line.proofs.Lists.{length_map}
-use Rattle.command_line.proofs.Numbers.{with_value, with_absent}
+use Rattle.command_line.proofs.Arguments.{with_value, with_absent}
 
 -- the values that are put in, and those of the rows from place k on
 abbrev pub filled : List OptionRow → ℕ → List Value → Option (List Value)

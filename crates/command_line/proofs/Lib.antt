@@ -1,6 +1,6 @@
 pub mod Lists
 pub mod Words
-pub mod Numbers
+pub mod Arguments
 pub mod Defaults
 pub mod Ranges
 pub mod FirstWord

@@ -1,8 +1,14 @@
 -- Words that are read option by option, and what the definitions say of them as a whole.
 use Rattle.std.proofs.Common.{ℕ, suc, ◌<◌, ◌≡◌, Bool, true, false, if◌then◌else◌, List, [], ◌∷◌, map, length, Option, Some, None, option_map, unwrap_or, bytes_eq, codes, position, Bor, refl, sym, ap, ◌∙◌, arith}
 use Rattle.std.specs.List.{list_any}
+use Rattle.std.specs.Option.{option_and_then}
+use Rattle.fq_model.specs.Spelling.{is_name}
+use Rattle.program_model.specs.declared.argument.Argument.TheVariants.{Number, Name}
+use Rattle.program_model.specs.declared.name.Name as held
+use Rattle.program_model.specs.Names.{name_of}
+use Rattle.program_model.specs.Numbers.{number_of}
 use Rattle.program_model.specs.Lines.{Words}
-use Rattle.program_model.specs.Options.{Among, Given, is_equals, given_by, options_of, is_value, number_for}
+use Rattle.program_model.specs.Options.{Within, Among, Named, Given, is_equals, given_by, options_of, is_value, within, argument_for}
 use Rattle.command_line.specs.Given.{first_option, is_end}
 use Rattle.command_line.proofs.Lists.{position-map}
 
@@ -67,8 +73,20 @@ rest_shorter [] g rest e = absurd (cc)
 rest_shorter (word ∷ []) g rest e = shorter_one (list_any is_equals word) (given_by word) g rest e
 rest_shorter (word ∷ next ∷ words) g rest e = shorter_two (list_any is_equals word) (given_by word) (record { name = word; text = next }) next words g rest e
 
--- ---- the number of a value
+-- ---- what a value stands for
 
-pub number_among_words : (words : List (Bor (List ℕ))) (text : List ℕ) (place : Option ℕ) → is_value text ≡ true → place ≡ position (λ w. bytes_eq w.now text) words → number_for (Among (map (λ w. w.now) words)) text ≡ place
-unfolding number_for
-number_among_words words text place value is = rw value (position-map (λ w. bytes_eq w text) (λ w. w.now) words ∙ sym is)
+pub place_among_words : (words : List (Bor (List ℕ))) (text : List ℕ) (place : Option ℕ) → is_value text ≡ true → place ≡ position (λ w. bytes_eq w.now text) words → argument_for (Among (map (λ w. w.now) words)) text ≡ option_map (λ n. Number n) place
+unfolding argument_for
+place_among_words words text place value is = rw value (ap (option_map (λ n. Number n)) (position-map (λ w. bytes_eq w text) (λ w. w.now) words ∙ sym is))
+
+pub number_within : (low high : ℕ) (text : List ℕ) (number : Option ℕ) → is_value text ≡ true → number ≡ option_and_then (within low high) (number_of text) → argument_for (Within low high) text ≡ option_map (λ n. Number n) number
+unfolding argument_for
+number_within low high text number value is = rw value (ap (option_map (λ n. Number n)) (sym is))
+
+some_name : (b : Bool) (x : held.Name) (name : Option held.Name) → name ≡ (if b then Some x else None) → (if b then Some (Name x) else None) ≡ option_map (λ n. Name n) name
+some_name true x name is = ap (option_map (λ n. Name n)) (sym is)
+some_name false x name is = ap (option_map (λ n. Name n)) (sym is)
+
+pub name_named : (text : List ℕ) (name : Option held.Name) → is_value text ≡ true → name ≡ (if is_name text then Some (name_of text) else None) → argument_for Named text ≡ option_map (λ n. Name n) name
+unfolding argument_for
+name_named text name value is = rw value (some_name (is_name text) (name_of text) name is)

@@ -6,12 +6,16 @@ use Rattle.command_line.specs.declared.options.Values.TheVariants as values
 use Rattle.command_line.specs.declared.options.Absent as code_absent
 use Rattle.command_line.specs.declared.options.Absent.TheVariants as absent
 use Rattle.command_line.specs.declared.options.OptionRow as code_row
-use Rattle.program_model.specs.Options.{Values, Within, Among, Absent, Required, Nothing, Default, OptionRow, Value, absent_value}
+use Rattle.program_model.specs.declared.argument.Argument.{Argument}
+use Rattle.program_model.specs.declared.argument.Argument.TheVariants.{Number, Name}
+use Rattle.program_model.specs.Names.{IsName}
+use Rattle.program_model.specs.Options.{Values, Within, Among, Named, Absent, Required, Nothing, Default, OptionRow, Value, absent_value}
 
 -- what may be written as a value
 abbrev pub seen_values : code_values.Values → Values
 seen_values (values.Within low high) = Within low high
 seen_values (values.Among words) = Among (map (λ w. w.now) words.now)
+seen_values values.Named = Named
 
 -- what it means that an option is not given
 abbrev pub seen_absent : code_absent.Absent → Absent
@@ -34,20 +38,38 @@ are_distinct (row ∷ rows) = not (list_any (has_name row.name) rows) && are_dis
 
 -- the value of an option that is given, or the one that it has where it is not
 abbrev pub or_absent : OptionRow → Value → Option Value
-or_absent row (Some n) = Some (Some n)
+or_absent row (Some a) = Some (Some a)
 or_absent row None = absent_value row.values row.absent
 
--- a number may be a value
-abbrev pub IsWithin : Values → ℕ → Type 0
-IsWithin (Within low high) n = (low ≤ n) × (n ≤ high)
-IsWithin (Among words) n = Unit {0}
+-- this may be given as a value: a number from low to high, the place of a word, or a name
+abbrev pub IsWithin : Values → Argument → Type 0
+IsWithin (Within low high) (Number n) = (low ≤ n) × (n ≤ high)
+IsWithin (Among words) (Number n) = Unit {0}
+IsWithin Named (Name name) = IsName name
+IsWithin _ _ = ⊥
 
 -- an option may have this value, or none
 abbrev pub IsValueOf : OptionRow → Value → Type 0
-IsValueOf row (Some n) = IsWithin row.values n
+IsValueOf row (Some a) = IsWithin row.values a
 IsValueOf row None = row.absent ≡ Nothing
 
 -- the options may have these values, in their order
 abbrev pub AreValuesOf : List OptionRow → List Value → Type 0
 AreValuesOf (row ∷ rows) (v ∷ vs) = IsValueOf row v × AreValuesOf rows vs
 AreValuesOf _ _ = Unit {0}
+
+-- the value is a number from low to high
+abbrev pub IsNumberFrom : (low high : ℕ) → Value → Type 0
+IsNumberFrom low high (Some a) = IsWithin (Within low high) a
+IsNumberFrom low high None = ⊥
+
+-- the value, where there is one, is a number, and at most this
+abbrev pub IsAtMost : ℕ → Value → Type 0
+IsAtMost high (Some (Number n)) = n ≤ high
+IsAtMost high (Some (Name name)) = ⊥
+IsAtMost high None = Unit {0}
+
+-- the value is a name
+abbrev pub IsNameGiven : Value → Type 0
+IsNameGiven (Some (Name name)) = IsName name
+IsNameGiven _ = ⊥

@@ -1,26 +1,37 @@
 //! The commands.
-ghost use Rattle.std.specs.Prelude.{◌≡◌, ◌≤◌, IfSome, map, option_map, unwrap_or, slice_index_or};
+ghost use Rattle.std.specs.Prelude.{◌≡◌, ◌≤◌, IfSome, [], ◌∷◌, map, unwrap_or, slice_index_or};
 ghost use Rattle.std.specs.String.{string_bytes};
 ghost use Rattle.program_model.specs.Options.{command_of, command_by};
 ghost use Rattle.program_model.specs.CommandLimits.{IsInRange};
+ghost use Rattle.program_model.specs.CommandOptions.{number_given, name_given};
 ghost use Rattle.program_model.specs.Commands.{built_commands};
+ghost use Rattle.program_model.specs.Names.{IsName};
+ghost use Rattle.program_model.specs.RunLimits.{AreInRange};
+ghost use Rattle.program_model.specs.TraceCommand.{run_options_of};
 ghost use Rattle.program_model.specs.ScriptCommand.{script_row};
 ghost use Rattle.program_model.specs.RunCommand.{run_row};
 ghost use Rattle.program_model.specs.LiveCommand.{live_row};
 ghost use Rattle.program_model.specs.GenCommand.{gen_row};
 ghost use Rattle.program_model.specs.CheckCommand.{check_row};
+ghost use Rattle.program_model.specs.LeadCommand.{lead_row};
 ghost use Rattle.program_model.specs.ShapeCommand.{shape_row};
 ghost use Rattle.program_model.specs.CompareCommand.{compare_row};
-ghost use Rattle.command_line.specs.Commands.{run_by, live_by};
+ghost use Rattle.command_line.specs.Rows.{IsNumberFrom, IsAtMost, IsNameGiven};
 
 use crate::options::{Value, values_in};
 use crate::table::{
-    CHECK_OPTIONS, COMPARE_OPTIONS, ESTIMATORS, GEN_OPTIONS, GEN_PRINTS, HISTORY_PRINTS, POLICIES,
-    SCRIPT_OPTIONS, SCRIPT_PRINTS, SHAPE_OPTIONS, TRACE_OPTIONS,
+    CHECK_OPTIONS, COMPARE_OPTIONS, ESTIMATORS, GEN_OPTIONS, GEN_PRINTS, HISTORY_PRINTS,
+    LEAD_OPTIONS, LIVE_OPTIONS, POLICIES, SCRIPT_OPTIONS, SCRIPT_PRINTS, SHAPE_OPTIONS,
+    TRACE_OPTIONS,
 };
 use fq_model::config::{Estimator, Policy};
-use program_model::command::{Command, GenPrint, HistoryPrint, PlainCommand, ScriptPrint};
+use fq_model::limits::{GREATEST_COST, MOST_WORKERS};
+use program_model::argument::Argument;
+use program_model::command::{
+    Command, GenPrint, HistoryPrint, LiveOptions, PlainCommand, ScriptPrint,
+};
 use program_model::compare::CompareOptions;
+use program_model::name::Name;
 use program_model::trace::RunOptions;
 
 /// The command that words ask for, without the program's name before them. None where they are no line of the table of
@@ -36,6 +47,7 @@ pub fn command(words: &[String]) -> Option<Command>
         "live" => live_command(words),
         "gen" => gen_command(words),
         "check" => check_command(words),
+        "lead" => lead_command(words),
         "shape" => shape_command(words),
         "compare" => compare_command(words),
         _ => None,
@@ -57,11 +69,14 @@ fn run_command(words: &[String]) -> Option<Command>
     ensures asked { result ≡ command_by (map string_bytes words.now) run_row }
     ensures range { IfSome result IsInRange }
 {
-    let (options, slot, print) = history_parts(words)?;
+    let [workers, policy, estimate, initial, refresh, slot, print] = values_in::<7>(
+        &TRACE_OPTIONS,
+        words,
+    )?;
     Some(Command::Plain(PlainCommand::Run {
-        options,
-        slot,
-        print,
+        options: run_options(workers, policy, estimate, initial, refresh),
+        slot: number(slot),
+        print: choice(&HISTORY_PRINTS, print, HistoryPrint::Both),
     }))
 }
 
@@ -70,36 +85,46 @@ fn live_command(words: &[String]) -> Option<Command>
     ensures asked { result ≡ command_by (map string_bytes words.now) live_row }
     ensures range { IfSome result IsInRange }
 {
-    let (options, slot, print) = history_parts(words)?;
-    Some(Command::Live {
-        options,
+    let [
+        workers,
+        policy,
+        estimate,
+        initial,
+        refresh,
         slot,
         print,
-    })
+        watch,
+    ] = values_in::<8>(&LIVE_OPTIONS, words)?;
+    let options = LiveOptions {
+        run: run_options(workers, policy, estimate, initial, refresh),
+        slot: number(slot),
+        print: choice(&HISTORY_PRINTS, print, HistoryPrint::Both),
+        watch: number(watch) as u32,
+    };
+    Some(Command::Live { options })
 }
 
-// What `run` and `live` are asked alike, by the words after their own: the options, the slot, and what is printed.
-fn history_parts(words: &[String]) -> Option<(RunOptions, u64, HistoryPrint)>
-    ensures run { option_map run_by result ≡ command_by (map string_bytes words.now) run_row }
-    ensures live { option_map live_by result ≡ command_by (map string_bytes words.now) live_row }
-    ensures range { IfSome result (λ parts. IsInRange (run_by parts)) }
+// With what a trace is run, by the values of these options.
+fn run_options(
+    workers: Value,
+    policy: Value,
+    estimate: Value,
+    initial: Value,
+    refresh: Value,
+) -> RunOptions
+    requires workers { IsNumberFrom 1 MOST_WORKERS workers }
+    requires initial { IsNumberFrom 1 GREATEST_COST initial }
+    requires refresh { IsNumberFrom 0 GREATEST_COST refresh }
+    ensures value { result ≡ run_options_of (workers ∷ policy ∷ estimate ∷ initial ∷ refresh ∷ []) }
+    ensures range { AreInRange result }
 {
-    let [workers, policy, estimate, initial, refresh, slot, print] = values_in::<7>(
-        &TRACE_OPTIONS,
-        words,
-    )?;
-    let options = RunOptions {
-        workers: workers.unwrap_or(0) as u32,
+    RunOptions {
+        workers: number(workers) as u32,
         policy: choice(&POLICIES, policy, Policy::TwoDfq),
         estimate: choice(&ESTIMATORS, estimate, Estimator::Pessimistic),
-        initial: initial.unwrap_or(0),
-        refresh: refresh.unwrap_or(0),
-    };
-    Some((
-        options,
-        slot.unwrap_or(0),
-        choice(&HISTORY_PRINTS, print, HistoryPrint::Both),
-    ))
+        initial: number(initial),
+        refresh: number(refresh),
+    }
 }
 
 // `gen`, by the words after it.
@@ -109,9 +134,9 @@ fn gen_command(words: &[String]) -> Option<Command>
 {
     let [seed, tenants, requests, print] = values_in::<4>(&GEN_OPTIONS, words)?;
     Some(Command::Plain(PlainCommand::Gen {
-        seed: seed.unwrap_or(0),
-        tenants: tenants.unwrap_or(0) as u32,
-        requests: requests.unwrap_or(0) as u32,
+        seed: number(seed),
+        tenants: number(tenants) as u32,
+        requests: number(requests) as u32,
         print: choice(&GEN_PRINTS, print, GenPrint::Trace),
     }))
 }
@@ -128,13 +153,25 @@ fn check_command(words: &[String]) -> Option<Command>
 
 // The number of a request, if one is given.
 fn request_number(value: Value) -> Option<u32>
-    requires { IfSome value (λ n. n ≤ 4294967295) }
-    ensures { result ≡ value }
+    requires { IsAtMost 4294967295 value }
+    ensures { result ≡ number_given value }
 {
     match value {
-        Some(number) => Some(number as u32),
-        None => None,
+        Some(Argument::Number(number)) => Some(number as u32),
+        Some(Argument::Name(_)) | None => None,
     }
+}
+
+// `lead`, by the words after it.
+fn lead_command(words: &[String]) -> Option<Command>
+    ensures asked { result ≡ command_by (map string_bytes words.now) lead_row }
+    ensures range { IfSome result IsInRange }
+{
+    let [of, over] = values_in::<2>(&LEAD_OPTIONS, words)?;
+    Some(Command::Plain(PlainCommand::Lead {
+        of: name(of),
+        over: name(over),
+    }))
 }
 
 // `shape`, by the words after it.
@@ -144,8 +181,8 @@ fn shape_command(words: &[String]) -> Option<Command>
 {
     let [rate, burst] = values_in::<2>(&SHAPE_OPTIONS, words)?;
     Some(Command::Plain(PlainCommand::Shape {
-        rate: rate.unwrap_or(0),
-        burst: burst.unwrap_or(0),
+        rate: number(rate),
+        burst: number(burst),
     }))
 }
 
@@ -156,19 +193,39 @@ fn compare_command(words: &[String]) -> Option<Command>
 {
     let [workers, initial, refresh, slot] = values_in::<4>(&COMPARE_OPTIONS, words)?;
     let options = CompareOptions {
-        workers: workers.unwrap_or(0) as u32,
-        initial: initial.unwrap_or(0),
-        refresh: refresh.unwrap_or(0),
-        slot: slot.unwrap_or(0),
+        workers: number(workers) as u32,
+        initial: number(initial),
+        refresh: number(refresh),
+        slot: number(slot),
     };
     Some(Command::Compare { options })
 }
 
 // What a value stands for that is a place among these.
 fn choice<T: Copy>(all: &[T], place: Value, default: T) -> T
-    ensures { result ≡ slice_index_or all.now (unwrap_or place 0) default }
+    ensures { result ≡ slice_index_or all.now (unwrap_or (number_given place) 0) default }
 {
-    all.get(place.unwrap_or(0) as usize)
-        .copied()
-        .unwrap_or(default)
+    all.get(number(place) as usize).copied().unwrap_or(default)
+}
+
+// The number that a value is, or 0.
+fn number(value: Value) -> u64
+    ensures { result ≡ unwrap_or (number_given value) 0 }
+{
+    match value {
+        Some(Argument::Number(number)) => number,
+        Some(Argument::Name(_)) | None => 0,
+    }
+}
+
+// The name that a value is.
+fn name(value: Value) -> Name
+    requires { IsNameGiven value }
+    ensures value { result ≡ name_given value }
+    ensures is_name { IsName result }
+{
+    match value {
+        Some(Argument::Name(name)) => name,
+        Some(Argument::Number(_)) | None => unreachable!(),
+    }
 }

@@ -1,11 +1,17 @@
 //! The options of a command, and what words say of them.
-ghost use Rattle.std.specs.Prelude.{◌≡◌, IsTrue, IfSome, length, map, position, bytes_eq};
+ghost use Rattle.std.specs.Prelude.{◌≡◌, IsTrue, IfSome, if◌then◌else◌, length, map, option_and_then, position, bytes_eq, Some, None};
 ghost use Rattle.std.specs.String.{string_bytes};
-ghost use Rattle.program_model.specs.Options.{Within, is_value, number_among, number_for, absent_value, values_in};
+ghost use Rattle.fq_model.specs.Spelling.{is_name};
+ghost use Rattle.program_model.specs.Names.{name_of};
+ghost use Rattle.program_model.specs.Numbers.{number_of};
+ghost use Rattle.program_model.specs.Options.{is_value, within, argument_for, absent_value, values_in};
 ghost use Rattle.command_line.specs.Rows.{seen_values, seen_row, are_distinct, or_absent, AreValuesOf};
 
 use crate::given::{first_option, is_end};
+use program_model::argument::Argument;
+use program_model::name::Name;
 use program_model::numbers::number;
+use tenant_table::name::is_name;
 
 /// What may be written as the value of an option. It is never empty, and never begins with `-`.
 pub enum Values {
@@ -13,6 +19,8 @@ pub enum Values {
     Within { low: u64, high: u64 },
     /// One of these words, which stands for its place among them, counted from 0.
     Among(&'static [&'static str]),
+    /// A name.
+    Named,
 }
 
 /// What it means that an option is not given.
@@ -34,7 +42,7 @@ pub struct OptionRow {
 }
 
 /// The value of an option, if it has one.
-pub type Value = Option<u64>;
+pub type Value = Option<Argument>;
 
 /// The values of options, in the order of their rows, by the words after a command's own. None where the words are not
 /// just these options, each at most once, and then perhaps one `--`; where one is given that is none of its values; and
@@ -52,8 +60,8 @@ pub fn values_in<const N: usize>(rows: &[OptionRow], words: &[String]) -> Option
         if values[k].is_some() {
             return None;
         }
-        let n = rows[k].values.number_for(given.text)?;
-        values[k] = Some(n);
+        let argument = rows[k].values.argument_for(given.text)?;
+        values[k] = Some(argument);
         left = more;
     }
     if !is_end(left) {
@@ -90,22 +98,25 @@ impl OptionRow {
         match self.absent {
             Absent::Required => None,
             Absent::Nothing => Some(None),
-            Absent::Default(text) => Some(Some(self.values.number_for(text)?)),
+            Absent::Default(text) => Some(Some(self.values.argument_for(text)?)),
         }
     }
 }
 
 impl Values {
-    // The number for which a text stands, if it may be a value and is one of these.
-    fn number_for(&self, text: &str) -> Option<u64>
-        ensures { result ≡ number_for (seen_values self.now) text.now }
+    // What a text stands for, if it may be a value and is one of these.
+    fn argument_for(&self, text: &str) -> Option<Argument>
+        ensures { result ≡ argument_for (seen_values self.now) text.now }
     {
         if !is_value(text) {
             return None;
         }
         match self {
-            Values::Within { low, high } => number_within(*low, *high, text),
-            Values::Among(words) => Some(place_among(words, text)? as u64),
+            Values::Within { low, high } => {
+                Some(Argument::Number(number_within(*low, *high, text)?))
+            }
+            Values::Among(words) => Some(Argument::Number(place_among(words, text)? as u64)),
+            Values::Named => Some(Argument::Name(name(text)?)),
         }
     }
 }
@@ -122,7 +133,7 @@ fn is_value(text: &str) -> bool
 
 // The number that a text spells, if it is from low to high.
 fn number_within(low: u64, high: u64, text: &str) -> Option<u64>
-    ensures { result ≡ number_among (Within low high) text.now }
+    ensures { result ≡ option_and_then (within low high) (number_of text.now) }
 {
     let n = number(text.as_bytes())?;
     if n < low || n > high { None } else { Some(n) }
@@ -133,4 +144,14 @@ fn place_among(words: &[&str], text: &str) -> Option<usize>
     ensures { result ≡ position (λ w. bytes_eq w.now text.now) words.now }
 {
     words.iter().position(|word| *word == text)
+}
+
+// The name that a text is, if it is one.
+fn name(text: &str) -> Option<Name>
+    ensures { result ≡ (if is_name text.now then Some (name_of text.now) else None) }
+{
+    if !is_name(text.as_bytes()) {
+        return None;
+    }
+    Name::new(text)
 }

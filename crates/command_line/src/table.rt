@@ -6,7 +6,7 @@ use fq_model::limits::{
     GREATEST_BURST, GREATEST_COST, GREATEST_RATE, GREATEST_SLOT, MOST_ROWS, MOST_TENANTS,
     MOST_WORKERS,
 };
-use program_model::command::{GenPrint, HistoryPrint, ScriptPrint};
+use program_model::command::{GenPrint, HistoryPrint, MOST_READINGS, ScriptPrint};
 
 /// The policies, in the order of the words for them.
 pub const POLICIES: [Policy; 4] = [Policy::Wfq, Policy::Wf2q, Policy::Msf2q, Policy::TwoDfq];
@@ -43,55 +43,33 @@ pub const SCRIPT_OPTIONS: [OptionRow; 1] = [OptionRow {
     absent: Absent::Default("replies"),
 }];
 
-/// The options of `run` and `live`. Costs and the slot are microseconds; refresh 0 asks for no reports, and slot 0 for the
-/// automatic slot.
+/// The options of `run`.
 pub const TRACE_OPTIONS: [OptionRow; 7] = [
+    WORKERS,
+    POLICY,
+    ESTIMATE,
+    INITIAL,
+    REFRESH,
+    SLOT,
+    HISTORY_PRINT,
+];
+
+/// The options of `live`: those of `run`, and how many times the status is read.
+pub const LIVE_OPTIONS: [OptionRow; 8] = [
+    WORKERS,
+    POLICY,
+    ESTIMATE,
+    INITIAL,
+    REFRESH,
+    SLOT,
+    HISTORY_PRINT,
     OptionRow {
-        name: "--workers",
-        values: Values::Within {
-            low: 1,
-            high: MOST_WORKERS as u64,
-        },
-        absent: Absent::Default("4"),
-    },
-    OptionRow {
-        name: "--policy",
-        values: Values::Among(&["wfq", "wf2q", "msf2q", "2dfq"]),
-        absent: Absent::Default("2dfq"),
-    },
-    OptionRow {
-        name: "--estimate",
-        values: Values::Among(&["declared", "recent", "pessimistic"]),
-        absent: Absent::Default("pessimistic"),
-    },
-    OptionRow {
-        name: "--initial",
-        values: Values::Within {
-            low: 1,
-            high: GREATEST_COST,
-        },
-        absent: Absent::Default("1000"),
-    },
-    OptionRow {
-        name: "--refresh",
+        name: "--watch",
         values: Values::Within {
             low: 0,
-            high: GREATEST_COST,
-        },
-        absent: Absent::Default("10000"),
-    },
-    OptionRow {
-        name: "--slot",
-        values: Values::Within {
-            low: 0,
-            high: GREATEST_SLOT,
+            high: MOST_READINGS as u64,
         },
         absent: Absent::Default("0"),
-    },
-    OptionRow {
-        name: "--print",
-        values: Values::Among(&["journal", "report", "both", "summary"]),
-        absent: Absent::Default("both"),
     },
 ];
 
@@ -138,6 +116,20 @@ pub const CHECK_OPTIONS: [OptionRow; 1] = [OptionRow {
     absent: Absent::Nothing,
 }];
 
+/// The options of `lead`: whose lead it is, and over whom.
+pub const LEAD_OPTIONS: [OptionRow; 2] = [
+    OptionRow {
+        name: "--of",
+        values: Values::Named,
+        absent: Absent::Required,
+    },
+    OptionRow {
+        name: "--over",
+        values: Values::Named,
+        absent: Absent::Required,
+    },
+];
+
 /// The options of `shape`. The rate is in tokens that a tenant of weight 1 gains in 1000 microseconds, the burst in tokens.
 pub const SHAPE_OPTIONS: [OptionRow; 2] = [
     OptionRow {
@@ -159,37 +151,64 @@ pub const SHAPE_OPTIONS: [OptionRow; 2] = [
 ];
 
 /// The options of `compare`, as in `run`.
-pub const COMPARE_OPTIONS: [OptionRow; 4] = [
-    OptionRow {
-        name: "--workers",
-        values: Values::Within {
-            low: 1,
-            high: MOST_WORKERS as u64,
-        },
-        absent: Absent::Default("4"),
+pub const COMPARE_OPTIONS: [OptionRow; 4] = [WORKERS, INITIAL, REFRESH, SLOT];
+
+// What several commands ask alike.
+
+// How many workers there are.
+const WORKERS: OptionRow = OptionRow {
+    name: "--workers",
+    values: Values::Within {
+        low: 1,
+        high: MOST_WORKERS as u64,
     },
-    OptionRow {
-        name: "--initial",
-        values: Values::Within {
-            low: 1,
-            high: GREATEST_COST,
-        },
-        absent: Absent::Default("1000"),
+    absent: Absent::Default("4"),
+};
+
+const POLICY: OptionRow = OptionRow {
+    name: "--policy",
+    values: Values::Among(&["wfq", "wf2q", "msf2q", "2dfq"]),
+    absent: Absent::Default("2dfq"),
+};
+
+const ESTIMATE: OptionRow = OptionRow {
+    name: "--estimate",
+    values: Values::Among(&["declared", "recent", "pessimistic"]),
+    absent: Absent::Default("pessimistic"),
+};
+
+// The estimate before any completion, in microseconds.
+const INITIAL: OptionRow = OptionRow {
+    name: "--initial",
+    values: Values::Within {
+        low: 1,
+        high: GREATEST_COST,
     },
-    OptionRow {
-        name: "--refresh",
-        values: Values::Within {
-            low: 0,
-            high: GREATEST_COST,
-        },
-        absent: Absent::Default("10000"),
+    absent: Absent::Default("1000"),
+};
+
+// In microseconds; 0 asks for no reports.
+const REFRESH: OptionRow = OptionRow {
+    name: "--refresh",
+    values: Values::Within {
+        low: 0,
+        high: GREATEST_COST,
     },
-    OptionRow {
-        name: "--slot",
-        values: Values::Within {
-            low: 0,
-            high: GREATEST_SLOT,
-        },
-        absent: Absent::Default("0"),
+    absent: Absent::Default("10000"),
+};
+
+// In microseconds; 0 asks for the automatic slot.
+const SLOT: OptionRow = OptionRow {
+    name: "--slot",
+    values: Values::Within {
+        low: 0,
+        high: GREATEST_SLOT,
     },
-];
+    absent: Absent::Default("0"),
+};
+
+const HISTORY_PRINT: OptionRow = OptionRow {
+    name: "--print",
+    values: Values::Among(&["journal", "report", "both", "summary"]),
+    absent: Absent::Default("both"),
+};

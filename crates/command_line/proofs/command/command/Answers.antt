@@ -31,6 +31,11 @@ returns-in-check-clause-asked c =
     let named = command_named built_commands c.args.words.now c.in_ok-word.word.now c.in_ok-word.words.now _ c.in_ok-word.ensures.cases.0 (sym c.as_str.ensures.value ∙ c.in-check.is) in
     c.check_command.ensures.asked ∙ sym named
 
+pub returns-in-lead-clause-asked : goal.returns-in-lead-clause-asked
+returns-in-lead-clause-asked c =
+    let named = command_named built_commands c.args.words.now c.in_ok-word.word.now c.in_ok-word.words.now _ c.in_ok-word.ensures.cases.0 (sym c.as_str.ensures.value ∙ c.in-lead.is) in
+    c.lead_command.ensures.asked ∙ sym named
+
 pub returns-in-shape-clause-asked : goal.returns-in-shape-clause-asked
 returns-in-shape-clause-asked c =
     let named = command_named built_commands c.args.words.now c.in_ok-word.word.now c.in_ok-word.words.now _ c.in_ok-word.ensures.cases.0 (sym c.as_str.ensures.value ∙ c.in-shape.is) in
@@ -50,6 +55,7 @@ returns-in_default-clause-asked c =
     let live = rw value at c.in_default.not-live in
     let gen = rw value at c.in_default.not-gen in
     let check = rw value at c.in_default.not-check in
+    let lead = rw value at c.in_default.not-lead in
     let shape = rw value at c.in_default.not-shape in
     let compare = rw value at c.in_default.not-compare in
-    sym (rw (other_word _ _ script, other_word _ _ run, other_word _ _ live, other_word _ _ gen, other_word _ _ check, other_word _ _ shape, other_word _ _ compare) at first)
+    sym (rw (other_word _ _ script, other_word _ _ run, other_word _ _ live, other_word _ _ gen, other_word _ _ check, other_word _ _ lead, other_word _ _ shape, other_word _ _ compare) at first)

@@ -12,4 +12,4 @@ returns-in_err-workers-clause-asked c =
 pub returns-clause-asked : goal.returns-clause-asked
 returns-clause-asked c =
     let values : c.values_in.result ≡ values_in compare_options (map string_bytes c.args.words.now) = c.values_in.ensures.values in
-    rw (c.unwrap_or.ensures, c.unwrap_or-2.ensures, c.unwrap_or-3.ensures, c.unwrap_or-4.ensures) (ap (option_map compare_of_values) (sym c.in_ok-workers.was ∙ values))
+    rw (c.number.ensures, c.number-2.ensures, c.number-3.ensures, c.number-4.ensures) (ap (option_map compare_of_values) (sym c.in_ok-workers.was ∙ values))

@@ -3,12 +3,13 @@ use Rattle.std.proofs.Math.ListN.{set, length-set, get_or-map}
 use Rattle.std.proofs.lemmas.List.{length-replicate}
 use Rattle.std.specs.String.{string_bytes}
 use Rattle.command_line.specs.declared.options.OptionRow as code
-use Rattle.program_model.specs.Options.{Within, Required, OptionRow, number_for}
+use Rattle.program_model.specs.declared.argument.Argument.{Argument}
+use Rattle.program_model.specs.Options.{Within, Required, OptionRow, argument_for}
 use Rattle.command_line.specs.Given.{seen_given}
 use Rattle.command_line.specs.Rows.{seen_row, has_name}
 use Rattle.command_line.proofs.Lists.{length_map, position-map}
 use Rattle.command_line.proofs.Words.{rest_shorter}
-use Rattle.command_line.proofs.Numbers.{after_start, after_unknown, after_twice, after_bad, after_step, after_end, with_absent}
+use Rattle.command_line.proofs.Arguments.{after_start, after_unknown, after_twice, after_bad, after_step, after_end, with_absent}
 use Rattle.command_line.proofs.Defaults.{filled_start, filled_more, filled_stop, filled_all}
 use Rattle.command_line.proofs.Ranges.{values_in-range}
 use Rattle.command_line.proofs.options.values_in.Goals as goal
@@ -21,9 +22,9 @@ no_option = record { name = []; values = Within 0 0; absent = Required }
 place_seen : (rows : List code.OptionRow) (name : List ℕ) (found place : Option ℕ) → found ≡ position (λ row. has_name name (seen_row row)) rows → found ≡ place → position (has_name name) (map seen_row rows) ≡ place
 place_seen rows name found place is was = position-map (has_name name) seen_row rows ∙ (sym is ∙ was)
 
--- the number for which a text stands at a row, as the definitions see it
-number_seen : (rows : List code.OptionRow) (k : ℕ) (d : code.OptionRow) (text : List ℕ) (found number : Option ℕ) → found ≡ number_for (seen_row (get_or rows k d)).values text → found ≡ number → number_for (get_or (map seen_row rows) k (seen_row d)).values text ≡ number
-number_seen rows k d text found number is was = ap (λ row. number_for row.values text) (get_or-map seen_row rows k d) ∙ (sym is ∙ was)
+-- what a text stands for at a row, as the definitions see it
+argument_seen : (rows : List code.OptionRow) (k : ℕ) (d : code.OptionRow) (text : List ℕ) (found argument : Option Argument) → found ≡ argument_for (seen_row (get_or rows k d)).values text → found ≡ argument → argument_for (get_or (map seen_row rows) k (seen_row d)).values text ≡ argument
+argument_seen rows k d text found argument is was = ap (λ row. argument_for row.values text) (get_or-map seen_row rows k d) ∙ (sym is ∙ was)
 
 pub loop-given-init : goal.loop-given-init
 loop-given-init g c =
@@ -45,14 +46,14 @@ returns-then-is_some-clause-values g c =
     let twice = after_twice (map seen_row c.args.rows.now) c.loop-given.values (map string_bytes c.loop-given.left.now) given (map string_bytes c.in-Some.more.now) c.in_ok-k.k no_option (sym c.in-Some.ensures) place long (sym c.if-is_some.ensures) in
     sym (c.loop-given.invariant.1 ∙ twice)
 
-pub returns-in_err-n-clause-values : goal.returns-in_err-n-clause-values
-returns-in_err-n-clause-values g c =
+pub returns-in_err-argument-clause-values : goal.returns-in_err-argument-clause-values
+returns-in_err-argument-clause-values g c =
     let given = seen_given c.in-Some.given in
     let place = place_seen c.args.rows.now given.name c.place_of.result (Some c.in_ok-k.k) c.place_of.ensures c.in_ok-k.was in
-    let number = number_seen c.args.rows.now c.in_ok-k.k _ given.text c.number_for.result None c.number_for.ensures c.in_err-n.was in
+    let argument = argument_seen c.args.rows.now c.in_ok-k.k _ given.text c.argument_for.result None c.argument_for.ensures c.in_err-argument.was in
     let long : length c.loop-given.values ≡ length (map seen_row c.args.rows.now) = omega (arith, length_map seen_row c.args.rows.now) in
-    let bad = after_bad (map seen_row c.args.rows.now) c.loop-given.values (map string_bytes c.loop-given.left.now) given (map string_bytes c.in-Some.more.now) c.in_ok-k.k _ (sym c.in-Some.ensures) place long number in
-    c.from_residual-in_err-n.ensures ∙ sym (c.loop-given.invariant.1 ∙ bad)
+    let bad = after_bad (map seen_row c.args.rows.now) c.loop-given.values (map string_bytes c.loop-given.left.now) given (map string_bytes c.in-Some.more.now) c.in_ok-k.k _ (sym c.in-Some.ensures) place long argument in
+    c.from_residual-in_err-argument.ensures ∙ sym (c.loop-given.invariant.1 ∙ bad)
 
 pub loop-given-smaller : goal.loop-given-smaller
 loop-given-smaller g c =
@@ -65,10 +66,10 @@ pub loop-given-preserved : goal.loop-given-preserved
 loop-given-preserved g c =
     let given = seen_given c.in-Some.given in
     let place = place_seen c.args.rows.now given.name c.place_of.result (Some c.in_ok-k.k) c.place_of.ensures c.in_ok-k.was in
-    let number = number_seen c.args.rows.now c.in_ok-k.k _ given.text c.number_for.result (Some c.in_ok-n.n) c.number_for.ensures c.in_ok-n.was in
+    let argument = argument_seen c.args.rows.now c.in_ok-k.k _ given.text c.argument_for.result (Some c.in_ok-argument.argument) c.argument_for.ensures c.in_ok-argument.was in
     let long : length c.loop-given.values ≡ length (map seen_row c.args.rows.now) = omega (arith, length_map seen_row c.args.rows.now) in
-    let step = after_step (map seen_row c.args.rows.now) c.loop-given.values (map string_bytes c.loop-given.left.now) given (map string_bytes c.in-Some.more.now) c.in_ok-k.k _ c.in_ok-n.n (sym c.in-Some.ensures) c.requires.distinct place long (sym c.if-is_some.ensures) number in
-    (length-set c.loop-given.values c.in_ok-k.k (Some c.in_ok-n.n) ∙ c.loop-given.invariant.0, c.loop-given.invariant.1 ∙ step)
+    let step = after_step (map seen_row c.args.rows.now) c.loop-given.values (map string_bytes c.loop-given.left.now) given (map string_bytes c.in-Some.more.now) c.in_ok-k.k _ c.in_ok-argument.argument (sym c.in-Some.ensures) c.requires.distinct place long (sym c.if-is_some.ensures) argument in
+    (length-set c.loop-given.values c.in_ok-k.k (Some c.in_ok-argument.argument) ∙ c.loop-given.invariant.0, c.loop-given.invariant.1 ∙ step)
 
 pub loop-k-init : goal.loop-k-init
 loop-k-init g c =

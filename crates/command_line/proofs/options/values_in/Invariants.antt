@@ -2,7 +2,7 @@ use Rattle.std.proofs.Common.{◌≡◌, map, length}
 use Rattle.std.specs.String.{string_bytes}
 use Rattle.program_model.specs.Options.{values_in}
 use Rattle.command_line.specs.Rows.{seen_row}
-use Rattle.command_line.proofs.Numbers.{values_after}
+use Rattle.command_line.proofs.Arguments.{values_after}
 use Rattle.command_line.proofs.Defaults.{filled}
 use Rattle.command_line.proofs.options.values_in.Given as goal
 

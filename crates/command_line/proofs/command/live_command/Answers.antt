@@ -1,0 +1,15 @@
+use Rattle.std.proofs.Common.{◌≡◌, map, option_map, sym, ap, ◌∙◌}
+use Rattle.std.specs.String.{string_bytes}
+use Rattle.program_model.specs.Options.{values_in}
+use Rattle.program_model.specs.LiveCommand.{live_options, live_of_values}
+use Rattle.command_line.proofs.command.live_command.Goals as goal
+
+pub returns-in_err-workers-clause-asked : goal.returns-in_err-workers-clause-asked
+returns-in_err-workers-clause-asked c =
+    let values : c.values_in.result ≡ values_in live_options (map string_bytes c.args.words.now) = c.values_in.ensures.values in
+    c.from_residual.ensures ∙ ap (option_map live_of_values) (sym c.in_err-workers.was ∙ values)
+
+pub returns-clause-asked : goal.returns-clause-asked
+returns-clause-asked c =
+    let values : c.values_in.result ≡ values_in live_options (map string_bytes c.args.words.now) = c.values_in.ensures.values in
+    rw (c.run_options.ensures.value, c.number.ensures, c.choice.ensures, c.number-2.ensures) (ap (option_map live_of_values) (sym c.in_ok-workers.was ∙ values))
