@@ -3,10 +3,10 @@
 use crate::options::{Absent, OptionRow, Values};
 use fq_model::config::{Estimator, Policy};
 use fq_model::limits::{
-    GREATEST_BURST, GREATEST_COST, GREATEST_RATE, GREATEST_SLOT, MOST_ROWS, MOST_TENANTS,
+    GREATEST_BURST, GREATEST_COST, GREATEST_RATE, GREATEST_SLOT, MOST_ROWS, MOST_STATUSES, MOST_TENANTS,
     MOST_WORKERS,
 };
-use program_model::command::{GenPrint, HistoryPrint, MOST_READINGS, ScriptPrint};
+use program_model::command::{GenPrint, HistoryPrint, ScriptPrint};
 
 /// The policies, in the order of the words for them.
 pub const POLICIES: [Policy; 4] = [Policy::Wfq, Policy::Wf2q, Policy::Msf2q, Policy::TwoDfq];
@@ -67,7 +67,7 @@ pub const LIVE_OPTIONS: [OptionRow; 8] = [
         name: "--watch",
         values: Values::Within {
             low: 0,
-            high: MOST_READINGS as u64,
+            high: MOST_STATUSES as u64,
         },
         absent: Absent::Default("0"),
     },
