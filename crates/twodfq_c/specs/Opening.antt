@@ -8,7 +8,7 @@ use Rattle.fq_model.specs.declared.config.Estimator.{Estimator}
 use Rattle.fq_model.specs.declared.config.Estimator.TheVariants as estimator
 use Rattle.fq_model.specs.declared.config.ConfigFault.{ConfigFault}
 use Rattle.fq_model.specs.declared.config.ConfigFault.TheVariants as fault
-use Rattle.fq_model.specs.Limits.{InLimits, HasShortHistory, config_fault, long_config_fault}
+use Rattle.fq_model.specs.Limits.{InLimits, config_fault, long_config_fault}
 use Rattle.twodfq_c.specs.declared.opening.Opening.{Opening}
 use Rattle.twodfq_c.specs.declared.opening.Refusal.{Refusal}
 use Rattle.twodfq_c.specs.declared.opening.Refusal.TheVariants as refusal
@@ -77,13 +77,12 @@ WhyRefused o weights why = unnamed_number o ≡ Some why
 abbrev pub kept_of : Opening → ℕ
 kept_of o = if o.keep == 0 || nat_lt o.entries o.keep then o.entries else o.keep
 
--- a scheduler of this configuration, whose numbers are in their limits, with no entries, which keeps the last so many; its
--- history is a short one where it keeps all because none were asked for
+-- a scheduler of this configuration, which has no fault, with no entries, which keeps the last so many
 pub record HoldsOpened (o : Opening) (weights : List ℕ) (new : Held) : Type 0 where
   pub config : Config
   pub config_is : IsConfigOf o weights config
   pub in_limits : InLimits config
-  pub short : o.keep ≡ 0 → HasShortHistory config
+  pub faultless : opening_fault o config ≡ None
   pub held : new ≡ Some (record {
     scheduler = record { config = config; past = []; jobs = map.empty };
     keep = kept_of o;

@@ -1,7 +1,7 @@
 //! Opening a scheduler from plain numbers.
 ghost use Rattle.std.specs.Prelude.{◌≡◌, ◌≤◌, IfOk, IfErr, IfSome, IfNone, Some, None};
 ghost use Rattle.twodfq_c.specs.declared.opening.Refusal.TheVariants as refusal;
-ghost use Rattle.fq_model.specs.Limits.{InLimits, HasShortHistory};
+ghost use Rattle.fq_model.specs.Limits.{InLimits};
 ghost use Rattle.twodfq_c.specs.Opening.{OpensWith, HoldsOpened, IsConfigOf, WhyRefused, unnamed_number, kept_of};
 ghost use Rattle.twodfq_c.specs.Opening.{opening_fault};
 ghost use Rattle.twodfq_c.specs.Opening.{status, fault_status, policy_number, estimator_number};
@@ -128,8 +128,8 @@ impl Opening {
     // The configuration, where its numbers are in their limits.
     fn checked(&self, config: Config) -> Result<Checked, ConfigFault>
         ensures ok { IfOk result (λ checked. checked ≡ config) }
+        ensures sound { IfOk result (λ _. opening_fault self.now config ≡ None) }
         ensures limits { IfOk result (λ _. InLimits config) }
-        ensures short { IfOk result (λ _. self.now.keep ≡ 0 → HasShortHistory config) }
         ensures fault { IfErr result (λ why. opening_fault self.now config ≡ Some why) }
     {
         if self.keep == 0 {
