@@ -37,6 +37,15 @@ impl Trace {
         }
     }
 
+    /// The tenants and the kinds, where the requests are needed no more.
+    pub fn into_names(self) -> (Tenants, Kinds)
+        ensures names { names_of result.0 ≡ self.tenants }
+        ensures weights { weights_of result.0 ≡ self.weights }
+        ensures kinds { result.1 ≡ self.kinds }
+    {
+        (self.tenants, self.kinds)
+    }
+
     /// The tenants.
     pub fn tenants(&self) -> &Tenants
         ensures names { names_of result.now ≡ self.now.tenants }
