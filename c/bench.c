@@ -127,7 +127,7 @@ int main(void) {
         uint32_t tenants = sizes[i][0], workers = sizes[i][1];
         draw_calls(tenants, workers);
         double bare = time_calls(tenants, workers, NULL), locked = time_calls(tenants, workers, &lock);
-        printf("%u tenants, %u workers: %.0f ns a call, %.0f with a mutex\n", tenants, workers, bare, locked);
+        printf("| %u | %u | %.0f | %.0f |\n", tenants, workers, bare, locked);
     }
-    printf("a call that is refused at once: %.1f ns\n", time_refusals());
+    printf("\nA call that is refused at once: %.0f.\n", time_refusals());
 }

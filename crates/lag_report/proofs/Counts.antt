@@ -9,7 +9,7 @@ use Rattle.fq_model.specs.declared.event.Act.TheVariants.{Submit, Take, Report, 
 use Rattle.fq_model.specs.declared.fluid.FluidRow.{FluidRow}
 use Rattle.fq_model.specs.declared.fluid.Change.{Change}
 use Rattle.fq_model.specs.declared.fluid.What.TheVariants as changed
-use Rattle.fq_model.specs.Limits.{InLimits}
+use Rattle.fq_model.specs.Limits.{InLimits, HasShortHistory}
 use Rattle.fq_model.specs.History.{History, submits, waiting, running}
 use Rattle.fq_model.specs.Time.{last_moment}
 use Rattle.fq_model.specs.Rules.{IsLegal, Fits}
@@ -58,11 +58,11 @@ counted : (C : Config) (H : History) → InLimits C → IsLegal C H → Counted 
 counted C [] lim l = record { all = omega (arith, waiting_none, running_none); entries = omega (arith, running_none) }
 counted C (e ∷ P) lim l = counted_at C P e.who e.moment e.act (rows_of P) lim l.0 l.3 (counted C P lim l.0)
 
-pub submits_few : (C : Config) (H : History) → InLimits C → IsLegal C H → submits H ≤ 2000000
-submits_few C H lim l = let n = counted C H lim l in omega (arith, n.all, n.entries, has_room C H lim l, lim.entries.1)
+pub submits_few : (C : Config) (H : History) → InLimits C → HasShortHistory C → IsLegal C H → submits H ≤ 2000000
+submits_few C H lim short l = let n = counted C H lim l in omega (arith, n.all, n.entries, has_room C H lim l, short)
 
-pub rows_few : (C : Config) (H : History) → InLimits C → IsLegal C H → length (rows_of H) ≤ 2000000
-rows_few C H lim l = let n = counted C H lim l in omega (arith, n.all, submits_few C H lim l)
+pub rows_few : (C : Config) (H : History) → InLimits C → HasShortHistory C → IsLegal C H → length (rows_of H) ≤ 2000000
+rows_few C H lim short l = let n = counted C H lim l in omega (arith, n.all, submits_few C H lim short l)
 
 row_in : (C : Config) (P : History) (m : ℕ) (a : Act) (rows : List FluidRow) → IsLegal C P → Fits C P m a → All (IsRowOf (length C.weights)) rows → All (IsRowOf (length C.weights)) (rows_after (courses_of P) a rows)
 row_in C P m (Done w q cost) rows l f ih =

@@ -1,5 +1,5 @@
 //! What a history says of its requests and of its changes.
-ghost use Rattle.std.specs.Prelude.{◌≡◌, ◌<◌, length, IfOk, OnOk, not, position};
+ghost use Rattle.std.specs.Prelude.{◌≡◌, ◌<◌, ◌++◌, ◌∷◌, [], length, IfOk, OnOk, not, position};
 ghost use Rattle.fq_model.specs.History.{history_of};
 ghost use Rattle.fq_model.specs.Fluid.{changes_of, with_change};
 ghost use Rattle.lag_report.specs.Courses.{NamesOneOf, NamesSubmitted, courses_after, courses_of, rows_after, rows_of, submitted};
@@ -7,11 +7,14 @@ ghost use Rattle.lag_report.specs.Courses.{NamesOneOf, NamesSubmitted, courses_a
 use crate::course::Course;
 use fq_model::event::{Act, Entry};
 use fq_model::fluid::{Change, FluidRow, What};
+use ghost_list::GhostList;
 use std::alloc::{AllocError, Global};
 
 /// What a history says of its requests, and of weights and the number of workers that change.
 #[derive(Drop)]
 pub struct Contents {
+    /// The entries, which proofs alone know here.
+    pub past: GhostList<Entry>,
     /// The courses of the requests, by number.
     pub courses: Vec<Course>,
     /// The requests that are done, in the order of their Dones.
@@ -24,6 +27,7 @@ impl Contents {
     // Takes in one entry more.
     fn add(&mut self, entry: Entry) -> Result<(), AllocError>
         requires { NamesOneOf (length self.old.courses.items) entry.act }
+        ensures past { OnOk result (self.new.past.items ≡ self.old.past.items ++ entry ∷ []) }
         ensures courses { OnOk result (self.new.courses.items
             ≡ courses_after entry.moment entry.act self.old.courses.items) }
         ensures rows { OnOk result (self.new.rows.items
@@ -31,6 +35,7 @@ impl Contents {
         ensures changes { OnOk result (self.new.changes.items
             ≡ with_change entry.moment entry.act self.old.changes.items) }
     {
+        self.past = self.past.and(&entry);
         let moment = entry.moment;
         match entry.act {
             Act::Submit { tenant, .. } => self.courses.push(submitted(tenant, moment))?,
@@ -78,11 +83,13 @@ fn submitted(tenant: u32, submit: u64) -> Course
 /// What the entries, in order of time, say.
 pub fn read(alloc: Global, past: &[Entry]) -> Result<Contents, AllocError>
     requires { NamesSubmitted (history_of past.now) }
+    ensures past { IfOk result (λ r. r.past.items ≡ past.now) }
     ensures courses { IfOk result (λ r. r.courses.items ≡ courses_of (history_of past.now)) }
     ensures rows { IfOk result (λ r. r.rows.items ≡ rows_of (history_of past.now)) }
     ensures changes { IfOk result (λ r. r.changes.items ≡ changes_of (history_of past.now)) }
 {
     let mut contents = Contents {
+        past: GhostList::new(),
         courses: Vec::new(alloc),
         rows: Vec::new(alloc),
         changes: Vec::new(alloc),

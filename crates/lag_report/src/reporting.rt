@@ -1,8 +1,10 @@
 //! The report of a history.
-ghost use Rattle.std.specs.Prelude.{◌≡◌, ◌≤◌, IfOk, IfErr, None};
+ghost use Rattle.std.specs.Prelude.{◌≡◌, ◌≤◌, length, IfOk, IfErr, None};
 ghost use Rattle.fq_model.specs.History.{history_of};
+ghost use Rattle.fq_model.specs.Limits.{HasShortHistory};
 ghost use Rattle.fq_model.specs.Rules.{IsLegal};
 ghost use Rattle.fq_model.specs.Fluid.{changes_of};
+ghost use Rattle.fq_model.specs.Time.{last_moment};
 ghost use Rattle.fq_model.specs.Report.{lag_report};
 ghost use Rattle.lag_report.specs.Courses.{courses_of, rows_of};
 ghost use Rattle.lag_report.specs.Reports.{report_refusal, IsReason};
@@ -13,7 +15,7 @@ use crate::lines::lines;
 use crate::parts::Report;
 use crate::reading::{Contents, read, unfinished};
 use fluid_reference::owned::by_tenant;
-use fluid_reference::slots::slots;
+use fluid_reference::slots::last_slots;
 use fq_model::config::Checked;
 use fq_model::event::Entry;
 use fq_model::limits::GREATEST_SLOT;
@@ -29,6 +31,7 @@ pub fn report(
     slot: u64,
 ) -> Result<Report, ReportFault>
     requires legal { IsLegal config.now (history_of past.now) }
+    requires room { HasShortHistory config.now }
     requires positive { 1 ≤ slot }
     requires short { slot ≤ GREATEST_SLOT }
     ensures report { IfOk result (λ r. r ≡ lag_report config.now (history_of past.now) slot) }
@@ -36,28 +39,59 @@ pub fn report(
     ensures reason { IfErr result (λ fault. IsReason fault (report_refusal config.now (history_of past.now) slot)) }
 {
     let mut contents = read(alloc, past)?;
-    let report = report_of(alloc, past, &mut contents, config, slot);
+    let (end, entries) = (last_moment(past), past.len() as u64);
+    let report = report_of(alloc, &mut contents, end, entries, config, slot);
     drop(contents);
     report
 }
 
-// The same, where the history says this. Takes its courses.
-fn report_of(
+/// The same of entries that nobody needs afterwards. They are given up once they are read, before what a report needs by
+/// slot is made.
+pub fn last_report(
     alloc: Global,
-    past: &[Entry],
-    contents: &mut Contents,
+    past: Vec<Entry>,
     config: &Checked,
     slot: u64,
 ) -> Result<Report, ReportFault>
-    requires legal { IsLegal config.now (history_of past.now) }
+    requires legal { IsLegal config.now (history_of past.items) }
+    requires room { HasShortHistory config.now }
     requires positive { 1 ≤ slot }
     requires short { slot ≤ GREATEST_SLOT }
-    requires courses { contents.old.courses.items ≡ courses_of (history_of past.now) }
-    requires rows { contents.old.rows.items ≡ rows_of (history_of past.now) }
-    requires changes { contents.old.changes.items ≡ changes_of (history_of past.now) }
-    ensures report { IfOk result (λ r. r ≡ lag_report config.now (history_of past.now) slot) }
-    ensures sound { IfOk result (λ _. report_refusal config.now (history_of past.now) slot ≡ None) }
-    ensures reason { IfErr result (λ fault. IsReason fault (report_refusal config.now (history_of past.now) slot)) }
+    ensures report { IfOk result (λ r. r ≡ lag_report config.now (history_of past.items) slot) }
+    ensures sound { IfOk result (λ _. report_refusal config.now (history_of past.items) slot ≡ None) }
+    ensures reason { IfErr result (λ fault. IsReason fault (report_refusal config.now (history_of past.items) slot)) }
+{
+    let mut contents = read(alloc, past.as_slice())?;
+    let (end, entries) = (last_moment(past.as_slice()), past.len() as u64);
+    drop(past);
+    let report = report_of(alloc, &mut contents, end, entries, config, slot);
+    drop(contents);
+    report
+}
+
+// The same of the entries that say this, of which so many are, up to this moment. Takes the courses and the completed
+// requests.
+fn report_of(
+    alloc: Global,
+    contents: &mut Contents,
+    end: u64,
+    entries: u64,
+    config: &Checked,
+    slot: u64,
+) -> Result<Report, ReportFault>
+    requires legal { IsLegal config.now (history_of contents.old.past.items) }
+    requires room { HasShortHistory config.now }
+    requires positive { 1 ≤ slot }
+    requires short { slot ≤ GREATEST_SLOT }
+    requires courses { contents.old.courses.items ≡ courses_of (history_of contents.old.past.items) }
+    requires rows { contents.old.rows.items ≡ rows_of (history_of contents.old.past.items) }
+    requires changes { contents.old.changes.items ≡ changes_of (history_of contents.old.past.items) }
+    requires end { end ≡ last_moment (history_of contents.old.past.items) }
+    requires entries { entries ≡ length contents.old.past.items }
+    ensures report { IfOk result (λ r. r ≡ lag_report config.now (history_of contents.old.past.items) slot) }
+    ensures sound { IfOk result (λ _. report_refusal config.now (history_of contents.old.past.items) slot ≡ None) }
+    ensures reason { IfErr result (λ fault. IsReason fault
+        (report_refusal config.now (history_of contents.old.past.items) slot)) }
 {
     let weights = config.weights();
     if let Some(request) = unfinished(contents.courses.as_slice()) {
@@ -65,16 +99,16 @@ fn report_of(
     }
     let taken = mem::replace(&mut contents.courses, Vec::new(alloc));
     let courses = by_tenant(alloc, taken)?;
-    let end = last_moment(past);
     let count = end / slot + 1;
-    let fluid = slots(
+    let rows = mem::replace(&mut contents.rows, Vec::new(alloc));
+    let fluid = last_slots(
         alloc,
-        contents.rows.as_slice(),
+        rows,
         contents.changes.as_slice(),
         config,
         slot,
         count,
     )?;
     let rows = lines(alloc, courses.as_slice(), &fluid, weights, slot)?;
-    Ok(Report::new(slot, count, rows, end, past.len() as u64))
+    Ok(Report::new(slot, count, rows, end, entries))
 }

@@ -14,6 +14,8 @@ mod clock_tests;
 #[cfg(test)]
 mod estimate_tests;
 #[cfg(test)]
+mod fitted_tests;
+#[cfg(test)]
 mod gap_tests;
 #[cfg(test)]
 mod index_tests;

@@ -4,12 +4,12 @@ ghost use Rattle.program_model.specs.RunLimits.{AreInRange};
 ghost use Rattle.program_model.specs.TraceText.{IsLawfulTrace};
 
 use eligible_index::index::IndexChooser;
+use fitted_chooser::chooser::ProgramChooser;
 use fq_model::config::{Checked, Estimator, Policy};
 use fq_model::event::{Act, Entry};
 use program_model::trace::RunOptions;
 use rival_policies::plain::PlainChooser;
 use sched_journal::History;
-use shared_order::chooser::SharedChooser;
 use std::alloc::Global;
 use std::process::Abort;
 use tag_rules::chooser::Chooser;
@@ -301,5 +301,5 @@ fn expect_all_alike<X: Chooser + Drop, Y: Chooser + Drop, P: Chooser + Drop, R: 
 // Which chooser serves is not seen in a history.
 #[test]
 fn choosers_choose_alike(rt: HostRuntime) {
-    expect_all_alike::<IndexChooser, SharedChooser, PlainChooser, HostRuntime>(&rt, rt.alloc());
+    expect_all_alike::<IndexChooser, ProgramChooser, PlainChooser, HostRuntime>(&rt, rt.alloc());
 }

@@ -1,5 +1,5 @@
-use Rattle.std.proofs.Common.{◌≡◌, ◌∷◌, ◌∙◌, sym, ap, subst, length, take, get_or, ◌+◌, ap₂}
-use Rattle.std.proofs.lemmas.List.{take_all}
+use Rattle.std.proofs.Common.{◌≡◌, ◌∷◌, ◌++◌, [], ◌∙◌, sym, ap, subst, length, take, get_or, ◌+◌, ap₂}
+use Rattle.std.proofs.lemmas.List.{take_all, take_more}
 use Rattle.fq_model.specs.declared.event.Act.TheVariants.{Submit}
 use Rattle.fq_model.specs.declared.event.Entry.{Entry}
 use Rattle.fq_model.specs.Fluid.{changes_of, with_change}
@@ -20,13 +20,17 @@ loop-entry-preserved c =
     let entry : Entry = get_or c.args.past.now c.loop-entry.entry-index none in
     let more : history_of (take (c.loop-entry.entry-index + 1) c.args.past.now) ≡ entry ∷ history_of (take c.loop-entry.entry-index c.args.past.now) = history_more c.args.past.now c.loop-entry.entry-index none c.loop-entry-test.true in
     record {
+      past = c.in_ok-add.ensures.past ∙ ap (λ es. es ++ entry ∷ []) c.loop-entry.invariant.past ∙ sym (take_more c.args.past.now c.loop-entry.entry-index none c.loop-entry-test.true);
       courses = c.in_ok-add.ensures.courses ∙ ap (courses_after entry.moment entry.act) c.loop-entry.invariant.courses ∙ sym (ap courses_of more);
       changes = c.in_ok-add.ensures.changes ∙ ap (with_change entry.moment entry.act) c.loop-entry.invariant.changes ∙ sym (ap changes_of more);
       rows = c.in_ok-add.ensures.rows ∙ ap₂ (λ cs rs. rows_after cs entry.act rs) c.loop-entry.invariant.courses c.loop-entry.invariant.rows ∙ sym (ap rows_of more);
     }
 
 pub loop-entry-init : goal.loop-entry-init
-loop-entry-init c = record { courses = c.new.ensures.items; rows = c.new-2.ensures.items; changes = c.new-3.ensures.items }
+loop-entry-init c = record { past = c.new.ensures; courses = c.new-2.ensures.items; rows = c.new-3.ensures.items; changes = c.new-4.ensures.items }
+
+pub returns-clause-past : goal.returns-clause-past
+returns-clause-past c = c.loop-entry.invariant.past ∙ take_all c.loop-entry.entry-index c.args.past.now c.loop-entry-test.false
 
 pub returns-clause-courses : goal.returns-clause-courses
 returns-clause-courses c = c.loop-entry.invariant.courses ∙ ap (λ es. courses_of (history_of es)) (take_all c.loop-entry.entry-index c.args.past.now c.loop-entry-test.false)

@@ -6,6 +6,7 @@ use Rattle.lag_report.proofs.reading.read.Given as goal
 
 abbrev pub invariant-loop-entry : goal.invariant-loop-entry
 invariant-loop-entry l = record {
+  past : l.contents.past.items ≡ take l.entry-index l.past;
   courses : l.contents.courses.items ≡ courses_of (history_of (take l.entry-index l.past));
   rows : l.contents.rows.items ≡ rows_of (history_of (take l.entry-index l.past));
   changes : l.contents.changes.items ≡ changes_of (history_of (take l.entry-index l.past));
