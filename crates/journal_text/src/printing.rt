@@ -87,9 +87,9 @@ pub fn begin_journal(
         ≡ text.old.items ++ top_text Second config.now (names_of tenants.now) kinds.now) }
     ensures unchanged { OnErr result (text.new.items ≡ text.old.items) }
 {
-    let start = text.len();
+    let before = text.len();
     if add_top(alloc, Version::Second, config, tenants, kinds, text).is_err() {
-        text.truncate(start);
+        text.truncate(before);
         return Err(AllocError);
     }
     Ok(())
