@@ -4,7 +4,9 @@ use Rattle.std.proofs.Math.Nat.{div-le_self}
 use Rattle.fq_model.specs.declared.config.Config.{Config}
 use Rattle.fq_model.specs.declared.config.Estimator.{Estimator}
 use Rattle.fq_model.specs.declared.config.Policy.{Policy}
+use Rattle.fq_model.specs.declared.limits.TheConstants.{MOST_ENTRIES}
 use Rattle.fq_model.specs.History.{History}
+use Rattle.fq_model.specs.Limits.{HasShortHistory}
 use Rattle.fq_model.specs.Report.{slots_of, are_cells_few, unfinished}
 use Rattle.fq_model.specs.Rows.{first_true}
 use Rattle.fq_model.specs.Rules.{IsLegal}
@@ -17,7 +19,8 @@ use Rattle.vt_fixed.specs.declared.limits.TheConstants.{GREATEST_MOMENT}
 use Rattle.program_model.specs.declared.compare.CompareOptions.{CompareOptions}
 use Rattle.program_model.specs.declared.compare.CompareRow.{CompareRow}
 use Rattle.program_model.specs.Compare.{run_options}
-use Rattle.program_model.specs.Simulated.{run_config, IsSimulated}
+use Rattle.program_model.specs.declared.trace.RunOptions.{RunOptions}
+use Rattle.program_model.specs.Simulated.{needed_entries, run_config, IsSimulated}
 use Rattle.program_model.specs.Trace.{Trace}
 use Rattle.compare_all.specs.declared.rows.RowFault.{RowFault}
 use Rattle.compare_all.specs.declared.rows.RowFault.TheVariants.{TooLong, NoMemory}
@@ -31,6 +34,10 @@ module _ (T : Trace) (o : CompareOptions) (pair : Policy × Estimator) (H : Hist
 
   pub made_of : (C : Config) (made : Result CompareRow RowFault) → C ≡ run_config T (run_options o pair) → IsMadeOf o.slot pair C H made → IsMade T o pair made
   made_of C made same x = made_here made (subst (λ D. IsMadeOf o.slot pair D H made) same x)
+
+-- a simulated history that has few enough entries may be kept whole
+pub short_run : (T : Trace) (O : RunOptions) (C : Config) → C ≡ run_config T O → needed_entries T.rows O.refresh ≤ MOST_ENTRIES → HasShortHistory C
+short_run T O C same few = subst HasShortHistory (sym same) (omega (arith, few))
 
 -- why there is no report, where all requests are done, is how many slots it would have
 long_parts : (C : Config) (H : History) (Q slots tenants : ℕ) → unfinished H ≡ None → report_refusal C H Q ≡ Some (faults.TooLong slots tenants) → slots ≡ slots_of H Q

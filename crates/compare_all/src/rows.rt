@@ -2,6 +2,7 @@
 ghost use Rattle.std.specs.Prelude.{◌≡◌, ◌≤◌, ◌+◌, ◌*◌, length, None, IfOk};
 ghost use Rattle.std.specs.List.{AllZip};
 ghost use Rattle.fq_model.specs.History.{history_of};
+ghost use Rattle.fq_model.specs.Limits.{HasShortHistory};
 ghost use Rattle.fq_model.specs.Report.{unfinished};
 ghost use Rattle.fq_model.specs.declared.limits.TheConstants.{MOST_ENTRIES, GREATEST_SLOT};
 ghost use Rattle.vt_fixed.specs.declared.limits.TheConstants.{GREATEST_MOMENT};
@@ -16,7 +17,7 @@ use fq_model::config::{Checked, Estimator, Policy};
 use lag_report::automatic::auto_slot;
 use lag_report::extremes::{greatest_lag, least_lag};
 use lag_report::fault::ReportFault;
-use lag_report::reporting::report;
+use lag_report::reporting::last_report;
 use program_model::compare::{CompareOptions, CompareRow, ESTIMATORS};
 use program_model::trace::RunOptions;
 use rayon::prelude::*;
@@ -66,7 +67,7 @@ pub fn rows_of<R: Threads + Sync>(
         .collect(rt, alloc)
 }
 
-// The row of a policy and an estimator. Its history is given up before the row is handed out.
+// The row of a policy and an estimator. Its history is given up once its entries are read for the report.
 fn row(
     alloc: Global,
     trace: &Trace,
@@ -93,11 +94,7 @@ fn row(
         refresh,
     };
     match simulate::<ProgramChooser>(alloc, trace, options) {
-        Ok(history) => {
-            let row = row_of_history(alloc, &history, policy, estimate, slot);
-            drop(history);
-            row
-        }
+        Ok(history) => row_of_history(alloc, history, policy, estimate, slot),
         Err(SimFault::TooManyEntries(_)) => unreachable!(),
         Err(SimFault::NoMemory) => Err(RowFault::NoMemory),
     }
@@ -106,23 +103,23 @@ fn row(
 // The row of a history, by the slot that is asked for, or by the automatic one.
 fn row_of_history(
     alloc: Global,
-    history: &History,
+    history: History,
     policy: Policy,
     estimate: Estimator,
     asked: u64,
 ) -> Result<CompareRow, RowFault>
     requires slot { asked ≤ GREATEST_SLOT }
-    requires done { unfinished (history_of history.now.past) ≡ None }
-    ensures { IsMadeOf asked (policy, estimate) history.now.config (history_of history.now.past) result }
+    requires room { HasShortHistory history.config }
+    requires done { unfinished (history_of history.past) ≡ None }
+    ensures { IsMadeOf asked (policy, estimate) history.config (history_of history.past) result }
 {
-    let past = history.past();
-    let config = history.config();
+    let (config, past) = history.into_parts();
     let slot = if asked == 0 {
-        auto_slot(past, config)
+        auto_slot(past.as_slice(), &config)
     } else {
         asked
     };
-    match report(alloc, past, config, slot) {
+    match last_report(alloc, past, &config, slot) {
         Ok(report) => Ok(CompareRow {
             policy,
             estimate,
@@ -131,7 +128,7 @@ fn row_of_history(
             least: least_lag(report.rows()),
             greatest: greatest_lag(report.rows()),
         }),
-        Err(ReportFault::TooLong { slots, .. }) => Err(RowFault::TooLong(cells(slots, config))),
+        Err(ReportFault::TooLong { slots, .. }) => Err(RowFault::TooLong(cells(slots, &config))),
         Err(ReportFault::Unfinished(_)) => unreachable!(),
         Err(ReportFault::NoMemory) => Err(RowFault::NoMemory),
     }

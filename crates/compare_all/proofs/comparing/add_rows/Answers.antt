@@ -1,4 +1,4 @@
-use Rattle.std.proofs.Common.{◌+◌, ◌<◌, ◌≡◌, arith, sym, subst, get_or, length, Some, slice_get}
+use Rattle.std.proofs.Common.{◌<◌, ◌≡◌, arith, sym, subst, get_or, length, Some, slice_get}
 use Rattle.std.proofs.lemmas.Slice.Zip.{AllZip-long}
 use Rattle.fq_model.specs.declared.config.Estimator.{Estimator}
 use Rattle.fq_model.specs.declared.config.Estimator.TheVariants.{Declared}

@@ -1,4 +1,4 @@
-use Rattle.std.proofs.Common.{ℕ, ◌+◌, ◌≤◌, ◌≡◌, length}
+use Rattle.std.proofs.Common.{◌+◌, ◌≡◌, length}
 use Rattle.compare_all.specs.Rows.{AreFirstRows}
 use Rattle.compare_all.proofs.comparing.add_rows.Given as goal
 

@@ -6,4 +6,4 @@ use Rattle.compare_all.proofs.rows.row_of_history.Goals as goal
 pub cells-requires : goal.cells-requires
 cells-requires c =
     let long = c.in-Err-TooLong in
-    subst (λ n. n ≤ 1000000000000001) (sym long.slots-is) (few_slots c.args.history.now.config (history_of c.args.history.now.past) c.if-asked-eq0.slot long.slots long.field-0-1 long.field-0 c.past-past.ensures.legal c.requires.done long.field-0-is (rw (c.past-past.ensures.entries, c.config-config.ensures) at long.ensures.reason))
+    subst (λ n. n ≤ 1000000000000001) (sym long.slots-is) (few_slots c.args.history.config (history_of c.args.history.past) c.if-asked-eq0.slot long.slots long.field-0-1 long.field-0 c.into_parts-config.ensures.legal c.requires.done long.field-0-is (rw (c.into_parts-config.ensures.entries, c.into_parts-config.ensures.config) at long.ensures.reason))
