@@ -183,7 +183,8 @@ impl Builder {
     }
 
     /// After how many entries the next scheduler takes over: 16 to 4,194,304, by default 1,000,000. A job makes three, and
-    /// each report and change one.
+    /// each report and change one. It may be up to 4,000,000,000 where fewer are kept, but `twodfq check` reads no journal
+    /// of a scheduler with room for more than 4,194,304.
     ///
     /// ```
     /// let pool = twodfq::Pool::builder().tenant("acme", 1).entries(16).open().unwrap();
