@@ -1,5 +1,5 @@
 -- What three hands hold.
-use Rattle.std.specs.Prelude.{◌≡◌, ℕ, List, [], ◌∷◌, None, Some}
+use Rattle.std.specs.Prelude.{◌≡◌, ℕ, List, [], ◌∷◌, Some}
 use Rattle.history_lock.specs.Passes.{LockView, IsOf}
 use Rattle.desk.specs.declared.floor.Crew.{Crew}
 use Rattle.worker_gate.specs.declared.pool.Hand.{Hand}
@@ -9,13 +9,12 @@ module _ {G : Type 0} where
   -- submitter 0 feeds, with its token of this lock
   abbrev pub IsFeeding : LockView Crew → Hand ℕ G → Type 0
   IsFeeding lock (Feed who rows total stopped) = IsOf lock who.pass × (who.pass.number ≡ 0)
-  IsFeeding lock (Work slot log) = ⊥
+  IsFeeding lock _ = ⊥
 
   -- a worker stands there, with its token of this lock
   abbrev pub IsWorking : LockView Crew → Hand ℕ G → Type 0
-  IsWorking lock (Feed who rows total stopped) = ⊥
-  IsWorking lock (Work None log) = ⊥
   IsWorking lock (Work (Some worker) log) = IsOf lock worker.pass
+  IsWorking lock _ = ⊥
 
   abbrev pub AreHired : LockView Crew → List (Hand ℕ G) → Type 0
   AreHired lock (zero ∷ first ∷ second ∷ []) = IsFeeding lock zero × IsWorking lock first × IsWorking lock second

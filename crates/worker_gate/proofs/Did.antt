@@ -1,37 +1,46 @@
 -- A hand that ran.
-use Rattle.std.proofs.Common.{◌≡◌, ◌<◌, ◌-◌, ◌∙◌, ℕ, List, length, slice_index_or, Option, Some, sym, ap, subst, arith}
+use Rattle.std.proofs.Common.{◌≡◌, ◌<◌, ◌-◌, ◌∙◌, ℕ, List, Global, length, slice_index_or, Option, Some, sym, ap, subst, arith}
 use Rattle.std.specs.List.{ReversedBelow}
+use Rattle.std.specs.declared.vec.Vec.{Vec}
+use Rattle.fq_model.specs.declared.parts.Status.{Status}
 use Rattle.history_lock.specs.Passes.{LockView}
+use Rattle.status_board.specs.Boards.{BoardView, ReaderView}
 use Rattle.desk.specs.declared.floor.Crew.{Crew}
 use Rattle.desk.specs.declared.tokens.Worker.{Worker}
 use Rattle.gate_rules.specs.declared.counters.Counters.{Counters}
 use Rattle.gate_rules.specs.declared.logged_gate.Asked.{Asked}
 use Rattle.worker_gate.specs.declared.pool.Hand.{Hand}
-use Rattle.worker_gate.specs.declared.pool.Hand.TheVariants.{Work}
+use Rattle.worker_gate.specs.declared.pool.Hand.TheVariants.{Work, Watch}
 use Rattle.worker_gate.specs.Running.{Worked}
+use Rattle.worker_gate.specs.Watching.{Watched}
 use Rattle.worker_gate.specs.Hands.{HandDid, HandsDid}
 
-module _ {J G : Type 0} (label : J → ℕ) (lock : LockView Crew) (course_of : ℕ → Option (List Counters)) (cost_of : Counters → ℕ) (Tells : ℕ → Type 0) where
+module _ {J G : Type 0} (label : J → ℕ) (lock : LockView Crew) (shared : Option BoardView) (course_of : ℕ → Option (List Counters)) (cost_of : Counters → ℕ) (Tells : ℕ → Type 0) where
   -- what a hand that is seen so has done
-  pub did_so : (hand known new : Hand J G) → hand ≡ known → HandDid label lock course_of cost_of Tells known new → HandDid label lock course_of cost_of Tells hand new
-  did_so hand known new is did = subst (λ h. HandDid label lock course_of cost_of Tells h new) (sym is) did
+  pub did_so : (hand known new : Hand J G) → hand ≡ known → HandDid label lock shared course_of cost_of Tells known new → HandDid label lock shared course_of cost_of Tells hand new
+  did_so hand known new is did = subst (λ h. HandDid label lock shared course_of cost_of Tells h new) (sym is) did
 
   pub did_work : (hand : Hand J G) (slot slot2 : Option Worker) (log log2 : List Asked) (worker worker2 : Worker) → hand ≡ Work slot log → slot ≡ Some worker → slot2 ≡ Some worker2
-      → Worked lock course_of cost_of Tells worker worker2 log log2 → HandDid label lock course_of cost_of Tells hand (Work slot2 log2)
+      → Worked lock course_of cost_of Tells worker worker2 log log2 → HandDid label lock shared course_of cost_of Tells hand (Work slot2 log2)
   did_work hand slot slot2 log log2 worker worker2 is was now w =
       did_so hand (Work slot log) (Work slot2 log2) is (worker, worker2, log2, was, ap (λ s. let h : Hand J G = Work s log2 in h) now, w)
 
+  pub did_watch : (hand : Hand J G) (board : BoardView) (reader reader2 : ReaderView) (left left2 : ℕ) (seen seen2 : Vec Status Global) → hand ≡ Watch reader left seen → shared ≡ Some board → left2 ≡ 0
+      → Watched board left reader reader2 seen.items seen2.items → HandDid label lock shared course_of cost_of Tells hand (Watch reader2 left2 seen2)
+  did_watch hand board reader reader2 left left2 seen seen2 is shown none w =
+      did_so hand (Watch reader left seen) (Watch reader2 left2 seen2) is (board, reader2, seen2, shown, ap (λ n. let h : Hand J G = Watch reader2 n seen2 in h) none, w)
+
   -- what a call with a `&mut` to a hand has made of it
-  pub did_at : (hand argument after new : Hand J G) → argument ≡ hand → after ≡ new → HandDid label lock course_of cost_of Tells argument after → HandDid label lock course_of cost_of Tells hand new
-  did_at hand argument after new is left did = subst (λ h. HandDid label lock course_of cost_of Tells h new) is (subst (HandDid label lock course_of cost_of Tells argument) left did)
+  pub did_at : (hand argument after new : Hand J G) → argument ≡ hand → after ≡ new → HandDid label lock shared course_of cost_of Tells argument after → HandDid label lock shared course_of cost_of Tells hand new
+  did_at hand argument after new is left did = subst (λ h. HandDid label lock shared course_of cost_of Tells h new) is (subst (HandDid label lock shared course_of cost_of Tells argument) left did)
 
   -- hands that are turned round, have done their parts, and are turned back
   pub did_turned : (olds turned done news : List (Hand J G)) → length turned ≡ length olds → ReversedBelow olds turned (length olds) → length done ≡ length turned
-      → ((i : ℕ) (d : Hand J G) → i < length turned → HandDid label lock course_of cost_of Tells (slice_index_or turned i d) (slice_index_or done i d))
-      → length news ≡ length done → ReversedBelow done news (length done) → HandsDid label lock course_of cost_of Tells olds news
+      → ((i : ℕ) (d : Hand J G) → i < length turned → HandDid label lock shared course_of cost_of Tells (slice_index_or turned i d) (slice_index_or done i d))
+      → length news ≡ length done → ReversedBelow done news (length done) → HandsDid label lock shared course_of cost_of Tells olds news
   did_turned olds turned done news same first all did back second = (back ∙ (all ∙ same), λ i d here. at i d here)
     where
-      at : (i : ℕ) (d : Hand J G) → i < length olds → HandDid label lock course_of cost_of Tells (slice_index_or olds i d) (slice_index_or news i d)
+      at : (i : ℕ) (d : Hand J G) → i < length olds → HandDid label lock shared course_of cost_of Tells (slice_index_or olds i d) (slice_index_or news i d)
       at i d here =
           let k : ℕ = length done - 1 - i in
           let below : k < length turned = omega (arith, here, same, all) in

@@ -10,3 +10,4 @@ pub mod ServingSteps
 pub mod ServingRuns
 pub mod ServingSlices
 pub mod ServingEnds
+pub mod Watching

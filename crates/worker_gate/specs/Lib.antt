@@ -2,4 +2,5 @@ pub mod Moments
 pub mod Running
 pub mod Serving
 pub mod Feeding
+pub mod Watching
 pub mod Hands

@@ -1,8 +1,9 @@
-//! How the submitters and workers of a desk do their part, each in a thread of its own.
+//! How the submitters and workers of a desk, and those who watch it, do their part, each in a thread of its own.
 #![tactic(auto)]
 
 pub mod feed;
 pub mod pool;
+mod watch;
 pub mod work;
 
 pub use gate_rules::cost_rule::{Cost, CostRule, WorkCost};

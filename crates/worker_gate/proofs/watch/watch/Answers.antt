@@ -1,0 +1,14 @@
+use Rattle.std.proofs.Common.{arith, ◌≡◌, ◌-◌, ◌<◌, suc}
+use Rattle.worker_gate.proofs.Watching.{watched_more}
+use Rattle.worker_gate.proofs.watch.watch.Goals as goal
+
+pub loop-left-preserved : goal.loop-left-preserved
+loop-left-preserved c =
+    let was = c.loop-left.invariant in
+    let some : 0 < c.loop-left.left = c.loop-left-test.true in
+    let next : c.args.left.now - (c.loop-left.left - 1) ≡ suc (c.args.left.now - c.loop-left.left) = omega (arith, some, was.fewer) in record {
+      watched = watched_more c.args.board.now (c.args.left.now - c.loop-left.left) (c.args.left.now - (c.loop-left.left - 1)) c.args.reader.now c.loop-left.reader c.read.new.self c.args.seen.now.items c.loop-left.seen.items c.push_reserved.new.self.items c.read.result next
+          was.watched c.read.ensures.own c.read.ensures.seen c.read.ensures.status c.push_reserved.ensures.items;
+      room = omega (arith, was.room, some, c.push_reserved.ensures.len, c.push_reserved.ensures.capacity);
+      fewer = omega (arith, was.fewer);
+    }
