@@ -1,13 +1,15 @@
 -- Hands that were given their parts, and have done them.
-use Rattle.std.proofs.Common.{ℕ, suc, ◌+◌, ◌<◌, ◌≡◌, List, [], ◌∷◌, ◌++◌, length, slice_index_or, take, drop, append-nil, Some, All, sym, ap, ◌∙◌, subst, refl, arith}
+use Rattle.std.proofs.Common.{ℕ, suc, ◌+◌, ◌<◌, ◌≡◌, List, [], ◌∷◌, ◌++◌, length, slice_index_or, take, drop, append-nil, Option, Some, All, sym, ap, ◌∙◌, subst, refl, arith}
 use Rattle.std.proofs.Math.Seq.{drop-length, take-length}
-use Rattle.std.proofs.lemmas.List.Elements.{All-nil, All-cons, All-append}
+use Rattle.std.proofs.lemmas.List.{same_from_push}
+use Rattle.std.proofs.lemmas.List.Elements.{All-nil, All-cons, All-append, All-push}
 use Rattle.program_model.specs.declared.trace.TraceRow.{TraceRow}
 use Rattle.history_lock.specs.Passes.{LockView}
+use Rattle.status_board.specs.Boards.{BoardView}
 use Rattle.desk.specs.declared.floor.Crew.{Crew}
 use Rattle.desk.specs.declared.tokens.Worker.{Worker}
 use Rattle.trace_pool.specs.Hands.{TraceHand}
-use Rattle.worker_gate.specs.declared.pool.Hand.TheVariants.{Feed, Work}
+use Rattle.worker_gate.specs.declared.pool.Hand.TheVariants.{Feed, Work, Watch}
 use Rattle.worker_gate.specs.Feeding.{Feeds}
 use Rattle.worker_gate.specs.Hands.{IsHandOf, HandDid, HandsDid}
 use Rattle.gate_rules.specs.Rules.{work_cost}
@@ -56,9 +58,15 @@ module _ {A : Type 0} (Becomes : A → A → Type 0) where
   same_length (x ∷ xs) [] did = absurd did
   same_length (x ∷ xs) (y ∷ ys) did = ap suc (same_length xs ys did.1)
 
-module _ (rows : List TraceRow) (lock : LockView Crew) (refresh : ℕ) (Tells : ℕ → Type 0) where
+  -- a single item
+  pub one_becomes : (x : A) (ys : List A) → EachBecomes (x ∷ []) ys → (y : A) × (ys ≡ y ∷ []) × Becomes x y
+  one_becomes x [] did = absurd did
+  one_becomes x (y ∷ []) did = (y, refl, did.0)
+  one_becomes x (y ∷ z ∷ ys) did = absurd did.1
+
+module _ (rows : List TraceRow) (lock : LockView Crew) (shared : Option BoardView) (refresh : ℕ) (Tells : ℕ → Type 0) where
   abbrev Did : TraceHand → TraceHand → Type 0
-  Did old new = HandDid (λ (n : ℕ). n) lock (trace_course refresh rows) work_cost Tells old new
+  Did old new = HandDid (λ (n : ℕ). n) lock shared (trace_course refresh rows) work_cost Tells old new
 
   fed_hand : (j : ℕ) (old new : TraceHand) → IsFeedOf rows lock j old → Did old new → HasFedHand rows lock refresh Tells j new
   fed_hand j (Feed who queue total stopped) new is did =
@@ -76,9 +84,11 @@ module _ (rows : List TraceRow) (lock : LockView Crew) (refresh : ℕ) (Tells : 
       } in
       subst (HasFedHand rows lock refresh Tells j) (sym did.3) done
   fed_hand j (Work slot log) new is did = absurd is
+  fed_hand j (Watch reader left seen) new is did = absurd is
 
   worked_hand : (i : ℕ) (old new : TraceHand) → IsWorkOf rows lock i old → Did old new → HasWorkedHand rows lock refresh Tells i new
   worked_hand i (Feed who queue total stopped) new is did = absurd is
+  worked_hand i (Watch reader left seen) new is did = absurd is
   worked_hand i (Work slot log) new is did =
       let same : is.0 ≡ did.0 = (let both : Some is.0 ≡ Some did.0 = sym is.1 ∙ did.3 in cc) in
       let done : HasWorked rows lock refresh Tells i did.1 = record {
@@ -91,9 +101,8 @@ module _ (rows : List TraceRow) (lock : LockView Crew) (refresh : ℕ) (Tells : 
       } in
       subst (HasWorkedHand rows lock refresh Tells i) (sym did.4) (did.1, refl, done)
 
-  pub all_done : (feeds works : ℕ) (olds news : List TraceHand) → AreHands rows lock feeds works olds → HandsDid (λ (n : ℕ). n) lock (trace_course refresh rows) work_cost Tells olds news → AreDone rows lock refresh Tells feeds works news
-  all_done feeds works olds news a did =
-      let each : EachBecomes Did olds news = each_becomes Did olds news did.0 did.1 in
+  all_done : (feeds works : ℕ) (olds news : List TraceHand) → AreHands rows lock feeds works olds → EachBecomes Did olds news → AreDone rows lock refresh Tells feeds works news
+  all_done feeds works olds news a each =
       let r = in_a_row Did a.first a.second news (subst (λ l. EachBecomes Did l news) a.both each) in record {
         first = r.one;
         second = r.two;
@@ -104,35 +113,68 @@ module _ (rows : List TraceRow) (lock : LockView Crew) (refresh : ℕ) (Tells : 
         work_count = same_length Did a.second r.two r.becomes_two ∙ a.work_count;
       }
 
+  -- hands that have done their parts, and one more that has done its own
+  pub record PoolDid (feeds works : ℕ) (other : TraceHand) (news : List TraceHand) : Type 0 where
+    pub front : List TraceHand
+    pub last : TraceHand
+    pub both : news ≡ front ++ last ∷ []
+    pub done : AreDone rows lock refresh Tells feeds works front
+    pub other_did : Did other last
+
+  pub pool_did : (feeds works : ℕ) (hands : List TraceHand) (other : TraceHand) (olds news : List TraceHand) → AreHands rows lock feeds works hands → olds ≡ hands ++ other ∷ []
+      → HandsDid (λ (n : ℕ). n) lock shared (trace_course refresh rows) work_cost Tells olds news → PoolDid feeds works other news
+  pool_did feeds works hands other olds news a is did =
+      let each : EachBecomes Did olds news = each_becomes Did olds news did.0 did.1 in
+      let r = in_a_row Did hands (other ∷ []) news (subst (λ l. EachBecomes Did l news) is each) in
+      let one = one_becomes Did other r.two r.becomes_two in record {
+        front = r.one;
+        last = one.0;
+        both = r.both ∙ ap (λ l. r.one ++ l) one.1;
+        done = all_done feeds works hands r.one a r.becomes_one;
+        other_did = one.2;
+      }
+
+  -- the last of them is taken away
+  pub without_last : (feeds works : ℕ) (other hand : TraceHand) (news rest : List TraceHand) → PoolDid feeds works other news → news ≡ rest ++ hand ∷ [] → AreDone rows lock refresh Tells feeds works rest × Did other hand
+  without_last feeds works other hand news rest d is =
+      let same = same_from_push d.front rest d.last hand (sym d.both ∙ is) in
+      (subst (AreDone rows lock refresh Tells feeds works) same.0 d.done, subst (Did other) same.1 d.other_did)
+
 -- a slice of a whole vector, written back
 pub written_back : {A : Type 0} (len : ℕ) (olds news : List A) → len ≡ length olds → length news ≡ length olds → take len (news ++ drop (length news) olds) ≡ news
 written_back len olds news is same =
     let none : drop (length news) olds ≡ [] = ap (λ n. drop n olds) same ∙ drop-length olds in
     ap (λ l. take len (news ++ l)) none ∙ (ap (take len) (append-nil news) ∙ (ap (λ n. take n news) (is ∙ sym same) ∙ take-length news))
 
-module _ (rows : List TraceRow) (lock : LockView Crew) where
-  feeds_of : (j : ℕ) (hands : List TraceHand) → HoldsFrom (IsFeedOf rows lock) j hands → All (IsHandOf lock) hands
-  feeds_of j [] h = All-nil (IsHandOf lock)
-  feeds_of j (Feed who queue total stopped ∷ hands) h = All-cons (IsHandOf lock) (Feed who queue total stopped) hands h.0.0.own (feeds_of (suc j) hands h.1)
+module _ (rows : List TraceRow) (lock : LockView Crew) (shared : Option BoardView) where
+  feeds_of : (j : ℕ) (hands : List TraceHand) → HoldsFrom (IsFeedOf rows lock) j hands → All (IsHandOf lock shared) hands
+  feeds_of j [] h = All-nil (IsHandOf lock shared)
+  feeds_of j (Feed who queue total stopped ∷ hands) h = All-cons (IsHandOf lock shared) (Feed who queue total stopped) hands h.0.0.own (feeds_of (suc j) hands h.1)
   feeds_of j (Work slot log ∷ hands) h = absurd h.0
+  feeds_of j (Watch reader left seen ∷ hands) h = absurd h.0
 
-  works_of : (i : ℕ) (hands : List TraceHand) → HoldsFrom (IsWorkOf rows lock) i hands → All (IsHandOf lock) hands
-  works_of i [] h = All-nil (IsHandOf lock)
+  works_of : (i : ℕ) (hands : List TraceHand) → HoldsFrom (IsWorkOf rows lock) i hands → All (IsHandOf lock shared) hands
+  works_of i [] h = All-nil (IsHandOf lock shared)
   works_of i (Feed who queue total stopped ∷ hands) h = absurd h.0
-  works_of i (Work slot log ∷ hands) h = All-cons (IsHandOf lock) (Work slot log) hands (h.0.0, h.0.1, h.0.2.own) (works_of (suc i) hands h.1)
+  works_of i (Watch reader left seen ∷ hands) h = absurd h.0
+  works_of i (Work slot log ∷ hands) h = All-cons (IsHandOf lock shared) (Work slot log) hands (h.0.0, h.0.1, h.0.2.own) (works_of (suc i) hands h.1)
 
   -- all hands are of the desk
-  pub hands_of : (feeds works : ℕ) (hands : List TraceHand) → AreHands rows lock feeds works hands → All (IsHandOf lock) hands
-  hands_of feeds works hands a = subst (All (IsHandOf lock)) (sym a.both) (All-append (IsHandOf lock) a.first a.second (feeds_of 0 a.first a.are_feeds) (works_of 0 a.second a.are_works))
+  pub hands_of : (feeds works : ℕ) (hands : List TraceHand) → AreHands rows lock feeds works hands → All (IsHandOf lock shared) hands
+  hands_of feeds works hands a = subst (All (IsHandOf lock shared)) (sym a.both) (All-append (IsHandOf lock shared) a.first a.second (feeds_of 0 a.first a.are_feeds) (works_of 0 a.second a.are_works))
+
+  -- so is one more
+  pub hands_with : (feeds works : ℕ) (hands : List TraceHand) (other : TraceHand) → AreHands rows lock feeds works hands → IsHandOf lock shared other → All (IsHandOf lock shared) (hands ++ other ∷ [])
+  hands_with feeds works hands other a is = All-push (IsHandOf lock shared) hands other (hands_of feeds works hands a) is
 
   -- what a pool over the rows' gate leaves in the vector that it was given
-  pub back_done : (refresh : ℕ) (Tells : ℕ → Type 0) (feeds works len : ℕ) (olds given news : List TraceHand) (gate_refresh : ℕ) (gate_rows : List TraceRow) → AreHands rows lock feeds works olds → given ≡ olds → length given ≡ len
-      → gate_refresh ≡ refresh → gate_rows ≡ rows → HandsDid (λ (n : ℕ). n) lock (trace_course gate_refresh gate_rows) work_cost Tells given news
-      → AreDone rows lock refresh Tells feeds works (take len (news ++ drop (length news) olds))
-  back_done refresh Tells feeds works len olds given news gate_refresh gate_rows a same is steps its did =
-      let all : HandsDid (λ (n : ℕ). n) lock (trace_course refresh rows) work_cost Tells olds news =
-      subst (λ n. HandsDid (λ (n : ℕ). n) lock (trace_course n rows) work_cost Tells olds news) steps
-      (subst (λ r. HandsDid (λ (n : ℕ). n) lock (trace_course gate_refresh r) work_cost Tells olds news) its
-      (subst (λ l. HandsDid (λ (n : ℕ). n) lock (trace_course gate_refresh gate_rows) work_cost Tells l news) same did)) in
+  pub back_done : (refresh : ℕ) (Tells : ℕ → Type 0) (feeds works len : ℕ) (hands : List TraceHand) (other : TraceHand) (olds given news : List TraceHand) (gate_refresh : ℕ) (gate_rows : List TraceRow) → AreHands rows lock feeds works hands → olds ≡ hands ++ other ∷ [] → given ≡ olds → length given ≡ len
+      → gate_refresh ≡ refresh → gate_rows ≡ rows → HandsDid (λ (n : ℕ). n) lock shared (trace_course gate_refresh gate_rows) work_cost Tells given news
+      → PoolDid rows lock shared refresh Tells feeds works other (take len (news ++ drop (length news) olds))
+  back_done refresh Tells feeds works len hands other olds given news gate_refresh gate_rows a with_other same is steps its did =
+      let all : HandsDid (λ (n : ℕ). n) lock shared (trace_course refresh rows) work_cost Tells olds news =
+      subst (λ n. HandsDid (λ (n : ℕ). n) lock shared (trace_course n rows) work_cost Tells olds news) steps
+      (subst (λ r. HandsDid (λ (n : ℕ). n) lock shared (trace_course gate_refresh r) work_cost Tells olds news) its
+      (subst (λ l. HandsDid (λ (n : ℕ). n) lock shared (trace_course gate_refresh gate_rows) work_cost Tells l news) same did)) in
       let whole : len ≡ length olds = sym is ∙ ap length same in
-      subst (AreDone rows lock refresh Tells feeds works) (sym (written_back len olds news whole all.0)) (all_done rows lock refresh Tells feeds works olds news a all)
+      subst (PoolDid rows lock shared refresh Tells feeds works other) (sym (written_back len olds news whole all.0)) (pool_did rows lock shared refresh Tells feeds works hands other olds news a with_other all)

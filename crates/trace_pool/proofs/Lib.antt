@@ -18,5 +18,6 @@ pub mod Deals
 pub mod Places
 pub mod HandLists
 pub mod Done
+pub mod Readings
 pub mod Tokens
 pub mod Ending

@@ -10,7 +10,7 @@ use Rattle.desk.specs.declared.tokens.Submitter.{Submitter}
 use Rattle.desk.specs.declared.tokens.Worker.{Worker}
 use Rattle.desk.specs.Opening.{IsNew}
 use Rattle.trace_pool.specs.Hands.{TraceHand}
-use Rattle.worker_gate.specs.declared.pool.Hand.TheVariants.{Feed, Work}
+use Rattle.worker_gate.specs.declared.pool.Hand.TheVariants.{Feed, Work, Watch}
 use Rattle.gate_rules.specs.declared.logged_gate.Asked.{Asked}
 use Rattle.gate_rules.specs.declared.rows.Row.{Row}
 use Rattle.worker_gate.specs.Feeding.{Feeds}
@@ -35,7 +35,7 @@ KnowsAll lock j who = j ≡ 0 → who.pass.made + 1 ≡ lock.frame.submitters + 
 abbrev pub submitters_in : List TraceHand → List Submitter
 submitters_in [] = []
 submitters_in (Feed who queue total stopped ∷ hands) = who ∷ submitters_in hands
-submitters_in (Work slot log ∷ hands) = submitters_in hands
+submitters_in (_ ∷ hands) = submitters_in hands
 
 -- the worker's token of a slot, if it is there, before these
 abbrev pub with_worker : Option Worker → List Worker → List Worker
@@ -45,25 +45,26 @@ with_worker (Some worker) workers = worker ∷ workers
 -- the workers' tokens that the hands hold, in order
 abbrev pub workers_in : List TraceHand → List Worker
 workers_in [] = []
-workers_in (Feed who queue total stopped ∷ hands) = workers_in hands
 workers_in (Work slot log ∷ hands) = with_worker slot (workers_in hands)
+workers_in (_ ∷ hands) = workers_in hands
 
 -- the hand holds a token
 abbrev pub HoldsToken : TraceHand → Type 0
 HoldsToken (Feed who queue total stopped) = Unit {0}
 HoldsToken (Work slot log) = (worker : Worker) × (slot ≡ Some worker)
+HoldsToken (Watch reader left seen) = ⊥
 
 module _ (rows : List TraceRow) (lock : LockView Crew) where
   -- a hand that is to feed the rows of submitter j
   abbrev pub IsFeedOf : ℕ → TraceHand → Type 0
   IsFeedOf j (Feed who queue total stopped) = IsNew lock j who.pass × AreRowsOf rows j queue.items × (total ≡ length rows)
       × KnowsAll lock j who
-  IsFeedOf j (Work slot log) = ⊥
+  IsFeedOf j _ = ⊥
 
   -- a hand that is to work as worker i
   abbrev pub IsWorkOf : ℕ → TraceHand → Type 0
-  IsWorkOf i (Feed who queue total stopped) = ⊥
   IsWorkOf i (Work slot log) = (worker : Worker) × (slot ≡ Some worker) × IsNew lock (worker_caller rows i) worker.pass × (worker.worker ≡ i)
+  IsWorkOf i _ = ⊥
 
   -- the hands of so many submitters, and then those of so many workers
   pub record AreHands (feeds works : ℕ) (hands : List TraceHand) : Type 0 where
@@ -99,11 +100,11 @@ module _ (rows : List TraceRow) (lock : LockView Crew) where
     -- the same of hands
     abbrev pub HasFedHand : ℕ → TraceHand → Type 0
     HasFedHand j (Feed who queue total stopped) = HasFed j who
-    HasFedHand j (Work slot log) = ⊥
+    HasFedHand j _ = ⊥
 
     abbrev pub HasWorkedHand : ℕ → TraceHand → Type 0
-    HasWorkedHand i (Feed who queue total stopped) = ⊥
     HasWorkedHand i (Work slot log) = (worker : Worker) × (slot ≡ Some worker) × HasWorked i worker
+    HasWorkedHand i _ = ⊥
 
     -- the submitters have done their parts, and the workers theirs
     pub record AreDone (feeds works : ℕ) (hands : List TraceHand) : Type 0 where

@@ -36,6 +36,7 @@ pub fn hand_out<'a, X: Chooser>(
     ensures submitters { (submitters.new.items ≡ []) × (length submitters.old.items ≤ vec_capacity submitters.new) }
     ensures workers { (workers.new.items ≡ []) × (length workers.old.items ≤ vec_capacity workers.new) }
     ensures gate { gate.new ≡ gate.old }
+    ensures capacity { vec_capacity hands.new ≡ vec_capacity hands.old }
 {
     give_rows(desk, rows, queues, submitters, hands);
     give_work(desk, rows, workers, gate, hands);
@@ -85,6 +86,7 @@ fn give_work<'a, X: Chooser>(
         hands.new.items }
     ensures workers { (workers.new.items ≡ []) × (length workers.old.items ≤ vec_capacity workers.new) }
     ensures gate { gate.new ≡ gate.old }
+    ensures capacity { vec_capacity hands.new ≡ vec_capacity hands.old }
 {
     while !workers.is_empty() {
         hands.push_reserved(Hand::Work(Some(workers.remove(0)), gate.log()));
@@ -117,6 +119,7 @@ pub fn take_back<'a>(
                 let Some(worker) = slot else { unreachable!() };
                 workers.push_reserved(worker);
             }
+            Hand::Watch { .. } => unreachable!(),
         }
     }
 }

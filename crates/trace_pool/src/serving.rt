@@ -1,17 +1,21 @@
 //! A trace, served by a pool.
-ghost use Rattle.std.specs.Prelude.{◌≡◌, ◌≤◌, ◌+◌, ◌⊎◌, [], length, vec_capacity, Err, IfOk, IfErr};
+ghost use Rattle.std.specs.Prelude.{◌≡◌, ◌≤◌, ◌<◌, ◌+◌, ◌⊎◌, [], length, vec_capacity, Err, IfOk, IfErr, option_map};
+ghost use Rattle.std.specs.Arc.{arc_value};
 ghost use Rattle.vt_fixed.specs.declared.limits.TheConstants.{GREATEST_COST};
 ghost use Rattle.fq_model.specs.declared.limits.TheConstants.{MOST_ENTRIES, MOST_ROWS};
 ghost use Rattle.program_model.specs.Courses.{submitters};
 ghost use Rattle.fq_model.specs.History.{history_of};
 ghost use Rattle.program_model.specs.RunLimits.{AreInRange};
 ghost use Rattle.program_model.specs.PoolHistory.{IsPoolHistory, HasToldMoments, needed_pool_entries, pool_config};
+ghost use Rattle.program_model.specs.Readings.{AreReadings};
 ghost use Rattle.program_model.specs.TraceText.{IsLawfulTrace};
 ghost use Rattle.desk.specs.Opening.{AreTokens};
 ghost use Rattle.trace_reader.specs.Rows.{AreCosts};
+ghost use Rattle.worker_gate.specs.Hands.{IsHandOf};
+ghost use Rattle.trace_pool.specs.Hands.{TraceHandDid};
 ghost use Rattle.trace_pool.specs.Parts.{IsCrewOf, AreRowsOf, HaveDone};
 ghost use Rattle.trace_pool.specs.Places.{HoldsFrom};
-ghost use Rattle.trace_pool.specs.Serving.{IsTooLong, too_long};
+ghost use Rattle.trace_pool.specs.Serving.{HasRoom, IsTooLong, too_long};
 ghost use Rattle.trace_pool.specs.declared.fault.PoolFault.TheVariants as faults;
 
 use crate::dealing::deal;
@@ -23,11 +27,13 @@ use desk::{DeskOf, Floor, Submitter, Worker};
 use fq_io::Clock;
 use fq_model::config::Checked;
 use fq_model::limits::{LEAST_ENTRIES, MOST_ENTRIES};
+use fq_model::parts::Status;
 use gate_rules::cost_rule::{CostRule, WorkCost};
 use gate_rules::logged_gate::LoggedGate;
 use gate_rules::rows::Row;
 use program_model::trace::{RunOptions, TraceRow};
 use sched_journal::History;
+use status_board::Reader;
 use std::alloc::Global;
 use std::collections::VecDeque;
 use std::sync::Wait;
@@ -37,7 +43,23 @@ use trace_reader::opening::{config_of, submitters};
 use trace_reader::trace::Trace;
 use worker_gate::pool::{Hand, pool};
 
-// The callers of all tokens serve the rows, each in a thread of its own, and the tokens come back.
+/// What a pool made of a trace.
+#[derive(Drop)]
+pub struct Served {
+    pub history: History,
+    /// The scheduler's status, each time that it was read.
+    pub statuses: Vec<Status>,
+}
+
+// Room for what the hands of a pool hold.
+struct Room<'a> {
+    hands: Vec<Hand<u64, TraceGate<'a>>>,
+    statuses: Vec<Status>,
+    readers: Vec<Reader>,
+}
+
+// The callers of all tokens serve the rows, each in a thread of its own, while one more hand does its part. The tokens
+// and that hand come back.
 fn serve_rows<'a, X: Chooser + Drop + Send, K: Clock + Sync, R: Threads + Wait + Sync>(
     rt: &R,
     desk: &DeskOf<Floor<u64, X>>,
@@ -46,56 +68,79 @@ fn serve_rows<'a, X: Chooser + Drop + Send, K: Clock + Sync, R: Threads + Wait +
     clock: &K,
     queues: Vec<VecDeque<Row<u64>>>,
     mut hands: Vec<Hand<u64, TraceGate<'a>>>,
+    other: Hand<u64, TraceGate<'a>>,
     submitters: &mut Vec<Submitter>,
     workers: &mut Vec<Worker>,
-)
+) -> Hand<u64, TraceGate<'a>>
     requires rows { (length rows.now ≤ MOST_ROWS) × AreCosts rows.now × (refresh ≤ GREATEST_COST) }
-    requires crew { IsCrewOf rows.now desk.now.lock }
-    requires queues { HoldsFrom (λ j q. AreRowsOf rows.now j q.items) 0 queues.items
+    requires queues { IsCrewOf rows.now desk.now.lock × HoldsFrom (λ j q. AreRowsOf rows.now j q.items) 0 queues.items
         × (length queues.items ≡ length submitters.old.items) }
     requires tokens { AreTokens desk.now.lock.frame desk.now.lock submitters.old.items workers.old.items }
     requires room { (hands.items ≡ [])
-        × (length submitters.old.items + length workers.old.items ≤ vec_capacity hands) }
-    ensures { HaveDone rows.now desk.now.lock refresh (K.tells clock.now) submitters.new.items workers.new.items }
+        × (length submitters.old.items + length workers.old.items < vec_capacity hands) }
+    requires other { IsHandOf desk.now.lock (option_map arc_value desk.now.board) other }
+    ensures done { HaveDone rows.now desk.now.lock refresh (K.tells clock.now) submitters.new.items workers.new.items }
+    ensures other { TraceHandDid rows.now desk.now.lock (option_map arc_value desk.now.board) refresh
+        (K.tells clock.now) other.entry result }
 {
     let mut gate = LoggedGate::new(TraceGate::new(rows, refresh));
     hand_out(
         desk, rows, queues, submitters, workers, &mut gate, &mut hands,
     );
+    hands.push_reserved(other);
     let rule = CostRule::new(WorkCost);
     pool(rt, desk, hands.as_mut_slice(), &gate, clock, &rule);
+    let Some(other) = hands.pop() else {
+        unreachable!()
+    };
     take_back(&mut hands, submitters, workers);
     hands.destroy_empty();
+    other
 }
 
-// Opens a desk, has the callers of all its tokens serve the trace's rows, and gives their history.
+// Opens a desk, has the callers of all its tokens serve the trace's rows while its status is read so often, and gives
+// what they made.
 fn serve_at_desk<'a, X: Chooser + Drop + Send, K: Clock + Sync, R: Threads + Wait + Sync>(
     rt: &R,
     alloc: Global,
     config: Checked,
     trace: &'a Trace,
     options: RunOptions,
+    times: u32,
     clock: &K,
-    count: u32,
     queues: Vec<VecDeque<Row<u64>>>,
-    hands: Vec<Hand<u64, TraceGate<'a>>>,
-) -> Result<History, PoolFault>
-    requires trace { IsLawfulTrace trace.now × AreInRange options × (count ≡ submitters trace.now.rows)
+    room: Room<'a>,
+) -> Result<Served, PoolFault>
+    requires trace { IsLawfulTrace trace.now × AreInRange options
         × (needed_pool_entries trace.now.rows options.refresh ≤ MOST_ENTRIES) }
     requires config { config ≡ pool_config trace.now options }
     requires queues { HoldsFrom (λ j q. AreRowsOf trace.now.rows j q.items) 0 queues.items
-        × (length queues.items ≡ count) }
-    requires hands { (hands.items ≡ []) × (count + options.workers ≤ vec_capacity hands) }
-    ensures history { IfOk result (λ h. IsPoolHistory trace.now options (history_of h.past)
-        × HasToldMoments (K.tells clock.now) (history_of h.past)) }
-    ensures config { IfOk result (λ h. h.config ≡ pool_config trace.now options) }
+        × (length queues.items ≡ submitters trace.now.rows) }
+    requires room { HasRoom (submitters trace.now.rows + options.workers) times room }
+    ensures history { IfOk result (λ s. IsPoolHistory trace.now options (history_of s.history.past)
+        × HasToldMoments (K.tells clock.now) (history_of s.history.past)) }
+    ensures config { IfOk result (λ s. s.history.config ≡ pool_config trace.now options) }
+    ensures statuses { IfOk result (λ s. (length s.statuses.items ≡ times)
+        × AreReadings (pool_config trace.now options) s.history.past 0 s.statuses.items) }
     ensures fault { IfErr result (λ f. f ≡ faults.NoMemory) }
 {
-    let Ok((desk, mut submitters, mut workers)) = DeskOf::open(alloc, config, count) else {
+    let Room {
+        hands,
+        statuses,
+        mut readers,
+    } = room;
+    let opened = DeskOf::open_shown(alloc, config, submitters(trace.rows()));
+    let Ok((desk, reader, mut submitters, mut workers)) = opened else {
         hands.destroy_empty();
+        readers.destroy_empty();
         return Err(PoolFault::NoMemory);
     };
-    serve_rows::<X, K, R>(
+    let watch = Hand::Watch {
+        reader,
+        left: times,
+        seen: statuses,
+    };
+    let watch = serve_rows::<X, K, R>(
         rt,
         &desk,
         trace.rows(),
@@ -103,31 +148,68 @@ fn serve_at_desk<'a, X: Chooser + Drop + Send, K: Clock + Sync, R: Threads + Wai
         clock,
         queues,
         hands,
+        watch,
         &mut submitters,
         &mut workers,
     );
-    let Ok(scheduler) = desk.finish(submitters, workers) else {
+    let Hand::Watch {
+        reader,
+        left: _,
+        seen,
+    } = watch
+    else {
         unreachable!()
     };
-    Ok(scheduler.into_history())
+    readers.push_reserved(reader);
+    let Ok(scheduler) = desk.finish_shown(submitters, workers, readers) else {
+        unreachable!()
+    };
+    Ok(Served {
+        history: scheduler.into_history(),
+        statuses: seen,
+    })
+}
+
+// Room for so many hands, for as many statuses, and for one reader.
+fn make_room<'a>(alloc: Global, hands: u32, times: u32) -> Result<Room<'a>, PoolFault>
+    ensures room { IfOk result (HasRoom hands times) }
+    ensures fault { IfErr result (λ f. f ≡ faults.NoMemory) }
+{
+    let statuses = Vec::with_capacity(alloc, times as usize)?;
+    let readers = Vec::with_capacity(alloc, 1)?;
+    match Vec::with_capacity(alloc, hands as usize + 1) {
+        Ok(hands) => Ok(Room {
+            hands,
+            statuses,
+            readers,
+        }),
+        Err(_) => {
+            readers.destroy_empty();
+            Err(PoolFault::NoMemory)
+        }
+    }
 }
 
 /// Serves a trace by a pool of threads, one for each submitter and one for each worker, and gives the history that
 /// they made. Rows come when their submitter comes to them: their moments are not used. The clock is asked by the
-/// threads alone, before each call that they make, and labels are the rows' numbers from 0. All memory is taken
-/// before the first call, and none where there would be too many entries.
+/// threads alone, before each call that they make, and labels are the rows' numbers from 0. One more thread reads the
+/// scheduler's status so often meanwhile, and waits for none of the others. All memory is taken before the first call,
+/// and none where there would be too many entries.
 pub fn serve<X: Chooser + Drop + Send, K: Clock + Sync, R: Threads + Wait + Sync>(
     rt: &R,
     alloc: Global,
     trace: &Trace,
     options: RunOptions,
+    times: u32,
     clock: &K,
-) -> Result<History, PoolFault>
+) -> Result<Served, PoolFault>
     requires lawful { IsLawfulTrace trace.now }
     requires options { AreInRange options }
-    ensures history { IfOk result (λ h. IsPoolHistory trace.now options (history_of h.past)
-        × HasToldMoments (K.tells clock.now) (history_of h.past)) }
-    ensures config { IfOk result (λ h. h.config ≡ pool_config trace.now options) }
+    ensures history { IfOk result (λ s. IsPoolHistory trace.now options (history_of s.history.past)
+        × HasToldMoments (K.tells clock.now) (history_of s.history.past)) }
+    ensures config { IfOk result (λ s. s.history.config ≡ pool_config trace.now options) }
+    ensures statuses { IfOk result (λ s. (length s.statuses.items ≡ times)
+        × AreReadings (pool_config trace.now options) s.history.past 0 s.statuses.items) }
     ensures too_many { IsTooLong trace.now options → result ≡ Err (too_long trace.now options) }
     ensures fault { IfErr result (λ f. (f ≡ faults.NoMemory)
         ⊎ ((f ≡ too_long trace.now options) × IsTooLong trace.now options)) }
@@ -140,8 +222,8 @@ pub fn serve<X: Chooser + Drop + Send, K: Clock + Sync, R: Threads + Wait + Sync
     let rows = trace.rows();
     let count = submitters(rows);
     let queues = deal(alloc, rows, count)?;
-    let hands = Vec::with_capacity(alloc, (count + options.workers) as usize)?;
+    let room = make_room(alloc, count + options.workers, times)?;
     serve_at_desk::<X, K, R>(
-        rt, alloc, config, trace, options, clock, count, queues, hands,
+        rt, alloc, config, trace, options, times, clock, queues, room,
     )
 }

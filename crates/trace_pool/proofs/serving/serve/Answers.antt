@@ -1,6 +1,6 @@
 use Rattle.std.proofs.Common.{◌≡◌, ◌∙◌, ap, arith, max, subst}
 use Rattle.fq_model.specs.declared.limits.TheConstants.{LEAST_ENTRIES}
-use Rattle.program_model.specs.Courses.{trace_config}
+use Rattle.program_model.specs.Courses.{trace_config, submitters}
 use Rattle.program_model.specs.PoolHistory.{needed_pool_entries}
 use Rattle.trace_pool.specs.Parts.{AreRowsOf}
 use Rattle.trace_pool.specs.Places.{HoldsFrom}
@@ -15,5 +15,5 @@ serve_at_desk-requires-clause-config g c κs within =
 pub serve_at_desk-requires-clause-queues : goal.serve_at_desk-requires-clause-queues
 serve_at_desk-requires-clause-queues g c κs within = (
   subst (λ rows. HoldsFrom (λ j q. AreRowsOf rows j q.items) 0 c.in_ok-queues.queues.items) c.rows-rows.ensures c.in_ok-queues.ensures.queues,
-  c.in_ok-queues.ensures.count,
+  c.in_ok-queues.ensures.count ∙ (c.submitters-count.ensures.count ∙ ap submitters c.rows-rows.ensures),
 )

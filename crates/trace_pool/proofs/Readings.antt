@@ -1,0 +1,72 @@
+-- What was read of a board while a past grew, as readings of that past.
+use Rattle.std.proofs.Common.{◌≡◌, ◌≤◌, ℕ, List, [], ◌∷◌, ◌++◌, length, take, Option, Some, Global, refl, sym, ap, ◌∙◌, subst, arith}
+use Rattle.std.specs.declared.vec.Vec.{Vec}
+use Rattle.std.proofs.Math.Seq.{take-append_seam}
+use Rattle.std.proofs.lemmas.List.{length-append, length-reverse}
+use Rattle.fq_model.specs.declared.config.Config.{Config}
+use Rattle.fq_model.specs.declared.event.Entry.{Entry}
+use Rattle.fq_model.specs.declared.parts.Status.{Status}
+use Rattle.fq_model.specs.History.{history_of}
+use Rattle.fq_model.specs.Status.{status_of}
+use Rattle.program_model.specs.declared.trace.TraceRow.{TraceRow}
+use Rattle.history_lock.specs.Histories.{IsPrefix}
+use Rattle.history_lock.specs.Passes.{LockView}
+use Rattle.history_lock.proofs.Histories.{prefix_through}
+use Rattle.program_model.specs.Readings.{IsStatusIn, AreReadings}
+use Rattle.status_board.specs.Boards.{BoardView, ReaderView}
+use Rattle.desk.specs.declared.floor.Crew.{Crew}
+use Rattle.desk.specs.Shown.{HaveSeen}
+use Rattle.worker_gate.specs.declared.pool.Hand.TheVariants.{Watch}
+use Rattle.worker_gate.specs.Watching.{AreAnswers, Watched}
+use Rattle.worker_gate.proofs.Watching.{answers_on}
+use Rattle.trace_pool.specs.Hands.{TraceHandDid}
+
+entries_of : (C : Config) (P : List Entry) (status : Status) → status ≡ status_of C (history_of P) → status.entries ≡ length P
+unfolding status_of
+entries_of C P status told = ap (λ (s : Status). s.entries) told ∙ length-reverse P
+
+-- a status of a front part of the past is one in the past
+status_in_past : (C : Config) (P past : List Entry) (status : Status) → IsPrefix P past → status ≡ status_of C (history_of P) → IsStatusIn C past status
+status_in_past C P past status (rest, whole) told =
+    let entries : status.entries ≡ length P = entries_of C P status told in
+    let front : take status.entries past ≡ P = ap (λ n. take n past) entries ∙ (ap (take (length P)) whole ∙ take-append_seam P rest) in record {
+      within = omega (arith, entries, ap length whole, length-append P rest);
+      is_status = told ∙ ap (λ l. status_of C (history_of l)) (sym front);
+    }
+
+-- answers are readings of each past that goes on from what was seen at last
+pub readings_of : (C : Config) (seen : List Entry) (answers : List Status) (seen2 past : List Entry) → AreAnswers C seen answers seen2 → IsPrefix seen2 past → AreReadings C past (length seen) answers
+readings_of C seen [] seen2 past same on = tt
+readings_of C seen (status ∷ later) seen2 past (P, (newer, longer), told, more) on =
+    let entries : status.entries ≡ length P = entries_of C P status told in
+    let in_past : IsPrefix P past = prefix_through P seen2 past (answers_on C P later seen2 more) on in (
+      omega (arith, entries, ap length longer, length-append seen newer),
+      status_in_past C P past status in_past told,
+      subst (λ n. AreReadings C past n later) (sym entries) (readings_of C P later seen2 past more on),
+    )
+
+-- what one reader, who had seen nothing, read of a board of this configuration
+pub readings_watched : (board : BoardView) (times : ℕ) (old new : ReaderView) (given statuses : List Status) (C : Config) (past : List Entry) → Watched board times old new given statuses → given ≡ [] → old.seen ≡ [] → board.config ≡ C → IsPrefix new.seen past
+    → (length statuses ≡ times) × AreReadings C past 0 statuses
+readings_watched board times old new given statuses C past w none unseen config on =
+    let all : statuses ≡ w.answers = w.added ∙ ap (λ l. l ++ w.answers) none in
+    let answers : AreAnswers C [] w.answers new.seen = subst (λ D. AreAnswers D [] w.answers new.seen) config (subst (λ l. AreAnswers board.config l w.answers new.seen) unseen w.are_answers) in (
+      ap length all ∙ w.count,
+      subst (AreReadings C past 0) (sym all) (readings_of C [] w.answers new.seen past answers on),
+    )
+
+-- the reader of the last hand of all has seen a front part of the past
+pub reader_front : (past : List Entry) (none readers : List ReaderView) (reader : ReaderView) → none ≡ [] → readers ≡ none ++ reader ∷ [] → HaveSeen past readers → IsPrefix reader.seen past
+reader_front past none readers reader empty is seen = (subst (HaveSeen past) (is ∙ ap (λ l. l ++ reader ∷ []) empty) seen).0
+
+-- what such a hand read is read of the past
+pub watch_read : (rows : List TraceRow) (lock : LockView Crew) (shared : Option BoardView) (refresh : ℕ) (Tells : ℕ → Type 0) (board : BoardView) (reader reader2 : ReaderView) (times left : ℕ) (given seen : Vec Status Global) (C : Config) (past : List Entry)
+    → TraceHandDid rows lock shared refresh Tells (Watch reader times given) (Watch reader2 left seen) → shared ≡ Some board → board.config ≡ C → given.items ≡ [] → reader.seen ≡ [] → IsPrefix reader2.seen past
+    → (length seen.items ≡ times) × AreReadings C past 0 seen.items
+watch_read rows lock shared refresh Tells board reader reader2 times left given seen C past (board2, reader3, seen3, shown, is, w) shared_is config none unseen on =
+    let same_reader : reader3 ≡ reader2 = cc in
+    let same_seen : seen3 ≡ seen = cc in
+    let both : Some board2 ≡ Some board = sym shown ∙ shared_is in
+    let same_board : board2 ≡ board = cc in
+    subst (λ (v : Vec Status Global). (length v.items ≡ times) × AreReadings C past 0 v.items) same_seen
+    (readings_watched board2 times reader reader3 given.items seen3.items C past w none unseen (ap (λ (b : BoardView). b.config) same_board ∙ config) (subst (λ (r : ReaderView). IsPrefix r.seen past) (sym same_reader) on))
