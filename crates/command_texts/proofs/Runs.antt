@@ -8,6 +8,7 @@ use Rattle.program_model.specs.declared.command.Command.{Command}
 use Rattle.program_model.specs.declared.command.Command.TheVariants.{Plain, Live, Compare}
 use Rattle.program_model.specs.declared.command.GenPrint.{GenPrint}
 use Rattle.program_model.specs.declared.command.GenPrint.TheVariants as gen
+use Rattle.program_model.specs.declared.command.LiveOptions.{LiveOptions}
 use Rattle.program_model.specs.declared.command.PlainCommand.{PlainCommand}
 use Rattle.program_model.specs.declared.command.PlainCommand.TheVariants.{Script, Run, Gen, Check, Shape}
 use Rattle.program_model.specs.declared.ending.Failure.{Failure}
@@ -31,8 +32,9 @@ use Rattle.program_model.specs.declared.command.HistoryPrint.{HistoryPrint}
 use Rattle.program_model.specs.Generator.{generated_trace}
 use Rattle.program_model.specs.GenCommand.{default_run_options, IsGeneratedAnswer}
 use Rattle.program_model.specs.Journal.{Journal, journal_of}
-use Rattle.program_model.specs.LiveCommand.{PoolMakes, IsPoolAnswer}
+use Rattle.program_model.specs.LiveCommand.{after_lines, IsWatchedAnswer, IsPoolAnswer}
 use Rattle.program_model.specs.PoolHistory.{needed_pool_entries, pool_config}
+use Rattle.program_model.specs.Readings.{status_lines}
 use Rattle.program_model.specs.RunCommand.{IsSimulationAnswer}
 use Rattle.program_model.specs.Simulated.{needed_entries, run_config, IsSimulated}
 use Rattle.program_model.specs.declared.command.HistoryPrint.TheVariants as history
@@ -119,11 +121,21 @@ compared_sound o T answer x =
     either (inl y) = sound_as answer _ y.answer_is refl
     either (inr y) = sound_as answer _ y.answer_is refl
 
+lines_sound : (lines : List ℕ) (answer : Answer) → IsSound answer → IsSound (after_lines lines answer)
+lines_sound lines (Text status bytes) some = some
+lines_sound lines (Message status bytes) some = some
+
+-- lines change no status
+pool_sound : (Told : ℕ → Type 0) (options : LiveOptions) (T : Trace) (answer : Answer) → IsPoolAnswer Told options T answer → IsSound answer
+pool_sound Told options T answer x =
+    unless_sound (has_many_entries (needed_pool_entries T.rows options.run.refresh)) (entries_answer (needed_pool_entries T.rows options.run.refresh)) answer (IsWatchedAnswer Told options T) refl
+    (λ y. let of_past = history_answer options.print options.slot (pool_config T options.run) T.tenants T.kinds y.past in
+    sound_as answer (after_lines (status_lines y.statuses) of_past) y.answer_is (lines_sound (status_lines y.statuses) of_past
+    (history_sound (λ H. Unit {0}) options.print options.slot (pool_config T options.run) T.tenants T.kinds of_past (record { past = y.past; is_one = tt; answer_is = refl })))) x
+
 sound : (Told : ℕ → Type 0) (command : Command) (input : List ℕ) (answer : Answer) → IsAnswer Told command input answer → IsSound answer
 sound Told (Plain command) input answer x = plain_sound command input answer x
-sound Told (Live options slot print) input answer x =
-    trace_sound (IsPoolAnswer Told options slot print) input answer
-    (λ T y. counted_sound (PoolMakes Told T options) (needed_pool_entries T.rows options.refresh) print slot (pool_config T options) T.tenants T.kinds answer y) x
+sound Told (Live options) input answer x = trace_sound (IsPoolAnswer Told options) input answer (λ T y. pool_sound Told options T answer y) x
 sound Told (Compare options) input answer x = trace_sound (IsComparisonAnswer options) input answer (λ T y. compared_sound options T answer y) x
 
 -- ---- inputs that are known

@@ -131,7 +131,7 @@ one_plain (Shape rate burst) input a b some x y =
 
 pub one_answer : (Told : ℕ → Type 0) (command : Command) (input : List ℕ) (a b : Answer) → is_live command ≡ false → IsWithinLimits command → IsAnswer Told command input a → IsAnswer Told command input b → a ≡ b
 one_answer Told (Plain command) input a b plain some x y = one_plain command input a b some x y
-one_answer Told (Live options slot print) input a b plain some x y = absurd (false≢true (sym plain))
+one_answer Told (Live options) input a b plain some x y = absurd (false≢true (sym plain))
 one_answer Told (Compare options) input a b plain some x y =
     one_read trace_fault_text (IsComparisonAnswer options) (trace_of input) a b
     (λ T is. one_unless (has_many_entries (needed_entries T.rows options.refresh)) (entries_answer (needed_entries T.rows options.refresh)) a b (λ c. IsRowsAnswer T options c ⊎ IsLongAnswer T options c) (one_comparison T options (lawful input T is) a b)) x y
