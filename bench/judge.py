@@ -1,5 +1,6 @@
-"""The verdict on a journal, and why a request was taken, as `check` tells them, reckoned without any of the program's own code.
-It looks at every tenant wherever a worker chooses, and reads no journal that has a fault."""
+"""The verdict on a journal, and why a request was taken, as `check` tells them, and the status after each entry, as
+`live --watch` tells it, reckoned without any of the program's own code. It looks at every tenant wherever a worker chooses, and
+reads no journal that has a fault."""
 
 import collections
 
@@ -197,6 +198,10 @@ class History:
         else:
             self.workers = entry.rest[0]
 
+    def status(self):
+        """What a line `status` has: entries, the last moment, virtual time at it, and how many requests wait and run."""
+        return self.length, self.moment, self.virtual, self.waiting, len(self.runs)
+
     def charge(self, act, worker, request, use):
         runs, asked = self.runs[worker], self.requests[request]
         charge = use if act == "done" else max(runs.charge, use)
@@ -207,6 +212,17 @@ class History:
             del self.runs[worker]
             tenant.open -= 1
             self.costs.setdefault((asked.tenant, asked.kind), []).append(use)
+
+
+def statuses(text):
+    """The status before the first entry of a journal, and after each."""
+    journal = read(text)
+    history = History(journal)
+    stood = [history.status()]
+    for entry in journal.entries:
+        history.enter(entry)
+        stood.append(history.status())
+    return stood
 
 
 def explained(journal, heads, take):

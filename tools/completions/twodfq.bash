@@ -25,6 +25,7 @@ _twodfq() {
     'live --refresh') words='' ;;
     'live --slot') words='' ;;
     'live --print') words='journal report both summary' ;;
+    'live --watch') words='' ;;
     'gen --seed') words='' ;;
     'gen --tenants') words='' ;;
     'gen --requests') words='' ;;
@@ -40,7 +41,7 @@ _twodfq() {
         case $command in
         script) words='--print' ;;
         run) words='--workers --policy --estimate --initial --refresh --slot --print' ;;
-        live) words='--workers --policy --estimate --initial --refresh --slot --print' ;;
+        live) words='--workers --policy --estimate --initial --refresh --slot --print --watch' ;;
         gen) words='--seed --tenants --requests --print' ;;
         check) words='--explain' ;;
         shape) words='--rate --burst' ;;

@@ -27,4 +27,6 @@ mod shaped_tests;
 #[cfg(test)]
 mod stop_tests;
 #[cfg(test)]
+mod watched_tests;
+#[cfg(test)]
 mod worked_tests;

@@ -16,7 +16,7 @@ module _ (A B : ℕ → Type 0) where
   -- a command that asks none answers the same
   answers_alike : (command : Command) (input : List ℕ) (answer : Answer) → is_live command ≡ false → IsAnswer A command input answer → IsAnswer B command input answer
   answers_alike (Plain command) input answer unasked x = x
-  answers_alike (Live options slot print) input answer unasked x = absurd (false≢true (sym unasked))
+  answers_alike (Live options) input answer unasked x = absurd (false≢true (sym unasked))
   answers_alike (Compare options) input answer unasked x = x
 
   answered_alike : (command : Command) (source : Move) (answer : Answer) → is_live command ≡ false → IsAnswered A command source answer → IsAnswered B command source answer
@@ -36,19 +36,19 @@ module _ (A B : ℕ → Type 0) where
   pub plain_ends : (ask : Option Command) (source sink : Move) (end : Result ℕ Failure) → is_some (if_served is_live ask) ≡ false → is_some (if_served is_compare ask) ≡ false → Ends A (if_served is_plain ask) source sink end → Ends B (if_served is_any ask) source sink end
   plain_ends None source sink end waits compares x = x
   plain_ends (Some (Plain command)) source sink end waits compares x = ends_alike (Plain command) source sink end refl x
-  plain_ends (Some (Live options slot print)) source sink end waits compares x = absurd (false≢true (sym waits))
+  plain_ends (Some (Live options)) source sink end waits compares x = absurd (false≢true (sym waits))
   plain_ends (Some (Compare options)) source sink end waits compares x = absurd (false≢true (sym compares))
 
   -- it is a comparison, and ended so
   pub compare_ends : (ask : Option Command) (source sink : Move) (end : Result ℕ Failure) → is_some (if_served is_compare ask) ≡ true → Ends A (if_served is_compare ask) source sink end → Ends B (if_served is_any ask) source sink end
   compare_ends None source sink end compares x = absurd (false≢true compares)
   compare_ends (Some (Plain command)) source sink end compares x = absurd (false≢true compares)
-  compare_ends (Some (Live options slot print)) source sink end compares x = absurd (false≢true compares)
+  compare_ends (Some (Live options)) source sink end compares x = absurd (false≢true compares)
   compare_ends (Some (Compare options)) source sink end compares x = ends_alike (Compare options) source sink end refl x
 
 -- what is asked waits for threads, and ended so
 pub live_ends : (Told : ℕ → Type 0) (ask : Option Command) (source sink : Move) (end : Result ℕ Failure) → is_some (if_served is_live ask) ≡ true → Ends Told (if_served is_live ask) source sink end → Ends Told (if_served is_any ask) source sink end
 live_ends Told None source sink end live x = absurd (false≢true live)
 live_ends Told (Some (Plain command)) source sink end live x = absurd (false≢true live)
-live_ends Told (Some (Live options slot print)) source sink end live x = x
+live_ends Told (Some (Live options)) source sink end live x = x
 live_ends Told (Some (Compare options)) source sink end live x = absurd (false≢true live)

@@ -1,11 +1,24 @@
--- A history of a pool leaves no request undone.
-use Rattle.std.proofs.Common.{ℕ, ◌≡◌, ap, refl, Bool, true, false, not, ◌&&◌, None}
-use Rattle.fq_model.specs.History.{History, is_submitted, is_done, request_bound}
+-- What is answered of a history of a pool, which leaves no request undone.
+use Rattle.std.proofs.Common.{ℕ, ◌≡◌, ◌∙◌, ap, refl, List, ◌++◌, length, Bool, true, false, not, ◌&&◌, None}
+use Rattle.std.specs.String.{string_bytes}
+use Rattle.fq_model.specs.declared.config.Config.{Config}
+use Rattle.fq_model.specs.declared.event.Entry.{Entry}
+use Rattle.fq_model.specs.declared.parts.Status.{Status}
+use Rattle.fq_model.specs.History.{History, history_of, is_submitted, is_done, request_bound}
 use Rattle.fq_model.specs.Report.{unfinished, is_unfinished}
 use Rattle.fq_laws.proofs.Sums.{least_by}
+use Rattle.program_model.specs.declared.command.LiveOptions.{LiveOptions}
+use Rattle.program_model.specs.declared.ending.Stop.{Stop}
+use Rattle.program_model.specs.declared.ending.Stop.TheVariants as stops
 use Rattle.program_model.specs.declared.trace.RunOptions.{RunOptions}
-use Rattle.program_model.specs.PoolHistory.{IsPoolHistory}
+use Rattle.program_model.specs.Answer.{Answer, Text, Message}
+use Rattle.program_model.specs.HistoryAnswer.{history_answer, has_many_entries, entries_answer}
+use Rattle.program_model.specs.LiveCommand.{PoolMakes, after_lines, IsWatchedAnswer, IsPoolAnswer}
+use Rattle.program_model.specs.PoolHistory.{needed_pool_entries, pool_config, IsPoolHistory}
+use Rattle.program_model.specs.Readings.{AreReadings, status_lines}
 use Rattle.program_model.specs.Trace.{Trace}
+use Rattle.command_texts.specs.Making.{IsStop}
+use Rattle.command_texts.proofs.Making.{else_answers}
 
 module _ (T : Trace) (O : RunOptions) (H : History) (s : IsPoolHistory T O H) where
   not_unfinished : (r : ℕ) (b : Bool) → is_submitted H r ≡ b → (b && not (is_done H r)) ≡ false
@@ -15,3 +28,36 @@ module _ (T : Trace) (O : RunOptions) (H : History) (s : IsPoolHistory T O H) wh
   pub none_unfinished : unfinished H ≡ None
   unfolding unfinished
   none_unfinished = least_by (is_unfinished H) request_bound None (λ r _. not_unfinished r (is_submitted H r) refl)
+
+-- a history of the pool, and what was read while it grew
+pub record IsServed (Told : ℕ → Type 0) (T : Trace) (o : LiveOptions) (past : List Entry) (statuses : List Status) : Type 0 where
+  pub few : has_many_entries (needed_pool_entries T.rows o.run.refresh) ≡ false
+  pub makes : PoolMakes Told T o.run (history_of past)
+  pub count : length statuses ≡ o.watch
+  pub readings : AreReadings (pool_config T o.run) past 0 statuses
+
+module _ (Told : ℕ → Type 0) (T : Trace) (o : LiveOptions) (C : Config) (past : List Entry) (statuses : List Status) (s : IsServed Told T o past statuses) (config : C ≡ pool_config T o.run) where
+  -- what is answered of that past alone, in order of time
+  abbrev OfPast : Answer → Type 0
+  OfPast answer = answer ≡ history_answer o.print o.slot C T.tenants T.kinds past
+
+  with_them : (answer of_past : Answer) → OfPast of_past → answer ≡ after_lines (status_lines statuses) of_past → IsPoolAnswer Told o T answer
+  with_them answer of_past is lines =
+      else_answers (has_many_entries (needed_pool_entries T.rows o.run.refresh)) (entries_answer (needed_pool_entries T.rows o.run.refresh)) answer (IsWatchedAnswer Told o T) s.few
+      (record {
+        past = past;
+        makes = s.makes;
+        statuses = statuses;
+        count = s.count;
+        readings = s.readings;
+        answer_is = lines ∙ ap (after_lines (status_lines statuses)) (is ∙ ap (λ D. history_answer o.print o.slot D T.tenants T.kinds past) config);
+      })
+
+  -- a text, with their lines before it
+  pub watched_text : (status : ℕ) (text more : List ℕ) → OfPast (Text status text) → more ≡ status_lines statuses ++ text → IsPoolAnswer Told o T (Text status more)
+  watched_text status text more is lines = with_them (Text status more) (Text status text) is (ap (Text status) lines)
+
+  -- a message has none
+  pub watched_stop : (stop : Stop) → IsStop OfPast stop → IsStop (IsPoolAnswer Told o T) stop
+  watched_stop (stops.Message status message) is = with_them (Message status (string_bytes message)) (Message status (string_bytes message)) is refl
+  watched_stop stops.NoMemory is = tt

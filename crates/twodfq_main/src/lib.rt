@@ -6,3 +6,4 @@ pub mod ending;
 mod live;
 pub mod program;
 mod reading;
+mod statuses;

@@ -6,19 +6,19 @@ ghost use Rattle.program_model.specs.RunLimits.{AreInRange};
 ghost use Rattle.program_model.specs.TraceText.{IsLawfulTrace};
 ghost use Rattle.command_texts.specs.Making.{Makes};
 
+use crate::statuses::after_lines;
 use command_texts::history::last_history;
 use command_texts::run::too_many_entries;
 use command_texts::traces::trace;
 use fitted_chooser::chooser::ProgramChooser;
 use fq_io::Clock;
-use program_model::command::HistoryPrint;
+use program_model::command::LiveOptions;
 use program_model::ending::{Output, Stop};
-use program_model::trace::RunOptions;
 use std::alloc::Global;
 use std::sync::Wait;
 use std::thread::Threads;
 use trace_pool::fault::PoolFault;
-use trace_pool::serving::serve;
+use trace_pool::serving::{Served, serve};
 use trace_reader::trace::Trace;
 
 /// What `live` answers to its input, which is given up before the pool begins. The clock is asked by the pool's threads
@@ -26,18 +26,15 @@ use trace_reader::trace::Trace;
 pub fn answer<T: Wait + Threads + Sync, K: Clock + Sync>(
     rt: &T,
     alloc: Global,
-    options: RunOptions,
-    slot: u64,
-    what: HistoryPrint,
+    options: LiveOptions,
     input: Vec<u8>,
     clock: &K,
 ) -> Result<Output, Stop>
-    requires options { AreInRange options }
-    requires slot { slot ≤ GREATEST_SLOT }
-    ensures { Makes (IsLiveAnswer (K.tells clock.now) options slot what input.items) result }
+    requires { AreInRange options.run × (options.slot ≤ GREATEST_SLOT) }
+    ensures { Makes (IsLiveAnswer (K.tells clock.now) options input.items) result }
 {
     let trace = trace(alloc, input)?;
-    let output = served(rt, alloc, &trace, options, slot, what, clock);
+    let output = served(rt, alloc, &trace, options, clock);
     drop(trace);
     output
 }
@@ -47,20 +44,33 @@ fn served<T: Wait + Threads + Sync, K: Clock + Sync>(
     rt: &T,
     alloc: Global,
     trace: &Trace,
-    options: RunOptions,
-    slot: u64,
-    what: HistoryPrint,
+    options: LiveOptions,
     clock: &K,
 ) -> Result<Output, Stop>
     requires lawful { IsLawfulTrace trace.now }
-    requires options { AreInRange options }
-    requires slot { slot ≤ GREATEST_SLOT }
-    ensures { Makes (IsPoolAnswer (K.tells clock.now) options slot what trace.now) result }
+    requires options { AreInRange options.run × (options.slot ≤ GREATEST_SLOT) }
+    ensures { Makes (IsPoolAnswer (K.tells clock.now) options trace.now) result }
 {
-    match serve::<ProgramChooser, K, T>(rt, alloc, trace, options, clock) {
-        Ok(history) => {
+    let served = serve::<ProgramChooser, K, T>(
+        rt,
+        alloc,
+        trace,
+        options.run,
+        options.watch,
+        clock,
+    );
+    match served {
+        Ok(Served { history, statuses }) => {
             let (tenants, kinds) = (trace.tenants(), trace.kinds());
-            last_history(alloc, what, slot, history, tenants, kinds)
+            let output = last_history(
+                alloc,
+                options.print,
+                options.slot,
+                history,
+                tenants,
+                kinds,
+            )?;
+            Ok(after_lines(alloc, statuses, output)?)
         }
         Err(PoolFault::TooManyEntries(needed)) => Err(too_many_entries(alloc, needed)),
         Err(PoolFault::NoMemory) => Err(Stop::NoMemory),

@@ -112,7 +112,7 @@ pub fn compare<T: Threads + Sync, R: Source, W: Sink, E: Sink>(
     told(errs, end)
 }
 
-/// The commands that wait for nobody; words for another are no command line here. It always returns; the answer is the
+/// The commands that need no threads; words for another are no command line here. It always returns; the answer is the
 /// exit status.
 pub fn plain<R: Source, W: Sink, E: Sink>(
     alloc: Global,
@@ -149,15 +149,9 @@ fn live_end<T: Wait + Threads + Sync, R: Source, W: Sink, K: Clock + Sync>(
     ensures sink_room { W.room sink.new ≡ W.room sink.old }
 {
     match ask {
-        Some(
-            Command::Live {
-                options,
-                slot,
-                print,
-            },
-        ) => {
+        Some(Command::Live { options }) => {
             let input = read_input(alloc, true, source)?;
-            let output = live::answer(rt, alloc, options, slot, print, input, clock);
+            let output = live::answer(rt, alloc, options, input, clock);
             written(sink, output)
         }
         _ => Err(Failure::Words),
@@ -189,7 +183,7 @@ fn compare_end<T: Threads + Sync, R: Source, W: Sink>(
     }
 }
 
-// Does what is asked, if it waits for nobody, or says why not.
+// Does what is asked, if it needs no threads, or says why not.
 fn plain_end<R: Source, W: Sink>(
     alloc: Global,
     ask: Option<Command>,

@@ -7,7 +7,7 @@ use Rattle.twodfq_main.proofs.program.live_end.Goals as goal
 pub returns-in_ok-input-in-Some-Live-clause-ends : goal.returns-in_ok-input-in-Some-Live-clause-ends
 returns-in_ok-input-in-Some-Live-clause-ends g c =
     let told = g.K.Clock.tells c.args.clock.now in
-    let command = Live c.in-Some-Live.options c.in-Some-Live.slot c.in-Some-Live.print in
+    let command = Live c.in-Some-Live.options in
     let source = moved g.R.Source.left g.R.Source.faults c.args.source.now c.read_input.new.source in
     let sink = moved g.W.Sink.written g.W.Sink.faults c.args.sink.now c.written.new.sink in
     let read = c.in_ok-input-in-Some-Live in
