@@ -1,5 +1,5 @@
 -- What each end of the program says of its status.
-use Rattle.std.proofs.Common.{ℕ, ◌<◌, ◌≤◌, ◌≡◌, ◌∙◌, sym, ap, subst, refl, arith, nat_lt, Bool, true, false, ◌&&◌, if◌then◌else◌, List, [], ◌++◌, length, Option, Some, None, Result, Ok, Err, ◌⊎◌, inl, inr}
+use Rattle.std.proofs.Common.{ℕ, ◌<◌, ◌≤◌, ◌≡◌, ◌∙◌, sym, ap, subst, refl, arith, nat_lt, ◌==◌, Bool, true, false, ◌&&◌, if◌then◌else◌, List, [], ◌++◌, length, Option, Some, None, Result, Ok, Err, ◌⊎◌, inl, inr}
 use Rattle.std.specs.Prelude.{IfSome, IsSomeAnd}
 use Rattle.std.specs.String.{string_bytes}
 use Rattle.std.proofs.lemmas.Bool.{false≢true, lt-ltb, ltb-true}
@@ -8,8 +8,9 @@ use Rattle.program_model.specs.declared.command.Command.{Command}
 use Rattle.program_model.specs.declared.command.Command.TheVariants.{Plain, Live, Compare}
 use Rattle.program_model.specs.declared.command.GenPrint.{GenPrint}
 use Rattle.program_model.specs.declared.command.GenPrint.TheVariants as gen
+use Rattle.program_model.specs.declared.command.LiveOptions.{LiveOptions}
 use Rattle.program_model.specs.declared.command.PlainCommand.{PlainCommand}
-use Rattle.program_model.specs.declared.command.PlainCommand.TheVariants.{Script, Run, Gen, Check, Shape}
+use Rattle.program_model.specs.declared.command.PlainCommand.TheVariants.{Script, Run, Gen, Check, Lead, Shape}
 use Rattle.program_model.specs.declared.ending.Failure.{Failure}
 use Rattle.program_model.specs.declared.ending.Failure.TheVariants.{Words, TooLong, Reading, Writing, Stopped}
 use Rattle.program_model.specs.declared.ending.Stop.TheVariants as stops
@@ -21,18 +22,24 @@ use Rattle.program_model.specs.declared.compare.CompareOptions.{CompareOptions}
 use Rattle.program_model.specs.CompareCommand.{IsRowsAnswer, IsLongAnswer, IsComparisonAnswer}
 use Rattle.program_model.specs.Commands.{reads_input, IsPlainAnswer, IsAnswer}
 use Rattle.program_model.specs.Conforms.{too_big, too_late}
+use Rattle.program_model.specs.Document.{config_of}
 use Rattle.program_model.specs.Ending.{failure_message, status_of}
 use Rattle.program_model.specs.FaultTexts.{script_fault_text, journal_fault_text, trace_fault_text}
 use Rattle.program_model.specs.HistoryAnswer.{IsHistoryAnswer, has_many_entries, entries_answer, makes_report, has_many_cells, cells_answer, history_output, history_answer}
 use Rattle.fq_model.specs.declared.config.Config.{Config}
 use Rattle.fq_model.specs.History.{History, history_of}
+use Rattle.fq_model.specs.Lead.{measured_gap}
+use Rattle.fq_model.specs.Names.{number_among}
 use Rattle.fq_model.specs.Report.{cells_of}
 use Rattle.program_model.specs.declared.command.HistoryPrint.{HistoryPrint}
 use Rattle.program_model.specs.Generator.{generated_trace}
 use Rattle.program_model.specs.GenCommand.{default_run_options, IsGeneratedAnswer}
 use Rattle.program_model.specs.Journal.{Journal, journal_of}
-use Rattle.program_model.specs.LiveCommand.{PoolMakes, IsPoolAnswer}
+use Rattle.program_model.specs.LeadCommand.{lead_text, same_answer, pair_answer, lead_answer, IsLeadTold}
+use Rattle.program_model.specs.LiveCommand.{after_lines, IsWatchedAnswer, IsPoolAnswer}
+use Rattle.program_model.specs.Names.{text_of}
 use Rattle.program_model.specs.PoolHistory.{needed_pool_entries, pool_config}
+use Rattle.program_model.specs.Readings.{status_lines}
 use Rattle.program_model.specs.RunCommand.{IsSimulationAnswer}
 use Rattle.program_model.specs.Simulated.{needed_entries, run_config, IsSimulated}
 use Rattle.program_model.specs.declared.command.HistoryPrint.TheVariants as history
@@ -83,6 +90,19 @@ verdict_sound (Bad place reply wanted) text = refl
 judged_sound : (asked : Option ℕ) (journal : Journal) (answer : Answer) → IsJudged asked journal answer → IsSound answer
 judged_sound asked journal answer x = sound_as answer _ x.answer_is (verdict_sound x.verdict (verdict_text journal.body x.verdict ++ x.explanation))
 
+pair_sound : (journal : Journal) (of over : List ℕ) (f g : Option ℕ) → IsSound (pair_answer journal of over f g)
+pair_sound journal of over None g = refl
+pair_sound journal of over (Some f) None = refl
+pair_sound journal of over (Some f) (Some g) =
+    either_sound (f == g) (same_answer of) (Text 0 (lead_text of over (measured_gap (config_of journal) (history_of journal.body) f g))) refl refl
+
+lead_sound : (of over : List ℕ) (journal : Journal) (answer : Answer) → IsLeadTold of over journal answer → IsSound answer
+lead_sound of over journal answer x = sound_as answer (lead_answer of over journal x.verdict) x.answer_is (go x.verdict)
+  where
+    go : (verdict : Verdict) → IsSound (lead_answer of over journal verdict)
+    go Legal = pair_sound journal of over (number_among journal.tenants of) (number_among journal.tenants over)
+    go (Bad place reply wanted) = refl
+
 moments_sound : (T : Trace) (moments : List ℕ) (late : Option ℕ) → IsSound (moments_answer T moments late)
 moments_sound T moments None = refl
 moments_sound T moments (Some r) = refl
@@ -109,6 +129,8 @@ plain_sound (Run options slot print) input answer x =
     (λ T y. counted_sound (IsSimulated T options) (needed_entries T.rows options.refresh) print slot (run_config T options) T.tenants T.kinds answer y) x
 plain_sound (Gen seed tenants requests print) input answer x = generated_sound print (generated_trace seed tenants requests) answer x
 plain_sound (Check explain) input answer x = read_sound journal_fault_text (IsJudged explain) (journal_of input) answer (λ journal y. judged_sound explain journal answer y) x
+plain_sound (Lead of over) input answer x =
+    read_sound journal_fault_text (IsLeadTold (text_of of) (text_of over)) (journal_of input) answer (λ journal y. lead_sound (text_of of) (text_of over) journal answer y) x
 plain_sound (Shape rate burst) input answer x = trace_sound (IsShapedAnswer rate burst) input answer (λ T y. sized_sound rate burst T (too_big T burst) answer y) x
 
 compared_sound : (o : CompareOptions) (T : Trace) (answer : Answer) → IsComparisonAnswer o T answer → IsSound answer
@@ -119,11 +141,21 @@ compared_sound o T answer x =
     either (inl y) = sound_as answer _ y.answer_is refl
     either (inr y) = sound_as answer _ y.answer_is refl
 
+lines_sound : (lines : List ℕ) (answer : Answer) → IsSound answer → IsSound (after_lines lines answer)
+lines_sound lines (Text status bytes) some = some
+lines_sound lines (Message status bytes) some = some
+
+-- lines change no status
+pool_sound : (Told : ℕ → Type 0) (options : LiveOptions) (T : Trace) (answer : Answer) → IsPoolAnswer Told options T answer → IsSound answer
+pool_sound Told options T answer x =
+    unless_sound (has_many_entries (needed_pool_entries T.rows options.run.refresh)) (entries_answer (needed_pool_entries T.rows options.run.refresh)) answer (IsWatchedAnswer Told options T) refl
+    (λ y. let of_past = history_answer options.print options.slot (pool_config T options.run) T.tenants T.kinds y.past in
+    sound_as answer (after_lines (status_lines y.statuses) of_past) y.answer_is (lines_sound (status_lines y.statuses) of_past
+    (history_sound (λ H. Unit {0}) options.print options.slot (pool_config T options.run) T.tenants T.kinds of_past (record { past = y.past; is_one = tt; answer_is = refl })))) x
+
 sound : (Told : ℕ → Type 0) (command : Command) (input : List ℕ) (answer : Answer) → IsAnswer Told command input answer → IsSound answer
 sound Told (Plain command) input answer x = plain_sound command input answer x
-sound Told (Live options slot print) input answer x =
-    trace_sound (IsPoolAnswer Told options slot print) input answer
-    (λ T y. counted_sound (PoolMakes Told T options) (needed_pool_entries T.rows options.refresh) print slot (pool_config T options) T.tenants T.kinds answer y) x
+sound Told (Live options) input answer x = trace_sound (IsPoolAnswer Told options) input answer (λ T y. pool_sound Told options T answer y) x
 sound Told (Compare options) input answer x = trace_sound (IsComparisonAnswer options) input answer (λ T y. compared_sound options T answer y) x
 
 -- ---- inputs that are known
