@@ -3,7 +3,7 @@
 _twodfq() {
     local command=${COMP_WORDS[1]:-} current=${COMP_WORDS[COMP_CWORD]} before=${COMP_WORDS[COMP_CWORD - 1]} words option
     if [ "$COMP_CWORD" = 1 ]; then
-        mapfile -t COMPREPLY < <(compgen -W 'script run live gen check shape compare help --help --version' -- "$current")
+        mapfile -t COMPREPLY < <(compgen -W 'script run live gen check lead shape compare help --help --version' -- "$current")
         return
     fi
     # (bash takes = for a word of its own)
@@ -31,6 +31,8 @@ _twodfq() {
     'gen --requests') words='' ;;
     'gen --print') words='trace summary' ;;
     'check --explain') words='' ;;
+    'lead --of') words='' ;;
+    'lead --over') words='' ;;
     'shape --rate') words='' ;;
     'shape --burst') words='' ;;
     'compare --workers') words='' ;;
@@ -44,6 +46,7 @@ _twodfq() {
         live) words='--workers --policy --estimate --initial --refresh --slot --print --watch' ;;
         gen) words='--seed --tenants --requests --print' ;;
         check) words='--explain' ;;
+        lead) words='--of --over' ;;
         shape) words='--rate --burst' ;;
         compare) words='--workers --initial --refresh --slot' ;;
         *) words= ;;

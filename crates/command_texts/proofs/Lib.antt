@@ -3,3 +3,4 @@ pub mod Reports
 pub mod Serving
 pub mod Runs
 mod Shapes
+pub mod Leads

@@ -1,5 +1,5 @@
 -- What each end of the program says of its status.
-use Rattle.std.proofs.Common.{ℕ, ◌<◌, ◌≤◌, ◌≡◌, ◌∙◌, sym, ap, subst, refl, arith, nat_lt, Bool, true, false, ◌&&◌, if◌then◌else◌, List, [], ◌++◌, length, Option, Some, None, Result, Ok, Err, ◌⊎◌, inl, inr}
+use Rattle.std.proofs.Common.{ℕ, ◌<◌, ◌≤◌, ◌≡◌, ◌∙◌, sym, ap, subst, refl, arith, nat_lt, ◌==◌, Bool, true, false, ◌&&◌, if◌then◌else◌, List, [], ◌++◌, length, Option, Some, None, Result, Ok, Err, ◌⊎◌, inl, inr}
 use Rattle.std.specs.Prelude.{IfSome, IsSomeAnd}
 use Rattle.std.specs.String.{string_bytes}
 use Rattle.std.proofs.lemmas.Bool.{false≢true, lt-ltb, ltb-true}
@@ -10,7 +10,7 @@ use Rattle.program_model.specs.declared.command.GenPrint.{GenPrint}
 use Rattle.program_model.specs.declared.command.GenPrint.TheVariants as gen
 use Rattle.program_model.specs.declared.command.LiveOptions.{LiveOptions}
 use Rattle.program_model.specs.declared.command.PlainCommand.{PlainCommand}
-use Rattle.program_model.specs.declared.command.PlainCommand.TheVariants.{Script, Run, Gen, Check, Shape}
+use Rattle.program_model.specs.declared.command.PlainCommand.TheVariants.{Script, Run, Gen, Check, Lead, Shape}
 use Rattle.program_model.specs.declared.ending.Failure.{Failure}
 use Rattle.program_model.specs.declared.ending.Failure.TheVariants.{Words, TooLong, Reading, Writing, Stopped}
 use Rattle.program_model.specs.declared.ending.Stop.TheVariants as stops
@@ -22,17 +22,22 @@ use Rattle.program_model.specs.declared.compare.CompareOptions.{CompareOptions}
 use Rattle.program_model.specs.CompareCommand.{IsRowsAnswer, IsLongAnswer, IsComparisonAnswer}
 use Rattle.program_model.specs.Commands.{reads_input, IsPlainAnswer, IsAnswer}
 use Rattle.program_model.specs.Conforms.{too_big, too_late}
+use Rattle.program_model.specs.Document.{config_of}
 use Rattle.program_model.specs.Ending.{failure_message, status_of}
 use Rattle.program_model.specs.FaultTexts.{script_fault_text, journal_fault_text, trace_fault_text}
 use Rattle.program_model.specs.HistoryAnswer.{IsHistoryAnswer, has_many_entries, entries_answer, makes_report, has_many_cells, cells_answer, history_output, history_answer}
 use Rattle.fq_model.specs.declared.config.Config.{Config}
 use Rattle.fq_model.specs.History.{History, history_of}
+use Rattle.fq_model.specs.Lead.{measured_gap}
+use Rattle.fq_model.specs.Names.{number_among}
 use Rattle.fq_model.specs.Report.{cells_of}
 use Rattle.program_model.specs.declared.command.HistoryPrint.{HistoryPrint}
 use Rattle.program_model.specs.Generator.{generated_trace}
 use Rattle.program_model.specs.GenCommand.{default_run_options, IsGeneratedAnswer}
 use Rattle.program_model.specs.Journal.{Journal, journal_of}
+use Rattle.program_model.specs.LeadCommand.{lead_text, same_answer, pair_answer, lead_answer, IsLeadTold}
 use Rattle.program_model.specs.LiveCommand.{after_lines, IsWatchedAnswer, IsPoolAnswer}
+use Rattle.program_model.specs.Names.{text_of}
 use Rattle.program_model.specs.PoolHistory.{needed_pool_entries, pool_config}
 use Rattle.program_model.specs.Readings.{status_lines}
 use Rattle.program_model.specs.RunCommand.{IsSimulationAnswer}
@@ -85,6 +90,19 @@ verdict_sound (Bad place reply wanted) text = refl
 judged_sound : (asked : Option ℕ) (journal : Journal) (answer : Answer) → IsJudged asked journal answer → IsSound answer
 judged_sound asked journal answer x = sound_as answer _ x.answer_is (verdict_sound x.verdict (verdict_text journal.body x.verdict ++ x.explanation))
 
+pair_sound : (journal : Journal) (of over : List ℕ) (f g : Option ℕ) → IsSound (pair_answer journal of over f g)
+pair_sound journal of over None g = refl
+pair_sound journal of over (Some f) None = refl
+pair_sound journal of over (Some f) (Some g) =
+    either_sound (f == g) (same_answer of) (Text 0 (lead_text of over (measured_gap (config_of journal) (history_of journal.body) f g))) refl refl
+
+lead_sound : (of over : List ℕ) (journal : Journal) (answer : Answer) → IsLeadTold of over journal answer → IsSound answer
+lead_sound of over journal answer x = sound_as answer (lead_answer of over journal x.verdict) x.answer_is (go x.verdict)
+  where
+    go : (verdict : Verdict) → IsSound (lead_answer of over journal verdict)
+    go Legal = pair_sound journal of over (number_among journal.tenants of) (number_among journal.tenants over)
+    go (Bad place reply wanted) = refl
+
 moments_sound : (T : Trace) (moments : List ℕ) (late : Option ℕ) → IsSound (moments_answer T moments late)
 moments_sound T moments None = refl
 moments_sound T moments (Some r) = refl
@@ -111,6 +129,8 @@ plain_sound (Run options slot print) input answer x =
     (λ T y. counted_sound (IsSimulated T options) (needed_entries T.rows options.refresh) print slot (run_config T options) T.tenants T.kinds answer y) x
 plain_sound (Gen seed tenants requests print) input answer x = generated_sound print (generated_trace seed tenants requests) answer x
 plain_sound (Check explain) input answer x = read_sound journal_fault_text (IsJudged explain) (journal_of input) answer (λ journal y. judged_sound explain journal answer y) x
+plain_sound (Lead of over) input answer x =
+    read_sound journal_fault_text (IsLeadTold (text_of of) (text_of over)) (journal_of input) answer (λ journal y. lead_sound (text_of of) (text_of over) journal answer y) x
 plain_sound (Shape rate burst) input answer x = trace_sound (IsShapedAnswer rate burst) input answer (λ T y. sized_sound rate burst T (too_big T burst) answer y) x
 
 compared_sound : (o : CompareOptions) (T : Trace) (answer : Answer) → IsComparisonAnswer o T answer → IsSound answer

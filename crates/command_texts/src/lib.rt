@@ -6,6 +6,7 @@
 pub mod checking;
 pub mod generation;
 pub mod history;
+pub mod leading;
 pub mod messages;
 pub mod plain;
 pub mod run;

@@ -3,7 +3,7 @@ ghost use Rattle.program_model.specs.CommandLimits.{IsPlainInRange};
 ghost use Rattle.program_model.specs.Commands.{IsPlainAnswer};
 ghost use Rattle.command_texts.specs.Making.{Makes};
 
-use crate::{checking, generation, run, script, shaping};
+use crate::{checking, generation, leading, run, script, shaping};
 use fitted_chooser::chooser::ProgramChooser;
 use program_model::command::PlainCommand;
 use program_model::ending::{Output, Stop};
@@ -35,6 +35,7 @@ pub fn answer(alloc: Global, command: PlainCommand, input: Vec<u8>) -> Result<Ou
             generation::answer(alloc, seed, tenants, requests, print)
         }
         PlainCommand::Check { explain } => checking::answer(alloc, explain, input),
+        PlainCommand::Lead { of, over } => leading::answer(alloc, of, over, input),
         PlainCommand::Shape { rate, burst } => shaping::answer(alloc, rate, burst, input),
     }
 }

@@ -14,7 +14,7 @@ use Rattle.program_model.specs.declared.command.GenPrint.TheVariants as gen
 use Rattle.program_model.specs.declared.command.HistoryPrint.{HistoryPrint}
 use Rattle.program_model.specs.declared.command.HistoryPrint.TheVariants as history
 use Rattle.program_model.specs.declared.command.PlainCommand.{PlainCommand}
-use Rattle.program_model.specs.declared.command.PlainCommand.TheVariants.{Script, Run, Gen, Check, Shape}
+use Rattle.program_model.specs.declared.command.PlainCommand.TheVariants.{Script, Run, Gen, Check, Lead, Shape}
 use Rattle.program_model.specs.declared.command.ScriptPrint.{ScriptPrint}
 use Rattle.program_model.specs.declared.trace.RunOptions.{RunOptions}
 use Rattle.program_model.specs.declared.trace.TraceRow.{TraceRow}
@@ -32,6 +32,8 @@ use Rattle.program_model.specs.Generator.{generated_trace}
 use Rattle.program_model.specs.HistoryAnswer.{IsHistoryAnswer, history_answer, has_many_entries, entries_answer}
 use Rattle.program_model.specs.Journal.{Journal, journal_of}
 use Rattle.program_model.specs.JournalText.{journal_text}
+use Rattle.program_model.specs.LeadCommand.{lead_answer, IsLeadTold}
+use Rattle.program_model.specs.Names.{text_of}
 use Rattle.program_model.specs.RunCommand.{IsSimulatedAnswer, IsSimulationAnswer}
 use Rattle.program_model.specs.Script.{Script as Calls, script_of}
 use Rattle.program_model.specs.ScriptCommand.{script_output_text, AreCallsMade}
@@ -110,6 +112,11 @@ one_judged asked journal a b x y =
     ∙ (ap (λ (v : Verdict). Text (verdict_status v) (verdict_text journal.body v ++ y.explanation)) same
     ∙ sym y.answer_is))
 
+one_lead : (of over : List ℕ) (journal : Journal) (a b : Answer) → IsLeadTold of over journal a → IsLeadTold of over journal b → a ≡ b
+one_lead of over journal a b x y =
+    let same = one_verdict (config_of journal) journal.body x.verdict y.verdict x.is_verdict y.is_verdict in
+    x.answer_is ∙ (ap (lead_answer of over journal) same ∙ sym y.answer_is)
+
 -- what is said of the least moments is one answer, since they are
 one_sized : (rate burst : ℕ) (T : Trace) (big : Option ℕ) (a b : Answer) → IsSizedAnswer rate burst T big a → IsSizedAnswer rate burst T big b → a ≡ b
 one_sized rate burst T None a b x y =
@@ -126,6 +133,8 @@ one_plain (Run options slot print) input a b some x y =
 one_plain (Gen seed tenants requests print) input a b some x y =
     one_generated print (generated_trace seed tenants requests) a b (generated_lawful seed tenants requests some.0.0 some.0.1 some.1) x y
 one_plain (Check explain) input a b some x y = one_read journal_fault_text (IsJudged explain) (journal_of input) a b (λ journal is. one_judged explain journal a b) x y
+one_plain (Lead of over) input a b some x y =
+    one_read journal_fault_text (IsLeadTold (text_of of) (text_of over)) (journal_of input) a b (λ journal is. one_lead (text_of of) (text_of over) journal a b) x y
 one_plain (Shape rate burst) input a b some x y =
     one_read trace_fault_text (IsShapedAnswer rate burst) (trace_of input) a b (λ T is. one_sized rate burst T (too_big T burst) a b) x y
 

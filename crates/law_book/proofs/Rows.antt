@@ -4,7 +4,7 @@ use Rattle.std.specs.Prelude.{All}
 use Rattle.std.proofs.lemmas.List.Elements.{All-cons, All-nil}
 use Rattle.program_model.specs.declared.command.Command.{Command}
 use Rattle.program_model.specs.Commands.{built_commands}
-use Rattle.program_model.specs.Options.{CommandRow, command_of, values_in, number_for}
+use Rattle.program_model.specs.Options.{CommandRow, command_of, values_in, argument_for}
 use Rattle.law_book.specs.Programs.{IsOwnRow, AreOwnRows, GenRunsByDefaults}
 
 -- each of these rows means commands of its own
@@ -19,8 +19,8 @@ all_own (row ∷ rows) own = All-cons IsOwnRow row rows own.0 (all_own rows own.
 
 pub own_rows : AreOwnRows
 unfolding AllOwn
-own_rows = all_own built_commands ((λ values. refl), ((λ values. refl), ((λ values. refl), ((λ values. refl), ((λ values. refl), ((λ values. refl), ((λ values. refl), tt)))))))
+own_rows = all_own built_commands ((λ values. refl), ((λ values. refl), ((λ values. refl), ((λ values. refl), ((λ values. refl), ((λ values. refl), ((λ values. refl), ((λ values. refl), tt))))))))
 
 pub gen_runs_by_defaults : GenRunsByDefaults
-unfolding command_of values_in number_for
+unfolding command_of values_in argument_for
 gen_runs_by_defaults = refl

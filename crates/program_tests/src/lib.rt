@@ -15,6 +15,8 @@ mod io_tests;
 #[cfg(test)]
 mod judged_tests;
 #[cfg(test)]
+mod lead_tests;
+#[cfg(test)]
 mod live_tests;
 #[cfg(test)]
 mod overlap_tests;

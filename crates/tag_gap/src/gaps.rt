@@ -51,8 +51,8 @@ pub fn tag_gap(
     gap_of(alloc, past, config, asked.as_slice(), f, g)
 }
 
-// Why these two tenants have no gap, in whatever history, if they have none.
-fn tenant_fault(config: &Checked, f: u32, g: u32) -> Option<GapFault>
+/// Why these two tenants have no gap, in whatever history, if they have none.
+pub fn tenant_fault(config: &Checked, f: u32, g: u32) -> Option<GapFault>
     ensures fault { result ≡ tenant_fault config.now f g }
     ensures limits { InLimits config.now }
 {

@@ -1,10 +1,12 @@
 //! How far one tenant got ahead of another while both waited.
-ghost use Rattle.std.specs.Prelude.{◌≡◌, ◌≢◌, ◌<◌, ◌≤◌, ◌∷◌, [], length, IfOk, IfSome, option_map, ◌≤ℤ◌};
+ghost use Rattle.std.specs.Prelude.{◌≡◌, ◌≢◌, ◌<◌, ◌≤◌, ◌⊎◌, ◌∷◌, [], length, IfOk, IfErr, IfSome, Err, Some, None, option_map, ◌≤ℤ◌};
 ghost use Rattle.fq_model.specs.History.{history_of};
 ghost use Rattle.fq_model.specs.Lead.{measured_gap};
 ghost use Rattle.fq_model.specs.Limits.{InLimits};
 ghost use Rattle.fq_model.specs.Rules.{IsLegal};
-ghost use Rattle.tag_gap.specs.Gaps.{told};
+ghost use Rattle.tag_gap.specs.Gaps.{told, tenant_fault};
+ghost use Rattle.tag_gap.specs.declared.fault.GapFault.{GapFault};
+ghost use Rattle.tag_gap.specs.declared.fault.GapFault.TheVariants as faults;
 ghost use Rattle.tag_lead.specs.Found.{LeadsIn};
 ghost use Rattle.tag_lead.specs.Leads.{ahead_by, ahead_at, taken_by, taken_at};
 ghost use Rattle.tag_lead.specs.Spans.{LongestAre, ShortestAre};
@@ -18,7 +20,9 @@ use fq_model::event::{Act, Entry};
 use journal_check::checking::{copy_of, enter};
 use sched_state::Scheduler;
 use std::alloc::{AllocError, Global};
+use tag_gap::fault::GapFault;
 use tag_gap::gap::Gap;
+use tag_gap::gaps::tenant_fault;
 use tag_rules::chooser::Chooser;
 use tag_rules::parts::Keys;
 
@@ -26,9 +30,31 @@ use tag_rules::parts::Keys;
 /// what bounds it, whatever requests cost; none where they never wait both. The bound is the greater of two numbers: the
 /// greatest lead with which both began to wait, and one length of a head, or two under 2dfq, with what was in doubt of
 /// the requests that ran: each may turn out as long, or as short, as it did in this past. Nothing is asked of the past
-/// but that it is legal. Its calls are made twice on a scheduler over any chooser, and what runs on each worker is
-/// looked at after each.
+/// but that it is legal. The faults of the tenants are found before any memory is taken, and no request is a fault. The
+/// past's calls are made twice on a scheduler over any chooser, and what runs on each worker is looked at after each.
 pub fn tag_lead<X: Chooser + Drop>(
+    alloc: Global,
+    past: &[Entry],
+    config: &Checked,
+    f: u32,
+    g: u32,
+) -> Result<Option<Gap>, GapFault>
+    requires legal { IsLegal config.now (history_of past.now) }
+    ensures lead { IfOk result (λ lead. (tenant_fault config.now f g ≡ None)
+        × (option_map told lead ≡ measured_gap config.now (history_of past.now) f g)) }
+    ensures tenants { (x : GapFault) → tenant_fault config.now f g ≡ Some x → result ≡ Err x }
+    ensures bounded { IfOk result (λ lead. IfSome lead (λ x. x.largest ≤ℤ x.bound)) }
+    ensures fault { IfErr result (λ x. (x ≡ faults.NoMemory) ⊎ (tenant_fault config.now f g ≡ Some x)) }
+{
+    if let Some(fault) = tenant_fault(config, f, g) {
+        return Err(fault);
+    }
+    let lead = lead_of::<X>(alloc, past, config, f, g)?;
+    Ok(lead)
+}
+
+// The lead of one tenant over another.
+fn lead_of<X: Chooser + Drop>(
     alloc: Global,
     past: &[Entry],
     config: &Checked,

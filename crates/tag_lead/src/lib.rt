@@ -1,8 +1,8 @@
 //! How far one tenant gets ahead of another while both wait, whatever requests cost, and what bounds it.
 #![tactic(auto)]
 
-pub mod doubts;
-pub mod found;
+mod doubts;
+mod found;
 pub mod leads;
-pub mod measuring;
-pub mod spans;
+mod measuring;
+mod spans;

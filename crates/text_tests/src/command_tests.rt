@@ -2,7 +2,11 @@
 use command_line::command::command;
 use command_line::options::{Absent, OptionRow, Value, Values, values_in};
 use fq_model::config::{Estimator, Policy};
-use program_model::command::{Command, GenPrint, HistoryPrint, PlainCommand, ScriptPrint};
+use program_model::argument::Argument;
+use program_model::command::{
+    Command, GenPrint, HistoryPrint, LiveOptions, PlainCommand, ScriptPrint,
+};
+use program_model::name::Name;
 use program_model::trace::RunOptions;
 use std::alloc::Global;
 use std::process::Abort;
@@ -103,12 +107,14 @@ fn run(options: RunOptions, slot: u64, print: HistoryPrint) -> Command {
     })
 }
 
-fn live(options: RunOptions, slot: u64, print: HistoryPrint) -> Command {
-    Command::Live {
-        options,
+fn live(run: RunOptions, slot: u64, print: HistoryPrint, watch: u32) -> Command {
+    let options = LiveOptions {
+        run,
         slot,
         print,
-    }
+        watch,
+    };
+    Command::Live { options }
 }
 
 fn generate(seed: u64, tenants: u32, requests: u32, print: GenPrint) -> Command {
@@ -126,6 +132,54 @@ fn checked(explain: Option<u32>) -> Command {
 
 fn shaped(rate: u64, burst: u64) -> Command {
     Command::Plain(PlainCommand::Shape { rate, burst })
+}
+
+fn lead<R: Abort>(rt: &R, of: &str, over: &str) -> Command {
+    Command::Plain(PlainCommand::Lead {
+        of: name(rt, of),
+        over: name(rt, over),
+    })
+}
+
+fn name<R: Abort>(rt: &R, text: &str) -> Name {
+    match Name::new(text) {
+        Some(name) => name,
+        None => panic!(rt; "{text} is too long for a name"),
+    }
+}
+
+// A name of 64 bytes.
+const LONG: &str = "0123456789abcdefghijklmnopqrstuvwxyzABCDEFGHIJKLMNOPQRSTUVWXYZ_.";
+
+#[test]
+fn lead_is_read(rt: HostRuntime) {
+    let rows = [
+        ("lead --of a --over b", Some(lead(&rt, "a", "b"))),
+        ("lead --over=b --of=a --", Some(lead(&rt, "a", "b"))),
+        ("lead --over a --of b", Some(lead(&rt, "b", "a"))),
+        ("lead --of a --over a", Some(lead(&rt, "a", "a"))),
+        ("lead --of 0 --over web-1.b_c", Some(lead(&rt, "0", "web-1.b_c"))),
+        (
+            "lead --of=0123456789abcdefghijklmnopqrstuvwxyzABCDEFGHIJKLMNOPQRSTUVWXYZ_. --over b",
+            Some(lead(&rt, LONG, "b")),
+        ),
+        (
+            "lead --of=0123456789abcdefghijklmnopqrstuvwxyzABCDEFGHIJKLMNOPQRSTUVWXYZ_.0 --over b",
+            None,
+        ),
+        ("lead", None),
+        ("lead a b", None),
+        ("lead --of a", None),
+        ("lead --over b", None),
+        ("lead --of a --over", None),
+        ("lead --of= --over b", None),
+        ("lead --of -a --over b", None),
+        ("lead --of a --over b/c", None),
+        ("lead --of a --over b,c", None),
+        ("lead --of a --of a --over b", None),
+        ("lead --of a --over b --print both", None),
+    ];
+    expect_commands(&rt, rt.alloc(), &rows);
 }
 
 #[test]
@@ -206,12 +260,21 @@ fn the_others_are_read(rt: HostRuntime) {
         ("run --slot 1000000000000001", None),
         ("run --workers 0", None),
         ("run --workers 65", None),
-        ("live", Some(live(plain, 0, HistoryPrint::Both))),
+        ("live", Some(live(plain, 0, HistoryPrint::Both, 0))),
         (
             "live --print=journal --refresh 0 --initial=1 --estimate declared --policy wf2q --workers=64 --slot 5 --",
-            Some(live(asked, 5, HistoryPrint::Journal)),
+            Some(live(asked, 5, HistoryPrint::Journal, 0)),
         ),
-        ("live --watch 1", None),
+        (
+            "live --watch 1",
+            Some(live(plain, 0, HistoryPrint::Both, 1)),
+        ),
+        (
+            "live --watch=1000 --print summary",
+            Some(live(plain, 0, HistoryPrint::Summary, 1000)),
+        ),
+        ("live --watch 1001", None),
+        ("run --watch 1", None),
         ("live --workers 65", None),
         (
             "gen --requests 262144 --tenants=4096 --seed 18446744073709551615",
@@ -240,22 +303,25 @@ fn expect_values<R: Abort>(rt: &R, alloc: Global, rows: &[(&str, Option<[Value; 
     }
 }
 
+fn number(n: u64) -> Value {
+    Some(Argument::Number(n))
+}
+
 #[test]
 fn options_are_read(rt: HostRuntime) {
-    let most = u64::MAX;
     let rows = [
-        ("--seed 0", Some([Some(0), Some(4), None])),
+        ("--seed 0", Some([number(0), number(4), None])),
         (
             "--seed=18446744073709551615 --",
-            Some([Some(most), Some(4), None]),
+            Some([number(u64::MAX), number(4), None]),
         ),
         (
             "--workers 64 --explain=0 --seed 7",
-            Some([Some(7), Some(64), Some(0)]),
+            Some([number(7), number(64), number(0)]),
         ),
         (
             "--workers=1 --seed=7 --explain 9",
-            Some([Some(7), Some(1), Some(9)]),
+            Some([number(7), number(1), number(9)]),
         ),
         ("--workers 4", None),
         ("--", None),

@@ -1,0 +1,154 @@
+//! `lead`: how far one tenant of a journal got ahead of another, and what is promised of that.
+ghost use Rattle.std.specs.Prelude.{◌≡◌, ◌<◌, ◌≢◌, ◌++◌, codes, Some, IfOk, IfSome, length, option_map, string_bytes};
+ghost use Rattle.fq_model.specs.History.{history_of};
+ghost use Rattle.fq_model.specs.Lead.{measured_gap};
+ghost use Rattle.fq_model.specs.Names.{number_among};
+ghost use Rattle.fq_model.specs.Rules.{IsLegal};
+ghost use Rattle.program_model.specs.declared.verdict.Verdict.TheVariants.{Legal};
+ghost use Rattle.program_model.specs.Document.{config_of};
+ghost use Rattle.program_model.specs.LeadCommand.{lead_text, unknown_answer, same_answer, lead_answer, IsLeadTold, IsLeadAnswer};
+ghost use Rattle.program_model.specs.Names.{IsName};
+ghost use Rattle.tag_gap.specs.Gaps.{told};
+ghost use Rattle.tenant_table.specs.Names.{names_of};
+ghost use Rattle.command_texts.specs.Making.{Makes, IsStop};
+
+use crate::messages::{document_stop, told};
+use eligible_index::index::IndexChooser;
+use journal_check::checking::check;
+use journal_check::printing::verdict_text;
+use journal_check::{Journal, read_journal};
+use program_model::ending::{Output, Stop};
+use program_model::name::Name;
+use program_model::verdict::Verdict;
+use std::alloc::{AllocError, Global};
+use tag_gap::fault::GapFault;
+use tag_gap::gap::Gap;
+use tag_lead::leads::tag_lead;
+use tenant_table::tenants::Tenants;
+
+/// What `lead` answers to its input, which is given up before the journal is judged.
+pub fn answer(alloc: Global, of: Name, over: Name, input: Vec<u8>) -> Result<Output, Stop>
+    requires of { IsName of }
+    requires over { IsName over }
+    ensures { Makes (IsLeadAnswer of over input.items) result }
+{
+    let journal = read_journal(alloc, input.as_slice());
+    drop(input);
+    match journal {
+        Ok(journal) => {
+            let output = judged(alloc, of.as_str(), over.as_str(), &journal);
+            drop(journal);
+            output
+        }
+        Err(fault) => Err(document_stop(alloc, "journal", fault)),
+    }
+}
+
+// What is answered of a journal.
+fn judged(alloc: Global, of: &str, over: &str, journal: &Journal) -> Result<Output, Stop>
+    ensures { Makes (IsLeadTold of.now over.now journal.now) result }
+{
+    let verdict = check::<IndexChooser>(alloc, journal)?;
+    match verdict {
+        Verdict::Legal => of_pair(alloc, of, over, journal),
+        Verdict::Bad { .. } => {
+            let text = verdict_text(alloc, journal.body(), verdict)?;
+            Ok(Output { status: 8, text })
+        }
+    }
+}
+
+// What is answered of two tenants of a legal journal, by their names.
+fn of_pair(alloc: Global, of: &str, over: &str, journal: &Journal) -> Result<Output, Stop>
+    requires { IsLegal (config_of journal.now) (history_of journal.now.body) }
+    ensures { Makes (λ answer. answer ≡ lead_answer of.now over.now journal.now Legal) result }
+{
+    let f = number_of(journal.tenants(), of);
+    let g = number_of(journal.tenants(), over);
+    match (f, g) {
+        (None, _) => Err(unknown(alloc, of)),
+        (Some(_), None) => Err(unknown(alloc, over)),
+        (Some(f), Some(g)) if f == g => Err(same(alloc, of)),
+        (Some(f), Some(g)) => {
+            let lead = lead_of(alloc, journal, f, g)?;
+            let text = lead_text(alloc, of, over, lead)?;
+            Ok(Output::success(text))
+        }
+    }
+}
+
+// The number of the tenant with this name, if there is one.
+fn number_of(tenants: &Tenants, name: &str) -> Option<u32>
+    ensures value { result ≡ number_among (names_of tenants.now) name.now }
+    ensures known { IfSome result (λ t. t < length tenants.now) }
+{
+    for t in 0..tenants.len() {
+        if tenants.name(t) == name {
+            return Some(t);
+        }
+    }
+    None
+}
+
+// How far one tenant of a legal journal got ahead of another, and what bounds that.
+fn lead_of(alloc: Global, journal: &Journal, f: u32, g: u32) -> Result<Option<Gap>, AllocError>
+    requires legal { IsLegal (config_of journal.now) (history_of journal.now.body) }
+    requires f { f < length journal.now.weights }
+    requires g { g < length journal.now.weights }
+    requires apart { f ≢ g }
+    ensures { IfOk result (λ lead.
+        option_map told lead ≡ measured_gap (config_of journal.now) (history_of journal.now.body) f g) }
+{
+    match tag_lead::<IndexChooser>(alloc, journal.body(), journal.config(), f, g) {
+        Ok(lead) => Ok(lead),
+        Err(GapFault::NoMemory) => Err(AllocError),
+        Err(_) => unreachable!(),
+    }
+}
+
+// The line of what was measured, in steps.
+fn lead_text(alloc: Global, of: &str, over: &str, lead: Option<Gap>) -> Result<Vec<u8>, AllocError>
+    ensures { IfOk result (λ text. text.items ≡ lead_text of.now over.now (option_map told lead)) }
+{
+    let line = match lead {
+        Some(gap) => measured_line(alloc, of, over, gap)?,
+        None => format!(in alloc; "{of} and {over} never waited together\n")?,
+    };
+    Ok(line.into_bytes())
+}
+
+// The same where the two waited together.
+fn measured_line(alloc: Global, of: &str, over: &str, gap: Gap) -> Result<String, AllocError>
+    ensures { IfOk result (λ line. string_bytes line ≡ lead_text of.now over.now (Some (told gap))) }
+{
+    let Gap { largest, bound } = gap;
+    format!(in alloc; "lead of {of} over {over} largest {largest} bound {bound}\n")
+}
+
+// Of a name that no tenant of the journal has, a message that says so.
+fn unknown(alloc: Global, name: &str) -> Stop
+    ensures { IsStop (λ answer. answer ≡ unknown_answer name.now) result }
+{
+    told(alloc, 7, unknown_text(alloc, name))
+}
+
+fn unknown_text(alloc: Global, name: &str) -> Result<String, AllocError>
+    ensures { IfOk result (λ text. string_bytes text ≡ codes "the journal has no tenant " ++ name.now) }
+{
+    let text = format!(in alloc; "the journal has no tenant {name}")?;
+    Ok(text)
+}
+
+// Of one name given for both, a message that says so.
+fn same(alloc: Global, name: &str) -> Stop
+    ensures { IsStop (λ answer. answer ≡ same_answer name.now) result }
+{
+    told(alloc, 7, same_text(alloc, name))
+}
+
+fn same_text(alloc: Global, name: &str) -> Result<String, AllocError>
+    ensures { IfOk result (λ text. string_bytes text ≡ codes "--of and --over are both " ++ name.now) }
+{
+    let text = format!(in alloc; "--of and --over are both {name}")?;
+    Ok(text)
+}
