@@ -1,7 +1,7 @@
 //! What `twodfq script` does under `2dfq` and `pessimistic`, for scripts of the first version, written in Rust as one would
 //! without contracts: the same design, and memory that never runs out. With the word `journal` it prints the journal in place
 //! of the replies. With the words `run`, `journal` or `report`, and a number of workers, it does what `twodfq run` does of a
-//! trace. `bench/run --plain` measures the program against it.
+//! trace. `bench/run` measures the program against it.
 mod entry;
 mod report;
 mod scheduler;

@@ -1,12 +1,12 @@
 -- What is answered of histories, and of simulated ones.
 use Rattle.std.proofs.Common.{ℕ, ◌<◌, ◌≤◌, ◌≡◌, ◌∙◌, sym, ap, subst, refl, arith, Bool, true, false, ◌&&◌, List, length, Result, Ok, Err}
-use Rattle.std.proofs.lemmas.Bool.{false≢true, ltb-true, lt-ltb}
+use Rattle.std.proofs.lemmas.Bool.{false≢true, ltb-true, ltb-false, lt-ltb}
 use Rattle.fluid_reference.proofs.Lists.{list_length}
 use Rattle.fq_model.specs.declared.config.Config.{Config}
 use Rattle.fq_model.specs.declared.event.Entry.{Entry}
 use Rattle.fq_model.specs.declared.limits.TheConstants.{MOST_ENTRIES, MOST_TENANTS, MOST_ROWS}
 use Rattle.fq_model.specs.History.{History, history_of}
-use Rattle.fq_model.specs.Limits.{IsWithin}
+use Rattle.fq_model.specs.Limits.{HasShortHistory, IsWithin}
 use Rattle.fq_model.specs.Report.{LagReport, lag_report, slot_for, tenant_lag}
 use Rattle.fq_model.specs.Rules.{IsLegal}
 use Rattle.program_model.specs.declared.command.GenPrint.{GenPrint}
@@ -21,7 +21,8 @@ use Rattle.program_model.specs.ReportText.{lag_summary_text, summary_text}
 use Rattle.program_model.specs.GenCommand.{default_run_options, IsGenAnswer}
 use Rattle.program_model.specs.Generator.{generated_trace}
 use Rattle.program_model.specs.RunCommand.{IsSimulatedAnswer, IsSimulationAnswer}
-use Rattle.program_model.specs.Simulated.{needed_entries}
+use Rattle.program_model.specs.declared.trace.RunOptions.{RunOptions}
+use Rattle.program_model.specs.Simulated.{needed_entries, run_config}
 use Rattle.program_model.specs.Trace.{Trace}
 use Rattle.trace_reader.proofs.Generated.{generated_short}
 use Rattle.lag_report.specs.Reports.{requests_of}
@@ -72,6 +73,10 @@ few_entries needed s fault over = go (has_many_entries needed) refl
     go : (b : Bool) → has_many_entries needed ≡ b → has_many_entries needed ≡ false
     go true e = let clash : Ok s ≡ Err fault = over (ltb-true MOST_ENTRIES needed e) in absurd (cc)
     go false e = e
+
+-- and may be kept whole
+pub short_run : (T : Trace) (O : RunOptions) (C : Config) → C ≡ run_config T O → has_many_entries (needed_entries T.rows O.refresh) ≡ false → HasShortHistory C
+short_run T O C same few = subst HasShortHistory (sym same) (omega (arith, ltb-false MOST_ENTRIES (needed_entries T.rows O.refresh) few))
 
 -- what is answered of a history is answered of the one that was asked for
 pub of_history : (IsOne : History → Type 0) (needed : ℕ) (print : HistoryPrint) (slot : ℕ) (C D : Config) (tenants kinds : List (List ℕ)) (past : List Entry) (made : Result Output Stop)

@@ -45,10 +45,6 @@ pub fn answer(
             drop(trace);
             Ok(Output::success(text?))
         }
-        GenPrint::Summary => {
-            let output = simulated(alloc, &trace, DEFAULT_OPTIONS, 0, HistoryPrint::Summary);
-            drop(trace);
-            output
-        }
+        GenPrint::Summary => simulated(alloc, trace, DEFAULT_OPTIONS, 0, HistoryPrint::Summary),
     }
 }

@@ -2,6 +2,7 @@
 ghost use Rattle.std.specs.Prelude.{◌≡◌, ◌≤◌, None, length, string_bytes, MatchResult, IfOk};
 ghost use Rattle.fq_model.specs.declared.limits.TheConstants.{GREATEST_SLOT};
 ghost use Rattle.fq_model.specs.History.{history_of};
+ghost use Rattle.fq_model.specs.Limits.{HasShortHistory};
 ghost use Rattle.fq_model.specs.Report.{unfinished};
 ghost use Rattle.fq_model.specs.Rules.{IsLegal};
 ghost use Rattle.program_model.specs.HistoryAnswer.{history_answer, cells_answer, cells_text};
@@ -16,7 +17,7 @@ use lag_report::automatic::auto_slot;
 use lag_report::fault::ReportFault;
 use lag_report::parts::Report;
 use lag_report::printing::{print as print_report, summary};
-use lag_report::reporting::report;
+use lag_report::reporting::last_report;
 use program_model::command::HistoryPrint;
 use program_model::ending::{Output, Stop};
 use sched_journal::History;
@@ -24,7 +25,8 @@ use std::alloc::{AllocError, Global};
 use tenant_table::kinds::Kinds;
 use tenant_table::tenants::Tenants;
 
-/// What is answered of a history that nobody needs afterwards. Slot 0 asks for the automatic slot.
+/// What is answered of a history that nobody needs afterwards: it is given up once its journal is printed, or its entries
+/// are read for a report. Slot 0 asks for the automatic slot.
 pub fn last_history(
     alloc: Global,
     what: HistoryPrint,
@@ -34,37 +36,23 @@ pub fn last_history(
     kinds: &Kinds,
 ) -> Result<Output, Stop>
     requires slot { slot ≤ GREATEST_SLOT }
+    requires room { HasShortHistory history.config }
     requires names { length tenants.now ≡ length history.config.weights }
     requires done { unfinished (history_of history.past) ≡ None }
     ensures { Makes (λ answer. answer ≡ history_answer what slot history.config
         (names_of tenants.now) kinds.now history.past) result }
 {
-    let output = answered(alloc, what, slot, &history, tenants, kinds);
-    drop(history);
-    output
-}
-
-// What is answered of a history.
-fn answered(
-    alloc: Global,
-    what: HistoryPrint,
-    slot: u64,
-    history: &History,
-    tenants: &Tenants,
-    kinds: &Kinds,
-) -> Result<Output, Stop>
-    requires slot { slot ≤ GREATEST_SLOT }
-    requires names { length tenants.now ≡ length history.now.config.weights }
-    requires done { unfinished (history_of history.now.past) ≡ None }
-    ensures { Makes (λ answer. answer ≡ history_answer what slot history.now.config
-        (names_of tenants.now) kinds.now history.now.past) result }
-{
     match what {
-        HistoryPrint::Journal => Ok(Output::success(journal(alloc, history, tenants, kinds)?)),
+        HistoryPrint::Journal => {
+            let text = journal(alloc, &history, tenants, kinds);
+            drop(history);
+            Ok(Output::success(text?))
+        }
         HistoryPrint::Report => Ok(Output::success(reported(alloc, slot, history, tenants)?)),
         HistoryPrint::Both => {
+            let text = journal(alloc, &history, tenants, kinds);
             let report = reported(alloc, slot, history, tenants)?;
-            let mut text = journal(alloc, history, tenants, kinds)?;
+            let mut text = text?;
             text.extend_from_slice(report.as_slice())?;
             Ok(Output::success(text))
         }
@@ -89,13 +77,14 @@ fn journal(
     print_journal(alloc, history.past(), history.config(), tenants, kinds)
 }
 
-fn reported(alloc: Global, slot: u64, history: &History, tenants: &Tenants) -> Result<Vec<u8>, Stop>
+fn reported(alloc: Global, slot: u64, history: History, tenants: &Tenants) -> Result<Vec<u8>, Stop>
     requires slot { slot ≤ GREATEST_SLOT }
-    requires names { length tenants.now ≡ length history.now.config.weights }
-    requires done { unfinished (history_of history.now.past) ≡ None }
+    requires room { HasShortHistory history.config }
+    requires names { length tenants.now ≡ length history.config.weights }
+    requires done { unfinished (history_of history.past) ≡ None }
     ensures { MatchResult result
-        (λ text. IsReportText slot history.now.config (history_of history.now.past) (names_of tenants.now) text.items)
-        (IsStop (IsManyCells slot history.now.config (history_of history.now.past))) }
+        (λ text. IsReportText slot history.config (history_of history.past) (names_of tenants.now) text.items)
+        (IsStop (IsManyCells slot history.config (history_of history.past))) }
 {
     let report = made_report(alloc, slot, history)?;
     let text = print_report(alloc, &report, tenants);
@@ -104,22 +93,24 @@ fn reported(alloc: Global, slot: u64, history: &History, tenants: &Tenants) -> R
 }
 
 // The report by the slot that is asked for, or by the automatic one.
-fn made_report(alloc: Global, slot: u64, history: &History) -> Result<Report, Stop>
+fn made_report(alloc: Global, slot: u64, history: History) -> Result<Report, Stop>
     requires slot { slot ≤ GREATEST_SLOT }
-    requires done { unfinished (history_of history.now.past) ≡ None }
-    ensures legal { IsLegal history.now.config (history_of history.now.past) }
+    requires room { HasShortHistory history.config }
+    requires done { unfinished (history_of history.past) ≡ None }
+    ensures legal { IsLegal history.config (history_of history.past) }
     ensures report { MatchResult result
-        (IsReportBy slot history.now.config (history_of history.now.past))
-        (IsStop (IsManyCells slot history.now.config (history_of history.now.past))) }
+        (IsReportBy slot history.config (history_of history.past))
+        (IsStop (IsManyCells slot history.config (history_of history.past))) }
 {
-    let past = history.past();
-    let config = history.config();
+    let (config, past) = history.into_parts();
     let chosen = if slot == 0 {
-        auto_slot(past, config)
+        auto_slot(past.as_slice(), &config)
     } else {
         slot
     };
-    match report(alloc, past, config, chosen) {
+    let report = last_report(alloc, past, &config, chosen);
+    drop(config);
+    match report {
         Ok(report) => Ok(report),
         Err(ReportFault::TooLong { slots, tenants }) => {
             Err(too_many_cells(alloc, slots as u128 * tenants as u128))

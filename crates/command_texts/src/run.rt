@@ -32,32 +32,32 @@ pub fn answer(
     ensures { Makes (IsRunAnswer options slot what input.items) result }
 {
     let trace = trace(alloc, input)?;
-    let output = simulated(alloc, &trace, options, slot, what);
-    drop(trace);
-    output
+    simulated(alloc, trace, options, slot, what)
 }
 
-/// What is answered of the simulated history of a trace.
+/// What is answered of the simulated history of a trace, whose requests are given up once there is a history.
 pub fn simulated(
     alloc: Global,
-    trace: &Trace,
+    trace: Trace,
     options: RunOptions,
     slot: u64,
     what: HistoryPrint,
 ) -> Result<Output, Stop>
-    requires lawful { IsLawfulTrace trace.now }
+    requires lawful { IsLawfulTrace trace }
     requires options { AreInRange options }
     requires slot { slot ≤ GREATEST_SLOT }
-    ensures { Makes (IsSimulationAnswer options slot what trace.now) result }
+    ensures { Makes (IsSimulationAnswer options slot what trace) result }
 {
-    match simulate::<ProgramChooser>(alloc, trace, options) {
-        Ok(history) => {
-            let (tenants, kinds) = (trace.tenants(), trace.kinds());
-            last_history(alloc, what, slot, history, tenants, kinds)
-        }
+    let simulated = simulate::<ProgramChooser>(alloc, &trace, options);
+    let (tenants, kinds) = trace.into_names();
+    let output = match simulated {
+        Ok(history) => last_history(alloc, what, slot, history, &tenants, &kinds),
         Err(SimFault::TooManyEntries(needed)) => Err(too_many_entries(alloc, needed)),
         Err(SimFault::NoMemory) => Err(Stop::NoMemory),
-    }
+    };
+    drop(tenants);
+    drop(kinds);
+    output
 }
 
 /// Where a history would have more entries than there may be, a message that tells how many.

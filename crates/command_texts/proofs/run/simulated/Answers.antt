@@ -1,14 +1,19 @@
 use Rattle.program_model.specs.Simulated.{needed_entries, run_config, IsSimulated}
 use Rattle.trace_runner.specs.Plan.{too_long}
 use Rattle.trace_runner.proofs.Finished.{none_unfinished}
-use Rattle.command_texts.proofs.Reports.{few_entries, of_history}
+use Rattle.command_texts.proofs.Reports.{few_entries, of_history, short_run}
 use Rattle.command_texts.proofs.run.simulated.Goals as goal
 
 pub last_history-requires-clause-done : goal.last_history-requires-clause-done
-last_history-requires-clause-done c = none_unfinished c.args.trace.now c.args.options _ c.in-Ok.ensures.simulated
+last_history-requires-clause-done c = none_unfinished c.args.trace c.args.options _ c.in-Ok.ensures.simulated
+
+pub last_history-requires-clause-room : goal.last_history-requires-clause-room
+last_history-requires-clause-room c =
+    let few = few_entries (needed_entries c.args.trace.rows c.args.options.refresh) c.in-Ok.history (too_long c.args.trace c.args.options) c.in-Ok.ensures.too_many in
+    short_run c.args.trace c.args.options c.in-Ok.history.config c.in-Ok.ensures.config few
 
 pub returns-in-Ok : goal.returns-in-Ok
 returns-in-Ok c =
-    let few = few_entries (needed_entries c.args.trace.now.rows c.args.options.refresh) c.in-Ok.history (too_long c.args.trace.now c.args.options) c.in-Ok.ensures.too_many in
-    of_history (IsSimulated c.args.trace.now c.args.options) (needed_entries c.args.trace.now.rows c.args.options.refresh) c.args.what c.args.slot c.in-Ok.history.config (run_config c.args.trace.now c.args.options) c.args.trace.now.tenants c.args.trace.now.kinds
-    c.in-Ok.history.past c.last_history.result few c.in-Ok.ensures.config c.in-Ok.ensures.simulated (rw (c.tenants-tenants.ensures.names, c.kinds-kinds.ensures) at c.last_history.ensures)
+    let few = few_entries (needed_entries c.args.trace.rows c.args.options.refresh) c.in-Ok.history (too_long c.args.trace c.args.options) c.in-Ok.ensures.too_many in
+    of_history (IsSimulated c.args.trace c.args.options) (needed_entries c.args.trace.rows c.args.options.refresh) c.args.what c.args.slot c.in-Ok.history.config (run_config c.args.trace c.args.options) c.args.trace.tenants c.args.trace.kinds
+    c.in-Ok.history.past c.last_history-in-Ok.result few c.in-Ok.ensures.config c.in-Ok.ensures.simulated (rw (c.into_names.ensures.names, c.into_names.ensures.kinds) at c.last_history.ensures)
