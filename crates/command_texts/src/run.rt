@@ -48,16 +48,14 @@ pub fn simulated(
     requires slot { slot ≤ GREATEST_SLOT }
     ensures { Makes (IsSimulationAnswer options slot what trace) result }
 {
-    let simulated = simulate::<ProgramChooser>(alloc, &trace, options);
-    let (tenants, kinds) = trace.into_names();
-    let output = match simulated {
-        Ok(history) => last_history(alloc, what, slot, history, &tenants, &kinds),
+    match simulate::<ProgramChooser>(alloc, &trace, options) {
+        Ok(history) => {
+            let (tenants, kinds) = trace.into_names();
+            last_history(alloc, what, slot, history, &tenants, &kinds)
+        }
         Err(SimFault::TooManyEntries(needed)) => Err(too_many_entries(alloc, needed)),
         Err(SimFault::NoMemory) => Err(Stop::NoMemory),
-    };
-    drop(tenants);
-    drop(kinds);
-    output
+    }
 }
 
 /// Where a history would have more entries than there may be, a message that tells how many.

@@ -16,4 +16,4 @@ pub returns-in-Ok : goal.returns-in-Ok
 returns-in-Ok c =
     let few = few_entries (needed_entries c.args.trace.rows c.args.options.refresh) c.in-Ok.history (too_long c.args.trace c.args.options) c.in-Ok.ensures.too_many in
     of_history (IsSimulated c.args.trace c.args.options) (needed_entries c.args.trace.rows c.args.options.refresh) c.args.what c.args.slot c.in-Ok.history.config (run_config c.args.trace c.args.options) c.args.trace.tenants c.args.trace.kinds
-    c.in-Ok.history.past c.last_history-in-Ok.result few c.in-Ok.ensures.config c.in-Ok.ensures.simulated (rw (c.into_names.ensures.names, c.into_names.ensures.kinds) at c.last_history.ensures)
+    c.in-Ok.history.past c.last_history.result few c.in-Ok.ensures.config c.in-Ok.ensures.simulated (rw (c.into_names-tenants.ensures.names, c.into_names-tenants.ensures.kinds) at c.last_history.ensures)
