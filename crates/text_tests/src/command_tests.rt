@@ -158,7 +158,10 @@ fn lead_is_read(rt: HostRuntime) {
         ("lead --over=b --of=a --", Some(lead(&rt, "a", "b"))),
         ("lead --over a --of b", Some(lead(&rt, "b", "a"))),
         ("lead --of a --over a", Some(lead(&rt, "a", "a"))),
-        ("lead --of 0 --over web-1.b_c", Some(lead(&rt, "0", "web-1.b_c"))),
+        (
+            "lead --of 0 --over web-1.b_c",
+            Some(lead(&rt, "0", "web-1.b_c")),
+        ),
         (
             "lead --of=0123456789abcdefghijklmnopqrstuvwxyzABCDEFGHIJKLMNOPQRSTUVWXYZ_. --over b",
             Some(lead(&rt, LONG, "b")),

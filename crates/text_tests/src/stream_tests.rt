@@ -1,4 +1,6 @@
 //! Journals that are written while their scheduler runs.
+ghost use Rattle.std.specs.Prelude.{◌<◌};
+
 use crate::samples::expect_text;
 use eligible_index::index::IndexChooser;
 use fq_model::event::Call;
@@ -12,11 +14,13 @@ use std::alloc::{AllocError, Global};
 use std::process::Abort;
 
 // Two requests, each of which is taken in its turn; a weight changes in between.
-const SCRIPT: &str = "script 2\nconfig 1 2dfq declared 1000 100 10\ntenant a 1\ntenant b 1\nkind get\n\
+const SCRIPT: &str =
+    "script 2\nconfig 1 2dfq declared 1000 100 10\ntenant a 1\ntenant b 1\nkind get\n\
     submit 0 0 0 0 5 7\nsubmit 0 1 1 0 30 8\ntake 9 1 0\ndone 9 6 0 5\nweight 0 6 1 4\ntake 9 6 0\n\
     done 9 9 0 3\nclose 0 9\n";
 
-const JOURNAL: &str = "journal 2\nconfig 1 2dfq declared 1000 100 10\ntenant a 1\ntenant b 1\nkind get\n\
+const JOURNAL: &str =
+    "journal 2\nconfig 1 2dfq declared 1000 100 10\ntenant a 1\ntenant b 1\nkind get\n\
     submit 0 0 0 0 0 5 7\nsubmit 0 1 1 1 0 30 8\ntake 9 1 0 0 5\ndone 9 6 0 0 5\nweight 0 6 1 4\n\
     take 9 6 0 1 30\ndone 9 9 0 1 3\nclose 0 9\n";
 
@@ -42,13 +46,9 @@ fn expect_added<R: Abort>(rt: &R, added: Result<(), AllocError>) {
 }
 
 // The calls are made, and a log comes by after every so many of them.
-fn streamed<R: Abort>(
-    rt: &R,
-    recent: &mut Kept,
-    calls: &[Call],
-    every: usize,
-    text: &mut Vec<u8>,
-) {
+fn streamed<R: Abort>(rt: &R, recent: &mut Kept, calls: &[Call], every: usize, text: &mut Vec<u8>)
+    requires { 0 < every }
+{
     let mut next = 0;
     for some in calls.chunks(every) {
         for call in some {
@@ -59,7 +59,9 @@ fn streamed<R: Abort>(
 }
 
 // What a log writes that comes by so often is this journal, and is legal.
-fn expect_streamed<R: Abort>(rt: &R, alloc: Global, every: usize) {
+fn expect_streamed<R: Abort>(rt: &R, alloc: Global, every: usize)
+    requires { 0 < every }
+{
     let Ok(script) = read_script(alloc, SCRIPT.as_bytes()) else {
         panic!(rt; "a script")
     };
@@ -68,7 +70,10 @@ fn expect_streamed<R: Abort>(rt: &R, alloc: Global, every: usize) {
         panic!(rt; "no memory for a scheduler")
     };
     let mut text = Vec::new(alloc);
-    expect_added(rt, begin_journal(alloc, recent.config(), &tenants, &kinds, &mut text));
+    expect_added(
+        rt,
+        begin_journal(alloc, recent.config(), &tenants, &kinds, &mut text),
+    );
     streamed(rt, &mut recent, calls.as_slice(), every, &mut text);
     expect_legal(rt, alloc, text.as_slice());
     expect_text(rt, Ok::<Vec<u8>, AllocError>(text), JOURNAL.as_bytes());
