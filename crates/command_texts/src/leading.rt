@@ -1,5 +1,5 @@
 //! `lead`: how far one tenant of a journal got ahead of another, and what is promised of that.
-ghost use Rattle.std.specs.Prelude.{◌≡◌, ◌<◌, ◌≢◌, ◌++◌, codes, Some, IfOk, IfSome, length, option_map, string_bytes};
+ghost use Rattle.std.specs.Prelude.{◌≡◌, ◌<◌, ◌≢◌, ◌++◌, codes, Some, None, IfOk, IfSome, length, option_map, string_bytes};
 ghost use Rattle.fq_model.specs.History.{history_of};
 ghost use Rattle.fq_model.specs.Lead.{measured_gap};
 ghost use Rattle.fq_model.specs.Names.{number_among};
@@ -110,11 +110,16 @@ fn lead_of(alloc: Global, journal: &Journal, f: u32, g: u32) -> Result<Option<Ga
 fn lead_text(alloc: Global, of: &str, over: &str, lead: Option<Gap>) -> Result<Vec<u8>, AllocError>
     ensures { IfOk result (λ text. text.items ≡ lead_text of.now over.now (option_map told lead)) }
 {
-    let line = match lead {
-        Some(gap) => measured_line(alloc, of, over, gap)?,
-        None => format!(in alloc; "{of} and {over} never waited together\n")?,
-    };
-    Ok(line.into_bytes())
+    match lead {
+        Some(gap) => {
+            let line = measured_line(alloc, of, over, gap)?;
+            Ok(line.into_bytes())
+        }
+        None => {
+            let line = apart_line(alloc, of, over)?;
+            Ok(line.into_bytes())
+        }
+    }
 }
 
 // The same where the two waited together.
@@ -123,6 +128,13 @@ fn measured_line(alloc: Global, of: &str, over: &str, gap: Gap) -> Result<String
 {
     let Gap { largest, bound } = gap;
     format!(in alloc; "lead of {of} over {over} largest {largest} bound {bound}\n")
+}
+
+// Where they never did.
+fn apart_line(alloc: Global, of: &str, over: &str) -> Result<String, AllocError>
+    ensures { IfOk result (λ line. string_bytes line ≡ lead_text of.now over.now None) }
+{
+    format!(in alloc; "{of} and {over} never waited together\n")
 }
 
 // Of a name that no tenant of the journal has, a message that says so.

@@ -48,11 +48,10 @@ pub fn simulated(
     requires slot { slot ≤ GREATEST_SLOT }
     ensures { Makes (IsSimulationAnswer options slot what trace) result }
 {
-    match simulate::<ProgramChooser>(alloc, &trace, options) {
-        Ok(history) => {
-            let (tenants, kinds) = trace.into_names();
-            last_history(alloc, what, slot, history, &tenants, &kinds)
-        }
+    let simulated = simulate::<ProgramChooser>(alloc, &trace, options);
+    let (tenants, kinds) = trace.into_names();
+    match simulated {
+        Ok(history) => last_history(alloc, what, slot, history, &tenants, &kinds),
         Err(SimFault::TooManyEntries(needed)) => Err(too_many_entries(alloc, needed)),
         Err(SimFault::NoMemory) => Err(Stop::NoMemory),
     }
