@@ -1,6 +1,6 @@
-"""The verdict on a journal, and why a request was taken, as `check` tells them, and the status after each entry, as
-`live --watch` tells it, reckoned without any of the program's own code. It looks at every tenant wherever a worker chooses, and
-reads no journal that has a fault."""
+"""The verdict on a journal, and why a request was taken, as `check` tells them, how far a tenant got ahead of another, as
+`lead` tells it, and the status after each entry, as `live --watch` tells it, reckoned without any of the program's own
+code. It looks at every tenant wherever a worker chooses, and reads no journal that has a fault."""
 
 import collections
 
@@ -223,6 +223,52 @@ def statuses(text):
         history.enter(entry)
         stood.append(history.status())
     return stood
+
+
+def turned_out(journal, tenant):
+    """How long the requests of a tenant turned out, at the entries that tell it, by number."""
+    history, found = History(journal), collections.defaultdict(list)
+    for entry in journal.entries:
+        before = history.runs.get(entry.rest[0]) if entry.act == "done" else None
+        history.enter(entry)
+        if entry.act in ("take", "report", "done"):
+            runs = before or history.runs[entry.rest[0]]
+            if history.requests[runs.request].tenant == tenant:
+                found[runs.request].append(length(runs.charge, runs.weight))
+    return found
+
+
+def lead(text, of, over):
+    """What `lead` writes of a legal journal, and of two tenants of it."""
+    journal = read(text)
+    f, g = journal.tenants.index(of), journal.tenants.index(over)
+    of_f, of_g = turned_out(journal, f), turned_out(journal, g)
+    history = History(journal)
+    differences, firsts, lengths, doubts, shared = [], [], [0], [0], False
+    for entry in journal.entries:
+        first, second = history.tenants[f], history.tenants[g]
+        before, takes = shared, shared and entry.act == "take" and entry.rest[1] == first.waits[0]
+        if takes:
+            for tenant in first, second:
+                lengths.append(length(history.estimate(history.requests[tenant.waits[0]]), tenant.weight))
+        history.enter(entry)
+        doubt = 0
+        for runs in history.runs.values():
+            now, tenant = length(runs.charge, runs.weight), history.requests[runs.request].tenant
+            doubt += max(of_f[runs.request]) - now if tenant == f else 0
+            doubt += now - min(of_g[runs.request]) if tenant == g else 0
+        if takes:
+            doubts.append(doubt)
+        shared = bool(first.waits and second.waits)
+        if shared:
+            start = [t.charged + (t.idle if journal.config.policy == "msf2q" else t.base) for t in (first, second)]
+            differences.append(start[0] - start[1])
+            if not before:
+                firsts.append(differences[-1] + doubt)
+    if not differences:
+        return f"{of} and {over} never waited together\n"
+    bound = max([(2 if journal.config.policy == "2dfq" else 1) * max(lengths) + max(doubts), *firsts])
+    return f"lead of {of} over {over} largest {max(differences)} bound {bound}\n"
 
 
 def explained(journal, heads, take):
