@@ -1,10 +1,13 @@
 -- What is answered of a history of a pool, which leaves no request undone.
-use Rattle.std.proofs.Common.{ℕ, ◌≡◌, ◌∙◌, ap, refl, List, ◌++◌, length, Bool, true, false, not, ◌&&◌, None}
+use Rattle.std.proofs.Common.{ℕ, ◌≡◌, ◌∙◌, sym, ap, subst, refl, arith, List, ◌++◌, length, Bool, true, false, not, ◌&&◌, None}
 use Rattle.std.specs.String.{string_bytes}
+use Rattle.std.proofs.lemmas.Bool.{ltb-false}
 use Rattle.fq_model.specs.declared.config.Config.{Config}
 use Rattle.fq_model.specs.declared.event.Entry.{Entry}
+use Rattle.fq_model.specs.declared.limits.TheConstants.{MOST_ENTRIES}
 use Rattle.fq_model.specs.declared.parts.Status.{Status}
 use Rattle.fq_model.specs.History.{History, history_of, is_submitted, is_done, request_bound}
+use Rattle.fq_model.specs.Limits.{HasShortHistory}
 use Rattle.fq_model.specs.Report.{unfinished, is_unfinished}
 use Rattle.fq_laws.proofs.Sums.{least_by}
 use Rattle.program_model.specs.declared.command.LiveOptions.{LiveOptions}
@@ -28,6 +31,10 @@ module _ (T : Trace) (O : RunOptions) (H : History) (s : IsPoolHistory T O H) wh
   pub none_unfinished : unfinished H ≡ None
   unfolding unfinished
   none_unfinished = least_by (is_unfinished H) request_bound None (λ r _. not_unfinished r (is_submitted H r) refl)
+
+-- it may be kept whole
+pub short_pool : (T : Trace) (O : RunOptions) (C : Config) → C ≡ pool_config T O → has_many_entries (needed_pool_entries T.rows O.refresh) ≡ false → HasShortHistory C
+short_pool T O C same few = subst HasShortHistory (sym same) (omega (arith, ltb-false MOST_ENTRIES (needed_pool_entries T.rows O.refresh) few))
 
 -- a history of the pool, and what was read while it grew
 pub record IsServed (Told : ℕ → Type 0) (T : Trace) (o : LiveOptions) (past : List Entry) (statuses : List Status) : Type 0 where
