@@ -1,9 +1,8 @@
 -- What the status of `check` tells.
-use Rattle.std.proofs.Common.{ℕ, ◌≡◌, refl, sym, ap, subst, arith, List, Option, Result, Ok}
+use Rattle.std.proofs.Common.{ℕ, ◌≡◌, refl, subst, arith, Option}
 use Rattle.std.specs.Prelude.{◌↔◌}
 use Rattle.fq_model.specs.History.{history_of}
 use Rattle.fq_model.specs.Rules.{IsLegal}
-use Rattle.program_model.specs.declared.fault.ScriptKind.{ScriptKind}
 use Rattle.program_model.specs.declared.verdict.Verdict.{Verdict}
 use Rattle.program_model.specs.declared.verdict.Verdict.TheVariants.{Legal, Bad}
 use Rattle.program_model.specs.Answer.{Answer, answer_status, IsReadAnswer}

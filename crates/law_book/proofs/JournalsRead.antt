@@ -18,7 +18,7 @@ use Rattle.fq_model.specs.Spelling.{is_name, policy_word, estimator_word}
 use Rattle.program_model.specs.declared.version.Version.{Version}
 use Rattle.program_model.specs.declared.version.Version.TheVariants.{First, Second}
 use Rattle.program_model.specs.Document.{Settings, LineReader, below_header, config_line, document_of, document_of_lines, with_lines}
-use Rattle.program_model.specs.Journal.{Journal, entry_of_words, journal_of}
+use Rattle.program_model.specs.Journal.{Journal, entry_of_words}
 use Rattle.program_model.specs.JournalText.{numbers_text, entry_line, entries_text, header_line, head_text, journal_text, kinds_text, settings_line, tenants_text, version_for}
 use Rattle.program_model.specs.Lines.{Words, lines_of}
 use Rattle.program_model.specs.Reading.{◌>>=◌, at_line}

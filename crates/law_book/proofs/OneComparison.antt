@@ -1,5 +1,5 @@
 -- Comparisons of one trace.
-use Rattle.std.proofs.Common.{ℕ, ◌<◌, ◌≡◌, ◌∙◌, sym, ap, subst, refl, arith, true, false, List, [], ◌∷◌, length, take, get_or, All, Some, Option, slice_get, ◌⊎◌, inl, inr, None, ◌≤◌, ◌==◌, nat_lt}
+use Rattle.std.proofs.Common.{ℕ, ◌<◌, ◌≡◌, ◌∙◌, sym, ap, subst, refl, arith, true, List, [], ◌∷◌, length, take, All, Some, Option, slice_get, ◌⊎◌, inl, inr, None, ◌≤◌, ◌==◌, nat_lt}
 use Rattle.std.specs.Prelude.{IsSomeAnd}
 use Rattle.std.specs.List.{AllZip}
 use Rattle.std.proofs.lemmas.Bool.{both_ways, cases_Bool, ltb-true, ltb-false, eqb-true, eqb-false}
@@ -13,7 +13,7 @@ use Rattle.program_model.specs.declared.compare.CompareOptions.{CompareOptions}
 use Rattle.program_model.specs.declared.compare.CompareRow.{CompareRow}
 use Rattle.program_model.specs.Answer.{Answer, Text}
 use Rattle.program_model.specs.Compare.{all_pairs, run_options, row_of_history, IsCompared}
-use Rattle.program_model.specs.CompareCommand.{IsShort, IsLong, IsFirstLong, AreAllRows, IsRowsAnswer, IsLongAnswer}
+use Rattle.program_model.specs.CompareCommand.{IsShort, IsLong, IsFirstLong, IsRowsAnswer, IsLongAnswer}
 use Rattle.program_model.specs.HistoryAnswer.{has_many_cells, cells_answer}
 use Rattle.program_model.specs.ReportText.{compare_text}
 use Rattle.program_model.specs.Simulated.{run_config, IsSimulated}
