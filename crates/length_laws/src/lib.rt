@@ -2,4 +2,5 @@
 //! of another that waits.
 #![tactic(auto)]
 
+pub mod examples;
 pub mod laws;
