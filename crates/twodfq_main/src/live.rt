@@ -51,25 +51,12 @@ fn served<T: Wait + Threads + Sync, K: Clock + Sync>(
     requires options { AreInRange options.run × (options.slot ≤ GREATEST_SLOT) }
     ensures { Makes (IsPoolAnswer (K.tells clock.now) options trace.now) result }
 {
-    let served = serve::<ProgramChooser, K, T>(
-        rt,
-        alloc,
-        trace,
-        options.run,
-        options.watch,
-        clock,
-    );
+    let served = serve::<ProgramChooser, K, T>(rt, alloc, trace, options.run, options.watch, clock);
     match served {
-        Ok(Served { history, statuses }) => {
+        Ok(served) => {
+            let Served { history, statuses } = served;
             let (tenants, kinds) = (trace.tenants(), trace.kinds());
-            let output = last_history(
-                alloc,
-                options.print,
-                options.slot,
-                history,
-                tenants,
-                kinds,
-            )?;
+            let output = last_history(alloc, options.print, options.slot, history, tenants, kinds)?;
             Ok(after_lines(alloc, statuses, output)?)
         }
         Err(PoolFault::TooManyEntries(needed)) => Err(too_many_entries(alloc, needed)),
