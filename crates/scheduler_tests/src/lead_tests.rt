@@ -70,7 +70,7 @@ fn one_cost_is_not_known(rt: HostRuntime) {
     );
 }
 
-// Nothing is taken while both wait: the first is ahead by two requests when the second comes.
+// Nothing is taken while both wait: the first is ahead by a request when the second comes.
 #[test]
 fn both_begin_apart(rt: HostRuntime) {
     let past = [
