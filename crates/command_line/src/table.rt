@@ -3,8 +3,8 @@
 use crate::options::{Absent, OptionRow, Values};
 use fq_model::config::{Estimator, Policy};
 use fq_model::limits::{
-    GREATEST_BURST, GREATEST_COST, GREATEST_RATE, GREATEST_SLOT, MOST_ROWS, MOST_STATUSES, MOST_TENANTS,
-    MOST_WORKERS,
+    GREATEST_BURST, GREATEST_COST, GREATEST_RATE, GREATEST_SLOT, MOST_ROWS, MOST_STATUSES,
+    MOST_TENANTS, MOST_WORKERS,
 };
 use program_model::command::{GenPrint, HistoryPrint, ScriptPrint};
 

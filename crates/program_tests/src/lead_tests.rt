@@ -5,17 +5,20 @@ use std::process::Abort;
 
 // One worker that serves two tenants of weight 1. The head of b costs 4. Requests of a are thought to cost 1, and the
 // fourth costs 4.
-const UNKNOWN: &str = "journal 1\nconfig 1 wfq declared 1000 100 10\ntenant a 1\ntenant b 1\nkind get\n\
+const UNKNOWN: &str =
+    "journal 1\nconfig 1 wfq declared 1000 100 10\ntenant a 1\ntenant b 1\nkind get\n\
     submit 0 0 0 0 0 1 1\nsubmit 0 0 1 0 0 1 2\nsubmit 0 0 2 0 0 1 3\nsubmit 0 0 3 0 0 1 4\n\
     submit 0 0 4 0 0 1 5\nsubmit 0 0 5 1 0 4 6\ntake 9 0 0 0 1\ndone 9 1 0 0 1\n\
     take 9 1 0 1 1\ndone 9 2 0 1 1\ntake 9 2 0 2 1\ndone 9 3 0 2 1\ntake 9 3 0 3 1\ndone 9 7 0 3 4\n";
 
 // The same worker takes a request of a before b has one.
-const ALONE: &str = "journal 1\nconfig 1 wfq declared 1000 100 10\ntenant a 1\ntenant b 1\nkind get\n\
+const ALONE: &str =
+    "journal 1\nconfig 1 wfq declared 1000 100 10\ntenant a 1\ntenant b 1\nkind get\n\
     submit 0 0 0 0 0 1 1\ntake 9 0 0 0 1\nsubmit 1 0 1 1 0 1 2\n";
 
 // It takes that of b first.
-const ILLEGAL: &str = "journal 1\nconfig 1 wfq declared 1000 100 10\ntenant a 1\ntenant b 1\nkind get\n\
+const ILLEGAL: &str =
+    "journal 1\nconfig 1 wfq declared 1000 100 10\ntenant a 1\ntenant b 1\nkind get\n\
     submit 0 0 0 0 0 1 1\nsubmit 1 0 1 1 0 1 2\ntake 9 0 0 1 1\n";
 
 // These words write this for the input, and tell this.
@@ -107,24 +110,9 @@ fn expect_told<R: Abort>(rt: &R, alloc: Global, words: &[&str], told: &str) {
 fn names_that_make_no_pair(rt: HostRuntime) {
     let alloc = rt.alloc();
     let no_tenant = "twodfq: the journal has no tenant c\n";
-    expect_told(
-        &rt,
-        alloc,
-        &["lead", "--of", "c", "--over", "b"],
-        no_tenant,
-    );
-    expect_told(
-        &rt,
-        alloc,
-        &["lead", "--of", "a", "--over", "c"],
-        no_tenant,
-    );
-    expect_told(
-        &rt,
-        alloc,
-        &["lead", "--of", "c", "--over", "c"],
-        no_tenant,
-    );
+    expect_told(&rt, alloc, &["lead", "--of", "c", "--over", "b"], no_tenant);
+    expect_told(&rt, alloc, &["lead", "--of", "a", "--over", "c"], no_tenant);
+    expect_told(&rt, alloc, &["lead", "--of", "c", "--over", "c"], no_tenant);
     expect_told(
         &rt,
         alloc,
