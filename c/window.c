@@ -1,6 +1,6 @@
 // A scheduler that keeps its last 1,024 entries, beside one that keeps all for as long as that has room: each reply is the same, and
 // a log that comes by every 1,024 entries finds each entry, as the other has it. An entry that is gone is told by the first that is
-// not. Then the scheduler goes on alone.
+// not. Before that each is timed by itself.
 //
 //   window [REQUESTS]        and what a call takes, from the first to the last of ten parts, or of millions of requests where there
 //                            are more of these (200,000 requests where none are named)
@@ -78,10 +78,16 @@ static void read_log(twodfq *recent, twodfq *whole, uint64_t count) {
     want("the oldest is gone", gone.kind == TWODFQ_ENTRY_NONE && gone.amount == count - KEEP);
 }
 
-// As many requests as the scheduler that keeps all has room for, but no more than these.
+// As many requests as a scheduler that keeps all has room for, but no more than these.
+static uint64_t with_room(uint64_t requests) {
+    uint64_t room = MOST_ENTRIES / 3 - WAITING - 2;
+    return requests < room ? requests : room;
+}
+
+// What the two are answered, request by request. How many that were.
 static uint64_t beside(uint64_t requests) {
     twodfq recent = TWODFQ_NONE, whole = TWODFQ_NONE;
-    uint64_t room = MOST_ENTRIES / 3 - WAITING - 2, most = requests < room ? requests : room;
+    uint64_t most = with_room(requests);
     open_with(&recent, requests, KEEP);
     open_with(&whole, requests, 0);
     for (uint64_t i = 0; i < WAITING; i++) submit(&recent, &whole, i);
@@ -107,11 +113,11 @@ static long kilobytes(void) {
     return usage.ru_maxrss;
 }
 
-// The scheduler by itself: what a call takes in the first part and in the last, and in the quickest and the slowest; and how the peak
-// of memory grows after the first.
-static void alone(uint64_t requests) {
+// A scheduler that keeps so many entries, by itself: what a call takes in the first part and in the last, and in the quickest and the
+// slowest; and how the peak of memory grows after the first.
+static void alone(uint64_t requests, uint32_t keep) {
     twodfq recent = TWODFQ_NONE;
-    open_with(&recent, requests, KEEP);
+    open_with(&recent, requests, keep);
     for (uint64_t i = 0; i < WAITING; i++) submit(&recent, NULL, i);
     double first = 0, last = 0, least = 0, most = 0;
     long before = 0;
@@ -125,15 +131,16 @@ static void alone(uint64_t requests) {
         if (last < least) least = last;
         if (last > most) most = last;
     }
-    fprintf(stderr, "window: %.0f ns a call in the first of %llu parts, %.0f in the last, %.0f to %.0f in all; %ld KB, and %ld more after "
-        "the first\n", first, (unsigned long long)parts, last, least, most, before, kilobytes() - before);
+    fprintf(stderr, "window: keep %u: %.0f ns a call in the first of %llu parts, %.0f in the last, %.0f to %.0f in all; %ld KB, and %ld more "
+        "after the first\n", keep, first, (unsigned long long)parts, last, least, most, before, kilobytes() - before);
     twodfq_free(&recent);
 }
 
 int main(int count, char **words) {
     uint64_t requests = count > 1 ? strtoull(words[1], NULL, 10) : 200000;
     for (uint32_t tenant = 0; tenant < TENANTS; tenant++) weights[tenant] = 1 + tenant % 4;
-    alone(requests);
+    alone(requests, KEEP);
+    alone(with_room(requests), 0);
     uint64_t compared = beside(requests);
     printf("window: %llu requests with %d entries kept, answered and logged as where all are kept\n",
         (unsigned long long)compared, KEEP);
