@@ -1,5 +1,6 @@
 //! What the pool, its workers and its journal share, and how they wake each other.
-use std::sync::{Condvar, Mutex, MutexGuard, PoisonError};
+use std::hint;
+use std::sync::{Condvar, Mutex, MutexGuard, PoisonError, TryLockError};
 use std::time::{Duration, Instant};
 
 use super::cause::Cause;
@@ -7,6 +8,9 @@ use super::clock::Clock;
 use super::jobs::Job;
 use super::rolling::Spare;
 use super::state::{Effects, Ended, Request, Run, State};
+
+/// How often a thread looks whether the lock is free before it sleeps.
+const LOOKS: u32 = 300;
 
 pub(crate) struct Shared {
     state: Mutex<State>,
@@ -31,8 +35,16 @@ impl Shared {
         self.clock.moment(Instant::now())
     }
 
-    /// Nothing of a caller's own runs under this lock, but for the allocator.
+    /// Nothing of a caller's own runs under this lock, but for the allocator, so it is soon free: who finds it taken looks
+    /// again for about as long as a call takes, and only then sleeps, since a sleep and a wake cost several calls.
     pub(crate) fn lock(&self) -> MutexGuard<'_, State> {
+        for _ in 0..LOOKS {
+            match self.state.try_lock() {
+                Err(TryLockError::WouldBlock) => hint::spin_loop(),
+                Ok(state) => return state,
+                Err(TryLockError::Poisoned(poisoned)) => return poisoned.into_inner(),
+            }
+        }
         self.state.lock().unwrap_or_else(PoisonError::into_inner)
     }
 
