@@ -34,9 +34,9 @@ fn watched<T: Abort + Wait + Threads + Sync>(rt: &T, alloc: Global) -> MemSink {
     written
 }
 
-// The next number of a line.
-fn number<'a, R: Abort, I: Iterator<Item = &'a str>>(rt: &R, words: &mut I) -> u64 {
-    let Some(word) = words.next() else {
+// The number that is the next word of a line.
+fn number<R: Abort>(rt: &R, next: Option<&str>) -> u64 {
+    let Some(word) = next else {
         panic!(rt; "a line with fewer numbers")
     };
     let Ok(number) = word.parse::<u64>() else {
@@ -50,13 +50,13 @@ fn number<'a, R: Abort, I: Iterator<Item = &'a str>>(rt: &R, words: &mut I) -> u
 fn expect_status<R: Abort>(rt: &R, line: &str, before: u64) -> u64 {
     let mut words = line.split(' ');
     assert_eq!(rt; words.next(), Some("status"));
-    let entries = number(rt, &mut words);
+    let entries = number(rt, words.next());
     assert!(rt; entries >= before);
     assert!(rt; entries <= 10);
-    assert_eq!(rt; number(rt, &mut words), if entries == 0 { 0 } else { 7 });
-    assert_eq!(rt; number(rt, &mut words), 0);
-    assert!(rt; number(rt, &mut words) <= 3);
-    assert!(rt; number(rt, &mut words) <= 2);
+    assert_eq!(rt; number(rt, words.next()), if entries == 0 { 0 } else { 7 });
+    assert_eq!(rt; number(rt, words.next()), 0);
+    assert!(rt; number(rt, words.next()) <= 3);
+    assert!(rt; number(rt, words.next()) <= 2);
     assert!(rt; words.next().is_none());
     entries
 }
