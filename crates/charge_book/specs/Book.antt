@@ -40,7 +40,8 @@ pub record SameSizes (b c : BookView) : Type 0 where
 
 -- a request that was just taken
 abbrev pub row_of_run : ℕ → ℕ → ℕ → ℕ → ℕ → RunRow
-row_of_run request tenant kind weight estimate = record { request = request; tenant = tenant; kind = kind; weight = weight; estimate = estimate; last = 0 }
+row_of_run request tenant kind weight estimate =
+    record { request = request; tenant = tenant; kind = kind; weight = weight; estimate = estimate; last = 0 }
 
 -- the worker runs the request of this row, which is charged to its tenant
 abbrev pub begun : BookView → ℕ → RunRow → BookView
@@ -56,7 +57,8 @@ nets_recharged nets row charge = slice_set nets row.tenant (slice_index nets row
 
 -- the worker runs this, and what its row was charged becomes this charge
 abbrev pub recharged : BookView → ℕ → RunRow → Option RunRow → ℕ → BookView
-recharged b worker row next charge = record { rows = slice_set b.rows worker next; nets = nets_recharged b.nets row charge; begins = b.begins }
+recharged b worker row next charge =
+    record { rows = slice_set b.rows worker next; nets = nets_recharged b.nets row charge; begins = b.begins }
 
 -- the row after a use
 abbrev pub with_use : RunRow → ℕ → RunRow
@@ -64,7 +66,8 @@ with_use row used = record row { last = used }
 
 abbrev pub reported_at : BookView → ℕ → Option RunRow → ℕ → BookView
 reported_at b worker None used = b
-reported_at b worker (Some row) used = recharged b worker row (Some (with_use row used)) (row_charge (with_use row used))
+reported_at b worker (Some row) used =
+    recharged b worker row (Some (with_use row used)) (row_charge (with_use row used))
 
 -- the book after a use of what runs on the worker
 abbrev pub reported : BookView → ℕ → ℕ → BookView

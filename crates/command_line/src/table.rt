@@ -130,7 +130,8 @@ pub const LEAD_OPTIONS: [OptionRow; 2] = [
     },
 ];
 
-/// The options of `shape`. The rate is in tokens that a tenant of weight 1 gains in 1000 microseconds, the burst in tokens.
+/// The options of `shape`. The rate is in tokens that a tenant of weight 1 gains in 1000 microseconds, the burst in
+/// tokens.
 pub const SHAPE_OPTIONS: [OptionRow; 2] = [
     OptionRow {
         name: "--rate",

@@ -54,6 +54,7 @@ pub record IsBodyAnswered (C : Config) (said : Result (List Call) (ℕ × Script
   pub answered : AreAnswered C tells calls text past
 
 -- what is answered to a script with this configuration and with these tenants and kinds, by what its body says
-abbrev pub IsBodyAnswer : ScriptPrint → Config → (tenants kinds : List (List ℕ)) → Result (List Call) (ℕ × ScriptKind) → Answer → Type 0
+abbrev pub IsBodyAnswer : ScriptPrint → Config → (tenants kinds : List (List ℕ)) → Result (List Call) (ℕ × ScriptKind)
+    → Answer → Type 0
 IsBodyAnswer what C tenants kinds (Ok calls) answer = IsCallsAnswer what C tenants kinds calls answer
 IsBodyAnswer what C tenants kinds (Err (line, fault)) answer = answer ≡ fault_answer line (script_fault_text fault)

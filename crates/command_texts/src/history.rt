@@ -25,8 +25,8 @@ use std::alloc::{AllocError, Global};
 use tenant_table::kinds::Kinds;
 use tenant_table::tenants::Tenants;
 
-/// What is answered of a history that nobody needs afterwards: it is given up once its journal is printed, or its entries
-/// are read for a report. Slot 0 asks for the automatic slot.
+/// What is answered of a history that nobody needs afterwards: it is given up once its journal is printed, or its
+/// entries are read for a report. Slot 0 asks for the automatic slot.
 pub fn last_history(
     alloc: Global,
     what: HistoryPrint,

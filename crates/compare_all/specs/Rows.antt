@@ -19,8 +19,8 @@ use Rattle.compare_all.specs.declared.fault.CompareFault.TheVariants as faults
 use Rattle.compare_all.specs.declared.rows.RowFault.{RowFault}
 use Rattle.compare_all.specs.declared.rows.RowFault.TheVariants.{TooLong, NoMemory}
 
--- what is made of a pair whose history under C is H, by the slot that is asked for: its row, where its report has no more
--- cells than it may, or else how many it would have; or memory ran out
+-- what is made of a pair whose history under C is H, by the slot that is asked for: its row, where its report has no
+-- more cells than it may, or else how many it would have; or memory ran out
 abbrev pub IsMadeOf : ℕ → Policy × Estimator → Config → History → Result CompareRow RowFault → Type 0
 IsMadeOf asked pair C H (Ok row) = (has_many_cells asked C H ≡ false) × (row ≡ row_of_history pair C H asked)
 IsMadeOf asked pair C H (Err (TooLong cells)) = (has_many_cells asked C H ≡ true) × (cells ≡ cells_of C H asked)

@@ -4,8 +4,8 @@ ghost use Rattle.program_model.specs.Compare.{best, spread};
 
 use program_model::compare::CompareRow;
 
-/// The number of the row whose lags lie least apart, counted from 0; of equal ones the first, and 0 where there is no row.
-/// Takes no memory.
+/// The number of the row whose lags lie least apart, counted from 0; of equal ones the first, and 0 where there is no
+/// row. Takes no memory.
 pub fn best(rows: &[CompareRow]) -> u32
     requires { length rows.now ≤ 4294967296 }
     ensures { result ≡ best rows.now }

@@ -21,9 +21,9 @@ use trace_runner::needed::needed;
 /// How many policies and estimators there are together.
 const PAIRS: usize = 12;
 
-/// What each policy and estimator come to on a trace: twelve rows, by policy `wfq`, `wf2q`, `msf2q`, `2dfq`, and in each
-/// by estimator `declared`, `recent`, `pessimistic`. The rows are the same for any number of threads. The policies go
-/// one after another and the estimators of each side by side, so no more than three histories and reports stand in
+/// What each policy and estimator come to on a trace: twelve rows, by policy `wfq`, `wf2q`, `msf2q`, `2dfq`, and in
+/// each by estimator `declared`, `recent`, `pessimistic`. The rows are the same for any number of threads. The policies
+/// go one after another and the estimators of each side by side, so no more than three histories and reports stand in
 /// memory at once. The first row without a history or a report decides; no row after those of its policy is begun.
 pub fn compare<R: Threads + Sync>(
     rt: &R,

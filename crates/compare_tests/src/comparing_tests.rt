@@ -150,8 +150,8 @@ fn a_report_of_too_many_cells(rt: HostRuntime) {
     expect_fault(&rt, rt.alloc(), APART, options(4, 10000, 1), first);
 }
 
-// By what is declared the long request begins at 0, and all end at 1,333,334, for which two tenants have 2,666,670 cells.
-// In the next row it begins when the two others end.
+// By what is declared the long request begins at 0, and all end at 1,333,334, for which two tenants have 2,666,670
+// cells. In the next row it begins when the two others end.
 #[test]
 fn the_first_report_of_too_many_cells_is_not_the_first(rt: HostRuntime) {
     let second = CompareFault::TooLong {

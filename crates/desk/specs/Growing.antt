@@ -27,7 +27,8 @@ turned_same P Q e = sym (reverse-reverse Q) ∙ (ap reverse e ∙ reverse-revers
 
 -- one entry more in order of time
 turned_more : (P Q : List Entry) (e : Entry) → history_of Q ≡ e ∷ history_of P → Q ≡ P ++ e ∷ []
-turned_more P Q e is = sym (reverse-reverse Q) ∙ (ap reverse is ∙ (reverse-append (e ∷ []) (reverse P) ∙ ap (λ l. l ++ e ∷ []) (reverse-reverse P)))
+turned_more P Q e is =
+    sym (reverse-reverse Q) ∙ (ap reverse is ∙ (reverse-append (e ∷ []) (reverse P) ∙ ap (λ l. l ++ e ∷ []) (reverse-reverse P)))
 
 extends_grows : (who moment : ℕ) (P Q : List Entry) → Extends who moment (history_of P) (history_of Q) → Grows who P Q
 extends_grows who moment P Q (inl same) = inl (turned_same P Q same)

@@ -38,7 +38,8 @@ AreSubmitters lock from (token ∷ tokens) = IsNew lock from token.pass × AreSu
 -- the workers from this one on
 abbrev pub AreWorkers : LockView Crew → ℕ → List Worker → Type 0
 AreWorkers lock from [] = Unit {0}
-AreWorkers lock from (token ∷ tokens) = (IsNew lock (lock.frame.submitters + from) token.pass × (token.worker ≡ from)) × AreWorkers lock (suc from) tokens
+AreWorkers lock from (token ∷ tokens) =
+    (IsNew lock (lock.frame.submitters + from) token.pass × (token.worker ≡ from)) × AreWorkers lock (suc from) tokens
 
 -- with the passes that the first one has split off there are this many
 abbrev pub HasMade : ℕ → List Submitter → Type 0

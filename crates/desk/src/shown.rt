@@ -48,8 +48,8 @@ fn shared(alloc: Global, board: Board) -> Option<(Arc<Board>, Arc<Board>)>
     Some((first, second))
 }
 
-/// A board that shows the empty past, for this configuration: what a desk shares, what shows more, and a reader that has
-/// seen nothing.
+/// A board that shows the empty past, for this configuration: what a desk shares, what shows more, and a reader that
+/// has seen nothing.
 pub(crate) fn show_nothing(alloc: Global, config: &Checked) -> Option<(Arc<Board>, Shown, Reader)>
     ensures board { IfSome result (λ r. (arc_value r.0 ≡ r.1.board) × (r.1.board.config ≡ config.now)) }
     ensures past { IfSome result (λ r. r.1.past ≡ []) }

@@ -20,16 +20,19 @@ pub record KeepsIndex (policy : Policy) (workers : ℕ) (table : Table) (latest 
   pub few : length table ≤ MOST_TENANTS
   pub differ : RequestsDiffer table
   pub staffed : workers ≤ length trees
-  pub follow : (i : ℕ) → i < length trees → Follow (record { policy = policy; workers = workers; worker = i; virtual_time = latest }) table (trees_of trees i)
+  pub follow : (i : ℕ) → i < length trees
+      → Follow (record { policy = policy; workers = workers; worker = i; virtual_time = latest }) table (trees_of trees i)
   pub retired : (i : ℕ) → workers ≤ i → i < length trees → HaveNoKey (trees_of trees i)
 
 -- the trees of worker i are exact for a choice at v
 abbrev pub IsExactFor : IndexView → ℕ → ℤ → Type 0
-IsExactFor x i v = AreExact (turn_of x.chooser.setting i v) x.chooser.table (trees_of x.trees i).later (trees_of x.trees i).eligible
+IsExactFor x i v =
+    AreExact (turn_of x.chooser.setting i v) x.chooser.table (trees_of x.trees i).later (trees_of x.trees i).eligible
 
 -- the tenant is noted for each worker
 abbrev pub AreNoted : ℕ → List TreesView → List TreesView → Type 0
-AreNoted t old new = (length new ≡ length old) × ((i : ℕ) → i < length old → trees_of new i ≡ with_noted (trees_of old i) t)
+AreNoted t old new =
+    (length new ≡ length old) × ((i : ℕ) → i < length old → trees_of new i ≡ with_noted (trees_of old i) t)
 
 -- the trees of each worker are those of so many tenants: empty, and every tenant noted
 abbrev pub AreCleared : ℕ → List TreesView → List TreesView → Type 0

@@ -23,11 +23,13 @@ pub record TreesView : Type 0 where
 
 -- of so many tenants none has a key
 abbrev pub empty_trees : ℕ → TreesView
-empty_trees tenants = record { later = replicate tenants None; eligible = replicate tenants None; noted = replicate tenants false }
+empty_trees tenants =
+    record { later = replicate tenants None; eligible = replicate tenants None; noted = replicate tenants false }
 
 -- the same, and every tenant is noted
 abbrev pub cleared : ℕ → TreesView
-cleared tenants = record { later = replicate tenants None; eligible = replicate tenants None; noted = replicate tenants true }
+cleared tenants =
+    record { later = replicate tenants None; eligible = replicate tenants None; noted = replicate tenants true }
 
 -- a tenant is noted
 abbrev pub with_noted : TreesView → ℕ → TreesView
@@ -36,8 +38,10 @@ with_noted w t = record { later = w.later; eligible = w.eligible; noted = slice_
 -- The trees have what the heads of the table call for, and no other key: the first that of each head which is not
 -- eligible, the second that of each which is.
 pub record AreExact (at : Turn) (table : Table) (later eligible : List (Option Key)) : Type 0 where
-  pub in_later : (t : ℕ) (key : Key) → HasKey later t key ↔ ((k : HeadKeys) × (Has table t k × (¬ IsEligible at k × (key ≡ later_key at k))))
-  pub in_eligible : (t : ℕ) (key : Key) → HasKey eligible t key ↔ ((k : HeadKeys) × (Has table t k × (IsEligible at k × (key ≡ finish_key k))))
+  pub in_later : (t : ℕ) (key : Key)
+      → HasKey later t key ↔ ((k : HeadKeys) × (Has table t k × (¬ IsEligible at k × (key ≡ later_key at k))))
+  pub in_eligible : (t : ℕ) (key : Key)
+      → HasKey eligible t key ↔ ((k : HeadKeys) × (Has table t k × (IsEligible at k × (key ≡ finish_key k))))
 
 -- ---- what trees keep between choices
 
@@ -71,7 +75,8 @@ pub record Follow (at : Turn) (table : Table) (w : TreesView) : Type 0 where
 
 -- each tenant stands in the trees as the table says, or is one of these
 abbrev pub StandBut : Turn → Table → List ℕ → List (Option Key) → List (Option Key) → Type 0
-StandBut at table numbers later eligible = (t : ℕ) → t < length table → StandsIn at table later eligible t ⊎ Contains numbers t
+StandBut at table numbers later eligible =
+    (t : ℕ) → t < length table → StandsIn at table later eligible t ⊎ Contains numbers t
 
 -- each tenant stands in the trees as the table says
 abbrev pub AllStand : Turn → Table → List (Option Key) → List (Option Key) → Type 0
@@ -84,7 +89,8 @@ SameSizes later eligible later2 eligible2 = (length later2 ≡ length later) × 
 -- where each tenant stood as a table says, each does so now, and the trees are exact
 abbrev pub IsMovedOver : Turn → List (Option Key) → List (Option Key) → List (Option Key) → List (Option Key) → Type 0
 IsMovedOver at later eligible later2 eligible2 =
-    (table : Table) → length later ≡ length table → AllStand at table later eligible → AllStand at table later2 eligible2 × AreExact at table later2 eligible2
+    (table : Table) → length later ≡ length table → AllStand at table later eligible
+    → AllStand at table later2 eligible2 × AreExact at table later2 eligible2
 
 -- t is the first of the eligible ones, or where there is none the first of the others
 abbrev pub IsFirstIn : TreesView → ℕ → Type 0

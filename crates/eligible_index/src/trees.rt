@@ -28,7 +28,8 @@ impl Model for WorkerTrees {
 
     ghost view = { λ w. record { later = w.later; eligible = w.eligible; noted = w.noted } };
 
-    ghost invariant = { λ w. AreSized (length w.noted) (record { later = w.later; eligible = w.eligible; noted = w.noted }) };
+    ghost invariant = { λ w.
+        AreSized (length w.noted) (record { later = w.later; eligible = w.eligible; noted = w.noted }) };
 }
 
 impl WorkerTrees {

@@ -4,7 +4,8 @@ ghost use Rattle.fitted_chooser.specs.Fitted.{are_few};
 
 use fq_model::config::Checked;
 
-/// The most workers that are few. A change of a head is noted in the trees of every worker, so trees cost more with each.
+/// The most workers that are few. A change of a head is noted in the trees of every worker, so trees cost more with
+/// each.
 pub const FEW_WORKERS: u32 = 4;
 
 /// The most tenants that are few: with as many and `FEW_WORKERS` workers, trees cost at most a tenth more than one

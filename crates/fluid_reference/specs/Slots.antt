@@ -65,7 +65,8 @@ has_backlog costs served t = nat_lt (number_at served t) (number_at costs t)
 
 -- these are the tenants that have a backlog, each of them once
 abbrev pub AreBacklogged : List ℕ → List ℕ → List ℕ → Type 0
-AreBacklogged costs served tenants = (t : ℕ) → count_by (λ u. u == t) tenants ≡ (if has_backlog costs served t then 1 else 0)
+AreBacklogged costs served tenants =
+    (t : ℕ) → count_by (λ u. u == t) tenants ≡ (if has_backlog costs served t then 1 else 0)
 
 -- what a slot shares by is in its limits, of the same tenants
 pub record CanShare (costs served weights : List ℕ) : Type 0 where
@@ -182,8 +183,8 @@ abbrev pub replayed_table : Config → List FluidRow → List Change → List Le
 replayed_table C rows changes slots Q =
     list_below (λ k. list_below (λ t. replayed C rows changes slots Q t (suc k)) (length C.weights)) (length slots)
 
--- no more requests than there may be, each in its limits for so many tenants; requests and changes in the order of their
--- tenants, those of a tenant in order of time
+-- no more requests than there may be, each in its limits for so many tenants; requests and changes in the order of
+-- their tenants, those of a tenant in order of time
 pub record CanReplay (tenants : ℕ) (rows : List FluidRow) (changes : List Change) : Type 0 where
   pub few : length rows ≤ MOST_FLUID_ROWS
   pub in_range : All (IsRowOf tenants) rows

@@ -9,8 +9,8 @@ use water_level::gifts::give;
 use water_level::levels::level;
 
 /// Serves the tenants that have a backlog what a slot that shares this many units gives them, and gives the level at
-/// which it was shared. The others get nothing, and no step is taken for them. Both vectors lend their memory: `left` then
-/// says who has a backlog after the slot.
+/// which it was shared. The others get nothing, and no step is taken for them. Both vectors lend their memory: `left`
+/// then says who has a backlog after the slot.
 pub fn share(
     cap: u64,
     costs: &[u64],

@@ -36,9 +36,10 @@ TookTooMany None new limit = Unit {0}
 TookTooMany (Some xs) None limit = ⊥
 TookTooMany (Some xs) (Some ys) limit = (limit < length xs) × (ys ≡ drop (limit + 1) xs)
 
--- when each fault of reading a source to its end is answered: a failed read where the faults rose, and then no more bytes
--- came than the limit; too many bytes where more are told. Want of memory may be answered at any time.
+-- when each fault of reading a source to its end is answered: a failed read where the faults rose, and then no more
+-- bytes came than the limit; too many bytes where more are told. Want of memory may be answered at any time.
 abbrev pub IsReadAllFault : Option (List ℕ) → Option (List ℕ) → ℕ → ℕ → ℕ → ReadAllFault → Type 0
-IsReadAllFault old new faults_before faults_after limit ReadFault = Rose faults_before faults_after × TookAtMost old new limit
+IsReadAllFault old new faults_before faults_after limit ReadFault =
+    Rose faults_before faults_after × TookAtMost old new limit
 IsReadAllFault old new faults_before faults_after limit (TooLong n) = (n ≡ limit) × TookTooMany old new limit
 IsReadAllFault old new faults_before faults_after limit NoMemory = Unit {0}

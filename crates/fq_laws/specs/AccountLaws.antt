@@ -18,7 +18,8 @@ use Rattle.fq_laws.specs.Changes.{charge_after, change_of, Changes, greatest_cos
 
 -- one entry on, each charge is what the act makes of it
 abbrev pub ChargeSteps : Type 0
-ChargeSteps = (C : Config) (P : History) (e : Entry) (r : ℕ) → IsLegal C (e ∷ P) → charge (e ∷ P) r ≡ charge_after P r e.act
+ChargeSteps =
+    (C : Config) (P : History) (e : Entry) (r : ℕ) → IsLegal C (e ∷ P) → charge (e ∷ P) r ≡ charge_after P r e.act
 
 -- the charge of a request that is done is its measured cost
 abbrev pub FinalCharge : Type 0
@@ -34,7 +35,9 @@ ChargeLimit = (C : Config) (P : History) (r : ℕ) → InLimits C → IsLegal C 
 
 -- one entry on, the open requests and the charges of each tenant are changed as the act says
 abbrev pub TenantSteps : Type 0
-TenantSteps = (C : Config) (P : History) (e : Entry) (t : ℕ) → InLimits C → IsLegal C (e ∷ P) → Changes C P (e ∷ P) t (change_of C P t e.act)
+TenantSteps =
+    (C : Config) (P : History) (e : Entry) (t : ℕ) → InLimits C → IsLegal C (e ∷ P)
+    → Changes C P (e ∷ P) t (change_of C P t e.act)
 
 -- what a tenant is charged is bounded by the number of requests
 pub record TenantLimit (C : Config) (P : History) (t : ℕ) : Type 0 where
@@ -49,17 +52,23 @@ TenantLimits = (C : Config) (P : History) (t : ℕ) → InLimits C → IsLegal C
 
 -- the estimate of a submitted request is a cost that it may have
 abbrev pub EstimateRange : Type 0
-EstimateRange = (C : Config) (P : History) (r : ℕ) (q : Request) → InLimits C → IsLegal C P → request_at P r ≡ Some q → IsWithin 1 GREATEST_COST (request_estimate C P q)
+EstimateRange =
+    (C : Config) (P : History) (r : ℕ) (q : Request) → InLimits C → IsLegal C P → request_at P r ≡ Some q
+    → IsWithin 1 GREATEST_COST (request_estimate C P q)
 
 -- the greatest decayed cost is a running one: it begins with the initial value, and with each cost it decays once
 abbrev pub GreatestRuns : Type 0
-GreatestRuns = (initial : ℕ) → (greatest_cost_from initial [] ≡ initial) × ((cost : ℕ) (costs : List ℕ) → greatest_cost_from initial (cost ∷ costs) ≡ max cost (decay_of (greatest_cost_from initial costs)))
+GreatestRuns =
+    (initial : ℕ) → (greatest_cost_from initial [] ≡ initial)
+    × ((cost : ℕ) (costs : List ℕ) → greatest_cost_from initial (cost ∷ costs) ≡ max cost (decay_of (greatest_cost_from initial costs)))
 
 -- ---- time
 
 -- from one entry to the next virtual time makes one advance, at the active weight between them
 abbrev pub TimeSteps : Type 0
-TimeSteps = (C : Config) (P : History) (e : Entry) → virtual_time C (e ∷ P) e.moment ≡ virtual_time C P (last_moment P) + advance_of (e.moment - last_moment P) (pool_at C P) (active_weight C P)
+TimeSteps =
+    (C : Config) (P : History) (e : Entry)
+    → virtual_time C (e ∷ P) e.moment ≡ virtual_time C P (last_moment P) + advance_of (e.moment - last_moment P) (pool_at C P) (active_weight C P)
 
 -- virtual time never falls
 abbrev pub TimeRises : Type 0
@@ -67,12 +76,15 @@ TimeRises = (C : Config) (P : History) (m k : ℕ) → m ≤ k → virtual_time 
 
 -- and makes at most 64 units in a microsecond
 abbrev pub TimeLimit : Type 0
-TimeLimit = (C : Config) (P : History) (m : ℕ) → InLimits C → IsLegal C P → last_moment P ≤ m → virtual_time C P m ≤ m * greatest_rate
+TimeLimit =
+    (C : Config) (P : History) (m : ℕ) → InLimits C → IsLegal C P → last_moment P ≤ m
+    → virtual_time C P m ≤ m * greatest_rate
 
 -- the virtual idle time of a tenant stays while the tenant is active, and else moves along with virtual time
 pub record IdleStep (C : Config) (P : History) (e : Entry) (t : ℕ) : Type 0 where
   pub stays : is_active P t ≡ true → virtual_idle_time C (e ∷ P) e.moment t ≡ virtual_idle_time C P (last_moment P) t
-  pub moves : is_active P t ≡ false → virtual_idle_time C (e ∷ P) e.moment t + virtual_time C P (last_moment P) ≡ virtual_idle_time C P (last_moment P) t + virtual_time C (e ∷ P) e.moment
+  pub moves : is_active P t ≡ false
+      → virtual_idle_time C (e ∷ P) e.moment t + virtual_time C P (last_moment P) ≡ virtual_idle_time C P (last_moment P) t + virtual_time C (e ∷ P) e.moment
 
 abbrev pub IdleSteps : Type 0
 IdleSteps = (C : Config) (P : History) (e : Entry) (t : ℕ) → IdleStep C P e t
@@ -88,7 +100,10 @@ BaseRises = (C : Config) (P : History) (e : Entry) (t : ℕ) → tag_base C P t 
 
 -- a Submit that finds none of its tenant's requests waiting raises the tenant's tag to virtual time
 abbrev pub TagCatchesUp : Type 0
-TagCatchesUp = (C : Config) (P : History) (e : Entry) (request tenant kind declared label : ℕ) → IsLegal C (e ∷ P) → e.act ≡ Submit request tenant kind declared label → head P tenant ≡ None → tag C (e ∷ P) tenant ≡ max (virtual_time C P e.moment) (tag C P tenant)
+TagCatchesUp =
+    (C : Config) (P : History) (e : Entry) (request tenant kind declared label : ℕ) → IsLegal C (e ∷ P)
+    → e.act ≡ Submit request tenant kind declared label → head P tenant ≡ None
+    → tag C (e ∷ P) tenant ≡ max (virtual_time C P e.moment) (tag C P tenant)
 
 -- where a tenant starts is bounded by the number of requests and the moment
 abbrev pub StartLimit : Type 0

@@ -46,7 +46,8 @@ recharge own closed charged recharged weight = record {
 -- what the act changes at P for tenant t
 abbrev pub change_of : Config → History → ℕ → Act → Change
 change_of C P t (Submit request tenant kind declared label) = record no_change { opened = if tenant == t then 1 else 0 }
-change_of C P t (Take worker request estimate) = recharge (is_of_tenant t (request_at P request)) 0 0 estimate (weight_at C P t)
+change_of C P t (Take worker request estimate) =
+    recharge (is_of_tenant t (request_at P request)) 0 0 estimate (weight_at C P t)
 change_of C P t (Report worker request used) =
     recharge (is_of_tenant t (request_at P request)) 0 (charge P request) (max used (charge P request)) (taken_weight C P t request)
 change_of C P t (Done worker request cost) =

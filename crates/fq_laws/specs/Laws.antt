@@ -32,7 +32,9 @@ NumbersFit = (C : Config) (P : History) (r : ℕ) → InLimits C → IsLegal C P
 
 -- `running_on` names r where the worker runs r, and no other request, and names none where it runs nothing
 abbrev pub RunningLaw : Type 0
-RunningLaw = (C : Config) (P : History) (i : ℕ) → IsLegal C P → ((r : ℕ) → (running_on P i ≡ Some r) ↔ Runs P i r) × ((running_on P i ≡ None) ↔ RunsNothing P i)
+RunningLaw =
+    (C : Config) (P : History) (i : ℕ) → IsLegal C P
+    → ((r : ℕ) → (running_on P i ≡ Some r) ↔ Runs P i r) × ((running_on P i ≡ None) ↔ RunsNothing P i)
 
 -- the workers of a legal history are 1 at least, and at most as many as at the opening
 abbrev pub PoolRange : Type 0
@@ -46,13 +48,16 @@ RunnersKnown = (C : Config) (P : History) (i r : ℕ) → IsLegal C P → Runs P
 
 -- each tenant of a legal history has a weight in its limits
 abbrev pub WeightRange : Type 0
-WeightRange = (C : Config) (P : History) (t : ℕ) → InLimits C → IsLegal C P → t < length C.weights → IsWeight (weight_at C P t)
+WeightRange =
+    (C : Config) (P : History) (t : ℕ) → InLimits C → IsLegal C P → t < length C.weights → IsWeight (weight_at C P t)
 
 -- ---- heads
 
 -- the head of a tenant is its least waiting request, and it has none where no request of it waits
 abbrev pub HeadLaw : Type 0
-HeadLaw = (C : Config) (P : History) (t : ℕ) → InLimits C → IsLegal C P → ((r : ℕ) → (head P t ≡ Some r) ↔ IsHead P t r) × ((head P t ≡ None) ↔ ((r : ℕ) → ¬ WaitsFor P t r))
+HeadLaw =
+    (C : Config) (P : History) (t : ℕ) → InLimits C → IsLegal C P
+    → ((r : ℕ) → (head P t ≡ Some r) ↔ IsHead P t r) × ((head P t ≡ None) ↔ ((r : ℕ) → ¬ WaitsFor P t r))
 
 -- the queue of a tenant is its waiting requests, the oldest first
 pub record IsQueue (P : History) (t : ℕ) (xs : List ℕ) : Type 0 where
@@ -75,13 +80,17 @@ ChoiceExists = (C : Config) (P : History) (m i : ℕ) → IsLegal C P → 1 ≤ 
 
 -- two choices of a worker at one moment are the same tenant, with the same keys
 abbrev pub OneChoice : Type 0
-OneChoice = (C : Config) (P : History) (m i t u : ℕ) (k l : HeadKeys) → IsChoiceAt C P m i t k → IsChoiceAt C P m i u l → (t ≡ u) × (k ≡ l)
+OneChoice =
+    (C : Config) (P : History) (m i t u : ℕ) (k l : HeadKeys) → IsChoiceAt C P m i t k → IsChoiceAt C P m i u l
+    → (t ≡ u) × (k ≡ l)
 
 -- ---- what stays
 
 -- an entry leaves each tenant that it does not concern as it stood
 abbrev pub EntriesLeaveOthers : Type 0
-EntriesLeaveOthers = (C : Config) (P : History) (e : Entry) (t : ℕ) → InLimits C → IsLegal C (e ∷ P) → concerns P t e.act ≡ false → Leaves C P (e ∷ P) t
+EntriesLeaveOthers =
+    (C : Config) (P : History) (e : Entry) (t : ℕ) → InLimits C → IsLegal C (e ∷ P) → concerns P t e.act ≡ false
+    → Leaves C P (e ∷ P) t
 
 -- the keys of a tenant are the same at each moment
 abbrev pub KeysDoNotAge : Type 0
@@ -89,7 +98,9 @@ KeysDoNotAge = (C : Config) (P : History) (m n t : ℕ) → IsLegal C P → keys
 
 -- nor does an entry that does not concern the tenant change them
 abbrev pub OthersKeepKeys : Type 0
-OthersKeepKeys = (C : Config) (P : History) (e : Entry) (m n t : ℕ) → InLimits C → IsLegal C (e ∷ P) → concerns P t e.act ≡ false → keys_at C (e ∷ P) m t ≡ keys_at C P n t
+OthersKeepKeys =
+    (C : Config) (P : History) (e : Entry) (m n t : ℕ) → InLimits C → IsLegal C (e ∷ P) → concerns P t e.act ≡ false
+    → keys_at C (e ∷ P) m t ≡ keys_at C P n t
 
 -- ---- answers
 
@@ -103,15 +114,18 @@ AnswerExists = (C : Config) (P : History) (c : Call) → IsLegal C P → SomeAns
 
 -- two answers of a call are the same reply, and leave the same history
 abbrev pub OneAnswer : Type 0
-OneAnswer = (C : Config) (P H K : History) (c : Call) (r s : Reply) → Answers C P c r H → Answers C P c s K → (r ≡ s) × (H ≡ K)
+OneAnswer =
+    (C : Config) (P H K : History) (c : Call) (r s : Reply) → Answers C P c r H → Answers C P c s K → (r ≡ s) × (H ≡ K)
 
 -- what an answer leaves of a legal history is legal
 abbrev pub AnswersKeepLegality : Type 0
-AnswersKeepLegality = (C : Config) (P H : History) (c : Call) (r : Reply) → InLimits C → IsLegal C P → Answers C P c r H → IsLegal C H
+AnswersKeepLegality =
+    (C : Config) (P H : History) (c : Call) (r : Reply) → InLimits C → IsLegal C P → Answers C P c r H → IsLegal C H
 
 -- an answer leaves the history as it is, or adds one entry to it, which is of the call's maker and moment
 abbrev pub AnswersAddOne : Type 0
-AnswersAddOne = (C : Config) (P H : History) (c : Call) (r : Reply) → Answers C P c r H → Extends (caller c) (named_moment c) P H
+AnswersAddOne =
+    (C : Config) (P H : History) (c : Call) (r : Reply) → Answers C P c r H → Extends (caller c) (named_moment c) P H
 
 -- a refused call leaves the history as it is
 abbrev pub RefusalsChangeNothing : Type 0
@@ -141,8 +155,12 @@ OutcomeExists = (C : Config) (calls : List Call) → InLimits C → SomeOutcome 
 
 -- two outcomes of the same calls are the same replies and the same history
 abbrev pub OneOutcome : Type 0
-OneOutcome = (C : Config) (H K : History) (calls : List Call) (rs ss : List Reply) → Outcome C calls rs H → Outcome C calls ss K → (rs ≡ ss) × (H ≡ K)
+OneOutcome =
+    (C : Config) (H K : History) (calls : List Call) (rs ss : List Reply) → Outcome C calls rs H → Outcome C calls ss K
+    → (rs ≡ ss) × (H ≡ K)
 
 -- an outcome is a legal history
 abbrev pub OutcomesAreLegal : Type 0
-OutcomesAreLegal = (C : Config) (H : History) (calls : List Call) (replies : List Reply) → InLimits C → Outcome C calls replies H → IsLegal C H
+OutcomesAreLegal =
+    (C : Config) (H : History) (calls : List Call) (replies : List Reply) → InLimits C → Outcome C calls replies H
+    → IsLegal C H

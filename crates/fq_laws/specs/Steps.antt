@@ -21,7 +21,8 @@ pub record Awaits {K : Type 0} (KeptIs : Config → History → K → Type 0) (C
 -- and of each such history, what was kept of it becomes what is kept of the history with the entry
 abbrev pub Follows : {K : Type 0} → (Config → History → K → Type 0) → (History → Entry → Type 0) → K → K → Type 0
 Follows KeptIs Comes before after =
-    (C : Config) (P : History) (e : Entry) → InLimits C → IsLegal C (e ∷ P) → Comes P e → KeptIs C P before → KeptIs C (e ∷ P) after
+    (C : Config) (P : History) (e : Entry) → InLimits C → IsLegal C (e ∷ P) → Comes P e → KeptIs C P before
+    → KeptIs C (e ∷ P) after
 
 -- the act opens no request and closes none, and changes no weight and no number of workers
 abbrev pub passes : Act → Bool

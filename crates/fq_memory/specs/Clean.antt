@@ -16,5 +16,8 @@ pub record IsClean (room : ℕ) (written : List ℕ) (faults : ℕ) : Type 0 whe
 -- exactly what a write does: it takes as many bytes as it can, and it fails where the sink is full and the piece isn't
 -- empty
 abbrev pub Fills : {E : Type 0} → CleanMemory → CleanMemory → List ℕ → Result ℕ E → Type 0
-Fills old new piece (Ok n) = (n ≡ min (old.room - length old.written) (length piece)) × (new ≡ record old { written = old.written ++ take n piece })
-Fills old new piece (Err e) = (length old.written ≡ old.room) × (0 < length piece) × (new ≡ record old { faults = next_count old.faults })
+Fills old new piece (Ok n) =
+    (n ≡ min (old.room - length old.written) (length piece))
+    × (new ≡ record old { written = old.written ++ take n piece })
+Fills old new piece (Err e) =
+    (length old.written ≡ old.room) × (0 < length piece) × (new ≡ record old { faults = next_count old.faults })

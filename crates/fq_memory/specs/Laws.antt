@@ -11,4 +11,6 @@ CleanSourceNeverFails = ¬ Rose 0 0
 -- bytes,
 -- its faults did not rise above the 0 of a fresh one
 abbrev pub CleanSinkNeverFails : Type 0
-CleanSinkNeverFails = (room n faults : ℕ) (text written : List ℕ) → IsClean room written faults → length text < room → written ≡ take n text → ¬ Rose 0 faults
+CleanSinkNeverFails =
+    (room n faults : ℕ) (text written : List ℕ) → IsClean room written faults → length text < room
+    → written ≡ take n text → ¬ Rose 0 faults

@@ -84,7 +84,8 @@ completed (e ∷ P) = with_completion P e.act (completed P)
 -- the costs of the completed requests of tenant t and kind k, the newest first
 abbrev pub completed_costs : List Completed → ℕ → ℕ → List ℕ
 completed_costs [] t k = []
-completed_costs (c ∷ cs) t k = if (c.tenant == t) && (c.kind == k) then c.cost ∷ completed_costs cs t k else completed_costs cs t k
+completed_costs (c ∷ cs) t k =
+    if (c.tenant == t) && (c.kind == k) then c.cost ∷ completed_costs cs t k else completed_costs cs t k
 
 -- the mean of numbers, rounded down
 abbrev pub mean : List ℕ → ℕ

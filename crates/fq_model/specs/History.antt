@@ -107,7 +107,8 @@ pub record Request : Type 0 where
   pub label : ℕ
 
 abbrev pub request_in : ℕ → Act → Option Request → Option Request
-request_in r (Submit request tenant kind declared label) older = if request == r then Some (record { tenant = tenant; kind = kind; declared = declared; label = label }) else older
+request_in r (Submit request tenant kind declared label) older =
+    if request == r then Some (record { tenant = tenant; kind = kind; declared = declared; label = label }) else older
 request_in r _ older = older
 
 -- what the Submit of r says of it, if it is submitted
@@ -185,7 +186,8 @@ running_on (e ∷ P) i = running_after i e.act (running_on P i)
 -- the queue of tenant t after one act more
 abbrev pub queue_after : History → ℕ → Act → List ℕ → List ℕ
 queue_after P t (Submit request tenant kind declared label) older = if tenant == t then older ++ request ∷ [] else older
-queue_after P t (Take worker request estimate) older = if is_of_tenant t (request_at P request) then drop 1 older else older
+queue_after P t (Take worker request estimate) older =
+    if is_of_tenant t (request_at P request) then drop 1 older else older
 queue_after P t _ older = older
 
 -- the waiting requests of tenant t, the oldest first (a law ties it to `waits_for`)

@@ -19,7 +19,8 @@ is_submit_for t _ = false
 -- its requests waiting
 unfoldable pub tag_base : Config → History → ℕ → ℕ
 tag_base C [] t = 0
-tag_base C (e ∷ P) t = if is_submit_for t e.act && is_none (head P t) then max (virtual_time C P e.moment - virtual_charge C P t) (tag_base C P t) else tag_base C P t
+tag_base C (e ∷ P) t =
+    if is_submit_for t e.act && is_none (head P t) then max (virtual_time C P e.moment - virtual_charge C P t) (tag_base C P t) else tag_base C P t
 
 -- the tag of tenant t: its virtual charge and its base
 unfoldable pub tag : Config → History → ℕ → ℕ
@@ -71,7 +72,8 @@ FinishBefore a b = (finish a <ℤ finish b) ⊎ ((finish a ≡ finish b) × (a.r
 
 -- by eligible key, then by finish, then by number: the order where none is eligible
 abbrev pub EligibleBefore : Turn → HeadKeys → HeadKeys → Type 0
-EligibleBefore at a b = (eligible_key at a <ℤ eligible_key at b) ⊎ ((eligible_key at a ≡ eligible_key at b) × FinishBefore a b)
+EligibleBefore at a b =
+    (eligible_key at a <ℤ eligible_key at b) ⊎ ((eligible_key at a ≡ eligible_key at b) × FinishBefore a b)
 
 -- of the tenants whose keys pass, t has the first
 pub record IsFirst (Passes : HeadKeys → Type 0) (Before : HeadKeys → HeadKeys → Type 0) (Has : ℕ → HeadKeys → Type 0) (t : ℕ) (k : HeadKeys) : Type 0 where
@@ -88,11 +90,13 @@ NoneIsEligible at Has = (u : ℕ) (l : HeadKeys) → Has u l → ¬ IsEligible a
 -- tenant t, which has the keys k, is the choice: the first eligible one by finish, or, where none is eligible,
 -- the first of all by eligible key
 abbrev pub IsChoice : Turn → (ℕ → HeadKeys → Type 0) → ℕ → HeadKeys → Type 0
-IsChoice at Has t k = IsFirst (IsEligible at) FinishBefore Has t k ⊎ (NoneIsEligible at Has × IsFirst Every (EligibleBefore at) Has t k)
+IsChoice at Has t k =
+    IsFirst (IsEligible at) FinishBefore Has t k ⊎ (NoneIsEligible at Has × IsFirst Every (EligibleBefore at) Has t k)
 
 -- the keys of the head r of tenant t, of which q is known
 abbrev pub head_keys : Config → History → ℕ → ℕ → ℕ → Request → HeadKeys
-head_keys C P m t r q = record { start = pos (start C P m t); len = pos (length_of (request_estimate C P q) (weight_at C P t)); request = r }
+head_keys C P m t r q =
+    record { start = pos (start C P m t); len = pos (length_of (request_estimate C P q) (weight_at C P t)); request = r }
 
 abbrev pub keys_of_request : Config → History → ℕ → ℕ → ℕ → Option Request → Option HeadKeys
 keys_of_request C P m t r None = None
@@ -110,7 +114,8 @@ abbrev pub HasKeys : Config → History → ℕ → ℕ → HeadKeys → Type 0
 HasKeys C P m t k = keys_at C P m t ≡ Some k
 
 abbrev pub turn_at : Config → History → ℕ → ℕ → Turn
-turn_at C P m i = record { policy = C.policy; workers = pool_at C P; worker = i; virtual_time = pos (virtual_time C P m) }
+turn_at C P m i =
+    record { policy = C.policy; workers = pool_at C P; worker = i; virtual_time = pos (virtual_time C P m) }
 
 -- tenant t, whose head has the keys k, is the choice of worker i at m
 abbrev pub IsChoiceAt : Config → History → ℕ → ℕ → ℕ → HeadKeys → Type 0

@@ -121,7 +121,8 @@ use_refusals C P i used =
 
 -- why a report is refused, if it is
 abbrev pub report_refusal : Config → History → ℕ → ℕ → Option Cause
-report_refusal C P i used = first_true (use_refusals C P i used ++ (nat_lt C.entries (needed_room P 2), cause.Full C.entries) ∷ [])
+report_refusal C P i used =
+    first_true (use_refusals C P i used ++ (nat_lt C.entries (needed_room P 2), cause.Full C.entries) ∷ [])
 
 -- why a done is refused, if it is
 abbrev pub done_refusal : Config → History → ℕ → ℕ → Option Cause
@@ -152,7 +153,8 @@ IsAnswered P wanted reply P2 = (reply ≡ wanted) × (P2 ≡ P)
 
 -- the reply is this one, and the history gains an entry with this act, at the effective moment
 abbrev pub IsAccepted : History → ℕ → ℕ → Act → Reply → Reply → History → Type 0
-IsAccepted P who moment act wanted reply P2 = (reply ≡ wanted) × (P2 ≡ record { who = who; moment = effective_moment P moment; act = act } ∷ P)
+IsAccepted P who moment act wanted reply P2 =
+    (reply ≡ wanted) × (P2 ≡ record { who = who; moment = effective_moment P moment; act = act } ∷ P)
 
 -- refused for the cause, if there is one; if there is none, `Accepted` holds
 abbrev pub RefusedOrElse : Option Cause → History → Reply → History → Type 0 → Type 0
@@ -169,11 +171,13 @@ pub record RunsChosen (C : Config) (P : History) (who moment i : ℕ) (reply : R
 
 -- what a worker of the pool that runs nothing is answered: Drained or Idle where nothing waits, else the chosen request
 abbrev pub AnswersPooled : Config → History → ℕ → ℕ → ℕ → Reply → History → Type 0
-AnswersPooled C P who moment i reply P2 = MatchBool (waiting P == 0) (IsAnswered P (if is_closed P then answer.Drained else answer.Idle) reply P2) (RunsChosen C P who moment i reply P2)
+AnswersPooled C P who moment i reply P2 =
+    MatchBool (waiting P == 0) (IsAnswered P (if is_closed P then answer.Drained else answer.Idle) reply P2) (RunsChosen C P who moment i reply P2)
 
 -- what a worker that runs nothing is answered: Retired, with the number of workers, where its own is not below that
 abbrev pub AnswersFree : Config → History → ℕ → ℕ → ℕ → Reply → History → Type 0
-AnswersFree C P who moment i reply P2 = MatchBool (nat_le (pool_at C P) i) (IsAnswered P (answer.Retired (pool_at C P)) reply P2) (AnswersPooled C P who moment i reply P2)
+AnswersFree C P who moment i reply P2 =
+    MatchBool (nat_le (pool_at C P) i) (IsAnswered P (answer.Retired (pool_at C P)) reply P2) (AnswersPooled C P who moment i reply P2)
 
 -- at the history P the call is answered by the reply, and the history is then P2
 abbrev pub Answers : Config → History → Call → Reply → History → Type 0

@@ -47,4 +47,5 @@ virtual_time C (e ∷ P) m = virtual_time C P e.moment + virtual_advance C (e �
 -- the virtual time up to m that passed while tenant t was not active
 unfoldable pub virtual_idle_time : Config → History → ℕ → ℕ → ℕ
 virtual_idle_time C [] m t = 0
-virtual_idle_time C (e ∷ P) m t = virtual_idle_time C P e.moment t + (if is_active (e ∷ P) t then 0 else virtual_advance C (e ∷ P) m)
+virtual_idle_time C (e ∷ P) m t =
+    virtual_idle_time C P e.moment t + (if is_active (e ∷ P) t then 0 else virtual_advance C (e ∷ P) m)

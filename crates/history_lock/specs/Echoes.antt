@@ -16,8 +16,10 @@ echoed who call = record { who = who; moment = call; act = Close }
 
 -- the reply is the length of the past, which gains the call's entry where there is room
 abbrev pub EchoAnswers : ℕ → List Entry → ℕ → ℕ → ℕ → List Entry → Type 0
-EchoAnswers room P who call reply P2 = (reply ≡ length P) × (((length P < room) × (P2 ≡ P ++ echoed who call ∷ [])) ⊎ ((room ≤ length P) × (P2 ≡ P)))
+EchoAnswers room P who call reply P2 =
+    (reply ≡ length P) × (((length P < room) × (P2 ≡ P ++ echoed who call ∷ [])) ⊎ ((room ≤ length P) × (P2 ≡ P)))
 
-pub echo_grows : (room : ℕ) (P : List Entry) (who call reply : ℕ) (P2 : List Entry) → EchoAnswers room P who call reply P2 → Grows who P P2
+pub echo_grows : (room : ℕ) (P : List Entry) (who call reply : ℕ) (P2 : List Entry)
+    → EchoAnswers room P who call reply P2 → Grows who P P2
 echo_grows room P who call reply P2 (is, inl h) = inr (echoed who call, h.1, refl)
 echo_grows room P who call reply P2 (is, inr h) = inl h.1

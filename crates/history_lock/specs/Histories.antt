@@ -12,7 +12,8 @@ Grows who P P2 = (P2 ≡ P) ⊎ ((e : Entry) × (P2 ≡ P ++ e ∷ []) × (e.who
 
 -- the same, and what the caller has as its own has gained the entry, if there is one
 abbrev pub Gains : ℕ → List Entry → List Entry → List Entry → List Entry → Type 0
-Gains who P P2 mine mine2 = ((P2 ≡ P) × (mine2 ≡ mine)) ⊎ ((e : Entry) × (P2 ≡ P ++ e ∷ []) × (mine2 ≡ mine ++ e ∷ []) × (e.who ≡ who))
+Gains who P P2 mine mine2 =
+    ((P2 ≡ P) × (mine2 ≡ mine)) ⊎ ((e : Entry) × (P2 ≡ P ++ e ∷ []) × (mine2 ≡ mine ++ e ∷ []) × (e.who ≡ who))
 
 -- the longer of two, and of two of one length the second
 abbrev pub longer : List Entry → List Entry → List Entry

@@ -9,7 +9,8 @@ abbrev pub OwnTurnsRound : Type 0
 OwnTurnsRound = (P : List Entry) (who : ℕ) → own_entries (history_of P) who ≡ history_of (own_entries P who)
 
 abbrev pub PrefixTurnsRound : Type 0
-PrefixTurnsRound = (front P : List Entry) → IsPrefix front P → (newer : History) × (history_of P ≡ newer ++ history_of front)
+PrefixTurnsRound =
+    (front P : List Entry) → IsPrefix front P → (newer : History) × (history_of P ≡ newer ++ history_of front)
 
 abbrev pub GrowthTurnsRound : Type 0
 GrowthTurnsRound = (P : List Entry) (e : Entry) → history_of (P ++ e ∷ []) ≡ e ∷ history_of P

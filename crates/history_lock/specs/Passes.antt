@@ -31,7 +31,8 @@ IsPlaceAt place table = (place ≡ table) × (table.words ≡ word_count)
 
 module _ {F : Type 0} where
   abbrev pub held : TableId → View F → PassView F
-  held table v = record { table = table; frame = v.frame; number = v.number; seen = v.seen; mine = v.mine; made = v.made; ended = v.ended }
+  held table v =
+      record { table = table; frame = v.frame; number = v.number; seen = v.seen; mine = v.mine; made = v.made; ended = v.ended }
 
   -- the pass is of this lock
   abbrev pub IsOf : LockView F → PassView F → Type 0
@@ -55,4 +56,6 @@ HasNoneAbove past made = (number : ℕ) → made < number → own_entries past n
 
 -- each number from 1 to made was joined
 abbrev pub AllEnded : ℕ → List (ℕ × List Entry) → Type 0
-AllEnded made ended = (number : ℕ) → 0 < number → number ≤ made → (j : ℕ) × (mine : List Entry) × (get_elem? ended j ≡ some (number, mine))
+AllEnded made ended =
+    (number : ℕ) → 0 < number → number ≤ made
+    → (j : ℕ) × (mine : List Entry) × (get_elem? ended j ≡ some (number, mine))

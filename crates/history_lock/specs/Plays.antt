@@ -30,17 +30,21 @@ module _ {M F : Type 0} where
   -- a turn is served and the slot is out, and P2 is the past at the turn's beginning, or that with one entry more of
   -- this number
   abbrev pub MayLeave : Holding M F → List Entry → Type 0
-  MayLeave me P2 = (turn : ℕ) × (P : List Entry) × (me.0.stage ≡ Served turn P) × (me.1 ≡ (0, None) ∷ []) × Grows me.0.number P P2
+  MayLeave me P2 =
+      (turn : ℕ) × (P : List Entry) × (me.0.stage ≡ Served turn P) × (me.1 ≡ (0, None) ∷ []) × Grows me.0.number P P2
 
   -- the machine m was taken at the turn, with a past that begins with all that was seen and has no other entry of this
   -- number
   abbrev pub TookIt : (M → List Entry) → (M → F) → Holding M F → ℕ → Holding M F → M → Type 0
   TookIt past frame me turn me2 m =
-      (me2 ≡ (at_stage me.0 (Served turn (past m)), (0, Some m) ∷ me.1)) × (me.0.frame ≡ Some (frame m)) × IsPrefix me.0.seen (past m) × (own_entries (past m) me.0.number ≡ me.0.mine)
+      (me2 ≡ (at_stage me.0 (Served turn (past m)), (0, Some m) ∷ me.1)) × (me.0.frame ≡ Some (frame m))
+      × IsPrefix me.0.seen (past m) × (own_entries (past m) me.0.number ≡ me.0.mine)
 
   -- where the number found is the turn, the machine was taken; else nothing changed
   abbrev pub looked : (M → List Entry) → (M → F) → At M → Holding M F → ℕ → Holding M F → Type 0
-  looked past frame at me found me2 = (turn : ℕ) → me.0.stage ≡ Waits turn → (found ≡ turn % 2 ^ 64 → (m : M) × TookIt past frame me turn me2 m) × (found ≢ turn % 2 ^ 64 → me2 ≡ me)
+  looked past frame at me found me2 =
+      (turn : ℕ) → me.0.stage ≡ Waits turn
+      → (found ≡ turn % 2 ^ 64 → (m : M) × TookIt past frame me turn me2 m) × (found ≢ turn % 2 ^ 64 → me2 ≡ me)
 
   -- the machine is given back, and its past is what the pass has now seen
   abbrev pub gave : (M → List Entry) → At M → Holding M F → ℕ → Holding M F → Type 0

@@ -63,7 +63,8 @@ module _ {F : Type 0} (like : F) (k : Marks) (seat : ℕ) where
     pub maker : v.number ≡ 0 → v.made ≡ k.made
     pub saw_before : IsPrefix v.seen_before k.history
     pub other_saw : IsPrefix v.seen_by_other k.history
-    pub gone : (j : ℕ) (e : ℕ × List Entry) → get_elem? v.ended j ≡ some e → (k.closed e.0 ≡ 1) × (own_entries k.history e.0 ≡ e.1)
+    pub gone : (j : ℕ) (e : ℕ × List Entry) → get_elem? v.ended j ≡ some e
+        → (k.closed e.0 ≡ 1) × (own_entries k.history e.0 ≡ e.1)
 
   abbrev pub Knows : View F → Type 0
   Knows v = Unless (Fits v) v.stage × Staged k seat v.stage

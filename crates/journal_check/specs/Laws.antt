@@ -17,7 +17,9 @@ OneVerdict = (C : Config) (entries : List Entry) (v w : Verdict) → IsVerdict C
 
 -- the verdict is Legal where and only where the history of the entries is legal
 abbrev pub LegalIsLegal : Type 0
-LegalIsLegal = (C : Config) (entries : List Entry) (v : Verdict) → IsVerdict C entries v → (v ≡ Legal) ↔ IsLegal C (history_of entries)
+LegalIsLegal =
+    (C : Config) (entries : List Entry) (v : Verdict) → IsVerdict C entries v
+    → (v ≡ Legal) ↔ IsLegal C (history_of entries)
 
 -- what explains a request of legal entries has one text
 abbrev pub OneExplanation : Type 0

@@ -36,7 +36,8 @@ abbrev pub said_below : {A : Type 0} → (Version → LineReader A) → Below �
 said_below reader below = body_of (reader below.version) below.place below.lines
 
 -- the document with this head, and with what its body says, or the body's fault
-abbrev pub with_body_lines : {A : Type 0} → Document A → Result (List A) (ℕ × ScriptKind) → Result (Document A) (ℕ × ScriptKind)
+abbrev pub with_body_lines : {A : Type 0} → Document A → Result (List A) (ℕ × ScriptKind)
+    → Result (Document A) (ℕ × ScriptKind)
 with_body_lines head said = said >>= λ body. Ok (record head { body = body })
 
 -- what a text spells, by how the lines of its body are read: a document, or the first fault
@@ -50,8 +51,8 @@ pub record IsOpened {A : Type 0} (read : Reads A) (head : Document A) (below : B
   pub bodyless : head.body ≡ []
   pub fits : config_fault (config_of head) ≡ None
 
--- Some lines, of which the first is line `place` of a text, are those of this head and below them those of this body. The
--- lines of the head alone spell it, however a body would be read.
+-- Some lines, of which the first is line `place` of a text, are those of this head and below them those of this body.
+-- The lines of the head alone spell it, however a body would be read.
 pub record Divides {A : Type 0} (spelled : List (List ℕ) → Reads A) (place : ℕ) (lines : List (List ℕ)) (head : Document A) (below : Below) : Type 0 where
   pub above : List (List ℕ)
   pub split : lines ≡ above ++ below.lines

@@ -44,7 +44,8 @@ pub record IsFirstLine (text line below : List ℕ) : Type 0 where
 
 -- what the config line of a document with this configuration says
 abbrev pub settings_in : Config → Settings
-settings_in c = record { workers = c.workers; policy = c.policy; estimate = c.estimate; initial = c.initial; entries = c.entries; requests = c.requests }
+settings_in c =
+    record { workers = c.workers; policy = c.policy; estimate = c.estimate; initial = c.initial; entries = c.entries; requests = c.requests }
 
 -- a scheduler with this configuration has these tenants and kinds
 pub record IsAbout (config : Config) (tenants : List (List ℕ × ℕ)) (kinds : List (List ℕ)) : Type 0 where

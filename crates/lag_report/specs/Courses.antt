@@ -17,7 +17,8 @@ course_at courses r = slice_index_or courses r (submitted 0 0)
 -- the courses after an act more, at m
 abbrev pub courses_after : ℕ → Act → List Course → List Course
 courses_after m (Submit request tenant kind declared label) older = older ++ submitted tenant m ∷ []
-courses_after m (Take worker request estimate) older = slice_set older request (record (course_at older request) { taken = m })
+courses_after m (Take worker request estimate) older =
+    slice_set older request (record (course_at older request) { taken = m })
 courses_after m (Done worker request cost) older =
     slice_set older request (record (course_at older request) { ended = m; cost = cost; is_done = true })
 courses_after m _ older = older

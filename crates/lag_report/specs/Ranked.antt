@@ -4,8 +4,8 @@ use Rattle.std.specs.List.Sorted.{IsPermutation}
 use Rattle.fq_model.specs.Ranks.{least_sample, percentile, greatest_sample}
 use Rattle.lag_report.specs.declared.samples.Ranked.{Ranked}
 
--- x stands at this place, counted from 0, where samples stand in order: none before it is greater, and none after it, which
--- are these in any order, is less
+-- x stands at this place, counted from 0, where samples stand in order: none before it is greater, and none after it,
+-- which are these in any order, is less
 pub record StandsAt (samples : List ℤ) (at : ℕ) (x : ℤ) (after : List ℤ) : Type 0 where
   pub before : List ℤ
   pub same : IsPermutation samples (before ++ x ∷ after)

@@ -22,7 +22,8 @@ impl Model for Report {
 
     ghost Value = { LagReport };
 
-    ghost view = { λ r. record { slot = r.slot; slots = r.slots; rows = r.rows.items; end = r.end; entries = r.entries } };
+    ghost view = { λ r.
+        record { slot = r.slot; slots = r.slots; rows = r.rows.items; end = r.end; entries = r.entries } };
 
     ghost invariant = { λ r. length r.rows.items ≤ MOST_TENANTS };
 }

@@ -45,8 +45,8 @@ pub fn report(
     report
 }
 
-/// The same of entries that nobody needs afterwards. They are given up once they are read, before what a report needs by
-/// slot is made.
+/// The same of entries that nobody needs afterwards. They are given up once they are read, before what a report needs
+/// by slot is made.
 pub fn last_report(
     alloc: Global,
     past: Vec<Entry>,

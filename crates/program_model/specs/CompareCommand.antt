@@ -77,7 +77,8 @@ pub record IsLongAnswer (T : Trace) (o : CompareOptions) (answer : Answer) : Typ
   pub first : IsFirstLong T o row cells
   pub answer_is : answer ≡ cells_answer cells
 
--- what is answered of a trace: one of these, or that its histories, which are of one length, would have too many entries
+-- what is answered of a trace: one of these, or that its histories, which are of one length, would have too many
+-- entries
 abbrev pub IsComparisonAnswer : CompareOptions → Trace → Answer → Type 0
 IsComparisonAnswer o T answer =
     IsAnswerUnless (has_many_entries (needed_entries T.rows o.refresh))

@@ -1,6 +1,6 @@
 -- What scripts and journals share: a first line that names the version, a head that says what scheduler is opened, and
--- a body of lines, each of which says one thing of a type A. A text is such a document, or it has a first fault: a line,
--- counted from 1, and what is wrong with it.
+-- a body of lines, each of which says one thing of a type A. A text is such a document, or it has a first fault: a
+-- line, counted from 1, and what is wrong with it.
 use Rattle.std.specs.Prelude.{ℕ, ◌+◌, ◌*◌, nat_lt, not, ◌&&◌, ◌||◌, if◌then◌else◌, List, [], ◌∷◌, ◌++◌, length, Option, Some, None, Result, Ok, Err, codes, bytes_eq}
 use Rattle.std.specs.List.{list_any}
 use Rattle.fq_model.specs.declared.config.Policy.{Policy}
@@ -111,7 +111,8 @@ abbrev pub with_head : {A : Type 0} → ℕ → Document A → Result (Document 
 with_head place d = if is_empty d.kinds then Err (place, Missing) else Ok d
 
 -- the document with more lines, of which the first is line `place` of the text
-abbrev pub with_lines : {A : Type 0} → LineReader A → ℕ → Document A → List (List ℕ) → Result (Document A) (ℕ × ScriptKind)
+abbrev pub with_lines : {A : Type 0} → LineReader A → ℕ → Document A → List (List ℕ)
+    → Result (Document A) (ℕ × ScriptKind)
 with_lines reader place d [] = with_head place d
 with_lines reader place d (line ∷ lines) =
     at_line place (with_line reader d (words_of line)) >>= λ more. with_lines reader (place + 1) more lines
@@ -138,15 +139,18 @@ version_of title line =
     else None
 
 -- what follows a first line that names this version, if it names one
-abbrev pub below_version : {A : Type 0} → (Version → LineReader A) → Option Version → List (List ℕ) → Result (Document A) (ℕ × ScriptKind)
+abbrev pub below_version : {A : Type 0} → (Version → LineReader A) → Option Version → List (List ℕ)
+    → Result (Document A) (ℕ × ScriptKind)
 below_version reader None lines = Err (1, Header)
 below_version reader (Some version) lines = below_header (reader version) lines
 
 -- the document that the lines of a text with this title spell, or their first fault
-abbrev pub document_of_lines : {A : Type 0} → List ℕ → (Version → LineReader A) → List (List ℕ) → Result (Document A) (ℕ × ScriptKind)
+abbrev pub document_of_lines : {A : Type 0} → List ℕ → (Version → LineReader A) → List (List ℕ)
+    → Result (Document A) (ℕ × ScriptKind)
 document_of_lines title reader [] = Err (1, Header)
 document_of_lines title reader (line ∷ lines) = below_version reader (version_of title line) lines
 
 -- the document that a text with this title spells, or its first fault
-unfoldable pub document_of : {A : Type 0} → List ℕ → (Version → LineReader A) → List ℕ → Result (Document A) (ℕ × ScriptKind)
+unfoldable pub document_of : {A : Type 0} → List ℕ → (Version → LineReader A) → List ℕ
+    → Result (Document A) (ℕ × ScriptKind)
 document_of title reader bytes = document_of_lines title reader (lines_of bytes)

@@ -66,7 +66,8 @@ pair_answer journal of over (Some f) (Some g) =
 abbrev pub lead_answer : (of over : List ℕ) → Journal → Verdict → Answer
 lead_answer of over journal Legal =
     pair_answer journal of over (number_among journal.tenants of) (number_among journal.tenants over)
-lead_answer of over journal (Bad place reply wanted) = Text (verdict_status (Bad place reply wanted)) (verdict_text journal.body (Bad place reply wanted))
+lead_answer of over journal (Bad place reply wanted) =
+    Text (verdict_status (Bad place reply wanted)) (verdict_text journal.body (Bad place reply wanted))
 
 -- what is answered of a journal
 pub record IsLeadTold (of over : List ℕ) (journal : Journal) (answer : Answer) : Type 0 where

@@ -5,7 +5,8 @@ use Rattle.fq_model.specs.Spelling.{is_digit}
 
 -- the number n with the digit b at its end; none where b is no digit or the number passes 2^64 - 1
 abbrev pub with_digit : ℕ → ℕ → Option ℕ
-with_digit n b = if is_digit b && nat_le (10 * n + (b - 48)) 18446744073709551615 then Some (10 * n + (b - 48)) else None
+with_digit n b =
+    if is_digit b && nat_le (10 * n + (b - 48)) 18446744073709551615 then Some (10 * n + (b - 48)) else None
 
 -- the number n with these digits more at its end
 abbrev pub with_digits : ℕ → List ℕ → Option ℕ

@@ -55,8 +55,8 @@ is_equals b = b == 61
 abbrev pub given_by : List ℕ → Given
 given_by word = record { name = before_first is_equals word; text = after_first is_equals word }
 
--- the options of words, in order, where the words are nothing but options, each in one word, `<name>=<text>`, or in two,
--- `<name>` and `<text>`; and then perhaps one word `--`
+-- the options of words, in order, where the words are nothing but options, each in one word, `<name>=<text>`, or in
+-- two, `<name>` and `<text>`; and then perhaps one word `--`
 abbrev pub options_of : Words → Option (List Given)
 options_of [] = Some []
 options_of (word ∷ []) =

@@ -23,8 +23,8 @@ abbrev pub if_served : (Command → Bool) → Option Command → Option Command
 if_served serves None = None
 if_served serves (Some command) = if serves command then Some command else None
 
--- what the words, without the program's name, ask of it: a command, if they are a line of the table of commands for one of
--- those that it serves
+-- what the words, without the program's name, ask of it: a command, if they are a line of the table of commands for one
+-- of those that it serves
 abbrev pub asked : (Command → Bool) → Line → Option Command
 asked serves words = if_served serves (command_of built_commands words)
 

@@ -36,7 +36,8 @@ shape_row = record {
 -- what is said of request r, which declares more than a bucket holds
 abbrev pub big_text : (r declared burst : ℕ) → List ℕ
 big_text r declared burst =
-    codes "request " ++ decimal r ++ codes " has size " ++ decimal declared ++ codes ", more than the burst " ++ decimal burst
+    codes "request " ++ decimal r ++ codes " has size " ++ decimal declared ++ codes ", more than the burst "
+    ++ decimal burst
 
 -- what is said of request r, whose least moment is none of a trace
 abbrev pub late_text : ℕ → List ℕ
@@ -48,8 +49,8 @@ pub record IsBigAnswer (T : Trace) (burst r : ℕ) (answer : Answer) : Type 0 wh
   pub row_is : slice_get T.rows r ≡ Some row
   pub answer_is : answer ≡ Message 7 (message_line (big_text r row.declared burst))
 
--- what is answered of the least moments, by the first row for which they are too late, if there is one: the trace at these
--- moments, or that this row would come too late
+-- what is answered of the least moments, by the first row for which they are too late, if there is one: the trace at
+-- these moments, or that this row would come too late
 abbrev pub moments_answer : Trace → List ℕ → Option ℕ → Answer
 moments_answer T moments None = Text 0 (trace_text (at_moments T moments))
 moments_answer T moments (Some r) = Message 7 (message_line (late_text r))

@@ -18,11 +18,13 @@ refusal_line (causes.Busy r) = codes "refused busy " ++ decimal r ++ codes "\n"
 refusal_line causes.NotRunning = codes "refused not-running\n"
 refusal_line (causes.Weight w) = codes "refused weight " ++ decimal w ++ codes "\n"
 refusal_line (causes.Workers n) = codes "refused workers " ++ decimal n ++ codes "\n"
-refusal_line (causes.Falling last given) = codes "refused falling " ++ decimal last ++ codes " " ++ decimal given ++ codes "\n"
+refusal_line (causes.Falling last given) =
+    codes "refused falling " ++ decimal last ++ codes " " ++ decimal given ++ codes "\n"
 
 abbrev pub reply_line : Reply → List ℕ
 reply_line (replies.Request r) = codes "request " ++ decimal r ++ codes "\n"
-reply_line (replies.Run request estimate label) = codes "run " ++ decimal request ++ codes " " ++ decimal estimate ++ codes " " ++ decimal label ++ codes "\n"
+reply_line (replies.Run request estimate label) =
+    codes "run " ++ decimal request ++ codes " " ++ decimal estimate ++ codes " " ++ decimal label ++ codes "\n"
 reply_line replies.Accepted = codes "ok\n"
 reply_line replies.Idle = codes "idle\n"
 reply_line replies.Drained = codes "drained\n"

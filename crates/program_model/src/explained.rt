@@ -10,8 +10,8 @@ pub struct ExplainRow {
     pub start: i128,
     /// Where the head finishes.
     pub finish: i128,
-    /// The virtual time from which on the head is eligible for the worker. Under `wfq`, where a head is always eligible,
-    /// this is the start.
+    /// The virtual time from which on the head is eligible for the worker. Under `wfq`, where a head is always
+    /// eligible, this is the start.
     pub key: i128,
     /// Whether it is eligible at the turn; under `wfq` every head is.
     pub eligible: bool,

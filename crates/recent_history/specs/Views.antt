@@ -10,4 +10,5 @@ pub record RecentView (J : Type 0) : Type 0 where
 
 -- as the tuple of its fields
 abbrev pub recent_code : {J : Type 0} → Coded J → Coded (RecentView J)
-recent_code {J} c = code_by (SchedulerView J × ℕ) (coded× (scheduler_code c) coded_ℕ) (λ s. (s.scheduler, s.keep)) (λ p. record { scheduler = p.0; keep = p.1 }) (λ _. refl)
+recent_code {J} c =
+    code_by (SchedulerView J × ℕ) (coded× (scheduler_code c) coded_ℕ) (λ s. (s.scheduler, s.keep)) (λ p. record { scheduler = p.0; keep = p.1 }) (λ _. refl)

@@ -23,4 +23,6 @@ ComesFirst Before (Some found) k = Before k found.keys
 
 -- the next tenant with them
 abbrev pub TakesIn : (HeadKeys → Type 0) → (HeadKeys → HeadKeys → Type 0) → Option Found → Found → Option Found → Type 0
-TakesIn Passes Before older next newer = (table : Table) → RequestsDiffer table → Has table next.tenant next.keys → IsFirstBelow Passes Before table next.tenant older → IsFirstBelow Passes Before table (next.tenant + 1) newer
+TakesIn Passes Before older next newer =
+    (table : Table) → RequestsDiffer table → Has table next.tenant next.keys
+    → IsFirstBelow Passes Before table next.tenant older → IsFirstBelow Passes Before table (next.tenant + 1) newer

@@ -34,7 +34,8 @@ MayGain j m act = (who : ℕ) → IsLegal j.config (one_more who m act (history 
 
 -- where so many requests wait, whether there is room for so many entries more
 abbrev pub IsRoomFor : JournalView → ℕ → ℕ → Bool → Type 0
-IsRoomFor j backlog more room = backlog ≡ waiting (history j) → room ≡ nat_le (needed_room (history j) more) j.config.entries
+IsRoomFor j backlog more room =
+    backlog ≡ waiting (history j) → room ≡ nat_le (needed_room (history j) more) j.config.entries
 
 -- its configuration is in its limits, its history is legal, and these are how many entries it has, the last of them,
 -- and its tally

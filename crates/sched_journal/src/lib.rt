@@ -1,5 +1,5 @@
-//! What a scheduler asks of its journal: what its entries come to in numbers, and what they leave room for; and a history
-//! by itself, with all its entries.
+//! What a scheduler asks of its journal: what its entries come to in numbers, and what they leave room for; and a
+//! history by itself, with all its entries.
 #![tactic(auto)]
 
 mod history;

@@ -43,5 +43,6 @@ pub record AnswersCall {J : Type 0} (old : SchedulerView J) (call : Call) (reply
 
 -- a job that is handed out is the one of its request, and is kept no longer; else nothing changes
 abbrev pub HandsOut : {J : Type 0} → SchedulerView J → Taken J → SchedulerView J → Type 0
-HandsOut old (taken.Run request estimate job) new = (map.get old.jobs request ≡ Some job) × (new.jobs ≡ map.remove old.jobs request)
+HandsOut old (taken.Run request estimate job) new =
+    (map.get old.jobs request ≡ Some job) × (new.jobs ≡ map.remove old.jobs request)
 HandsOut old _ new = new ≡ old

@@ -48,5 +48,6 @@ ReachIsBounded =
 -- over the whole range of keys: at 32 bits for the workers, the two products of a comparison are below 2 ^ 127
 abbrev pub ProductsFit : Type 0
 ProductsFit =
-    (i n ahead len : ℕ) → i < n → n < 2 ^ 32 → pos ahead ≤ℤ (GREATEST_START +ℤ GREATEST_LENGTH) → pos len ≤ℤ GREATEST_LENGTH
+    (i n ahead len : ℕ) → i < n → n < 2 ^ 32 → pos ahead ≤ℤ (GREATEST_START +ℤ GREATEST_LENGTH)
+    → pos len ≤ℤ GREATEST_LENGTH
     → (n * ahead < 2 ^ 127) × ((n + i) * len < 2 ^ 127)

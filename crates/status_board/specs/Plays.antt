@@ -26,7 +26,9 @@ peeked at me found me2 = (version : ℕ) × (me2 ≡ (record me.0 { version = ve
 
 -- the same of all words but the version, found one after the other
 abbrev pub HasPeeked : Holding → List ℕ → Holding → Type 0
-HasPeeked me found me2 = (version : ℕ) × (me2 ≡ (record me.0 { version = version }, me.1)) × (me.0.version ≤ version) × (version ≤ 2 * length me.0.noted → found ≡ words_in me.0.config me.0.noted)
+HasPeeked me found me2 =
+    (version : ℕ) × (me2 ≡ (record me.0 { version = version }, me.1)) × (me.0.version ≤ version)
+    × (version ≤ 2 * length me.0.noted → found ≡ words_in me.0.config me.0.noted)
 
 -- where the version is still that of what was noted, this has now been seen
 abbrev pub checked : At → Holding → ℕ → Holding → Type 0
@@ -36,7 +38,8 @@ checked at me found me2 =
 
 -- the writer begins: whatever the words are, from here on it knows them
 abbrev pub began : At → Holding → ℕ → Holding → Type 0
-began at me stored me2 = (words : List ℕ) × (length words ≡ 5) × (me2 ≡ (record me.0 { stage = Writes; words = words }, me.1))
+began at me stored me2 =
+    (words : List ℕ) × (length words ≡ 5) × (me2 ≡ (record me.0 { stage = Writes; words = words }, me.1))
 
 abbrev pub wrote : At → Holding → ℕ → Holding → Type 0
 wrote at me stored me2 = me2 ≡ (record me.0 { words = slice_set me.0.words (at.word - 1) stored }, me.1)

@@ -29,7 +29,8 @@ module _ (C : Config) (k : Marks) (seat : ℕ) (v : View) where
   abbrev pub Staged : Stage → Type 0
   Staged Spent = Unit {0}
   Staged Idle = IsLive
-  Staged Reading = IsLive × IsPrefix v.noted k.shown × (2 * length v.noted ≤ v.version) × (v.version ≤ 2 * length k.shown + k.busy)
+  Staged Reading =
+      IsLive × IsPrefix v.noted k.shown × (2 * length v.noted ≤ v.version) × (v.version ≤ 2 * length k.shown + k.busy)
   Staged Rests = IsLive × (seat ≡ k.writer) × (v.seen ≡ k.shown) × (k.busy ≡ 0)
   Staged Writes = IsLive × (seat ≡ k.writer) × (v.seen ≡ k.shown) × (k.busy ≡ 1) × (v.words ≡ k.rest)
 

@@ -22,7 +22,8 @@ virtual_now C P = virtual_time C (history_of P) (last_moment (history_of P))
 -- The words but for the version: the last moment, virtual time by its low and its high half, how many requests wait and
 -- how many run
 abbrev pub words_of : Config → List Entry → List ℕ
-words_of C P = last_moment (history_of P) ∷ virtual_now C P % 2 ^ 64 ∷ virtual_now C P / 2 ^ 64 ∷ waiting (history_of P) ∷ running (history_of P) ∷ []
+words_of C P =
+    last_moment (history_of P) ∷ virtual_now C P % 2 ^ 64 ∷ virtual_now C P / 2 ^ 64 ∷ waiting (history_of P) ∷ running (history_of P) ∷ []
 
 -- the same where the configuration is known
 abbrev pub words_in : Option Config → List Entry → List ℕ

@@ -15,5 +15,7 @@ abbrev pub TraceHand : Type 0
 TraceHand = Hand ℕ TraceGate
 
 -- what the hand is there for it has done, over these rows
-abbrev pub TraceHandDid : List TraceRow → LockView Crew → Option BoardView → (refresh : ℕ) → (ℕ → Type 0) → TraceHand → TraceHand → Type 0
-TraceHandDid rows lock shared refresh Tells old new = HandDid (λ (n : ℕ). n) lock shared (trace_course refresh rows) work_cost Tells old new
+abbrev pub TraceHandDid : List TraceRow → LockView Crew → Option BoardView → (refresh : ℕ) → (ℕ → Type 0) → TraceHand
+    → TraceHand → Type 0
+TraceHandDid rows lock shared refresh Tells old new =
+    HandDid (λ (n : ℕ). n) lock shared (trace_course refresh rows) work_cost Tells old new

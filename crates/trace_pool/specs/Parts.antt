@@ -57,13 +57,15 @@ HoldsToken (Watch reader left seen) = ⊥
 module _ (rows : List TraceRow) (lock : LockView Crew) where
   -- a hand that is to feed the rows of submitter j
   abbrev pub IsFeedOf : ℕ → TraceHand → Type 0
-  IsFeedOf j (Feed who queue total stopped) = IsNew lock j who.pass × AreRowsOf rows j queue.items × (total ≡ length rows)
+  IsFeedOf j (Feed who queue total stopped) =
+      IsNew lock j who.pass × AreRowsOf rows j queue.items × (total ≡ length rows)
       × KnowsAll lock j who
   IsFeedOf j _ = ⊥
 
   -- a hand that is to work as worker i
   abbrev pub IsWorkOf : ℕ → TraceHand → Type 0
-  IsWorkOf i (Work slot log) = (worker : Worker) × (slot ≡ Some worker) × IsNew lock (worker_caller rows i) worker.pass × (worker.worker ≡ i)
+  IsWorkOf i (Work slot log) =
+      (worker : Worker) × (slot ≡ Some worker) × IsNew lock (worker_caller rows i) worker.pass × (worker.worker ≡ i)
   IsWorkOf i _ = ⊥
 
   -- the hands of so many submitters, and then those of so many workers

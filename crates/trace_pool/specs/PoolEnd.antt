@@ -26,7 +26,8 @@ use Rattle.gate_rules.specs.Stepping.{step_course}
 
 -- the course of the row that a label names: its cost in steps
 abbrev pub trace_course : ℕ → List TraceRow → ℕ → Option (List Counters)
-trace_course refresh rows label = option_map (λ row. step_course (step_of refresh row.cost) row.cost) (slice_get rows label)
+trace_course refresh rows label =
+    option_map (λ row. step_course (step_of refresh row.cost) row.cost) (slice_get rows label)
 
 -- a row is submitted with the kind that it names, and its job is its label
 abbrev pub row_asks : Row ℕ → Request

@@ -16,7 +16,8 @@ use Rattle.trace_reader.specs.declared.fault.TraceFault.TheVariants as faults
 
 -- the trace of these tenants, with their weights, kinds and requests
 abbrev pub trace_in : List (List ℕ × ℕ) → List (List ℕ) → List TraceRow → Trace
-trace_in tenants kinds rows = record { tenants = names_of tenants; weights = weights_of tenants; kinds = kinds; rows = rows }
+trace_in tenants kinds rows =
+    record { tenants = names_of tenants; weights = weights_of tenants; kinds = kinds; rows = rows }
 
 -- more tenants, kinds, requests or pairs of a tenant and a kind than there may be
 abbrev pub are_too_many : ℕ → ℕ → ℕ → Bool

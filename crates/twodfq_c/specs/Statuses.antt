@@ -6,7 +6,8 @@ use Rattle.fq_model.specs.Status.{status_of}
 use Rattle.twodfq_c.specs.declared.status.PlainStatus.{PlainStatus}
 use Rattle.twodfq_c.specs.Held.{Held}
 
--- the numbers of a status. Its virtual time is in steps, of which a unit has 1,048,576: whole units, and the steps beyond
+-- the numbers of a status. Its virtual time is in steps, of which a unit has 1,048,576: whole units, and the steps
+-- beyond
 pub record TellsStatus (s : Status) (plain : PlainStatus) : Type 0 where
   pub kind : plain.kind ≡ 0
   pub entries : plain.entries ≡ s.entries

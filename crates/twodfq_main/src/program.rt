@@ -1,4 +1,5 @@
-//! The program, over any source, sinks and clock: it reads what a command reads, has it answered, and writes the answer.
+//! The program, over any source, sinks and clock: it reads what a command reads, has it answered, and writes the
+//! answer.
 ghost use Rattle.std.specs.Prelude.{◌≡◌, ◌≤◌, map, is_some, IfSome};
 ghost use Rattle.std.specs.String.{string_bytes};
 ghost use Rattle.program_model.specs.CommandLimits.{IsInRange};

@@ -45,7 +45,8 @@ IsTimeOf times v = (C : Config) (P : History) → TimesAre C P times → v ≡ p
 
 -- and this is the virtual time up to its last entry that passed while the tenant was not active
 abbrev pub IsIdleTimeOf : Times → ℕ → ℤ → Type 0
-IsIdleTimeOf times tenant v = (C : Config) (P : History) → TimesAre C P times → v ≡ pos (virtual_idle_time C P (last_moment P) tenant)
+IsIdleTimeOf times tenant v =
+    (C : Config) (P : History) → TimesAre C P times → v ≡ pos (virtual_idle_time C P (last_moment P) tenant)
 
 -- whatever history the times are of, this is its number of workers
 abbrev pub IsPoolOf : Times → ℕ → Type 0
@@ -53,8 +54,10 @@ IsPoolOf times n = (C : Config) (P : History) → TimesAre C P times → n ≡ p
 
 -- and this is the weight of the tenant there
 abbrev pub IsWeightOf : Times → ℕ → ℕ → Type 0
-IsWeightOf times tenant w = (C : Config) (P : History) → TimesAre C P times → tenant < length C.weights → w ≡ weight_at C P tenant
+IsWeightOf times tenant w =
+    (C : Config) (P : History) → TimesAre C P times → tenant < length C.weights → w ≡ weight_at C P tenant
 
 -- whatever history they were of, they are those of it with a Take, a Report or a Close of this moment more
 abbrev pub PassOn : ℕ → Times → Times → Type 0
-PassOn moment before after = (C : Config) (P : History) (e : Entry) → Passes moment P e → TimesAre C P before → TimesAre C (e ∷ P) after
+PassOn moment before after =
+    (C : Config) (P : History) (e : Entry) → Passes moment P e → TimesAre C P before → TimesAre C (e ∷ P) after

@@ -37,7 +37,8 @@ is_at_last i = i.undone == 1
 
 -- with one open request less from v on: without the last the tenant falls asleep
 abbrev pub closed : Idle → ℤ → Idle
-closed i v = if is_at_last i then put_to_sleep i v else record { whole = i.whole; since = i.since; undone = i.undone - 1 }
+closed i v =
+    if is_at_last i then put_to_sleep i v else record { whole = i.whole; since = i.since; undone = i.undone - 1 }
 
 -- an idle time is at most the virtual time up to which it goes
 pub record IsIdle (i : Idle) : Type 0 where

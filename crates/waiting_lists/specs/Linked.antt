@@ -27,7 +27,8 @@ module _ {J : Type 0} where
   abbrev pub items_from : List (Slot J) → ℕ → Option ℕ → List (Item J)
   items_from slots zero at = []
   items_from slots (suc more) None = []
-  items_from slots (suc more) (Some i) = put_before (slot_at slots i).item (items_from slots more (slot_at slots i).next)
+  items_from slots (suc more) (Some i) =
+      put_before (slot_at slots i).item (items_from slots more (slot_at slots i).next)
 
   -- the list of each tenant
   abbrev pub lists_of : List (Slot J) → List (Option Ends) → List (List (Item J))
@@ -69,7 +70,8 @@ module _ {J : Type 0} where
     pub owner : ℕ → ℕ
     pub numbers : ℕ → List ℕ
     pub owned : (tenant i : ℕ) → tenant ≤ length ends → StandsIn i (numbers tenant) → owner i ≡ tenant
-    pub listed : (tenant : ℕ) → tenant < length ends → AreListOf slots (slice_index_or ends tenant None) (numbers tenant)
+    pub listed : (tenant : ℕ) → tenant < length ends
+        → AreListOf slots (slice_index_or ends tenant None) (numbers tenant)
     pub spare : AreLinked slots free (numbers (length ends))
     pub short : (tenant : ℕ) → tenant < length ends → length (numbers tenant) ≤ length slots
     pub total : count_of (lists_of slots ends) + length (numbers (length ends)) ≡ length slots

@@ -56,10 +56,10 @@ fn between(cap: u64, rows: &[Backlog]) -> Bounds
     Bounds { low, high }
 }
 
-// The next level to look at, after one whose gifts fit, at which backlogs come to this. It is the one at which those that
-// are not served whole share what the others leave, if that is higher: a step of Newton's method, since the sum of gifts
-// rises by less and less. Else it is one that is too high for them, whatever is lost by rounding. Nothing is promised of it,
-// since only time hangs on it.
+// The next level to look at, after one whose gifts fit, at which backlogs come to this. It is the one at which those
+// that are not served whole share what the others leave, if that is higher: a step of Newton's method, since the sum of
+// gifts rises by less and less. Else it is one that is too high for them, whatever is lost by rounding. Nothing is
+// promised of it, since only time hangs on it.
 fn next_guess(cap: u64, at: Measure, low: u64) -> u64 {
     let room = cap.saturating_sub(at.whole) as u128 * 1024;
     let share = quotient(room, at.weights);

@@ -15,4 +15,6 @@ OrderGoesOn = (x y z : Key) (leaf u t : ℕ) → Precedes x leaf y u → Precede
 
 -- at most one leaf is the first, with one key
 abbrev pub FirstIsUnique : Type 0
-FirstIsUnique = (map : List (Option Key)) (leaf u : ℕ) (key other : Key) → IsFirst map leaf key → IsFirst map u other → (leaf ≡ u) × (key ≡ other)
+FirstIsUnique =
+    (map : List (Option Key)) (leaf u : ℕ) (key other : Key) → IsFirst map leaf key → IsFirst map u other
+    → (leaf ≡ u) × (key ≡ other)

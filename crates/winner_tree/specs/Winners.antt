@@ -27,8 +27,10 @@ pub record AreWinners (map : List (Option Key)) (winners : List (Option ℕ)) : 
   pub rounded : IsNextPowerOfTwo (length map) width
   pub size : length winners ≡ 2 * width
   pub unused : name_at winners 0 ≡ None
-  pub leaves : (leaf : ℕ) → leaf < width → name_at winners (width + leaf) ≡ (if is_some (key_of map leaf) then Some leaf else None)
-  pub nodes : (k : ℕ) → 1 ≤ k → k < width → IsLesser map (name_at winners (2 * k)) (name_at winners (2 * k + 1)) (name_at winners k)
+  pub leaves : (leaf : ℕ) → leaf < width
+      → name_at winners (width + leaf) ≡ (if is_some (key_of map leaf) then Some leaf else None)
+  pub nodes : (k : ℕ) → 1 ≤ k → k < width
+      → IsLesser map (name_at winners (2 * k)) (name_at winners (2 * k + 1)) (name_at winners k)
 
 -- the item that stands so many levels above another
 abbrev pub above : ℕ → ℕ → ℕ
@@ -44,7 +46,8 @@ pub record LeadsUnder (map : List (Option Key)) (width item leaf : ℕ) : Type 0
   pub key : Key
   pub has : HasKey map leaf key
   pub under : Reaches (width + leaf) item
-  pub before : (u : ℕ) (other : Key) → u ≢ leaf → HasKey map u other → Reaches (width + u) item → Precedes key leaf other u
+  pub before : (u : ℕ) (other : Key) → u ≢ leaf → HasKey map u other → Reaches (width + u) item
+      → Precedes key leaf other u
 
 -- this is the name of the first of the leaves under an item
 abbrev pub IsLeastUnder : List (Option Key) → ℕ → ℕ → Option ℕ → Type 0

@@ -13,7 +13,8 @@ use Rattle.worker_gate.specs.Running.{Worked}
 use Rattle.worker_gate.specs.Watching.{Watched}
 
 module _ {J G : Type 0} where
-  -- the hand holds a token of this lock, or it holds a reader of the board that is shared, and has room for what it reads
+  -- the hand holds a token of this lock, or it holds a reader of the board that is shared, and has room for what it
+  -- reads
   abbrev pub IsHandOf : LockView Crew → (shared : Option BoardView) → Hand J G → Type 0
   IsHandOf lock shared (Feed who rows total stopped) = IsOf lock who.pass
   IsHandOf lock shared (Work slot log) = (worker : Worker) × (slot ≡ Some worker) × IsOf lock worker.pass
@@ -26,11 +27,15 @@ module _ {J G : Type 0} where
   module _ (label : J → ℕ) (lock : LockView Crew) (shared : Option BoardView) (course_of : ℕ → Option (List Counters)) (cost_of : Counters → ℕ) (Tells : ℕ → Type 0) where
     -- the hand has its token or its reader back, and has done what it is there for
     abbrev pub HandDid : Hand J G → Hand J G → Type 0
-    HandDid (Feed who rows total stopped) new = (who2 : Submitter) × (rows2 : _) × (stopped2 : _) × (new ≡ Feed who2 rows2 total stopped2)
+    HandDid (Feed who rows total stopped) new =
+        (who2 : Submitter) × (rows2 : _) × (stopped2 : _) × (new ≡ Feed who2 rows2 total stopped2)
         × Feeds label (λ row. row.kind) lock Tells total rows.items who who2 stopped2 rows2.items
-    HandDid (Work slot log) new = (worker : Worker) × (worker2 : Worker) × (log2 : _) × (slot ≡ Some worker) × (new ≡ Work (Some worker2) log2)
+    HandDid (Work slot log) new =
+        (worker : Worker) × (worker2 : Worker) × (log2 : _) × (slot ≡ Some worker) × (new ≡ Work (Some worker2) log2)
         × Worked lock course_of cost_of Tells worker worker2 log log2
-    HandDid (Watch reader left seen) new = (board : BoardView) × (reader2 : ReaderView) × (seen2 : _) × (shared ≡ Some board) × (new ≡ Watch reader2 0 seen2)
+    HandDid (Watch reader left seen) new =
+        (board : BoardView) × (reader2 : ReaderView) × (seen2 : _) × (shared ≡ Some board)
+        × (new ≡ Watch reader2 0 seen2)
         × Watched board left reader reader2 seen.items seen2.items
 
     -- each hand has, in its place
