@@ -1,25 +1,28 @@
 -- The writer's steps keep the rule.
-use Rattle.std.proofs.Common.{◌≡◌, ℕ, zero, suc, ◌+◌, ◌-◌, ◌*◌, ◌<◌, List, ◌∷◌, length, set, sym, refl, ap, ◌∙◌, subst, arith, length-set}
+use Rattle.std.proofs.Common.{◌≡◌, ℕ, zero, suc, ◌+◌, ◌-◌, ◌*◌, ◌<◌, List, [], ◌∷◌, Some, pos, length, set, sym, refl, ap, ◌∙◌, subst, arith, length-set}
 use mathlib.Core.Option.{none}
 use Rattle.atomic_table.specs.Table.{step, keeps, Allows}
 use Rattle.fq_model.specs.declared.config.Config.{Config}
 use Rattle.fq_model.specs.declared.event.Entry.{Entry}
+use Rattle.fq_model.specs.declared.parts.Status.{Status}
 use Rattle.history_lock.specs.Histories.{IsPrefix}
 use Rattle.history_lock.proofs.Histories.{prefix_through}
 use Rattle.history_lock.proofs.Lists.{seats_stay}
 use Rattle.status_board.specs.declared.table.View.{View}
 use Rattle.status_board.specs.declared.table.Stage.TheVariants.{Rests, Writes}
-use Rattle.status_board.specs.Plays.{Holding, began, wrote, published}
+use Rattle.status_board.specs.Plays.{Holding, began, HasWritten, wrote, published}
 use Rattle.status_board.specs.Rule.{Marks, Staged, Knows, Kept}
-use Rattle.status_board.specs.Words.{words_of, FitStatus}
+use Rattle.status_board.specs.Words.{status_at, words_of, words_in, FitStatus}
 use Rattle.status_board.proofs.Lists.{prefix_of_itself}
+use Rattle.status_board.proofs.Statuses.{words_are}
 use Rattle.status_board.proofs.Stages.{known, others_know}
 
 module _ (C : Config) where
   pub begins : (slots id old : ℕ) (me : Holding) → me.0.stage ≡ Rests → old ≡ length me.0.seen → Allows (Kept C) slots id me 0 (λ _. 2 * old + 1) (λ _. began (step slots 0 (2 * old + 1) 0 none) me (2 * old + 1))
   begins slots id old me rests count s r deep at _ =
       let k : Marks = r.marks in let k2 : Marks = record k { busy = 1 } in let know = known C s r id me.0 Rests at rests in
-      let w : View = record me.0 { stage = Writes; words = k.rest } in let quiet = know.3 in
+      let w : View = record me.0 { stage = Writes; words = words_in me.0.config me.0.seen } in let quiet = know.3 in
+      let stand : words_in me.0.config me.0.seen ≡ k.rest = ap (λ c. words_in c me.0.seen) know.0.0 ∙ (ap (words_of C) know.2 ∙ sym (r.at_rest quiet).0) in
       let odd : 2 * old + 1 ≡ 2 * length k.shown + 1 = ap (λ (n : ℕ). 2 * n + 1) (count ∙ ap length know.2) in (
         w,
         keeps,
@@ -30,10 +33,10 @@ module _ (C : Config) where
           wide = r.wide;
           low = omega arith;
           at_rest = λ e. absurd (omega arith);
-          each_seat = seats_stay (Knows C k2) s.views id w (know.0, know.1, know.2, refl, refl)
+          each_seat = seats_stay (Knows C k2) s.views id w (know.0, know.1, know.2, refl, stand)
               (λ j v away there. others_know C k k2 j v refl (λ e. away (e ∙ sym know.1)) (prefix_of_itself k.shown) (omega arith) (r.each_seat j v there));
         },
-        (k.rest, r.wide, refl),
+        refl,
       )
 
   pub puts : (slots id i x : ℕ) (me : Holding) → me.0.stage ≡ Writes → 0 < i → i < 6 → Allows (Kept C) slots id me i (λ _. x) (λ _. wrote (step slots i x 0 none) me x)
@@ -83,7 +86,17 @@ module _ (C : Config) where
         refl,
       )
 
--- what a write of one word tells, said of the place as it was before the first
-pub then_wrote : (slots i x : ℕ) (me0 me me2 : Holding) (ws : List ℕ) → me ≡ (record me0.0 { stage = Writes; words = ws }, me0.1) → wrote (step slots i x 0 none) me x me2
-    → me2 ≡ (record me0.0 { stage = Writes; words = set ws (i - 1) x }, me0.1)
-then_wrote slots i x me0 me me2 ws is told = subst (λ (m : Holding). wrote (step slots i x 0 none) m x me2) is told
+-- since it began the writer knows these words
+abbrev pub Writing : Holding → Holding → List ℕ → Type 0
+Writing before me words = me ≡ (record before.0 { stage = Writes; words = words }, before.1)
+
+-- it begins with the words of the status that is shown
+pub begun : (C : Config) (me me2 : Holding) (s : Status) (low high : ℕ) → me.0.config ≡ Some C → s ≡ status_at C me.0.seen → s.vtime ≡ pos (high * 18446744073709551616 + low) → low < 18446744073709551616
+    → Writing me me2 (words_in me.0.config me.0.seen) → Writing me me2 (s.moment ∷ low ∷ high ∷ s.waiting ∷ s.running ∷ [])
+begun C me me2 s low high config is halved less told =
+    let stand : words_in me.0.config me.0.seen ≡ s.moment ∷ low ∷ high ∷ s.waiting ∷ s.running ∷ [] = ap (λ c. words_in c me.0.seen) config ∙ sym (words_are C me.0.seen s is low high halved less) in
+    told ∙ ap (λ words. (record me.0 { stage = Writes; words = words }, me.1)) stand
+
+-- another word stands now
+pub then_wrote : (before me me2 : Holding) (words : List ℕ) (i x : ℕ) → Writing before me words → HasWritten me i x me2 → Writing before me2 (set words i x)
+then_wrote before me me2 words i x is told = subst (λ m. HasWritten m i x me2) is told

@@ -1,5 +1,5 @@
 -- What contracts see of a board, of its writer and of a reader.
-use Rattle.std.specs.Prelude.{◌≡◌, ℕ, true, List, [], length, Option, Some}
+use Rattle.std.specs.Prelude.{◌≡◌, true, List, [], Option, Some}
 use Rattle.atomic_table.specs.Seated.{TableId}
 use Rattle.fq_model.specs.declared.config.Config.{Config}
 use Rattle.fq_model.specs.declared.event.Entry.{Entry}
@@ -43,11 +43,11 @@ IsReaderOf board reader = (reader.table ≡ board.table) × (reader.config ≡ S
 abbrev pub IsPlaceAt : TableId → TableId → Type 0
 IsPlaceAt place table = (place ≡ table) × (table.words ≡ word_count)
 
--- between two calls a writer has counted what it has shown
-pub record WriterRests (entries : ℕ) (me : Holding) : Type 0 where
+-- between two calls a writer keeps the status of what it has shown
+pub record WriterRests (status : Status) (me : Holding) : Type 0 where
   pub bare : me.1 ≡ []
   pub rests : is_resting me.0.stage ≡ true
-  pub counted : entries ≡ length me.0.seen
+  pub told : status_in me.0.config me.0.seen ≡ Some status
 
 -- between two calls a reader keeps the status of what it has seen
 pub record ReaderRests (status : Status) (me : Holding) : Type 0 where

@@ -36,13 +36,16 @@ checked at me found me2 =
     (found ≡ 2 * length me.0.noted → (me.0.version ≤ 2 * length me.0.noted) × FitStatus (words_in me.0.config me.0.noted) × (me2 ≡ (record me.0 { stage = Idle; seen = me.0.noted }, me.1)))
     × (found ≢ 2 * length me.0.noted → me2 ≡ (record me.0 { stage = Idle }, me.1))
 
--- the writer begins: whatever the words are, from here on it knows them
+-- the writer begins: the words are those of what it has shown
 abbrev pub began : At → Holding → ℕ → Holding → Type 0
-began at me stored me2 =
-    (words : List ℕ) × (length words ≡ 5) × (me2 ≡ (record me.0 { stage = Writes; words = words }, me.1))
+began at me stored me2 = me2 ≡ (record me.0 { stage = Writes; words = words_in me.0.config me.0.seen }, me.1)
+
+-- this stands now as word i of those that the writer knows
+abbrev pub HasWritten : Holding → ℕ → ℕ → Holding → Type 0
+HasWritten me i stored me2 = me2 ≡ (record me.0 { words = slice_set me.0.words i stored }, me.1)
 
 abbrev pub wrote : At → Holding → ℕ → Holding → Type 0
-wrote at me stored me2 = me2 ≡ (record me.0 { words = slice_set me.0.words (at.word - 1) stored }, me.1)
+wrote at me stored me2 = HasWritten me (at.word - 1) stored me2
 
 -- P is shown
 abbrev pub published : List Entry → At → Holding → ℕ → Holding → Type 0

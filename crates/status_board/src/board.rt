@@ -44,17 +44,18 @@ impl Board {
     {
         let about = Snapshot::of(config);
         let (table, mut place) = Table::of_words(alloc, &[0, 0, 0, 0, 0, 0], &about)?;
+        let status = Status {
+            entries: 0,
+            moment: 0,
+            vtime: 0,
+            waiting: 0,
+            running: 0,
+        };
         let reader = Reader {
             place: table.shared.split_seat::<Fork>(&mut place),
-            status: Status {
-                entries: 0,
-                moment: 0,
-                vtime: 0,
-                waiting: 0,
-                running: 0,
-            },
+            status,
         };
-        Ok((Board { table }, Writer { place, entries: 0 }, reader))
+        Ok((Board { table }, Writer { place, status }, reader))
     }
 
     /// Another reader, which has seen the same.

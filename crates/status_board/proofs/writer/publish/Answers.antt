@@ -1,36 +1,17 @@
-use Rattle.std.proofs.Common.{rules, sym, ap, ◌∙◌, ◌≡◌, ◌*◌, arith, subst, length}
+use Rattle.std.proofs.Common.{rules, sym, ap, ◌∙◌, ◌≡◌, ◌*◌, arith, subst, length, slice_index}
 use Rattle.std.proofs.lemmas.Int.{ints}
 use Rattle.std.specs.Int.{w128}
 use mir.Val.{to_z, of_z}
 use Rattle.status_board.specs.Words.{words_of, FitStatus}
-use Rattle.status_board.proofs.Lists.{all_set}
-use Rattle.status_board.proofs.Statuses.{words_are, time_is}
-use Rattle.status_board.proofs.Writing.{begins, puts, publishes, then_wrote}
+use Rattle.status_board.proofs.Statuses.{entries_are, words_are, time_is}
+use Rattle.status_board.proofs.Writing.{begins, publishes, begun, then_wrote}
 use Rattle.status_board.proofs.writer.publish.Goals as goal
 
-pub store-requires : goal.store-requires
-store-requires g c = (search rules, search rules, begins _ _ _ _ _ c.requires.rests.0 c.requires.shown)
-
-pub store-requires-2 : goal.store-requires-2
-store-requires-2 g c = let a = c.store.ensures.2 in (search rules, search rules, puts _ _ _ 1 _ _ (ap (λ m. m.0.stage) a.2) (omega arith) (omega arith))
-
-pub store-requires-3 : goal.store-requires-3
-store-requires-3 g c = let a = c.store.ensures.2 in let b = then_wrote c.args.table.now.shared.table_id.slots 1 _ c.args.place.now.me _ _ _ a.2 c.store-2.ensures.2 in
-    (search rules, search rules, puts _ _ _ 2 _ _ (ap (λ m. m.0.stage) b) (omega arith) (omega arith))
-
-pub store-requires-4 : goal.store-requires-4
-store-requires-4 g c = let a = c.store.ensures.2 in let b = then_wrote c.args.table.now.shared.table_id.slots 1 _ c.args.place.now.me _ _ _ a.2 c.store-2.ensures.2 in let d = then_wrote c.args.table.now.shared.table_id.slots 2 _ c.args.place.now.me _ _ _ b c.store-3.ensures.2 in
-    (search rules, search rules, puts _ _ _ 3 _ _ (ap (λ m. m.0.stage) d) (omega arith) (omega arith))
-
-pub store-requires-5 : goal.store-requires-5
-store-requires-5 g c = let a = c.store.ensures.2 in let b = then_wrote c.args.table.now.shared.table_id.slots 1 _ c.args.place.now.me _ _ _ a.2 c.store-2.ensures.2 in let d = then_wrote c.args.table.now.shared.table_id.slots 2 _ c.args.place.now.me _ _ _ b c.store-3.ensures.2 in
-    let e = then_wrote c.args.table.now.shared.table_id.slots 3 _ c.args.place.now.me _ _ _ d c.store-4.ensures.2 in
-    (search rules, search rules, puts _ _ _ 4 _ _ (ap (λ m. m.0.stage) e) (omega arith) (omega arith))
-
-pub store-requires-6 : goal.store-requires-6
-store-requires-6 g c = let a = c.store.ensures.2 in let b = then_wrote c.args.table.now.shared.table_id.slots 1 _ c.args.place.now.me _ _ _ a.2 c.store-2.ensures.2 in let d = then_wrote c.args.table.now.shared.table_id.slots 2 _ c.args.place.now.me _ _ _ b c.store-3.ensures.2 in
-    let e = then_wrote c.args.table.now.shared.table_id.slots 3 _ c.args.place.now.me _ _ _ d c.store-4.ensures.2 in let f = then_wrote c.args.table.now.shared.table_id.slots 4 _ c.args.place.now.me _ _ _ e c.store-5.ensures.2 in
-    (search rules, search rules, puts _ _ _ 5 _ _ (ap (λ m. m.0.stage) f) (omega arith) (omega arith))
+pub halves-shown_low-requires : goal.halves-shown_low-requires
+halves-shown_low-requires g c =
+    let time = time_is c.args.table.now.shared.key.value c.args.place.now.me.0.seen c.args.shown c.requires.shown in
+    let back : to_z w128 (of_z w128 c.args.shown.vtime) ≡ c.args.shown.vtime = omega (arith, ints) in
+    rw (back, time) (omega (arith, ints))
 
 pub halves-low-requires : goal.halves-low-requires
 halves-low-requires g c =
@@ -38,15 +19,72 @@ halves-low-requires g c =
     let back : to_z w128 (of_z w128 c.args.status.vtime) ≡ c.args.status.vtime = omega (arith, ints) in
     rw (back, time) (omega (arith, ints))
 
-pub store-requires-7 : goal.store-requires-7
-store-requires-7 g c = let a = c.store.ensures.2 in let b = then_wrote c.args.table.now.shared.table_id.slots 1 _ c.args.place.now.me _ _ _ a.2 c.store-2.ensures.2 in let d = then_wrote c.args.table.now.shared.table_id.slots 2 _ c.args.place.now.me _ _ _ b c.store-3.ensures.2 in
-    let e = then_wrote c.args.table.now.shared.table_id.slots 3 _ c.args.place.now.me _ _ _ d c.store-4.ensures.2 in let f = then_wrote c.args.table.now.shared.table_id.slots 4 _ c.args.place.now.me _ _ _ e c.store-5.ensures.2 in
-    let h = then_wrote c.args.table.now.shared.table_id.slots 5 _ c.args.place.now.me _ _ _ f c.store-6.ensures.2 in
-    let full = ap (λ m. m.0.words) h ∙ all_set a.0 a.1 c.args.status.moment c.halves-low.result.0 c.halves-low.result.1 c.args.status.waiting c.args.status.running in
-    let back : to_z w128 (of_z w128 c.args.status.vtime) ≡ c.args.status.vtime = omega (arith, ints) in
-    let right = words_are c.args.table.now.shared.key.value c.args.past.now c.args.status c.requires.status _ _ (sym back ∙ c.halves-low.ensures.value) (omega arith) in (
+pub overflow_mul-shown : goal.overflow_mul-shown
+overflow_mul-shown g c =
+    let n = entries_are c.args.table.now.shared.key.value c.args.place.now.me.0.seen c.args.shown c.requires.shown in omega (arith, n, c.requires.longer)
+
+pub overflow_add-shown : goal.overflow_add-shown
+overflow_add-shown g c =
+    let n = entries_are c.args.table.now.shared.key.value c.args.place.now.me.0.seen c.args.shown c.requires.shown in omega (arith, n, c.requires.longer)
+
+pub store-requires : goal.store-requires
+store-requires g c =
+    (search rules, search rules, begins _ _ _ _ _ c.requires.rests.0 (entries_are c.args.table.now.shared.key.value c.args.place.now.me.0.seen c.args.shown c.requires.shown))
+
+pub put-requires-clause-stands : goal.put-requires-clause-stands
+put-requires-clause-stands g c =
+    let back : to_z w128 (of_z w128 c.args.shown.vtime) ≡ c.args.shown.vtime = omega (arith, ints) in
+    let h0 = begun c.args.table.now.shared.key.value c.args.place.now.me _ c.args.shown _ _ c.requires.config c.requires.shown (sym back ∙ c.halves-shown_low.ensures.value) (omega arith) c.store.ensures.2 in
+    ap (λ m. slice_index m.0.words 0) h0
+
+pub put-requires-2-clause-stands : goal.put-requires-2-clause-stands
+put-requires-2-clause-stands g c =
+    let back : to_z w128 (of_z w128 c.args.shown.vtime) ≡ c.args.shown.vtime = omega (arith, ints) in
+    let h0 = begun c.args.table.now.shared.key.value c.args.place.now.me _ c.args.shown _ _ c.requires.config c.requires.shown (sym back ∙ c.halves-shown_low.ensures.value) (omega arith) c.store.ensures.2 in
+    let h1 = then_wrote c.args.place.now.me _ _ _ 0 _ h0 c.put.ensures.written in
+    ap (λ m. slice_index m.0.words 1) h1
+
+pub put-requires-3-clause-stands : goal.put-requires-3-clause-stands
+put-requires-3-clause-stands g c =
+    let back : to_z w128 (of_z w128 c.args.shown.vtime) ≡ c.args.shown.vtime = omega (arith, ints) in
+    let h0 = begun c.args.table.now.shared.key.value c.args.place.now.me _ c.args.shown _ _ c.requires.config c.requires.shown (sym back ∙ c.halves-shown_low.ensures.value) (omega arith) c.store.ensures.2 in
+    let h1 = then_wrote c.args.place.now.me _ _ _ 0 _ h0 c.put.ensures.written in
+    let h2 = then_wrote c.args.place.now.me _ _ _ 1 _ h1 c.put-2.ensures.written in
+    ap (λ m. slice_index m.0.words 2) h2
+
+pub put-requires-4-clause-stands : goal.put-requires-4-clause-stands
+put-requires-4-clause-stands g c =
+    let back : to_z w128 (of_z w128 c.args.shown.vtime) ≡ c.args.shown.vtime = omega (arith, ints) in
+    let h0 = begun c.args.table.now.shared.key.value c.args.place.now.me _ c.args.shown _ _ c.requires.config c.requires.shown (sym back ∙ c.halves-shown_low.ensures.value) (omega arith) c.store.ensures.2 in
+    let h1 = then_wrote c.args.place.now.me _ _ _ 0 _ h0 c.put.ensures.written in
+    let h2 = then_wrote c.args.place.now.me _ _ _ 1 _ h1 c.put-2.ensures.written in
+    let h3 = then_wrote c.args.place.now.me _ _ _ 2 _ h2 c.put-3.ensures.written in
+    ap (λ m. slice_index m.0.words 3) h3
+
+pub put-requires-5-clause-stands : goal.put-requires-5-clause-stands
+put-requires-5-clause-stands g c =
+    let back : to_z w128 (of_z w128 c.args.shown.vtime) ≡ c.args.shown.vtime = omega (arith, ints) in
+    let h0 = begun c.args.table.now.shared.key.value c.args.place.now.me _ c.args.shown _ _ c.requires.config c.requires.shown (sym back ∙ c.halves-shown_low.ensures.value) (omega arith) c.store.ensures.2 in
+    let h1 = then_wrote c.args.place.now.me _ _ _ 0 _ h0 c.put.ensures.written in
+    let h2 = then_wrote c.args.place.now.me _ _ _ 1 _ h1 c.put-2.ensures.written in
+    let h3 = then_wrote c.args.place.now.me _ _ _ 2 _ h2 c.put-3.ensures.written in
+    let h4 = then_wrote c.args.place.now.me _ _ _ 3 _ h3 c.put-4.ensures.written in
+    ap (λ m. slice_index m.0.words 4) h4
+
+pub store-requires-2 : goal.store-requires-2
+store-requires-2 g c =
+    let back : to_z w128 (of_z w128 c.args.shown.vtime) ≡ c.args.shown.vtime = omega (arith, ints) in
+    let h0 = begun c.args.table.now.shared.key.value c.args.place.now.me _ c.args.shown _ _ c.requires.config c.requires.shown (sym back ∙ c.halves-shown_low.ensures.value) (omega arith) c.store.ensures.2 in
+    let h1 = then_wrote c.args.place.now.me _ _ _ 0 _ h0 c.put.ensures.written in
+    let h2 = then_wrote c.args.place.now.me _ _ _ 1 _ h1 c.put-2.ensures.written in
+    let h3 = then_wrote c.args.place.now.me _ _ _ 2 _ h2 c.put-3.ensures.written in
+    let h4 = then_wrote c.args.place.now.me _ _ _ 3 _ h3 c.put-4.ensures.written in
+    let h5 = then_wrote c.args.place.now.me _ _ _ 4 _ h4 c.put-5.ensures.written in
+    let full = ap (λ m. m.0.words) h5 in
+    let whole : to_z w128 (of_z w128 c.args.status.vtime) ≡ c.args.status.vtime = omega (arith, ints) in
+    let right = words_are c.args.table.now.shared.key.value c.args.past.now c.args.status c.requires.status _ _ (sym whole ∙ c.halves-low.ensures.value) (omega arith) in (
       search rules,
       search rules,
-      publishes _ _ _ _ _ _ (ap (λ m. m.0.stage) h) (ap (λ P. 2 * length P) c.requires.picked) (rw (h, ← c.requires.picked) c.requires.past) (rw (h, ← c.requires.picked) c.requires.longer) (full ∙ (right ∙ ap (words_of c.args.table.now.shared.key.value) c.requires.picked))
+      publishes _ _ _ _ _ _ (ap (λ m. m.0.stage) h5) (ap (λ P. 2 * length P) c.requires.picked) (rw (h5, ← c.requires.picked) c.requires.past) (rw (h5, ← c.requires.picked) c.requires.longer) (full ∙ (right ∙ ap (words_of c.args.table.now.shared.key.value) c.requires.picked))
           (subst FitStatus (sym full) (c.halves-low.ensures.high, omega arith, omega arith)),
     )
