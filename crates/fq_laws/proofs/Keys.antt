@@ -1,3 +1,5 @@
+pub mod Pace
 pub mod Tags
 pub mod Choices
 pub mod Others
+pub mod Lifts

@@ -1,17 +1,20 @@
 -- What follows from the definitions of charges, of estimates, of virtual time and of tags.
-use Rattle.std.specs.Prelude.{ℕ, ◌+◌, ◌-◌, ◌*◌, ◌^◌, ◌≤◌, ◌≡◌, max, true, false, List, [], ◌∷◌, Some, None}
+use Rattle.std.specs.Prelude.{ℕ, ◌+◌, ◌-◌, ◌*◌, ◌≤◌, ◌≡◌, ◌≢◌, ◌⊎◌, max, true, false, List, [], ◌∷◌, length, Some, None, pos}
+use Rattle.std.specs.Int.{int_max}
 use Rattle.vt_fixed.specs.Rounding.{advance_of, decay_of}
 use Rattle.fq_model.specs.declared.config.Config.{Config}
-use Rattle.fq_model.specs.declared.event.Act.TheVariants.{Submit}
+use Rattle.fq_model.specs.declared.config.Policy.TheVariants.{TwoDfqPlus}
+use Rattle.fq_model.specs.declared.event.Act.TheVariants.{Submit, Take}
 use Rattle.fq_model.specs.declared.event.Entry.{Entry}
 use Rattle.fq_model.specs.Limits.{InLimits, IsWithin}
 use Rattle.fq_model.specs.History.{History, Request, request_at, head, pool_at, submits, last_use, is_taken, is_done}
-use Rattle.fq_model.specs.Time.{open_requests, is_active, active_weight, last_moment, virtual_time, virtual_idle_time}
+use Rattle.fq_model.specs.Time.{open_requests, is_active, active_weight, last_moment, clock_time, virtual_idle_time}
+use Rattle.fq_model.specs.Pace.{clock_base, pace, virtual_time, tag_base}
 use Rattle.fq_model.specs.Charge.{charge, final_cost, virtual_charge, net_charge, request_estimate}
-use Rattle.fq_model.specs.Keys.{tag_base, tag, start}
+use Rattle.fq_model.specs.Keys.{tag, start, HeadKeys, finish, eligible_key, turn_at, IsChoiceAt}
 use Rattle.fq_model.specs.Rules.{IsLegal}
-use Rattle.vt_fixed.specs.declared.limits.TheConstants.{GREATEST_COST, GREATEST_MOMENT}
-use Rattle.fq_laws.specs.Words.{greatest_length, greatest_rate}
+use Rattle.vt_fixed.specs.declared.limits.TheConstants.{GREATEST_COST}
+use Rattle.fq_laws.specs.Words.{one_more, is_take, capped, greatest_length, greatest_rate}
 use Rattle.fq_laws.specs.Changes.{charge_after, change_of, Changes, greatest_cost_from}
 
 -- ---- charges
@@ -64,33 +67,63 @@ GreatestRuns =
 
 -- ---- time
 
--- from one entry to the next virtual time makes one advance, at the active weight between them
+-- under each policy but 2dfq+ virtual time is that of the clock, and so are the bases of tags
+pub record IsByClock (C : Config) (P : History) : Type 0 where
+  pub time_is : (m : ℕ) → virtual_time C P m ≡ clock_time C P m
+  pub bases_are : (t : ℕ) → tag_base C P t ≡ clock_base C P t
+
+abbrev pub TimeIsByClock : Type 0
+TimeIsByClock = (C : Config) (P : History) → C.policy ≢ TwoDfqPlus → IsByClock C P
+
+-- from one entry to the next virtual time makes one advance, at the active weight between them, but not past the cap;
+-- an entry does not move it, but for a Take under 2dfq+
+pub record TimeStep (C : Config) (P : History) (e : Entry) : Type 0 where
+  pub advances : virtual_time C P e.moment
+      ≡ capped C.policy (pace C P).reached (virtual_time C P (last_moment P) + advance_of (e.moment - last_moment P) (pool_at C P) (active_weight C P))
+  pub stays : (C.policy ≢ TwoDfqPlus) ⊎ (is_take e.act ≡ false) → virtual_time C (e ∷ P) e.moment ≡ virtual_time C P e.moment
+
 abbrev pub TimeSteps : Type 0
-TimeSteps =
-    (C : Config) (P : History) (e : Entry)
-    → virtual_time C (e ∷ P) e.moment ≡ virtual_time C P (last_moment P) + advance_of (e.moment - last_moment P) (pool_at C P) (active_weight C P)
+TimeSteps = (C : Config) (P : History) (e : Entry) → TimeStep C P e
 
--- virtual time never falls
+-- under 2dfq+ a Take of the request with these keys lifts virtual time to its eligible key, and the cap to its finish
+pub record Lifts (C : Config) (P Q : History) (m i : ℕ) (k : HeadKeys) : Type 0 where
+  pub time_is : pos (virtual_time C Q m) ≡ int_max (pos (virtual_time C P m)) (eligible_key (turn_at C P m i) k)
+  pub cap_is : pos (pace C Q).reached ≡ int_max (pos (pace C P).reached) (finish k)
+
+abbrev pub TakesLift : Type 0
+TakesLift =
+    (C : Config) (P : History) (who m i r estimate t : ℕ) (k : HeadKeys) → C.policy ≡ TwoDfqPlus → IsLegal C (one_more who m (Take i r estimate) P)
+    → IsChoiceAt C P m i t k → Lifts C P (one_more who m (Take i r estimate) P) m i k
+
+-- virtual time never falls: not from one moment to a later one, and not at an entry
+pub record TimeKeepsUp (C : Config) (P : History) : Type 0 where
+  pub by_moment : (m k : ℕ) → m ≤ k → virtual_time C P m ≤ virtual_time C P k
+  pub by_entry : (e : Entry) → virtual_time C P e.moment ≤ virtual_time C (e ∷ P) e.moment
+
 abbrev pub TimeRises : Type 0
-TimeRises = (C : Config) (P : History) (m k : ℕ) → m ≤ k → virtual_time C P m ≤ virtual_time C P k
+TimeRises = (C : Config) (P : History) → TimeKeepsUp C P
 
--- and makes at most 64 units in a microsecond
+-- nor does it pass the cap under 2dfq+
+abbrev pub TimeIsCapped : Type 0
+TimeIsCapped = (C : Config) (P : History) (m : ℕ) → C.policy ≡ TwoDfqPlus → virtual_time C P m ≤ (pace C P).reached
+
+-- under the other policies it makes at most 64 units in a microsecond
 abbrev pub TimeLimit : Type 0
 TimeLimit =
-    (C : Config) (P : History) (m : ℕ) → InLimits C → IsLegal C P → last_moment P ≤ m
+    (C : Config) (P : History) (m : ℕ) → C.policy ≢ TwoDfqPlus → InLimits C → IsLegal C P → last_moment P ≤ m
     → virtual_time C P m ≤ m * greatest_rate
 
--- the virtual idle time of a tenant stays while the tenant is active, and else moves along with virtual time
+-- the virtual idle time of a tenant stays while the tenant is active, and else moves along with virtual time by the clock
 pub record IdleStep (C : Config) (P : History) (e : Entry) (t : ℕ) : Type 0 where
   pub stays : is_active P t ≡ true → virtual_idle_time C (e ∷ P) e.moment t ≡ virtual_idle_time C P (last_moment P) t
   pub moves : is_active P t ≡ false
-      → virtual_idle_time C (e ∷ P) e.moment t + virtual_time C P (last_moment P) ≡ virtual_idle_time C P (last_moment P) t + virtual_time C (e ∷ P) e.moment
+      → virtual_idle_time C (e ∷ P) e.moment t + clock_time C P (last_moment P) ≡ virtual_idle_time C P (last_moment P) t + clock_time C (e ∷ P) e.moment
 
 abbrev pub IdleSteps : Type 0
 IdleSteps = (C : Config) (P : History) (e : Entry) (t : ℕ) → IdleStep C P e t
 
 abbrev pub IdleLimit : Type 0
-IdleLimit = (C : Config) (P : History) (m t : ℕ) → virtual_idle_time C P m t ≤ virtual_time C P m
+IdleLimit = (C : Config) (P : History) (m t : ℕ) → virtual_idle_time C P m t ≤ clock_time C P m
 
 -- ---- tags
 
@@ -108,5 +141,13 @@ TagCatchesUp =
 -- where a tenant starts is bounded by the number of requests and the moment
 abbrev pub StartLimit : Type 0
 StartLimit =
-    (C : Config) (P : History) (m t : ℕ) → InLimits C → IsLegal C P → last_moment P ≤ m
+    (C : Config) (P : History) (m t : ℕ) → C.policy ≢ TwoDfqPlus → InLimits C → IsLegal C P → last_moment P ≤ m
     → start C P m t ≤ submits P * greatest_length + m * greatest_rate
+
+-- under 2dfq+ the number of entries bounds virtual time, the cap, and where a tenant starts
+pub record IsPaceLow (C : Config) (P : History) : Type 0 where
+  pub cap_low : (pace C P).reached ≤ length P * greatest_length
+  pub starts_low : (m t : ℕ) → start C P m t ≤ length P * greatest_length
+
+abbrev pub PaceLimit : Type 0
+PaceLimit = (C : Config) (P : History) → C.policy ≡ TwoDfqPlus → InLimits C → IsLegal C P → IsPaceLow C P

@@ -1,16 +1,18 @@
 -- Words for the laws.
-use Rattle.std.specs.Prelude.{ℕ, ◌*◌, ◌<◌, ◌≡◌, ◌==◌, ◌⊎◌, Bool, true, false, List, [], ◌∷◌, Option, Some, None}
+use Rattle.std.specs.Prelude.{ℕ, ◌*◌, ◌<◌, ◌≡◌, ◌==◌, ◌⊎◌, min, Bool, true, false, List, [], ◌∷◌, Option, Some, None}
 use Rattle.vt_fixed.specs.Rounding.{steps_per_unit}
 use Rattle.vt_fixed.specs.declared.limits.TheConstants.{GREATEST_COST, MOST_WORKERS}
 use Rattle.fq_model.specs.declared.event.Act.{Act}
 use Rattle.fq_model.specs.declared.event.Act.TheVariants.{Submit, Take, Report, Done, Weight}
 use Rattle.fq_model.specs.declared.config.Config.{Config}
+use Rattle.fq_model.specs.declared.config.Policy.{Policy}
+use Rattle.fq_model.specs.declared.config.Policy.TheVariants.{TwoDfqPlus}
 use Rattle.fq_model.specs.declared.event.Call.{Call}
 use Rattle.fq_model.specs.declared.event.Call.TheVariants as call
 use Rattle.fq_model.specs.History.{History, request_at, is_of_tenant, head, weight_at}
 use Rattle.fq_model.specs.Time.{open_requests, effective_moment}
 use Rattle.fq_model.specs.Charge.{virtual_charge, net_charge, completed, completed_costs}
-use Rattle.fq_model.specs.Keys.{tag_base}
+use Rattle.fq_model.specs.Pace.{tag_base}
 
 -- the history with one entry more
 abbrev pub one_more : ℕ → ℕ → Act → History → History
@@ -46,6 +48,15 @@ is_quiet (Take worker request estimate) = false
 is_quiet (Report worker request used) = false
 is_quiet (Done worker request cost) = false
 is_quiet _ = true
+
+abbrev pub is_take : Act → Bool
+is_take (Take worker request estimate) = true
+is_take _ = false
+
+-- virtual time where the clock has moved it to v, and the cap has reached so far: under 2dfq+ alone it is capped
+abbrev pub capped : Policy → ℕ → ℕ → ℕ
+capped TwoDfqPlus reached v = min v reached
+capped _ reached v = v
 
 -- the act submits a request of tenant t, is done to one, or sets the weight of t
 abbrev pub concerns : History → ℕ → Act → Bool

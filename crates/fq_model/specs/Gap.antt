@@ -6,7 +6,7 @@ use Rattle.fq_model.specs.declared.config.Config.{Config}
 use Rattle.fq_model.specs.declared.config.Estimator.{Estimator}
 use Rattle.fq_model.specs.declared.config.Estimator.TheVariants.{Declared}
 use Rattle.fq_model.specs.declared.config.Policy.{Policy}
-use Rattle.fq_model.specs.declared.config.Policy.TheVariants.{TwoDfq}
+use Rattle.fq_model.specs.declared.config.Policy.TheVariants.{TwoDfq, TwoDfqPlus}
 use Rattle.fq_model.specs.declared.event.Act.{Act}
 use Rattle.fq_model.specs.declared.event.Act.TheVariants.{Submit}
 use Rattle.fq_model.specs.Charge.{final_cost, greatest}
@@ -107,6 +107,7 @@ longest_length C H f g = greatest (lengths_had C H f ++ lengths_had C H g)
 -- how many of the longest length the bound has
 abbrev pub lengths_in_bound : Policy → ℕ
 lengths_in_bound TwoDfq = 2
+lengths_in_bound TwoDfqPlus = 2
 lengths_in_bound _ = 1
 
 -- the greatest of x and the numbers
@@ -123,7 +124,8 @@ greatest_of (x ∷ xs) = Some (greatest_with x xs)
 unfoldable pub largest_difference : Config → History → ℕ → ℕ → Option ℤ
 largest_difference C H f g = greatest_of (shared_differences C H f g)
 
--- the greater of the greatest difference at the first prefix of a run, and of one longest length, or two under 2dfq
+-- the greater of the greatest difference at the first prefix of a run, and of one longest length, or two under
+-- 2dfq and 2dfq+
 unfoldable pub difference_bound : Config → History → ℕ → ℕ → ℤ
 difference_bound C H f g =
     greatest_with (pos (lengths_in_bound C.policy * longest_length C H f g)) (first_differences C H f g)

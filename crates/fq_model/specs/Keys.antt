@@ -1,26 +1,13 @@
 -- Tags, keys and the choice.
-use Rattle.std.specs.Prelude.{ℕ, ◌+◌, ◌-◌, ◌<◌, ◌≡◌, ◌≢◌, ◌==◌, max, Bool, false, ◌&&◌, if◌then◌else◌, [], ◌∷◌, Option, Some, None, is_none, ℤ, pos, unsigned_abs, ◌+ℤ◌, ◌-ℤ◌, ◌<ℤ◌, ◌≤ℤ◌, ◌⊎◌}
+use Rattle.std.specs.Prelude.{ℕ, ◌+◌, ◌<◌, ◌≡◌, ◌≢◌, Option, Some, None, ℤ, pos, unsigned_abs, ◌+ℤ◌, ◌-ℤ◌, ◌<ℤ◌, ◌≤ℤ◌, ◌⊎◌}
 use Rattle.vt_fixed.specs.Rounding.{length_of, part_of}
 use Rattle.fq_model.specs.declared.config.Config.{Config}
 use Rattle.fq_model.specs.declared.config.Policy.{Policy}
-use Rattle.fq_model.specs.declared.config.Policy.TheVariants.{Wfq, Msf2q, TwoDfq}
-use Rattle.fq_model.specs.declared.event.Act.{Act}
-use Rattle.fq_model.specs.declared.event.Act.TheVariants.{Submit}
+use Rattle.fq_model.specs.declared.config.Policy.TheVariants.{Wfq, Msf2q, TwoDfq, TwoDfqPlus}
 use Rattle.fq_model.specs.History.{History, Request, request_at, head, weight_at, pool_at}
-use Rattle.fq_model.specs.Time.{virtual_time, virtual_idle_time}
+use Rattle.fq_model.specs.Time.{virtual_idle_time}
 use Rattle.fq_model.specs.Charge.{virtual_charge, request_estimate}
-
--- the act submits a request of tenant t
-abbrev pub is_submit_for : ℕ → Act → Bool
-is_submit_for t (Submit request tenant kind declared label) = tenant == t
-is_submit_for t _ = false
-
--- the greatest of 0 and virtual time less virtual charge, just before each Submit of tenant t that finds none of
--- its requests waiting
-unfoldable pub tag_base : Config → History → ℕ → ℕ
-tag_base C [] t = 0
-tag_base C (e ∷ P) t =
-    if is_submit_for t e.act && is_none (head P t) then max (virtual_time C P e.moment - virtual_charge C P t) (tag_base C P t) else tag_base C P t
+use Rattle.fq_model.specs.Pace.{virtual_time, tag_base}
 
 -- the tag of tenant t: its virtual charge and its base
 unfoldable pub tag : Config → History → ℕ → ℕ
@@ -52,10 +39,11 @@ pub record Turn : Type 0 where
   pub worker : ℕ
   pub virtual_time : ℤ
 
--- the part of its length by which a head may begin before its start, under 2dfq alone: the greater the worker's
--- number, the greater the part
+-- the part of its length by which a head may begin before its start, under 2dfq and 2dfq+ alone: the greater the
+-- worker's number, the greater the part
 abbrev pub stagger : Policy → ℤ → ℕ → ℕ → ℤ
 stagger TwoDfq len i n = pos (part_of (unsigned_abs len) i n)
+stagger TwoDfqPlus len i n = pos (part_of (unsigned_abs len) i n)
 stagger _ len i n = pos 0
 
 -- the virtual time from which on the head is eligible for this worker

@@ -131,8 +131,8 @@ take_doubts C H (e ∷ P) f g =
     then doubt (longest_of C H f) (shortest_of C H g) C (e ∷ P) f g ∷ take_doubts C H P f g
     else take_doubts C H P f g
 
--- the greater of the greatest lead where both begin to wait, and of one length of a head, or two under 2dfq, with the
--- greatest doubt
+-- the greater of the greatest lead where both begin to wait, and of one length of a head, or two under 2dfq and 2dfq+,
+-- with the greatest doubt
 unfoldable pub lead_bound : Config → History → ℕ → ℕ → ℤ
 lead_bound C H f g = greatest_with
     (pos (lengths_in_bound C.policy * greatest (take_lengths C H f g) + greatest (take_doubts C H H f g)))

@@ -6,6 +6,7 @@ pub mod Sums
 pub mod History
 pub mod Time
 pub mod Charge
+pub mod Pace
 pub mod Keys
 pub mod Rules
 pub mod Outcome

@@ -2,7 +2,7 @@
 use Rattle.std.specs.Prelude.{ℕ, ◌==◌, nat_le, Bool, ◌&&◌, ◌||◌, if◌then◌else◌, List, length, Option, Some, None, codes, bytes_eq}
 use Rattle.std.specs.List.{list_all}
 use Rattle.fq_model.specs.declared.config.Policy.{Policy}
-use Rattle.fq_model.specs.declared.config.Policy.TheVariants.{Wfq, Wf2q, Msf2q, TwoDfq}
+use Rattle.fq_model.specs.declared.config.Policy.TheVariants.{Wfq, Wf2q, Msf2q, TwoDfq, TwoDfqPlus}
 use Rattle.fq_model.specs.declared.config.Estimator.{Estimator}
 use Rattle.fq_model.specs.declared.config.Estimator.TheVariants.{Declared, Recent, Pessimistic}
 
@@ -25,6 +25,7 @@ policy_of word =
     else if bytes_eq word (codes "wf2q") then Some Wf2q
     else if bytes_eq word (codes "msf2q") then Some Msf2q
     else if bytes_eq word (codes "2dfq") then Some TwoDfq
+    else if bytes_eq word (codes "2dfq+") then Some TwoDfqPlus
     else None
 
 abbrev pub estimator_of : List ℕ → Option Estimator
@@ -40,6 +41,7 @@ policy_word Wfq = codes "wfq"
 policy_word Wf2q = codes "wf2q"
 policy_word Msf2q = codes "msf2q"
 policy_word TwoDfq = codes "2dfq"
+policy_word TwoDfqPlus = codes "2dfq+"
 
 -- the word that names an estimator
 abbrev pub estimator_word : Estimator → List ℕ

@@ -3,7 +3,8 @@ use Rattle.std.specs.Prelude.{length, pos}
 use Rattle.fq_model.specs.declared.config.Config.{Config}
 use Rattle.fq_model.specs.declared.parts.Status.{Status}
 use Rattle.fq_model.specs.History.{History, waiting, running}
-use Rattle.fq_model.specs.Time.{last_moment, virtual_time}
+use Rattle.fq_model.specs.Time.{last_moment}
+use Rattle.fq_model.specs.Pace.{virtual_time}
 
 -- how many entries there are, the last moment and virtual time at it, and how many requests wait and run
 unfoldable pub status_of : Config → History → Status

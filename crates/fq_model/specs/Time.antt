@@ -1,4 +1,4 @@
--- Active tenants, moments and virtual time.
+-- Active tenants, moments, and virtual time as the clock moves it.
 use Rattle.std.specs.Prelude.{ℕ, ◌+◌, ◌-◌, max, min, Bool, not, ◌&&◌, if◌then◌else◌, [], ◌∷◌, length, nat_lt}
 use Rattle.vt_fixed.specs.Rounding.{advance_of}
 use Rattle.fq_model.specs.declared.config.Config.{Config}
@@ -35,16 +35,17 @@ last_moment (e ∷ P) = e.moment
 abbrev pub effective_moment : History → ℕ → ℕ
 effective_moment P m = min (max m (last_moment P)) GREATEST_MOMENT
 
--- how far virtual time moves from the last entry to m: at the rate of the workers over the active weights
+-- how far the clock moves virtual time from the last entry to m: at the rate of the workers over the active weights
 unfoldable pub virtual_advance : Config → History → ℕ → ℕ
 virtual_advance C P m = advance_of (m - last_moment P) (pool_at C P) (active_weight C P)
 
--- virtual time at m, which is not before the last entry: the sum of its pieces between entries, and from the last to m
-unfoldable pub virtual_time : Config → History → ℕ → ℕ
-virtual_time C [] m = 0
-virtual_time C (e ∷ P) m = virtual_time C P e.moment + virtual_advance C (e ∷ P) m
+-- virtual time by the clock alone at m, which is not before the last entry: the sum of its pieces between entries, and
+-- from the last to m
+unfoldable pub clock_time : Config → History → ℕ → ℕ
+clock_time C [] m = 0
+clock_time C (e ∷ P) m = clock_time C P e.moment + virtual_advance C (e ∷ P) m
 
--- the virtual time up to m that passed while tenant t was not active
+-- the virtual time by the clock that passed up to m while tenant t was not active
 unfoldable pub virtual_idle_time : Config → History → ℕ → ℕ → ℕ
 virtual_idle_time C [] m t = 0
 virtual_idle_time C (e ∷ P) m t =

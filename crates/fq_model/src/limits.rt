@@ -59,8 +59,9 @@ pub const GREATEST_RATE: u64 = 1000000;
 /// The greatest burst to which a trace is shaped, in units; the least is 1.
 pub const GREATEST_BURST: u64 = 1000000000;
 
-/// More than virtual time reaches, in steps: the greatest moment, by the most workers, at active weight 1.
-pub const GREATEST_VIRTUAL_TIME: i128 = 100000000000000000000000;
+/// More than virtual time reaches, in steps: by the clock the greatest moment, by the most workers, at active weight 1;
+/// under `2dfq+` the greatest length for each entry of the longest history.
+pub const GREATEST_VIRTUAL_TIME: i128 = 10000000000000000000000000;
 
 /// More than a tenant's virtual charge reaches, in steps: the greatest length for each entry of the longest history.
 pub const GREATEST_VIRTUAL_CHARGE: i128 = 10000000000000000000000000;

@@ -37,6 +37,7 @@ impl FromStr for Policy {
             "wf2q" => Ok(Policy::Wf2q),
             "msf2q" => Ok(Policy::Msf2q),
             "2dfq" => Ok(Policy::TwoDfq),
+            "2dfq+" => Ok(Policy::TwoDfqPlus),
             _ => Err(UnknownWord),
         }
     }
@@ -51,6 +52,7 @@ impl fmt::Display for Policy {
             Policy::Wf2q => "wf2q",
             Policy::Msf2q => "msf2q",
             Policy::TwoDfq => "2dfq",
+            Policy::TwoDfqPlus => "2dfq+",
         })
     }
 }

@@ -10,7 +10,8 @@ use Rattle.fq_model.specs.Limits.{InLimits}
 use Rattle.fq_model.specs.History.{History, head}
 use Rattle.fq_model.specs.Time.{last_moment, virtual_idle_time}
 use Rattle.fq_model.specs.Charge.{virtual_charge}
-use Rattle.fq_model.specs.Keys.{start, start_for, tag_base, is_submit_for}
+use Rattle.fq_model.specs.Keys.{start, start_for}
+use Rattle.fq_model.specs.Pace.{tag_base, is_submit_for}
 use Rattle.fq_model.specs.Rules.{IsLegal}
 use Rattle.fq_laws.proofs.Keys.Tags.{base_step, base_rises, start_is}
 use Rattle.fq_laws.proofs.Keys.Others.{head_active}

@@ -7,7 +7,7 @@ use Rattle.fq_model.specs.declared.event.Entry.{Entry}
 use Rattle.fq_model.specs.History.{History, history_of, is_taken, is_take_of}
 use Rattle.fq_model.specs.Keys.{HeadKeys, Turn, turn_at}
 use Rattle.fq_model.specs.Rules.{IsLegal}
-use Rattle.fq_model.specs.Time.{virtual_time}
+use Rattle.fq_model.specs.Pace.{virtual_time}
 use Rattle.fq_laws.proofs.History.Once.{taken_new}
 use Rattle.program_model.specs.declared.explained.Explained.{Explained}
 use Rattle.program_model.specs.declared.explained.ExplainRow.{ExplainRow}

@@ -9,7 +9,7 @@ use Rattle.fq_model.specs.declared.event.Act.TheVariants.{Submit, Take}
 use Rattle.fq_model.specs.declared.event.Entry.{Entry}
 use Rattle.fq_model.specs.History.{History, history_of, is_taken, is_take_of, pool_at}
 use Rattle.fq_model.specs.declared.config.Policy.{Policy}
-use Rattle.fq_model.specs.Time.{virtual_time}
+use Rattle.fq_model.specs.Pace.{virtual_time}
 use Rattle.fq_model.specs.Keys.{HeadKeys, Turn, keys_at, turn_at}
 use Rattle.fq_laws.proofs.Time.Clock.{virtual_time_step}
 use Rattle.fq_model.specs.declared.event.Reply.{Reply}

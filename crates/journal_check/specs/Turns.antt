@@ -4,7 +4,7 @@ use Rattle.fq_model.specs.declared.config.Config.{Config}
 use Rattle.fq_model.specs.declared.event.Act.TheVariants.{Take}
 use Rattle.fq_model.specs.declared.event.Entry.{Entry}
 use Rattle.fq_model.specs.History.{History}
-use Rattle.fq_model.specs.Time.{virtual_time}
+use Rattle.fq_model.specs.Pace.{virtual_time}
 use Rattle.fq_model.specs.Keys.{turn_at}
 use Rattle.program_model.specs.declared.explained.Explained.{Explained}
 use Rattle.journal_check.specs.declared.explaining.TakenAt.{TakenAt}

@@ -10,7 +10,7 @@ use Rattle.fq_model.specs.declared.event.Entry.{Entry}
 use Rattle.fq_model.specs.declared.event.Act.TheVariants.{Submit, Take, Report, Done}
 use Rattle.fq_model.specs.Limits.{InLimits}
 use Rattle.fq_model.specs.History.{is_submit, History, Request, request_at, is_of_tenant, weight_at, head}
-use Rattle.fq_model.specs.Time.{virtual_time}
+use Rattle.fq_model.specs.Pace.{virtual_time}
 use Rattle.fq_model.specs.Charge.{completed}
 use Rattle.fq_model.specs.Rules.{IsLegal, FitsUse}
 use Rattle.fq_laws.specs.Words.{one_more}

@@ -14,7 +14,8 @@ use Rattle.fq_model.specs.declared.event.Act.TheVariants.{Take, Report, Done, Cl
 use Rattle.fq_model.specs.declared.event.Act.{Act}
 use Rattle.vt_fixed.specs.declared.limits.TheConstants.{GREATEST_COST, GREATEST_MOMENT}
 use Rattle.fq_model.specs.History.{History, Request, request_at, head, waiting, weight_at, pool_at}
-use Rattle.fq_model.specs.Time.{last_moment, virtual_time, virtual_idle_time}
+use Rattle.fq_model.specs.Time.{last_moment, virtual_idle_time}
+use Rattle.fq_model.specs.Pace.{virtual_time}
 use Rattle.fq_model.specs.Charge.{virtual_charge, completed, estimate_at}
 use Rattle.fq_model.specs.Keys.{HeadKeys, keys_at, start, start_for, tag, IsChoiceAt}
 use Rattle.fq_model.specs.Rules.{IsLegal, IsChosen, take_refusal}

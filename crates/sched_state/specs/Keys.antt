@@ -2,7 +2,8 @@
 use Rattle.std.specs.Prelude.{ℕ, ◌<◌, ◌≡◌, ◌≢◌, length, slice_get, Some, pos, ◌≤ℤ◌}
 use Rattle.fq_model.specs.declared.config.Config.{Config}
 use Rattle.fq_model.specs.History.{History, pool_at}
-use Rattle.fq_model.specs.Time.{last_moment, virtual_time}
+use Rattle.fq_model.specs.Time.{last_moment}
+use Rattle.fq_model.specs.Pace.{virtual_time}
 use Rattle.fq_model.specs.Keys.{keys_at}
 use Rattle.tag_rules.specs.Tables.{ChooserView, setting_at}
 

@@ -6,7 +6,8 @@ use Rattle.std.specs.FinMap as map
 use Rattle.fq_model.specs.declared.config.Config.{Config}
 use Rattle.fq_model.specs.declared.event.Entry.{Entry}
 use Rattle.fq_model.specs.History.{History}
-use Rattle.fq_model.specs.Time.{last_moment, virtual_time}
+use Rattle.fq_model.specs.Time.{last_moment}
+use Rattle.fq_model.specs.Pace.{virtual_time}
 use Rattle.fq_model.specs.contracts.config.Config as config_type
 use Rattle.fq_model.specs.contracts.event.Entry as entry_type
 use Rattle.sched_state.specs.Lists.{JobMap}

@@ -9,7 +9,8 @@ use Rattle.fq_model.specs.declared.event.Entry.{Entry}
 use Rattle.fq_model.specs.declared.parts.Status.{Status}
 use Rattle.fq_model.specs.History.{history_of, waiting, running}
 use Rattle.fq_model.specs.Status.{status_of}
-use Rattle.fq_model.specs.Time.{last_moment, virtual_time}
+use Rattle.fq_model.specs.Time.{last_moment}
+use Rattle.fq_model.specs.Pace.{virtual_time}
 use Rattle.status_board.specs.Words.{status_at, status_in, virtual_now, words_of, words_in}
 
 module _ (C : Config) (P : List Entry) (s : Status) (is : s ≡ status_at C P) where

@@ -5,7 +5,8 @@ use Rattle.fq_model.specs.declared.event.Entry.{Entry}
 use Rattle.fq_model.specs.declared.parts.Status.{Status}
 use Rattle.fq_model.specs.History.{history_of, waiting, running}
 use Rattle.fq_model.specs.Status.{status_of}
-use Rattle.fq_model.specs.Time.{last_moment, virtual_time}
+use Rattle.fq_model.specs.Time.{last_moment}
+use Rattle.fq_model.specs.Pace.{virtual_time}
 
 -- the version, and those that say what a status has beside the number of entries
 abbrev pub word_count : ℕ

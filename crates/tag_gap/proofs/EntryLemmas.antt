@@ -11,7 +11,8 @@ use Rattle.fq_model.specs.declared.event.Entry.{Entry}
 use Rattle.fq_model.specs.History.{History, Request, request_at, head, queue, queue_after}
 use Rattle.fq_model.specs.Time.{last_moment, virtual_idle_time}
 use Rattle.fq_model.specs.Charge.{virtual_charge}
-use Rattle.fq_model.specs.Keys.{tag, tag_base, start, is_submit_for}
+use Rattle.fq_model.specs.Keys.{tag, start}
+use Rattle.fq_model.specs.Pace.{tag_base, is_submit_for}
 use Rattle.fq_model.specs.Rules.{Fits, FitsTake, FitsUse}
 use Rattle.fq_model.specs.Gap.{is_shared, start_difference}
 use Rattle.fq_laws.specs.Steps.{Awaits, Follows, Submits, Completes, Reweighs, Staffs}

@@ -13,7 +13,7 @@ use Rattle.fq_model.specs.declared.event.Act.TheVariants.{Submit, Take}
 use Rattle.fq_model.specs.declared.event.Entry.{Entry}
 use Rattle.fq_model.specs.Limits.{InLimits}
 use Rattle.fq_model.specs.History.{History, Request, request_at, is_of_tenant, head, queue, queue_after, weight_at, is_submit}
-use Rattle.fq_model.specs.Time.{virtual_time}
+use Rattle.fq_model.specs.Pace.{virtual_time}
 use Rattle.fq_model.specs.Charge.{virtual_charge}
 use Rattle.fq_model.specs.Rules.{IsLegal, FitsTake}
 use Rattle.fq_laws.specs.Words.{one_more, first}

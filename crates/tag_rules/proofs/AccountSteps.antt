@@ -10,9 +10,9 @@ use Rattle.fq_model.specs.declared.event.Act.TheVariants.{Submit, Take, Report, 
 use Rattle.fq_model.specs.declared.event.Entry.{Entry}
 use Rattle.fq_model.specs.Limits.{InLimits}
 use Rattle.fq_model.specs.History.{is_submit, History, head}
-use Rattle.fq_model.specs.Time.{virtual_time}
+use Rattle.fq_model.specs.Pace.{virtual_time, tag_base}
 use Rattle.fq_model.specs.Charge.{virtual_charge}
-use Rattle.fq_model.specs.Keys.{tag_base, tag}
+use Rattle.fq_model.specs.Keys.{tag}
 use Rattle.fq_model.specs.Rules.{IsLegal}
 use Rattle.fq_laws.specs.Words.{one_more, is_quiet}
 use Rattle.fq_laws.proofs.Charge.Tenants.{virtual_charge_nil, virtual_charge_submit, virtual_charge_quiet}

@@ -5,7 +5,7 @@ use Rattle.fq_model.specs.declared.limits.TheConstants.{GREATEST_VIRTUAL_CHARGE,
 use Rattle.fq_model.specs.declared.config.Config.{Config}
 use Rattle.fq_model.specs.History.{History}
 use Rattle.fq_model.specs.Charge.{virtual_charge}
-use Rattle.fq_model.specs.Keys.{tag_base}
+use Rattle.fq_model.specs.Pace.{tag_base}
 
 -- by tenant: the virtual charges, and the bases of the tags
 pub record AccountsView : Type 0 where

@@ -5,7 +5,8 @@ use Rattle.vt_fixed.specs.Rounding.{advance_of}
 use Rattle.fq_model.specs.declared.config.Config.{Config}
 use Rattle.fq_model.specs.declared.event.Entry.{Entry}
 use Rattle.fq_model.specs.History.{History, pool_at}
-use Rattle.fq_model.specs.Time.{active_weight, last_moment, virtual_time}
+use Rattle.fq_model.specs.Time.{active_weight, last_moment}
+use Rattle.fq_model.specs.Pace.{virtual_time}
 use Rattle.fq_laws.proofs.Time.Clock.{active_weight_nil, virtual_time_nil, virtual_time_next, virtual_advance_is}
 use Rattle.virtual_clock.specs.Clock.{ClockView, at_start, moved_to}
 use Rattle.virtual_clock.specs.Histories.{ClockIs}

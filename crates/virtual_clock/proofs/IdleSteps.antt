@@ -6,7 +6,8 @@ use Rattle.std.proofs.lemmas.List.{get_or-replicate, length-replicate}
 use Rattle.fq_model.specs.declared.config.Config.{Config}
 use Rattle.fq_model.specs.declared.event.Entry.{Entry}
 use Rattle.fq_model.specs.History.{History}
-use Rattle.fq_model.specs.Time.{open_requests, last_moment, virtual_time, virtual_idle_time}
+use Rattle.fq_model.specs.Time.{open_requests, last_moment, virtual_idle_time}
+use Rattle.fq_model.specs.Pace.{virtual_time}
 use Rattle.fq_laws.proofs.Time.Open.{open_nil, active_of_open, inactive_of_open}
 use Rattle.fq_laws.proofs.Time.Clock.{virtual_time_nil, virtual_time_next, idle_nil, idle_active, idle_inactive, idle_next_active, idle_next_inactive}
 use Rattle.virtual_clock.specs.declared.idles.Idle.{Idle}

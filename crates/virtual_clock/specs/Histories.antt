@@ -3,7 +3,8 @@ use Rattle.std.specs.Prelude.{ℕ, ℤ, ◌<◌, ◌≡◌, List, ◌∷◌, len
 use Rattle.fq_model.specs.declared.config.Config.{Config}
 use Rattle.fq_model.specs.declared.event.Entry.{Entry}
 use Rattle.fq_model.specs.History.{History, pool_at, weight_at}
-use Rattle.fq_model.specs.Time.{open_requests, active_weight, last_moment, virtual_time, virtual_idle_time}
+use Rattle.fq_model.specs.Time.{open_requests, active_weight, last_moment, virtual_idle_time}
+use Rattle.fq_model.specs.Pace.{virtual_time}
 use Rattle.fq_laws.specs.Steps.{Passes}
 use Rattle.virtual_clock.specs.declared.idles.Idle.{Idle}
 use Rattle.virtual_clock.specs.declared.times.Times.{Times}

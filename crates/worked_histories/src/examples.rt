@@ -5,7 +5,7 @@ ghost use Rattle.std.specs.Prelude.{◌/◌, ◌≡◌, ◌∷◌, pos, Some, No
 ghost use Rattle.fq_model.specs.declared.config.Policy.{Policy};
 ghost use Rattle.fq_model.specs.declared.config.Policy.TheVariants.{Wfq, Wf2q, Msf2q, TwoDfq};
 ghost use Rattle.fq_model.specs.Limits.{InLimits};
-ghost use Rattle.fq_model.specs.Time.{virtual_time};
+ghost use Rattle.fq_model.specs.Pace.{virtual_time};
 ghost use Rattle.fq_model.specs.Charge.{charge, estimate_at};
 ghost use Rattle.fq_model.specs.Keys.{tag, start, HeadKeys, finish, turn_at, eligible_key, HasKeys, IsChoiceAt};
 ghost use Rattle.fq_model.specs.declared.event.Cause.TheVariants.{Tenant, Kind, Workers};

@@ -1,11 +1,12 @@
 -- Limits of charges in legal histories.
-use Rattle.std.proofs.Common.{refl, ℕ, ◌≤◌, arith, inl, inr, [], ◌∷◌, ◌<◌, length, ◌≡◌, true, false, cond, ◌⊎◌, ◌*◌}
+use Rattle.std.proofs.Common.{refl, ℕ, ◌+◌, ◌≤◌, arith, inl, inr, [], ◌∷◌, ◌<◌, length, ◌≡◌, true, false, cond, ◌⊎◌, ◌*◌}
 use Rattle.std.proofs.lemmas.Bool.{cases_eq, cases_Bool}
 use Rattle.vt_fixed.specs.Rounding.{length_of}
 use Rattle.vt_fixed.proofs.Bounds.{length_high}
 use Rattle.fq_model.specs.declared.config.Config.{Config}
 use Rattle.fq_model.specs.declared.event.Act.{Act}
 use Rattle.fq_model.specs.declared.event.Act.TheVariants.{Submit, Take, Report, Done}
+use Rattle.fq_model.specs.declared.event.Entry.{Entry}
 use Rattle.fq_model.specs.Limits.{InLimits}
 use Rattle.fq_model.specs.History.{History, weight_at, request_at, is_of_tenant, is_taken, submits, request_bound}
 use Rattle.fq_model.specs.Charge.{charge, taken_weight, charged, virtual_charge, net_charged, net_charge}
@@ -18,7 +19,8 @@ use Rattle.fq_laws.proofs.Charge.Requests.{charge_submit, charge_quiet, charge_t
 use Rattle.fq_laws.proofs.Charge.Estimates.{estimate_range}
 use Rattle.fq_laws.proofs.History.Weights.{weight_low, taken_weight_low}
 use Rattle.fq_laws.proofs.History.Requests.{tenant_below}
-use Rattle.fq_laws.proofs.Charge.Tenants.{charged_untaken, charged_taken, net_charged_untaken, net_charged_taken}
+use Rattle.fq_laws.proofs.History.Numbers.{take_request_small, use_small}
+use Rattle.fq_laws.proofs.Charge.Tenants.{charged_untaken, charged_taken, net_charged_untaken, net_charged_taken, virtual_charge_submit, virtual_charge_take, virtual_charge_report, virtual_charge_done, virtual_charge_quiet}
 use Rattle.fq_laws.proofs.Sums.{sum_at_most}
 use Rattle.fq_laws.proofs.Rules.Limits.{taken_count_low, submits_low}
 
@@ -60,6 +62,26 @@ charged_at_most C P t r lim l = elim (cases_Bool (is_taken P r)) [
     within : is_taken P r ≡ true → ((is_of_tenant t (request_at P r) ≡ true) ⊎ (is_of_tenant t (request_at P r) ≡ false)) → cond (is_of_tenant t (request_at P r)) (length_of (charge P r) (taken_weight C P t r)) 0 ≤ greatest_length
     within e (inl m) = rw m (length_high (charge P r) (taken_weight C P t r) (charge_low C P r lim l) (taken_weight_low C P t r lim l (tenant_below C P t r l m) e))
     within e (inr m) = rw m (omega arith)
+
+charged_low : (C : Config) (P : History) (t r : ℕ) → InLimits C → IsLegal C P → charged C P t r ≤ greatest_length
+charged_low C P t r lim l = elim (cases_Bool (is_taken P r)) [
+  | inl e ↦ (let k : charged C P t r ≤ greatest_length = rw e at (charged_at_most C P t r lim l) in k)
+  | inr e ↦ omega (arith, charged_untaken C P t r e)
+]
+
+grows_at : (C : Config) (P : History) (who m t : ℕ) (a : Act) → InLimits C → IsLegal C (one_more who m a P) → virtual_charge C (one_more who m a P) t ≤ virtual_charge C P t + greatest_length
+grows_at C P who m t (Submit request tenant kind declared label) lim l = omega (arith, virtual_charge_submit C P who m t request tenant kind declared label l.0 l.3.numbered)
+grows_at C P who m t (Take worker request estimate) lim l =
+    omega (arith, virtual_charge_take C P who m t worker request estimate (take_request_small C P m worker request estimate lim l.0 l.3), charged_low C (one_more who m (Take worker request estimate) P) t request lim l)
+grows_at C P who m t (Report worker request used) lim l =
+    omega (arith, virtual_charge_report C P who m t worker request used (use_small C P worker request used lim l.0 l.3.0), charged_low C (one_more who m (Report worker request used) P) t request lim l)
+grows_at C P who m t (Done worker request cost) lim l =
+    omega (arith, virtual_charge_done C P who m t worker request cost (use_small C P worker request cost lim l.0 l.3), charged_low C (one_more who m (Done worker request cost) P) t request lim l)
+grows_at C P who m t a lim l = omega (arith, virtual_charge_quiet C P who m t a refl)
+
+-- an entry raises a virtual charge by at most the greatest length
+pub virtual_charge_grows : (C : Config) (P : History) (e : Entry) (t : ℕ) → InLimits C → IsLegal C (e ∷ P) → virtual_charge C (e ∷ P) t ≤ virtual_charge C P t + greatest_length
+virtual_charge_grows C P e t lim l = grows_at C P e.who e.moment t e.act lim l
 
 -- a virtual charge is at most the greatest length for each request
 pub virtual_charge_low : (C : Config) (P : History) (t : ℕ) → InLimits C → IsLegal C P → virtual_charge C P t ≤ submits P * greatest_length

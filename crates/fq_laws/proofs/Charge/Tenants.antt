@@ -155,7 +155,10 @@ pub net_charge_quiet : (P : History) (who m t : ℕ) (a : Act) → is_quiet a �
 unfolding net_charge
 net_charge_quiet P who m t a q = sum_same (net_charged (one_more who m a P) t) (net_charged P t) request_bound (λ r b. cost_same _ _ (charge (one_more who m a P) r) (charge P r) (taken_of_quiet P who m t r a q) (charge_quiet P who m r a q))
 
--- a Report and a Done change what one request adds
+-- a Take, a Report and a Done change what one request adds
+pub virtual_charge_take : (C : Config) (P : History) (who m t w q c : ℕ) → q < 2 ^ 32 → virtual_charge C (one_more who m (Take w q c) P) t + charged C P t q ≡ virtual_charge C P t + charged C (one_more who m (Take w q c) P) t q
+virtual_charge_take C P who m t w q c b = virtual_charge_at C P _ t q b (λ r. unmoved_take C P who m t r w q c)
+
 pub virtual_charge_report : (C : Config) (P : History) (who m t w q used : ℕ) → q < 2 ^ 32 → virtual_charge C (one_more who m (Report w q used) P) t + charged C P t q ≡ virtual_charge C P t + charged C (one_more who m (Report w q used) P) t q
 virtual_charge_report C P who m t w q used b = virtual_charge_at C P _ t q b (λ r. unmoved_report C P who m t r w q used)
 
@@ -167,7 +170,7 @@ virtual_charge_done C P who m t w q cost b = virtual_charge_at C P _ t q b (λ r
 -- a Take adds the length of its estimate to its tenant
 pub virtual_charge_taken : (C : Config) (P : History) (who m t w q c : ℕ) → InLimits C → IsLegal C P → Fits C P m (Take w q c) → virtual_charge C (one_more who m (Take w q c) P) t ≡ virtual_charge C P t + cond (is_of_tenant t (request_at P q)) (length_of c (weight_at C P t)) 0
 virtual_charge_taken C P who m t w q c lim l f =
-    let one = virtual_charge_at C P (one_more who m (Take w q c) P) t q (take_request_small C P m w q c lim l f) (λ r. unmoved_take C P who m t r w q c) in
+    let one = virtual_charge_take C P who m t w q c (take_request_small C P m w q c lim l f) in
     let new : charged C (one_more who m (Take w q c) P) t q ≡ cond (is_of_tenant t (request_at P q)) (length_of c (weight_at C P t)) 0 = length_same _ _ (charge (one_more who m (Take w q c) P) q) c _ _ (taken_of_take P who m t w q c) (charge_take C P who m w q c l f) (taken_weight_take C P who m t w q c) in
     omega (arith, one, new, charged_untaken C P t q (waits_untaken P q (take_waits C P m w q c f)))
 

@@ -10,11 +10,13 @@ use Rattle.fq_model.specs.Limits.{InLimits}
 use Rattle.fq_model.specs.Time.{open_requests, is_open, is_active, last_moment}
 use Rattle.fq_model.specs.Rules.{IsLegal}
 use Rattle.fq_model.specs.declared.event.Entry.{Entry}
-use Rattle.fq_model.specs.Keys.{tag_base, start, keys_at, keys_of_head, keys_of_request, tag}
+use Rattle.fq_model.specs.Keys.{start, keys_at, keys_of_head, keys_of_request, tag}
+use Rattle.fq_model.specs.Pace.{tag_base}
 use Rattle.fq_laws.specs.Words.{concerns, Leaves, one_more}
 use Rattle.fq_laws.specs.Changes.{no_change, Changes, change_of}
 use Rattle.fq_laws.proofs.History.Heads.{head_same}
 use Rattle.fq_laws.proofs.History.Queues.{head_submit, head_take_other}
+use Rattle.fq_laws.proofs.Keys.Pace.{base_step}
 use Rattle.fq_laws.proofs.Keys.Tags.{base_submit_other}
 use Rattle.fq_laws.proofs.Charge.Changes.{changes}
 use Rattle.fq_laws.proofs.Sums.{count_some}
@@ -45,9 +47,8 @@ head_left C P who m t (Take worker request estimate) lim l off = head_take_other
 head_left C P who m t a lim l off = head_same P (one_more who m a P) t (λ r. refl)
 
 base_left : (C : Config) (P : History) (who m t : ℕ) (a : Act) → concerns P t a ≡ false → tag_base C (one_more who m a P) t ≡ tag_base C P t
-unfolding tag_base
 base_left C P who m t (Submit request tenant kind declared label) off = base_submit_other C P who m t request tenant kind declared label (eqb-false tenant t off)
-base_left C P who m t _ off = refl
+base_left C P who m t a off = base_step C P (record { who = who; moment = m; act = a }) t
 
 costs_left : (P : History) (t k : ℕ) (a : Act) → concerns P t a ≡ false → completed_costs (with_completion P a (completed P)) t k ≡ completed_costs (completed P) t k
 costs_left P t k (Done worker request cost) off = costs_done (completed P) (request_at P request) cost t k off

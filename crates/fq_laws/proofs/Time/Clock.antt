@@ -1,4 +1,5 @@
--- The active weight, virtual time and virtual idle times: how they change at one entry more, and their limits.
+-- The active weight, virtual time by the clock and virtual idle times: how they change at one entry more, and their
+-- limits.
 use Rattle.std.proofs.Common.{ℕ, ◌≡◌, refl, ◌∷◌, [], length, ◌-◌, arith, ◌+◌, ◌∙◌, inl, inr, cond, true, false, ◌≤◌, ◌<◌, ◌≢◌, ◌*◌, ◌/◌, ◌==◌, zero, suc}
 use Rattle.std.proofs.lemmas.Bool.{cases_Bool, cases_eq, ne_eqb}
 use Rattle.std.proofs.Math.Nat.{div-le_self}
@@ -9,7 +10,7 @@ use Rattle.vt_fixed.proofs.Bounds as fixed
 use Rattle.fq_model.specs.declared.config.Config.{Config}
 use Rattle.fq_model.specs.declared.event.Entry.{Entry}
 use Rattle.fq_model.specs.History.{History, weight_at, pool_at}
-use Rattle.fq_model.specs.Time.{weight_if_active, active_weight, last_moment, virtual_advance, virtual_time, virtual_idle_time, is_active, open_requests}
+use Rattle.fq_model.specs.Time.{weight_if_active, active_weight, last_moment, virtual_advance, clock_time, virtual_idle_time, is_active, open_requests}
 use Rattle.fq_model.specs.Limits.{InLimits}
 use Rattle.fq_model.specs.Rules.{IsLegal}
 use Rattle.fq_model.specs.Sums.{sum_below}
@@ -47,26 +48,26 @@ advance_unweighted C P m e = rw e (advance_idle _ _)
 pub advance_nil : (C : Config) (m : ℕ) → virtual_advance C [] m ≡ 0
 advance_nil C m = advance_unweighted C [] m (active_weight_nil C)
 
--- ---- virtual time
+-- ---- virtual time by the clock
 
-pub virtual_time_nil : (C : Config) (m : ℕ) → virtual_time C [] m ≡ 0
-unfolding virtual_time
-virtual_time_nil C m = refl
+pub clock_time_nil : (C : Config) (m : ℕ) → clock_time C [] m ≡ 0
+unfolding clock_time
+clock_time_nil C m = refl
 
--- an entry does not move the virtual time of its moment
-pub virtual_time_step : (C : Config) (P : History) (e : Entry) → virtual_time C (e ∷ P) e.moment ≡ virtual_time C P e.moment
-unfolding virtual_time
-virtual_time_step C P e = omega (arith, advance_none C (e ∷ P))
+-- an entry does not move the time of its moment
+pub clock_time_step : (C : Config) (P : History) (e : Entry) → clock_time C (e ∷ P) e.moment ≡ clock_time C P e.moment
+unfolding clock_time
+clock_time_step C P e = omega (arith, advance_none C (e ∷ P))
 
--- virtual time at a moment is that of the last entry and one advance
-pub virtual_time_split : (C : Config) (P : History) (m : ℕ) → virtual_time C P m ≡ virtual_time C P (last_moment P) + virtual_advance C P m
-unfolding virtual_time
-virtual_time_split C [] m = omega (arith, advance_nil C m)
-virtual_time_split C (e ∷ P) m = omega (arith, advance_none C (e ∷ P))
+-- the time at a moment is that of the last entry and one advance
+pub clock_time_split : (C : Config) (P : History) (m : ℕ) → clock_time C P m ≡ clock_time C P (last_moment P) + virtual_advance C P m
+unfolding clock_time
+clock_time_split C [] m = omega (arith, advance_nil C m)
+clock_time_split C (e ∷ P) m = omega (arith, advance_none C (e ∷ P))
 
 -- at the moment of one entry more: one advance since the entry before
-pub virtual_time_next : (C : Config) (P : History) (e : Entry) → virtual_time C (e ∷ P) e.moment ≡ virtual_time C P (last_moment P) + virtual_advance C P e.moment
-virtual_time_next C P e = virtual_time_step C P e ∙ virtual_time_split C P e.moment
+pub clock_time_next : (C : Config) (P : History) (e : Entry) → clock_time C (e ∷ P) e.moment ≡ clock_time C P (last_moment P) + virtual_advance C P e.moment
+clock_time_next C P e = clock_time_step C P e ∙ clock_time_split C P e.moment
 
 -- ---- virtual idle time
 
@@ -87,20 +88,20 @@ idle_split C (e ∷ P) m t = elim (cases_Bool (is_active (e ∷ P) t)) [ inl h �
 pub idle_active : (C : Config) (P : History) (m t : ℕ) → is_active P t ≡ true → virtual_idle_time C P m t ≡ virtual_idle_time C P (last_moment P) t
 idle_active C P m t h = let k : virtual_idle_time C P m t ≡ virtual_idle_time C P (last_moment P) t + 0 = rw h at (idle_split C P m t) in omega arith
 
--- while it is not, this moves along with virtual time
-pub idle_inactive : (C : Config) (P : History) (m t : ℕ) → is_active P t ≡ false → virtual_idle_time C P m t + virtual_time C P (last_moment P) ≡ virtual_idle_time C P (last_moment P) t + virtual_time C P m
-idle_inactive C P m t h = let k : virtual_idle_time C P m t ≡ virtual_idle_time C P (last_moment P) t + virtual_advance C P m = rw h at (idle_split C P m t) in omega (arith, virtual_time_split C P m)
+-- while it is not, this moves along with virtual time by the clock
+pub idle_inactive : (C : Config) (P : History) (m t : ℕ) → is_active P t ≡ false → virtual_idle_time C P m t + clock_time C P (last_moment P) ≡ virtual_idle_time C P (last_moment P) t + clock_time C P m
+idle_inactive C P m t h = let k : virtual_idle_time C P m t ≡ virtual_idle_time C P (last_moment P) t + virtual_advance C P m = rw h at (idle_split C P m t) in omega (arith, clock_time_split C P m)
 
 -- the same at the moment of one entry more, by whether the tenant was active before it
 pub idle_next_active : (C : Config) (P : History) (e : Entry) (t : ℕ) → is_active P t ≡ true → virtual_idle_time C (e ∷ P) e.moment t ≡ virtual_idle_time C P (last_moment P) t
 idle_next_active C P e t h = idle_step C P e t ∙ idle_active C P e.moment t h
 
-pub idle_next_inactive : (C : Config) (P : History) (e : Entry) (t : ℕ) → is_active P t ≡ false → virtual_idle_time C (e ∷ P) e.moment t + virtual_time C P (last_moment P) ≡ virtual_idle_time C P (last_moment P) t + virtual_time C (e ∷ P) e.moment
-idle_next_inactive C P e t h = omega (arith, idle_step C P e t, virtual_time_step C P e, idle_inactive C P e.moment t h)
+pub idle_next_inactive : (C : Config) (P : History) (e : Entry) (t : ℕ) → is_active P t ≡ false → virtual_idle_time C (e ∷ P) e.moment t + clock_time C P (last_moment P) ≡ virtual_idle_time C P (last_moment P) t + clock_time C (e ∷ P) e.moment
+idle_next_inactive C P e t h = omega (arith, idle_step C P e t, clock_time_step C P e, idle_inactive C P e.moment t h)
 
--- it is at most virtual time
-pub idle_low : (C : Config) (P : History) (m t : ℕ) → virtual_idle_time C P m t ≤ virtual_time C P m
-unfolding virtual_idle_time virtual_time
+-- it is at most virtual time by the clock
+pub idle_low : (C : Config) (P : History) (m t : ℕ) → virtual_idle_time C P m t ≤ clock_time C P m
+unfolding virtual_idle_time clock_time
 idle_low C [] m t = omega arith
 idle_low C (e ∷ P) m t = elim (cases_Bool (is_active (e ∷ P) t)) [ inl h ↦ rw h (omega (arith, idle_low C P e.moment t)) | inr h ↦ rw h (omega (arith, idle_low C P e.moment t)) ]
 
@@ -126,7 +127,7 @@ pub active_weight_same : (C : Config) (P : History) (e : Entry) → ((u : ℕ) �
 unfolding active_weight is_active
 active_weight_same C P e same = sum_same (weight_if_active C (e ∷ P)) (weight_if_active C P) (length C.weights) (λ u b. rw ((same u).open_same, (same u).weight_same) refl)
 
--- ---- virtual time
+-- ---- virtual time by the clock
 
 pub advance_low : (dt n w : ℕ) → n ≤ MOST_WORKERS → advance_of dt n w ≤ dt * greatest_rate
 unfolding advance_of
@@ -144,28 +145,28 @@ pub virtual_advance_low : (C : Config) (P : History) (m : ℕ) → InLimits C �
 unfolding virtual_advance
 virtual_advance_low C P m lim l = advance_low (m - last_moment P) (pool_at C P) (active_weight C P) (pool_range C P lim l).1
 
-pub virtual_time_low : (C : Config) (P : History) (m : ℕ) → InLimits C → IsLegal C P → last_moment P ≤ m → virtual_time C P m ≤ m * greatest_rate
-unfolding virtual_time
-virtual_time_low C [] m lim l h = omega arith
-virtual_time_low C (e ∷ P) m lim l h =
-    let a : virtual_time C P e.moment ≤ e.moment * greatest_rate = virtual_time_low C P e.moment lim l.0 l.1 in
+pub clock_time_low : (C : Config) (P : History) (m : ℕ) → InLimits C → IsLegal C P → last_moment P ≤ m → clock_time C P m ≤ m * greatest_rate
+unfolding clock_time
+clock_time_low C [] m lim l h = omega arith
+clock_time_low C (e ∷ P) m lim l h =
+    let a : clock_time C P e.moment ≤ e.moment * greatest_rate = clock_time_low C P e.moment lim l.0 l.1 in
     omega (arith, virtual_advance_low C (e ∷ P) m lim l)
 
-advance_rises : (a b n w : ℕ) → a ≤ b → advance_of a n w ≤ advance_of b n w
+pub advance_rises : (a b n w : ℕ) → a ≤ b → advance_of a n w ≤ advance_of b n w
 unfolding advance_of
 advance_rises a b n w h = elim (cases_eq w 0) [
   | inl e ↦ rw e (omega arith)
   | inr ne ↦ rw (ne_eqb w 0 ne) (let k : a * n ≤ b * n = mul-le a n b n h (omega arith) in div_mono (a * n * 1048576) (b * n * 1048576) w (omega arith) (omega arith))
 ]
 
--- virtual time never falls
-pub virtual_time_rises : (C : Config) (P : History) (m k : ℕ) → m ≤ k → virtual_time C P m ≤ virtual_time C P k
-unfolding virtual_time virtual_advance
-virtual_time_rises C [] m k h = omega arith
-virtual_time_rises C (e ∷ P) m k h = let a = advance_rises (m - e.moment) (k - e.moment) (pool_at C (e ∷ P)) (active_weight C (e ∷ P)) (omega arith) in omega (arith, a)
+-- it never falls
+pub clock_time_rises : (C : Config) (P : History) (m k : ℕ) → m ≤ k → clock_time C P m ≤ clock_time C P k
+unfolding clock_time virtual_advance
+clock_time_rises C [] m k h = omega arith
+clock_time_rises C (e ∷ P) m k h = let a = advance_rises (m - e.moment) (k - e.moment) (pool_at C (e ∷ P)) (active_weight C (e ∷ P)) (omega arith) in omega (arith, a)
 
 pub virtual_idle_time_low : (C : Config) (P : History) (m t : ℕ) → InLimits C → IsLegal C P → last_moment P ≤ m → virtual_idle_time C P m t ≤ m * greatest_rate
-virtual_idle_time_low C P m t lim l h = omega (arith, idle_low C P m t, virtual_time_low C P m lim l h)
+virtual_idle_time_low C P m t lim l h = omega (arith, idle_low C P m t, clock_time_low C P m lim l h)
 
 -- ---- weights
 
@@ -180,5 +181,5 @@ active_weight_low C P lim l = omega (arith, lim.tenants.1, weights_low (weight_i
 
 -- ---- the same in whole numbers, wherever a legal history ends
 
-pub virtual_time_within : (C : Config) (P : History) (m : ℕ) → InLimits C → IsLegal C P → last_moment P ≤ m → m ≤ GREATEST_MOMENT → virtual_time C P m ≤ GREATEST_MOMENT * greatest_rate
-virtual_time_within C P m lim l h k = omega (arith, virtual_time_low C P m lim l h)
+pub clock_time_within : (C : Config) (P : History) (m : ℕ) → InLimits C → IsLegal C P → last_moment P ≤ m → m ≤ GREATEST_MOMENT → clock_time C P m ≤ GREATEST_MOMENT * greatest_rate
+clock_time_within C P m lim l h k = omega (arith, clock_time_low C P m lim l h)

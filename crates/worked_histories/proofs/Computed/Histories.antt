@@ -10,10 +10,11 @@ use Rattle.fq_model.specs.declared.event.Act.TheVariants.{Submit, Take, Report, 
 use Rattle.fq_model.specs.History.{History, Request, request_in, request_at, is_submit_of, is_submitted, is_take_of, is_taken, is_of_tenant, is_waiting, waiting, request_bound, is_running, running, waits_for, head, weight_at, pool_at, is_done, is_closed}
 use Rattle.fq_model.specs.declared.event.Entry.{Entry}
 use Rattle.fq_model.specs.Sums.{sum_below, count_below, least_below, first_of}
-use Rattle.fq_model.specs.Time.{is_open, open_requests, is_active, weight_if_active, active_weight, last_moment, virtual_advance, virtual_time, virtual_idle_time}
+use Rattle.fq_model.specs.Time.{is_open, open_requests, is_active, weight_if_active, active_weight, last_moment, virtual_advance, virtual_idle_time}
+use Rattle.fq_model.specs.Pace.{virtual_time, is_submit_for, tag_base}
 use Rattle.fq_model.specs.declared.config.Config.{Config}
 use Rattle.fq_model.specs.Charge.{charged, is_taken_of, virtual_charge, request_estimate, estimate_at}
-use Rattle.fq_model.specs.Keys.{is_submit_for, tag_base, tag, start_for, start, HeadKeys, keys_of_request, keys_of_head, keys_at, Turn, turn_at}
+use Rattle.fq_model.specs.Keys.{tag, start_for, start, HeadKeys, keys_of_request, keys_of_head, keys_at, Turn, turn_at}
 use Rattle.fq_laws.proofs.Sums.{least_by, sum_same}
 
 -- ---- histories of few requests and tenants

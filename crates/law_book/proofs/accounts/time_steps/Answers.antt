@@ -1,5 +1,6 @@
 use Rattle.std.proofs.Common.{ap, ◌+◌, ◌∙◌}
-use Rattle.fq_model.specs.Time.{virtual_time, last_moment}
+use Rattle.fq_model.specs.Time.{last_moment}
+use Rattle.fq_model.specs.Pace.{virtual_time}
 use Rattle.fq_laws.proofs.Time.Clock.{virtual_time_next, virtual_advance_is}
 use Rattle.law_book.proofs.accounts.time_steps.Goals as goal
 

@@ -6,7 +6,8 @@ use mir.Val.{to_z, of_z}
 use Rattle.fq_model.specs.declared.parts.Status.{Status}
 use Rattle.fq_model.specs.History.{history_of}
 use Rattle.fq_model.specs.Status.{status_of}
-use Rattle.fq_model.specs.Time.{last_moment, virtual_time}
+use Rattle.fq_model.specs.Time.{last_moment}
+use Rattle.fq_model.specs.Pace.{virtual_time}
 use Rattle.sched_journal.specs.Journal.{history}
 use Rattle.sched_state.specs.Scheduler.{SchedulerView}
 use Rattle.sched_state.proofs.scheduler_core.Core.status.Goals as goal
