@@ -16,7 +16,8 @@ use Rattle.fq_model.specs.Keys.{tag}
 use Rattle.fq_model.specs.Rules.{IsLegal}
 use Rattle.fq_laws.specs.Words.{one_more, is_quiet}
 use Rattle.fq_laws.proofs.Charge.Tenants.{virtual_charge_nil, virtual_charge_submit, virtual_charge_quiet}
-use Rattle.fq_laws.proofs.Keys.Tags.{base_nil, base_submit, base_submit_waiting, base_submit_other, base_take, base_report, base_done, base_quiet, tag_is}
+use Rattle.fq_laws.proofs.Keys.Pace.{base_nil}
+use Rattle.fq_laws.proofs.Keys.Tags.{base_submit, base_submit_waiting, base_submit_other, base_take, base_report, base_done, base_quiet, tag_is}
 use Rattle.fq_laws.proofs.Charge.Limits.{virtual_charge_within}
 use Rattle.tag_rules.specs.Accounts.{AccountsView, at_first, charge_of, base_of, raised, charged, IsCharge, AccountsAre}
 

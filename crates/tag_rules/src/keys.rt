@@ -35,13 +35,13 @@ pub fn keys(start: i128, estimate: u64, weight: u32, request: u32) -> Keys
 }
 
 /// The virtual time from which on the head is eligible for a worker, in steps: where its tenant starts, and under
-/// 2DFQ earlier by the worker's part of its length (after Mace and others, 2016). It may be below 0.
+/// `2dfq` and `2dfq+` earlier by the worker's part of its length (after Mace and others, 2016). It may be below 0.
 pub fn eligible_key(policy: Policy, keys: Keys, worker: u32, workers: u32) -> i128
     requires worker { worker < workers }
     ensures { result ≡ keys.start -ℤ spec.stagger policy keys.len worker workers }
 {
     match policy {
         Policy::Wfq | Policy::Wf2q | Policy::Msf2q => keys.start,
-        Policy::TwoDfq => keys.start - part(keys.len, worker, workers),
+        Policy::TwoDfq | Policy::TwoDfqPlus => keys.start - part(keys.len, worker, workers),
     }
 }

@@ -47,7 +47,7 @@ impl Turn {
     {
         match self.policy {
             Policy::Wfq => true,
-            Policy::Wf2q | Policy::Msf2q | Policy::TwoDfq => {
+            Policy::Wf2q | Policy::Msf2q | Policy::TwoDfq | Policy::TwoDfqPlus => {
                 self.eligible_key(keys) <= self.virtual_time
             }
         }
