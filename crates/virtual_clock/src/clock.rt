@@ -1,18 +1,18 @@
 //! The clock of virtual time.
 ghost use Rattle.std.specs.Prelude.{◌≡◌, ◌+◌, ◌≤◌, pos, ◌≤ℤ◌};
-ghost use Rattle.virtual_clock.specs.Clock.{at_start, moved_to, entered, left, staffed};
+ghost use Rattle.virtual_clock.specs.Clock.{at_start, moved_to, entered, left, staffed, lifted};
 
-use fq_model::limits::{GREATEST_ACTIVE_WEIGHT, GREATEST_MOMENT, GREATEST_WEIGHT, MOST_WORKERS};
+use fq_model::config::Policy;
+use fq_model::limits::{
+    GREATEST_ACTIVE_WEIGHT, GREATEST_MOMENT, GREATEST_VIRTUAL_TIME, GREATEST_WEIGHT, MOST_WORKERS,
+};
 use std::marker::Model;
 use vt_fixed::advance;
 
-/// The greatest virtual time that a clock shows, in steps: the greatest moment, by the most workers, at active weight
-/// 1.
-pub const GREATEST_SHOWN: i128 = 67108864000000000000000;
-
 /// Virtual time along a history, in steps. It rises at the rate of generalized processor sharing (Parekh and
 /// Gallager, 1993): the number of workers over the sum of the active tenants' weights, and it stands while no tenant
-/// is active. Each piece between two moments is rounded down by itself, so `to` belongs at each entry and nowhere else.
+/// is active. Under `2dfq+` it does not pass a cap, and may be lifted. Each piece between two moments is rounded down by
+/// itself, so `to` belongs at each entry and nowhere else.
 #[derive(Drop)]
 pub struct Clock128 {
     workers: u32,
@@ -20,6 +20,8 @@ pub struct Clock128 {
     moment: u64,
     weights: u64,
     time: i128,
+    // what time may not pass; where the policy has no cap, a number that it does not come to
+    cap: i128,
 }
 
 impl Model for Clock128 {
@@ -27,38 +29,52 @@ impl Model for Clock128 {
 
     ghost Value = { ClockView };
 
-    ghost view = { λ c. record { workers = c.workers; moment = c.moment; weights = c.weights; time = c.time } };
+    ghost view = { λ c. record {
+      workers = c.workers;
+      moment = c.moment;
+      weights = c.weights;
+      time = c.time;
+      cap = c.cap;
+    } };
 
     ghost invariant = { λ c. IsInRange (record {
       workers = c.workers;
       moment = c.moment;
       weights = c.weights;
       time = c.time;
+      cap = c.cap;
     }) };
 }
 
 impl Clock128 {
-    /// A clock at moment 0 and virtual time 0, with no active tenant.
-    pub fn new(workers: u32) -> Clock128
+    /// A clock at moment 0 and virtual time 0, with no active tenant. Under `2dfq+` its cap is 0 until a request is
+    /// taken.
+    pub fn new(policy: Policy, workers: u32) -> Clock128
         requires workers_positive { 1 ≤ workers }
         requires workers_in_range { workers ≤ MOST_WORKERS }
-        ensures { result ≡ at_start workers }
+        ensures { result ≡ at_start policy workers }
     {
+        let cap = match policy {
+            Policy::TwoDfqPlus => 0,
+            Policy::Wfq | Policy::Wf2q | Policy::Msf2q | Policy::TwoDfq => GREATEST_VIRTUAL_TIME,
+        };
         Clock128 {
             workers,
             moment: 0,
             weights: 0,
             time: 0,
+            cap,
         }
     }
 
-    /// Goes on to a moment, in microseconds, at the rate of the weights so far.
+    /// Goes on to a moment, in microseconds, at the rate of the weights so far, and stops at the cap.
     pub fn to(&mut self, moment: u64)
         requires later { self.old.moment ≤ moment }
         requires in_range { moment ≤ GREATEST_MOMENT }
         ensures { self.new ≡ moved_to self.old moment }
     {
-        self.time += advance(moment - self.moment, self.workers, self.weights);
+        let moved = self.time + advance(moment - self.moment, self.workers, self.weights);
+        self.time = moved.min(self.cap);
         self.moment = moment;
     }
 
@@ -91,6 +107,17 @@ impl Clock128 {
         self.workers = workers;
     }
 
+    /// A request of this eligible key and this finish, both in steps, is taken: virtual time is no less than the key
+    /// from here on, and the cap no less than the finish.
+    pub fn lift(&mut self, key: i128, finish: i128)
+        requires ordered { key ≤ℤ finish }
+        requires in_range { finish ≤ℤ GREATEST_VIRTUAL_TIME }
+        ensures { self.new ≡ lifted self.old key finish }
+    {
+        self.time = self.time.max(key);
+        self.cap = self.cap.max(finish);
+    }
+
     /// The number of workers.
     pub fn workers(&self) -> u32
         ensures value { result ≡ self.now.workers }
@@ -104,7 +131,7 @@ impl Clock128 {
     pub fn now(&self) -> i128
         ensures value { result ≡ self.now.time }
         ensures low { pos 0 ≤ℤ result }
-        ensures high { result ≤ℤ GREATEST_SHOWN }
+        ensures high { result ≤ℤ GREATEST_VIRTUAL_TIME }
     {
         self.time
     }

@@ -1,18 +1,20 @@
 //! The virtual time of a history, the weights at its end, and for how long each tenant was not active.
-ghost use Rattle.std.specs.Prelude.{◌<◌, ◌≤◌, [], pos, ◌≤ℤ◌, length, IfOk};
+ghost use Rattle.std.specs.Prelude.{◌<◌, ◌≤◌, ◌≡◌, ◌≢◌, [], pos, ◌≤ℤ◌, length, IfOk};
+ghost use Rattle.fq_model.specs.declared.config.Policy.TheVariants.{TwoDfqPlus};
 ghost use Rattle.fq_laws.specs.Steps.{Awaits, Follows, Submits, Completes, Reweighs, Staffs};
 ghost use Rattle.virtual_clock.specs.Idles.{idle_of};
-ghost use Rattle.virtual_clock.specs.Histories.{TimesAre, PassOn, IsTimeOf, IsIdleTimeOf, IsWeightOf, IsPoolOf};
+ghost use Rattle.virtual_clock.specs.Histories.{TimesAre, ComesTo, AwaitsTake, FollowsTake, IsTimeOf, IsIdleTimeOf, IsWeightOf, IsPoolOf};
 
-use crate::clock::{Clock128, GREATEST_SHOWN};
+use crate::clock::Clock128;
 use crate::idles::Idles;
 use crate::weights::WeightsNow;
-use fq_model::config::Checked;
-use fq_model::limits::{GREATEST_MOMENT, GREATEST_WEIGHT, MOST_WORKERS};
+use fq_model::config::{Checked, Policy};
+use fq_model::limits::{GREATEST_MOMENT, GREATEST_VIRTUAL_TIME, GREATEST_WEIGHT, MOST_WORKERS};
 use std::alloc::{AllocError, Global};
+use vt_fixed::part;
 
-/// Virtual time at the last entry of a history, with the number of workers and the weights there, by which it goes
-/// on, and the idle times at that time.
+/// Virtual time at the last entry of a history, or at a later moment, with the number of workers and the weights there,
+/// by which it goes on, and the idle times at that time.
 #[derive(Drop)]
 pub struct Times {
     clock: Clock128,
@@ -26,19 +28,41 @@ impl Times {
         ensures { IfOk result (TimesAre config.now []) }
     {
         Ok(Times {
-            clock: Clock128::new(config.workers()),
+            clock: Clock128::new(config.policy(), config.workers()),
             weights: WeightsNow::open(alloc, config)?,
             idles: Idles::open(alloc, config.tenants())?,
         })
     }
 
-    /// A Take, a Report or a Close comes at this moment, in microseconds.
+    /// A Take, a Report or a Close comes at this moment, in microseconds. A Take is told to `take` too, once it is known
+    /// what is taken.
     pub fn pass(&mut self, moment: u64)
         requires later { self.old.clock.moment ≤ moment }
         requires in_range { moment ≤ GREATEST_MOMENT }
-        ensures { PassOn moment self.old self.new }
+        ensures { ComesTo moment self.old self.new }
     {
         self.clock.to(moment);
+    }
+
+    /// At the moment that was passed to, the worker takes a request that starts there and has this length, both in steps.
+    pub fn take(&mut self, policy: Policy, worker: u32, start: i128, len: i128)
+        requires { policy ≡ TwoDfqPlus → AwaitsTake worker start len self.old }
+        ensures paced { policy ≡ TwoDfqPlus → FollowsTake worker start len self.old self.new }
+        ensures by_clock { policy ≢ TwoDfqPlus → self.new ≡ self.old }
+    {
+        match policy {
+            Policy::TwoDfqPlus => self.lift(worker, start, len),
+            Policy::Wfq | Policy::Wf2q | Policy::Msf2q | Policy::TwoDfq => {}
+        }
+    }
+
+    // Virtual time is no less than what makes the request eligible from here on, and the cap no less than its finish.
+    fn lift(&mut self, worker: u32, start: i128, len: i128)
+        requires { AwaitsTake worker start len self.old }
+        ensures { FollowsTake worker start len self.old self.new }
+    {
+        let key = start - part(len, worker, self.clock.workers());
+        self.clock.lift(key, start + len);
     }
 
     /// A Submit to this tenant comes at this moment, in microseconds.
@@ -85,11 +109,11 @@ impl Times {
         self.clock.staff(count);
     }
 
-    /// Virtual time at the last entry, in steps.
+    /// Virtual time at the moment that was come to, in steps.
     pub fn now(&self) -> i128
         ensures value { IsTimeOf self.now result }
         ensures low { pos 0 ≤ℤ result }
-        ensures high { result ≤ℤ GREATEST_SHOWN }
+        ensures high { result ≤ℤ GREATEST_VIRTUAL_TIME }
     {
         self.clock.now()
     }
@@ -119,7 +143,7 @@ impl Times {
         requires earlier { (idle_of self.now.idles tenant).since ≤ℤ self.now.clock.time }
         ensures value { IsIdleTimeOf self.now tenant result }
         ensures low { pos 0 ≤ℤ result }
-        ensures high { result ≤ℤ GREATEST_SHOWN }
+        ensures high { result ≤ℤ GREATEST_VIRTUAL_TIME }
     {
         self.idles.total(tenant, self.clock.now())
     }

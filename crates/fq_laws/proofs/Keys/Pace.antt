@@ -110,7 +110,7 @@ pub virtual_time_lifted : (C : Config) (P : History) (who m i r c : ℕ) (q : Re
 virtual_time_lifted C P who m i r c q is asked =
     omega (arith, time_by_pace C (one_more who m (Take i r c) P) m is, time_by_pace C P m is, now_take C P who m i r c q asked, reached_take C P who m i r c q asked, advance_none C (one_more who m (Take i r c) P))
 
-capped_min : (p : Policy) (reached v : ℕ) → p ≡ TwoDfqPlus → capped p reached v ≡ min v reached
+pub capped_min : (p : Policy) (reached v : ℕ) → p ≡ TwoDfqPlus → capped p reached v ≡ min v reached
 capped_min p reached v is = rw is refl
 
 pub capped_not : (p : Policy) (reached v : ℕ) → p ≢ TwoDfqPlus → capped p reached v ≡ v

@@ -1,5 +1,5 @@
-use Rattle.virtual_clock.proofs.TimeSteps.{times_pass}
+use Rattle.virtual_clock.proofs.TimeSteps.{times_come}
 use Rattle.virtual_clock.proofs.times.Times.pass.Goals as goal
 
 pub returns : goal.returns
-returns c = λ C P e p is. rw (c.to.ensures, ← p.moment_is) (times_pass C P e c.args.self.now p.act_passes is)
+returns c = λ C P lim l is. rw (c.to.ensures) (times_come C P c.args.moment c.args.self.now lim l (rw is.clock_is.moment at c.requires.later) c.requires.in_range is)

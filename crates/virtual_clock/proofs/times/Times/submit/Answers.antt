@@ -14,6 +14,11 @@ open_one-requires-clause-tenant c = (may_submit c.args.moment c.args.tenant c.ar
 pub of-requires : goal.of-requires
 of-requires c = (may_submit c.args.moment c.args.tenant c.args.self.now c.requires).weighed
 
+pub open_one-requires-clause-later : goal.open_one-requires-clause-later
+open_one-requires-clause-later c =
+    let earlier = (may_submit c.args.moment c.args.tenant c.args.self.now c.requires).earlier in
+    omega (arith, ints, earlier, c.now.ensures.value, ap (λ (k : ClockView). k.time) c.to.ensures)
+
 pub open_one-requires-clause-few : goal.open_one-requires-clause-few
 open_one-requires-clause-few c = (may_submit c.args.moment c.args.tenant c.args.self.now c.requires).few
 
