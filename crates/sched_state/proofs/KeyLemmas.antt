@@ -15,7 +15,7 @@ use Rattle.fq_model.specs.Pace.{virtual_time}
 use Rattle.fq_model.specs.Keys.{HeadKeys, Turn, turn_at, keys_at, IsChoice, HasKeys, IsChoiceAt}
 use Rattle.fq_model.specs.Rules.{IsLegal}
 use Rattle.fq_laws.specs.Words.{concerns}
-use Rattle.fq_laws.proofs.Time.Clock.{virtual_time_rises}
+use Rattle.fq_laws.proofs.Keys.Pace.{virtual_time_rises, entry_rises}
 use Rattle.fq_laws.proofs.Keys.Choices.{keys_differ, keys_tenant_known, head_has_keys, no_head_no_keys}
 use Rattle.fq_laws.proofs.Keys.Others.{keys_still, keys_unconcerned}
 use Rattle.fq_laws.proofs.History.Heads.{heads_none_waiting, waits_none, waits_none_head}
@@ -55,12 +55,11 @@ setting_stays C P e x same is = is.setting_is ∙ ap (setting_at C) (sym same)
 
 -- an entry leaves the keys of each tenant that it does not concern
 pub keys_of_others : (C : Config) (P : History) (e : Entry) (x y : ChooserView) (Tenants : ℕ → Type 0) → InLimits C → IsLegal C (e ∷ P) → ((u : ℕ) → Tenants u → concerns P u e.act ≡ false) → ChooserIs C P x → y.setting ≡ setting_at C (pool_at C (e ∷ P)) → y.table ≡ x.table → y.latest ≤ℤ pos (virtual_time C P e.moment) → HasKeysOf C (e ∷ P) Tenants y
-unfolding virtual_time
 keys_of_others C P e x y Tenants lim l others is s t late = record {
   setting_is = s;
   sized = ap length t ∙ is.sized;
   keys_are = λ u b among. ap (λ z. slice_get z u) t ∙ (is.keys_are u b tt ∙ ap Some (sym (keys_unconcerned C P e e.moment (last_moment P) u lim l (others u among))));
-  latest_low = omega (arith, ints, late);
+  latest_low = (let up = entry_rises C P e in omega (arith, ints, late, up));
 }
 
 -- the chooser was asked for no later time

@@ -8,7 +8,7 @@ use Rattle.std.specs.Int.{w128}
 use Rattle.vt_fixed.specs.Rounding.{length_of}
 use Rattle.fq_model.specs.declared.config.Config.{Config}
 use Rattle.fq_model.specs.declared.config.Policy.{Policy}
-use Rattle.fq_model.specs.declared.config.Policy.TheVariants.{Wfq, Wf2q, Msf2q, TwoDfq}
+use Rattle.fq_model.specs.declared.config.Policy.TheVariants.{Wfq, Wf2q, Msf2q, TwoDfq, TwoDfqPlus}
 use Rattle.fq_model.specs.declared.event.Entry.{Entry}
 use Rattle.fq_model.specs.declared.event.Act.TheVariants.{Take, Report, Done, Close, Weight, Workers}
 use Rattle.fq_model.specs.declared.event.Act.{Act}
@@ -17,7 +17,7 @@ use Rattle.fq_model.specs.History.{History, Request, request_at, head, waiting, 
 use Rattle.fq_model.specs.Time.{last_moment, virtual_idle_time}
 use Rattle.fq_model.specs.Pace.{virtual_time}
 use Rattle.fq_model.specs.Charge.{virtual_charge, completed, estimate_at}
-use Rattle.fq_model.specs.Keys.{HeadKeys, keys_at, start, start_for, tag, IsChoiceAt}
+use Rattle.fq_model.specs.Keys.{HeadKeys, head_keys as head_keys_of, keys_at, start, start_for, tag, IsChoiceAt}
 use Rattle.fq_model.specs.Rules.{IsLegal, IsChosen, take_refusal}
 use Rattle.fq_laws.specs.Words.{one_more, is_quiet}
 use Rattle.fq_laws.specs.Steps.{Submits, Completes}
@@ -28,7 +28,7 @@ use Rattle.fq_laws.proofs.Keys.Tags.{start_within}
 use Rattle.fq_laws.proofs.Rules.Limits.{last_moment_small}
 use Rattle.fq_laws.proofs.Rules.Refusals.{take_free}
 use Rattle.fq_laws.proofs.Rules.Takes.{keys_head, choice_head}
-use Rattle.fq_laws.proofs.Time.Clock.{virtual_time_step}
+use Rattle.fq_laws.proofs.Keys.Pace.{virtual_time_step}
 use Rattle.fq_laws.proofs.History.Weights.{weight_step, pool_step}
 use Rattle.charge_book.specs.declared.row.RunRow.{RunRow}
 use Rattle.charge_book.specs.Book.{row_of_run, begun, reported, report_change, finished, finish_change}
@@ -37,7 +37,8 @@ use Rattle.tag_rules.proofs.AccountSteps.{accounts_quiet}
 use Rattle.tag_rules.specs.Tables.{ChooserView, Setting, setting_at, with_workers, resized, NoneHas, IsTableChoice, asked_at}
 use Rattle.tag_rules.specs.Accounts.{raised, charged}
 use Rattle.virtual_clock.specs.declared.times.Times.{Times}
-use Rattle.virtual_clock.specs.Histories.{TimesAre, PassOn, IsTimeOf, IsWeightOf}
+use Rattle.virtual_clock.specs.Histories.{TimesAre, TimesAt, ComesTo, TakesChoice, IsTimeOf, IsWeightOf}
+use Rattle.virtual_clock.proofs.TimeSteps.{times_pass}
 use Rattle.waiting_lists.specs.declared.item.Item.{Item}
 use Rattle.waiting_lists.specs.Lists as lists
 use Rattle.sched_state.specs.declared.tracker.Tracker.{Tracker}
@@ -58,10 +59,15 @@ start_by C P m t p e = rw e refl
 pub start_msf2q : (C : Config) (P : History) (m t : ℕ) (p : Policy) → p ≡ C.policy → p ≡ Msf2q → start C P m t ≡ virtual_charge C P t + virtual_idle_time C P m t
 start_msf2q C P m t p e is = start_by C P m t Msf2q (sym is ∙ e)
 
-pub start_tag : (C : Config) (P : History) (m t : ℕ) (p : Policy) → p ≡ C.policy → (p ≡ Wfq) ⊎ ((p ≡ Wf2q) ⊎ (p ≡ TwoDfq)) → start C P m t ≡ tag C P t
+pub start_tag : (C : Config) (P : History) (m t : ℕ) (p : Policy) → p ≡ C.policy → (p ≡ Wfq) ⊎ ((p ≡ Wf2q) ⊎ ((p ≡ TwoDfq) ⊎ (p ≡ TwoDfqPlus))) → start C P m t ≡ tag C P t
 start_tag C P m t p e (inl is) = start_by C P m t Wfq (sym is ∙ e)
 start_tag C P m t p e (inr (inl is)) = start_by C P m t Wf2q (sym is ∙ e)
-start_tag C P m t p e (inr (inr is)) = start_by C P m t TwoDfq (sym is ∙ e)
+start_tag C P m t p e (inr (inr (inl is))) = start_by C P m t TwoDfq (sym is ∙ e)
+start_tag C P m t p e (inr (inr (inr is))) = start_by C P m t TwoDfqPlus (sym is ∙ e)
+
+-- msf2q is not 2dfq+
+pub not_plus : (q p : Policy) → p ≡ q → p ≡ Msf2q → q ≢ TwoDfqPlus
+not_plus q p e is = λ plus. (let both : Msf2q ≡ TwoDfqPlus = sym is ∙ (e ∙ plus) in absurd (cc))
 
 -- a natural number as it is handed on
 pub handed_on : (z : ℤ) (n : ℕ) → z ≡ pos n → n ≤ 10 ^ 25 → to_z w128 (of_z w128 z) ≡ pos n
@@ -116,7 +122,7 @@ module _ {J X : Type 0} (label : J → ℕ) (seen : X → ChooserView) (C : Conf
       let e : Entry = record { who = who; moment = m; act = submit_act label t i } in
       let o = old.mirrors in
       let times : TimesAre C (e ∷ P) n.times = follow e (record { request = i.request; kind = i.kind; declared = i.declared; label = label i.job; moment_is = refl; act_is = refl }) l in
-      let at : v ≡ pos (virtual_time C P m) = shows C (e ∷ P) times ∙ ap pos (virtual_time_step C P e) in
+      let at : v ≡ pos (virtual_time C P m) = shows C (e ∷ P) m times ∙ ap pos (virtual_time_step C P e refl) in
       let first : is_none (slice_get (lists.list_of k.lists t) 0) ≡ is_none (head P t) = first_is label C P t k.lists o.limits o.legal l.3.tenant_known o.lists_are in
       let same : n.accounts ≡ (if is_none (head P t) then raised k.accounts t (pos (virtual_time C P m)) else k.accounts) = accounts ∙ rw (first, at) refl in
       record {
@@ -134,7 +140,7 @@ module _ {J X : Type 0} (label : J → ℕ) (seen : X → ChooserView) (C : Conf
       }
 
   -- a Report of a use of what the row is of
-  pub report_but : (who m w used : ℕ) (row : RunRow) (change : ℤ) → ReportStep C P k.book k.accounts who m w used row → PassOn m k.times n.times → change ≡ report_change k.book w used → n.book ≡ reported k.book w used → n.accounts ≡ charged k.accounts row.tenant (to_z w128 (of_z w128 change)) → n.lists ≡ k.lists → n.costs ≡ k.costs → n.chooser ≡ k.chooser → TracksBut label seen row.tenant C (one_more who m (Report w row.request used) P) n
+  pub report_but : (who m w used : ℕ) (row : RunRow) (change : ℤ) → ReportStep C P k.book k.accounts who m w used row → ComesTo m k.times n.times → change ≡ report_change k.book w used → n.book ≡ reported k.book w used → n.accounts ≡ charged k.accounts row.tenant (to_z w128 (of_z w128 change)) → n.lists ≡ k.lists → n.costs ≡ k.costs → n.chooser ≡ k.chooser → TracksBut label seen row.tenant C (one_more who m (Report w row.request used) P) n
   report_but who m w used row change x passes changed books accounts listed costs chooses =
       let e : Entry = record { who = who; moment = m; act = Report w row.request used } in
       let o = old.mirrors in
@@ -146,7 +152,7 @@ module _ {J X : Type 0} (label : J → ℕ) (seen : X → ChooserView) (C : Conf
           book_is = rw books x.step.follows.book_is;
           accounts_are = step_accounts C P e k.accounts row.tenant _ _ change x.step changed n.accounts refl accounts;
           costs_are = rw costs (costs_stay C P (e ∷ P) k.costs o.costs_are refl);
-          times_are = passes C P e (record { moment_is = refl; act_passes = refl }) o.times_are;
+          times_are = times_pass C P e n.times refl refl (passes C P o.limits o.legal o.times_are);
         };
         tenant_known = x.step.tenant_known;
         chooser_is = rw chooses (keys_of_others C P e (seen k.chooser) (seen k.chooser) (λ u. u ≢ row.tenant) o.limits x.step.legal x.others old.chooser_is (setting_stays C P e (seen k.chooser) (pool_step C P e) old.chooser_is) refl (latest_at C P m (seen k.chooser) x.step.legal.1 old.chooser_is));
@@ -172,8 +178,8 @@ module _ {J X : Type 0} (label : J → ℕ) (seen : X → ChooserView) (C : Conf
       }
 
   -- a Take of the item i of tenant t
-  pub take_but : (who m w t estimate weight : ℕ) (i : Item J) (v change : ℤ) → BeginStep C P k.book k.accounts who m w i.request t i.kind estimate weight → slice_get (lists.list_of k.lists t) 0 ≡ Some i → PassOn m k.times n.times → v ≡ pos (virtual_time C P m) → change ≡ pos (length_of estimate weight) → n.book ≡ begun k.book w (row_of_run i.request t i.kind weight estimate) → n.accounts ≡ charged k.accounts t (to_z w128 (of_z w128 change)) → n.lists ≡ lists.with_list k.lists t (drop 1 (lists.list_of k.lists t)) → n.costs ≡ k.costs → seen n.chooser ≡ asked_at (seen k.chooser) v → TracksBut label seen t C (one_more who m (Take w i.request estimate) P) n
-  take_but who m w t estimate weight i v change x top passes at changed books accounts listed costs chooses =
+  pub take_but : (who m w t estimate weight : ℕ) (i : Item J) (v change : ℤ) → BeginStep C P k.book k.accounts who m w i.request t i.kind estimate weight → slice_get (lists.list_of k.lists t) 0 ≡ Some i → TimesAre C (one_more who m (Take w i.request estimate) P) n.times → v ≡ pos (virtual_time C P m) → change ≡ pos (length_of estimate weight) → n.book ≡ begun k.book w (row_of_run i.request t i.kind weight estimate) → n.accounts ≡ charged k.accounts t (to_z w128 (of_z w128 change)) → n.lists ≡ lists.with_list k.lists t (drop 1 (lists.list_of k.lists t)) → n.costs ≡ k.costs → seen n.chooser ≡ asked_at (seen k.chooser) v → TracksBut label seen t C (one_more who m (Take w i.request estimate) P) n
+  take_but who m w t estimate weight i v change x top times at changed books accounts listed costs chooses =
       let e : Entry = record { who = who; moment = m; act = Take w i.request estimate } in
       let o = old.mirrors in
       record {
@@ -184,7 +190,7 @@ module _ {J X : Type 0} (label : J → ℕ) (seen : X → ChooserView) (C : Conf
           book_is = rw books x.step.follows.book_is;
           accounts_are = step_accounts C P e k.accounts t _ _ change x.step changed n.accounts refl accounts;
           costs_are = rw costs (costs_stay C P (e ∷ P) k.costs o.costs_are refl);
-          times_are = passes C P e (record { moment_is = refl; act_passes = refl }) o.times_are;
+          times_are = times;
         };
         tenant_known = x.step.tenant_known;
         chooser_is = keys_of_others C P e (seen k.chooser) (seen n.chooser) (λ u. u ≢ t) o.limits x.step.legal x.others old.chooser_is (ap (λ (y : ChooserView). y.setting) chooses ∙ setting_stays C P e (seen k.chooser) (pool_step C P e) old.chooser_is) (ap (λ (y : ChooserView). y.table) chooses) (rw chooses (omega (arith, ints, at)));
@@ -215,11 +221,11 @@ reweigh_but label seen C P k n who m t w old l times listed books accounts costs
     }
 
 -- a Close changes no keys
-pub close_tracks : {J X : Type 0} (label : J → ℕ) (seen : X → ChooserView) (C : Config) (P : History) (k n : Tracker J X) (who m : ℕ) → Tracks label seen C P k → IsLegal C (one_more who m Close P) → PassOn m k.times n.times → n.lists ≡ k.lists → n.book ≡ k.book → n.accounts ≡ k.accounts → n.costs ≡ k.costs → n.chooser ≡ k.chooser → Tracks label seen C (one_more who m Close P) n
+pub close_tracks : {J X : Type 0} (label : J → ℕ) (seen : X → ChooserView) (C : Config) (P : History) (k n : Tracker J X) (who m : ℕ) → Tracks label seen C P k → IsLegal C (one_more who m Close P) → ComesTo m k.times n.times → n.lists ≡ k.lists → n.book ≡ k.book → n.accounts ≡ k.accounts → n.costs ≡ k.costs → n.chooser ≡ k.chooser → Tracks label seen C (one_more who m Close P) n
 close_tracks label seen C P k n who m old l passes listed books accounts costs chooses =
     let e : Entry = record { who = who; moment = m; act = Close } in
     record {
-      mirrors = mirrors_quiet label C P k n old.mirrors who m Close refl l (passes C P e (record { moment_is = refl; act_passes = refl }) old.mirrors.times_are) listed books accounts costs;
+      mirrors = mirrors_quiet label C P k n old.mirrors who m Close refl l (times_pass C P e n.times refl refl (passes C P old.mirrors.limits old.mirrors.legal old.mirrors.times_are)) listed books accounts costs;
       chooser_is = rw chooses (keys_of_others C P e (seen k.chooser) (seen k.chooser) (λ t. Unit {0}) old.mirrors.limits l (λ u among. refl) old.chooser_is (setting_stays C P e (seen k.chooser) (pool_step C P e) old.chooser_is) refl (latest_at C P m (seen k.chooser) l.1 old.chooser_is));
     }
 
@@ -235,23 +241,24 @@ workers_tracks label seen C P k n who m count old l times listed books accounts 
 -- ---- what a worker takes
 
 module _ {J X : Type 0} (label : J → ℕ) (seen : X → ChooserView) (C : Config) (P : History) (m w : ℕ) (k : Tracker J X) (old : Tracks label seen C P k) (later : last_moment P ≤ m) (in_range : m ≤ GREATEST_MOMENT) (free : take_refusal C P w ≡ None) (pooled : w < pool_at C P) (some : waiting P ≢ 0) where
-  -- virtual time at the moment, after the clock has come to it, as it is handed on
-  pub time_at : (times : Times) (v : ℤ) → PassOn m k.times times → IsTimeOf times v → pos 0 ≤ℤ v → v ≤ℤ pos 67108864000000000000000 → to_z w128 (of_z w128 v) ≡ pos (virtual_time C P m)
+  -- the times, after they have come to the moment
+  pub there : (times : Times) → ComesTo m k.times times → TimesAt C P m times
+  there times comes = comes C P old.mirrors.limits old.mirrors.legal old.mirrors.times_are
+
+  -- virtual time there, as it is handed on
+  pub time_at : (times : Times) (v : ℤ) → ComesTo m k.times times → IsTimeOf times v → pos 0 ≤ℤ v → v ≤ℤ pos (10 ^ 25) → to_z w128 (of_z w128 v) ≡ pos (virtual_time C P m)
   time_at times v passes shows low high =
-      let e : Entry = record { who = 0; moment = m; act = Close } in
-      let at : v ≡ pos (virtual_time C P m) = shows C (e ∷ P) (passes C P e (record { moment_is = refl; act_passes = refl }) old.mirrors.times_are) ∙ ap pos (virtual_time_step C P e) in
+      let at : v ≡ pos (virtual_time C P m) = shows C P m (there times passes) in
       omega (arith, ints, at, low, high)
 
   -- and the weight of a tenant there
-  pub weighed_there : (times : Times) (t : ℕ) → PassOn m k.times times → t < length C.weights → t < length times.weights
+  pub weighed_there : (times : Times) (t : ℕ) → ComesTo m k.times times → t < length C.weights → t < length times.weights
   weighed_there times t passes known =
-      let e : Entry = record { who = 0; moment = m; act = Close } in
-      omega (arith, known, (passes C P e (record { moment_is = refl; act_passes = refl }) old.mirrors.times_are).weights_are.tenants)
+      omega (arith, known, (there times passes).weights_are.tenants)
 
-  pub weight_there : (times : Times) (t weight : ℕ) → PassOn m k.times times → IsWeightOf times t weight → t < length C.weights → weight ≡ weight_at C P t
+  pub weight_there : (times : Times) (t weight : ℕ) → ComesTo m k.times times → IsWeightOf times t weight → t < length C.weights → weight ≡ weight_at C P t
   weight_there times t weight passes shows known =
-      let e : Entry = record { who = 0; moment = m; act = Close } in
-      shows C (e ∷ P) (passes C P e (record { moment_is = refl; act_passes = refl }) old.mirrors.times_are) known ∙ weight_step C P e t
+      shows C P m (there times passes) known
 
   -- the tenant is chosen
   pub record Turns (t : ℕ) : Type 0 where
@@ -281,6 +288,27 @@ module _ {J X : Type 0} (label : J → ℕ) (seen : X → ChooserView) (C : Conf
 
   pub legal_take : (who t estimate : ℕ) (i : Item J) → IsChosen C P m w i.request estimate (record { tenant = t; kind = i.kind; declared = i.declared; label = label i.job }) → IsLegal C (one_more who m (Take w i.request estimate) P)
   legal_take who t estimate i chosen = (old.mirrors.legal, later, in_range, record { worker_known = pooled; free = take_free C P w old.mirrors.legal free; asked = _; chosen = chosen })
+
+  -- under 2dfq+ its keys are these numbers
+  pub takes_choice : (who t estimate weight : ℕ) (i : Item J) (begins len : ℤ) → Turns t → slice_get (lists.list_of k.lists t) 0 ≡ Some i → estimate ≡ estimate_at C P t i.kind i.declared → weight ≡ weight_at C P t → begins ≡ pos (tag C P t) → len ≡ pos (length_of estimate weight) → C.policy ≡ TwoDfqPlus → TakesChoice w begins len C P (record { who = who; moment = m; act = Take w i.request estimate })
+  takes_choice who t estimate weight i begins len x top costs weighs tagged lasts plus =
+      let what : Request = record { tenant = t; kind = i.kind; declared = i.declared; label = label i.job } in
+      let number : Some i.request ≡ Some x.keys.request = sym (is_head label C P t k old.mirrors x.known i top) ∙ x.is_head in
+      let same : i.request ≡ x.keys.request = cc in
+      let asked : request_at P x.keys.request ≡ Some what = ap (request_at P) (sym same) ∙ was_asked label C P t k old.mirrors x.known i top in
+      let both : Some x.keys ≡ Some (head_keys_of C P m t x.keys.request what) = sym (choice_head C P m w t x.keys x.choice) ∙ head_keys_are C P m t x.keys.request what x.is_head asked in
+      let keys_are : x.keys ≡ head_keys_of C P m t x.keys.request what = cc in
+      let starts : start C P m t ≡ tag C P t = start_by C P m t TwoDfqPlus (sym plus) in
+      record {
+        request = i.request;
+        estimate = estimate;
+        tenant = t;
+        keys = x.keys;
+        act_is = refl;
+        choice = x.choice;
+        start_is = tagged ∙ (ap pos (sym starts) ∙ sym (ap (λ (h : HeadKeys). h.start) keys_are));
+        len_is = lasts ∙ (rw (costs, weighs) refl ∙ sym (ap (λ (h : HeadKeys). h.len) keys_are));
+      }
 
   -- something is chosen
   pub some_chosen : (o : Option ℕ) → IfNone o (NoneHas (seen k.chooser).table) → IsSome o

@@ -108,6 +108,9 @@ impl<J: Job + Drop, X: Chooser> Tracker<J, X> {
         let change = self
             .book
             .begin(worker, item.request, tenant, item.kind, weight, estimate);
+        let start = self.accounts.tag(tenant);
+        self.times
+            .take(journal.config().policy(), worker, start, change);
         self.accounts.charge(tenant, change);
         self.renew(journal.config(), tenant);
         (item, estimate)
@@ -208,7 +211,9 @@ impl<J: Job + Drop, X: Chooser> Tracker<J, X> {
     {
         match config.policy() {
             Policy::Msf2q => self.accounts.credit(tenant) + self.times.idle(tenant),
-            Policy::Wfq | Policy::Wf2q | Policy::TwoDfq => self.accounts.tag(tenant),
+            Policy::Wfq | Policy::Wf2q | Policy::TwoDfq | Policy::TwoDfqPlus => {
+                self.accounts.tag(tenant)
+            }
         }
     }
 }

@@ -21,7 +21,7 @@ use Rattle.fq_laws.proofs.Charge.Tenants.{virtual_charge_submit}
 use Rattle.fq_laws.proofs.Time.Clock.{clock_time_low, virtual_idle_time_low}
 use Rattle.fq_laws.proofs.Keys.Pace.{paced_or_not, time_by_clock, base_by_pace, base_nil, base_step, paced_start, paced_low}
 use Rattle.fq_laws.proofs.Charge.Limits.{virtual_charge_low}
-use Rattle.fq_laws.proofs.Rules.Limits.{submits_low, entries_low}
+use Rattle.fq_laws.proofs.Rules.Limits.{submits_low, entries_low, last_moment_small}
 
 -- a Submit that finds none of its tenant's requests waiting raises the base to virtual time less virtual charge
 pub base_submit : (C : Config) (P : History) (who m q t kind declared label : ℕ) → head P t ≡ None → tag_base C (one_more who m (Submit q t kind declared label) P) t ≡ max (virtual_time C P m - virtual_charge C P t) (tag_base C P t)
@@ -94,6 +94,12 @@ base_low C (e ∷ P) t ne lim l =
     let order : last_moment P ≤ e.moment = l.1 in
     rw (base_step C P e t) (elim (cases_Bool (is_submit_for t e.act && is_none (head P t))) [ inl h ↦ rw h (omega (arith, v, older, order)) | inr h ↦ rw h (omega (arith, older, order)) ])
 
+pub base_within : (C : Config) (P : History) (t : ℕ) → InLimits C → IsLegal C P → tag_base C P t ≤ 10 ^ 25
+base_within C P t lim l = elim (paced_or_not C.policy) [
+  | inl is ↦ omega (arith, base_by_pace C P t is, (paced_low C P lim l).starts_low t, (entries_low C P lim l).1)
+  | inr ne ↦ omega (arith, base_low C P t ne lim l, last_moment_small C P l)
+]
+
 -- so is where a tenant starts, beside the greatest length of each request
 pub start_low : (C : Config) (P : History) (m t : ℕ) → C.policy ≢ TwoDfqPlus → InLimits C → IsLegal C P → last_moment P ≤ m → start C P m t ≤ submits P * greatest_length + m * greatest_rate
 start_low C P m t ne lim l h = rw (start_is C P m t) (go C.policy ne)
@@ -123,3 +129,8 @@ start_within C P m t lim l h b = elim (paced_or_not C.policy) [
   | inl is ↦ omega (arith, start_paced_low C P m t is lim l, (entries_low C P lim l).1)
   | inr ne ↦ (let k = submits_low C P lim l in omega (arith, start_low C P m t ne lim l h, k.1))
 ]
+
+-- so is its tag
+pub tag_within : (C : Config) (P : History) (t : ℕ) → InLimits C → IsLegal C P → tag C P t ≤ 2 * 10 ^ 25
+unfolding tag
+tag_within C P t lim l = omega (arith, base_within C P t lim l, virtual_charge_low C P t lim l, (submits_low C P lim l).1)

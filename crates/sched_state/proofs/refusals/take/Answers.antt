@@ -6,6 +6,7 @@ use Rattle.fq_model.specs.Rules.{take_refusal}
 use Rattle.charge_book.specs.Book.{BookView, row_on}
 use Rattle.charge_book.proofs.Refusals.{busy, take_refused}
 use Rattle.waiting_lists.specs.Lists as lists
+use Rattle.fq_model.specs.Time.{last_moment}
 use Rattle.sched_journal.specs.Journal.{history}
 use Rattle.sched_state.proofs.CallLemmas.{refused, retired, rested}
 use Rattle.sched_state.proofs.refusals.take.Given as given
@@ -20,7 +21,7 @@ refusal g c =
 
 -- the number of workers now
 pool_is : (g : given.Over) (c : After-workers-workers g) → c.workers-workers.result ≡ pool_at c.args.journal.now.config (history c.args.journal.now)
-pool_is g c = c.workers-workers.ensures.value c.args.journal.now.config (history c.args.journal.now) (rw c.times.ensures c.requires.mirrors.times_are)
+pool_is g c = c.workers-workers.ensures.value c.args.journal.now.config (history c.args.journal.now) (last_moment (history c.args.journal.now)) (rw c.times.ensures c.requires.mirrors.times_are)
 
 -- how many wait
 backlog_is : (g : given.Over) (c : After-len g) → c.len.result ≡ waiting (history c.args.journal.now)

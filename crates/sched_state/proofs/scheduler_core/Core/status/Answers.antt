@@ -19,7 +19,7 @@ returns g c =
     let P = history c.self.inside.journal in
     let m = c.self.invariant.mirrors in
     let back : to_z w128 (of_z w128 c.now.result) ≡ c.now.result = omega (arith, ints, c.now.ensures.low, c.now.ensures.high) in
-    let vtime : c.now.result ≡ pos (virtual_time C P (last_moment P)) = c.now.ensures.value C P (rw c.times.ensures m.times_are) in
+    let vtime : c.now.result ≡ pos (virtual_time C P (last_moment P)) = c.now.ensures.value C P (last_moment P) (rw c.times.ensures m.times_are) in
     let entries : c.len.result ≡ length P = c.len.ensures.value ∙ sym (length-reverse c.self.inside.journal.past) in
     let waits = c.len-2.ensures.all in
     subst (λ (s : SchedulerView g.row.J.Denot). ◌≡◌ {A = Status} (record { entries = c.len.result; moment = c.last_moment.result; vtime = to_z w128 (of_z w128 c.now.result); waiting = c.len-2.result; running = c.running.result }) (status_of s.config (history_of s.past))) c.self.view_is

@@ -5,6 +5,7 @@ use Rattle.fq_model.specs.History.{History}
 use Rattle.fq_model.specs.Charge.{completed, estimate_at}
 use Rattle.sched_state.specs.Tracker.{Mirrors}
 use Rattle.sched_state.proofs.CostLemmas.{estimate_is}
+use Rattle.fq_model.specs.Time.{last_moment}
 use Rattle.sched_state.proofs.TrackerLemmas.{start_low, head_none, kind_known, estimate_low, head_keys}
 use Rattle.sched_state.proofs.tracker.Tracker.keys_of.Given as given
 use Rattle.sched_state.proofs.tracker.Tracker.keys_of.Goals as goal
@@ -56,4 +57,4 @@ pub weight-weight-requires : goal.weight-weight-requires
 weight-weight-requires g c = omega (arith, c.requires.tracks.mirrors.times_are.weights_are.tenants, c.requires.tracks.tenant_known)
 
 pub returns : goal.returns
-returns g c = λ P m. head_keys g.J.Job.label_of c.args.config.now P c.args.tenant c.args.self.now m c.requires.tracks.tenant_known c.in_ok-item.item.now (sym c.head.ensures ∙ ap option_copied c.in_ok-item.was) c.start-start.result c.now-estimate.result c.weight-weight.result c.keys.result (c.start-start.ensures P m) (estimated g (goal.at.returns g c).After-now-estimate P m) (c.weight-weight.ensures.value c.args.config.now P m.times_are (c.requires.tracks.tenant_known)) c.keys.ensures
+returns g c = λ P m. head_keys g.J.Job.label_of c.args.config.now P c.args.tenant c.args.self.now m c.requires.tracks.tenant_known c.in_ok-item.item.now (sym c.head.ensures ∙ ap option_copied c.in_ok-item.was) c.start-start.result c.now-estimate.result c.weight-weight.result c.keys.result (c.start-start.ensures P m) (estimated g (goal.at.returns g c).After-now-estimate P m) (c.weight-weight.ensures.value c.args.config.now P (last_moment P) m.times_are (c.requires.tracks.tenant_known)) c.keys.ensures
