@@ -21,10 +21,11 @@ import (
 type Policy uint32
 
 const (
-	WFQ    Policy = C.TWODFQ_WFQ   // the least finish tag
-	WF2Q   Policy = C.TWODFQ_WF2Q  // the least finish tag of those that have started in virtual time
-	MSF2Q  Policy = C.TWODFQ_MSF2Q // as WF2Q, with starts by the virtual time that passed while a tenant was idle
-	TwoDFQ Policy = C.TWODFQ_2DFQ  // as WF2Q, with starts that differ from worker to worker
+	WFQ        Policy = C.TWODFQ_WFQ       // the least finish tag
+	WF2Q       Policy = C.TWODFQ_WF2Q      // the least finish tag of those that have started in virtual time
+	MSF2Q      Policy = C.TWODFQ_MSF2Q     // as WF2Q, with starts by the virtual time that passed while a tenant was idle
+	TwoDFQ     Policy = C.TWODFQ_2DFQ      // as WF2Q, with starts that differ from worker to worker
+	TwoDFQPlus Policy = C.TWODFQ_2DFQ_PLUS // as TwoDFQ, with a virtual time that stays near what was served
 )
 
 // Estimator says what a request is thought to cost before it is done.

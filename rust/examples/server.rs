@@ -2,7 +2,7 @@
 //! work for the tenant with this key and are answered `done`, all else `refused`. A client may send many lines at once; an
 //! answer comes when its work is done, with the line's number before it.
 //!
-//!     cargo run --release --example server -- 2dfq      # or wfq, wf2q, msf2q; or fifo: one queue for all
+//!     cargo run --release --example server -- 2dfq      # or wfq, wf2q, msf2q, 2dfq+; or fifo: one queue for all
 //!
 //! It prints its port, and serves until its standard input ends. `crowd` drives it.
 mod fifo;
@@ -39,6 +39,7 @@ impl Service {
             "wf2q" => Policy::Wf2q,
             "msf2q" => Policy::Msf2q,
             "2dfq" => Policy::TwoDfq,
+            "2dfq+" => Policy::TwoDfqPlus,
             _ => return None,
         };
         let builder = Pool::builder().workers(WORKERS).policy(policy);
@@ -104,7 +105,7 @@ fn serve(service: &Service, stream: TcpStream) -> io::Result<()> {
 
 fn main() -> io::Result<()> {
     let Some(service) = env::args().nth(1).and_then(|mode| Service::open(&mode)) else {
-        eprintln!("server: say fifo, wfq, wf2q, msf2q or 2dfq");
+        eprintln!("server: say fifo, wfq, wf2q, msf2q, 2dfq or 2dfq+");
         process::exit(2);
     };
     let service = Arc::new(service);

@@ -61,6 +61,8 @@ pub enum Policy {
     Msf2q,
     /// As `Wf2q`, with starts that differ from worker to worker.
     TwoDfq,
+    /// As `TwoDfq`, with a virtual time that stays near what was served.
+    TwoDfqPlus,
 }
 
 /// What a request is thought to cost before it is done.

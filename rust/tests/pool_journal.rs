@@ -105,7 +105,7 @@ fn each_job_in_a_journal(policy: Policy, estimator: Estimator) {
 
 #[test]
 fn each_job_stands_once_in_a_journal() {
-    for policy in [Policy::Wfq, Policy::Wf2q, Policy::Msf2q, Policy::TwoDfq] {
+    for policy in [Policy::Wfq, Policy::Wf2q, Policy::Msf2q, Policy::TwoDfq, Policy::TwoDfqPlus] {
         for estimator in [Estimator::Declared, Estimator::Recent, Estimator::Pessimistic] {
             each_job_in_a_journal(policy, estimator);
         }

@@ -9,7 +9,13 @@ use fq_model::limits::{
 use program_model::command::{GenPrint, HistoryPrint, ScriptPrint};
 
 /// The policies, in the order of the words for them.
-pub const POLICIES: [Policy; 4] = [Policy::Wfq, Policy::Wf2q, Policy::Msf2q, Policy::TwoDfq];
+pub const POLICIES: [Policy; 5] = [
+    Policy::Wfq,
+    Policy::Wf2q,
+    Policy::Msf2q,
+    Policy::TwoDfq,
+    Policy::TwoDfqPlus,
+];
 
 /// The same for the estimators.
 pub const ESTIMATORS: [Estimator; 3] = [
@@ -168,7 +174,7 @@ const WORKERS: OptionRow = OptionRow {
 
 const POLICY: OptionRow = OptionRow {
     name: "--policy",
-    values: Values::Among(&["wfq", "wf2q", "msf2q", "2dfq"]),
+    values: Values::Among(&["wfq", "wf2q", "msf2q", "2dfq", "2dfq+"]),
     absent: Absent::Default("2dfq"),
 };
 

@@ -1,7 +1,7 @@
 -- What the options of commands are made of, and the options that several commands have.
 use Rattle.std.specs.Prelude.{ℕ, List, [], ◌∷◌, map, Option, Some, None, unwrap_or, slice_index_or, codes}
 use Rattle.fq_model.specs.declared.config.Policy.{Policy}
-use Rattle.fq_model.specs.declared.config.Policy.TheVariants.{Wfq, Wf2q, Msf2q, TwoDfq}
+use Rattle.fq_model.specs.declared.config.Policy.TheVariants.{Wfq, Wf2q, Msf2q, TwoDfq, TwoDfqPlus}
 use Rattle.fq_model.specs.declared.config.Estimator.{Estimator}
 use Rattle.fq_model.specs.declared.config.Estimator.TheVariants.{Declared, Recent, Pessimistic}
 use Rattle.vt_fixed.specs.declared.limits.TheConstants.{GREATEST_COST, MOST_WORKERS}
@@ -15,7 +15,7 @@ use Rattle.program_model.specs.Options.{Within, Among, Named, Required, Default,
 
 -- the policies, in the order in which an option lists their words
 abbrev pub policies : List Policy
-policies = Wfq ∷ Wf2q ∷ Msf2q ∷ TwoDfq ∷ []
+policies = Wfq ∷ Wf2q ∷ Msf2q ∷ TwoDfq ∷ TwoDfqPlus ∷ []
 
 -- the same for the estimators
 abbrev pub estimators : List Estimator

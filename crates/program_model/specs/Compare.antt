@@ -1,4 +1,4 @@
--- All policies and estimators on one trace.
+-- The published policies and all estimators on one trace.
 use Rattle.std.specs.Prelude.{ℕ, ◌≡◌, ◌-ℤ◌, ℤ, int_le, Bool, List, [], ◌∷◌, position, unwrap_or}
 use Rattle.std.specs.List.{list_all, AllZip}
 use Rattle.fq_model.specs.declared.config.Config.{Config}
@@ -18,7 +18,7 @@ use Rattle.fq_model.specs.Report.{LagReport, lag_report, slot_for, least_lag, gr
 abbrev pub pairs_of : Policy → List (Policy × Estimator) → List (Policy × Estimator)
 pairs_of policy others = (policy, Declared) ∷ (policy, Recent) ∷ (policy, Pessimistic) ∷ others
 
--- the twelve pairs of a policy and an estimator, in order
+-- the twelve pairs of a published policy and an estimator, in order
 abbrev pub all_pairs : List (Policy × Estimator)
 all_pairs = pairs_of Wfq (pairs_of Wf2q (pairs_of Msf2q (pairs_of TwoDfq [])))
 
@@ -53,7 +53,7 @@ pub record IsCompared (T : Trace) (o : CompareOptions) (pair : Policy × Estimat
   pub simulated : IsSimulated T (run_options o pair) history
   pub row_is : row ≡ row_of_history pair (run_config T (run_options o pair)) history o.slot
 
--- the rows are those of all policies and estimators, in order
+-- the rows are those of all pairs, in order
 abbrev pub AreCompared : Trace → CompareOptions → List CompareRow → Type 0
 AreCompared T o rows = AllZip (IsCompared T o) all_pairs rows
 

@@ -1,4 +1,4 @@
--- `compare`: simulates a trace under all policies and estimators.
+-- `compare`: simulates a trace under the published policies and all estimators.
 use Rattle.std.specs.Prelude.{ℕ, ◌≡◌, true, false, List, [], ◌∷◌, codes, take, slice_get, All, IsSomeAnd, ◌⊎◌}
 use Rattle.fq_model.specs.declared.config.Policy.{Policy}
 use Rattle.fq_model.specs.declared.config.Estimator.{Estimator}

@@ -12,7 +12,7 @@ pub record AreInRange (O : RunOptions) : Type 0 where
   pub initial : IsWithin 1 GREATEST_COST O.initial
   pub refresh : O.refresh ≤ GREATEST_COST
 
--- the same where all policies and estimators are compared, with the slot
+-- the same where policies and estimators are compared, with the slot
 pub record CanCompare (o : CompareOptions) : Type 0 where
   pub workers : IsWithin 1 MOST_WORKERS o.workers
   pub initial : IsWithin 1 GREATEST_COST o.initial

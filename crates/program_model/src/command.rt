@@ -95,6 +95,6 @@ pub enum Command {
     Plain(PlainCommand),
     /// Serves a trace by a pool of threads.
     Live { options: LiveOptions },
-    /// Simulates a trace under all policies and estimators, on threads that end by themselves.
+    /// Simulates a trace under the published policies and all estimators, on threads that end by themselves.
     Compare { options: CompareOptions },
 }

@@ -2,7 +2,7 @@
 
 use fq_model::config::{Estimator, Policy};
 
-/// The policies that are compared, in the order of their words.
+/// The policies that are compared, in the order of their words: those that are published.
 pub const POLICIES: [Policy; 4] = [Policy::Wfq, Policy::Wf2q, Policy::Msf2q, Policy::TwoDfq];
 
 /// The estimators that each is compared with, in the order of their words.

@@ -3,10 +3,10 @@ use Rattle.std.proofs.Common.{ℕ, zero, suc, ◌+◌, ◌*◌, ◌/◌, ◌<◌
 use Rattle.std.proofs.lemmas.Int.{ints}
 use Rattle.std.proofs.lemmas.Nat.{mul-le, le-div}
 use Rattle.std.proofs.Math.Nat.{mul-add-div, div-mul-le_self, div-zero}
-use Rattle.vt_fixed.specs.Rounding.{part_of}
+use Rattle.vt_fixed.specs.Rounding.{floor_div, part_of}
 use Rattle.vt_fixed.proofs.Bounds.{div_mono}
 use Rattle.fq_model.specs.declared.config.Policy.{Policy}
-use Rattle.fq_model.specs.declared.config.Policy.TheVariants.{Wfq, Wf2q, Msf2q, TwoDfq}
+use Rattle.fq_model.specs.declared.config.Policy.TheVariants.{Wfq, Wf2q, Msf2q, TwoDfq, TwoDfqPlus}
 use Rattle.fq_model.specs.Keys.{Turn, stagger, eligible_key, finish}
 use Rattle.shared_order.specs.Reach.{reach, key_by_finish, Reaches}
 use Rattle.shared_order.specs.Laws.{KeyIsFinishLess, KeyIsByFinish, EligibleIsInReach, KeyIsBounded, ReachIsBounded, ProductsFit}
@@ -26,6 +26,7 @@ key_by Wfq s len i n lt = omega (arith, ints)
 key_by Wf2q s len i n lt = omega (arith, ints)
 key_by Msf2q s len i n lt = omega (arith, ints)
 key_by TwoDfq s len i n lt = omega (arith, ints, one_rounding len i n (omega arith))
+key_by TwoDfqPlus s len i n lt = omega (arith, ints, one_rounding len i n (omega arith))
 
 key_of : (policy : Policy) (s len : ℤ) (i n : ℕ) → i < n → pos 0 ≤ℤ len → (s -ℤ stagger policy len i n) ≡ (s +ℤ len) -ℤ pos (reach policy (unsigned_abs len) i n)
 key_of policy s (pos len) i n lt low = key_by policy s len i n lt
@@ -52,13 +53,24 @@ below_quotient (pos d) m n h = (
 below_quotient (negsuc d) m (suc n) h = (λ p. omega (arith, ints), λ p. omega (arith, ints))
 below_quotient (negsuc d) m zero h = absurd (omega (arith, h))
 
+-- under 2dfq and 2dfq+: an eligible key is at most v where the products say so
+staggered_reaches : (F v : ℤ) (len i n : ℕ) → i < n → (F -ℤ pos (floor_div ((n + i) * len) n)) ≤ℤ v ↔ (pos n *ℤ (F -ℤ v)) ≤ℤ (pos (n + i) *ℤ pos len)
+staggered_reaches F v len i n lt = let both = below_quotient (F -ℤ v) ((n + i) * len) n (omega arith) in (
+  λ k. both.0 (omega (arith, ints, k)),
+  λ p. let q : (F -ℤ v) ≤ℤ pos ((n + i) * len / n) = both.1 p in omega (arith, ints),
+)
+
 reaches_by : (policy : Policy) (F v : ℤ) (len i n : ℕ) → i < n → ((policy ≡ Wfq) ⊎ ((F -ℤ pos (reach policy len i n)) ≤ℤ v)) ↔ Reaches policy i n (F -ℤ v) (pos len)
 reaches_by Wfq F v len i n lt = (λ p. tt, λ p. inl refl)
 reaches_by Wf2q F v len i n lt = (λ p. elim p [ inl e ↦ absurd (cc) | inr k ↦ omega (arith, ints) ], λ p. inr (omega (arith, ints)))
 reaches_by Msf2q F v len i n lt = (λ p. elim p [ inl e ↦ absurd (cc) | inr k ↦ omega (arith, ints) ], λ p. inr (omega (arith, ints)))
-reaches_by TwoDfq F v len i n lt = let both = below_quotient (F -ℤ v) ((n + i) * len) n (omega arith) in (
-  λ p. elim p [ inl e ↦ absurd (cc) | inr k ↦ both.0 (omega (arith, ints)) ],
-  λ p. inr (let q : (F -ℤ v) ≤ℤ pos ((n + i) * len / n) = both.1 p in omega (arith, ints)),
+reaches_by TwoDfq F v len i n lt = let both = staggered_reaches F v len i n lt in (
+  λ p. elim p [ inl e ↦ absurd (cc) | inr k ↦ both.0 k ],
+  λ p. inr (both.1 p),
+)
+reaches_by TwoDfqPlus F v len i n lt = let both = staggered_reaches F v len i n lt in (
+  λ p. elim p [ inl e ↦ absurd (cc) | inr k ↦ both.0 k ],
+  λ p. inr (both.1 p),
 )
 
 reaches_of : (policy : Policy) (F v len : ℤ) (i n : ℕ) → i < n → pos 0 ≤ℤ len → ((policy ≡ Wfq) ⊎ ((F -ℤ pos (reach policy (unsigned_abs len) i n)) ≤ℤ v)) ↔ Reaches policy i n (F -ℤ v) len
@@ -75,12 +87,17 @@ eligible_in_reach at k lt low =
 
 -- ---- bounds
 
+-- under 2dfq and 2dfq+
+staggered_mono : (len longer i n : ℕ) → len ≤ longer → floor_div ((n + i) * len) n ≤ floor_div ((n + i) * longer) n
+staggered_mono len longer i zero h = rw (div-zero ((zero + i) * len)) (omega arith)
+staggered_mono len longer i (suc n) h = div_mono _ _ (suc n) (omega arith) (mul-le (suc n + i) len (suc n + i) longer (omega arith) h)
+
 reach_mono : (policy : Policy) (len longer i n : ℕ) → len ≤ longer → reach policy len i n ≤ reach policy longer i n
 reach_mono Wfq len longer i n h = h
 reach_mono Wf2q len longer i n h = h
 reach_mono Msf2q len longer i n h = h
-reach_mono TwoDfq len longer i zero h = rw (div-zero ((zero + i) * len)) (omega arith)
-reach_mono TwoDfq len longer i (suc n) h = div_mono _ _ (suc n) (omega arith) (mul-le (suc n + i) len (suc n + i) longer (omega arith) h)
+reach_mono TwoDfq len longer i n h = staggered_mono len longer i n h
+reach_mono TwoDfqPlus len longer i n h = staggered_mono len longer i n h
 
 abs_le : (x y : ℤ) → pos 0 ≤ℤ x → x ≤ℤ y → unsigned_abs x ≤ unsigned_abs y
 abs_le (pos a) (pos b) low le = omega (arith, ints)

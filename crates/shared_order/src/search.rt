@@ -151,7 +151,7 @@ fn key(turn: Turn, finish: i128, len: i128) -> i128
 {
     match turn.policy {
         Policy::Wfq | Policy::Wf2q | Policy::Msf2q => finish - len,
-        Policy::TwoDfq => finish - len - part(len, turn.worker, turn.workers),
+        Policy::TwoDfq | Policy::TwoDfqPlus => finish - len - part(len, turn.worker, turn.workers),
     }
 }
 
@@ -174,7 +174,7 @@ fn reaches(turn: Turn, ahead: u128, len: u128) -> bool
     match turn.policy {
         Policy::Wfq => true,
         Policy::Wf2q | Policy::Msf2q => ahead <= len,
-        Policy::TwoDfq => {
+        Policy::TwoDfq | Policy::TwoDfqPlus => {
             let workers = turn.workers as u128;
             workers * ahead <= (workers + turn.worker as u128) * len
         }

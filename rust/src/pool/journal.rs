@@ -257,6 +257,7 @@ fn policy_name(policy: Policy) -> &'static str {
         Policy::Wf2q => "wf2q",
         Policy::Msf2q => "msf2q",
         Policy::TwoDfq => "2dfq",
+        Policy::TwoDfqPlus => "2dfq+",
     }
 }
 

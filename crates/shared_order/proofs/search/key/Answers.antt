@@ -1,9 +1,10 @@
-use Rattle.std.proofs.Common.{ℕ, ◌<◌, ◌≡◌, arith, sym, ◌∙◌, ap, subst, ℤ, pos, negsuc, unsigned_abs, ◌+ℤ◌, ◌-ℤ◌, ◌≤ℤ◌, to_z, of_z, FitsSigned}
+use Rattle.std.proofs.Common.{ℕ, ◌<◌, ◌≡◌, ◌⊎◌, inl, inr, arith, refl, sym, ◌∙◌, ap, subst, ℤ, pos, negsuc, unsigned_abs, ◌+ℤ◌, ◌-ℤ◌, ◌≤ℤ◌, to_z, of_z, FitsSigned}
 use mir.Syntax.{w128}
 use Rattle.std.proofs.lemmas.Int.{ints, to_z-of_z}
 use Rattle.vt_fixed.specs.Rounding.{part_of}
 use Rattle.vt_fixed.proofs.Bounds.{part_le, abs_bound}
-use Rattle.fq_model.specs.declared.config.Policy.TheVariants.{TwoDfq}
+use Rattle.fq_model.specs.declared.config.Policy.{Policy}
+use Rattle.fq_model.specs.declared.config.Policy.TheVariants.{TwoDfq, TwoDfqPlus}
 use Rattle.fq_model.specs.Keys.{Turn, stagger}
 use Rattle.shared_order.specs.Reach.{key_by_finish}
 use Rattle.shared_order.proofs.Reach.{key_by_parts}
@@ -46,11 +47,14 @@ overflow_sub-result-in-TwoDfq-2 c =
     let p = parts c.args.finish c.args.len c.part.result c.turn.inside.worker c.turn.inside.workers c.turn.invariant c.requires.finish_low c.requires.finish_high c.requires.len_low c.requires.len_high c.part.ensures in
     subst (FitsSigned w128) (sym (without_casts c.args.finish c.args.len c.part.result p)) (fits c.args.finish c.args.len c.part.result p)
 
--- under 2dfq
-staggered : (at : Turn) (finish len part : ℤ) → at.policy ≡ TwoDfq → at.worker < at.workers → pos 0 ≤ℤ len → part ≡ pos (part_of (unsigned_abs len) at.worker at.workers) → ((finish -ℤ len) -ℤ part) ≡ key_by_finish at finish len
+-- under 2dfq and 2dfq+
+stagger_is : (p : Policy) (len : ℤ) (i n : ℕ) → (p ≡ TwoDfq) ⊎ (p ≡ TwoDfqPlus) → pos (part_of (unsigned_abs len) i n) ≡ stagger p len i n
+stagger_is p len i n (inl e) = rw e refl
+stagger_is p len i n (inr e) = rw e refl
+
+staggered : (at : Turn) (finish len part : ℤ) → (at.policy ≡ TwoDfq) ⊎ (at.policy ≡ TwoDfqPlus) → at.worker < at.workers → pos 0 ≤ℤ len → part ≡ pos (part_of (unsigned_abs len) at.worker at.workers) → ((finish -ℤ len) -ℤ part) ≡ key_by_finish at finish len
 staggered at finish len part policy lt low is =
-    let by_policy : part ≡ stagger at.policy len at.worker at.workers = is ∙ ap (λ p. stagger p len at.worker at.workers) (sym policy) in
-    ap (λ z. (finish -ℤ len) -ℤ z) by_policy ∙ key_by_parts at finish len lt low
+    ap (λ z. (finish -ℤ len) -ℤ z) (is ∙ stagger_is at.policy len at.worker at.workers policy) ∙ key_by_parts at finish len lt low
 
 pub returns-in-TwoDfq : goal.returns-in-TwoDfq
 returns-in-TwoDfq c =
