@@ -5,7 +5,7 @@ use Rattle.std.specs.Int.{int_max}
 use Rattle.std.proofs.lemmas.Int.{ints, clamps, by_lt_z}
 use Rattle.vt_fixed.proofs.Bounds.{part_le}
 use Rattle.fq_model.specs.declared.config.Policy.{Policy}
-use Rattle.fq_model.specs.declared.config.Policy.TheVariants.{Wfq, Wf2q, Msf2q, TwoDfq}
+use Rattle.fq_model.specs.declared.config.Policy.TheVariants.{Wfq, Wf2q, Msf2q, TwoDfq, TwoDfqPlus}
 use Rattle.fq_model.specs.Keys.{HeadKeys, Turn, stagger, eligible_key, IsEligible, FinishBefore, EligibleBefore, IsChoice}
 use Rattle.fq_model.specs.Gap.{lengths_in_bound}
 use Rattle.fq_laws.proofs.Keys.Choices.{eligible_or_not}
@@ -20,12 +20,14 @@ stagger_high Wfq len i n B lt low = omega (arith, ints)
 stagger_high Wf2q len i n B lt low = omega (arith, ints)
 stagger_high Msf2q len i n B lt low = omega (arith, ints)
 stagger_high TwoDfq len i n B lt low = omega (arith, ints, part_le len i n lt)
+stagger_high TwoDfqPlus len i n B lt low = omega (arith, ints, part_le len i n lt)
 
 stagger_low : (policy : Policy) (len i n : ℕ) → pos 0 ≤ℤ stagger policy (pos len) i n
 stagger_low Wfq len i n = omega (arith, ints)
 stagger_low Wf2q len i n = omega (arith, ints)
 stagger_low Msf2q len i n = omega (arith, ints)
 stagger_low TwoDfq len i n = omega (arith, ints)
+stagger_low TwoDfqPlus len i n = omega (arith, ints)
 
 -- a stagger is at most its length
 pub stagger_at_most : (policy : Policy) (len i n : ℕ) → i < n → stagger policy (pos len) i n ≤ℤ pos len
@@ -33,12 +35,14 @@ stagger_at_most Wfq len i n lt = omega (arith, ints)
 stagger_at_most Wf2q len i n lt = omega (arith, ints)
 stagger_at_most Msf2q len i n lt = omega (arith, ints)
 stagger_at_most TwoDfq len i n lt = omega (arith, ints, part_le len i n lt)
+stagger_at_most TwoDfqPlus len i n lt = omega (arith, ints, part_le len i n lt)
 
 pub length_counts : (policy : Policy) (B : ℕ) → B ≤ lengths_in_bound policy * B
 length_counts Wfq B = omega arith
 length_counts Wf2q B = omega arith
 length_counts Msf2q B = omega arith
 length_counts TwoDfq B = omega arith
+length_counts TwoDfqPlus B = omega arith
 
 -- the chosen tenant, whose head starts at a and is x long, starts at a + x after the Take; another one starts at b
 by_finish : (a b x y r s B : ℕ) → y ≤ B → FinishBefore (keys a x r) (keys b y s) → a + x ≤ b + B

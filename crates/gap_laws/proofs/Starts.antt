@@ -4,7 +4,7 @@ use Rattle.std.specs.Prelude.{is_none}
 use Rattle.std.proofs.lemmas.Bool.{and_right}
 use Rattle.fq_model.specs.declared.config.Config.{Config}
 use Rattle.fq_model.specs.declared.config.Policy.{Policy}
-use Rattle.fq_model.specs.declared.config.Policy.TheVariants.{Wfq, Wf2q, Msf2q, TwoDfq}
+use Rattle.fq_model.specs.declared.config.Policy.TheVariants.{Wfq, Wf2q, Msf2q, TwoDfq, TwoDfqPlus}
 use Rattle.fq_model.specs.declared.event.Entry.{Entry}
 use Rattle.fq_model.specs.Limits.{InLimits}
 use Rattle.fq_model.specs.History.{History, head}
@@ -13,7 +13,8 @@ use Rattle.fq_model.specs.Charge.{virtual_charge}
 use Rattle.fq_model.specs.Keys.{start, start_for}
 use Rattle.fq_model.specs.Pace.{tag_base, is_submit_for}
 use Rattle.fq_model.specs.Rules.{IsLegal}
-use Rattle.fq_laws.proofs.Keys.Tags.{base_step, base_rises, start_is}
+use Rattle.fq_laws.proofs.Keys.Pace.{base_step}
+use Rattle.fq_laws.proofs.Keys.Tags.{base_rises, start_is}
 use Rattle.fq_laws.proofs.Keys.Others.{head_active}
 use Rattle.fq_laws.proofs.Time.Clock.{idle_step, idle_split, idle_next_active}
 use Rattle.gap_laws.specs.Words.{taken_length}
@@ -40,6 +41,7 @@ at_least Wfq base base2 idle idle2 h k = h
 at_least Wf2q base base2 idle idle2 h k = h
 at_least Msf2q base base2 idle idle2 h k = k
 at_least TwoDfq base base2 idle idle2 h k = h
+at_least TwoDfqPlus base base2 idle idle2 h k = h
 
 pub start_rises : (C : Config) (P : History) (e : Entry) (t : ℕ) → start C P (last_moment P) t + virtual_charge C (e ∷ P) t ≤ start C (e ∷ P) e.moment t + virtual_charge C P t
 start_rises C P e t =

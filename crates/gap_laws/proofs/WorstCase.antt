@@ -10,7 +10,7 @@ use Rattle.vt_fixed.specs.Rounding.{length_of, part_of}
 use Rattle.vt_fixed.proofs.Bounds.{length_covers}
 use Rattle.fq_model.specs.declared.config.Config.{Config}
 use Rattle.fq_model.specs.declared.config.Policy.{Policy}
-use Rattle.fq_model.specs.declared.config.Policy.TheVariants.{Wfq, Wf2q, Msf2q, TwoDfq}
+use Rattle.fq_model.specs.declared.config.Policy.TheVariants.{Wfq, Wf2q, Msf2q, TwoDfq, TwoDfqPlus}
 use Rattle.fq_model.specs.declared.event.Act.{Act}
 use Rattle.fq_model.specs.declared.event.Act.TheVariants.{Take}
 use Rattle.fq_model.specs.Limits.{InLimits}
@@ -113,6 +113,7 @@ stagger_below Wfq len i n some lt = omega (arith, ints, some)
 stagger_below Wf2q len i n some lt = omega (arith, ints, some)
 stagger_below Msf2q len i n some lt = omega (arith, ints, some)
 stagger_below TwoDfq len i n some lt = omega (arith, ints, part_below len i n some lt)
+stagger_below TwoDfqPlus len i n some lt = omega (arith, ints, part_below len i n some lt)
 
 -- an estimate is at least 1, so that a head has some length
 length_some : (c w : ℕ) → 1 ≤ c → 1 ≤ w → 1 ≤ length_of c w

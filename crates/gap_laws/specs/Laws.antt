@@ -120,8 +120,8 @@ MeasuredIsGreatest =
     (C : Config) (H : History) (f g : ℕ) (gap : TagGap) → measured_gap C H f g ≡ Some gap
     → IsGreatestAt (IsSharedIn H f g) (λ P. start_difference C P f g) gap.largest
 
--- what the Takes of f come to while both wait: the greatest length of a head, or twice that under 2dfq, and the
--- greatest doubt just after
+-- what the Takes of f come to while both wait: the greatest length of a head, or twice that under 2dfq and 2dfq+, and
+-- the greatest doubt just after
 abbrev pub bound_of_takes : Config → History → ℕ → ℕ → ℤ
 bound_of_takes C H f g =
     pos (lengths_in_bound C.policy * greatest (take_lengths C H f g) + greatest (take_doubts C H H f g))

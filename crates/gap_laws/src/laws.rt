@@ -22,7 +22,7 @@ pub fn run_start_is()
 /// The bound of the gap: in the manner of the bounds of Golestani (1994) and of Goyal, Vin and Cheng (1996), but of
 /// starts and not of service. While two tenants wait, where the one starts is above where the other starts by no more
 /// than it was when both began to wait, or by no more than the longest length that a request of either has: under the
-/// staggered policy twice that. Whether the two differ, and whether they are there, does not matter.
+/// staggered policies twice that. Whether the two differ, and whether they are there, does not matter.
 pub fn gap_stays_below()
     ensures { GapStaysBelow }
 {}

@@ -1,3 +1,4 @@
 pub mod Histories
 pub mod Choice
 pub mod Legal
+pub mod Paces

@@ -1,9 +1,9 @@
 //! The definitions computed on worked histories, one function an example: its contract says what they give there, and
 //! its body is empty. Each number can be found by hand, as the comments do. A unit of virtual time is 2^20 steps;
 //! tenants, requests and workers count from 0.
-ghost use Rattle.std.specs.Prelude.{◌/◌, ◌≡◌, ◌∷◌, pos, Some, None};
+ghost use Rattle.std.specs.Prelude.{◌/◌, ◌≡◌, ◌≢◌, ◌∷◌, pos, Some, None};
 ghost use Rattle.fq_model.specs.declared.config.Policy.{Policy};
-ghost use Rattle.fq_model.specs.declared.config.Policy.TheVariants.{Wfq, Wf2q, Msf2q, TwoDfq};
+ghost use Rattle.fq_model.specs.declared.config.Policy.TheVariants.{Wfq, Wf2q, Msf2q, TwoDfq, TwoDfqPlus};
 ghost use Rattle.fq_model.specs.Limits.{InLimits};
 ghost use Rattle.fq_model.specs.Pace.{virtual_time};
 ghost use Rattle.fq_model.specs.Charge.{charge, estimate_at};
@@ -73,24 +73,28 @@ pub fn refund()
     ensures choice { IsChoiceAt refund_config refund_history 993 0 0 (keys 3 980 1) }
 {}
 
-/// The pause example. One worker makes half a unit a microsecond while both tenants are active, and one while tenant
-/// 1 alone is: 1010 / 2 + 1000 units. Tenant 0 was charged 10. When it comes back its tag is raised to the time, but
-/// under msf2q it starts at its charge and the 1000 units that it was away. Tenant 1 finishes at 1000 + 300; tenant 0
-/// finishes later, at 1505 + 200, and under msf2q sooner, at 1010 + 200.
+/// The pause example. One worker makes half a unit a microsecond while both tenants are active, and one while tenant 1
+/// alone is: 1010 / 2 + 1000 units. Tenant 0 was charged 10. When it comes back its tag is raised to the time, but
+/// under msf2q it starts at its charge and the 1000 units that it was away. Under 2dfq+ the time is 1000, which is the
+/// greatest finish at which a request was taken. Tenant 1 finishes at 1000 + 300; tenant 0 finishes later, at 1505 +
+/// 200, and under msf2q and 2dfq+ sooner, at 1010 + 200 and at 1000 + 200.
 pub fn pause()
     ensures in_limits { (p : Policy) → InLimits (pause_config p) }
     ensures legal { (p : Policy) → IsLegal (pause_config p) pause_history }
-    ensures time { (p : Policy) → virtual_time (pause_config p) pause_history 2010 ≡ units 1505 }
+    ensures time { (p : Policy) → p ≢ TwoDfqPlus → virtual_time (pause_config p) pause_history 2010 ≡ units 1505 }
+    ensures time_2dfq_plus { virtual_time (pause_config TwoDfqPlus) pause_history 2010 ≡ units 1000 }
     ensures start_wfq { start (pause_config Wfq) pause_history 2010 0 ≡ units 1505 }
     ensures start_wf2q { start (pause_config Wf2q) pause_history 2010 0 ≡ units 1505 }
     ensures start_msf2q { start (pause_config Msf2q) pause_history 2010 0 ≡ units 1010 }
     ensures start_2dfq { start (pause_config TwoDfq) pause_history 2010 0 ≡ units 1505 }
+    ensures start_2dfq_plus { start (pause_config TwoDfqPlus) pause_history 2010 0 ≡ units 1000 }
     ensures other_keys { (p : Policy) → HasKeys (pause_config p) pause_history 2010 1 (keys 1000 300 2) }
     ensures other_finish { finish (keys 1000 300 2) ≡ pos (units 1300) }
     ensures choice_wfq { IsChoiceAt (pause_config Wfq) pause_history 2010 0 1 (keys 1000 300 2) }
     ensures choice_wf2q { IsChoiceAt (pause_config Wf2q) pause_history 2010 0 1 (keys 1000 300 2) }
     ensures choice_msf2q { IsChoiceAt (pause_config Msf2q) pause_history 2010 0 0 (keys 1010 200 3) }
     ensures choice_2dfq { IsChoiceAt (pause_config TwoDfq) pause_history 2010 0 1 (keys 1000 300 2) }
+    ensures choice_2dfq_plus { IsChoiceAt (pause_config TwoDfqPlus) pause_history 2010 0 0 (keys 1000 200 3) }
 {}
 
 /// The weights example. One worker over the weights 4 and 1 makes a unit in 5 microseconds, and 4 in 20. The request

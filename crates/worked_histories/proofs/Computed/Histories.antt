@@ -2,7 +2,8 @@
 -- are
 -- below n the numbers below n come to the same: here each definition stands once more over these, with `within` in its
 -- name, and with a lemma that it is the same.
-use Rattle.std.proofs.Common.{ℕ, nat_lt, Bool, true, ◌&&◌, [], ◌∷◌, ◌≤◌, ◌≡◌, ◌-◌, ◌<◌, arith, Option, None, refl, false, nat_eq, inl, inr, zero, suc, ◌∙◌, Some, ap, if◌then◌else◌, length, ◌+◌, ap₂, max, is_none, pos}
+use Rattle.std.proofs.Common.{ℕ, nat_lt, Bool, true, ◌&&◌, [], ◌∷◌, ◌≤◌, ◌≡◌, ◌-◌, ◌<◌, arith, Option, None, refl, false, nat_eq, inl, inr, zero, suc, ◌∙◌, Some, ap, if◌then◌else◌, length, ◌+◌, ap₂, max, min, is_none, pos, ◌==◌}
+use Rattle.std.proofs.Math.Path.{fun_ext}
 use Rattle.std.proofs.lemmas.Bool.{and_parts, ltb-true, ne_eqb, or_from, cases_Bool, cases_eq, and_left}
 use Rattle.vt_fixed.specs.Rounding.{advance_of, length_of, part_of, decay_of}
 use Rattle.fq_model.specs.declared.event.Act.{Act}
@@ -10,9 +11,11 @@ use Rattle.fq_model.specs.declared.event.Act.TheVariants.{Submit, Take, Report, 
 use Rattle.fq_model.specs.History.{History, Request, request_in, request_at, is_submit_of, is_submitted, is_take_of, is_taken, is_of_tenant, is_waiting, waiting, request_bound, is_running, running, waits_for, head, weight_at, pool_at, is_done, is_closed}
 use Rattle.fq_model.specs.declared.event.Entry.{Entry}
 use Rattle.fq_model.specs.Sums.{sum_below, count_below, least_below, first_of}
-use Rattle.fq_model.specs.Time.{is_open, open_requests, is_active, weight_if_active, active_weight, last_moment, virtual_advance, virtual_idle_time}
-use Rattle.fq_model.specs.Pace.{virtual_time, is_submit_for, tag_base}
+use Rattle.fq_model.specs.Time.{is_open, open_requests, is_active, weight_if_active, active_weight, last_moment, virtual_advance, clock_time, virtual_idle_time}
+use Rattle.fq_model.specs.Pace.{is_submit_for, clock_base, Pace, paced_to, pace_of_take, tenant_of, pace_after, pace, time_for, virtual_time, base_for, tag_base}
 use Rattle.fq_model.specs.declared.config.Config.{Config}
+use Rattle.fq_model.specs.declared.config.Policy.{Policy}
+use Rattle.fq_model.specs.declared.config.Policy.TheVariants.{TwoDfqPlus}
 use Rattle.fq_model.specs.Charge.{charged, is_taken_of, virtual_charge, request_estimate, estimate_at}
 use Rattle.fq_model.specs.Keys.{tag, start_for, start, HeadKeys, keys_of_request, keys_of_head, keys_at, Turn, turn_at}
 use Rattle.fq_laws.proofs.Sums.{least_by, sum_same}
@@ -143,7 +146,7 @@ pub head_none : (n k : ℕ) (P : History) (t : ℕ) → IsShort n k P → k ≤ 
 unfolding head waits_for
 head_none n k P t s b = least_by (waits_for P t) request_bound None (λ r c. and_left _ _ (tenant_none n k t r P b s.acts))
 
--- ---- virtual time
+-- ---- advances and virtual time by the clock
 
 unfoldable pub is_active_within : ℕ → History → ℕ → Bool
 is_active_within n P t = nat_lt 0 (count_below (is_open P t) n)
@@ -166,14 +169,14 @@ pub advance_is : (n k : ℕ) (C : Config) (P : History) (m : ℕ) → IsShort n 
 unfolding advance_within virtual_advance
 advance_is n k C P m s = ap (advance_of (m - last_moment P) (pool_at C P)) (active_weight_is n k C P s)
 
-unfoldable pub virtual_time_within : ℕ → Config → History → ℕ → ℕ
-virtual_time_within n C [] m = 0
-virtual_time_within n C (e ∷ P) m = virtual_time_within n C P e.moment + advance_within n C (e ∷ P) m
+unfoldable pub clock_time_within : ℕ → Config → History → ℕ → ℕ
+clock_time_within n C [] m = 0
+clock_time_within n C (e ∷ P) m = clock_time_within n C P e.moment + advance_within n C (e ∷ P) m
 
-pub virtual_time_is : (n k : ℕ) (C : Config) (P : History) (m : ℕ) → IsShort n k P → virtual_time C P m ≡ virtual_time_within n C P m
-unfolding virtual_time_within virtual_time
-virtual_time_is n k C [] m s = refl
-virtual_time_is n k C (e ∷ P) m s = ap₂ ◌+◌ (virtual_time_is n k C P e.moment (shorter n k e P s)) (advance_is n k C (e ∷ P) m s)
+clock_time_is : (n k : ℕ) (C : Config) (P : History) (m : ℕ) → IsShort n k P → clock_time C P m ≡ clock_time_within n C P m
+unfolding clock_time_within clock_time
+clock_time_is n k C [] m s = refl
+clock_time_is n k C (e ∷ P) m s = ap₂ ◌+◌ (clock_time_is n k C P e.moment (shorter n k e P s)) (advance_is n k C (e ∷ P) m s)
 
 unfoldable pub idle_time_within : ℕ → Config → History → ℕ → ℕ → ℕ
 idle_time_within n C [] m t = 0
@@ -184,7 +187,7 @@ unfolding idle_time_within virtual_idle_time
 idle_time_is n k C [] m t s = refl
 idle_time_is n k C (e ∷ P) m t s = ap₂ ◌+◌ (idle_time_is n k C P e.moment t (shorter n k e P s)) (ap₂ (λ a d. if a then 0 else d) (is_active_is n k (e ∷ P) t s) (advance_is n k C (e ∷ P) m s))
 
--- ---- charges, tags and keys
+-- ---- charges, virtual time and the bases of tags
 
 unfoldable pub virtual_charge_within : ℕ → Config → History → ℕ → ℕ
 virtual_charge_within n C P t = sum_below (charged C P t) n
@@ -193,20 +196,89 @@ pub virtual_charge_is : (n k : ℕ) (C : Config) (P : History) (t : ℕ) → IsS
 unfolding virtual_charge_within virtual_charge is_taken_of request_bound
 virtual_charge_is n k C P t s = sum_within (charged C P t) n 4294967296 s.bound (λ r b. rw (asked_none n k r P b s.acts) refl)
 
+unfoldable pub clock_base_within : ℕ → Config → History → ℕ → ℕ
+clock_base_within n C [] t = 0
+clock_base_within n C (e ∷ P) t = if is_submit_for t e.act && is_none (head_within n P t) then max (clock_time_within n C P e.moment - virtual_charge_within n C P t) (clock_base_within n C P t) else clock_base_within n C P t
+
+clock_base_is : (n k : ℕ) (C : Config) (P : History) (t : ℕ) → IsShort n k P → clock_base C P t ≡ clock_base_within n C P t
+unfolding clock_base_within clock_base
+clock_base_is n k C [] t s = refl
+clock_base_is n k C (e ∷ P) t s =
+    let r = shorter n k e P s in
+    let h = head_is n k P t r in
+    let v = clock_time_is n k C P e.moment r in
+    let c = virtual_charge_is n k C P t r in
+    let b = clock_base_is n k C P t r in
+    rw (h, v, c, b) refl
+
+-- the pace after one act more, where the advance to it, the virtual charges and the heads are these
+abbrev pub pace_by : Config → History → ℕ → (ℕ → ℕ) → (ℕ → Option ℕ) → Act → Pace → Pace
+pace_by C P advance charge_of head_of (Submit request tenant kind declared label) s = record {
+  now = min (s.now + advance) s.reached;
+  reached = s.reached;
+  base = λ u. if (tenant == u) && is_none (head_of u) then max (min (s.now + advance) s.reached - charge_of u) (s.base u) else s.base u;
+}
+pace_by C P advance charge_of head_of (Take worker request estimate) s = pace_of_take
+    (min (s.now + advance) s.reached)
+    s
+    (charge_of (tenant_of (request_at P request)) + s.base (tenant_of (request_at P request)))
+    (length_of estimate (weight_at C P (tenant_of (request_at P request))))
+    worker
+    (pool_at C P)
+pace_by C P advance charge_of head_of _ s = record { now = min (s.now + advance) s.reached; reached = s.reached; base = s.base }
+
+by_parts : (C : Config) (P : History) (m : ℕ) (a : Act) (s : Pace) → pace_after C P m a s ≡ pace_by C P (virtual_advance C P m) (virtual_charge C P) (head P) a s
+by_parts C P m (Submit request tenant kind declared label) s = refl
+by_parts C P m (Take worker request estimate) s = refl
+by_parts C P m _ s = refl
+
+same_parts : (C : Config) (P : History) (a : Act) (v w : ℕ) (f g : ℕ → ℕ) (h l : ℕ → Option ℕ) (s t : Pace) → v ≡ w → f ≡ g → h ≡ l → s ≡ t → pace_by C P v f h a s ≡ pace_by C P w g l a t
+same_parts C P a v w f g h l s t e1 e2 e3 e4 = rw (e1, e2, e3, e4) refl
+
+unfoldable pub pace_within : ℕ → Config → History → Pace
+pace_within n C [] = record { now = 0; reached = 0; base = λ t. 0 }
+pace_within n C (e ∷ P) = pace_by C P (advance_within n C P e.moment) (virtual_charge_within n C P) (head_within n P) e.act (pace_within n C P)
+
+pub pace_is : (n k : ℕ) (C : Config) (P : History) → IsShort n k P → pace C P ≡ pace_within n C P
+unfolding pace_within pace
+pace_is n k C [] s = refl
+pace_is n k C (e ∷ P) s =
+    let r = shorter n k e P s in
+    by_parts C P e.moment e.act (pace C P)
+    ∙ same_parts C P e.act _ _ _ _ _ _ _ _ (advance_is n k C P e.moment r) (fun_ext (λ u. virtual_charge_is n k C P u r)) (fun_ext (λ u. head_is n k P u r)) (pace_is n k C P r)
+
+-- one of the two alone is computed
+abbrev time_by : Policy → ℕ → Config → History → ℕ → ℕ
+time_by TwoDfqPlus n C P m = min ((pace_within n C P).now + advance_within n C P m) (pace_within n C P).reached
+time_by _ n C P m = clock_time_within n C P m
+
+time_by_is : (p : Policy) (n k : ℕ) (C : Config) (P : History) (m : ℕ) → IsShort n k P → time_for p (clock_time C P m) (paced_to C P (pace C P) m) ≡ time_by p n C P m
+time_by_is TwoDfqPlus n k C P m s = rw (pace_is n k C P s, advance_is n k C P m s) refl
+time_by_is _ n k C P m s = clock_time_is n k C P m s
+
+unfoldable pub virtual_time_within : ℕ → Config → History → ℕ → ℕ
+virtual_time_within n C P m = time_by C.policy n C P m
+
+pub virtual_time_is : (n k : ℕ) (C : Config) (P : History) (m : ℕ) → IsShort n k P → virtual_time C P m ≡ virtual_time_within n C P m
+unfolding virtual_time_within virtual_time
+virtual_time_is n k C P m s = time_by_is C.policy n k C P m s
+
+abbrev base_by : Policy → ℕ → Config → History → ℕ → ℕ
+base_by TwoDfqPlus n C P t = (pace_within n C P).base t
+base_by _ n C P t = clock_base_within n C P t
+
+base_by_is : (p : Policy) (n k : ℕ) (C : Config) (P : History) (t : ℕ) → IsShort n k P → base_for p (clock_base C P t) ((pace C P).base t) ≡ base_by p n C P t
+base_by_is TwoDfqPlus n k C P t s = rw (pace_is n k C P s) refl
+base_by_is _ n k C P t s = clock_base_is n k C P t s
+
 unfoldable pub tag_base_within : ℕ → Config → History → ℕ → ℕ
-tag_base_within n C [] t = 0
-tag_base_within n C (e ∷ P) t = if is_submit_for t e.act && is_none (head_within n P t) then max (virtual_time_within n C P e.moment - virtual_charge_within n C P t) (tag_base_within n C P t) else tag_base_within n C P t
+tag_base_within n C P t = base_by C.policy n C P t
 
 pub tag_base_is : (n k : ℕ) (C : Config) (P : History) (t : ℕ) → IsShort n k P → tag_base C P t ≡ tag_base_within n C P t
 unfolding tag_base_within tag_base
-tag_base_is n k C [] t s = refl
-tag_base_is n k C (e ∷ P) t s =
-    let r = shorter n k e P s in
-    let h = head_is n k P t r in
-    let v = virtual_time_is n k C P e.moment r in
-    let c = virtual_charge_is n k C P t r in
-    let b = tag_base_is n k C P t r in
-    rw (h, v, c, b) refl
+tag_base_is n k C P t s = base_by_is C.policy n k C P t s
+
+-- ---- tags and keys
 
 unfoldable pub tag_within : ℕ → Config → History → ℕ → ℕ
 tag_within n C P t = virtual_charge_within n C P t + tag_base_within n C P t
@@ -262,5 +334,5 @@ turn_is n k C P m i s = ap (λ (v : ℕ). record { policy = C.policy; workers = 
 
 -- the line `unfolding computing` opens all of these
 unfoldable pub computing : Unit {0}
-unfolding sum_below count_below least_below weight_at pool_at length_of advance_of part_of decay_of estimate_at is_submitted is_taken is_done is_closed is_waiting is_running waits_for is_open is_taken_of waiting_within running_within head_within is_active_within active_weight_within advance_within virtual_time_within idle_time_within virtual_charge_within tag_base_within tag_within start_within keys_within turn_within
+unfolding sum_below count_below least_below weight_at pool_at length_of advance_of part_of decay_of estimate_at is_submitted is_taken is_done is_closed is_waiting is_running waits_for is_open is_taken_of waiting_within running_within head_within is_active_within active_weight_within advance_within clock_time_within idle_time_within virtual_charge_within clock_base_within pace_within virtual_time_within tag_base_within tag_within start_within keys_within turn_within
 computing = tt

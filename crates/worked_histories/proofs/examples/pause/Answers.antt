@@ -1,5 +1,5 @@
 use Rattle.std.proofs.Common.{refl, arith}
-use Rattle.fq_model.specs.declared.config.Policy.TheVariants.{Wfq, Wf2q, Msf2q, TwoDfq}
+use Rattle.fq_model.specs.declared.config.Policy.TheVariants.{Wfq, Wf2q, Msf2q, TwoDfq, TwoDfqPlus}
 use Rattle.worked_histories.specs.Examples.{pause_config, pause_history}
 use Rattle.worked_histories.proofs.Computed.Histories.{IsShort, virtual_time_is, start_is, keys_are, computing}
 use Rattle.worked_histories.proofs.Computed.Choice.{choice_is}
@@ -21,11 +21,22 @@ returns-clause-legal c = elim [
   | Wf2q ↦ legal_is 4 2 (pause_config Wf2q) pause_history short refl
   | Msf2q ↦ legal_is 4 2 (pause_config Msf2q) pause_history short refl
   | TwoDfq ↦ legal_is 4 2 (pause_config TwoDfq) pause_history short refl
+  | TwoDfqPlus ↦ legal_is 4 2 (pause_config TwoDfqPlus) pause_history short refl
 ]
 
 pub returns-clause-time : goal.returns-clause-time
 unfolding computing pause_config pause_history
-returns-clause-time c = λ p. virtual_time_is 4 2 (pause_config p) pause_history 2010 short
+returns-clause-time c = elim [
+  | Wfq ↦ λ ne. virtual_time_is 4 2 (pause_config Wfq) pause_history 2010 short
+  | Wf2q ↦ λ ne. virtual_time_is 4 2 (pause_config Wf2q) pause_history 2010 short
+  | Msf2q ↦ λ ne. virtual_time_is 4 2 (pause_config Msf2q) pause_history 2010 short
+  | TwoDfq ↦ λ ne. virtual_time_is 4 2 (pause_config TwoDfq) pause_history 2010 short
+  | TwoDfqPlus ↦ λ ne. absurd (ne refl)
+]
+
+pub returns-clause-time_2dfq_plus : goal.returns-clause-time_2dfq_plus
+unfolding computing pause_config pause_history
+returns-clause-time_2dfq_plus c = virtual_time_is 4 2 (pause_config TwoDfqPlus) pause_history 2010 short
 
 pub returns-clause-start_wfq : goal.returns-clause-start_wfq
 unfolding computing pause_config pause_history
@@ -43,6 +54,10 @@ pub returns-clause-start_2dfq : goal.returns-clause-start_2dfq
 unfolding computing pause_config pause_history
 returns-clause-start_2dfq c = start_is 4 2 (pause_config TwoDfq) pause_history 2010 0 short
 
+pub returns-clause-start_2dfq_plus : goal.returns-clause-start_2dfq_plus
+unfolding computing pause_config pause_history
+returns-clause-start_2dfq_plus c = start_is 4 2 (pause_config TwoDfqPlus) pause_history 2010 0 short
+
 pub returns-clause-other_keys : goal.returns-clause-other_keys
 unfolding computing pause_config pause_history
 returns-clause-other_keys c = elim [
@@ -50,6 +65,7 @@ returns-clause-other_keys c = elim [
   | Wf2q ↦ keys_are 4 2 (pause_config Wf2q) pause_history 2010 1 short
   | Msf2q ↦ keys_are 4 2 (pause_config Msf2q) pause_history 2010 1 short
   | TwoDfq ↦ keys_are 4 2 (pause_config TwoDfq) pause_history 2010 1 short
+  | TwoDfqPlus ↦ keys_are 4 2 (pause_config TwoDfqPlus) pause_history 2010 1 short
 ]
 
 pub returns-clause-other_finish : goal.returns-clause-other_finish
@@ -70,3 +86,7 @@ returns-clause-choice_msf2q c = choice_is 4 2 (pause_config Msf2q) pause_history
 pub returns-clause-choice_2dfq : goal.returns-clause-choice_2dfq
 unfolding computing pause_config pause_history
 returns-clause-choice_2dfq c = choice_is 4 2 (pause_config TwoDfq) pause_history 2010 0 _ _ short refl refl
+
+pub returns-clause-choice_2dfq_plus : goal.returns-clause-choice_2dfq_plus
+unfolding computing pause_config pause_history
+returns-clause-choice_2dfq_plus c = choice_is 4 2 (pause_config TwoDfqPlus) pause_history 2010 0 _ _ short refl refl
