@@ -61,6 +61,7 @@ class History:
         self.config, self.kinds = journal.config, len(journal.kinds)
         self.tenants = [Tenant(weight) for weight in journal.weights]
         self.workers, self.moment, self.virtual = journal.config.workers, 0, 0
+        self.reached = 0  # the greatest finish of a request that was taken
         self.requests, self.costs, self.runs = [], {}, {}
         self.length, self.waiting, self.closed = 0, 0, False
 
@@ -68,6 +69,15 @@ class History:
         """How far virtual time moves from the last entry to this moment."""
         weights = sum(t.weight for t in self.tenants if t.open)
         return (moment - self.moment) * self.workers * UNIT // weights if weights else 0
+
+    def time_at(self, moment):
+        """Virtual time at this moment, which under 2dfq+ never passes the greatest finish of a request that was taken."""
+        by_clock = self.virtual + self.advance(moment)
+        return min(by_clock, self.reached) if self.config.policy == "2dfq+" else by_clock
+
+    def stagger(self, worker, lasts):
+        """By how much a worker may begin a head of this length before its start."""
+        return worker * lasts // self.workers if self.config.policy in ("2dfq", "2dfq+") else 0
 
     def estimate(self, request):
         costs = self.costs.get((request.tenant, request.kind), [])
@@ -83,7 +93,7 @@ class History:
 
     def heads(self, moment, worker):
         """Virtual time at a worker's turn, and the heads that it chooses from, by tenant."""
-        moved, heads = self.advance(moment), []
+        virtual, heads = self.time_at(moment), []
         for number, tenant in enumerate(self.tenants):
             if not tenant.waits:
                 continue
@@ -91,10 +101,10 @@ class History:
             lasts = length(self.estimate(self.requests[request]), tenant.weight)
             # (a tenant with a head is active, so that it is not idle now)
             start = tenant.charged + (tenant.idle if self.config.policy == "msf2q" else tenant.base)
-            key = start - (worker * lasts // self.workers if self.config.policy == "2dfq" else 0)
-            eligible = self.config.policy == "wfq" or key <= self.virtual + moved
+            key = start - self.stagger(worker, lasts)
+            eligible = self.config.policy == "wfq" or key <= virtual
             heads.append(Head(number, request, start, start + lasts, key, eligible))
-        return self.virtual + moved, heads
+        return virtual, heads
 
     def chosen(self, moment, worker):
         _, heads = self.heads(moment, worker)
@@ -170,10 +180,10 @@ class History:
 
     def enter(self, entry):
         """An entry that belongs here."""
-        moved = self.advance(entry.moment)
+        moved, virtual = self.advance(entry.moment), self.time_at(entry.moment)
         for tenant in self.tenants:
             tenant.idle += 0 if tenant.open else moved
-        self.virtual, self.moment, self.length = self.virtual + moved, entry.moment, self.length + 1
+        self.virtual, self.moment, self.length = virtual, entry.moment, self.length + 1
         if entry.act == "submit":
             number, *rest = entry.rest
             self.requests.append(Request(*rest))
@@ -183,12 +193,7 @@ class History:
             tenant.waits.append(number)
             tenant.open, self.waiting = tenant.open + 1, self.waiting + 1
         elif entry.act == "take":
-            worker, request, estimate = entry.rest
-            tenant = self.tenants[self.requests[request].tenant]
-            tenant.waits.popleft()
-            self.waiting -= 1
-            self.runs[worker] = Running(request, estimate, tenant.weight)
-            tenant.charged += length(estimate, tenant.weight)
+            self.take(*entry.rest)
         elif entry.act in ("report", "done"):
             self.charge(entry.act, *entry.rest)
         elif entry.act == "close":
@@ -197,6 +202,19 @@ class History:
             self.tenants[entry.rest[0]].weight = entry.rest[1]
         else:
             self.workers = entry.rest[0]
+
+    def take(self, worker, request, estimate):
+        tenant = self.tenants[self.requests[request].tenant]
+        lasts = length(estimate, tenant.weight)
+        if self.config.policy == "2dfq+":
+            # virtual time is lifted to what makes the request eligible
+            start = tenant.charged + tenant.base
+            self.virtual = max(self.virtual, start - self.stagger(worker, lasts))
+            self.reached = max(self.reached, start + lasts)
+        tenant.waits.popleft()
+        self.waiting -= 1
+        self.runs[worker] = Running(request, estimate, tenant.weight)
+        tenant.charged += lasts
 
     def status(self):
         """What a line `status` has: entries, the last moment, virtual time at it, and how many requests wait and run."""
@@ -267,7 +285,7 @@ def lead(text, of, over):
                 firsts.append(differences[-1] + doubt)
     if not differences:
         return f"{of} and {over} never waited together\n"
-    bound = max([(2 if journal.config.policy == "2dfq" else 1) * max(lengths) + max(doubts), *firsts])
+    bound = max([(2 if journal.config.policy in ("2dfq", "2dfq+") else 1) * max(lengths) + max(doubts), *firsts])
     return f"lead of {of} over {over} largest {max(differences)} bound {bound}\n"
 
 

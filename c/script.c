@@ -32,10 +32,10 @@ static void split(char *line, char *words[WORDS]) {
 }
 
 static void read_config(char *words[WORDS], twodfq_opening *opening) {
-    static const char *const policies[] = { "wfq", "wf2q", "msf2q", "2dfq" };
+    static const char *const policies[] = { "wfq", "wf2q", "msf2q", "2dfq", "2dfq+" };
     static const char *const estimates[] = { "declared", "recent", "pessimistic" };
     opening->workers = (uint32_t)number(words[1]);
-    opening->policy = place(policies, 4, words[2]);
+    opening->policy = place(policies, 5, words[2]);
     opening->estimate = place(estimates, 3, words[3]);
     opening->initial = number(words[4]);
     opening->entries = (uint32_t)number(words[5]);

@@ -79,7 +79,7 @@ int main(void) {
     opens("pairs", (opening.kinds = 16, opening), MOST_TENANTS, TWODFQ_OPENED);
     opens("pairs", (opening.kinds = 17, opening), MOST_TENANTS, TWODFQ_OPEN_PAIRS);
     opening = plain();
-    opens("policy", (opening.policy = TWODFQ_2DFQ + 1, opening), 1, TWODFQ_OPEN_POLICY);
+    opens("policy", (opening.policy = TWODFQ_2DFQ_PLUS + 1, opening), 1, TWODFQ_OPEN_POLICY);
     opening = plain();
     opens("estimate", (opening.estimate = TWODFQ_PESSIMISTIC + 1, opening), 1, TWODFQ_OPEN_ESTIMATE);
     opening = plain();

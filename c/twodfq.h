@@ -31,10 +31,11 @@ typedef struct {
 
 /* Which waiting request a worker takes. */
 enum {
-    TWODFQ_WFQ,   /* the least finish tag */
-    TWODFQ_WF2Q,  /* the least finish tag of those that have started in virtual time */
-    TWODFQ_MSF2Q, /* as WF2Q, with starts by the virtual time that passed while a tenant was idle */
-    TWODFQ_2DFQ   /* as WF2Q, with starts that differ from worker to worker */
+    TWODFQ_WFQ,      /* the least finish tag */
+    TWODFQ_WF2Q,     /* the least finish tag of those that have started in virtual time */
+    TWODFQ_MSF2Q,    /* as WF2Q, with starts by the virtual time that passed while a tenant was idle */
+    TWODFQ_2DFQ,     /* as WF2Q, with starts that differ from worker to worker */
+    TWODFQ_2DFQ_PLUS /* as 2DFQ, with a virtual time that stays near what was served */
 };
 
 /* What a request is thought to cost before it is done. */
@@ -49,7 +50,7 @@ typedef struct {
     uint32_t kinds;    /* 1 to 64; tenants times kinds is at most 65,536 */
     uint32_t entries;  /* how many entries the history may have: 4 to 4,194,304; where keep is not 0, 4 to 4,000,000,000 */
     uint32_t requests; /* how many requests may wait at once: 1 to 262,144 */
-    uint32_t policy;   /* TWODFQ_WFQ to TWODFQ_2DFQ */
+    uint32_t policy;   /* TWODFQ_WFQ to TWODFQ_2DFQ_PLUS */
     uint32_t estimate; /* TWODFQ_DECLARED to TWODFQ_PESSIMISTIC */
     uint64_t initial;  /* the estimate before any completion: 1 to 1,000,000,000 */
     uint32_t keep;     /* how many of the last entries can be read; 0 and any number above entries: all of them */

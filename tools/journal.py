@@ -15,7 +15,7 @@ import sys
 NUMBER = re.compile(r"0|[1-9][0-9]{0,19}")
 NAME = re.compile(r"[A-Za-z0-9_.-]{1,64}")
 GREATEST = 2**64 - 1
-POLICIES = ("wfq", "wf2q", "msf2q", "2dfq")
+POLICIES = ("wfq", "wf2q", "msf2q", "2dfq", "2dfq+")
 ESTIMATORS = ("declared", "recent", "pessimistic")
 REPLIES = ("request", "run", "ok", "retired", "idle", "drained", "refused")
 # How many numbers follow each word.

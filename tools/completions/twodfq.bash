@@ -12,14 +12,14 @@ _twodfq() {
     case "$command $before" in
     'script --print') words='replies journal both' ;;
     'run --workers') words='' ;;
-    'run --policy') words='wfq wf2q msf2q 2dfq' ;;
+    'run --policy') words='wfq wf2q msf2q 2dfq 2dfq+' ;;
     'run --estimate') words='declared recent pessimistic' ;;
     'run --initial') words='' ;;
     'run --refresh') words='' ;;
     'run --slot') words='' ;;
     'run --print') words='journal report both summary' ;;
     'live --workers') words='' ;;
-    'live --policy') words='wfq wf2q msf2q 2dfq' ;;
+    'live --policy') words='wfq wf2q msf2q 2dfq 2dfq+' ;;
     'live --estimate') words='declared recent pessimistic' ;;
     'live --initial') words='' ;;
     'live --refresh') words='' ;;

@@ -15,6 +15,8 @@ mod message_tests;
 #[cfg(test)]
 mod name_tests;
 #[cfg(test)]
+mod paced_tests;
+#[cfg(test)]
 mod printing_tests;
 #[cfg(test)]
 mod reading_tests;
