@@ -1,6 +1,9 @@
 package twodfq
 
 import (
+	"errors"
+	"log"
+	"runtime/debug"
 	"sync"
 	"time"
 )
@@ -8,8 +11,12 @@ import (
 // The greatest cost that a call takes, in microseconds.
 const greatestCost = 1_000_000_000
 
+// RefusedNoJob is what Submit gives where the job is nil.
+var RefusedNoJob = errors.New("refused: the job is nil")
+
 // Pool runs functions of many tenants on a fixed number of goroutines, each in its tenant's turn. A function is charged
-// the time that it took, and at least one microsecond. One that panics ends the program, as in any goroutine.
+// the time that passes from the moment at which its worker takes it until it ends, and at least one microsecond. One that
+// panics ends alone: package log writes what it said, and its stack. One that calls runtime.Goexit ends like any other.
 //
 // The pool has no end: where the room of its scheduler ends it opens the next, and workers take from the old one until
 // nothing waits there.
@@ -21,7 +28,7 @@ type Pool struct {
 	lock      sync.Mutex // it guards what follows
 	news      *sync.Cond // something waits, or nothing more comes
 	histories []*history // the oldest first; the last takes what comes
-	jobs      map[uint64]func()
+	jobs      map[uint64]job
 	next      uint64 // the label of the next job
 	waiting   uint32
 	closed    bool
@@ -33,25 +40,42 @@ type history struct {
 	waiting, running uint32
 }
 
+// A function that waits, and whose it is.
+type job struct {
+	tenant uint32
+	call   func()
+}
+
+// A job that a worker has been given.
+type run struct {
+	job
+	history *history
+	begun   time.Duration // since the pool's begin
+}
+
 // NewPool opens a pool of config.Workers goroutines. It has one kind of request and keeps one entry, whatever config says
-// of both.
+// of both, so where Entries is 0 there is room for 4,000,000,000. The weights are copied.
 func NewPool(config Config) (*Pool, error) {
 	config.Kinds, config.Keep = 1, 1
-	pool := &Pool{config: config, begun: time.Now(), jobs: make(map[uint64]func())}
+	config.Weights = append([]uint32(nil), config.Weights...)
+	pool := &Pool{config: config, begun: time.Now(), jobs: make(map[uint64]job)}
 	pool.news = sync.NewCond(&pool.lock)
 	if err := pool.open(); err != nil {
 		return nil, err
 	}
 	for worker := uint32(0); worker < config.Workers; worker++ {
 		pool.workers.Add(1)
-		go pool.work(worker)
+		go pool.work(worker, nil)
 	}
 	return pool, nil
 }
 
-// Submit has job run in the tenant's turn. It is refused with RefusedClosed, RefusedTenant, or RefusedSlots where as many
-// wait as may; RefusedFull comes only where there is no memory for the next scheduler.
-func (p *Pool) Submit(tenant uint32, job func()) error {
+// Submit has call run in the tenant's turn. It is refused with RefusedNoJob, RefusedClosed, RefusedTenant, or RefusedSlots
+// where as many wait as may; RefusedFull comes only where there is no memory for the next scheduler.
+func (p *Pool) Submit(tenant uint32, call func()) error {
+	if call == nil {
+		return RefusedNoJob
+	}
 	p.lock.Lock()
 	defer p.lock.Unlock()
 	if p.closed {
@@ -63,7 +87,7 @@ func (p *Pool) Submit(tenant uint32, job func()) error {
 	if err := p.admit(Request{Tenant: tenant, Declared: p.config.Initial, Label: p.next}); err != nil {
 		return err
 	}
-	p.jobs[p.next] = job
+	p.jobs[p.next] = job{tenant, call}
 	p.next++
 	p.waiting++
 	p.news.Signal()
@@ -85,7 +109,11 @@ func (p *Pool) Close() {
 	p.histories = nil
 }
 
-func (p *Pool) moment() uint64 { return uint64(time.Since(p.begun).Microseconds()) }
+// The time since the pool's begin.
+func (p *Pool) now() time.Duration { return time.Since(p.begun) }
+
+// A moment as the scheduler has it.
+func moment(now time.Duration) uint64 { return uint64(now.Microseconds()) }
 
 // Opens the next scheduler, which takes what comes from here on.
 func (p *Pool) open() error {
@@ -98,12 +126,12 @@ func (p *Pool) open() error {
 
 // Submits a request to the newest scheduler, or to the next where that has no room.
 func (p *Pool) admit(request Request) error {
-	err := p.newest().submit(p.moment(), request)
+	err := p.newest().submit(moment(p.now()), request)
 	if err != RefusedFull || p.open() != nil {
 		return err
 	}
 	p.free()
-	return p.newest().submit(p.moment(), request)
+	return p.newest().submit(moment(p.now()), request)
 }
 
 func (p *Pool) newest() *history { return p.histories[len(p.histories)-1] }
@@ -133,35 +161,59 @@ func (p *Pool) free() {
 	p.histories = kept
 }
 
-// The life of a worker.
-func (p *Pool) work(worker uint32) {
-	defer p.workers.Done()
-	for {
-		history, job := p.take(worker)
-		if job == nil {
-			return
+// The life of a worker, from the end of the job given, if one is. A job that calls runtime.Goexit ends the goroutine, and
+// the worker goes on in another.
+func (p *Pool) work(worker uint32, last *run) {
+	over := false
+	defer func() {
+		if over {
+			p.workers.Done()
+		} else {
+			go p.work(worker, last)
 		}
-		begun := time.Now()
-		job()
-		p.done(worker, history, time.Since(begun))
+	}()
+	for last = p.follow(worker, last); last != nil; last = p.follow(worker, last) {
+		last.perform()
 	}
+	over = true
 }
 
-// What the worker runs next, by the oldest scheduler that has something for it; none where nothing more comes.
-func (p *Pool) take(worker uint32) (*history, func()) {
+// Calls the function. A panic goes no further.
+func (j job) perform() {
+	defer func() {
+		if value := recover(); value != nil {
+			log.Printf("twodfq: a job of tenant %d panicked: %v\n%s", j.tenant, value, debug.Stack())
+		}
+	}()
+	j.call()
+}
+
+// Notes the job that the worker has ended, and gives it the next one, which is taken where the last has ended: what passes
+// between two jobs is charged. None where nothing more comes.
+func (p *Pool) follow(worker uint32, ended *run) *run {
+	now := p.now()
 	p.lock.Lock()
 	defer p.lock.Unlock()
+	if ended != nil {
+		p.done(worker, ended, now)
+	}
 	for p.waiting == 0 {
 		if p.closed {
-			return nil, nil
+			return nil
 		}
 		p.news.Wait()
+		now = p.now()
 	}
+	return p.take(worker, now)
+}
+
+// What the worker runs next, by the oldest scheduler that has something for it.
+func (p *Pool) take(worker uint32, now time.Duration) *run {
 	for _, history := range p.histories {
 		if history.waiting == 0 {
 			continue
 		}
-		taken, err := history.scheduler.Take(worker, p.moment(), worker)
+		taken, err := history.scheduler.Take(worker, moment(now), worker)
 		if err != nil || taken.Kind != Run {
 			panic("twodfq: a request waits, and an idle worker is given none")
 		}
@@ -170,25 +222,28 @@ func (p *Pool) take(worker uint32) (*history, func()) {
 		p.waiting--
 		job := p.jobs[taken.Label]
 		delete(p.jobs, taken.Label)
-		return history, job
+		return &run{job, history, now}
 	}
 	panic("twodfq: a request waits in no scheduler")
 }
 
-// The worker's job has ended after so long.
-func (p *Pool) done(worker uint32, history *history, took time.Duration) {
-	cost := uint64(took.Microseconds())
-	if cost < 1 {
-		cost = 1
-	}
-	if cost > greatestCost {
-		cost = greatestCost
-	}
-	p.lock.Lock()
-	defer p.lock.Unlock()
-	if err := history.scheduler.Done(worker, p.moment(), worker, cost); err != nil {
+// The worker's job has ended.
+func (p *Pool) done(worker uint32, ended *run, now time.Duration) {
+	if err := ended.history.scheduler.Done(worker, moment(now), worker, cost(now-ended.begun)); err != nil {
 		panic("twodfq: a running request can't end: " + err.Error())
 	}
-	history.running--
+	ended.history.running--
 	p.free()
+}
+
+// Microseconds, of which a part counts as one: a tenant whose work costs nothing would keep all others waiting.
+func cost(took time.Duration) uint64 {
+	switch microseconds := (took + time.Microsecond - 1) / time.Microsecond; {
+	case microseconds < 1:
+		return 1
+	case microseconds > greatestCost:
+		return greatestCost
+	default:
+		return uint64(microseconds)
+	}
 }

@@ -1,7 +1,12 @@
 package twodfq
 
 import (
+	"bytes"
 	"errors"
+	"log"
+	"os"
+	"runtime"
+	"strings"
 	"sync"
 	"sync/atomic"
 	"testing"
@@ -82,6 +87,9 @@ func TestRefusals(t *testing.T) {
 	}
 	refused(1, RefusedTenant)
 	refused(0, nil)
+	if err := pool.Submit(0, nil); !errors.Is(err, RefusedNoJob) {
+		t.Errorf("%v for no job", err)
+	}
 	if err := pool.Submit(0, func() { close(begun); <-begin }); err != nil {
 		t.Fatal(err)
 	}
@@ -92,6 +100,120 @@ func TestRefusals(t *testing.T) {
 	close(begin)
 	pool.Close()
 	refused(0, RefusedClosed)
+}
+
+// A job may end its goroutine, and may panic: its worker goes on, and all that waits is run.
+func TestJobsThatDoNotReturn(t *testing.T) {
+	var told bytes.Buffer
+	log.SetOutput(&told)
+	defer log.SetOutput(os.Stderr)
+	config := Default(1)
+	config.Workers = 2
+	pool, err := NewPool(config)
+	if err != nil {
+		t.Fatal(err)
+	}
+	var ran int32
+	for i := 0; i < 30; i++ {
+		for _, job := range []func(){runtime.Goexit, func() { panic("on purpose") }, func() { atomic.AddInt32(&ran, 1) }} {
+			if err := pool.Submit(0, job); err != nil {
+				t.Fatal(err)
+			}
+		}
+	}
+	pool.Close()
+	if ran != 30 {
+		t.Errorf("%d of 30 jobs ran", ran)
+	}
+	if count := strings.Count(told.String(), "a job of tenant 0 panicked: on purpose\n"); count != 30 {
+		t.Errorf("%d of 30 panics are told in %s", count, told.String())
+	}
+}
+
+// The pool opens its schedulers with the weights that there were at its opening.
+func TestWeightsAreCopied(t *testing.T) {
+	config := Default(1, 1)
+	config.Entries = 16
+	pool, err := NewPool(config)
+	if err != nil {
+		t.Fatal(err)
+	}
+	config.Weights[0] = 0 // no tenant may have this
+	for i := 0; i < 100; i++ {
+		if err := pool.Submit(uint32(i%2), func() {}); err != nil {
+			t.Fatal(err)
+		}
+	}
+	pool.Close()
+}
+
+// One scheduler has room for more than a million entries, of which a job makes three.
+func TestOneSchedulerServes(t *testing.T) {
+	config := Default(1)
+	config.Requests = 1000
+	pool, err := NewPool(config)
+	if err != nil {
+		t.Fatal(err)
+	}
+	first := pool.newest()
+	for jobs := 0; jobs < 350_000; {
+		switch err := pool.Submit(0, func() {}); err {
+		case nil:
+			jobs++
+		case RefusedSlots:
+			time.Sleep(time.Microsecond)
+		default:
+			t.Fatal(err)
+		}
+	}
+	if pool.newest() != first {
+		t.Error("another scheduler has followed the first")
+	}
+	pool.Close()
+}
+
+// Jobs of one tenant wait, and half of them have been run, when another one comes: it doesn't wait for the rest of them,
+// since all the time of their workers was charged.
+func TestAVisitorIsSoonServed(t *testing.T) {
+	const jobs = 100_000
+	config := Default(1, 1)
+	config.Workers, config.Requests, config.Initial = 2, jobs+10, 10
+	pool, err := NewPool(config)
+	if err != nil {
+		t.Fatal(err)
+	}
+	submit := func(tenant uint32, job func()) {
+		if err := pool.Submit(tenant, job); err != nil {
+			t.Error(err)
+		}
+	}
+	begin, half := make(chan struct{}), make(chan struct{})
+	for worker := uint32(0); worker < config.Workers; worker++ {
+		submit(0, func() { <-begin })
+	}
+	var ran int32
+	for i := 0; i < jobs; i++ {
+		submit(0, func() {
+			if atomic.AddInt32(&ran, 1) == jobs/2 {
+				close(half)
+			}
+		})
+	}
+	close(begin)
+	<-half
+	waited := int32(0)
+	for i := 0; i < 10; i++ {
+		served := make(chan int32, 1)
+		submit(1, func() { served <- atomic.LoadInt32(&ran) })
+		before := atomic.LoadInt32(&ran)
+		if at := <-served; at > before {
+			waited += at - before
+		}
+	}
+	pool.Close()
+	if waited > jobs/10 {
+		t.Errorf("ten requests waited for %d jobs of another tenant", waited)
+	}
 }
 
 func TestNumbersOutOfRange(t *testing.T) {

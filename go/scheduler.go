@@ -37,12 +37,13 @@ const (
 	Pessimistic Estimator = C.TWODFQ_PESSIMISTIC // the greatest of the costs of its tenant and kind, which decay
 )
 
-// Config is what a scheduler is opened with.
+// Config is what a scheduler is opened with. Entries is 4 to 4,194,304, and up to 4,000,000,000 where Keep is not 0. An
+// Entries of 0 stands for 1,000,000, and for 4,000,000,000 where Keep is not 0.
 type Config struct {
 	Workers  uint32   // 1 to 64
 	Weights  []uint32 // one a tenant, each 1 to 1,000; 1 to 4,096 tenants
 	Kinds    uint32   // 1 to 64; tenants times kinds is at most 65,536
-	Entries  uint32   // how many entries the history may have: 4 to 4,194,304, and up to 4,000,000,000 where Keep is not 0
+	Entries  uint32   // how many entries the history may have
 	Requests uint32   // how many requests may wait at once: 1 to 262,144
 	Policy   Policy
 	Estimate Estimator
@@ -50,10 +51,22 @@ type Config struct {
 	Keep     uint32 // for how many of the last entries memory is taken; 0, and any number above Entries, is all of them
 }
 
-// Default gives four workers, 1,000,000 entries, 10,000 requests, TwoDFQ, Pessimistic and 1,000 microseconds.
+// Default gives four workers, 0 for Entries and Keep, 10,000 requests, TwoDFQ, Pessimistic and 1,000 microseconds.
 func Default(weights ...uint32) Config {
-	return Config{Workers: 4, Weights: weights, Kinds: 1, Entries: 1_000_000, Requests: 10_000, Policy: TwoDFQ,
-		Estimate: Pessimistic, Initial: 1000}
+	return Config{Workers: 4, Weights: weights, Kinds: 1, Requests: 10_000, Policy: TwoDFQ, Estimate: Pessimistic,
+		Initial: 1000}
+}
+
+// How many entries the history may have.
+func (c Config) entries() uint32 {
+	switch {
+	case c.Entries != 0:
+		return c.Entries
+	case c.Keep != 0:
+		return 4_000_000_000
+	default:
+		return 1_000_000
+	}
 }
 
 // OpenFault is a status of twodfq_open: why there is no scheduler.
@@ -129,7 +142,7 @@ type Scheduler struct {
 func Open(config Config) (*Scheduler, error) {
 	weights := append(make([]uint32, 0, len(config.Weights)+1), config.Weights...)
 	opening := C.twodfq_opening{workers: C.uint32_t(config.Workers), kinds: C.uint32_t(config.Kinds),
-		entries: C.uint32_t(config.Entries), requests: C.uint32_t(config.Requests), policy: C.uint32_t(config.Policy),
+		entries: C.uint32_t(config.entries()), requests: C.uint32_t(config.Requests), policy: C.uint32_t(config.Policy),
 		estimate: C.uint32_t(config.Estimate), initial: C.uint64_t(config.Initial), keep: C.uint32_t(config.Keep)}
 	s := new(Scheduler)
 	first := (*C.uint32_t)(&weights[:1][0]) // there is one more than are said, so that none still have an address

@@ -7,7 +7,7 @@ use std::panic::{self, AssertUnwindSafe};
 use std::sync::{Arc, Condvar, Mutex, PoisonError};
 
 use crate::pool::Job;
-use crate::{Act, Entry, Refusal};
+use crate::{Act, Entry, Refusal, Taken};
 
 #[repr(C)]
 #[derive(Debug)]
@@ -61,11 +61,6 @@ pub(crate) struct Standing {
     moment: u64,
 }
 
-/// Kinds of a reply to a take.
-pub(crate) const IDLE: u32 = 3;
-pub(crate) const DRAINED: u32 = 4;
-pub(crate) const RETIRED: u32 = 5;
-
 extern "C" {
     pub(crate) fn twodfq_open(handle: *mut Handle, opening: *const Opening, weights: *const u32, tenants: usize)
         -> u32;
@@ -113,6 +108,17 @@ impl Reply {
     pub(crate) fn accepted(self) -> Result<Reply, Refusal> {
         Refusal::of_reply(&self).map_or(Ok(self), Err)
     }
+
+    /// What an accepted take was answered.
+    pub(crate) fn taken(self) -> Taken {
+        match self.kind {
+            1 => Taken::Run { request: self.request, estimate: self.first, label: self.second },
+            3 => Taken::Idle,
+            4 => Taken::Drained,
+            5 => Taken::Retired { workers: self.first as u32 },
+            kind => unreachable!("a take gets no reply of kind {kind}"),
+        }
+    }
 }
 
 impl Line {
@@ -132,7 +138,8 @@ impl Line {
             4 => Act::Close,
             5 => Act::Weight { tenant, weight: amount as u32 },
             6 => Act::Workers { count: amount as u32 },
-            _ => return None,
+            255 => return None,
+            kind => unreachable!("no history has an entry of kind {kind}"),
         };
         Some(Entry { who: self.who, moment: self.moment, act })
     }
@@ -216,4 +223,23 @@ pub(crate) fn lending<'env, R>(body: impl for<'scope> FnOnce(&'scope Lender<'sco
     let reply = panic::catch_unwind(AssertUnwindSafe(|| body(&lender)));
     lender.lent.wait_until_none();
     reply.unwrap_or_else(|payload| panic::resume_unwind(payload))
+}
+
+#[cfg(test)]
+mod tests {
+    use super::*;
+
+    #[test]
+    #[should_panic = "no reply of kind 2"]
+    fn a_take_that_is_answered_otherwise() {
+        Reply { kind: 2, request: 0, first: 0, second: 0 }.taken();
+    }
+
+    #[test]
+    #[should_panic = "no history has an entry of kind 7"]
+    fn an_entry_of_another_kind() {
+        let numbers =
+            Line { kind: 7, who: 0, moment: 0, request: 0, tenant: 0, request_kind: 0, worker: 0, amount: 0, label: 0 };
+        numbers.entry();
+    }
 }

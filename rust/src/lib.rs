@@ -51,7 +51,7 @@ pub use refusal::{OpenFault, Refusal};
 /// let config = Config { policy: Policy::Wf2q, ..Config::default() };
 /// assert!(twodfq::Scheduler::open(&config).is_ok());
 /// ```
-#[derive(Clone, Copy, Debug, PartialEq, Eq)]
+#[derive(Clone, Copy, Debug, Default, PartialEq, Eq)]
 pub enum Policy {
     /// The least finish tag.
     Wfq,
@@ -60,6 +60,7 @@ pub enum Policy {
     /// As `Wf2q`, with starts by the virtual time that passed while a tenant was idle.
     Msf2q,
     /// As `Wf2q`, with starts that differ from worker to worker.
+    #[default]
     TwoDfq,
     /// As `TwoDfq`, with a virtual time that stays near what was served.
     TwoDfqPlus,
@@ -112,8 +113,8 @@ pub struct Config<'a> {
     pub keep: u32,
 }
 
-/// Four workers, one tenant and kind, 1,000,000 entries, 10,000 requests, `TwoDfq`, `Pessimistic`, 1,000 microseconds; all
-/// entries are kept.
+/// Four workers, one tenant and kind, 1,000,000 entries, 10,000 requests, `Policy::default()`, `Pessimistic`, 1,000
+/// microseconds; all entries are kept.
 impl Default for Config<'_> {
     fn default() -> Self {
         Config {
@@ -122,7 +123,7 @@ impl Default for Config<'_> {
             kinds: 1,
             entries: 1_000_000,
             requests: 10_000,
-            policy: Policy::TwoDfq,
+            policy: Policy::default(),
             estimate: Estimator::Pessimistic,
             initial: 1000,
             keep: 0,
@@ -297,13 +298,7 @@ impl Scheduler {
     /// assert_eq!(scheduler.take(1, 3, 0), Ok(Taken::Run { request: 0, estimate: 1000, label: 42 }));
     /// ```
     pub fn take(&mut self, who: u32, moment: u64, worker: u32) -> Result<Taken, Refusal> {
-        let reply = unsafe { ffi::twodfq_take(&mut self.handle, who, moment, worker) }.accepted()?;
-        Ok(match reply.kind {
-            ffi::IDLE => Taken::Idle,
-            ffi::DRAINED => Taken::Drained,
-            ffi::RETIRED => Taken::Retired { workers: reply.first as u32 },
-            _ => Taken::Run { request: reply.request, estimate: reply.first, label: reply.second },
-        })
+        Ok(unsafe { ffi::twodfq_take(&mut self.handle, who, moment, worker) }.accepted()?.taken())
     }
 
     /// What the worker's request has used so far; it runs on.

@@ -1,4 +1,5 @@
 //! The journals that a pool writes, and its counts.
+use std::collections::VecDeque;
 use std::env;
 use std::io::{self, Write};
 use std::process::{Command, Stdio};
@@ -124,7 +125,7 @@ fn the_journal_comes_while_the_pool_runs() {
         assert!(begun.elapsed() < Duration::from_secs(10));
         thread::sleep(Duration::from_millis(1));
     }
-    let head = "journal 2\nconfig 4 2dfq pessimistic 1000 1000000 10000\ntenant acme 1\ntenant globex 2\nkind get\n\
+    let head = "journal 2\nconfig 4 2dfq pessimistic 1000 4194304 10000\ntenant acme 1\ntenant globex 2\nkind get\n\
                 kind scan\nworkers 64 0 3\nsubmit 64 ";
     assert!(text.journals()[0].starts_with(head), "{}", text.journals()[0]);
 }
@@ -206,6 +207,43 @@ fn a_journal_that_keeps_up_has_all_though_few_entries_are_kept() {
     let texts = text.journals();
     assert_eq!(lines(&texts[0], "done").len(), 5000);
     judge(&texts[0]);
+}
+
+/// Hands in jobs of which some wait at any time.
+fn hand_in_without_rest(pool: &Pool, jobs: usize) {
+    let mut held = VecDeque::new();
+    for _ in 0..jobs {
+        let (sender, receiver) = mpsc::channel::<()>();
+        held.push_back((sender, pool.submit(0, 0, move || receiver.recv().is_ok()).unwrap()));
+        if held.len() > 3 {
+            let (sender, oldest) = held.pop_front().unwrap();
+            drop(sender);
+            oldest.join().unwrap();
+        }
+    }
+}
+
+#[test]
+fn a_journal_of_a_long_history_ends_where_no_more_is_judged_and_the_next_begins_at_a_rest() {
+    let text = Text::default();
+    let pool = builder().workers(1).room(40).judged(400).open().unwrap();
+    let journal = pool.journal(text.clone()).unwrap();
+    hand_in_without_rest(&pool, 300);
+    for number in 0..300 {
+        while pool.status().waiting > 0 {
+            thread::yield_now();
+        }
+        pool.submit(number % 2, 0, || ()).unwrap();
+    }
+    let status = pool.join();
+    let Written { journals, cut, missed } = journal.join().unwrap();
+    assert_eq!((journals + cut + missed, cut), (status.schedulers, 1));
+    let texts = text.journals();
+    texts.iter().for_each(|journal| judge(journal));
+    let closes: Vec<usize> = texts.iter().map(|journal| lines(journal, "close").len()).collect();
+    assert!(closes.len() > 1 && closes[0] == 0 && closes[1..].iter().all(|&count| count == 1), "{closes:?}");
+    // of 400 entries 80 are kept for 40 jobs that wait, 4 for the workers, and 4 for one job more and the close
+    assert_eq!(texts[0].lines().skip_while(|line| !line.starts_with("workers")).count(), 312);
 }
 
 #[test]

@@ -92,6 +92,14 @@ fn a_thousand_rollings_lose_nothing() {
 }
 
 #[test]
+fn one_scheduler_has_room_for_more_than_a_million_entries() {
+    let pool = builder().refresh(Duration::ZERO).open().unwrap();
+    pool.submit(0, 0, || (0..1_100_000).for_each(|_| twodfq::tick())).unwrap();
+    let status = pool.join();
+    assert_eq!((status.schedulers, status.tenants[0].reports), (1, 1_100_000));
+}
+
+#[test]
 fn changes_alone_roll_over_too() {
     let pool = builder().workers(1).most_workers(2).entries(16).open().unwrap();
     for i in 0..500_u32 {

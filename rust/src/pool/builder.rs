@@ -4,6 +4,7 @@ use std::time::{Duration, Instant};
 
 use super::cause::BuildFault;
 use super::clock::{Clock, Measure};
+use super::names::Names;
 use super::rolling::{Rolling, Settings};
 use super::shared::Shared;
 use super::state::State;
@@ -12,6 +13,15 @@ use crate::{Estimator, Policy};
 
 /// The least room that a scheduler of a pool has: what its opening and one job take is surely less.
 const LEAST_ENTRIES: u32 = 16;
+
+/// The most entries that a history may have.
+const MOST_ENTRIES: u32 = 4_000_000_000;
+
+/// The most entries of a history whose journal `twodfq check` reads.
+const MOST_JUDGED: u32 = 4_194_304;
+
+/// How many entries a history has that is kept whole, unless the caller says otherwise: 48 megabytes of them.
+const WHOLE_ENTRIES: u32 = 1_000_000;
 
 /// What a pool is opened with. All but the tenants have a default.
 ///
@@ -43,6 +53,7 @@ const LEAST_ENTRIES: u32 = 16;
 pub struct Builder {
     workers: u32,
     weights: Vec<u32>,
+    entries: Option<u32>,
     settings: Settings,
     measure: Measure,
     refresh: Duration,
@@ -52,17 +63,18 @@ impl Builder {
     pub(crate) fn new() -> Builder {
         let settings = Settings {
             most_workers: 0,
-            tenants: Vec::new(),
-            kinds: Vec::new(),
-            entries: 1_000_000,
+            tenants: Names::default(),
+            kinds: Names::default(),
+            entries: MOST_ENTRIES,
             keep: 65_536,
+            judged: MOST_JUDGED,
             room: 10_000,
-            policy: Policy::TwoDfq,
+            policy: Policy::default(),
             estimator: Estimator::Pessimistic,
             initial: 1000,
         };
         let refresh = Duration::from_millis(10);
-        Builder { workers: 4, weights: Vec::new(), settings, measure: Measure::Wall, refresh }
+        Builder { workers: 4, weights: Vec::new(), entries: None, settings, measure: Measure::Wall, refresh }
     }
 
     /// How many workers run jobs at first: 1 to 64, by default 4.
@@ -95,7 +107,7 @@ impl Builder {
     /// assert_eq!(pool.tenant("globex"), Some(1));
     /// ```
     pub fn tenant(mut self, name: &str, weight: u32) -> Builder {
-        self.settings.tenants.push(name.to_string());
+        self.settings.tenants.push(name);
         self.weights.push(weight);
         self
     }
@@ -108,11 +120,11 @@ impl Builder {
     /// assert_eq!(pool.kind("scan"), Some(1));
     /// ```
     pub fn kind(mut self, name: &str) -> Builder {
-        self.settings.kinds.push(name.to_string());
+        self.settings.kinds.push(name);
         self
     }
 
-    /// Which waiting job a worker takes; by default [`Policy::TwoDfq`].
+    /// Which waiting job a worker takes; by default `Policy::default()`.
     ///
     /// ```
     /// let pool = twodfq::Pool::builder().tenant("acme", 1).policy(twodfq::Policy::Wf2q).open().unwrap();
@@ -182,9 +194,9 @@ impl Builder {
         self
     }
 
-    /// After how many entries the next scheduler takes over: 16 to 4,194,304, by default 1,000,000. A job makes three, and
-    /// each report and change one. It may be up to 4,000,000,000 where fewer are kept, but `twodfq check` reads no journal
-    /// of a scheduler with room for more than 4,194,304.
+    /// After how many entries the next scheduler takes over: 16 to 4,194,304, and up to 4,000,000,000 where `keep` is not 0;
+    /// by default 4,000,000,000, or 1,000,000 where `keep` is 0. A job makes three, and each report and change one. An entry
+    /// that is not kept takes no memory. What comes when the next scheduler takes over waits for all that waits then.
     ///
     /// ```
     /// let pool = twodfq::Pool::builder().tenant("acme", 1).entries(16).open().unwrap();
@@ -194,7 +206,7 @@ impl Builder {
     /// assert!(pool.join().schedulers > 10);
     /// ```
     pub fn entries(mut self, entries: u32) -> Builder {
-        self.settings.entries = entries;
+        self.entries = Some(entries);
         self
     }
 
@@ -210,23 +222,30 @@ impl Builder {
         self
     }
 
-    fn fault(&self) -> Option<BuildFault> {
-        let Settings { most_workers, tenants, kinds, entries, .. } = &self.settings;
-        for names in [tenants, kinds] {
-            let mut sorted: Vec<&String> = names.iter().collect();
-            sorted.sort_unstable();
-            if let Some(name) = names.iter().find(|name| !is_name(name)) {
-                return Some(BuildFault::Name(name.clone()));
-            }
-            if let Some(pair) = sorted.windows(2).find(|pair| pair[0] == pair[1]) {
-                return Some(BuildFault::Twice(pair[0].clone()));
-            }
+    /// Has journals end as if `twodfq check` read no more entries than these, for tests.
+    #[doc(hidden)]
+    pub fn judged(mut self, entries: u32) -> Builder {
+        self.settings.judged = entries;
+        self
+    }
+
+    /// Fills in what the caller left out.
+    fn complete(&mut self) -> Result<(), BuildFault> {
+        let settings = &mut self.settings;
+        if settings.most_workers == 0 {
+            settings.most_workers = self.workers;
         }
-        if *entries < LEAST_ENTRIES {
-            return Some(BuildFault::Entries(*entries));
+        if settings.kinds.len() == 0 {
+            settings.kinds.push("-");
         }
-        let may_be = 1..=*most_workers;
-        (!may_be.contains(&self.workers)).then_some(BuildFault::Workers(self.workers))
+        settings.entries = self.entries.unwrap_or(if settings.keep == 0 { WHOLE_ENTRIES } else { MOST_ENTRIES });
+        settings.tenants.sort()?;
+        settings.kinds.sort()?;
+        if settings.entries < LEAST_ENTRIES {
+            return Err(BuildFault::Entries(settings.entries));
+        }
+        let may_be = 1..=settings.most_workers;
+        may_be.contains(&self.workers).then_some(()).ok_or(BuildFault::Workers(self.workers))
     }
 
     /// Opens the pool and starts its threads.
@@ -236,24 +255,11 @@ impl Builder {
     /// assert!(twodfq::Pool::builder().open().is_err()); // there is no tenant
     /// ```
     pub fn open(mut self) -> Result<Pool, BuildFault> {
-        if self.settings.most_workers == 0 {
-            self.settings.most_workers = self.workers;
-        }
-        if self.settings.kinds.is_empty() {
-            self.settings.kinds.push("-".to_string());
-        }
-        if let Some(fault) = self.fault() {
-            return Err(fault);
-        }
+        self.complete()?;
         let settings = Arc::new(self.settings);
         let rolling = Rolling::open(settings.clone(), self.weights, self.workers).map_err(BuildFault::Scheduler)?;
         let clock = Clock { start: Instant::now(), measure: self.measure };
         let shared = Arc::new(Shared::new(State::new(rolling), clock, self.refresh));
         Pool::start(shared, settings).map_err(BuildFault::Thread)
     }
-}
-
-fn is_name(text: &str) -> bool {
-    let is_in_name = |byte: u8| byte.is_ascii_alphanumeric() || b"_-.".contains(&byte);
-    (1..=64).contains(&text.len()) && text.bytes().all(is_in_name)
 }

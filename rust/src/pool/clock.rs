@@ -3,7 +3,8 @@ use std::time::Instant;
 
 use crate::ffi;
 
-/// By which clock a job's cost is measured: at least one microsecond, and at most 1,000 seconds.
+/// By which clock a job's cost is measured, from the moment at which its worker takes it: at least one microsecond, and at
+/// most 1,000 seconds.
 ///
 /// ```
 /// use twodfq::{Measure, Pool};
@@ -15,7 +16,7 @@ use crate::ffi;
 pub enum Measure {
     /// The time that passes, so that a job which sleeps pays for the worker that it holds.
     Wall,
-    /// The processor time of the worker's thread, so that a job pays for what it computes alone.
+    /// The processor time of the worker's thread, so that a job pays for what it computes, and not while it sleeps.
     Processor,
 }
 
@@ -35,17 +36,26 @@ impl Clock {
         now.duration_since(self.start).as_micros() as u64
     }
 
-    /// A reading by which the calling thread's job is measured, in nanoseconds.
-    pub(crate) fn reading(&self, now: Instant) -> u64 {
-        match self.measure {
+    pub(crate) fn reading(&self, now: Instant) -> Reading {
+        let used = match self.measure {
             Measure::Wall => now.duration_since(self.start).as_nanos() as u64,
             Measure::Processor => ffi::thread_time(),
-        }
+        };
+        Reading { moment: self.moment(now), used }
     }
+}
 
-    /// What was used since a reading, in microseconds: at least one, since a tenant whose work costs nothing would keep all
-    /// others waiting.
-    pub(crate) fn used_since(&self, reading: u64, now: Instant) -> u64 {
-        self.reading(now).saturating_sub(reading).div_ceil(1000).clamp(1, GREATEST_COST)
+/// The moment, and what the calling thread has used by then, in nanoseconds by the pool's measure.
+#[derive(Clone, Copy, Debug)]
+pub(crate) struct Reading {
+    pub(crate) moment: u64,
+    used: u64,
+}
+
+impl Reading {
+    /// What was used since an earlier reading of the same thread, in microseconds: at least one, since a tenant whose work
+    /// costs nothing would keep all others waiting.
+    pub(crate) fn since(&self, begun: &Reading) -> u64 {
+        self.used.saturating_sub(begun.used).div_ceil(1000).clamp(1, GREATEST_COST)
     }
 }

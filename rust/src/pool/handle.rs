@@ -4,10 +4,11 @@ use std::error::Error;
 use std::fmt;
 use std::future::Future;
 use std::mem;
-use std::panic::{self, AssertUnwindSafe};
 use std::pin::Pin;
 use std::sync::{Arc, Condvar, Mutex, MutexGuard, PoisonError};
 use std::task::{Context, Poll, Waker};
+
+use super::jobs::caught;
 
 /// A job that ended by a panic.
 ///
@@ -65,6 +66,29 @@ enum Stage<T> {
     Given,
 }
 
+impl<T> Stage<T> {
+    /// The result, where it is there. It is given once: who asks again after a poll gave it would wait for ever.
+    fn outcome(&mut self) -> Option<Outcome<T>> {
+        match mem::replace(self, Stage::Given) {
+            Stage::Ready(outcome) => Some(outcome),
+            Stage::Given => panic!("the result was given to a poll"),
+            pending => {
+                *self = pending;
+                None
+            }
+        }
+    }
+
+    /// Has this done once there is a result. What was to be done before may be a caller's own, and is dropped without the
+    /// lock.
+    fn replace(&mut self, next: Then<T>) -> Option<Then<T>> {
+        match self {
+            Stage::Pending { then, .. } => Some(mem::replace(then, next)),
+            Stage::Ready(_) | Stage::Given => None,
+        }
+    }
+}
+
 /// The place of a result, which the job and its handle share.
 pub(crate) struct Place<T> {
     stage: Mutex<Stage<T>>,
@@ -86,8 +110,7 @@ impl<T> Place<T> {
         let Stage::Pending { then, someone_joins } = mem::replace(&mut *stage, Stage::Given) else { return };
         if let Then::Call(callback) = then {
             drop(stage);
-            // a callback that panics has told so, and there is nobody else to tell
-            let _ = panic::catch_unwind(AssertUnwindSafe(|| callback(outcome)));
+            caught(|| callback(outcome));
             return;
         }
         *stage = Stage::Ready(outcome);
@@ -100,21 +123,10 @@ impl<T> Place<T> {
         }
     }
 
-    /// The result, where it is there.
-    fn get(stage: &mut Stage<T>) -> Option<Outcome<T>> {
-        match mem::replace(stage, Stage::Given) {
-            Stage::Ready(outcome) => Some(outcome),
-            other => {
-                *stage = other;
-                None
-            }
-        }
-    }
-
     pub(crate) fn wait(&self) -> Outcome<T> {
         let mut stage = self.lock();
         loop {
-            if let Some(outcome) = Self::get(&mut stage) {
+            if let Some(outcome) = stage.outcome() {
                 return outcome;
             }
             if let Stage::Pending { someone_joins, .. } = &mut *stage {
@@ -127,7 +139,8 @@ impl<T> Place<T> {
 
 /// A job that was accepted. It is run whether its handle is kept or dropped.
 ///
-/// A handle is a future too, which any runtime may poll: it is woken by the worker.
+/// A handle is a future too, which any runtime may poll: it is woken by the worker. Once a poll has given the result, every
+/// other call that asks for it panics, as one more poll does.
 ///
 /// ```
 /// let pool = twodfq::Pool::builder().tenant("acme", 1).open().unwrap();
@@ -167,7 +180,7 @@ impl<T> Handle<T> {
     /// assert_eq!(result.unwrap(), 42);
     /// ```
     pub fn try_join(self) -> Result<Result<T, Panicked>, Handle<T>> {
-        let outcome = Place::get(&mut self.place.lock());
+        let outcome = self.place.lock().outcome();
         outcome.ok_or(self)
     }
 
@@ -180,11 +193,12 @@ impl<T> Handle<T> {
     /// assert!(handle.is_done());
     /// ```
     pub fn is_done(&self) -> bool {
-        matches!(*self.place.lock(), Stage::Ready(_))
+        !matches!(*self.place.lock(), Stage::Pending { .. })
     }
 
-    /// Has the callback called with the result: by the worker at the job's end, as a part of the job, or at once where it
-    /// has ended. A panic of the callback is printed, and the worker goes on.
+    /// Has the callback called with the result: by the worker at the job's end, as a part of the job, or here and at once
+    /// where it has ended. A panic of the callback is printed, as any, and goes no further: neither the worker nor the caller
+    /// panics.
     ///
     /// ```
     /// use std::sync::mpsc;
@@ -196,13 +210,25 @@ impl<T> Handle<T> {
     /// ```
     pub fn then(self, callback: impl FnOnce(Result<T, Panicked>) + Send + 'static) {
         let mut stage = self.place.lock();
-        match Place::get(&mut stage) {
-            Some(outcome) => {
-                drop(stage);
-                callback(outcome);
-            }
-            None => *stage = Stage::Pending { then: Then::Call(Box::new(callback)), someone_joins: false },
+        if let Some(outcome) = stage.outcome() {
+            drop(stage);
+            caught(|| callback(outcome));
+            return;
         }
+        let before = stage.replace(Then::Call(Box::new(callback)));
+        drop(stage);
+        drop(before);
+    }
+}
+
+impl<T> Drop for Handle<T> {
+    /// Nobody polls any more, so nobody is to be woken.
+    fn drop(&mut self) {
+        let mut stage = self.place.lock();
+        let is_polled = matches!(*stage, Stage::Pending { then: Then::Wake(_), .. });
+        let waker = is_polled.then(|| stage.replace(Then::Nothing));
+        drop(stage);
+        drop(waker);
     }
 }
 
@@ -211,14 +237,13 @@ impl<T> Future for Handle<T> {
 
     fn poll(self: Pin<&mut Self>, context: &mut Context<'_>) -> Poll<Self::Output> {
         let mut stage = self.place.lock();
-        match Place::get(&mut stage) {
-            Some(outcome) => Poll::Ready(outcome),
-            None => {
-                let Stage::Pending { then, .. } = &mut *stage else { panic!("polled after its result was given") };
-                *then = Then::Wake(context.waker().clone());
-                Poll::Pending
-            }
+        if let Some(outcome) = stage.outcome() {
+            return Poll::Ready(outcome);
         }
+        let before = stage.replace(Then::Wake(context.waker().clone()));
+        drop(stage);
+        drop(before);
+        Poll::Pending
     }
 }
 

@@ -1,4 +1,5 @@
 //! Jobs, and where they wait.
+use std::mem;
 use std::panic::{self, AssertUnwindSafe};
 use std::sync::Arc;
 
@@ -31,6 +32,14 @@ impl<T: Send, F: FnOnce() -> T + Send> Job for Work<T, F> {
             }
         }
     }
+}
+
+/// What the call gives; none where it panics. The panic is printed, as any, and nobody else is told. What it says may panic
+/// too when it is dropped: then what that says is kept for good.
+pub(crate) fn caught<T>(call: impl FnOnce() -> T) -> Option<T> {
+    let outcome = panic::catch_unwind(AssertUnwindSafe(call));
+    let dropped = |payload| panic::catch_unwind(AssertUnwindSafe(|| drop(payload))).unwrap_or_else(mem::forget);
+    outcome.map_err(dropped).ok()
 }
 
 /// A job that waits, and whose it is.

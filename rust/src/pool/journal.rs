@@ -43,7 +43,8 @@ pub struct Journal {
 pub struct Written {
     /// How many journals were written whole, one for each scheduler.
     pub journals: u64,
-    /// How many journals end before their schedulers do: what came after was kept no longer when the writer came to it.
+    /// How many journals end before their schedulers do: what came after was kept no longer when the writer came to it, or is
+    /// more than `twodfq check` reads.
     pub cut: u64,
     /// How many schedulers have no journal, since they were over before the earlier journals were written.
     pub missed: u64,
@@ -89,7 +90,7 @@ pub(crate) struct Reader {
 impl Drop for Reader {
     fn drop(&mut self) {
         let mut state = self.shared.lock();
-        state.journal = None;
+        state.rolling.journal = None;
         state.rolling.is_cut = false;
         let over = mem::take(&mut state.rolling.over);
         drop(state);
@@ -111,11 +112,11 @@ impl Reader {
     /// Begins with the oldest scheduler that is not over; none where there is a journal already.
     pub(crate) fn new(shared: &Arc<Shared>) -> Option<Reader> {
         let mut state = shared.lock();
-        if state.journal.is_some() {
+        if state.rolling.journal.is_some() {
             return None;
         }
         let next = state.rolling.histories.first().map_or(state.rolling.opened, |history| history.number);
-        state.journal = Some(next);
+        state.rolling.journal = Some(next);
         Some(Reader { shared: shared.clone(), next, is_begun: false, index: 0, written: Written::default() })
     }
 
@@ -146,10 +147,12 @@ impl Reader {
             return self.begin(state);
         }
         let rolling = &mut state.rolling;
+        let left = rolling.settings.journal_room() - self.index;
         let mut histories = rolling.histories.iter_mut().chain(&mut rolling.over);
         let history = histories.find(|history| history.number == self.next).expect("it is kept while it is read");
-        let kept = history.scheduler.entries_from(self.index);
-        let Ok(entries) = kept.map(|entries| entries.take(BATCH).collect::<Vec<Entry>>()) else {
+        let is_all = history.entries == self.index;
+        let kept = history.scheduler.entries_from(self.index).ok().filter(|_| left > 0 || is_all);
+        let Some(entries) = kept.map(|entries| entries.take(BATCH.min(left as usize)).collect::<Vec<Entry>>()) else {
             self.written.cut += 1;
             rolling.is_cut = self.next + 1 == rolling.opened;
             return self.end(state);
@@ -172,7 +175,7 @@ impl Reader {
         let history = place.map(|place| over.remove(place));
         self.is_begun = false;
         self.next += 1;
-        state.journal = Some(self.next);
+        state.rolling.journal = Some(self.next);
         Piece::Ends(history)
     }
 
@@ -188,7 +191,7 @@ impl Reader {
         self.is_begun = true;
         self.index = 0;
         let weights = history.weights.clone();
-        state.journal = Some(self.next);
+        state.rolling.journal = Some(self.next);
         Piece::Head(weights)
     }
 
@@ -221,13 +224,13 @@ impl Reader {
 }
 
 fn add_head(settings: &Settings, weights: &[u32], text: &mut String) {
-    let Settings { most_workers, tenants, kinds, entries, room, policy, estimator, initial, .. } = settings;
-    let (policy, estimator) = (policy_name(*policy), estimator_name(*estimator));
+    let Settings { most_workers, tenants, kinds, room, policy, estimator, initial, .. } = settings;
+    let (policy, estimator, entries) = (policy_name(*policy), estimator_name(*estimator), settings.journal_entries());
     add(text, format_args!("journal 2\nconfig {most_workers} {policy} {estimator} {initial} {entries} {room}\n"));
     for (tenant, weight) in tenants.iter().zip(weights) {
         add(text, format_args!("tenant {tenant} {weight}\n"));
     }
-    for kind in kinds {
+    for kind in kinds.iter() {
         add(text, format_args!("kind {kind}\n"));
     }
 }

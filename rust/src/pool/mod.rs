@@ -5,6 +5,7 @@ mod clock;
 mod handle;
 mod jobs;
 mod journal;
+mod names;
 mod rolling;
 mod scope;
 mod shared;
@@ -29,7 +30,7 @@ pub use worker::tick;
 
 use handle::Place;
 pub(crate) use jobs::Job;
-use jobs::Work;
+use jobs::{caught, Work};
 use journal::Reader;
 use rolling::Settings;
 use shared::Shared;
@@ -39,7 +40,10 @@ use state::Request;
 /// hand in and however long these take. Which job a worker takes next is decided by a [`Scheduler`](crate::Scheduler).
 ///
 /// The pool has no end: before the room of its scheduler ends it opens the next, and workers take from the old one until
-/// that is drained. Dropped, it closes, and waits until all accepted jobs are done.
+/// that is drained. Unless the caller names less room ([`Builder::entries`]) that is after more than a thousand million jobs.
+///
+/// Dropped, it closes, and waits until all accepted jobs are done. Dropped by a job of its own, or by its journal's writer,
+/// it closes and waits for nothing, since who drops it would wait for itself.
 ///
 /// ```
 /// use twodfq::Pool;
@@ -138,7 +142,7 @@ impl Pool {
     /// assert_eq!(pool.tenant("initech"), None);
     /// ```
     pub fn tenant(&self, name: &str) -> Option<u32> {
-        place(&self.settings.tenants, name)
+        self.settings.tenants.number(name)
     }
 
     /// The number of the kind of this name.
@@ -148,7 +152,7 @@ impl Pool {
     /// assert_eq!(pool.kind("scan"), Some(1));
     /// ```
     pub fn kind(&self, name: &str) -> Option<u32> {
-        place(&self.settings.kinds, name)
+        self.settings.kinds.number(name)
     }
 
     /// The tenant has this weight from now on, 1 to 1,000. A scheduler that drains keeps the weights it has where it has no
@@ -201,15 +205,18 @@ impl Pool {
     /// assert_eq!(pool.status().tenants[0].submitted, 1);
     /// ```
     pub fn status(&self) -> Status {
-        Status::of(&mut self.shared.lock(), &self.settings)
+        Status::of(&self.shared, &self.settings)
     }
 
     /// Has the journals of the pool's schedulers written while it runs, in the format of `docs/FORMATS.md`: one after
     /// another, each from its line `journal 2` on, and each to be judged by `twodfq check`. It begins with the scheduler
-    /// that serves now, and ends with the pool. The writer has a thread of its own, and no worker ever waits for it. Where
-    /// it is so slow that an entry is kept no longer (see [`Builder::keep`]), the journal of that scheduler ends before that
-    /// entry. Where nothing waits at a submit the next scheduler takes over then, and has the next journal. Where five
-    /// schedulers are over before it has come to them, the oldest of these is left out.
+    /// that serves now, and ends with the pool. The writer has a thread of its own, and no worker ever waits for it.
+    ///
+    /// A journal has as many entries as `check` reads, 4,194,304 less what the jobs that wait need. A little before them, at
+    /// the first submit at which nothing waits, the next scheduler takes over, and has the next journal. Where something
+    /// always waits the journal ends there, and at the next submit at which nothing does the next begins. So it is where a
+    /// writer is so slow that an entry is kept no longer when it comes to it (see [`Builder::keep`]). Where five schedulers
+    /// are over before it has come to them, the oldest of these is left out.
     ///
     /// Fails where a journal is being written already, or its thread does not start.
     ///
@@ -228,11 +235,12 @@ impl Pool {
         let place = Arc::new(Place::new());
         let work = Box::new(Work { closure: move || reader.write(to), place: place.clone() });
         let thread = thread::Builder::new().name("twodfq-journal".to_string());
-        self.keep(thread.spawn(move || _ = work.run())?);
+        self.keep(thread.spawn(move || _ = caught(|| work.run()))?);
         Ok(Journal::new(place))
     }
 
-    /// Closes, waits until all accepted jobs are done, and tells what was counted. Dropping the pool waits too.
+    /// Closes, waits until all accepted jobs are done, and tells what was counted. Dropping the pool waits too. In a job of
+    /// the pool's own neither waits.
     ///
     /// ```
     /// let pool = twodfq::Pool::builder().tenant("acme", 1).open().unwrap();
@@ -249,11 +257,10 @@ impl Pool {
     fn end(&self) {
         self.close();
         let threads = mem::take(&mut *self.threads.lock().unwrap_or_else(PoisonError::into_inner));
-        for thread in threads {
-            // where a job drops the last owner of its pool, its worker can't wait for itself
-            if thread.thread().id() != thread::current().id() {
-                let _ = thread.join();
-            }
+        let here = thread::current().id();
+        // a job that ends its pool would wait for itself, and so would the journal's thread, which waits for all jobs
+        if threads.iter().all(|thread| thread.thread().id() != here) {
+            threads.into_iter().for_each(|thread| drop(thread.join()));
         }
     }
 }
@@ -284,8 +291,4 @@ where
         Ok(()) => Ok(Handle::new(place)),
         Err(cause) => Err(Rejected { job: work.expect("a refused job was not asked for").closure, cause }),
     }
-}
-
-fn place(names: &[String], name: &str) -> Option<u32> {
-    names.iter().position(|other| other == name).map(|place| place as u32)
 }

@@ -2,6 +2,7 @@
 //! older ones until these are drained.
 use std::sync::Arc;
 
+use super::names::Names;
 use crate::{Config, Estimator, OpenFault, Policy, Refusal, Scheduler, Submit, Taken};
 
 /// The caller whom entries name that no worker made.
@@ -14,10 +15,12 @@ const ONE_JOB_AND_CLOSE: u64 = 4;
 #[derive(Clone, Debug)]
 pub(crate) struct Settings {
     pub(crate) most_workers: u32,
-    pub(crate) tenants: Vec<String>,
-    pub(crate) kinds: Vec<String>,
+    pub(crate) tenants: Names,
+    pub(crate) kinds: Names,
     pub(crate) entries: u32,
     pub(crate) keep: u32,
+    /// How many entries a history has at most whose journal is judged.
+    pub(crate) judged: u32,
     pub(crate) room: u32,
     pub(crate) policy: Policy,
     pub(crate) estimator: Estimator,
@@ -25,6 +28,19 @@ pub(crate) struct Settings {
 }
 
 impl Settings {
+    /// How many entries the head of a journal says that its history may have.
+    pub(crate) fn journal_entries(&self) -> u32 {
+        self.entries.min(self.judged)
+    }
+
+    /// How many entries a journal has at most. Up to here a history of `journal_entries` has room for any call, so that the
+    /// first entries of a longer one are legal by that head.
+    pub(crate) fn journal_room(&self) -> u64 {
+        let needed = 2 * u64::from(self.room) + u64::from(self.most_workers) + ONE_JOB_AND_CLOSE;
+        let is_long = self.entries > self.judged;
+        u64::from(self.journal_entries()) - if is_long { needed } else { 0 }
+    }
+
     pub(crate) fn open(&self, weights: &[u32]) -> Result<Scheduler, OpenFault> {
         Scheduler::open(&Config {
             workers: self.most_workers,
@@ -96,9 +112,11 @@ pub(crate) struct Rolling {
     pub(crate) workers: u32,
     /// How many schedulers were opened.
     pub(crate) opened: u64,
+    /// The history that the journal reads or will read next, where there is a journal.
+    pub(crate) journal: Option<u64>,
     pub(crate) spare: Option<Spare>,
     pub(crate) is_opening: bool,
-    /// Whether entries of the newest are gone that the journal lacks, so that it goes on with the next.
+    /// Whether the journal of the newest has ended early, so that it goes on with the next.
     pub(crate) is_cut: bool,
     /// Those that are over and that nobody has yet.
     pub(crate) over: Vec<History>,
@@ -112,6 +130,7 @@ impl Rolling {
             weights,
             workers,
             opened: 0,
+            journal: None,
             spare: None,
             is_opening: false,
             is_cut: false,
@@ -164,15 +183,21 @@ impl Rolling {
         self.histories.last_mut().expect("there is one until the pool is closed")
     }
 
-    /// Whether the next job should begin the next scheduler: a sixteenth of the room is kept for changes while this one
-    /// drains. Where nothing waits an eighth is left unused, so that the next begins without a rest of this one; or more,
-    /// where the journal waits for the next.
+    /// How many entries the newest has at most, or where a journal is written, that journal.
+    fn room(&self) -> u64 {
+        self.journal.map_or(self.settings.entries.into(), |_| self.settings.journal_room())
+    }
+
+    /// Whether the next job should begin the next scheduler: a sixteenth of the entries is kept for changes while this one
+    /// drains. Where nothing waits and the next was opened ahead an eighth of the room is left unused, so that no job waits for
+    /// those of this one; or more, where the journal waits for the next.
     fn is_time_to_roll(&self) -> bool {
         let Some(newest) = self.histories.last() else { return false };
-        let room = u64::from(self.settings.entries);
+        let entries = u64::from(self.settings.entries);
         let to_come = 2 * u64::from(newest.waiting) + u64::from(newest.running) + ONE_JOB_AND_CLOSE;
-        let is_at_rest = newest.waiting == 0 && (self.is_cut || newest.entries * 8 >= room * 7);
-        is_at_rest || newest.entries + to_come + room / 16 > room
+        let is_due = self.is_cut || newest.entries * 8 >= self.room() * 7;
+        let is_at_rest = is_due && newest.waiting == 0 && self.spare.is_some();
+        is_at_rest || newest.entries + to_come + entries / 16 > entries
     }
 
     /// Makes a call on the newest scheduler, and on the next where there is no room.
@@ -274,7 +299,7 @@ impl Rolling {
     /// The weights of the scheduler that should be opened ahead, where it is time for that. Who asks opens it.
     pub(crate) fn ahead(&mut self) -> Option<Vec<u32>> {
         let newest = self.histories.last()?;
-        let is_time = newest.entries * 4 >= u64::from(self.settings.entries) * 3;
+        let is_time = self.is_cut || newest.entries * 4 >= self.room() * 3;
         if !is_time || self.is_opening || self.spare.is_some() {
             return None;
         }

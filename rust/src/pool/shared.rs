@@ -4,7 +4,7 @@ use std::sync::{Condvar, Mutex, MutexGuard, PoisonError, TryLockError};
 use std::time::{Duration, Instant};
 
 use super::cause::Cause;
-use super::clock::Clock;
+use super::clock::{Clock, Reading};
 use super::jobs::Job;
 use super::rolling::Spare;
 use super::state::{Effects, Ended, Request, Run, State};
@@ -33,6 +33,10 @@ impl Shared {
 
     fn moment(&self) -> u64 {
         self.clock.moment(Instant::now())
+    }
+
+    pub(crate) fn reading(&self) -> Reading {
+        self.clock.reading(Instant::now())
     }
 
     /// Nothing of a caller's own runs under this lock, but for the allocator, so it is soon free: who finds it taken looks
@@ -87,13 +91,14 @@ impl Shared {
     /// Notes the job that the worker has ended, and gives it the next; none where the worker is to end. It sleeps while there
     /// is nothing for it.
     pub(crate) fn next(&self, worker: u32, ended: Option<Ended>) -> Option<Run> {
-        let mut moment = ended.as_ref().map_or_else(|| self.moment(), |ended| ended.moment);
+        // where a job ends the next one is taken
+        let mut at = ended.as_ref().map_or_else(|| self.reading(), |ended| ended.at);
         let mut state = self.lock();
         if let Some(ended) = ended {
             state.done(worker, &ended);
         }
         loop {
-            let run = if worker < state.rolling.workers { state.take(moment, worker) } else { None };
+            let run = if worker < state.rolling.workers { state.take(at, worker) } else { None };
             if run.is_some() || state.is_over_for(worker) {
                 self.leave(state);
                 return run;
@@ -106,7 +111,7 @@ impl Shared {
                 self.carry_out(effects);
                 state = self.lock();
             }
-            moment = self.moment();
+            at = self.reading();
         }
     }
 

@@ -2,6 +2,7 @@
 use std::mem;
 
 use super::cause::Cause;
+use super::clock::Reading;
 use super::jobs::{Job, Jobs, Waiting};
 use super::rolling::{Dispatch, History, Rolling};
 use crate::Submit;
@@ -38,13 +39,14 @@ pub(crate) struct Run {
     pub(crate) job: Box<dyn Job>,
     pub(crate) tenant: u32,
     pub(crate) history: u64,
+    pub(crate) begun: Reading,
 }
 
 /// A job that has ended.
 pub(crate) struct Ended {
     pub(crate) tenant: u32,
     pub(crate) history: u64,
-    pub(crate) moment: u64,
+    pub(crate) at: Reading,
     pub(crate) cost: u64,
     pub(crate) panicked: bool,
 }
@@ -74,8 +76,6 @@ pub(crate) struct State {
     pub(crate) is_closed: bool,
     /// How many workers sleep that were not woken since. It may be too many, since a sleeper may wake by itself.
     pub(crate) sleeping: u32,
-    /// The history that the journal reads or will read next, where there is a journal.
-    pub(crate) journal: Option<u64>,
     /// Whether the journal sleeps until there is news.
     pub(crate) journal_sleeps: bool,
 }
@@ -91,7 +91,6 @@ impl State {
             running: 0,
             is_closed: false,
             sleeping: 0,
-            journal: None,
             journal_sleeps: false,
         }
     }
@@ -135,16 +134,16 @@ impl State {
         Ok(())
     }
 
-    /// What the worker runs next.
-    pub(crate) fn take(&mut self, moment: u64, worker: u32) -> Option<Run> {
-        let Dispatch { history, label } = self.rolling.take(moment, worker)?;
+    /// What the worker runs next, from this reading on.
+    pub(crate) fn take(&mut self, begun: Reading, worker: u32) -> Option<Run> {
+        let Dispatch { history, label } = self.rolling.take(begun.moment, worker)?;
         let Waiting { job, tenant } = self.jobs.take(label).expect("a label is that of a job which waits");
         self.waiting -= 1;
         self.running += 1;
         let count = &mut self.counts[tenant as usize];
         count.waiting -= 1;
         count.running += 1;
-        Some(Run { job, tenant, history })
+        Some(Run { job, tenant, history, begun })
     }
 
     pub(crate) fn report(&mut self, moment: u64, worker: u32, history: u64, tenant: u32, used: u64) {
@@ -154,7 +153,7 @@ impl State {
     }
 
     pub(crate) fn done(&mut self, worker: u32, ended: &Ended) {
-        self.rolling.done(ended.moment, worker, ended.history, ended.cost);
+        self.rolling.done(ended.at.moment, worker, ended.history, ended.cost);
         self.running -= 1;
         let count = &mut self.counts[ended.tenant as usize];
         count.running -= 1;
@@ -185,7 +184,7 @@ impl State {
     /// one that it is at.
     fn released(&mut self) -> Vec<History> {
         let over = &mut self.rolling.over;
-        let Some(at) = self.journal else { return mem::take(over) };
+        let Some(at) = self.rolling.journal else { return mem::take(over) };
         let (kept, mut released): (Vec<History>, Vec<History>) =
             mem::take(over).into_iter().partition(|history| history.number >= at);
         *over = kept;

@@ -1,10 +1,11 @@
 //! The life of a worker, and what a job may tell while it runs.
 use std::cell::RefCell;
 use std::mem;
-use std::panic::{self, AssertUnwindSafe};
 use std::sync::Arc;
-use std::time::Instant;
+use std::time::{Duration, Instant};
 
+use super::clock::Reading;
+use super::jobs::caught;
 use super::shared::Shared;
 use super::state::{Ended, Run};
 
@@ -18,9 +19,10 @@ struct Course {
 struct Running {
     tenant: u32,
     history: u64,
-    begun: u64,
+    begun: Reading,
     reported: u64,
-    last: Instant,
+    /// The moment of the take, or of the last report.
+    last: u64,
 }
 
 thread_local! {
@@ -41,20 +43,15 @@ pub(crate) fn work(shared: Arc<Shared>, worker: u32) {
     }
 }
 
-/// Runs a job, and measures it.
-fn perform(shared: &Shared, Run { job, tenant, history }: Run) -> Ended {
-    let last = Instant::now();
-    let begun = shared.clock.reading(last);
-    exchange(Some(Running { tenant, history, begun, reported: 0, last }));
-    // the job catches its own panic; what it leaves behind may panic too, even what that panic says
-    let panicked = panic::catch_unwind(AssertUnwindSafe(|| job.run())).unwrap_or_else(|payload| {
-        mem::forget(payload);
-        true
-    });
+/// Runs a job, and measures it from its take on. So what passes between a job's end and the next one's is charged, and a
+/// flood of short jobs pays for all the time that it keeps its workers busy.
+fn perform(shared: &Shared, Run { job, tenant, history, begun }: Run) -> Ended {
+    exchange(Some(Running { tenant, history, begun, reported: 0, last: begun.moment }));
+    // the job catches its own panic; what it leaves behind may panic too
+    let panicked = caught(|| job.run()).unwrap_or(true);
     let reported = exchange(None).map_or(0, |running| running.reported);
-    let now = Instant::now();
-    let cost = shared.clock.used_since(begun, now).max(reported);
-    Ended { tenant, history, moment: shared.clock.moment(now), cost, panicked }
+    let at = shared.reading();
+    Ended { tenant, history, at, cost: at.since(&begun).max(reported), panicked }
 }
 
 /// Tells the pool what the job that calls it has used so far, so that a long job is charged while it runs and not only at
@@ -72,12 +69,12 @@ pub fn tick() {
     COURSE.with_borrow_mut(|course| {
         let Some(Course { shared, worker, job: Some(job) }) = course else { return };
         let now = Instant::now();
-        if now.duration_since(job.last) < shared.refresh {
+        let moment = shared.clock.moment(now);
+        if Duration::from_micros(moment - job.last) < shared.refresh {
             return;
         }
-        job.last = now;
-        job.reported = shared.clock.used_since(job.begun, now);
-        let moment = shared.clock.moment(now);
+        job.last = moment;
+        job.reported = shared.clock.reading(now).since(&job.begun);
         shared.report(moment, *worker, job.history, job.tenant, job.reported);
     });
 }

@@ -1,0 +1,111 @@
+//! What jobs are charged, as one sees it who comes back after a flood of them: a visitor is served soon, however short the
+//! jobs of the flood are, and however little of their time is measured.
+use std::hint;
+use std::sync::atomic::{AtomicBool, AtomicUsize, Ordering};
+use std::sync::{Arc, Barrier, Mutex, PoisonError};
+use std::thread;
+use std::time::{Duration, Instant};
+
+use twodfq::{Measure, Policy, Pool};
+
+const WORKERS: u32 = 4;
+const FLOOD: u32 = 0;
+const VISITOR: u32 = 1;
+
+fn nothing() {}
+
+fn spin() {
+    let begun = Instant::now();
+    while begun.elapsed() < Duration::from_micros(100) {
+        hint::spin_loop();
+    }
+}
+
+fn sleep() {
+    thread::sleep(Duration::from_millis(1));
+}
+
+/// Jobs of one tenant that all wait before the first of them is run.
+struct Flood {
+    measure: Measure,
+    job: fn(),
+    jobs: usize,
+}
+
+/// How many jobs have been run, and whether the others may be left out.
+#[derive(Default)]
+struct Progress {
+    ran: AtomicUsize,
+    is_over: AtomicBool,
+}
+
+impl Progress {
+    fn ran(&self) -> usize {
+        self.ran.load(Ordering::SeqCst)
+    }
+}
+
+impl Flood {
+    /// Hands the jobs in while all workers are held, and lets go.
+    fn begin(&self, pool: &Pool) -> Arc<Progress> {
+        let barrier = Arc::new(Barrier::new(WORKERS as usize + 1));
+        for _ in 0..WORKERS {
+            let barrier = barrier.clone();
+            pool.submit(FLOOD, 0, move || _ = barrier.wait()).unwrap();
+        }
+        let progress = Arc::<Progress>::default();
+        for _ in 0..self.jobs {
+            let (progress, job) = (progress.clone(), self.job);
+            let counted = move || {
+                if !progress.is_over.load(Ordering::SeqCst) {
+                    job();
+                }
+                progress.ran.fetch_add(1, Ordering::SeqCst);
+            };
+            pool.submit(FLOOD, 0, counted).unwrap();
+        }
+        barrier.wait();
+        progress
+    }
+
+    /// How many jobs of the flood are run before each of ten requests of a visitor, who comes once half of them are, and who
+    /// sends the next request when one is done.
+    fn waits(&self) -> Vec<usize> {
+        static TURN: Mutex<()> = Mutex::new(()); // one flood at a time
+        let _turn = TURN.lock().unwrap_or_else(PoisonError::into_inner);
+        let builder = Pool::builder().workers(WORKERS).tenant("flood", 1).tenant("visitor", 1).room(262_144);
+        let pool = builder.policy(Policy::default()).measure(self.measure).open().unwrap();
+        let progress = self.begin(&pool);
+        while progress.ran() < self.jobs / 2 {
+            thread::sleep(Duration::from_millis(1));
+        }
+        let visit = |_| {
+            let seen = progress.clone();
+            let handle = pool.submit(VISITOR, 0, move || seen.ran()).unwrap();
+            let before = progress.ran();
+            handle.join().unwrap().saturating_sub(before)
+        };
+        let waits = (0..10).map(visit).collect();
+        progress.is_over.store(true, Ordering::SeqCst);
+        waits
+    }
+}
+
+#[test]
+fn a_visitor_is_soon_served_beside_empty_jobs() {
+    let waits = Flood { measure: Measure::Wall, job: nothing, jobs: 200_000 }.waits();
+    assert!(waits.iter().sum::<usize>() < 10_000, "{waits:?}");
+}
+
+#[test]
+fn a_visitor_is_soon_served_beside_short_jobs() {
+    let waits = Flood { measure: Measure::Wall, job: spin, jobs: 40_000 }.waits();
+    assert!(waits.iter().sum::<usize>() < 400, "{waits:?}");
+}
+
+#[test]
+#[ignore = "under `2dfq` virtual time goes by the clock, whatever is charged"]
+fn a_visitor_is_soon_served_beside_jobs_whose_sleep_is_not_charged() {
+    let waits = Flood { measure: Measure::Processor, job: sleep, jobs: 8000 }.waits();
+    assert!(waits.iter().sum::<usize>() < 2000, "{waits:?}");
+}
