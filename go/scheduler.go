@@ -51,9 +51,9 @@ type Config struct {
 	Keep     uint32 // for how many of the last entries memory is taken; 0, and any number above Entries, is all of them
 }
 
-// Default gives four workers, 0 for Entries and Keep, 10,000 requests, TwoDFQ, Pessimistic and 1,000 microseconds.
+// Default gives four workers, 0 for Entries and Keep, 10,000 requests, TwoDFQPlus, Pessimistic and 1,000 microseconds.
 func Default(weights ...uint32) Config {
-	return Config{Workers: 4, Weights: weights, Kinds: 1, Requests: 10_000, Policy: TwoDFQ, Estimate: Pessimistic,
+	return Config{Workers: 4, Weights: weights, Kinds: 1, Requests: 10_000, Policy: TwoDFQPlus, Estimate: Pessimistic,
 		Initial: 1000}
 }
 

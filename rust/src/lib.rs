@@ -60,9 +60,9 @@ pub enum Policy {
     /// As `Wf2q`, with starts by the virtual time that passed while a tenant was idle.
     Msf2q,
     /// As `Wf2q`, with starts that differ from worker to worker.
-    #[default]
     TwoDfq,
     /// As `TwoDfq`, with a virtual time that stays near what was served.
+    #[default]
     TwoDfqPlus,
 }
 

@@ -1,4 +1,4 @@
-//! The comparison of all policies and estimators.
+//! The comparison of the published policies by all estimators.
 ghost use Rattle.std.specs.Prelude.{◌≡◌, ◌≤◌, ◌+◌, ◌++◌, ◌∷◌, [], length, Err, IfOk, IfErr, IsOkAnd, OnOk};
 ghost use Rattle.fq_model.specs.declared.limits.TheConstants.{MOST_ENTRIES};
 ghost use Rattle.program_model.specs.CompareCommand.{AreAllRows};

@@ -1,4 +1,4 @@
-//! A chooser that looks at the keys of all heads, under each of the four policies.
+//! A chooser that looks at the keys of all heads, under every policy.
 #![tactic(auto)]
 
 mod pass;
