@@ -8,10 +8,9 @@ use Rattle.std.proofs.lemmas.Option.{get_or_from_slice_get, slice_get_within}
 use Rattle.std.proofs.lemmas.Slice.Zip.{all_zipped_more}
 use Rattle.fq_model.specs.declared.config.Estimator.{Estimator}
 use Rattle.fq_model.specs.declared.config.Policy.{Policy}
-use Rattle.fq_model.specs.declared.config.Policy.TheVariants.{Wfq}
+use Rattle.fq_model.specs.declared.config.Policy.TheVariants.{Wfq, Wf2q, Msf2q, TwoDfq}
 use Rattle.program_model.specs.declared.compare.CompareOptions.{CompareOptions}
 use Rattle.program_model.specs.declared.compare.CompareRow.{CompareRow}
-use Rattle.program_model.specs.CommandOptions.{policies}
 use Rattle.program_model.specs.Compare.{all_pairs, IsCompared}
 use Rattle.program_model.specs.CompareCommand.{IsShort, IsLong, IsFirstLong, AreAllRows}
 use Rattle.program_model.specs.Trace.{Trace}
@@ -84,8 +83,12 @@ three P a b c (suc zero) l = b
 three P a b c (suc (suc zero)) l = c
 three P a b c (suc (suc (suc k))) l = absurd (omega (arith, l))
 
+-- the policies, in the order in which the code takes them
+abbrev pub compared : List Policy
+compared = Wfq ∷ Wf2q ∷ Msf2q ∷ TwoDfq ∷ []
+
 -- a policy's pairs come behind three of each before it
-pub policy_comes : (k : ℕ) → k < 4 → ComesAt (3 * k) (get_or policies k Wfq)
+pub policy_comes : (k : ℕ) → k < 4 → ComesAt (3 * k) (get_or compared k Wfq)
 policy_comes zero l = three _ refl refl refl
 policy_comes (suc zero) l = three _ refl refl refl
 policy_comes (suc (suc zero)) l = three _ refl refl refl

@@ -1,4 +1,4 @@
-//! The comparison of the published policies by all estimators.
+//! The comparison of the published policies and all estimators.
 ghost use Rattle.std.specs.Prelude.{◌≡◌, ◌≤◌, ◌+◌, ◌++◌, ◌∷◌, [], length, Err, IfOk, IfErr, IsOkAnd, OnOk};
 ghost use Rattle.fq_model.specs.declared.limits.TheConstants.{MOST_ENTRIES};
 ghost use Rattle.program_model.specs.CompareCommand.{AreAllRows};
@@ -18,10 +18,10 @@ use std::thread::Threads;
 use trace_reader::trace::Trace;
 use trace_runner::needed::needed;
 
-/// How many policies and estimators there are together.
+/// How many pairs of a policy and an estimator are compared.
 const PAIRS: usize = 12;
 
-/// What each policy and estimator come to on a trace: twelve rows, by policy `wfq`, `wf2q`, `msf2q`, `2dfq`, and in
+/// What each pair comes to on a trace: twelve rows, by policy `wfq`, `wf2q`, `msf2q`, `2dfq`, and in
 /// each by estimator `declared`, `recent`, `pessimistic`. The rows are the same for any number of threads. The policies
 /// go one after another and the estimators of each side by side, so no more than three histories and reports stand in
 /// memory at once. The first row without a history or a report decides; no row after those of its policy is begun.

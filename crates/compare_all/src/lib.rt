@@ -1,4 +1,4 @@
-//! A trace under the published policies by all estimators: what each pair comes to, and the best of them.
+//! A trace under the published policies and all estimators: what each comes to, and the best of them.
 #![tactic(auto)]
 
 pub mod best;

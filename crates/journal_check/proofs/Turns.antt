@@ -11,12 +11,12 @@ use Rattle.fq_model.specs.History.{History, history_of, is_taken, is_take_of, po
 use Rattle.fq_model.specs.declared.config.Policy.{Policy}
 use Rattle.fq_model.specs.Pace.{virtual_time}
 use Rattle.fq_model.specs.Keys.{HeadKeys, Turn, keys_at, turn_at}
-use Rattle.fq_laws.proofs.Time.Clock.{virtual_time_step}
+use Rattle.fq_model.specs.Time.{effective_moment}
+use Rattle.fq_laws.proofs.Rules.Passes.{in_order}
 use Rattle.fq_model.specs.declared.event.Reply.{Reply}
 use Rattle.fq_model.specs.Limits.{InLimits}
 use Rattle.fq_model.specs.Rules.{Answers, IsLegal}
 use Rattle.program_model.specs.Journal.{call_of}
-use Rattle.sched_state.specs.Scheduler.{virtual_time_now}
 use Rattle.journal_check.specs.declared.explaining.TakenAt.{TakenAt}
 use Rattle.journal_check.proofs.Fitting.{call_enters}
 use Rattle.journal_check.proofs.Judging.{same_entries}
@@ -129,12 +129,12 @@ module _ (C : Config) (entries : List Entry) (request : ℕ) (x : TakenAt) (take
 
 -- ---- the turn
 
-module _ (C : Config) (P Q : History) (given : Entry) (worker : ℕ) (enters : Q ≡ given ∷ P) where
-  -- virtual time after the Take is that before it, at its moment
-  time_there : (v : ℤ) → v ≡ pos (virtual_time_now C Q) → v ≡ pos (virtual_time C P given.moment)
-  time_there v is = is ∙ ap (λ (H : History). pos (virtual_time_now C H)) enters ∙ ap pos (virtual_time_step C P given)
+module _ (C : Config) (P : History) (given : Entry) (worker : ℕ) (legal : IsLegal C (given ∷ P)) where
+  -- the Take comes at its own moment
+  time_there : (v : ℤ) → v ≡ pos (virtual_time C P (effective_moment P given.moment)) → v ≡ pos (virtual_time C P given.moment)
+  time_there v is = is ∙ ap (λ (m : ℕ). pos (virtual_time C P m)) (sym (in_order P given.moment legal.1 legal.2))
 
-  pub turn_told : (policy : Policy) (workers : ℕ) (v z : ℤ) (heads : List (ℕ × HeadKeys)) (x : Explained) → policy ≡ C.policy → workers ≡ pool_at C P → v ≡ pos (virtual_time_now C Q) → z ≡ v
+  pub turn_told : (policy : Policy) (workers : ℕ) (v z : ℤ) (heads : List (ℕ × HeadKeys)) (x : Explained) → policy ≡ C.policy → workers ≡ pool_at C P → v ≡ pos (virtual_time C P (effective_moment P given.moment)) → z ≡ v
       → heads ≡ heads_at C P given.moment → x.worker ≡ worker → x.moment ≡ given.moment → x.vtime ≡ z
       → AreRows (record { policy = policy; workers = workers; worker = worker; virtual_time = z }) heads x.rows.items → IsTurn C P given.moment worker x
   turn_told policy workers v z heads x policy_is pool is back heads_are worker_is moment_is vtime_is rows =

@@ -91,8 +91,8 @@ fn explain_at<X: Chooser + Drop>(
     ensures known { IfOk result (λ x. All (λ row. row.tenant < length journal.now.weights) x.rows.items) }
 {
     let before = &journal.body()[..taken.place];
-    let mut scheduler = scheduler_after::<X>(alloc, journal.config(), before)?;
-    let explained = turn_of(alloc, &mut scheduler, taken.entry, taken.worker);
+    let scheduler = scheduler_after::<X>(alloc, journal.config(), before)?;
+    let explained = turn_of(alloc, &scheduler, taken.entry, taken.worker);
     drop(scheduler);
     explained
 }
@@ -130,25 +130,22 @@ fn enter_all<X: Chooser>(scheduler: &mut Scheduler<u64, X>, entries: &[Entry])
 // The turn of the worker whose Take this is.
 fn turn_of<X: Chooser>(
     alloc: Global,
-    scheduler: &mut Scheduler<u64, X>,
+    scheduler: &Scheduler<u64, X>,
     given: Entry,
     worker: u32,
 ) -> Result<Explained, AllocError>
-    requires limits { InLimits scheduler.old.config }
-    requires legal { IsLegal scheduler.old.config (given ∷ history_of scheduler.old.past) }
+    requires legal { IsLegal scheduler.now.config (given ∷ history_of scheduler.now.past) }
     requires takes { IsTakeBy worker given }
-    ensures { IfOk result (IsTurn scheduler.old.config (history_of scheduler.old.past) given.moment worker) }
+    ensures { IfOk result (IsTurn scheduler.now.config (history_of scheduler.now.past) given.moment worker) }
 {
-    let heads = heads_of(alloc, scheduler)?;
-    let workers = scheduler.pool();
-    answer(scheduler, call_of(given)); // which brings virtual time to its moment
-    let vtime = scheduler.virtual_time();
+    let vtime = scheduler.virtual_time_at(given.moment);
     let turn = Turn {
         policy: scheduler.config().policy(),
-        workers,
+        workers: scheduler.pool(),
         worker,
         virtual_time: vtime,
     };
+    let heads = heads_of(alloc, scheduler)?;
     let rows = rows_of(alloc, turn, heads.as_slice())?;
     Ok(Explained {
         worker,

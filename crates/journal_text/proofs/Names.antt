@@ -43,7 +43,7 @@ no_word bs word bad is = unlike bs word bad (IsUtf8-from_ascii word (is_ascii wo
 
 pub no_policy : (bs : List ℕ) → ¬ IsUtf8 bs → None ≡ policy_of bs
 no_policy bs bad =
-    rw (no_word bs (codes "wfq") bad refl, no_word bs (codes "wf2q") bad refl, no_word bs (codes "msf2q") bad refl, no_word bs (codes "2dfq") bad refl) refl
+    rw (no_word bs (codes "wfq") bad refl, no_word bs (codes "wf2q") bad refl, no_word bs (codes "msf2q") bad refl, no_word bs (codes "2dfq") bad refl, no_word bs (codes "2dfq+") bad refl) refl
 
 pub no_estimator : (bs : List ℕ) → ¬ IsUtf8 bs → None ≡ estimator_of bs
 no_estimator bs bad =

@@ -10,7 +10,7 @@ use Rattle.fq_model.specs.declared.config.Config.{Config}
 use Rattle.fq_model.specs.declared.config.Estimator.{Estimator}
 use Rattle.fq_model.specs.declared.config.Estimator.TheVariants.{Declared, Recent, Pessimistic}
 use Rattle.fq_model.specs.declared.config.Policy.{Policy}
-use Rattle.fq_model.specs.declared.config.Policy.TheVariants.{Wfq, Wf2q, Msf2q, TwoDfq}
+use Rattle.fq_model.specs.declared.config.Policy.TheVariants.{Wfq, Wf2q, Msf2q, TwoDfq, TwoDfqPlus}
 use Rattle.fq_model.specs.declared.event.Act.{Act}
 use Rattle.fq_model.specs.declared.event.Act.TheVariants.{Submit, Take, Report, Done, Close, Weight, Workers}
 use Rattle.fq_model.specs.declared.event.Entry.{Entry}
@@ -54,6 +54,7 @@ policy_read words k Wfq is = rw is refl
 policy_read words k Wf2q is = rw is refl
 policy_read words k Msf2q is = rw is refl
 policy_read words k TwoDfq is = rw is refl
+policy_read words k TwoDfqPlus is = rw is refl
 
 estimator_read : (words : Words) (k : ℕ) (estimate : Estimator) → word words k ≡ estimator_word estimate → estimator_at words k ≡ Ok estimate
 unfolding estimator_at
@@ -298,6 +299,7 @@ policy_is_word Wfq = omega arith
 policy_is_word Wf2q = omega arith
 policy_is_word Msf2q = omega arith
 policy_is_word TwoDfq = omega arith
+policy_is_word TwoDfqPlus = omega arith
 
 pub estimator_is_word : (estimate : Estimator) → IsWord (estimator_word estimate)
 estimator_is_word Declared = omega arith

@@ -1,5 +1,5 @@
 //! Laws of charges, estimates, virtual time and tags.
-ghost use Rattle.fq_laws.specs.AccountLaws.{ChargeSteps, FinalCharge, ChargeCoversUse, ChargeLimit, TenantSteps, TenantLimits, EstimateRange, GreatestRuns, TimeSteps, TimeRises, TimeLimit, IdleSteps, IdleLimit, BaseRises, TagCatchesUp, StartLimit};
+ghost use Rattle.fq_laws.specs.AccountLaws.{ChargeSteps, FinalCharge, ChargeCoversUse, ChargeLimit, TenantSteps, TenantLimits, EstimateRange, GreatestRuns, TimeIsByClock, TimeSteps, TakesLift, TimeRises, TimeIsCapped, TimeLimit, IdleSteps, IdleLimit, BaseRises, TagCatchesUp, StartLimit, PaceLimit};
 
 /// A Take charges its request the estimate, a Report raises the charge to the use, and a Done makes it the cost.
 pub fn charge_steps()
@@ -41,9 +41,19 @@ pub fn greatest_runs()
     ensures { GreatestRuns }
 {}
 
-/// Virtual time makes one advance from each entry to the next.
+/// Under each policy but `2dfq+` virtual time is that of the clock, and so are the bases of tags.
+pub fn time_is_by_clock()
+    ensures { TimeIsByClock }
+{}
+
+/// Virtual time makes one advance from each entry to the next, but not past the cap of `2dfq+`.
 pub fn time_steps()
     ensures { TimeSteps }
+{}
+
+/// Under `2dfq+` a Take lifts virtual time to the eligible key of its request, and the cap to its finish.
+pub fn takes_lift()
+    ensures { TakesLift }
 {}
 
 /// Virtual time never falls.
@@ -51,18 +61,23 @@ pub fn time_rises()
     ensures { TimeRises }
 {}
 
-/// Virtual time, in steps, is at most 64 units for each microsecond.
+/// Under `2dfq+` it never passes the cap.
+pub fn time_is_capped()
+    ensures { TimeIsCapped }
+{}
+
+/// Under the other policies it is, in steps, at most 64 units for each microsecond.
 pub fn time_limit()
     ensures { TimeLimit }
 {}
 
 /// The virtual time that passed while a tenant was not active stays while the tenant is active, and else moves along
-/// with virtual time.
+/// with virtual time by the clock.
 pub fn idle_steps()
     ensures { IdleSteps }
 {}
 
-/// It is at most virtual time.
+/// It is at most virtual time by the clock.
 pub fn idle_limit()
     ensures { IdleLimit }
 {}
@@ -80,4 +95,9 @@ pub fn tag_catches_up()
 /// Where a tenant starts fits 128 bits by far.
 pub fn start_limit()
     ensures { StartLimit }
+{}
+
+/// So it does under `2dfq+`, and so does the cap.
+pub fn pace_limit()
+    ensures { PaceLimit }
 {}

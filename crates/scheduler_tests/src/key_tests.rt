@@ -15,18 +15,19 @@ fn keys_of_a_head(rt: HostRuntime) {
 // Of two workers the second begins half a length early: from 4 units on a head that starts at 8 and is 8 long, from
 // 5.5 units on one that starts at 6 and is 1 long.
 #[test]
-fn staggered_under_2dfq_alone(rt: HostRuntime) {
+fn staggered_under_2dfq_and_2dfq_plus(rt: HostRuntime) {
     let long = keys(8388608, 8, 1, 1);
     let short = keys(6291456, 1, 1, 7);
     let told = [
         eligible_key(Policy::TwoDfq, long, 1, 2),
         eligible_key(Policy::TwoDfq, short, 1, 2),
         eligible_key(Policy::TwoDfq, long, 0, 2),
+        eligible_key(Policy::TwoDfqPlus, long, 1, 2),
         eligible_key(Policy::Wfq, long, 1, 2),
         eligible_key(Policy::Wf2q, long, 1, 2),
         eligible_key(Policy::Msf2q, long, 1, 2),
     ];
-    let wanted = [4194304, 5767168, 8388608, 8388608, 8388608, 8388608];
+    let wanted = [4194304, 5767168, 8388608, 4194304, 8388608, 8388608, 8388608];
     assert_eq!(rt; told, wanted);
 }
 

@@ -296,6 +296,7 @@ fn expect_all_alike<X: Chooser + Drop, Y: Chooser + Drop, P: Chooser + Drop, R: 
     expect_alike::<X, Y, P, R>(rt, alloc, &trace, Policy::Wf2q);
     expect_alike::<X, Y, P, R>(rt, alloc, &trace, Policy::Msf2q);
     expect_alike::<X, Y, P, R>(rt, alloc, &trace, Policy::TwoDfq);
+    expect_alike::<X, Y, P, R>(rt, alloc, &trace, Policy::TwoDfqPlus);
 }
 
 // Which chooser serves is not seen in a history.

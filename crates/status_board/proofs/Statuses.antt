@@ -4,13 +4,13 @@ use Rattle.std.proofs.lemmas.Int.{ints}
 use Rattle.std.proofs.lemmas.List.{length-reverse}
 use Rattle.std.specs.Prelude.{slice_index}
 use Rattle.fq_laws.proofs.History.Counts.{waiting_none, running_none}
+use Rattle.fq_laws.proofs.Keys.Pace.{virtual_time_nil}
 use Rattle.fq_model.specs.declared.config.Config.{Config}
 use Rattle.fq_model.specs.declared.event.Entry.{Entry}
 use Rattle.fq_model.specs.declared.parts.Status.{Status}
 use Rattle.fq_model.specs.History.{history_of, waiting, running}
 use Rattle.fq_model.specs.Status.{status_of}
 use Rattle.fq_model.specs.Time.{last_moment}
-use Rattle.fq_model.specs.Pace.{virtual_time}
 use Rattle.status_board.specs.Words.{status_at, status_in, virtual_now, words_of, words_in}
 
 module _ (C : Config) (P : List Entry) (s : Status) (is : s ≡ status_at C P) where
@@ -64,8 +64,9 @@ told_is c C P s is told = ap (λ (o : Option Status). unwrap_or o s) (sym told �
 
 -- the words of the empty history
 pub opening_words : (C : Config) → 0 ∷ 0 ∷ 0 ∷ 0 ∷ 0 ∷ [] ≡ words_of C []
-unfolding virtual_time
-opening_words C = λ i. 0 ∷ 0 ∷ 0 ∷ sym waiting_none i ∷ sym running_none i ∷ []
+opening_words C =
+    let none : 0 ≡ virtual_now C [] = sym (virtual_time_nil C (last_moment (history_of []))) in
+    λ i. 0 ∷ none i % 18446744073709551616 ∷ none i / 18446744073709551616 ∷ sym waiting_none i ∷ sym running_none i ∷ []
 
 pub opening_status : (C : Config) → ◌≡◌ {A = Status} (record { entries = 0; moment = 0; vtime = pos 0; waiting = 0; running = 0 }) (status_at C [])
 opening_status C = status_back C [] 0 0 0 0 0 0 (pos 0) refl (opening_words C) refl

@@ -252,6 +252,17 @@ fn the_others_are_read(rt: HostRuntime) {
             Some(run(asked, 5, HistoryPrint::Journal)),
         ),
         (
+            "run --policy=2dfq+",
+            Some(run(
+                RunOptions {
+                    policy: Policy::TwoDfqPlus,
+                    ..plain
+                },
+                0,
+                HistoryPrint::Both,
+            )),
+        ),
+        (
             "run --print report --slot=1000000000000000",
             Some(run(plain, 1000000000000000, HistoryPrint::Report)),
         ),
@@ -263,6 +274,7 @@ fn the_others_are_read(rt: HostRuntime) {
         ("run --slot 1000000000000001", None),
         ("run --workers 0", None),
         ("run --workers 65", None),
+        ("run --policy 2dfq++", None),
         ("live", Some(live(plain, 0, HistoryPrint::Both, 0))),
         (
             "live --print=journal --refresh 0 --initial=1 --estimate declared --policy wf2q --workers=64 --slot 5 --",

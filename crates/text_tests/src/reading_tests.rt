@@ -156,7 +156,7 @@ fn reads_every_word(rt: HostRuntime) {
         "script 1\nconfig 64 wfq recent 1 4 1\ntenant a 1000\nkind get",
         "script 1\nconfig 1 wf2q pessimistic 1000000000 4194304 262144\ntenant A-z_0.9 1\nkind -\n",
         "script 1\nconfig 1 msf2q declared 1 4 1\ntenant a 1\ntenant b 1\nkind a\nkind b\nsubmit 4294967295 18446744073709551615 4294967295 4294967295 0 18446744073709551615\n",
-        "script 1\nconfig 1 2dfq declared 1000 100 10\ntenant aaaaaaaaaaaaaaaaaaaaaaaaaaaaaaaaaaaaaaaaaaaaaaaaaaaaaaaaaaaaaaaa 1\nkind aaaaaaaaaaaaaaaaaaaaaaaaaaaaaaaaaaaaaaaaaaaaaaaaaaaaaaaaaaaaaaaa\n",
+        "script 1\nconfig 1 2dfq+ declared 1000 100 10\ntenant aaaaaaaaaaaaaaaaaaaaaaaaaaaaaaaaaaaaaaaaaaaaaaaaaaaaaaaaaaaaaaaa 1\nkind aaaaaaaaaaaaaaaaaaaaaaaaaaaaaaaaaaaaaaaaaaaaaaaaaaaaaaaaaaaaaaaa\n",
     ];
     expect_scripts(&rt, rt.alloc(), &texts);
 }

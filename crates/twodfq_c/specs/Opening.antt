@@ -19,6 +19,7 @@ policy_number policy.Wfq = 0
 policy_number policy.Wf2q = 1
 policy_number policy.Msf2q = 2
 policy_number policy.TwoDfq = 3
+policy_number policy.TwoDfqPlus = 4
 
 abbrev pub estimator_number : Estimator → ℕ
 estimator_number estimator.Declared = 0
@@ -58,7 +59,7 @@ pub record IsConfigOf (o : Opening) (weights : List ℕ) (c : Config) : Type 0 w
 -- the first number that names nothing: no policy has it, or no estimator
 abbrev pub unnamed_number : Opening → Option Refusal
 unnamed_number o =
-    if nat_le 4 o.policy then Some refusal.Policy
+    if nat_le 5 o.policy then Some refusal.Policy
     else if nat_le 3 o.estimate then Some refusal.Estimator
     else None
 

@@ -11,10 +11,10 @@ use fq_model::config::{Checked, Config, ConfigFault, Estimator, Policy, Weights}
 use recent_history::Recent;
 use std::alloc::{AllocError, Global};
 
-/// A configuration without its weights. `policy` is 0 for wfq, 1 for wf2q, 2 for msf2q, 3 for 2dfq; `estimate` is 0 for
-/// declared, 1 for recent, 2 for pessimistic. `keep` is how many of the last entries can be read; 0, and a number above
-/// that of the entries, keeps all. The other numbers have the limits of `fq_model`'s `Config`; a history may be long
-/// where `keep` is not 0.
+/// A configuration without its weights. `policy` is 0 for wfq, 1 for wf2q, 2 for msf2q, 3 for 2dfq, 4 for 2dfq+;
+/// `estimate` is 0 for declared, 1 for recent, 2 for pessimistic. `keep` is how many of the last entries can be read;
+/// 0, and a number above that of the entries, keeps all. The other numbers have the limits of `fq_model`'s `Config`; a
+/// history may be long where `keep` is not 0.
 #[repr(C)]
 #[derive(Clone, Copy, Debug, PartialEq, Eq)]
 pub struct Opening {
@@ -166,13 +166,14 @@ impl Opening {
 
 fn policy_of(number: u32) -> Option<Policy>
     ensures some { IfSome result (λ policy. policy_number policy ≡ number) }
-    ensures none { IfNone result (4 ≤ number) }
+    ensures none { IfNone result (5 ≤ number) }
 {
     match number {
         0 => Some(Policy::Wfq),
         1 => Some(Policy::Wf2q),
         2 => Some(Policy::Msf2q),
         3 => Some(Policy::TwoDfq),
+        4 => Some(Policy::TwoDfqPlus),
         _ => None,
     }
 }

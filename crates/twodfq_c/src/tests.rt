@@ -105,7 +105,7 @@ fn the_first_cause_is_told(rt: HostRuntime) -> Result<(), Fail> {
     assert_eq!(rt; twodfq_open(&mut handle, rt.alloc(), &OPENING, &[1]), 0);
     opening.workers = 0;
     opening.kinds = 0;
-    opening.policy = 4;
+    opening.policy = 5;
     opening.estimate = 3;
     assert_eq!(rt; twodfq_open(&mut handle, rt.alloc(), &opening, &[0]), 1);
     twodfq_free(&mut handle, rt.alloc());

@@ -1,4 +1,4 @@
-//! `compare`: a trace under the published policies by all estimators, and the best of them.
+//! `compare`: a trace under the published policies and all estimators, and the best of them.
 ghost use Rattle.program_model.specs.CompareCommand.{IsCompareAnswer, IsComparisonAnswer};
 ghost use Rattle.program_model.specs.RunLimits.{CanCompare};
 ghost use Rattle.program_model.specs.TraceText.{IsLawfulTrace};

@@ -92,8 +92,9 @@ pub fn live<T: Wait + Threads + Sync, R: Source, W: Sink, E: Sink, K: Clock + Sy
     told(errs, end)
 }
 
-/// The command `compare`, which simulates a trace under the published policies by all estimators; words for another are no
-/// command line here. Threads work for it, but it waits for nobody: it always returns. The answer is the exit status.
+/// The command `compare`, which simulates a trace under the published policies and all estimators; words for another
+/// are no command line here. Threads work for it, but it waits for nobody: it always returns. The answer is the exit
+/// status.
 pub fn compare<T: Threads + Sync, R: Source, W: Sink, E: Sink>(
     rt: &T,
     alloc: Global,

@@ -1,8 +1,7 @@
 use Rattle.std.proofs.Common.{arith, sym, subst, get_or}
 use Rattle.fq_model.specs.declared.config.Policy.TheVariants.{Wfq}
-use Rattle.program_model.specs.CommandOptions.{policies}
 use Rattle.compare_all.specs.Rows.{AreFirstRows, ComesAt}
-use Rattle.compare_all.proofs.Firsts.{no_rows, policy_comes, all_rows}
+use Rattle.compare_all.proofs.Firsts.{compared, no_rows, policy_comes, all_rows}
 use Rattle.compare_all.proofs.comparing.compare.Goals as goal
 
 pub loop-policy-init : goal.loop-policy-init
@@ -13,7 +12,7 @@ loop-policy-init g c = record {
 
 pub add_rows-requires-clause-next : goal.add_rows-requires-clause-next
 add_rows-requires-clause-next g c κs within =
-    subst (λ n. ComesAt n (get_or policies c.loop-policy.policy-index Wfq)) (sym c.loop-policy.invariant.count) (policy_comes c.loop-policy.policy-index c.loop-policy-test.true)
+    subst (λ n. ComesAt n (get_or compared c.loop-policy.policy-index Wfq)) (sym c.loop-policy.invariant.count) (policy_comes c.loop-policy.policy-index c.loop-policy-test.true)
 
 pub returns-clause-rows : goal.returns-clause-rows
 returns-clause-rows g c = all_rows c.args.trace.now c.args.options c.loop-policy.rows.items (omega (arith, c.loop-policy.invariant.count, c.loop-policy-test.false, c.loop-policy.auto.policy-index-end)) c.loop-policy.invariant.first
