@@ -1,15 +1,13 @@
 -- The clock of a history at a later moment, and at one entry more.
-use Rattle.std.proofs.Common.{ℕ, ◌+◌, ◌-◌, ◌^◌, ◌≤◌, ◌≡◌, ◌≢◌, false, min, arith, refl, inl, inr, ap, sym, ◌∙◌, ◌∷◌, [], pos, ℤ, ◌+ℤ◌}
+use Rattle.std.proofs.Common.{ℕ, ◌+◌, ◌^◌, ◌≤◌, ◌≡◌, false, arith, refl, inl, inr, ap, sym, ◌∙◌, ◌∷◌, [], pos}
 use Rattle.std.specs.Int.{int_min}
 use Rattle.std.proofs.lemmas.Int.{ints, clamps}
-use Rattle.vt_fixed.specs.Rounding.{advance_of}
 use Rattle.vt_fixed.specs.declared.limits.TheConstants.{GREATEST_MOMENT}
 use Rattle.fq_model.specs.declared.config.Config.{Config}
 use Rattle.fq_model.specs.declared.config.Policy.{Policy}
 use Rattle.fq_model.specs.declared.config.Policy.TheVariants.{TwoDfqPlus}
 use Rattle.fq_model.specs.declared.event.Entry.{Entry}
 use Rattle.fq_model.specs.Limits.{InLimits}
-use Rattle.fq_model.specs.declared.limits.TheConstants.{GREATEST_VIRTUAL_TIME}
 use Rattle.fq_model.specs.History.{History, pool_at}
 use Rattle.fq_model.specs.Time.{active_weight, last_moment, virtual_advance}
 use Rattle.fq_model.specs.Pace.{pace, virtual_time}

@@ -1,5 +1,5 @@
 -- The clock and the idle times of a history.
-use Rattle.std.specs.Prelude.{ℕ, ℤ, ◌<◌, ◌≤◌, ◌≡◌, ◌≢◌, List, ◌∷◌, length, slice_index, pos, ◌≤ℤ◌}
+use Rattle.std.specs.Prelude.{ℕ, ℤ, ◌<◌, ◌≡◌, ◌≢◌, List, ◌∷◌, length, slice_index, pos, ◌≤ℤ◌}
 use Rattle.fq_model.specs.declared.config.Config.{Config}
 use Rattle.fq_model.specs.declared.config.Policy.TheVariants.{TwoDfqPlus}
 use Rattle.fq_model.specs.declared.event.Act.TheVariants.{Take}
@@ -67,6 +67,11 @@ TimesAre C P times = TimesAt C P (last_moment P) times
 -- whatever history the times are of, and at whichever moment, this is its virtual time
 abbrev pub IsTimeOf : Times → ℤ → Type 0
 IsTimeOf times v = (C : Config) (P : History) (m : ℕ) → TimesAt C P m times → v ≡ pos (virtual_time C P m)
+
+-- whatever history they are of, and at its last entry, this is its virtual time at the moment m
+abbrev pub IsLaterTimeOf : Times → ℕ → ℤ → Type 0
+IsLaterTimeOf times m v =
+    (C : Config) (P : History) → InLimits C → IsLegal C P → TimesAre C P times → v ≡ pos (virtual_time C P m)
 
 -- and this is the virtual time up to then that passed while the tenant was not active, but under 2dfq+
 abbrev pub IsIdleTimeOf : Times → ℕ → ℤ → Type 0

@@ -73,9 +73,20 @@ impl Clock128 {
         requires in_range { moment ≤ GREATEST_MOMENT }
         ensures { self.new ≡ moved_to self.old moment }
     {
-        let moved = self.time + advance(moment - self.moment, self.workers, self.weights);
-        self.time = moved.min(self.cap);
+        self.time = self.at(moment);
         self.moment = moment;
+    }
+
+    /// Virtual time at a later moment, in microseconds, where no entry comes before it; in steps.
+    pub fn at(&self, moment: u64) -> i128
+        requires later { self.now.moment ≤ moment }
+        requires in_range { moment ≤ GREATEST_MOMENT }
+        ensures value { result ≡ (moved_to self.now moment).time }
+        ensures low { pos 0 ≤ℤ result }
+        ensures high { result ≤ℤ GREATEST_VIRTUAL_TIME }
+    {
+        let moved = self.time + advance(moment - self.moment, self.workers, self.weights);
+        moved.min(self.cap)
     }
 
     /// A tenant of this weight becomes active.

@@ -3,7 +3,7 @@ ghost use Rattle.std.specs.Prelude.{◌<◌, ◌≤◌, ◌≡◌, ◌≢◌, []
 ghost use Rattle.fq_model.specs.declared.config.Policy.TheVariants.{TwoDfqPlus};
 ghost use Rattle.fq_laws.specs.Steps.{Awaits, Follows, Submits, Completes, Reweighs, Staffs};
 ghost use Rattle.virtual_clock.specs.Idles.{idle_of};
-ghost use Rattle.virtual_clock.specs.Histories.{TimesAre, ComesTo, AwaitsTake, FollowsTake, IsTimeOf, IsIdleTimeOf, IsWeightOf, IsPoolOf};
+ghost use Rattle.virtual_clock.specs.Histories.{TimesAre, ComesTo, AwaitsTake, FollowsTake, IsTimeOf, IsLaterTimeOf, IsIdleTimeOf, IsWeightOf, IsPoolOf};
 
 use crate::clock::Clock128;
 use crate::idles::Idles;
@@ -116,6 +116,18 @@ impl Times {
         ensures high { result ≤ℤ GREATEST_VIRTUAL_TIME }
     {
         self.clock.now()
+    }
+
+    /// Virtual time at a moment that is not before the last entry, in microseconds, where no entry comes before it; in
+    /// steps.
+    pub fn at(&self, moment: u64) -> i128
+        requires later { self.now.clock.moment ≤ moment }
+        requires in_range { moment ≤ GREATEST_MOMENT }
+        ensures value { IsLaterTimeOf self.now moment result }
+        ensures low { pos 0 ≤ℤ result }
+        ensures high { result ≤ℤ GREATEST_VIRTUAL_TIME }
+    {
+        self.clock.at(moment)
     }
 
     /// The number of workers at the last entry: 1 to 64.
