@@ -29,7 +29,7 @@ use Rattle.fq_laws.proofs.Rules.Limits.{last_moment_small}
 use Rattle.fq_laws.proofs.Rules.Refusals.{take_free}
 use Rattle.fq_laws.proofs.Rules.Takes.{keys_head, choice_head}
 use Rattle.fq_laws.proofs.Keys.Pace.{virtual_time_step}
-use Rattle.fq_laws.proofs.History.Weights.{weight_step, pool_step}
+use Rattle.fq_laws.proofs.History.Weights.{pool_step}
 use Rattle.charge_book.specs.declared.row.RunRow.{RunRow}
 use Rattle.charge_book.specs.Book.{row_of_run, begun, reported, report_change, finished, finish_change}
 use Rattle.charge_book.proofs.Steps.{book_submit, book_quiet}

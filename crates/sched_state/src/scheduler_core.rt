@@ -6,6 +6,8 @@ ghost use Rattle.fq_model.specs.History.{history_of, pool_at};
 ghost use Rattle.fq_model.specs.Keys.{keys_at};
 ghost use Rattle.fq_model.specs.Rules.{IsLegal};
 ghost use Rattle.fq_model.specs.Status.{status_of};
+ghost use Rattle.fq_model.specs.Time.{effective_moment};
+ghost use Rattle.fq_model.specs.Pace.{virtual_time};
 ghost use Rattle.charge_book.specs.Histories.{row_of_worker};
 ghost use Rattle.sched_journal.specs.Journal.{newest};
 ghost use Rattle.sched_state.specs.Lists.{HoldsWaiting};
@@ -262,6 +264,17 @@ impl<J: Job + Drop, X: Chooser> Core<J, X> {
         ensures high { result ≤ℤ GREATEST_VIRTUAL_TIME }
     {
         self.tracker.times().now()
+    }
+
+    /// Virtual time at a moment, in steps: what it comes to by then where no call is accepted before. A moment before the
+    /// last entry's stands for that.
+    pub fn virtual_time_at(&self, moment: u64) -> i128
+        ensures value { result ≡ pos (virtual_time self.now.config (history_of self.now.past)
+            (effective_moment (history_of self.now.past) moment)) }
+        ensures low { pos 0 ≤ℤ result }
+        ensures high { result ≤ℤ GREATEST_VIRTUAL_TIME }
+    {
+        self.tracker.times().at(self.journal.effective(moment))
     }
 
     /// How many workers there are now: 1 to as many as at the opening.
