@@ -4,7 +4,7 @@ use Rattle.std.specs.Prelude.{slice_index, slice_get, is_some, if◌then◌else�
 use Rattle.std.proofs.lemmas.Option.{get_or_from_slice_get, slice_get_within}
 use Rattle.fq_model.specs.declared.config.Config.{Config}
 use Rattle.fq_model.specs.declared.config.Policy.{Policy}
-use Rattle.fq_model.specs.declared.config.Policy.TheVariants.{Wfq, Wf2q, Msf2q, TwoDfq}
+use Rattle.fq_model.specs.declared.config.Policy.TheVariants.{Wfq, Wf2q, Msf2q, TwoDfq, TwoDfqPlus}
 use Rattle.fq_model.specs.declared.event.Act.{Act}
 use Rattle.fq_model.specs.declared.event.Act.TheVariants.{Submit, Take, Report, Done, Close, Weight, Workers}
 use Rattle.fq_model.specs.declared.event.Entry.{Entry}
@@ -18,8 +18,9 @@ use Rattle.fq_model.specs.Gap.{is_shared, start_difference}
 use Rattle.fq_laws.specs.Steps.{Awaits, Follows, Submits, Completes, Reweighs, Staffs}
 use Rattle.fq_laws.proofs.History.Queues.{head_is_first}
 use Rattle.fq_laws.proofs.History.Requests.{use_known}
-use Rattle.fq_laws.proofs.Keys.Tags.{base_step}
-use Rattle.virtual_clock.specs.Histories.{TimesAre, PassOn}
+use Rattle.fq_laws.proofs.Keys.Pace.{base_step}
+use Rattle.virtual_clock.specs.Histories.{TimesAre, ComesTo}
+use Rattle.virtual_clock.proofs.TimeSteps.{times_pass}
 use Rattle.gap_laws.specs.Words.{HasDeclaredCosts, taken_length}
 use Rattle.gap_laws.proofs.Declared.{all_are_declared, charge_step}
 use Rattle.tag_gap.specs.declared.asked.Asked.{Asked}
@@ -47,9 +48,15 @@ steady_at C P u (Submit request tenant kind declared label) h = absurd (cc)
 steady_at C P u (Take worker request estimate) h = absurd (cc)
 steady_at C P u a h = record { no_length = refl; no_submit = refl; same_queue = refl }
 
+-- all but the times is the same
+pub record SameRest (k n : Reading) : Type 0 where
+  pub policy : n.policy ≡ k.policy
+  pub accounts : n.accounts ≡ k.accounts
+  pub waiting : n.waiting ≡ k.waiting
+
 -- where all is as declared, it leaves charges and waiting requests as they are
-steady_keeps : (C : Config) (P : History) (e : Entry) (k n : Reading) → is_steady e.act ≡ true → HasDeclaredCosts C (e ∷ P) → TimesAre C (e ∷ P) n.times → n.accounts ≡ k.accounts → n.waiting ≡ k.waiting → Keeps C P k → Keeps C (e ∷ P) n
-steady_keeps C P e k n steady h times accounts waiting is =
+steady_keeps : (C : Config) (P : History) (e : Entry) (k n : Reading) → is_steady e.act ≡ true → HasDeclaredCosts C (e ∷ P) → TimesAre C (e ∷ P) n.times → SameRest k n → Keeps C P k → Keeps C (e ∷ P) n
+steady_keeps C P e k n steady h times same is =
     let charges : (u : ℕ) → virtual_charge C (e ∷ P) u ≡ virtual_charge C P u = λ u. (
     let s = steady_at C P u e.act steady in
     omega (arith, charge_step C P e u h.limits h.legal (all_are_declared C (e ∷ P) h), s.no_length)
@@ -58,14 +65,15 @@ steady_keeps C P e k n steady h times accounts waiting is =
     record {
       limits = h.limits;
       legal = h.legal;
+      policy_is = same.policy ∙ is.policy_is;
       times_are = times;
-      accounts_are = rw accounts (record {
+      accounts_are = rw same.accounts (record {
         charges_sized = is.accounts_are.charges_sized;
         bases_sized = is.accounts_are.bases_sized;
         charges_are = λ u b. is.accounts_are.charges_are u b ∙ ap pos (sym (charges u));
         bases_are = λ u b. is.accounts_are.bases_are u b ∙ ap pos (sym (bases u));
       });
-      waiting_are = rw waiting (record {
+      waiting_are = rw same.waiting (record {
         tenants = is.waiting_are.tenants;
         each = λ u b. is.waiting_are.each u b ∙ ap length (sym (steady_at C P u e.act steady).same_queue);
       });
@@ -105,8 +113,8 @@ module _ (C : Config) (P : History) (asked : List Asked) (e : Entry) (may : MayC
       let q = use_known C P w r cost may.costs.legal.0 f in
       known_at r q.0 q.1
 
-  takes_is : (w r estimate : ℕ) → e.act ≡ Take w r estimate → Takes e.moment (asked_at asked r).tenant estimate P e
-  takes_is w r estimate act = let x = taken_at w r estimate act in record { worker = w; request = r; asked = x.what; moment_is = refl; act_is = act; asked_is = x.was; tenant_is = x.tenant_is }
+  takes_is : (w r estimate : ℕ) → e.act ≡ Take w r estimate → Takes e.moment w (asked_at asked r).tenant estimate P e
+  takes_is w r estimate act = let x = taken_at w r estimate act in record { request = r; asked = x.what; moment_is = refl; act_is = act; asked_is = x.was; tenant_is = x.tenant_is }
 
   completes_is : (w r cost : ℕ) → e.act ≡ Done w r cost → Completes e.moment (asked_at asked r).tenant P e
   completes_is w r cost act = let x = done_at w r cost act in record { worker = w; request = r; cost = cost; asked = x.what; moment_is = refl; act_is = act; asked_is = x.was; tenant_is = x.tenant_is }
@@ -122,21 +130,21 @@ awaits_done asked e k w r cost a act = record { config = a.config; history = a.h
 pub read_submit : (asked : List Asked) (e : Entry) (k n : Reading) (r t kind declared label : ℕ) → e.act ≡ Submit r t kind declared label → Follows Keeps (Submits e.moment t) k n → FollowsEntry asked e k n
 read_submit asked e k n r t kind declared label act f = λ C P may is. f C P e is.limits may.costs.legal (record { request = r; kind = kind; declared = declared; label = label; moment_is = refl; act_is = act }) is
 
-pub read_take : (asked : List Asked) (e : Entry) (k n : Reading) (w r estimate : ℕ) → e.act ≡ Take w r estimate → Follows Keeps (Takes e.moment (asked_at asked r).tenant estimate) k n → FollowsEntry asked e k n
+pub read_take : (asked : List Asked) (e : Entry) (k n : Reading) (w r estimate : ℕ) → e.act ≡ Take w r estimate → Follows Keeps (Takes e.moment w (asked_at asked r).tenant estimate) k n → FollowsEntry asked e k n
 read_take asked e k n w r estimate act f = λ C P may is. f C P e is.limits may.costs.legal (takes_is C P asked e may w r estimate act) is
 
-pub read_pass : (asked : List Asked) (e : Entry) (k n : Reading) → ((w : ℕ) × (r : ℕ) × (used : ℕ) × (e.act ≡ Report w r used)) ⊎ (e.act ≡ Close) → PassOn e.moment k.times n.times → n.accounts ≡ k.accounts → n.waiting ≡ k.waiting → FollowsEntry asked e k n
-read_pass asked e k n (inl x) f accounts waiting = λ C P may is. steady_keeps C P e k n (rw x.3 refl) may.costs (f C P e (record { moment_is = refl; act_passes = rw x.3 refl }) is.times_are) accounts waiting is
-read_pass asked e k n (inr act) f accounts waiting = λ C P may is. steady_keeps C P e k n (rw act refl) may.costs (f C P e (record { moment_is = refl; act_passes = rw act refl }) is.times_are) accounts waiting is
+pub read_pass : (asked : List Asked) (e : Entry) (k n : Reading) → ((w : ℕ) × (r : ℕ) × (used : ℕ) × (e.act ≡ Report w r used)) ⊎ (e.act ≡ Close) → ComesTo e.moment k.times n.times → SameRest k n → FollowsEntry asked e k n
+read_pass asked e k n (inl x) f same = λ C P may is. steady_keeps C P e k n (rw x.3 refl) may.costs (times_pass C P e n.times (rw x.3 refl) (rw x.3 refl) (f C P is.limits may.costs.legal.0 is.times_are)) same is
+read_pass asked e k n (inr act) f same = λ C P may is. steady_keeps C P e k n (rw act refl) may.costs (times_pass C P e n.times (rw act refl) (rw act refl) (f C P is.limits may.costs.legal.0 is.times_are)) same is
 
-pub read_done : (asked : List Asked) (e : Entry) (k n : Reading) (w r cost : ℕ) → e.act ≡ Done w r cost → Follows TimesAre (Completes e.moment (asked_at asked r).tenant) k.times n.times → n.accounts ≡ k.accounts → n.waiting ≡ k.waiting → FollowsEntry asked e k n
-read_done asked e k n w r cost act f accounts waiting = λ C P may is. steady_keeps C P e k n (rw act refl) may.costs (f C P e is.limits may.costs.legal (completes_is C P asked e may w r cost act) is.times_are) accounts waiting is
+pub read_done : (asked : List Asked) (e : Entry) (k n : Reading) (w r cost : ℕ) → e.act ≡ Done w r cost → Follows TimesAre (Completes e.moment (asked_at asked r).tenant) k.times n.times → SameRest k n → FollowsEntry asked e k n
+read_done asked e k n w r cost act f same = λ C P may is. steady_keeps C P e k n (rw act refl) may.costs (f C P e is.limits may.costs.legal (completes_is C P asked e may w r cost act) is.times_are) same is
 
-pub read_weight : (asked : List Asked) (e : Entry) (k n : Reading) (t weight : ℕ) → e.act ≡ Weight t weight → Follows TimesAre (Reweighs e.moment t weight) k.times n.times → n.accounts ≡ k.accounts → n.waiting ≡ k.waiting → FollowsEntry asked e k n
-read_weight asked e k n t weight act f accounts waiting = λ C P may is. steady_keeps C P e k n (rw act refl) may.costs (f C P e is.limits may.costs.legal (record { moment_is = refl; act_is = act }) is.times_are) accounts waiting is
+pub read_weight : (asked : List Asked) (e : Entry) (k n : Reading) (t weight : ℕ) → e.act ≡ Weight t weight → Follows TimesAre (Reweighs e.moment t weight) k.times n.times → SameRest k n → FollowsEntry asked e k n
+read_weight asked e k n t weight act f same = λ C P may is. steady_keeps C P e k n (rw act refl) may.costs (f C P e is.limits may.costs.legal (record { moment_is = refl; act_is = act }) is.times_are) same is
 
-pub read_workers : (asked : List Asked) (e : Entry) (k n : Reading) (count : ℕ) → e.act ≡ Workers count → Follows TimesAre (Staffs e.moment count) k.times n.times → n.accounts ≡ k.accounts → n.waiting ≡ k.waiting → FollowsEntry asked e k n
-read_workers asked e k n count act f accounts waiting = λ C P may is. steady_keeps C P e k n (rw act refl) may.costs (f C P e is.limits may.costs.legal (record { moment_is = refl; act_is = act }) is.times_are) accounts waiting is
+pub read_workers : (asked : List Asked) (e : Entry) (k n : Reading) (count : ℕ) → e.act ≡ Workers count → Follows TimesAre (Staffs e.moment count) k.times n.times → SameRest k n → FollowsEntry asked e k n
+read_workers asked e k n count act f same = λ C P may is. steady_keeps C P e k n (rw act refl) may.costs (f C P e is.limits may.costs.legal (record { moment_is = refl; act_is = act }) is.times_are) same is
 
 -- ---- starts and their difference
 
@@ -144,11 +152,12 @@ pub start_idle : (C : Config) (P : History) (m t : ℕ) (p : Policy) → p ≡ C
 unfolding start
 start_idle C P m t p same is = rw (← same, is) refl
 
-pub start_tag : (C : Config) (P : History) (m t : ℕ) (p : Policy) → p ≡ C.policy → (p ≡ Wfq) ⊎ ((p ≡ Wf2q) ⊎ (p ≡ TwoDfq)) → start C P m t ≡ tag C P t
+pub start_tag : (C : Config) (P : History) (m t : ℕ) (p : Policy) → p ≡ C.policy → (p ≡ Wfq) ⊎ ((p ≡ Wf2q) ⊎ ((p ≡ TwoDfq) ⊎ (p ≡ TwoDfqPlus))) → start C P m t ≡ tag C P t
 unfolding start
 start_tag C P m t p same (inl is) = rw (← same, is) refl
 start_tag C P m t p same (inr (inl is)) = rw (← same, is) refl
-start_tag C P m t p same (inr (inr is)) = rw (← same, is) refl
+start_tag C P m t p same (inr (inr (inl is))) = rw (← same, is) refl
+start_tag C P m t p same (inr (inr (inr is))) = rw (← same, is) refl
 
 head_none : (C : Config) (P : History) (k : Reading) (t : ℕ) → t < length C.weights → Keeps C P k → slice_index k.waiting.items t ≡ 0 → is_some (head P t) ≡ false
 head_none C P k t known is none = rw (head_is_first C P t is.limits is.legal, no_first (queue P t) (omega (arith, none, is.waiting_are.each t known))) refl

@@ -6,7 +6,7 @@ use Rattle.vt_fixed.specs.declared.limits.TheConstants.{GREATEST_COST}
 use Rattle.vt_fixed.proofs.Bounds.{length_none, length_max, length_min, length_high}
 use Rattle.fq_model.specs.declared.config.Config.{Config}
 use Rattle.fq_model.specs.declared.config.Policy.{Policy}
-use Rattle.fq_model.specs.declared.config.Policy.TheVariants.{Wfq, Wf2q, Msf2q, TwoDfq}
+use Rattle.fq_model.specs.declared.config.Policy.TheVariants.{Wfq, Wf2q, Msf2q, TwoDfq, TwoDfqPlus}
 use Rattle.fq_model.specs.declared.event.Act.{Act}
 use Rattle.fq_model.specs.declared.event.Act.TheVariants.{Submit, Weight}
 use Rattle.fq_model.specs.declared.event.Entry.{Entry}
@@ -111,8 +111,9 @@ unfolding longest_length
 longest_both C H f g = greatest_both (lengths_had C H f) (lengths_had C H g)
 
 -- how many the bound has
-pub lengths_two : (p q : Policy) → p ≡ q → p ≡ TwoDfq → lengths_in_bound q ≡ 2
-lengths_two p q same is = rw (← same, is) refl
+pub lengths_two : (p q : Policy) → p ≡ q → (p ≡ TwoDfq) ⊎ (p ≡ TwoDfqPlus) → lengths_in_bound q ≡ 2
+lengths_two p q same (inl is) = rw (← same, is) refl
+lengths_two p q same (inr is) = rw (← same, is) refl
 
 pub lengths_one : (p q : Policy) → p ≡ q → (p ≡ Wfq) ⊎ ((p ≡ Wf2q) ⊎ (p ≡ Msf2q)) → lengths_in_bound q ≡ 1
 lengths_one p q same (inl is) = rw (← same, is) refl

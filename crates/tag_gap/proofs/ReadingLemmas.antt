@@ -8,30 +8,33 @@ use Rattle.std.proofs.lemmas.Option.{get_or_from_slice_get, slice_get_read}
 use Rattle.vt_fixed.specs.Rounding.{length_of}
 use Rattle.vt_fixed.specs.declared.limits.TheConstants.{GREATEST_COST}
 use Rattle.fq_model.specs.declared.config.Config.{Config}
+use Rattle.fq_model.specs.declared.config.Policy.TheVariants.{TwoDfqPlus}
 use Rattle.fq_model.specs.declared.event.Act.{Act}
 use Rattle.fq_model.specs.declared.event.Act.TheVariants.{Submit, Take}
 use Rattle.fq_model.specs.declared.event.Entry.{Entry}
 use Rattle.fq_model.specs.Limits.{InLimits}
 use Rattle.fq_model.specs.History.{History, Request, request_at, is_of_tenant, head, queue, queue_after, weight_at, is_submit}
 use Rattle.fq_model.specs.Pace.{virtual_time}
-use Rattle.fq_model.specs.Charge.{virtual_charge}
-use Rattle.fq_model.specs.Rules.{IsLegal, FitsTake}
+use Rattle.fq_model.specs.Charge.{virtual_charge, request_estimate}
+use Rattle.fq_model.specs.Keys.{HeadKeys, tag, start}
+use Rattle.fq_model.specs.Rules.{IsLegal, Fits, FitsTake}
 use Rattle.fq_laws.specs.Words.{one_more, first}
-use Rattle.fq_laws.specs.Steps.{Awaits, Follows, Passes, Submits}
+use Rattle.fq_laws.specs.Steps.{Awaits, Follows, passes, Submits}
 use Rattle.fq_laws.proofs.History.Queues.{head_is_first}
 use Rattle.fq_laws.proofs.History.Requests.{request_known}
 use Rattle.fq_laws.proofs.History.Asked.{of_own, of_other}
-use Rattle.fq_laws.proofs.History.Weights.{weight_step}
 use Rattle.fq_laws.proofs.Charge.Estimates.{estimate_range}
 use Rattle.fq_laws.proofs.Charge.Tenants.{virtual_charge_taken}
-use Rattle.fq_laws.proofs.Rules.Takes.{take_head}
+use Rattle.fq_laws.proofs.Rules.Takes.{choice_head, take_head}
 use Rattle.fq_laws.proofs.Rules.Limits.{length_entries}
-use Rattle.fq_laws.proofs.Time.Clock.{virtual_time_step}
+use Rattle.fq_laws.proofs.Keys.Choices.{KeysOf, keys_of}
+use Rattle.fq_laws.proofs.Keys.Pace.{virtual_time_step}
 use Rattle.virtual_clock.specs.declared.times.Times.{Times}
-use Rattle.virtual_clock.specs.Histories.{TimesAre, PassOn, IsTimeOf, IsWeightOf}
+use Rattle.virtual_clock.specs.Histories.{TimesAt, TimesAre, ComesTo, TakesChoice, AwaitsTake, FollowsTake, IsTimeOf, IsWeightOf}
 use Rattle.virtual_clock.proofs.Opening.{submits_open}
-use Rattle.tag_rules.specs.Accounts.{AccountsView, AccountsAre, IsCharge, at_first, charge_of, charged}
-use Rattle.tag_rules.proofs.AccountSteps.{accounts_nil, accounts_raise, accounts_leave, accounts_charge, may_charge}
+use Rattle.virtual_clock.proofs.TimeSteps.{times_take}
+use Rattle.tag_rules.specs.Accounts.{AccountsView, AccountsAre, IsCharge, at_first, charge_of, base_of, charged}
+use Rattle.tag_rules.proofs.AccountSteps.{accounts_nil, accounts_raise, accounts_leave, accounts_charge, may_charge, tag_is_sum}
 use Rattle.tag_gap.specs.declared.reading.Reading.{Reading}
 use Rattle.tag_gap.specs.Reading.{WaitingAre, Keeps, Takes, raised_first}
 
@@ -41,10 +44,11 @@ entry_is e a is = ap (λ (x : Act). record { who = e.who; moment = e.moment; act
 
 -- ---- the empty history
 
-pub keeps_nil : (C : Config) (k : Reading) → InLimits C → TimesAre C [] k.times → k.accounts ≡ at_first (length C.weights) → k.waiting.items ≡ replicate (length C.weights) 0 → Keeps C [] k
-keeps_nil C k lim times accounts waiting = record {
+pub keeps_nil : (C : Config) (k : Reading) → InLimits C → k.policy ≡ C.policy → TimesAre C [] k.times → k.accounts ≡ at_first (length C.weights) → k.waiting.items ≡ replicate (length C.weights) 0 → Keeps C [] k
+keeps_nil C k lim policy times accounts waiting = record {
   limits = lim;
   legal = tt;
+  policy_is = policy;
   times_are = times;
   accounts_are = rw accounts (accounts_nil C);
   waiting_are = rw waiting (record { tenants = length-replicate (length C.weights) 0; each = λ t b. get_or-replicate (length C.weights) t 0 0 b });
@@ -106,12 +110,13 @@ queue_submit_other : (P : History) (who m r t u kind declared label : ℕ) → u
 queue_submit_other P who m r t u kind declared label ne = rw (ne_eqb t u (λ e. ne (sym e))) refl
 
 -- what is kept after a Submit, once the tag is raised at v and one more waits
-submitted_keeps : (C : Config) (P : History) (k n : Reading) (who m r t kind declared label : ℕ) → InLimits C → IsLegal C (one_more who m (Submit r t kind declared label) P) → Keeps C P k → TimesAre C (one_more who m (Submit r t kind declared label) P) n.times → n.accounts ≡ raised_first (slice_index k.waiting.items t) k.accounts t (pos (virtual_time C P m)) → n.waiting.items ≡ slice_set k.waiting.items t (slice_index k.waiting.items t + 1) → Keeps C (one_more who m (Submit r t kind declared label) P) n
-submitted_keeps C P k n who m r t kind declared label lim l is times accounts waiting =
+submitted_keeps : (C : Config) (P : History) (k n : Reading) (who m r t kind declared label : ℕ) → InLimits C → IsLegal C (one_more who m (Submit r t kind declared label) P) → Keeps C P k → n.policy ≡ k.policy → TimesAre C (one_more who m (Submit r t kind declared label) P) n.times → n.accounts ≡ raised_first (slice_index k.waiting.items t) k.accounts t (pos (virtual_time C P m)) → n.waiting.items ≡ slice_set k.waiting.items t (slice_index k.waiting.items t + 1) → Keeps C (one_more who m (Submit r t kind declared label) P) n
+submitted_keeps C P k n who m r t kind declared label lim l is policy times accounts waiting =
     let count = is.waiting_are.each t l.3.tenant_known in
     record {
       limits = lim;
       legal = l;
+      policy_is = policy ∙ is.policy_is;
       times_are = times;
       accounts_are = rw accounts (accounts_submit C P k.accounts who m r t kind declared label (slice_index k.waiting.items t) lim l count is.accounts_are);
       waiting_are = rw waiting (waiting_written C P (record { who = who; moment = m; act = Submit r t kind declared label }) t _ k.waiting.items l.3.tenant_known (omega (arith, count, queue_submit_own P who m r t kind declared label)) (λ u ne. queue_submit_other P who m r t u kind declared label ne) is.waiting_are);
@@ -121,14 +126,14 @@ submitted_keeps C P k n who m r t kind declared label lim l is times accounts wa
 pub read_number : (xs : List ℕ) (i x : ℕ) → i < length xs → x ≡ get_or xs i x → x ≡ slice_index xs i
 read_number xs i x b is = sym (get_or_from_slice_get xs i x 0 (slice_get_read xs (length xs) i x refl b is))
 
-pub submit_follows : (m t w : ℕ) (k n : Reading) (v z : ℤ) → Follows TimesAre (Submits m t) k.times n.times → IsTimeOf n.times v → z ≡ v → w ≡ slice_index k.waiting.items t → n.accounts ≡ raised_first w k.accounts t z → n.waiting.items ≡ slice_set k.waiting.items t (w + 1) → Follows Keeps (Submits m t) k n
-submit_follows m t w k n v z times shows same read accounts waiting = λ C P e lim l s is.
+pub submit_follows : (m t w : ℕ) (k n : Reading) (v z : ℤ) → n.policy ≡ k.policy → Follows TimesAre (Submits m t) k.times n.times → IsTimeOf n.times v → z ≡ v → w ≡ slice_index k.waiting.items t → n.accounts ≡ raised_first w k.accounts t z → n.waiting.items ≡ slice_set k.waiting.items t (w + 1) → Follows Keeps (Submits m t) k n
+submit_follows m t w k n v z policy times shows same read accounts waiting = λ C P e lim l s is.
     let entry = entry_is e _ s.act_is in
     let are : TimesAre C (e ∷ P) n.times = times C P e lim l s is.times_are in
-    let at : z ≡ pos (virtual_time C P e.moment) = same ∙ (shows C (e ∷ P) are ∙ ap pos (virtual_time_step C P e)) in
+    let at : z ≡ pos (virtual_time C P e.moment) = same ∙ (shows C (e ∷ P) e.moment are ∙ ap pos (virtual_time_step C P e (rw s.act_is refl))) in
     let raises : n.accounts ≡ raised_first (slice_index k.waiting.items t) k.accounts t (pos (virtual_time C P e.moment)) = accounts ∙ ap₂ (λ (x : ℕ) y. raised_first x k.accounts t y) read at in
     let more : n.waiting.items ≡ slice_set k.waiting.items t (slice_index k.waiting.items t + 1) = waiting ∙ ap (λ (x : ℕ). slice_set k.waiting.items t (x + 1)) read in
-    subst (λ (x : Entry). Keeps C (x ∷ P) n) (sym entry) (submitted_keeps C P k n e.who e.moment s.request t s.kind s.declared s.label lim (subst (λ (x : Entry). IsLegal C (x ∷ P)) entry l) is (subst (λ (x : Entry). TimesAre C (x ∷ P) n.times) entry are) raises more)
+    subst (λ (x : Entry). Keeps C (x ∷ P) n) (sym entry) (submitted_keeps C P k n e.who e.moment s.request t s.kind s.declared s.label lim (subst (λ (x : Entry). IsLegal C (x ∷ P)) entry l) is policy (subst (λ (x : Entry). TimesAre C (x ∷ P) n.times) entry are) raises more)
 
 -- what the calls at a Submit ask for
 pub record MaySubmit (k : Reading) (t : ℕ) : Type 0 where
@@ -155,7 +160,6 @@ record TakeStep (C : Config) (P : History) (e : Entry) (t estimate : ℕ) : Type
   other_charges : (u : ℕ) → u ≢ t → virtual_charge C (e ∷ P) u ≡ virtual_charge C P u
   own_queue : length (queue (e ∷ P) t) ≡ length (queue P t) - 1
   other_queues : (u : ℕ) → u ≢ t → queue (e ∷ P) u ≡ queue P u
-  same_weight : weight_at C (e ∷ P) t ≡ weight_at C P t
 
 taken_charge : (C : Config) (P : History) (who m w r estimate u : ℕ) (b : Bool) → InLimits C → IsLegal C (one_more who m (Take w r estimate) P) → is_of_tenant u (request_at P r) ≡ b → virtual_charge C (one_more who m (Take w r estimate) P) u ≡ virtual_charge C P u + cond b (length_of estimate (weight_at C P u)) 0
 taken_charge C P who m w r estimate u b lim l own = virtual_charge_taken C P who m u w r estimate lim l.0 l.3 ∙ ap (λ (b : Bool). virtual_charge C P u + cond b (length_of estimate (weight_at C P u)) 0) own
@@ -180,60 +184,121 @@ take_step_at C P who m w r estimate q lim l was =
       other_charges = λ u ne. omega (arith, taken_charge C P who m w r estimate u false lim l (of_other P u r q was (λ e. ne (sym e))));
       own_queue = rw own (length-drop 1 (queue P q.tenant));
       other_queues = λ u ne. rw (of_other P u r q was (λ e. ne (sym e))) refl;
-      same_weight = weight_step C P (record { who = who; moment = m; act = Take w r estimate }) q.tenant;
     }
 
-take_step : (C : Config) (P : History) (e : Entry) (m t estimate : ℕ) → InLimits C → IsLegal C (e ∷ P) → Takes m t estimate P e → TakeStep C P e t estimate
-take_step C P e m t estimate lim l s =
+take_step : (C : Config) (P : History) (e : Entry) (m w t estimate : ℕ) → InLimits C → IsLegal C (e ∷ P) → Takes m w t estimate P e → TakeStep C P e t estimate
+take_step C P e m w t estimate lim l s =
     let entry = entry_is e _ s.act_is in
-    let at = take_step_at C P e.who e.moment s.worker s.request estimate s.asked lim (subst (λ (x : Entry). IsLegal C (x ∷ P)) entry l) s.asked_is in
+    let at = take_step_at C P e.who e.moment w s.request estimate s.asked lim (subst (λ (x : Entry). IsLegal C (x ∷ P)) entry l) s.asked_is in
     subst (λ (u : ℕ). TakeStep C P e u estimate) s.tenant_is (subst (λ (x : Entry). TakeStep C P x s.asked.tenant estimate) (sym entry) at)
-
-take_passes : (m t estimate : ℕ) (P : History) (e : Entry) → Takes m t estimate P e → Passes m P e
-take_passes m t estimate P e s = record { moment_is = s.moment_is; act_passes = rw s.act_is refl }
 
 own_change : (a b d : ℕ) → b ≡ a + d → pos a +ℤ pos d ≡ pos b
 own_change a b d e = omega (arith, ints)
 
-pub take_follows : (m t estimate w weight : ℕ) (k n : Reading) (z : ℤ) → PassOn m k.times n.times → IsWeightOf n.times t weight → z ≡ pos (length_of estimate weight) → n.accounts ≡ charged k.accounts t z → w ≡ slice_index k.waiting.items t → n.waiting.items ≡ slice_set k.waiting.items t (w - 1) → Follows Keeps (Takes m t estimate) k n
-take_follows m t estimate w weight k n z times shows long accounts read waiting = λ C P e lim l s is.
-    let x = take_step C P e m t estimate lim l s in
-    let are : TimesAre C (e ∷ P) n.times = times C P e (take_passes m t estimate P e s) is.times_are in
-    let heavy : weight ≡ weight_at C P t = shows C (e ∷ P) are x.known ∙ x.same_weight in
-    let change : z ≡ pos (length_of estimate (weight_at C P t)) = long ∙ ap (λ (y : ℕ). pos (length_of estimate y)) heavy in
-    let own : pos (virtual_charge C P t) +ℤ z ≡ pos (virtual_charge C (e ∷ P) t) = rw change (own_change _ _ _ x.own_charge) in
+-- what is known of the weight, the length and the tag of what is taken, once the times have come to its moment
+pub record AtTake (m w t estimate : ℕ) (k : Reading) (passed : Times) (weight : ℕ) (len tag_now : ℤ) : Type 0 where
+  pub times : ComesTo m k.times passed
+  pub weight_is : IsWeightOf passed t weight
+  pub len_is : len ≡ pos (length_of estimate weight)
+  pub tag_is : tag_now ≡ charge_of k.accounts t +ℤ base_of k.accounts t
+
+start_tagged : (C : Config) (P : History) (m t : ℕ) → C.policy ≡ TwoDfqPlus → start C P m t ≡ tag C P t
+unfolding start
+start_tagged C P m t plus = rw plus refl
+
+-- the worker takes the choice
+taken_choice : (C : Config) (P : History) (e : Entry) (m w t estimate : ℕ) (start_at len : ℤ) → IsLegal C (e ∷ P) → Takes m w t estimate P e → start_at ≡ pos (start C P e.moment t) → len ≡ pos (length_of estimate (weight_at C P t)) → TakesChoice w start_at len C P e
+taken_choice C P e m w t estimate start_at len l s starts long =
+    let f : FitsTake C P e.moment w s.request estimate = subst (Fits C P e.moment) s.act_is l.3 in
+    let x = f.chosen in
+    let known : KeysOf C P e.moment x.tenant x.keys = keys_of C P e.moment x.tenant x.keys (choice_head C P e.moment w x.tenant x.keys x.choice) in
+    let asked : request_at P s.request ≡ Some known.what = ap (request_at P) x.request_is ∙ known.was_asked in
+    let both : Some s.asked ≡ Some known.what = sym s.asked_is ∙ asked in
+    let what_is : s.asked ≡ known.what = cc in
+    let again : Some f.asked ≡ Some known.what = sym x.asked ∙ asked in
+    let what_was : f.asked ≡ known.what = cc in
+    let mine : x.tenant ≡ t = sym known.mine ∙ (ap (λ (q : Request). q.tenant) (sym what_is) ∙ s.tenant_is) in
+    let thought : estimate ≡ request_estimate C P known.what = x.estimate_is ∙ ap (request_estimate C P) what_was in
+    record {
+      request = s.request;
+      estimate = estimate;
+      tenant = x.tenant;
+      keys = x.keys;
+      act_is = s.act_is;
+      choice = x.choice;
+      start_is = starts ∙ (ap (λ (u : ℕ). pos (start C P e.moment u)) (sym mine) ∙ ap (λ (h : HeadKeys). h.start) (sym known.is));
+      len_is = long ∙ (ap₂ (λ (c : ℕ) (u : ℕ). pos (length_of c (weight_at C P u))) thought (sym mine) ∙ ap (λ (h : HeadKeys). h.len) (sym known.is));
+    }
+
+module _ (C : Config) (P : History) (e : Entry) (m w t estimate : ℕ) (k : Reading) (passed : Times) (weight : ℕ) (len tag_now : ℤ) (lim : InLimits C) (l : IsLegal C (e ∷ P)) (s : Takes m w t estimate P e) (is : Keeps C P k) (at : AtTake m w t estimate k passed weight len tag_now) where
+  come : TimesAt C P e.moment passed
+  come = subst (λ (x : ℕ). TimesAt C P x passed) (sym s.moment_is) (at.times C P lim l.0 is.times_are)
+
+  long_at : t < length C.weights → len ≡ pos (length_of estimate (weight_at C P t))
+  long_at known = at.len_is ∙ ap (λ (y : ℕ). pos (length_of estimate y)) (at.weight_is C P e.moment come known)
+
+  chosen_at : t < length C.weights → C.policy ≡ TwoDfqPlus → TakesChoice w tag_now len C P e
+  chosen_at known plus = taken_choice C P e m w t estimate tag_now len l s (at.tag_is ∙ (tag_is_sum C P k.accounts t known is.accounts_are ∙ ap pos (sym (start_tagged C P e.moment t plus)))) (long_at known)
+
+take_passes : (C : Config) (P : History) (e : Entry) (m w t estimate : ℕ) → Takes m w t estimate P e → passes e.act ≡ true
+take_passes C P e m w t estimate s = rw s.act_is refl
+
+-- the times after it, by the policy
+pub record TimesTake (w : ℕ) (k : Reading) (passed after : Times) (len tag_now : ℤ) : Type 0 where
+  pub paced : k.policy ≡ TwoDfqPlus → FollowsTake w tag_now len passed after
+  pub by_clock : k.policy ≢ TwoDfqPlus → after ≡ passed
+
+pub take_follows : (m w t estimate weight waited : ℕ) (k n : Reading) (passed : Times) (len tag_now : ℤ) → AtTake m w t estimate k passed weight len tag_now → TimesTake w k passed n.times len tag_now → n.policy ≡ k.policy → n.accounts ≡ charged k.accounts t len → waited ≡ slice_index k.waiting.items t → n.waiting.items ≡ slice_set k.waiting.items t (waited - 1) → Follows Keeps (Takes m w t estimate) k n
+take_follows m w t estimate weight waited k n passed len tag_now at times policy accounts read waiting = λ C P e lim l s is.
+    let x = take_step C P e m w t estimate lim l s in
+    let change = long_at C P e m w t estimate k passed weight len tag_now lim l s is at x.known in
+    let own : pos (virtual_charge C P t) +ℤ len ≡ pos (virtual_charge C (e ∷ P) t) = rw change (own_change _ _ _ x.own_charge) in
     record {
       limits = lim;
       legal = l;
-      times_are = are;
-      accounts_are = rw accounts (accounts_charge C P k.accounts e t z x.no_submit x.known own x.other_charges is.accounts_are);
-      waiting_are = rw waiting (waiting_written C P e t (w - 1) k.waiting.items x.known (omega (arith, read, is.waiting_are.each t x.known, x.own_queue)) x.other_queues is.waiting_are);
+      policy_is = policy ∙ is.policy_is;
+      times_are = times_take C P e k.policy w tag_now len passed n.times is.policy_is lim l (take_passes C P e m w t estimate s) (chosen_at C P e m w t estimate k passed weight len tag_now lim l s is at x.known) times.paced times.by_clock (come C P e m w t estimate k passed weight len tag_now lim l s is at);
+      accounts_are = rw accounts (accounts_charge C P k.accounts e t len x.no_submit x.known own x.other_charges is.accounts_are);
+      waiting_are = rw waiting (waiting_written C P e t (waited - 1) k.waiting.items x.known (omega (arith, read, is.waiting_are.each t x.known, x.own_queue)) x.other_queues is.waiting_are);
     }
 
 -- what the calls at a Take ask for
-pub record MayTake (k : Reading) (times : Times) (t estimate : ℕ) : Type 0 where
-  pub weighed : t < length times.weights
+pub record MayTake (k : Reading) (passed : Times) (w t estimate : ℕ) : Type 0 where
+  pub weighed : t < length passed.weights
   pub low : estimate ≤ GREATEST_COST
   pub charged_one : t < length k.accounts.charges
-  pub charge : (weight : ℕ) (z : ℤ) → IsWeightOf times t weight → z ≡ pos (length_of estimate weight) → IsCharge (charge_of k.accounts t +ℤ z)
+  pub charge : (weight : ℕ) (len : ℤ) → IsWeightOf passed t weight → len ≡ pos (length_of estimate weight) → IsCharge (charge_of k.accounts t +ℤ len)
+  pub lifts : (weight : ℕ) (len tag_now : ℤ) → IsWeightOf passed t weight → len ≡ pos (length_of estimate weight) → tag_now ≡ charge_of k.accounts t +ℤ base_of k.accounts t → k.policy ≡ TwoDfqPlus → AwaitsTake w tag_now len passed
   pub waits : t < length k.waiting.items
   pub some : 1 ≤ slice_index k.waiting.items t
 
-pub may_take : (m t estimate : ℕ) (k : Reading) (times : Times) → Awaits Keeps (Takes m t estimate) k → PassOn m k.times times → MayTake k times t estimate
-may_take m t estimate k times a passes =
+pub may_take : (m w t estimate : ℕ) (k : Reading) (passed : Times) → Awaits Keeps (Takes m w t estimate) k → ComesTo m k.times passed → MayTake k passed w t estimate
+may_take m w t estimate k passed a comes =
     let C = a.config in
     let P = a.history in
     let e = a.entry in
-    let x = take_step C P e m t estimate a.limits a.legal a.comes in
-    let are : TimesAre C (e ∷ P) times = passes C P e (take_passes m t estimate P e a.comes) a.kept_is.times_are in
+    let x = take_step C P e m w t estimate a.limits a.legal a.comes in
+    let are : TimesAt C P m passed = comes C P a.limits a.legal.0 a.kept_is.times_are in
     record {
       weighed = omega (arith, x.known, are.weights_are.tenants);
       low = x.low;
       charged_one = omega (arith, x.known, a.kept_is.accounts_are.charges_sized);
-      charge = λ weight z shows long. (
-          let heavy : weight ≡ weight_at C P t = shows C (e ∷ P) are x.known ∙ x.same_weight in
-          let change : z ≡ pos (length_of estimate (weight_at C P t)) = long ∙ ap (λ (y : ℕ). pos (length_of estimate y)) heavy in
-          may_charge C P k.accounts e t z a.limits a.legal x.known (rw change (own_change _ _ _ x.own_charge)) a.kept_is.accounts_are
+      charge = λ weight len shows long. (
+          let change : len ≡ pos (length_of estimate (weight_at C P t)) = long ∙ ap (λ (y : ℕ). pos (length_of estimate y)) (shows C P m are x.known) in
+          may_charge C P k.accounts e t len a.limits a.legal x.known (rw change (own_change _ _ _ x.own_charge)) a.kept_is.accounts_are
+          );
+      lifts = λ weight len tag_now shows long tagged plus. (
+          let at : AtTake m w t estimate k passed weight len tag_now = record { times = comes; weight_is = shows; len_is = long; tag_is = tagged } in
+          record {
+            config = C;
+            history = P;
+            entry = e;
+            paced = sym a.kept_is.policy_is ∙ plus;
+            limits = a.limits;
+            legal = a.legal;
+            takes = chosen_at C P e m w t estimate k passed weight len tag_now a.limits a.legal a.comes a.kept_is at x.known (sym a.kept_is.policy_is ∙ plus);
+            times_at = come C P e m w t estimate k passed weight len tag_now a.limits a.legal a.comes a.kept_is at;
+          }
           );
       waits = omega (arith, x.known, a.kept_is.waiting_are.tenants);
       some = omega (arith, a.kept_is.waiting_are.each t x.known, x.waits);

@@ -23,17 +23,17 @@ pub record WaitingAre (C : Config) (P : History) (waiting : List ℕ) : Type 0 w
 pub record Keeps (C : Config) (P : History) (k : Reading) : Type 0 where
   pub limits : InLimits C
   pub legal : IsLegal C P
+  pub policy_is : k.policy ≡ C.policy
   pub times_are : TimesAre C P k.times
   pub accounts_are : AccountsAre C P k.accounts
   pub waiting_are : WaitingAre C P k.waiting.items
 
 -- it is of some history
-abbrev pub KeepsSome : Config → Reading → Type 0
-KeepsSome C k = (P : History) × Keeps C P k
+abbrev pub KeepsSome : Reading → Type 0
+KeepsSome k = (C : Config) × (P : History) × Keeps C P k
 
--- the entry is of this moment, and is the Take of a request of this tenant, at this estimate
-pub record Takes (moment tenant estimate : ℕ) (P : History) (e : Entry) : Type 0 where
-  pub worker : ℕ
+-- the entry is of this moment, and is the Take of a request of this tenant by this worker, at this estimate
+pub record Takes (moment worker tenant estimate : ℕ) (P : History) (e : Entry) : Type 0 where
   pub request : ℕ
   pub asked : Request
   pub moment_is : e.moment ≡ moment

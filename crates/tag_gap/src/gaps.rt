@@ -89,7 +89,7 @@ fn gap_of(
     let mut found = Found::new();
     for entry in past {
         reading.read(entry, asked);
-        found = found.with(reading.difference(config, f, g));
+        found = found.with(reading.difference(f, g));
     }
     Ok(found.gap(least_bound(past, config, f, g)))
 }

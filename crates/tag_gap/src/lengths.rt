@@ -13,7 +13,7 @@ use fq_model::event::{Act, Entry};
 use vt_fixed::length;
 
 /// While two tenants wait, the start of the first is above that of the second by no more than this, in steps, or than
-/// where it began: the longest length of a request of the two, and under 2dfq twice that.
+/// where it began: the longest length of a request of the two, and under 2dfq and 2dfq+ twice that.
 pub fn least_bound(past: &[Entry], config: &Checked, f: u32, g: u32) -> i128
     requires legal { IsLegal config.now (history_of past.now) }
     requires f_known { f < length config.now.weights }
@@ -24,7 +24,7 @@ pub fn least_bound(past: &[Entry], config: &Checked, f: u32, g: u32) -> i128
     let policy = config.policy();
     let longest = longest(past, config, f).max(longest(past, config, g));
     match policy {
-        Policy::TwoDfq => 2 * longest,
+        Policy::TwoDfq | Policy::TwoDfqPlus => 2 * longest,
         Policy::Wfq | Policy::Wf2q | Policy::Msf2q => longest,
     }
 }

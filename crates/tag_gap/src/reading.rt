@@ -1,5 +1,6 @@
 //! What is known of a past while its entries are read.
 ghost use Rattle.std.specs.Prelude.{◌≡◌, ◌<◌, [], IfOk, IfErr, length, pos, ◌≤ℤ◌};
+ghost use Rattle.fq_model.specs.declared.config.Config.{Config};
 ghost use Rattle.fq_model.specs.History.{History};
 ghost use Rattle.fq_model.specs.Time.{last_moment};
 ghost use Rattle.fq_model.specs.Keys.{start};
@@ -21,6 +22,7 @@ use vt_fixed::length;
 /// What decides where the tenants of a history start, and how many requests of each wait, by number.
 #[derive(Drop)]
 pub struct Reading {
+    pub policy: Policy,
     pub times: Times,
     pub accounts: Accounts,
     pub waiting: Vec<u32>,
@@ -33,6 +35,7 @@ impl Reading {
         ensures fault { IfErr result (λ x. x ≡ faults.NoMemory) }
     {
         Ok(Reading {
+            policy: config.policy(),
             times: Times::open(alloc, config)?,
             accounts: Accounts::open(alloc, config.tenants())?,
             waiting: vec![in alloc; 0; config.tenants() as usize]?,
@@ -48,10 +51,10 @@ impl Reading {
         match entry.act {
             Act::Submit { tenant, .. } => self.submit(moment, tenant),
             Act::Take {
+                worker,
                 request,
                 estimate,
-                ..
-            } => self.take(moment, asked[request as usize].tenant, estimate),
+            } => self.take(moment, worker, asked[request as usize].tenant, estimate),
             Act::Report { .. } | Act::Close => self.times.pass(moment),
             Act::Done { request, .. } => self.times.done(moment, asked[request as usize].tenant),
             Act::Weight { tenant, weight } => self.times.reweigh(moment, tenant, weight),
@@ -70,41 +73,46 @@ impl Reading {
         self.waiting[tenant as usize] = waiting + 1;
     }
 
-    // A request of the tenant is taken, at this estimate.
-    fn take(&mut self, moment: u64, tenant: u32, estimate: u64)
-        requires { Awaits Keeps (Takes moment tenant estimate) self.old }
-        ensures { Follows Keeps (Takes moment tenant estimate) self.old self.new }
+    // A request of the tenant is taken by this worker, at this estimate.
+    fn take(&mut self, moment: u64, worker: u32, tenant: u32, estimate: u64)
+        requires { Awaits Keeps (Takes moment worker tenant estimate) self.old }
+        ensures { Follows Keeps (Takes moment worker tenant estimate) self.old self.new }
     {
         self.times.pass(moment);
         let weight = self.times.weight(tenant);
-        self.accounts.charge(tenant, length(estimate, weight));
+        let len = length(estimate, weight);
+        let tag = self.accounts.tag(tenant);
+        self.times.take(self.policy, worker, tag, len);
+        self.accounts.charge(tenant, len);
         let waiting = self.waiting[tenant as usize];
         self.waiting[tenant as usize] = waiting - 1;
     }
 
     /// How far the start of tenant f is above that of tenant g, in steps, where a request of each waits.
-    pub fn difference(&self, config: &Checked, f: u32, g: u32) -> Option<i128>
-        requires f { f < length config.now.weights }
-        requires g { g < length config.now.weights }
-        requires keeps { KeepsSome config.now self.now }
-        ensures { (P : History) → Keeps config.now P self.now → result ≡ difference_at config.now P f g }
+    pub fn difference(&self, f: u32, g: u32) -> Option<i128>
+        requires f { f < length self.now.waiting.items }
+        requires g { g < length self.now.waiting.items }
+        requires keeps { KeepsSome self.now }
+        ensures { (C : Config) (P : History) → Keeps C P self.now → result ≡ difference_at C P f g }
     {
         if self.waiting[f as usize] == 0 || self.waiting[g as usize] == 0 {
             return None;
         }
-        Some(self.start(config, f) - self.start(config, g))
+        Some(self.start(f) - self.start(g))
     }
 
     // Where the tenant starts, in steps.
-    fn start(&self, config: &Checked, tenant: u32) -> i128
-        requires known { tenant < length config.now.weights }
-        requires keeps { KeepsSome config.now self.now }
-        ensures { (P : History) → Keeps config.now P self.now
-            → result ≡ pos (start config.now P (last_moment P) tenant) }
+    fn start(&self, tenant: u32) -> i128
+        requires known { tenant < length self.now.waiting.items }
+        requires keeps { KeepsSome self.now }
+        ensures { (C : Config) (P : History) → Keeps C P self.now
+            → result ≡ pos (start C P (last_moment P) tenant) }
     {
-        match config.policy() {
+        match self.policy {
             Policy::Msf2q => self.accounts.credit(tenant) + self.times.idle(tenant),
-            Policy::Wfq | Policy::Wf2q | Policy::TwoDfq => self.accounts.tag(tenant),
+            Policy::Wfq | Policy::Wf2q | Policy::TwoDfq | Policy::TwoDfqPlus => self
+                .accounts
+                .tag(tenant),
         }
     }
 }

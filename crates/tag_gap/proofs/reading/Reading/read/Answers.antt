@@ -15,13 +15,13 @@ pub returns-in-Take : goal.returns-in-Take
 returns-in-Take c = read_take c.args.asked.now c.args.entry.now c.args.self.now c.take.new.self c.in-Take.worker c.in-Take.request c.in-Take.estimate c.in-Take.is c.take.ensures
 
 pub returns-in-Report : goal.returns-in-Report
-returns-in-Report c = read_pass c.args.asked.now c.args.entry.now c.args.self.now _ c.in-Report.is c.pass.ensures refl refl
+returns-in-Report c = read_pass c.args.asked.now c.args.entry.now c.args.self.now _ c.in-Report.is c.pass.ensures (record { policy = refl; accounts = refl; waiting = refl })
 
 pub returns-in-Done : goal.returns-in-Done
-returns-in-Done c = read_done c.args.asked.now c.args.entry.now c.args.self.now _ c.in-Done.worker c.in-Done.request c.in-Done.cost c.in-Done.is c.done.ensures refl refl
+returns-in-Done c = read_done c.args.asked.now c.args.entry.now c.args.self.now _ c.in-Done.worker c.in-Done.request c.in-Done.cost c.in-Done.is c.done.ensures (record { policy = refl; accounts = refl; waiting = refl })
 
 pub returns-in-Weight : goal.returns-in-Weight
-returns-in-Weight c = read_weight c.args.asked.now c.args.entry.now c.args.self.now _ c.in-Weight.tenant c.in-Weight.weight c.in-Weight.is c.reweigh.ensures refl refl
+returns-in-Weight c = read_weight c.args.asked.now c.args.entry.now c.args.self.now _ c.in-Weight.tenant c.in-Weight.weight c.in-Weight.is c.reweigh.ensures (record { policy = refl; accounts = refl; waiting = refl })
 
 pub returns-in-Workers : goal.returns-in-Workers
-returns-in-Workers c = read_workers c.args.asked.now c.args.entry.now c.args.self.now _ c.in-Workers.count c.in-Workers.is c.staff.ensures refl refl
+returns-in-Workers c = read_workers c.args.asked.now c.args.entry.now c.args.self.now _ c.in-Workers.count c.in-Workers.is c.staff.ensures (record { policy = refl; accounts = refl; waiting = refl })
