@@ -6,6 +6,8 @@ mod bell_tests;
 #[cfg(test)]
 mod board_tests;
 #[cfg(test)]
+mod clock_tests;
+#[cfg(test)]
 mod desk_tests;
 #[cfg(test)]
 mod feed_tests;
