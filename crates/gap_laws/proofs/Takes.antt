@@ -87,7 +87,7 @@ unfolding is_taken
 taken_now P who m w q c = or_left (q == q) (has_act (is_take_of q) P) (eq-eqb q q refl)
 
 -- the request of a Take is the head of its tenant
-its_head : (C : Config) (P : History) (m w q c t : ℕ) → FitsTake C P m w q c → is_of_tenant t (request_at P q) ≡ true → head P t ≡ Some q
+pub its_head : (C : Config) (P : History) (m w q c t : ℕ) → FitsTake C P m w q c → is_of_tenant t (request_at P q) ≡ true → head P t ≡ Some q
 its_head C P m w q c t fits own =
     let h : TakesHead C P q = take_head C P m w q c fits in
     let mine : (h.what.tenant == t) ≡ true = rw h.was_asked at own in
@@ -165,7 +165,7 @@ module _ (C : Config) (S P : History) (who m f g r M c : ℕ) (ne : f ≢ g) (li
       }
 
 -- the act takes a request of t, or none
-by_act : (t : ℕ) (P : History) (a : Act) → (takes_of t P a ≡ None) ⊎ ((w : ℕ) × (q : ℕ) × (estimate : ℕ) × (a ≡ Take w q estimate) × (is_of_tenant t (request_at P q) ≡ true))
+pub by_act : (t : ℕ) (P : History) (a : Act) → (takes_of t P a ≡ None) ⊎ ((w : ℕ) × (q : ℕ) × (estimate : ℕ) × (a ≡ Take w q estimate) × (is_of_tenant t (request_at P q) ≡ true))
 by_act t P (Take w q estimate) = elim (cases_Bool (is_of_tenant t (request_at P q))) [ inl own ↦ inr (w, q, estimate, refl, own) | inr other ↦ inl (rw other refl) ]
 by_act t P _ = inl refl
 

@@ -34,13 +34,13 @@ use Rattle.gap_laws.proofs.Leads.{Premises, lead_from, lead_below, rising, falli
 
 -- ---- sums of two
 
-all_below : (a b : ℕ → ℕ) (M n : ℕ) → ((i : ℕ) → a i + b i ≤ M) → sum_below a n + sum_below b n ≤ n * M
+pub all_below : (a b : ℕ → ℕ) (M n : ℕ) → ((i : ℕ) → a i + b i ≤ M) → sum_below a n + sum_below b n ≤ n * M
 unfolding sum_below
 all_below a b M zero each = omega arith
 all_below a b M (suc n) each = omega (arith, each n, all_below a b M n each, add-mul 1 n M)
 
 -- where two numbers together are at most M for each worker, and by d less for one, so are their sums n times
-both_below : (a b : ℕ → ℕ) (M d w n : ℕ) → ((i : ℕ) → a i + b i ≤ M) → w < n → a w + b w + d ≤ M → sum_below a n + sum_below b n + d ≤ n * M
+pub both_below : (a b : ℕ → ℕ) (M d w n : ℕ) → ((i : ℕ) → a i + b i ≤ M) → w < n → a w + b w + d ≤ M → sum_below a n + sum_below b n + d ≤ n * M
 unfolding sum_below
 both_below a b M d w zero each known less = absurd (omega arith)
 both_below a b M d w (suc n) each known less = elim (cases_eq n w) [
@@ -96,7 +96,7 @@ doubt_after C P who m w q c f g M ne l caps own low =
 
 -- ---- what the Take adds
 
-part_below : (len i n : ℕ) → 1 ≤ len → i < n → part_of len i n + 1 ≤ len
+pub part_below : (len i n : ℕ) → 1 ≤ len → i < n → part_of len i n + 1 ≤ len
 unfolding part_of
 part_below len i n some lt =
     let low : i * len / n * n ≤ i * len = div-mul-le_self (i * len) n in
@@ -116,7 +116,7 @@ stagger_below TwoDfq len i n some lt = omega (arith, ints, part_below len i n so
 stagger_below TwoDfqPlus len i n some lt = omega (arith, ints, part_below len i n some lt)
 
 -- an estimate is at least 1, so that a head has some length
-length_some : (c w : ℕ) → 1 ≤ c → 1 ≤ w → 1 ≤ length_of c w
+pub length_some : (c w : ℕ) → 1 ≤ c → 1 ≤ w → 1 ≤ length_of c w
 length_some c w cost weight = go (length_of c w) (length_covers c w (omega (arith, weight)))
   where
     go : (x : ℕ) → c * 1048576 ≤ x * w → 1 ≤ x

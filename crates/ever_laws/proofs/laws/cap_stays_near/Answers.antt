@@ -1,0 +1,5 @@
+use Rattle.ever_laws.proofs.Near.{cap_near_waiting}
+use Rattle.ever_laws.proofs.laws.cap_stays_near.Goals as goal
+
+pub returns : goal.returns
+returns c = cap_near_waiting

@@ -1,0 +1,47 @@
+-- What bounds how far one tenant is ahead of another that waits, under 2dfq+.
+use Rattle.std.specs.Prelude.{ℕ, ◌+◌, ◌*◌, ◌≡◌, ◌≢◌, ◌∷◌, Some, ℤ, pos, ◌+ℤ◌, ◌-ℤ◌, ◌≤ℤ◌}
+use Rattle.fq_model.specs.declared.config.Config.{Config}
+use Rattle.fq_model.specs.declared.event.Entry.{Entry}
+use Rattle.fq_model.specs.History.{History, head}
+use Rattle.fq_model.specs.Limits.{InLimits}
+use Rattle.fq_model.specs.Pace.{pace}
+use Rattle.fq_model.specs.Rules.{IsLegal}
+use Rattle.ever_laws.specs.Words.{IsPacedWithin, greatest_part, time_now, most_of, least_of, ground}
+
+-- what a tenant has at least never falls, under any policy and whether the tenant waits or not
+abbrev pub LeastRises : Type 0
+LeastRises =
+    (C : Config) (P : History) (e : Entry) (t : ℕ) → InLimits C → IsLegal C (e ∷ P)
+    → least_of C P t ≤ℤ least_of C (e ∷ P) t
+
+-- nor does what it would have at least if it came now
+abbrev pub GroundRises : Type 0
+GroundRises =
+    (C : Config) (P : History) (e : Entry) (t M : ℕ) → IsPacedWithin C (e ∷ P) M
+    → ground M C P t ≤ℤ ground M C (e ∷ P) t
+
+-- one request of the greatest length for each worker, and the greatest part
+abbrev pub all_and_part : Config → ℕ → ℕ
+all_and_part C M = C.workers * M + greatest_part C M
+
+-- what a tenant has at most is above virtual time by no more than these
+abbrev pub MostStaysNear : Type 0
+MostStaysNear =
+    (C : Config) (H : History) (t M : ℕ) → IsPacedWithin C H M → most_of M C H t ≤ℤ pos (time_now C H + all_and_part C M)
+
+-- and the cap is above what a tenant that waits has at least by no more
+abbrev pub CapStaysNear : Type 0
+CapStaysNear =
+    (C : Config) (H : History) (t r M : ℕ) → IsPacedWithin C H M → head H t ≡ Some r
+    → pos (pace C H).reached ≤ℤ (least_of C H t +ℤ pos (all_and_part C M))
+
+-- the bound with the shorter proof: two requests of the greatest length for each worker, and the greatest part, less a
+-- step
+abbrev pub simple_bound : Config → ℕ → ℤ
+simple_bound C M = pos (C.workers * M + all_and_part C M) -ℤ pos 1
+
+-- what f has at most is above the ground of g by no more than that
+abbrev pub SimpleBoundHolds : Type 0
+SimpleBoundHolds =
+    (C : Config) (H : History) (f g M : ℕ) → f ≢ g → IsPacedWithin C H M
+    → (most_of M C H f -ℤ ground M C H g) ≤ℤ simple_bound C M

@@ -1,0 +1,56 @@
+-- Words for the bounds under 2dfq+.
+use Rattle.std.specs.Prelude.{ℕ, ◌-◌, ◌≡◌, ◌≤◌, true, ◌∷◌, Option, Some, None, ℤ, pos, ◌-ℤ◌}
+use Rattle.std.specs.Int.{int_max}
+use Rattle.vt_fixed.specs.Rounding.{part_of}
+use Rattle.fq_model.specs.declared.config.Config.{Config}
+use Rattle.fq_model.specs.declared.config.Policy.TheVariants.{TwoDfqPlus}
+use Rattle.fq_model.specs.declared.event.Entry.{Entry}
+use Rattle.fq_model.specs.History.{History, head}
+use Rattle.fq_model.specs.Lead.{over_running, most, least, head_length}
+use Rattle.fq_model.specs.Limits.{InLimits}
+use Rattle.fq_model.specs.Pace.{virtual_time}
+use Rattle.fq_model.specs.Rules.{IsLegal}
+use Rattle.fq_model.specs.Time.{last_moment}
+use Rattle.fq_laws.specs.Words.{is_take}
+use Rattle.gap_laws.specs.Words.{IsPrefix, AreCaps}
+
+-- no request that is taken at a prefix of H is longer there than M, whichever tenant it is of, and no head is, where a
+-- request is taken
+pub record AreAllNoLonger (C : Config) (H : History) (M : ℕ) : Type 0 where
+  pub some : 1 ≤ M
+  pub requests : (t : ℕ) → AreCaps C H t (λ r. M)
+  pub heads : (e : Entry) (Q : History) (t : ℕ) → IsPrefix (e ∷ Q) H → is_take e.act ≡ true → head_length C Q t ≤ M
+
+-- H is a legal history under 2dfq+, and none of its requests is longer than M
+pub record IsPacedWithin (C : Config) (H : History) (M : ℕ) : Type 0 where
+  pub policy : C.policy ≡ TwoDfqPlus
+  pub limits : InLimits C
+  pub legal : IsLegal C H
+  pub lengths : AreAllNoLonger C H M
+
+-- what no stagger passes: the part of the last of all workers, of a length of M
+abbrev pub greatest_part : Config → ℕ → ℕ
+greatest_part C M = part_of M (C.workers - 1) C.workers
+
+-- virtual time just after the last entry
+abbrev pub time_now : Config → History → ℕ
+time_now C P = virtual_time C P (last_moment P)
+
+-- where tenant t starts if each of its requests that run turns out to be M long, and if each turns out to cost nothing
+abbrev pub most_of : ℕ → Config → History → ℕ → ℤ
+most_of M C P t = most (λ r. M) C P t
+
+abbrev pub least_of : Config → History → ℕ → ℤ
+least_of C P t = least (λ r. 0) C P t
+
+-- M for each request of tenant t that runs
+abbrev pub running_length : ℕ → Config → History → ℕ → ℕ
+running_length M C P t = over_running C P t (λ r. M)
+
+abbrev pub ground_for : Option ℕ → ℤ → ℤ → ℤ
+ground_for None least coming = int_max least coming
+ground_for (Some r) least coming = least
+
+-- what tenant t has at least; where it does not wait, what it would have at least if it came now
+abbrev pub ground : ℕ → Config → History → ℕ → ℤ
+ground M C P t = ground_for (head P t) (least_of C P t) (pos (time_now C P) -ℤ pos (running_length M C P t))
