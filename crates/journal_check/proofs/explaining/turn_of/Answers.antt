@@ -17,8 +17,8 @@ invariant_of-turn g c =
 pub returns : goal.returns
 returns g c =
     let at = c.args.scheduler.now in
-    let v = c.virtual_time_at.ensures in
-    let back : to_z w128 (of_z w128 c.virtual_time_at.result) ≡ c.virtual_time_at.result = omega (arith, ints, v.low, v.high) in
-    turn_told at.config (history_of at.past) c.args.given c.args.worker c.requires.legal c.policy.result c.pool.result c.virtual_time_at.result _ c.as_slice.result.now _
+    let v = c.virtual_time_at-vtime.ensures in
+    let back : to_z w128 (of_z w128 c.virtual_time_at-vtime.result) ≡ c.virtual_time_at-vtime.result = omega (arith, ints, v.low, v.high) in
+    turn_told at.config (history_of at.past) c.args.given c.args.worker c.requires.legal c.policy.result c.pool.result c.virtual_time_at-vtime.result _ c.as_slice.result.now _
     (c.policy.ensures.value ∙ ap (λ (B : Config). B.policy) c.config.ensures)
     c.pool.ensures v.value back (c.as_slice.ensures.value ∙ c.in_ok-heads.ensures c.args.given.moment) refl refl refl c.in_ok-rows.ensures
