@@ -1,10 +1,6 @@
--- Slots that are linked in order.
-use Rattle.std.proofs.Common.{◌≡◌, ◌≢◌, ℕ, zero, suc, ◌<◌, ◌≤◌, List, [], ◌∷◌, ◌++◌, Option, Some, None, length, set, IsSome, arith, refl, sym, ap, ◌∙◌, subst, inl, inr, ◌⊎◌}
-use Rattle.std.proofs.lemmas.Bool.{false≢true}
-use Rattle.std.proofs.lemmas.List.{get_or-set_same, get_or-set_other}
-use Rattle.waiting_lists.specs.declared.item.Item.{Item}
-use Rattle.waiting_lists.specs.declared.links.Slot.{Slot}
-use Rattle.waiting_lists.specs.Linked.{StandsIn, slot_at, put_before, items_from, AreLinked}
+-- Numbers that are linked in order.
+use Rattle.std.proofs.Common.{◌≡◌, ◌≢◌, ℕ, ◌<◌, ◌≤◌, List, [], ◌∷◌, ◌++◌, Option, Some, None, length, arith, refl, sym, ap, ◌∙◌, subst, inl, inr, ◌⊎◌}
+use Rattle.waiting_lists.specs.Linked.{StandsIn, first_in, last_behind, AreChained, AreChainedBack}
 
 pub some_is : {A : Type 0} (x y : A) → Some x ≡ Some y → x ≡ y
 some_is x y e = cc
@@ -12,115 +8,187 @@ some_is x y e = cc
 pub none_not_some : {A : Type 0} (o : Option A) (x : A) → o ≡ None → o ≡ Some x → ⊥
 none_not_some o x p q = cc
 
+-- numbers among others
 pub stands_push : (i x : ℕ) (xs : List ℕ) → StandsIn i (xs ++ x ∷ []) → StandsIn i xs ⊎ (i ≡ x)
 stands_push i x [] (inl e) = inr e
 stands_push i x [] (inr h) = absurd h
 stands_push i x (y ∷ ys) (inl e) = inl (inl e)
 stands_push i x (y ∷ ys) (inr h) = elim (stands_push i x ys h) [ inl s ↦ inl (inr s) | inr e ↦ inr e ]
 
-pub stands_left : (i x : ℕ) (xs : List ℕ) → StandsIn i xs → StandsIn i (xs ++ x ∷ [])
-stands_left i x [] h = absurd h
-stands_left i x (y ∷ ys) (inl e) = inl e
-stands_left i x (y ∷ ys) (inr h) = inr (stands_left i x ys h)
+pub stands_left : (i : ℕ) (xs more : List ℕ) → StandsIn i xs → StandsIn i (xs ++ more)
+stands_left i [] more h = absurd h
+stands_left i (y ∷ ys) more (inl e) = inl e
+stands_left i (y ∷ ys) more (inr h) = inr (stands_left i ys more h)
 
-pub stands_last : (x : ℕ) (xs : List ℕ) → StandsIn x (xs ++ x ∷ [])
-stands_last x [] = inl refl
-stands_last x (y ∷ ys) = inr (stands_last x ys)
+pub stands_right : (i : ℕ) (xs more : List ℕ) → StandsIn i more → StandsIn i (xs ++ more)
+stands_right i [] more h = h
+stands_right i (y ∷ ys) more h = inr (stands_right i ys more h)
 
-module _ {J : Type 0} where
-  -- from one slot leads one chain
-  pub linked_one : (slots : List (Slot J)) (at : Option ℕ) (ns ms : List ℕ) → AreLinked slots at ns → AreLinked slots at ms → ns ≡ ms
-  linked_one slots at [] [] p q = refl
-  linked_one slots at [] (m ∷ ms) p q = absurd (none_not_some at m p q.0)
-  linked_one slots at (n ∷ ns) [] p q = absurd (none_not_some at n q p.0)
-  linked_one slots at (n ∷ ns) (m ∷ ms) p q =
+pub stands_within : (i x : ℕ) (front rest : List ℕ) → StandsIn i (front ++ rest) → StandsIn i (front ++ x ∷ rest)
+stands_within i x [] rest h = inr h
+stands_within i x (y ∷ ys) rest (inl e) = inl e
+stands_within i x (y ∷ ys) rest (inr h) = inr (stands_within i x ys rest h)
+
+pub stands_beside : (i x : ℕ) (front rest : List ℕ) → StandsIn i (front ++ x ∷ rest) → i ≢ x → StandsIn i (front ++ rest)
+stands_beside i x [] rest (inl e) ne = absurd (ne e)
+stands_beside i x [] rest (inr h) ne = h
+stands_beside i x (y ∷ ys) rest (inl e) ne = inl e
+stands_beside i x (y ∷ ys) rest (inr h) ne = inr (stands_beside i x ys rest h ne)
+
+pub stands_at : (i : ℕ) (ns : List ℕ) → StandsIn i ns → (front : List ℕ) × ((rest : List ℕ) × (ns ≡ front ++ i ∷ rest))
+stands_at i [] h = absurd h
+stands_at i (n ∷ ns) (inl e) = ([], (ns, ap (λ v. v ∷ ns) (sym e)))
+stands_at i (n ∷ ns) (inr h) =
+    let found : (front : List ℕ) × ((rest : List ℕ) × (ns ≡ front ++ i ∷ rest)) = stands_at i ns h in
+    (n ∷ found.0, (found.1.0, ap (λ v. n ∷ v) found.1.1))
+
+-- the last of several numbers
+pub last_pushed : (x : Option ℕ) (front : List ℕ) (l : ℕ) → last_behind x (front ++ l ∷ []) ≡ Some l
+last_pushed x [] l = refl
+last_pushed x (y ∷ ys) l = last_pushed (Some y) ys l
+
+pub last_split : (x : ℕ) (ns : List ℕ) (l : ℕ) → last_behind (Some x) ns ≡ Some l → (front : List ℕ) × (x ∷ ns ≡ front ++ l ∷ [])
+last_split x [] l e = ([], ap (λ v. v ∷ []) (some_is x l e))
+last_split x (y ∷ ys) l e =
+    let found : (front : List ℕ) × (y ∷ ys ≡ front ++ l ∷ []) = last_split y ys l e in
+    (x ∷ found.0, ap (λ v. x ∷ v) found.1)
+
+pub last_is : (ns : List ℕ) (l : ℕ) → last_behind None ns ≡ Some l → (front : List ℕ) × (ns ≡ front ++ l ∷ [])
+last_is [] l e = absurd (none_not_some None l refl e)
+last_is (x ∷ xs) l e = last_split x xs l e
+
+pub none_last : (ns : List ℕ) (x : ℕ) → last_behind (Some x) ns ≡ None → ⊥
+none_last [] x e = none_not_some (Some x) x e refl
+none_last (y ∷ ys) x e = none_last ys y e
+
+pub no_last : (ns : List ℕ) → last_behind None ns ≡ None → ns ≡ []
+no_last [] e = refl
+no_last (x ∷ xs) e = absurd (none_last xs x e)
+
+pub first_stands : (ns : List ℕ) (i : ℕ) → first_in ns ≡ Some i → StandsIn i ns
+first_stands [] i e = absurd (none_not_some None i refl e)
+first_stands (x ∷ xs) i e = inl (sym (some_is x i e))
+
+pub last_stands : (ns : List ℕ) (l : ℕ) → last_behind None ns ≡ Some l → StandsIn l ns
+last_stands ns l e =
+    let found : (front : List ℕ) × (ns ≡ front ++ l ∷ []) = last_is ns l e in
+    subst (StandsIn l) (sym found.1) (stands_right l found.0 (l ∷ []) (inl refl))
+
+module _ (next : ℕ → Option ℕ) (bound : ℕ) where
+  pub first_is : (at : Option ℕ) (ns : List ℕ) → AreChained next bound at ns → at ≡ first_in ns
+  first_is at [] p = p
+  first_is at (n ∷ ns) p = p.0
+
+  -- from one number leads one chain
+  pub linked_one : (at : Option ℕ) (ns ms : List ℕ) → AreChained next bound at ns → AreChained next bound at ms → ns ≡ ms
+  linked_one at [] [] p q = refl
+  linked_one at [] (m ∷ ms) p q = absurd (none_not_some at m p q.0)
+  linked_one at (n ∷ ns) [] p q = absurd (none_not_some at n q p.0)
+  linked_one at (n ∷ ns) (m ∷ ms) p q =
       let e : n ≡ m = some_is n m (sym p.0 ∙ q.0) in
-      let rest : ns ≡ ms = linked_one slots (slot_at slots n).next ns ms p.2 (subst (λ v. AreLinked slots (slot_at slots v).next ms) (sym e) q.2) in
+      let rest : ns ≡ ms = linked_one (next n) ns ms p.2 (subst (λ v. AreChained next bound (next v) ms) (sym e) q.2) in
       subst (λ v. n ∷ ns ≡ v ∷ ms) e (ap (λ v. n ∷ v) rest)
 
-  -- the chain from one of the slots of a chain
-  pub linked_within : (slots : List (Slot J)) (at : Option ℕ) (ns : List ℕ) (i : ℕ) → AreLinked slots at ns → StandsIn i ns → (rest : List ℕ) × (length rest < length ns) × AreLinked slots (Some i) (i ∷ rest)
-  linked_within slots at [] i p h = absurd h
-  linked_within slots at (n ∷ ns) i p (inl e) = (ns, omega arith, (refl, subst (λ v. v < length slots) (sym e) p.1, subst (λ v. AreLinked slots (slot_at slots v).next ns) (sym e) p.2))
-  linked_within slots at (n ∷ ns) i p (inr h) =
-      let found : (rest : List ℕ) × (length rest < length ns) × AreLinked slots (Some i) (i ∷ rest) = linked_within slots (slot_at slots n).next ns i p.2 h in
+  -- the chain from one of the numbers of a chain
+  pub linked_within : (at : Option ℕ) (ns : List ℕ) (i : ℕ) → AreChained next bound at ns → StandsIn i ns → (rest : List ℕ) × (length rest < length ns) × AreChained next bound (Some i) (i ∷ rest)
+  linked_within at [] i p h = absurd h
+  linked_within at (n ∷ ns) i p (inl e) = (ns, omega arith, (refl, subst (λ v. v < bound) (sym e) p.1, subst (λ v. AreChained next bound (next v) ns) (sym e) p.2))
+  linked_within at (n ∷ ns) i p (inr h) =
+      let found : (rest : List ℕ) × (length rest < length ns) × AreChained next bound (Some i) (i ∷ rest) = linked_within (next n) ns i p.2 h in
       (found.0, omega (arith, found.1), found.2)
 
-  pub linked_bound : (slots : List (Slot J)) (at : Option ℕ) (ns : List ℕ) (i : ℕ) → AreLinked slots at ns → StandsIn i ns → i < length slots
-  linked_bound slots at ns i p h = let found : (rest : List ℕ) × (length rest < length ns) × AreLinked slots (Some i) (i ∷ rest) = linked_within slots at ns i p h in found.2.1
+  pub linked_bound : (at : Option ℕ) (ns : List ℕ) (i : ℕ) → AreChained next bound at ns → StandsIn i ns → i < bound
+  linked_bound at ns i p h =
+      let found : (rest : List ℕ) × (length rest < length ns) × AreChained next bound (Some i) (i ∷ rest) = linked_within at ns i p h in found.2.1
 
-  -- the first slot of a chain stands in it once
-  pub first_once : (slots : List (Slot J)) (at : Option ℕ) (i : ℕ) (is : List ℕ) → AreLinked slots at (i ∷ is) → StandsIn i is → ⊥
-  first_once slots at i is p h =
-      let found : (rest : List ℕ) × (length rest < length is) × AreLinked slots (Some i) (i ∷ rest) = linked_within slots (slot_at slots i).next is i p.2 h in
-      let same : i ∷ is ≡ i ∷ found.0 = linked_one slots (Some i) (i ∷ is) (i ∷ found.0) (refl, p.1, p.2) found.2 in
+  -- the first number of a chain stands in it once
+  pub first_once : (at : Option ℕ) (i : ℕ) (is : List ℕ) → AreChained next bound at (i ∷ is) → StandsIn i is → ⊥
+  first_once at i is p h =
+      let found : (rest : List ℕ) × (length rest < length is) × AreChained next bound (Some i) (i ∷ rest) = linked_within (next i) is i p.2 h in
+      let same : i ∷ is ≡ i ∷ found.0 = linked_one (Some i) (i ∷ is) (i ∷ found.0) (refl, p.1, p.2) found.2 in
       let lengths : length (i ∷ is) ≡ length (i ∷ found.0) = ap length same in
       omega (arith, lengths, found.1)
 
-  pub last_link : (slots : List (Slot J)) (at : Option ℕ) (front : List ℕ) (l : ℕ) → AreLinked slots at (front ++ l ∷ []) → (l < length slots) × ((slot_at slots l).next ≡ None)
-  last_link slots at [] l p = (p.1, p.2)
-  last_link slots at (x ∷ xs) l p = last_link slots (slot_at slots x).next xs l p.2
+  -- and so does each other
+  pub once : (at : Option ℕ) (front : List ℕ) (i : ℕ) (rest : List ℕ) → AreChained next bound at (front ++ i ∷ rest) → StandsIn i (front ++ rest) → ⊥
+  once at [] i rest p h = first_once at i rest p h
+  once at (x ∷ xs) i rest p (inl e) = first_once at x (xs ++ i ∷ rest) p (subst (λ v. StandsIn v (xs ++ i ∷ rest)) e (stands_right i xs (i ∷ rest) (inl refl)))
+  once at (x ∷ xs) i rest p (inr h) = once (next x) xs i rest p.2 h
 
-  -- and so does the last
-  pub last_once : (slots : List (Slot J)) (at : Option ℕ) (front : List ℕ) (l : ℕ) → AreLinked slots at (front ++ l ∷ []) → StandsIn l front → ⊥
-  last_once slots at [] l p h = h
-  last_once slots at (x ∷ xs) l p (inl e) = first_once slots at x (xs ++ l ∷ []) p (subst (λ v. StandsIn v (xs ++ l ∷ [])) e (stands_last l xs))
-  last_once slots at (x ∷ xs) l p (inr h) = last_once slots (slot_at slots x).next xs l p.2 h
+  -- the chain from one of its numbers on
+  pub linked_from : (at : Option ℕ) (front : List ℕ) (i : ℕ) (rest : List ℕ) → AreChained next bound at (front ++ i ∷ rest) → (i < bound) × AreChained next bound (next i) rest
+  linked_from at [] i rest p = (p.1, p.2)
+  linked_from at (x ∷ xs) i rest p = linked_from (next x) xs i rest p.2
 
-  -- a chain stays where its slots stay
-  pub linked_stays : (slots after : List (Slot J)) (at : Option ℕ) (ns : List ℕ) → length slots ≤ length after → ((i : ℕ) → StandsIn i ns → (slot_at after i).next ≡ (slot_at slots i).next) → AreLinked slots at ns → AreLinked after at ns
-  linked_stays slots after at [] size same p = p
-  linked_stays slots after at (n ∷ ns) size same p =
-      let rest : AreLinked after (slot_at slots n).next ns = linked_stays slots after (slot_at slots n).next ns size (λ i h. same i (inr h)) p.2 in
-      (p.0, omega (arith, size, p.1), subst (λ v. AreLinked after v ns) (sym (same n (inl refl))) rest)
+  -- where a link of a chain leads
+  pub next_behind : (at : Option ℕ) (n : ℕ) (ns : List ℕ) (i j : ℕ) → AreChained next bound at (n ∷ ns) → StandsIn i (n ∷ ns) → next i ≡ Some j → StandsIn j ns
+  next_behind at n [] i j p (inl f) e = absurd (none_not_some (next n) j p.2 (ap next (sym f) ∙ e))
+  next_behind at n (m ∷ ms) i j p (inl f) e = inl (some_is j m (sym e ∙ ap next f ∙ p.2.0))
+  next_behind at n [] i j p (inr h) e = absurd h
+  next_behind at n (m ∷ ms) i j p (inr h) e = inr (next_behind (next n) m ms i j p.2 h e)
 
-  -- a slot behind the last
-  pub linked_push : (slots after : List (Slot J)) (at : Option ℕ) (front : List ℕ) (l s : ℕ) → length after ≡ length slots → ((i : ℕ) → StandsIn i front → (slot_at after i).next ≡ (slot_at slots i).next) → (slot_at after l).next ≡ Some s → (slot_at after s).next ≡ None → s < length slots → AreLinked slots at (front ++ l ∷ []) → AreLinked after at ((front ++ l ∷ []) ++ s ∷ [])
-  linked_push slots after at [] l s size same to_new to_none within p = (p.0, omega (arith, size, p.1), (to_new, omega (arith, size, within), to_none))
-  linked_push slots after at (n ∷ ns) l s size same to_new to_none within p =
-      let rest : AreLinked after (slot_at slots n).next ((ns ++ l ∷ []) ++ s ∷ []) = linked_push slots after (slot_at slots n).next ns l s size (λ i h. same i (inr h)) to_new to_none within p.2 in
-      (p.0, omega (arith, size, p.1), subst (λ v. AreLinked after v ((ns ++ l ∷ []) ++ s ∷ [])) (sym (same n (inl refl))) rest)
+  pub next_stands : (at : Option ℕ) (ns : List ℕ) (i j : ℕ) → AreChained next bound at ns → StandsIn i ns → next i ≡ Some j → StandsIn j ns
+  next_stands at [] i j p h e = absurd h
+  next_stands at (n ∷ ns) i j p h e = inr (next_behind at n ns i j p h e)
 
-  -- the items in these slots
-  abbrev pub items_at : List (Slot J) → List ℕ → List (Item J)
-  items_at slots [] = []
-  items_at slots (i ∷ is) = put_before (slot_at slots i).item (items_at slots is)
+  -- one number leads there at most
+  same_next : (at : Option ℕ) (n : ℕ) (ns : List ℕ) (j s : ℕ) → AreChained next bound at (n ∷ ns) → StandsIn j ns → next n ≡ Some s → next j ≡ Some s → ⊥
+  same_next at n [] j s p h e f = h
+  same_next at n (m ∷ ms) j s p h e f = first_once (next n) m ms p.2 (subst (λ v. StandsIn v ms) (some_is s m (sym e ∙ p.2.0)) (next_behind (next n) m ms j s p.2 h f))
 
-  pub items_at_stay : (slots after : List (Slot J)) (ns : List ℕ) → ((i : ℕ) → StandsIn i ns → (slot_at after i).item ≡ (slot_at slots i).item) → items_at after ns ≡ items_at slots ns
-  items_at_stay slots after [] same = refl
-  items_at_stay slots after (n ∷ ns) same =
-      ap (λ o. put_before o (items_at after ns)) (same n (inl refl)) ∙ ap (put_before (slot_at slots n).item) (items_at_stay slots after ns (λ i h. same i (inr h)))
+  pub one_leads : (at : Option ℕ) (ns : List ℕ) (i j s : ℕ) → AreChained next bound at ns → StandsIn i ns → StandsIn j ns → next i ≡ Some s → next j ≡ Some s → i ≡ j
+  one_leads at [] i j s p h g e f = absurd h
+  one_leads at (n ∷ ns) i j s p (inl h) (inl g) e f = h ∙ sym g
+  one_leads at (n ∷ ns) i j s p (inl h) (inr g) e f = absurd (same_next at n ns j s p g (ap next (sym h) ∙ e) f)
+  one_leads at (n ∷ ns) i j s p (inr h) (inl g) e f = absurd (same_next at n ns i s p h (ap next (sym g) ∙ f) e)
+  one_leads at (n ∷ ns) i j s p (inr h) (inr g) e f = one_leads (next n) ns i j s p.2 h g e f
 
-  put_before_push : (o : Option (Item J)) (xs : List (Item J)) (x : Item J) → put_before o (xs ++ x ∷ []) ≡ put_before o xs ++ x ∷ []
-  put_before_push None xs x = refl
-  put_before_push (Some y) xs x = refl
+  -- a number to which none leads is the first
+  pub first_if : (at : Option ℕ) (ns : List ℕ) (s : ℕ) → AreChained next bound at ns → StandsIn s ns → ((i : ℕ) → StandsIn i ns → next i ≢ Some s) → at ≡ Some s
+  first_if at [] s p h none = absurd h
+  first_if at (n ∷ ns) s p (inl e) none = p.0 ∙ ap Some (sym e)
+  first_if at (n ∷ ns) s p (inr h) none = absurd (none n (inl refl) (first_if (next n) ns s p.2 h (λ i g. none i (inr g))))
 
-  pub items_at_push : (slots : List (Slot J)) (ns : List ℕ) (s : ℕ) (item : Item J) → (slot_at slots s).item ≡ Some item → items_at slots (ns ++ s ∷ []) ≡ items_at slots ns ++ item ∷ []
-  items_at_push slots [] s item e = ap (λ o. put_before o []) e
-  items_at_push slots (n ∷ ns) s item e =
-      ap (put_before (slot_at slots n).item) (items_at_push slots ns s item e) ∙ put_before_push (slot_at slots n).item (items_at slots ns) item
+  -- a link leads to one number, which is linked back to it
+  pub next_back : (before : ℕ → Option ℕ) (at from : Option ℕ) (ns : List ℕ) (i j : ℕ) → AreChained next bound at ns → AreChainedBack before from ns → StandsIn i ns → next i ≡ Some j → before j ≡ Some i
+  next_back before at from [] i j p b h e = absurd h
+  next_back before at from (n ∷ []) i j p b (inl f) e = absurd (none_not_some (next n) j p.2 (ap next (sym f) ∙ e))
+  next_back before at from (n ∷ m ∷ ms) i j p b (inl f) e = ap before (some_is j m (sym e ∙ ap next f ∙ p.2.0)) ∙ b.1.0 ∙ ap Some (sym f)
+  next_back before at from (n ∷ ns) i j p b (inr h) e = next_back before (next n) (Some n) ns i j p.2 b.1 h e
 
-  pub some_item : (o : Option (Item J)) → IsSome o → (item : Item J) × (o ≡ Some item)
-  some_item None h = absurd (false≢true h)
-  some_item (Some item) h = (item, refl)
+  -- the links back from a number of a chain
+  back_behind : (before : ℕ → Option ℕ) (at : Option ℕ) (n : ℕ) (ns : List ℕ) (i j : ℕ) → AreChained next bound at (n ∷ ns) → AreChainedBack before (Some n) ns → StandsIn j ns → before j ≡ Some i → StandsIn i (n ∷ ns) × (next i ≡ Some j)
+  back_behind before at n [] i j p b h e = absurd h
+  back_behind before at n (m ∷ ms) i j p b (inl f) e =
+      let is : i ≡ n = some_is i n (sym e ∙ ap before f ∙ b.0) in
+      (inl is, ap next is ∙ p.2.0 ∙ ap Some (sym f))
+  back_behind before at n (m ∷ ms) i j p b (inr h) e =
+      let found : StandsIn i (m ∷ ms) × (next i ≡ Some j) = back_behind before (next n) m ms i j p.2 b.1 h e in
+      (inr found.0, found.1)
 
-  pub length_items_at : (slots : List (Slot J)) (ns : List ℕ) → ((i : ℕ) → StandsIn i ns → IsSome (slot_at slots i).item) → length (items_at slots ns) ≡ length ns
-  length_items_at slots [] full = refl
-  length_items_at slots (n ∷ ns) full =
-      let found : (item : Item J) × ((slot_at slots n).item ≡ Some item) = some_item (slot_at slots n).item (full n (inl refl)) in
-      ap (λ o. length (put_before o (items_at slots ns))) found.1 ∙ ap suc (length_items_at slots ns (λ i h. full i (inr h)))
+  pub back_next : (before : ℕ → Option ℕ) (at : Option ℕ) (ns : List ℕ) (i j : ℕ) → AreChained next bound at ns → AreChainedBack before None ns → StandsIn j ns → before j ≡ Some i → StandsIn i ns × (next i ≡ Some j)
+  back_next before at [] i j p b h e = absurd h
+  back_next before at (n ∷ ns) i j p b (inl f) e = absurd (none_not_some (before n) i b.0 (ap before (sym f) ∙ e))
+  back_next before at (n ∷ ns) i j p b (inr h) e = back_behind before at n ns i j p b.1 h e
 
-  -- what stands along a chain is what stands in its slots
-  pub items_from_chain : (slots : List (Slot J)) (fuel : ℕ) (at : Option ℕ) (ns : List ℕ) → length ns ≤ fuel → AreLinked slots at ns → items_from slots fuel at ≡ items_at slots ns
-  items_from_chain slots zero at [] h p = refl
-  items_from_chain slots zero at (n ∷ ns) h p = absurd (omega arith)
-  items_from_chain slots (suc fuel) at [] h p = ap (items_from slots (suc fuel)) p
-  items_from_chain slots (suc fuel) at (n ∷ ns) h p =
-      ap (items_from slots (suc fuel)) p.0 ∙ ap (put_before (slot_at slots n).item) (items_from_chain slots fuel (slot_at slots n).next ns (omega arith) p.2)
+-- a chain stays where its links stay
+pub linked_stays : (next now : ℕ → Option ℕ) (bound more : ℕ) (at : Option ℕ) (ns : List ℕ) → bound ≤ more → ((i : ℕ) → StandsIn i ns → now i ≡ next i) → AreChained next bound at ns → AreChained now more at ns
+linked_stays next now bound more at [] size same p = p
+linked_stays next now bound more at (n ∷ ns) size same p =
+    let rest : AreChained now more (next n) ns = linked_stays next now bound more (next n) ns size (λ i h. same i (inr h)) p.2 in
+    (p.0, omega (arith, size, p.1), subst (λ v. AreChained now more v ns) (sym (same n (inl refl))) rest)
 
-  -- a write at one slot
-  pub slot_at_same : (slots : List (Slot J)) (i : ℕ) (s : Slot J) → i < length slots → slot_at (set slots i s) i ≡ s
-  slot_at_same slots i s h = get_or-set_same slots i s (record { item = None; next = None }) h
+pub back_stays : (before now : ℕ → Option ℕ) (from : Option ℕ) (ns : List ℕ) → ((i : ℕ) → StandsIn i ns → now i ≡ before i) → AreChainedBack before from ns → AreChainedBack now from ns
+back_stays before now from [] same b = tt
+back_stays before now from (n ∷ ns) same b = (same n (inl refl) ∙ b.0, back_stays before now (Some n) ns (λ i h. same i (inr h)) b.1)
 
-  pub slot_at_other : (slots : List (Slot J)) (i k : ℕ) (s : Slot J) → k ≢ i → slot_at (set slots i s) k ≡ slot_at slots k
-  slot_at_other slots i k s ne = get_or-set_other slots i k s (record { item = None; next = None }) ne
+-- a number behind the last
+pub linked_push : (next now : ℕ → Option ℕ) (bound : ℕ) (at : Option ℕ) (front : List ℕ) (l s : ℕ) → ((i : ℕ) → StandsIn i front → now i ≡ next i) → now l ≡ Some s → now s ≡ None → s < bound → AreChained next bound at (front ++ l ∷ []) → AreChained now bound at ((front ++ l ∷ []) ++ s ∷ [])
+linked_push next now bound at [] l s same to_new to_none within p = (p.0, p.1, (to_new, within, to_none))
+linked_push next now bound at (n ∷ ns) l s same to_new to_none within p =
+    let rest : AreChained now bound (next n) ((ns ++ l ∷ []) ++ s ∷ []) = linked_push next now bound (next n) ns l s (λ i h. same i (inr h)) to_new to_none within p.2 in
+    (p.0, p.1, subst (λ v. AreChained now bound v ((ns ++ l ∷ []) ++ s ∷ [])) (sym (same n (inl refl))) rest)
+
+pub back_push : (before now : ℕ → Option ℕ) (from : Option ℕ) (ns : List ℕ) (s : ℕ) → ((i : ℕ) → StandsIn i ns → now i ≡ before i) → now s ≡ last_behind from ns → AreChainedBack before from ns → AreChainedBack now from (ns ++ s ∷ [])
+back_push before now from [] s same to b = (to, tt)
+back_push before now from (n ∷ ns) s same to b = (same n (inl refl) ∙ b.0, back_push before now (Some n) ns s (λ i h. same i (inr h)) to b.1)

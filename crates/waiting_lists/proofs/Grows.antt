@@ -1,49 +1,59 @@
 -- One slot more.
-use Rattle.std.proofs.Common.{◌≡◌, ℕ, ◌+◌, ◌<◌, List, [], ◌∷◌, ◌++◌, Option, Some, None, length, get_or, IsSome, arith, refl, sym, ap, ◌∙◌, subst, inl, inr}
-use Rattle.std.proofs.lemmas.Bool.{cases_eq}
-use Rattle.std.proofs.lemmas.List.{get_or_push, get_or_append_left, get_or-map, length_push, same_lists}
+use Rattle.std.proofs.Common.{◌≡◌, ℕ, ◌+◌, ◌<◌, ◌≤◌, List, [], ◌∷◌, ◌++◌, Option, Some, None, length, get_or, arith, refl, sym, ap, ◌∙◌, subst, inl, inr}
+use Rattle.std.proofs.lemmas.Bool.{cases_eq, cases_lt}
+use Rattle.std.proofs.lemmas.List.{get_or_push, get_or_past, get_or_append_left, length_push}
 use Rattle.waiting_lists.specs.declared.item.Item.{Item}
 use Rattle.waiting_lists.specs.declared.links.Slot.{Slot}
 use Rattle.waiting_lists.specs.declared.links.Ends.{Ends}
-use Rattle.waiting_lists.specs.Linked.{StandsIn, slot_at, first_of, items_from, lists_of, count_of, AreLinked, AreListOf, Keeps, IsMadeFree}
-use Rattle.waiting_lists.proofs.Chains.{none_not_some, linked_bound, linked_stays, items_at_stay, items_from_chain}
-use Rattle.waiting_lists.proofs.Owners.{updated, updated_same, updated_other, list_is, lists_length}
+use Rattle.waiting_lists.specs.Linked.{StandsIn, slot_at, first_of, lists_of, count_of, AreLinked, AreListOf, Keeps, IsMadeFree}
+use Rattle.waiting_lists.specs.Cells.{SameLists}
+use Rattle.waiting_lists.proofs.Chains.{none_not_some, linked_bound}
+use Rattle.waiting_lists.proofs.Slots.{nexts}
+use Rattle.waiting_lists.proofs.Owners.{updated, updated_same, updated_other}
 use Rattle.waiting_lists.proofs.Pushes.{full_lists, full_free}
+use Rattle.waiting_lists.proofs.Same.{same_listed, still_listed, same_all}
 
 module _ {J : Type 0} where
   abbrev pub empty : Slot J
-  empty = record { item = None; next = None }
+  empty = record { item = None; tenant = 0; before = None; next = None; next_in_cell = None }
+
+  -- a slot that is read is the same, also one past the end
+  pub read_same : (slots : List (Slot J)) (i : ℕ) → slot_at (slots ++ empty ∷ []) i ≡ slot_at slots i
+  read_same slots i = elim (cases_lt i (length slots)) [
+    | inl lt ↦ get_or_append_left slots (empty ∷ []) empty i lt
+    | inr le ↦ elim (cases_eq i (length slots)) [
+      | inl e ↦ get_or_push slots empty empty i (sym e) ∙ sym (get_or_past slots i empty le)
+      | inr ne ↦ get_or_past (slots ++ empty ∷ []) i empty (omega (arith, le, ne, length_push slots empty)) ∙ sym (get_or_past slots i empty le)
+    ]
+  ]
+
+  pub read_lists : (slots after : List (Slot J)) → ((i : ℕ) → slot_at after i ≡ slot_at slots i) → SameLists slots after
+  read_lists slots after read = record {
+    items = λ i. ap (λ (s : Slot J). s.item) (read i);
+    tenants = λ i. ap (λ (s : Slot J). s.tenant) (read i);
+    befores = λ i. ap (λ (s : Slot J). s.before) (read i);
+    nexts = λ i. ap (λ (s : Slot J). s.next) (read i);
+  }
 
   -- where all slots are in lists
   module _ (slots : List (Slot J)) (ends : List (Option Ends)) (k : Keeps slots ends None) where
-    size : length (slots ++ empty ∷ []) ≡ length slots + 1
+    abbrev after : List (Slot J)
+    after = slots ++ empty ∷ []
+
+    size : length after ≡ length slots + 1
     size = length_push slots empty
 
+    longer : length slots ≤ length after
+    longer = omega (arith, size)
+
+    same : SameLists slots after
+    same = read_lists slots after (read_same slots)
+
     in_list : (t i : ℕ) → t < length ends → StandsIn i (k.numbers t) → i < length slots
-    in_list t i lt h = linked_bound slots (first_of (get_or ends t None)) (k.numbers t) i (k.listed t lt).linked h
+    in_list t i lt h = linked_bound (nexts slots) (length slots) (first_of (get_or ends t None)) (k.numbers t) i (k.listed t lt).linked h
 
-    stays : (t i : ℕ) → t < length ends → StandsIn i (k.numbers t) → slot_at (slots ++ empty ∷ []) i ≡ slot_at slots i
-    stays t i lt h = get_or_append_left slots (empty ∷ []) empty i (in_list t i lt h)
-
-    listed_more : (t : ℕ) → t < length ends → AreListOf (slots ++ empty ∷ []) (get_or ends t None) (k.numbers t)
-    listed_more t lt = record {
-      linked = linked_stays slots (slots ++ empty ∷ []) (first_of (get_or ends t None)) (k.numbers t) (omega (arith, size)) (λ i h. ap (λ (s : Slot J). s.next) (stays t i lt h)) (k.listed t lt).linked;
-      occupied = λ i h. subst (λ (s : Slot J). IsSome s.item) (sym (stays t i lt h)) ((k.listed t lt).occupied i h);
-      last = (k.listed t lt).last;
-    }
-
-    list_same : (t : ℕ) (d : List (Item J)) → t < length ends → get_or (lists_of (slots ++ empty ∷ []) ends) t d ≡ get_or (lists_of slots ends) t d
-    list_same t d lt =
-        get_or-map (λ e. items_from (slots ++ empty ∷ []) (length (slots ++ empty ∷ [])) (first_of e)) ends t None d lt
-        ∙ items_from_chain (slots ++ empty ∷ []) (length (slots ++ empty ∷ [])) (first_of (get_or ends t None)) (k.numbers t) (omega (arith, size, k.short t lt)) (listed_more t lt).linked
-        ∙ items_at_stay slots (slots ++ empty ∷ []) (k.numbers t) (λ i h. ap (λ (s : Slot J). s.item) (stays t i lt h))
-        ∙ sym (list_is slots ends None k t d lt)
-
-    pub lists_same : lists_of (slots ++ empty ∷ []) ends ≡ lists_of slots ends
-    lists_same =
-        same_lists (lists_of (slots ++ empty ∷ []) ends) (lists_of slots ends)
-        (lists_length (slots ++ empty ∷ []) ends ∙ sym (lists_length slots ends))
-        (λ t d lt. list_same t d (omega (arith, lt, lists_length (slots ++ empty ∷ []) ends)))
+    pub lists_same : lists_of after ends ≡ lists_of slots ends
+    lists_same = same_all slots after longer same ends None k
 
     abbrev numbers_more : ℕ → List ℕ
     numbers_more = updated k.numbers (length ends) (length slots ∷ [])
@@ -55,7 +65,7 @@ module _ {J : Type 0} where
     others_more t lt = updated_other k.numbers (length ends) (length slots ∷ []) t (λ e. omega (arith, lt, e))
 
     -- the slot behind all others is the free one
-    pub keeps_more : Keeps (slots ++ empty ∷ []) ends (Some (length slots))
+    pub keeps_more : Keeps after ends (Some (length slots))
     keeps_more = record {
       owner = updated k.owner (length slots) (length ends);
       numbers = numbers_more;
@@ -69,8 +79,9 @@ module _ {J : Type 0} where
             let stands : StandsIn i (k.numbers t) = subst (StandsIn i) (others_more t lt) h in
             updated_other k.owner (length slots) (length ends) i (λ e. omega (arith, e, in_list t i lt stands)) ∙ k.owned t i le stands
       ];
-      listed = λ t lt. subst (AreListOf (slots ++ empty ∷ []) (get_or ends t None)) (sym (others_more t lt)) (listed_more t lt);
-      spare = subst (AreLinked (slots ++ empty ∷ []) (Some (length slots))) (sym free_more) (refl, omega (arith, size), ap (λ (s : Slot J). s.next) (get_or_push slots empty empty (length slots) refl));
+      listed = λ t lt. subst (AreListOf after (get_or ends t None)) (sym (others_more t lt)) (same_listed slots after longer same (get_or ends t None) (k.numbers t) (k.listed t lt));
+      all_listed = λ i some. still_listed slots after longer same (length ends) k.numbers numbers_more i others_more (k.all_listed i) some;
+      spare = subst (AreLinked after (Some (length slots))) (sym free_more) (refl, omega (arith, size), ap (λ (s : Slot J). s.next) (get_or_push slots empty empty (length slots) refl));
       short = λ t lt. omega (arith, ap (λ (l : List ℕ). length l) (others_more t lt), k.short t lt, size);
       total = omega (arith, ap (λ (l : List (List (Item J))). count_of l) lists_same, full_lists slots ends k, ap (λ (l : List ℕ). length l) free_more, size);
     }
@@ -79,6 +90,8 @@ module _ {J : Type 0} where
   one_made slots free room slot none last lt = record {
     keeps = λ ends k. subst (λ v. Keeps (slots ++ empty ∷ []) ends (Some v)) (sym last) (keeps_more slots ends (subst (Keeps slots ends) none k));
     same = λ ends k. lists_same slots ends (subst (Keeps slots ends) none k);
+    longer = omega (arith, length_push slots empty);
+    read = read_same slots;
     within = omega (arith, last, lt, length_push slots empty);
     full = λ e. absurd (none_not_some (Some slot) slot e refl);
   }

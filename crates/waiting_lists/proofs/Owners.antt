@@ -1,13 +1,14 @@
 -- A slot that goes from one list to another.
-use Rattle.std.proofs.Common.{◌≡◌, ◌≢◌, ℕ, ◌+◌, ◌<◌, ◌≤◌, List, [], Option, None, length, get_or, set, cond, eqb, IsSome, arith, refl, sym, ap, ◌∙◌, subst, inl, inr}
+use Rattle.std.proofs.Common.{◌≡◌, ◌≢◌, ℕ, ◌+◌, ◌<◌, ◌≤◌, List, [], Option, None, length, get_or, set, cond, eqb, IsSome, arith, refl, sym, ap, ◌∙◌, subst, inl, inr, ◌⊎◌}
 use Rattle.std.proofs.lemmas.Bool.{cases_eq, cond-true, cond-false, eq-eqb, ne_eqb}
 use Rattle.std.proofs.lemmas.List.{get_or-set_same, get_or-set_other, length-set, length-map, get_or-map, same_lists}
 use Rattle.std.proofs.lemmas.List.Sums.{sum_by-set, get_or-le-sum_by}
 use Rattle.waiting_lists.specs.declared.item.Item.{Item}
 use Rattle.waiting_lists.specs.declared.links.Slot.{Slot}
 use Rattle.waiting_lists.specs.declared.links.Ends.{Ends}
-use Rattle.waiting_lists.specs.Linked.{StandsIn, slot_at, first_of, items_from, lists_of, count_of, AreLinked, AreListOf, Keeps}
-use Rattle.waiting_lists.proofs.Chains.{items_at, items_at_stay, items_from_chain, length_items_at, linked_stays}
+use Rattle.waiting_lists.specs.Linked.{StandsIn, slot_at, first_of, items_from, items_at, lists_of, count_of, AreLinked, AreListOf, IsListed, Keeps}
+use Rattle.waiting_lists.proofs.Chains.{linked_stays, back_stays}
+use Rattle.waiting_lists.proofs.Slots.{nexts, befores, items_at_stay, items_from_chain, length_items_at}
 
 -- a function with another value at one number
 abbrev pub updated : {X : Type 0} → (ℕ → X) → ℕ → X → ℕ → X
@@ -52,6 +53,7 @@ module _ {J : Type 0} where
     pub rest_owned : (i : ℕ) → StandsIn i rest → owner i ≡ length ends
     pub listed : AreListOf after (get_or now t None) list
     pub spare : AreLinked after link rest
+    pub all_listed : (i : ℕ) → (k.owner i ≡ t) ⊎ (k.owner i ≡ length ends) → IsSome (slot_at after i).item → ((slot_at after i).tenant ≡ t) × StandsIn i list
     pub conserved : length list + length rest ≡ length (k.numbers t) + length (k.numbers (length ends))
 
   module _ (slots after : List (Slot J)) (ends now : List (Option Ends)) (free link : Option ℕ) (k : Keeps slots ends free) (t : ℕ) (m : IsMove slots after ends now free link k t) where
@@ -80,7 +82,8 @@ module _ {J : Type 0} where
     other_listed u ne lt =
         let l : AreListOf slots (get_or ends u None) (k.numbers u) = k.listed u lt in
         subst (λ e. AreListOf after e (k.numbers u)) (sym (m.others u ne)) (record {
-          linked = linked_stays slots after (first_of (get_or ends u None)) (k.numbers u) (omega (arith, m.size)) (λ i h. ap (λ (s : Slot J). s.next) (other_stays u i ne lt h)) l.linked;
+          linked = linked_stays (nexts slots) (nexts after) (length slots) (length after) (first_of (get_or ends u None)) (k.numbers u) (omega (arith, m.size)) (λ i h. ap (λ (s : Slot J). s.next) (other_stays u i ne lt h)) l.linked;
+          back = back_stays (befores slots) (befores after) None (k.numbers u) (λ i h. ap (λ (s : Slot J). s.before) (other_stays u i ne lt h)) l.back;
           occupied = λ i h. subst (λ (s : Slot J). IsSome s.item) (sym (other_stays u i ne lt h)) (l.occupied i h);
           last = l.last;
         })
@@ -120,6 +123,36 @@ module _ {J : Type 0} where
         ap (λ (ls : List (List (Item J))). count_of ls + length (get_or (lists_of slots ends) t [])) lists_moved ∙ sum_by-set f (lists_of slots ends) t (items_at after m.list) [] (omega (arith, lists_length slots ends, m.known)) in
         omega (arith, sums, length_list slots ends free k t [] m.known, length_items_at after m.list m.listed.occupied, m.conserved, k.total)
 
+    -- a slot of another owner is still listed
+    other_still : (i : ℕ) → k.owner i ≢ t → k.owner i ≢ length ends → IsSome (slot_at after i).item → IsListed after (length now) numbers i
+    other_still i not_list not_free some =
+        let same : slot_at after i ≡ slot_at slots i = m.stay i not_list not_free in
+        let was : IsListed slots (length ends) k.numbers i = k.all_listed i (subst (λ (s : Slot J). IsSome s.item) same some) in
+        let own : k.owner i ≡ (slot_at slots i).tenant = k.owned (slot_at slots i).tenant i (omega (arith, was.known)) was.stands in
+        let tenant : (slot_at after i).tenant ≡ (slot_at slots i).tenant = ap (λ (s : Slot J). s.tenant) same in
+        record {
+          known = omega (arith, tenant, was.known, m.tenants);
+          stands = subst (λ v. StandsIn i (numbers v)) (sym tenant) (subst (StandsIn i) (sym (numbers_other (slot_at slots i).tenant (λ e. not_list (own ∙ e)) was.known)) was.stands);
+        }
+
+    -- a slot of the tenant's list, or a free one
+    own_listed : (i : ℕ) → (k.owner i ≡ t) ⊎ (k.owner i ≡ length ends) → IsSome (slot_at after i).item → IsListed after (length now) numbers i
+    own_listed i own some =
+        let found : ((slot_at after i).tenant ≡ t) × StandsIn i m.list = m.all_listed i own some in
+        record {
+          known = omega (arith, found.0, m.known, m.tenants);
+          stands = subst (λ v. StandsIn i (numbers v)) (sym found.0) (subst (StandsIn i) (sym numbers_list) found.1);
+        }
+
+    moved_listed : (i : ℕ) → IsSome (slot_at after i).item → IsListed after (length now) numbers i
+    moved_listed i some = elim (cases_eq (k.owner i) t) [
+      | inl e ↦ own_listed i (inl e) some
+      | inr not_list ↦ elim (cases_eq (k.owner i) (length ends)) [
+        | inl e ↦ own_listed i (inr e) some
+        | inr not_free ↦ other_still i not_list not_free some
+      ]
+    ]
+
     pub keeps_moved : Keeps after now link
     keeps_moved = record {
       owner = m.owner;
@@ -138,6 +171,7 @@ module _ {J : Type 0} where
         | inl e ↦ subst (λ v. AreListOf after (get_or now v None) (numbers v)) (sym e) (subst (AreListOf after (get_or now t None)) (sym numbers_list) m.listed)
         | inr ne ↦ let known : u < length ends = omega (arith, lt, m.tenants) in subst (AreListOf after (get_or now u None)) (sym (numbers_other u ne known)) (other_listed u ne known)
       ];
+      all_listed = moved_listed;
       spare = subst (AreLinked after link) (sym (ap numbers m.tenants ∙ numbers_free)) m.spare;
       short = λ u lt. elim (cases_eq u t) [
         | inl e ↦ omega (arith, ap (λ v. length (numbers v)) e, ap (λ (l : List ℕ). length l) numbers_list, short_list, m.size)

@@ -1,12 +1,14 @@
 -- An item that joins the end of a list.
-use Rattle.std.proofs.Common.{◌≡◌, ◌≢◌, ℕ, ◌<◌, List, [], ◌∷◌, ◌++◌, Option, Some, None, length, get_or, set, IsSome, IfSome, MatchOption, arith, refl, sym, ap, ◌∙◌, subst, inl, inr}
+use Rattle.std.proofs.Common.{◌≡◌, ◌≢◌, ℕ, ◌<◌, List, [], ◌∷◌, ◌++◌, Option, Some, None, length, get_or, set, IsSome, IfSome, MatchOption, arith, refl, sym, ap, ◌∙◌, subst, inl, inr, ◌⊎◌}
 use Rattle.std.proofs.lemmas.Bool.{cases_eq}
 use Rattle.std.proofs.lemmas.List.{get_or-set_same, get_or-set_other, length-set, length_push}
 use Rattle.waiting_lists.specs.declared.item.Item.{Item}
 use Rattle.waiting_lists.specs.declared.links.Slot.{Slot}
 use Rattle.waiting_lists.specs.declared.links.Ends.{Ends}
-use Rattle.waiting_lists.specs.Linked.{StandsIn, slot_at, first_of, lists_of, count_of, AreLinked, AreListOf, Keeps}
-use Rattle.waiting_lists.proofs.Chains.{some_is, none_not_some, stands_push, stands_left, stands_last, first_once, last_link, last_once, linked_stays, linked_push, items_at_stay, items_at_push, slot_at_same, slot_at_other}
+use Rattle.waiting_lists.specs.Linked.{StandsIn, slot_at, first_of, last_of, lists_of, count_of, AreLinked, AreChained, AreChainedBack, AreListOf, Keeps, Leads, IsPutAt}
+use Rattle.waiting_lists.proofs.Chains.{some_is, none_not_some, stands_push, stands_left, stands_right, last_pushed, last_is, last_stands, first_once, once, linked_bound, linked_stays, linked_push, back_push}
+use Rattle.waiting_lists.proofs.Slots.{nexts, befores, items_at_stay, items_at_push, slot_at_same, slot_at_other}
+use Rattle.waiting_lists.proofs.Leads.{IsLed, led}
 use Rattle.waiting_lists.proofs.Owners.{updated, updated_same, updated_other, list_is, IsMove, keeps_moved, lists_moved}
 
 module _ {J : Type 0} where
@@ -52,7 +54,7 @@ module _ {J : Type 0} where
     rest_owner i h = k.owned (length ends) i (omega arith) (subst (StandsIn i) (sym rest_is) (inr h))
 
     rest_apart : (i : ℕ) → StandsIn i rest → i ≢ slot
-    rest_apart i h e = first_once slots (Some slot) slot rest rest_linked (subst (λ v. StandsIn v rest) e h)
+    rest_apart i h e = first_once (nexts slots) (length slots) (Some slot) slot rest rest_linked (subst (λ v. StandsIn v rest) e h)
 
     module _ (t : ℕ) (lt : t < length ends) where
       list_owner : (i : ℕ) → StandsIn i (k.numbers t) → k.owner i ≡ t
@@ -61,128 +63,164 @@ module _ {J : Type 0} where
       list_apart : (i : ℕ) → StandsIn i (k.numbers t) → i ≢ slot
       list_apart i h e = omega (arith, lt, list_owner i h, ap k.owner e, slot_owner)
 
-      module _ (item : Item J) (after : List (Slot J)) (new : Ends) (size : length after ≡ length slots) (same : (i : ℕ) → i ≢ slot → k.owner i ≢ t → slot_at after i ≡ slot_at slots i) (linked : AreLinked after (Some new.first) (k.numbers t ++ slot ∷ [])) (kept : (i : ℕ) → StandsIn i (k.numbers t) → (slot_at after i).item ≡ (slot_at slots i).item) (placed : (slot_at after slot).item ≡ Some item) (last : new.last ≡ slot) where
-        push_occupied : (i : ℕ) → StandsIn i (k.numbers t ++ slot ∷ []) → IsSome (slot_at after i).item
-        push_occupied i h = elim (stands_push i slot (k.numbers t) h) [
-          | inl s ↦ subst IsSome (sym (kept i s)) ((k.listed t lt).occupied i s)
-          | inr e ↦ subst (λ v. IsSome (slot_at after v).item) (sym e) (subst IsSome (sym placed) refl)
-        ]
-
-        pub push_moves : IsMove slots after ends (set ends t (Some new)) (Some slot) (slot_at slots slot).next k t
-        push_moves = record {
-          owner = updated k.owner slot t;
-          list = k.numbers t ++ slot ∷ [];
-          rest = rest;
-          size = size;
-          tenants = length-set ends t (Some new);
-          known = lt;
-          others = λ u ne. get_or-set_other ends t u (Some new) None ne;
-          stay = λ i not_list not_free. same i (λ e. not_free (ap k.owner e ∙ slot_owner)) not_list;
-          same_owner = λ i not_list not_free. updated_other k.owner slot t i (λ e. not_free (ap k.owner e ∙ slot_owner));
-          list_owned = λ i h. elim (stands_push i slot (k.numbers t) h) [
-            | inl s ↦ updated_other k.owner slot t i (list_apart i s) ∙ list_owner i s
-            | inr e ↦ ap (updated k.owner slot t) e ∙ updated_same k.owner slot t
-          ];
-          rest_owned = λ i h. updated_other k.owner slot t i (rest_apart i h) ∙ rest_owner i h;
-          listed = subst (λ e. AreListOf after e (k.numbers t ++ slot ∷ [])) (sym (get_or-set_same ends t (Some new) None lt)) (record {
-            linked = linked;
-            occupied = push_occupied;
-            last = (k.numbers t, ap (λ v. k.numbers t ++ v ∷ []) (sym last));
-          });
-          spare = linked_stays slots after (slot_at slots slot).next rest (omega (arith, size)) (λ i h. ap (λ (s : Slot J). s.next) (same i (rest_apart i h) (λ e. omega (arith, lt, e, rest_owner i h)))) rest_linked.2;
-          conserved = omega (arith, length_push (k.numbers t) slot, ap (λ (l : List ℕ). length l) rest_is);
-        }
-
-        pub push_keeps : Keeps after (set ends t (Some new)) (slot_at slots slot).next
-        push_keeps = keeps_moved slots after ends (set ends t (Some new)) (Some slot) (slot_at slots slot).next k t push_moves
-
-        pub push_lists : lists_of after (set ends t (Some new)) ≡ set (lists_of slots ends) t (get_or (lists_of slots ends) t [] ++ item ∷ [])
-        unfolding push_moves
-        push_lists =
-            lists_moved slots after ends (set ends t (Some new)) (Some slot) (slot_at slots slot).next k t push_moves
-            ∙ ap (set (lists_of slots ends) t) (items_at_push after (k.numbers t) slot item placed ∙ ap (λ (l : List (Item J)). l ++ item ∷ []) (items_at_stay slots after (k.numbers t) kept ∙ sym (list_is slots ends (Some slot) k t [] lt)))
-
-      -- the two writes
       module _ (item : Item J) where
         -- what `append` has done
         pub record HasPushed (after : List (Slot J)) (new : Ends) : Type 0 where
           pub size : length after ≡ length slots
           pub same : (i : ℕ) → i ≢ slot → k.owner i ≢ t → slot_at after i ≡ slot_at slots i
           pub linked : AreLinked after (Some new.first) (k.numbers t ++ slot ∷ [])
-          pub kept : (i : ℕ) → StandsIn i (k.numbers t) → (slot_at after i).item ≡ (slot_at slots i).item
+          pub back : AreChainedBack (befores after) None (k.numbers t ++ slot ∷ [])
+          pub items : (i : ℕ) → i ≢ slot → (slot_at after i).item ≡ (slot_at slots i).item
+          pub tenants : (i : ℕ) → i ≢ slot → (slot_at after i).tenant ≡ (slot_at slots i).tenant
+          pub cells : (i : ℕ) → i ≢ slot → (slot_at after i).next_in_cell ≡ (slot_at slots i).next_in_cell
           pub placed : (slot_at after slot).item ≡ Some item
+          pub tenant : (slot_at after slot).tenant ≡ t
           pub last : new.last ≡ slot
 
-        pub pushed_first : (new : Ends) → get_or ends t None ≡ None → new.first ≡ slot → new.last ≡ slot → HasPushed (set slots slot (record { item = Some item; next = None })) new
-        pushed_first new none first last =
-            let s : Slot J = record { item = Some item; next = None } in
-            let at : slot_at (set slots slot s) slot ≡ s = slot_at_same slots slot s free_bound in
-            let empty : k.numbers t ≡ [] = none_linked slots (k.numbers t) (subst (λ e. AreLinked slots (first_of e) (k.numbers t)) none (k.listed t lt).linked) in
-            let alone : AreLinked (set slots slot s) (Some new.first) (slot ∷ []) = (ap Some first, omega (arith, length-set slots slot s, free_bound), ap (λ (x : Slot J). x.next) at) in
-            record {
-              size = length-set slots slot s;
-              same = λ i ne away. slot_at_other slots slot i s ne;
-              linked = subst (λ l. AreLinked (set slots slot s) (Some new.first) (l ++ slot ∷ [])) (sym empty) alone;
-              kept = λ i h. ap (λ (x : Slot J). x.item) (slot_at_other slots slot i s (list_apart i h));
-              placed = ap (λ (x : Slot J). x.item) at;
-              last = last;
-            }
+        module _ (after : List (Slot J)) (new : Ends) (h : HasPushed after new) where
+          push_occupied : (i : ℕ) → StandsIn i (k.numbers t ++ slot ∷ []) → IsSome (slot_at after i).item
+          push_occupied i s = elim (stands_push i slot (k.numbers t) s) [
+            | inl s ↦ subst IsSome (sym (h.items i (list_apart i s))) ((k.listed t lt).occupied i s)
+            | inr e ↦ subst (λ v. IsSome (slot_at after v).item) (sym e) (subst IsSome (sym h.placed) refl)
+          ]
 
-        module _ (e : Ends) (some : get_or ends t None ≡ Some e) where
-          split : (front : List ℕ) × (k.numbers t ≡ front ++ e.last ∷ [])
-          split = subst (λ o. IfSome o (λ x. (front : List ℕ) × (k.numbers t ≡ front ++ x.last ∷ []))) some (k.listed t lt).last
+          -- an item that was there before, in the tenant's list
+          still_listed : (i : ℕ) → i ≢ slot → (k.owner i ≡ t) ⊎ (k.owner i ≡ length ends) → IsSome (slot_at after i).item → ((slot_at after i).tenant ≡ t) × StandsIn i (k.numbers t ++ slot ∷ [])
+          still_listed i ne own some =
+              let was = k.all_listed i (subst IsSome (h.items i ne) some) in
+              let owner : k.owner i ≡ (slot_at slots i).tenant = k.owned (slot_at slots i).tenant i (omega (arith, was.known)) was.stands in
+              elim own [
+                | inl e ↦ (h.tenants i ne ∙ sym owner ∙ e, stands_left i (k.numbers t) (slot ∷ []) (subst (λ v. StandsIn i (k.numbers v)) (sym owner ∙ e) was.stands))
+                | inr e ↦ absurd (omega (arith, e, owner, was.known))
+              ]
 
-          chain : AreLinked slots (Some e.first) (split.0 ++ e.last ∷ [])
-          chain = subst (AreLinked slots (Some e.first)) split.1 (subst (λ o. AreLinked slots (first_of o) (k.numbers t)) some (k.listed t lt).linked)
+          pub push_moves : IsMove slots after ends (set ends t (Some new)) (Some slot) (slot_at slots slot).next k t
+          push_moves = record {
+            owner = updated k.owner slot t;
+            list = k.numbers t ++ slot ∷ [];
+            rest = rest;
+            size = h.size;
+            tenants = length-set ends t (Some new);
+            known = lt;
+            others = λ u ne. get_or-set_other ends t u (Some new) None ne;
+            stay = λ i not_list not_free. h.same i (λ e. not_free (ap k.owner e ∙ slot_owner)) not_list;
+            same_owner = λ i not_list not_free. updated_other k.owner slot t i (λ e. not_free (ap k.owner e ∙ slot_owner));
+            list_owned = λ i s. elim (stands_push i slot (k.numbers t) s) [
+              | inl s ↦ updated_other k.owner slot t i (list_apart i s) ∙ list_owner i s
+              | inr e ↦ ap (updated k.owner slot t) e ∙ updated_same k.owner slot t
+            ];
+            rest_owned = λ i s. updated_other k.owner slot t i (rest_apart i s) ∙ rest_owner i s;
+            listed = subst (λ e. AreListOf after e (k.numbers t ++ slot ∷ [])) (sym (get_or-set_same ends t (Some new) None lt)) (record {
+              linked = h.linked;
+              back = h.back;
+              occupied = push_occupied;
+              last = ap Some h.last ∙ sym (last_pushed None (k.numbers t) slot);
+            });
+            spare = linked_stays (nexts slots) (nexts after) (length slots) (length after) (slot_at slots slot).next rest (omega (arith, h.size)) (λ i s. ap (λ (s : Slot J). s.next) (h.same i (rest_apart i s) (λ e. omega (arith, lt, e, rest_owner i s)))) rest_linked.2;
+            all_listed = λ i own some. elim (cases_eq i slot) [
+              | inl e ↦ (ap (λ v. (slot_at after v).tenant) e ∙ h.tenant, subst (λ v. StandsIn v (k.numbers t ++ slot ∷ [])) (sym e) (stands_right slot (k.numbers t) (slot ∷ []) (inl refl)))
+              | inr ne ↦ still_listed i ne own some
+            ];
+            conserved = omega (arith, length_push (k.numbers t) slot, ap (λ (l : List ℕ). length l) rest_is);
+          }
 
-          last_stands : StandsIn e.last (k.numbers t)
-          last_stands = subst (StandsIn e.last) (sym split.1) (stands_last e.last split.0)
+          pub appended_keeps : Keeps after (set ends t (Some new)) (slot_at slots slot).next
+          appended_keeps = keeps_moved slots after ends (set ends t (Some new)) (Some slot) (slot_at slots slot).next k t push_moves
 
-          pub last_bound : e.last < length slots
-          last_bound = (last_link slots (Some e.first) split.0 e.last chain).0
+          pub appended_lists : lists_of after (set ends t (Some new)) ≡ set (lists_of slots ends) t (get_or (lists_of slots ends) t [] ++ item ∷ [])
+          unfolding push_moves
+          appended_lists =
+              lists_moved slots after ends (set ends t (Some new)) (Some slot) (slot_at slots slot).next k t push_moves
+              ∙ ap (set (lists_of slots ends) t) (items_at_push after (k.numbers t) slot item h.placed ∙ ap (λ (l : List (Item J)). l ++ item ∷ []) (items_at_stay slots after (k.numbers t) (λ i s. h.items i (list_apart i s)) ∙ sym (list_is slots ends (Some slot) k t [] lt)))
 
-          pub pushed_behind : (new : Ends) → new.first ≡ e.first → new.last ≡ slot → HasPushed (set (set slots slot (record { item = Some item; next = None })) e.last (record (slot_at (set slots slot (record { item = Some item; next = None })) e.last) { next = Some slot })) new
-          pushed_behind new first last =
-              let s : Slot J = record { item = Some item; next = None } in
-              let mid : List (Slot J) = set slots slot s in
-              let l : Slot J = record (slot_at mid e.last) { next = Some slot } in
-              let after : List (Slot J) = set mid e.last l in
-              let mid_size : length mid ≡ length slots = length-set slots slot s in
-              let size : length after ≡ length slots = length-set mid e.last l ∙ mid_size in
-              let not_slot : e.last ≢ slot = list_apart e.last last_stands in
-              let same : (i : ℕ) → i ≢ slot → i ≢ e.last → slot_at after i ≡ slot_at slots i = λ i ne away. slot_at_other mid e.last i l away ∙ slot_at_other slots slot i s ne in
-              let at_slot : slot_at after slot ≡ s = slot_at_other mid e.last slot l (λ f. not_slot (sym f)) ∙ slot_at_same slots slot s free_bound in
-              let at_last : slot_at after e.last ≡ l = slot_at_same mid e.last l (omega (arith, mid_size, last_bound)) in
-              let front_apart : (i : ℕ) → StandsIn i split.0 → i ≢ e.last = λ i h f. last_once slots (Some e.first) split.0 e.last chain (subst (λ v. StandsIn v split.0) f h) in
-              let in_list : (i : ℕ) → StandsIn i split.0 → StandsIn i (k.numbers t) = λ i h. subst (StandsIn i) (sym split.1) (stands_left i e.last split.0 h) in
-              let longer : AreLinked after (Some e.first) ((split.0 ++ e.last ∷ []) ++ slot ∷ []) =
-              linked_push slots after (Some e.first) split.0 e.last slot size
-              (λ i h. ap (λ (x : Slot J). x.next) (same i (list_apart i (in_list i h)) (front_apart i h)))
-              (ap (λ (x : Slot J). x.next) at_last) (ap (λ (x : Slot J). x.next) at_slot) free_bound chain in
-              let last_item : l.item ≡ (slot_at slots e.last).item = ap (λ (x : Slot J). x.item) (slot_at_other slots slot e.last s not_slot) in
-              record {
-                size = size;
-                same = λ i ne away. same i ne (λ f. away (ap k.owner f ∙ list_owner e.last last_stands));
-                linked = subst (λ v. AreLinked after v (k.numbers t ++ slot ∷ [])) (ap Some (sym first)) (subst (λ v. AreLinked after (Some e.first) (v ++ slot ∷ [])) (sym split.1) longer);
-                kept = λ i h. elim (cases_eq i e.last) [
-                  | inl f ↦ ap (λ v. (slot_at after v).item) f ∙ ap (λ (x : Slot J). x.item) at_last ∙ last_item ∙ ap (λ v. (slot_at slots v).item) (sym f)
-                  | inr away ↦ ap (λ (x : Slot J). x.item) (same i (list_apart i h) away)
-                ];
-                placed = ap (λ (x : Slot J). x.item) at_slot;
-                last = last;
-              }
+          -- a free slot holds no item
+          slot_empty : (o : Option (Item J)) → (slot_at slots slot).item ≡ o → (slot_at slots slot).item ≡ None
+          slot_empty None e = e
+          slot_empty (Some i) e =
+              let was = k.all_listed slot (subst IsSome (sym e) refl) in
+              absurd (omega (arith, was.known, slot_owner, k.owned (slot_at slots slot).tenant slot (omega (arith, was.known)) was.stands))
 
-        pub has_pushed : (o : Option Ends) → get_or ends t None ≡ o → (after : List (Slot J)) (new : Ends) → MatchOption o (after ≡ set slots slot (record { item = Some item; next = None })) (λ e. after ≡ set (set slots slot (record { item = Some item; next = None })) e.last (record (slot_at (set slots slot (record { item = Some item; next = None })) e.last) { next = Some slot })) → MatchOption o (new.first ≡ slot) (λ e. new.first ≡ e.first) → new.last ≡ slot → HasPushed after new
-        has_pushed None is after new written first last = subst (λ v. HasPushed v new) (sym written) (pushed_first new is first last)
-        has_pushed (Some e) is after new written first last = subst (λ v. HasPushed v new) (sym written) (pushed_behind e is new first last)
+          pub appended_put : IsPutAt slots slot item after
+          appended_put = record {
+            within = free_bound;
+            empty = slot_empty (slot_at slots slot).item refl;
+            put = h.placed;
+            beside = record { size = h.size; items = h.items; cells = h.cells };
+          }
 
-        pub appended_keeps : (after : List (Slot J)) (new : Ends) → HasPushed after new → Keeps after (set ends t (Some new)) (slot_at slots slot).next
-        appended_keeps after new h = push_keeps item after new h.size h.same h.linked h.kept h.placed h.last
+        abbrev before : Option ℕ
+        before = last_of (get_or ends t None)
 
-        pub appended_lists : (after : List (Slot J)) (new : Ends) → HasPushed after new → lists_of after (set ends t (Some new)) ≡ set (lists_of slots ends) t (get_or (lists_of slots ends) t [] ++ item ∷ [])
-        appended_lists after new h = push_lists item after new h.size h.same h.linked h.kept h.placed h.last
+        abbrev placed : Slot J
+        placed = record { item = Some item; tenant = t; before = before; next = None; next_in_cell = None }
 
-        -- the last slot of the list, if it has one, is there to be linked
-        pub last_bound_of : (o : Option Ends) → get_or ends t None ≡ o → IfSome o (λ e. e.last < length (set slots slot (record { item = Some item; next = None })))
-        last_bound_of None is = tt
-        last_bound_of (Some e) is = omega (arith, last_bound e is, length-set slots slot (record { item = Some item; next = None }))
+        mid_same : slot_at (set slots slot placed) slot ≡ placed
+        mid_same = slot_at_same slots slot placed free_bound
+
+        mid_other : (i : ℕ) → i ≢ slot → slot_at (set slots slot placed) i ≡ slot_at slots i
+        mid_other i ne = slot_at_other slots slot i placed ne
+
+        -- the last slot of the list
+        before_stands : (l : ℕ) → before ≡ Some l → StandsIn l (k.numbers t)
+        before_stands l e = last_stands (k.numbers t) l (sym (k.listed t lt).last ∙ e)
+
+        -- is there to be linked
+        before_bound_at : (o : Option ℕ) → before ≡ o → IfSome o (λ l. l < length (set slots slot placed))
+        before_bound_at None e = tt
+        before_bound_at (Some l) e = omega (arith, length-set slots slot placed, linked_bound (nexts slots) (length slots) (first_of (get_or ends t None)) (k.numbers t) l (k.listed t lt).linked (before_stands l e))
+
+        pub before_bound : IfSome before (λ l. l < length (set slots slot placed))
+        before_bound = before_bound_at before refl
+
+        module _ (after : List (Slot J)) (new : Ends) (written : Leads (set slots slot placed) before (Some slot) after) where
+          did : IsLed (set slots slot placed) before (Some slot) after
+          did = led (set slots slot placed) before (Some slot) after before_bound written
+
+          not_before : before ≡ Some slot → ⊥
+          not_before e = list_apart slot (before_stands slot e) refl
+
+          at_slot : slot_at after slot ≡ placed
+          at_slot = did.written.other slot not_before ∙ mid_same
+
+          size : length after ≡ length slots
+          size = did.written.size ∙ length-set slots slot placed
+
+          same : (i : ℕ) → i ≢ slot → (before ≡ Some i → ⊥) → slot_at after i ≡ slot_at slots i
+          same i ne away = did.written.other i away ∙ mid_other i ne
+
+          -- the list with the slot behind it
+          linked_behind : (o : Option Ends) → get_or ends t None ≡ o → MatchOption o (new.first ≡ slot) (λ e. new.first ≡ e.first) → AreLinked after (Some new.first) (k.numbers t ++ slot ∷ [])
+          linked_behind None none first =
+              let empty : k.numbers t ≡ [] = none_linked slots (k.numbers t) (subst (λ e. AreLinked slots (first_of e) (k.numbers t)) none (k.listed t lt).linked) in
+              subst (λ l. AreLinked after (Some new.first) (l ++ slot ∷ [])) (sym empty) (ap Some first, omega (arith, size, free_bound), ap (λ (s : Slot J). s.next) at_slot)
+          linked_behind (Some e) some first =
+              let last : before ≡ Some e.last = ap last_of some in
+              let found : (front : List ℕ) × (k.numbers t ≡ front ++ e.last ∷ []) = last_is (k.numbers t) e.last (sym (k.listed t lt).last ∙ last) in
+              let chain : AreLinked slots (Some e.first) (found.0 ++ e.last ∷ []) = subst (AreLinked slots (Some e.first)) found.1 (subst (λ o. AreLinked slots (first_of o) (k.numbers t)) some (k.listed t lt).linked) in
+              let in_list : (i : ℕ) → StandsIn i found.0 → StandsIn i (k.numbers t) = λ i h. subst (StandsIn i) (sym found.1) (stands_left i found.0 (e.last ∷ []) h) in
+              let front_apart : (i : ℕ) → StandsIn i found.0 → before ≡ Some i → ⊥ = λ i h f. once (nexts slots) (length slots) (Some e.first) found.0 e.last [] chain (stands_left e.last found.0 [] (subst (λ v. StandsIn v found.0) (some_is i e.last (sym f ∙ last)) h)) in
+              let longer : AreChained (nexts after) (length slots) (Some e.first) ((found.0 ++ e.last ∷ []) ++ slot ∷ []) = linked_push (nexts slots) (nexts after) (length slots) (Some e.first) found.0 e.last slot (λ i h. ap (λ (s : Slot J). s.next) (same i (list_apart i (in_list i h)) (front_apart i h))) (did.at e.last last) (ap (λ (s : Slot J). s.next) at_slot) free_bound chain in
+              subst (λ b. AreChained (nexts after) b (Some new.first) (k.numbers t ++ slot ∷ [])) (sym size)
+              (subst (λ v. AreChained (nexts after) (length slots) (Some v) (k.numbers t ++ slot ∷ [])) (sym first) (subst (λ l. AreChained (nexts after) (length slots) (Some e.first) (l ++ slot ∷ [])) (sym found.1) longer))
+
+          pub has_pushed : MatchOption (get_or ends t None) (new.first ≡ slot) (λ e. new.first ≡ e.first) → new.last ≡ slot → HasPushed after new
+          has_pushed first last = record {
+            size = size;
+            same = λ i ne away. same i ne (λ e. away (list_owner i (before_stands i e)));
+            linked = linked_behind (get_or ends t None) refl first;
+            back = back_push (befores slots) (befores after) None (k.numbers t) slot (λ i h. did.befores i ∙ ap (λ (s : Slot J). s.before) (mid_other i (list_apart i h))) (did.befores slot ∙ ap (λ (s : Slot J). s.before) mid_same ∙ (k.listed t lt).last) (k.listed t lt).back;
+            items = λ i ne. did.items i ∙ ap (λ (s : Slot J). s.item) (mid_other i ne);
+            tenants = λ i ne. did.tenants i ∙ ap (λ (s : Slot J). s.tenant) (mid_other i ne);
+            cells = λ i ne. did.cells i ∙ ap (λ (s : Slot J). s.next_in_cell) (mid_other i ne);
+            placed = did.items slot ∙ ap (λ (s : Slot J). s.item) mid_same;
+            tenant = did.tenants slot ∙ ap (λ (s : Slot J). s.tenant) mid_same;
+            last = last;
+          }
+
+        -- what `append` reads and writes
+        module _ (read : Option ℕ) (read_is : read ≡ before) where
+          pub read_bound : IfSome read (λ l. l < length (set slots slot (record { item = Some item; tenant = t; before = read; next = None; next_in_cell = None })))
+          read_bound = subst (λ o. IfSome o (λ l. l < length (set slots slot (record { item = Some item; tenant = t; before = o; next = None; next_in_cell = None })))) (sym read_is) before_bound
+
+          pub did_push : (after : List (Slot J)) (new : Ends) → Leads (set slots slot (record { item = Some item; tenant = t; before = read; next = None; next_in_cell = None })) read (Some slot) after → MatchOption (get_or ends t None) (new.first ≡ slot) (λ e. new.first ≡ e.first) → new.last ≡ slot → HasPushed after new
+          did_push after new written = has_pushed after new (subst (λ o. Leads (set slots slot (record { item = Some item; tenant = t; before = o; next = None; next_in_cell = None })) o (Some slot) after) read_is written)

@@ -1,2 +1,4 @@
 pub mod Lists
 pub mod Linked
+pub mod Cells
+pub mod Kept

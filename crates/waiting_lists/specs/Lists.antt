@@ -1,5 +1,5 @@
 -- What contracts see of lists of waiting items.
-use Rattle.std.specs.Prelude.{ℕ, List, [], length, sum_by, slice_index_or, slice_set, refl}
+use Rattle.std.specs.Prelude.{ℕ, ◌≡◌, ◌≢◌, ◌<◌, List, [], ◌∷◌, ◌++◌, All, Any, length, sum_by, slice_index_or, slice_set, refl}
 use Rattle.std.specs.Coded.{Coded, code_by, coded×, coded_ℕ, coded_list}
 use Rattle.waiting_lists.specs.declared.item.Item.{Item}
 
@@ -39,3 +39,21 @@ module _ {J : Type 0} where
   -- the tenant has this list, and every other tenant keeps its own
   abbrev pub with_list : ListsView J → ℕ → List (Item J) → ListsView J
   with_list w tenant list = record w { lists = slice_set w.lists tenant list }
+
+  -- a tenant whose list has an item of this request
+  pub record HasItemOf (w : ListsView J) (request tenant : ℕ) : Type 0 where
+    pub known : tenant < length w.lists
+    pub listed : Any (λ i. i.request ≡ request) (list_of w tenant)
+
+  -- no list has an item of this request
+  abbrev pub HasNone : ListsView J → ℕ → Type 0
+  HasNone w request = (tenant : ℕ) → tenant < length w.lists → All (λ i. i.request ≢ request) (list_of w tenant)
+
+  -- this item of the request is off the list of this tenant, the order of the rest kept, and all else is as before
+  pub record IsRemoved (w : ListsView J) (request tenant : ℕ) (item : Item J) (w2 : ListsView J) : Type 0 where
+    pub known : tenant < length w.lists
+    pub number : item.request ≡ request
+    pub front : List (Item J)
+    pub rest : List (Item J)
+    pub was : list_of w tenant ≡ front ++ item ∷ rest
+    pub is : w2 ≡ with_list w tenant (front ++ rest)

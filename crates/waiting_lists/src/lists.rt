@@ -1,9 +1,11 @@
 //! The lists.
-ghost use Rattle.std.specs.Prelude.{◌≡◌, ◌<◌, ◌≤◌, ◌++◌, [], ◌∷◌, drop, IfOk, None, OnOk, OnErr, IfErr, length, replicate, slice_get, option_copied};
-ghost use Rattle.waiting_lists.specs.Lists.{ListsView, list_of, waiting, with_list};
+ghost use Rattle.std.specs.Prelude.{◌≡◌, ◌<◌, ◌≤◌, ◌++◌, [], ◌∷◌, drop, max, IfOk, IfSome, IfNone, None, OnOk, OnErr, IfErr, length, replicate, slice_get, option_copied};
+ghost use Rattle.waiting_lists.specs.Lists.{ListsView, list_of, waiting, with_list, HasItemOf, HasNone, IsRemoved};
 
+use crate::cells::{file, find};
 use crate::item::Item;
-use crate::links::{Ends, Slot, append, make_free, take_first};
+use crate::links::{Ends, Slot, append, make_free};
+use crate::taking::take_out;
 use std::alloc::{AllocError, Global};
 use std::marker::Model;
 
@@ -15,6 +17,8 @@ pub struct Lists<J> {
     slots: Vec<Slot<J>>,
     // how many there may be
     room: u32,
+    // the first slot of each cell of the index
+    cells: Vec<Option<u32>>,
     // the ends of each tenant's list that has an item
     ends: Vec<Option<Ends>>,
     // the first of the slots that hold no item, linked among themselves
@@ -30,11 +34,12 @@ impl<J> Model for Lists<J> {
 
     ghost coded = { lists_code J.code };
 
-    ghost use Rattle.waiting_lists.specs.Linked.{lists_of, KeepsCount};
+    ghost use Rattle.waiting_lists.specs.Linked.{lists_of};
+    ghost use Rattle.waiting_lists.specs.Kept.{KeepsCount};
 
     ghost view = { λ l. record { lists = lists_of l.slots.items l.ends.items; slots = l.room } };
 
-    ghost invariant = { λ l. KeepsCount l.slots.items l.ends.items l.free l.len l.room (vec_capacity l.slots) };
+    ghost invariant = { λ l. KeepsCount l.slots.items l.cells.items l.ends.items l.free l.len l.room (vec_capacity l.slots) };
 }
 
 impl<J: Drop> Lists<J> {
@@ -42,10 +47,12 @@ impl<J: Drop> Lists<J> {
     pub fn open(alloc: Global, tenants: u32, slots: u32) -> Result<Lists<J>, AllocError>
         ensures { IfOk result (λ l. l ≡ record { lists = replicate tenants []; slots = slots }) }
     {
+        let cells = empty_cells(alloc, slots)?;
         let ends = empty_ends(alloc, tenants)?;
         Ok(Lists {
             slots: Vec::with_capacity(alloc, slots as usize)?,
             room: slots,
+            cells,
             ends,
             free: None,
             len: 0,
@@ -62,13 +69,15 @@ impl<J: Drop> Lists<J> {
         ensures unchanged { OnErr result (self.new ≡ self.old) }
     {
         make_free(&mut self.slots, &mut self.free, self.room);
-        append(
+        let request = item.request;
+        let slot = append(
             &mut self.slots,
             &mut self.ends,
             &mut self.free,
             tenant,
             item,
         )?;
+        file(&mut self.slots, &mut self.cells, slot, request);
         self.len += 1;
         Ok(())
     }
@@ -88,9 +97,44 @@ impl<J: Drop> Lists<J> {
         ensures first { result ≡ slice_get (list_of self.old tenant) 0 }
         ensures rest { self.new ≡ with_list self.old tenant (drop 1 (list_of self.old tenant)) }
     {
-        let item = take_first(&mut self.slots, &mut self.ends, &mut self.free, tenant)?;
+        let Ends { first, .. } = self.ends[tenant as usize]?;
+        let item = take_out(
+            &mut self.slots,
+            &mut self.cells,
+            &mut self.ends,
+            &mut self.free,
+            first,
+        );
         self.len -= 1;
-        Some(item)
+        item
+    }
+
+    /// The tenant in whose list an item of this request stands.
+    pub fn find(&self, request: u32) -> Option<u32>
+        ensures some { IfSome result (HasItemOf self.now request) }
+        ensures none { IfNone result (HasNone self.now request) }
+    {
+        let slot = find(&self.slots, &self.cells, request)?;
+        Some(self.slots[slot as usize].tenant)
+    }
+
+    /// Takes an item of this request out of the list in which it stands, and tells whose list that is.
+    pub fn remove(&mut self, request: u32) -> Option<(u32, Item<J>)>
+        ensures removed { IfSome result (λ r. IsRemoved self.old request r.0 r.1 self.new) }
+        ensures none { IfNone result (HasNone self.old request) }
+        ensures unchanged { IfNone result (self.new ≡ self.old) }
+    {
+        let slot = find(&self.slots, &self.cells, request)?;
+        let tenant = self.slots[slot as usize].tenant;
+        let item = take_out(
+            &mut self.slots,
+            &mut self.cells,
+            &mut self.ends,
+            &mut self.free,
+            slot,
+        )?;
+        self.len -= 1;
+        Some((tenant, item))
     }
 
     /// How many items wait, over all tenants.
@@ -107,4 +151,11 @@ fn empty_ends(alloc: Global, tenants: u32) -> Result<Vec<Option<Ends>>, AllocErr
     ensures { IfOk result (λ v. v.items ≡ replicate tenants None) }
 {
     vec![in alloc; None; tenants as usize]
+}
+
+/// The cells of an index of so many slots, of which none holds an item; one cell at the least.
+fn empty_cells(alloc: Global, slots: u32) -> Result<Vec<Option<u32>>, AllocError>
+    ensures { IfOk result (λ v. v.items ≡ replicate (max slots 1) None) }
+{
+    vec![in alloc; None; slots.max(1) as usize]
 }

@@ -1,0 +1,24 @@
+use Rattle.std.proofs.Common.{◌≡◌, ◌≢◌, ℕ, Some, None, sym, subst}
+use Rattle.std.proofs.lemmas.List.{get_or_read}
+use Rattle.waiting_lists.specs.declared.links.Slot.{Slot}
+use Rattle.waiting_lists.specs.Linked.{slot_at}
+use Rattle.waiting_lists.specs.Cells.{number_at}
+use Rattle.waiting_lists.specs.Lists.{HasNone, HasItemOf}
+use Rattle.waiting_lists.proofs.Filed.{number_bound}
+use Rattle.waiting_lists.proofs.Removes.{found_none, found_some}
+use Rattle.waiting_lists.proofs.lists.Lists.find.Goals as goal
+
+pub returns-in_err-slot-clause-none : goal.returns-in_err-slot-clause-none
+returns-in_err-slot-clause-none g c =
+    let s = c.self.inside in
+    let none : (i : ℕ) → number_at s.slots.items i ≢ Some c.args.request = rw c.deref.ensures.value at c.in_err-slot.ensures.none in
+    let all : HasNone c.args.self.now c.args.request = found_none s.slots.items s.ends.items s.free s.room c.args.self.now c.self.view_is c.self.invariant.kept.links c.args.request none in
+    rw c.from_residual.ensures all
+
+pub returns-clause-some : goal.returns-clause-some
+returns-clause-some g c =
+    let s = c.self.inside in
+    let number : number_at s.slots.items c.in_ok-slot.slot ≡ Some c.args.request = rw c.deref.ensures.value at c.in_ok-slot.ensures.found in
+    let read : c.index.result.now ≡ slot_at s.slots.items c.in_ok-slot.slot = get_or_read s.slots.items c.in_ok-slot.slot c.index.result.now (number_bound s.slots.items c.in_ok-slot.slot c.args.request number) c.index.ensures (record { item = None; tenant = 0; before = None; next = None; next_in_cell = None }) in
+    subst (λ (x : Slot g.row.J.Denot). HasItemOf c.args.self.now c.args.request x.tenant) (sym read)
+    (found_some s.slots.items s.ends.items s.free s.room c.args.self.now c.self.view_is c.self.invariant.kept.links c.in_ok-slot.slot c.args.request number)

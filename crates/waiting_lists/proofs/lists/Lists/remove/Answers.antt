@@ -1,0 +1,54 @@
+use Rattle.std.proofs.Common.{◌≡◌, ◌≢◌, ℕ, ◌+◌, ◌-◌, [], Some, None, length, get_or, sym, ◌∙◌, rules, arith}
+use Rattle.std.proofs.lemmas.List.{get_or_read}
+use Rattle.waiting_lists.specs.Linked.{slot_at, lists_of, IsTakenOut}
+use Rattle.waiting_lists.specs.Cells.{number_at}
+use Rattle.waiting_lists.specs.Lists.{HasNone}
+use Rattle.waiting_lists.proofs.Filed.{number_bound}
+use Rattle.waiting_lists.proofs.Counts.{kept_back, counted_less, item_counts, whole_back}
+use Rattle.waiting_lists.proofs.Removes.{holds, found_none, found_known, left, left_shorter, left_lists, removed}
+use Rattle.waiting_lists.proofs.lists.Lists.remove.Goals as goal
+
+pub returns-in_err-slot-clause-none : goal.returns-in_err-slot-clause-none
+returns-in_err-slot-clause-none g c =
+    let s = c.self.inside in
+    let none : (i : ℕ) → number_at s.slots.items i ≢ Some c.args.request = rw c.deref.ensures.value at c.in_err-slot.ensures.none in
+    let all : HasNone c.args.self.now c.args.request = found_none s.slots.items s.ends.items s.free s.room c.args.self.now c.self.view_is c.self.invariant.kept.links c.args.request none in
+    rw c.from_residual.ensures all
+
+pub take_out-requires-clause-held : goal.take_out-requires-clause-held
+take_out-requires-clause-held g c =
+    let s = c.self.inside in
+    let k = c.self.invariant.kept.links in
+    let number : number_at s.slots.items c.in_ok-slot.slot ≡ Some c.args.request = rw c.deref.ensures.value at c.in_ok-slot.ensures.found in
+    rw c.deref_mut.ensures.value (holds s.slots.items c.in_ok-slot.slot c.args.request number)
+
+pub overflow_sub-self : goal.overflow_sub-self
+overflow_sub-self g c =
+    let s = c.self.inside in
+    let k = c.self.invariant.kept.links in
+    let number : number_at s.slots.items c.in_ok-slot.slot ≡ Some c.args.request = rw c.deref.ensures.value at c.in_ok-slot.ensures.found in
+    let shorter : length (left s.slots.items s.ends.items s.free s.room c.args.self.now c.self.view_is k c.in_ok-slot.slot c.args.request number) + 1 ≡ length (get_or (lists_of s.slots.items s.ends.items) (slot_at s.slots.items c.in_ok-slot.slot).tenant []) = left_shorter s.slots.items s.ends.items s.free s.room c.args.self.now c.self.view_is k c.in_ok-slot.slot c.args.request number in
+    item_counts s.slots.items s.cells.items s.ends.items s.free s.len s.room _ (slot_at s.slots.items c.in_ok-slot.slot).tenant c.self.invariant (found_known s.slots.items s.ends.items s.free s.room c.args.self.now c.self.view_is k c.in_ok-slot.slot c.args.request number) (omega (arith, shorter))
+
+pub invariant_of-self-2 : goal.invariant_of-self-2
+invariant_of-self-2 g c =
+    let s = c.self.inside in
+    let k = c.self.invariant.kept.links in
+    let number : number_at s.slots.items c.in_ok-slot.slot ≡ Some c.args.request = rw c.deref.ensures.value at c.in_ok-slot.ensures.found in
+    let f = c.take_out.new in
+    let out : IsTakenOut s.slots.items s.ends.items c.in_ok-slot.slot f.slots f.ends = rw (c.deref_mut.ensures.value, c.deref_mut-3.ensures.value) at c.take_out.ensures.rest in
+    let size : length f.slots ≡ length s.slots.items = search rules in
+    kept_back s.slots.len s.cells.len s.ends.len f.slots s.slots.items f.cells s.cells.items f.ends s.ends.items f.free (s.len - 1) s.room _ (search rules) (search rules) (search rules)
+    (counted_less s.slots.items f.slots s.cells.items f.cells s.ends.items f.ends s.free f.free s.len s.room _ (slot_at s.slots.items c.in_ok-slot.slot).tenant c.self.invariant c.take_out.ensures.keeps size (found_known s.slots.items s.ends.items s.free s.room c.args.self.now c.self.view_is k c.in_ok-slot.slot c.args.request number) (left s.slots.items s.ends.items s.free s.room c.args.self.now c.self.view_is k c.in_ok-slot.slot c.args.request number) (left_lists s.slots.items s.ends.items s.free s.room c.args.self.now c.self.view_is k c.in_ok-slot.slot c.args.request number f.slots f.ends out) (left_shorter s.slots.items s.ends.items s.free s.room c.args.self.now c.self.view_is k c.in_ok-slot.slot c.args.request number))
+
+pub returns-clause-removed : goal.returns-clause-removed
+returns-clause-removed g c =
+    let s = c.self.inside in
+    let k = c.self.invariant.kept.links in
+    let number : number_at s.slots.items c.in_ok-slot.slot ≡ Some c.args.request = rw c.deref.ensures.value at c.in_ok-slot.ensures.found in
+    let f = c.take_out.new in
+    let out : IsTakenOut s.slots.items s.ends.items c.in_ok-slot.slot f.slots f.ends = rw (c.deref_mut.ensures.value, c.deref_mut-3.ensures.value) at c.take_out.ensures.rest in
+    let read : c.index.result.now ≡ slot_at s.slots.items c.in_ok-slot.slot = get_or_read s.slots.items c.in_ok-slot.slot c.index.result.now (number_bound s.slots.items c.in_ok-slot.slot c.args.request number) c.index.ensures (record { item = None; tenant = 0; before = None; next = None; next_in_cell = None }) in
+    let held : c.take_out.result ≡ (slot_at s.slots.items c.in_ok-slot.slot).item = rw c.deref_mut.ensures.value at c.take_out.ensures.item in
+    let back = whole_back s.slots.len s.ends.len f.slots s.slots.items f.ends s.ends.items s.room (search rules) (search rules) in
+    removed s.slots.items s.ends.items s.free s.room c.args.self.now c.self.view_is k c.in_ok-slot.slot c.args.request number f.slots f.ends out c.index.result.now read c.in_ok-item.item (sym held ∙ c.in_ok-item.was) _ back
