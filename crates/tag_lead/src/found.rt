@@ -107,14 +107,14 @@ fn doubt_with(greatest: u128, taken: Option<u128>, doubt: u128) -> u128
     }
 }
 
-// One length of a head, or two under 2dfq.
+// One length of a head, or two under 2dfq and 2dfq+.
 fn heads_in_bound(policy: Policy, longest: u128) -> u128
     requires { longest ≤ 1048576000000000 }
     ensures value { result ≡ heads_in_bound policy longest }
     ensures low { result ≤ 2097152000000000 }
 {
     match policy {
-        Policy::TwoDfq => 2 * longest,
+        Policy::TwoDfq | Policy::TwoDfqPlus => 2 * longest,
         Policy::Wfq | Policy::Wf2q | Policy::Msf2q => longest,
     }
 }

@@ -28,9 +28,9 @@ use tag_rules::parts::Keys;
 
 /// How far the start of tenant f was above that of tenant g at most, at the prefixes of a past in which both wait, and
 /// what bounds it, whatever requests cost; none where they never wait both. The bound is the greater of two numbers:
-/// the greatest lead with which both began to wait, and one length of a head, or two under 2dfq, with what was in doubt
-/// of the requests that ran: each may turn out as long, or as short, as it did in this past. Nothing is asked of the
-/// past but that it is legal. The faults of the tenants are found before any memory is taken, and no request is a
+/// the greatest lead with which both began to wait, and one length of a head, or two under 2dfq and 2dfq+, with what was
+/// in doubt of the requests that ran: each may turn out as long, or as short, as it did in this past. Nothing is asked
+/// of the past but that it is legal. The faults of the tenants are found before any memory is taken, and no request is a
 /// fault. The past's calls are made twice on a scheduler over any chooser, and what runs on each worker is looked at
 /// after each.
 pub fn tag_lead<X: Chooser + Drop>(
