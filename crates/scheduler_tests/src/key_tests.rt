@@ -27,7 +27,9 @@ fn staggered_under_2dfq_and_2dfq_plus(rt: HostRuntime) {
         eligible_key(Policy::Wf2q, long, 1, 2),
         eligible_key(Policy::Msf2q, long, 1, 2),
     ];
-    let wanted = [4194304, 5767168, 8388608, 4194304, 8388608, 8388608, 8388608];
+    let wanted = [
+        4194304, 5767168, 8388608, 4194304, 8388608, 8388608, 8388608,
+    ];
     assert_eq!(rt; told, wanted);
 }
 
