@@ -1,4 +1,4 @@
-//! `lead`: how far one tenant of a journal got ahead of another, and what is promised of that.
+//! `lead`: how far one tenant of a journal got ahead of another, and a bound of that, by what its requests became.
 ghost use Rattle.std.specs.Prelude.{◌≡◌, ◌<◌, ◌≢◌, ◌++◌, codes, Some, None, IfOk, IfSome, length, option_map, string_bytes};
 ghost use Rattle.fq_model.specs.History.{history_of};
 ghost use Rattle.fq_model.specs.Lead.{measured_gap};
