@@ -4,4 +4,6 @@ pub mod Entries
 pub mod Takes
 pub mod Grounds
 pub mod Near
-pub mod Simple
+pub mod Caps
+pub mod Reach
+pub mod Bound
