@@ -7,3 +7,5 @@ pub mod Near
 pub mod Caps
 pub mod Reach
 pub mod Bound
+pub mod Counts
+pub mod Gains
