@@ -40,7 +40,7 @@ starts_at C P t paced = omega (arith, start_paced C P (last_moment P) t paced, b
 
 pub record Stays (C : Config) (P Q : History) (t M : ℕ) : Type 0 where
   pub most_is : start_now C Q t + may_rise (longest M) C Q t ≤ start_now C P t + may_rise (longest M) C P t
-  pub runs : running_length M C Q t ≤ running_length M C P t
+  pub runs : (N : ℕ) → running_length N C Q t ≤ running_length N C P t
   pub still : head P t ≡ None → head Q t ≡ None
 
 taken_less : (own : Bool) (old new M : ℕ) → own ≡ false → new ≡ old + cond own M 0 → new ≤ old
@@ -85,7 +85,7 @@ goes C P e t paced off =
 pub stays : (C : Config) (P : History) (e : Entry) (t M : ℕ) → IsPacedWithin C (e ∷ P) M → raises_of P t e.act ≡ false → takes_of t P e.act ≡ None → Stays C P (e ∷ P) t M
 stays C P e t M is off none = record {
   most_is = most_at C P e.who e.moment t (longest M) e.act is.limits is.legal (is.lengths.requests t) (caps_in C (e ∷ P) P t (longest M) (e ∷ [], refl) (is.lengths.requests t)) none (goes C P e t is.policy off);
-  runs = runs_at C P e.who e.moment t M e.act is.legal none;
+  runs = λ N. runs_at C P e.who e.moment t N e.act is.legal none;
   still = still_at C P e.who e.moment t e.act is.limits is.legal off none;
 }
 
@@ -96,6 +96,7 @@ pub record Comes (C : Config) (P Q : History) (t M : ℕ) : Type 0 where
   pub start_is : start_now C Q t ≡ max (time_now C Q) (start_now C P t)
   pub rise_is : may_rise (longest M) C Q t ≡ may_rise (longest M) C P t
   pub fall_is : may_fall nothing C Q t ≡ may_fall nothing C P t
+  pub runs_is : (N : ℕ) → running_length N C Q t ≡ running_length N C P t
 
 raised_to : (v w charge charge2 base base2 x x2 : ℕ) → x ≡ charge + base → x2 ≡ charge2 + base2 → charge2 ≡ charge → base2 ≡ max (v - charge) base → w ≡ v → x2 ≡ max w x
 raised_to v w charge charge2 base base2 x x2 old new charges raised time = omega (arith, old, new, charges, raised, time)
@@ -111,6 +112,7 @@ comes_at C P who m t M (Submit q u kind declared label) is raises none =
           (starts_at C P t is.policy) (starts_at C Q t is.policy) (virtual_charge_submit C P who m t q u kind declared label is.legal.0 is.legal.3.numbered) base (virtual_time_step C P e refl);
       rise_is = over_submit (rising (longest M)) C P who m t q u kind declared label is.legal.0 is.legal.3.numbered;
       fall_is = over_submit (falling nothing) C P who m t q u kind declared label is.legal.0 is.legal.3.numbered;
+      runs_is = λ N. over_submit (full N) C P who m t q u kind declared label is.legal.0 is.legal.3.numbered;
     }
 comes_at C P who m t M a is raises none = absurd (false≢true raises)
 

@@ -64,7 +64,7 @@ ground_rises C P e t M is =
     let low = least_on C P e t is.limits is.legal in
     let time = time_rises C P e is.legal in
     elim (change C P e t M is) [
-      | inl s ↦ on_staying (head P t) (head (e ∷ P) t) _ _ _ _ _ _ _ _ low s.runs time s.still
+      | inl s ↦ on_staying (head P t) (head (e ∷ P) t) _ _ _ _ _ _ _ _ low (s.runs M) time s.still
       | inr x ↦ elim x [
         | inl c ↦ (let within = runs_within C P t M (within_older C P e M is) in on_coming (head P t) (head (e ∷ P) t) _ _ _ _ _ _ _ (time_now C (e ∷ P)) c.none c.start_is c.fall_is (omega (arith, within.parts)) time)
         | inr n ↦ on_taking (head P t) (head (e ∷ P) t) n.request _ _ _ _ _ _ n.some low

@@ -4,4 +4,8 @@ pub mod Entries
 pub mod Takes
 pub mod Grounds
 pub mod Near
-pub mod Simple
+pub mod Caps
+pub mod Reach
+pub mod Bound
+pub mod Counts
+pub mod Gains

@@ -1,5 +1,5 @@
 -- The cap stays near virtual time, and both stay near what tenants have at most and at least.
-use Rattle.std.proofs.Common.{ℕ, ◌+◌, ◌*◌, ◌≤◌, ◌≡◌, max, refl, ap, arith, inl, inr, [], ◌∷◌, Option, Some, None, ℤ, pos, ◌≤ℤ◌}
+use Rattle.std.proofs.Common.{ℕ, ◌+◌, ◌≤◌, ◌≡◌, refl, ap, arith, inl, inr, [], ◌∷◌, Option, Some, None, ℤ, pos, ◌≤ℤ◌}
 use Rattle.std.specs.Prelude.{◌-ℤ◌, ◌+ℤ◌}
 use Rattle.std.proofs.lemmas.Int.{ints, clamps}
 use Rattle.std.proofs.lemmas.Bool.{cases_eq}
@@ -11,15 +11,15 @@ use Rattle.fq_model.specs.Pace.{pace}
 use Rattle.fq_laws.proofs.Charge.Tenants.{virtual_charge_nil}
 use Rattle.fq_laws.proofs.Keys.Pace.{base_nil}
 use Rattle.gap_laws.proofs.WorstCase.{longest, nothing}
-use Rattle.ever_laws.specs.Laws.{all_and_part, MostStaysNear, CapStaysNear}
+use Rattle.ever_laws.specs.Laws.{all_and_part, MostStaysNear}
 use Rattle.ever_laws.specs.Words.{IsPacedWithin, greatest_part, time_now, running_length, ground_for, ground}
 use Rattle.ever_laws.proofs.Entries.{starts_at, time_rises}
-use Rattle.ever_laws.proofs.Grounds.{RunsWithin, runs_within, least_on, ground_low, ground_rises}
+use Rattle.ever_laws.proofs.Grounds.{runs_within, least_on, ground_low}
 use Rattle.ever_laws.proofs.Takes.{Taken, change, cap_change, within_older}
 
 -- ---- the cap and virtual time
 
-cap_nil : (C : Config) → (pace C []).reached ≡ 0
+pub cap_nil : (C : Config) → (pace C []).reached ≡ 0
 unfolding pace
 cap_nil C = refl
 
@@ -60,11 +60,11 @@ most_near C H t M is = omega (arith, ints, most_near_in C H t M is)
 -- ---- the cap and the ground of a tenant
 
 -- (the finish of what is taken; the start of t and what of it runs, before; its ground after)
-near_waiting : (f x d k all part M : ℕ) (ground : ℤ) → f ≤ x + M + part → d ≤ k → k + M ≤ all → (pos x -ℤ pos d) ≤ℤ ground → pos f ≤ℤ (ground +ℤ pos (all + part))
-near_waiting f x d k all part M ground finish less free low = omega (arith, ints, finish, less, free, low)
+near_waiting : (f x d k part M : ℕ) (ground : ℤ) → f ≤ x + M + part → d ≤ k → (pos x -ℤ pos d) ≤ℤ ground → pos f ≤ℤ (ground +ℤ pos (k + M + part))
+near_waiting f x d k part M ground finish less low = omega (arith, ints, finish, less, low)
 
-near_away : (f x v k all part M : ℕ) (ground : ℤ) → x ≤ v + part → f ≤ x + M → k + M ≤ all → (pos v -ℤ pos k) ≤ℤ ground → pos f ≤ℤ (ground +ℤ pos (all + part))
-near_away f x v k all part M ground lifted finish free low = omega (arith, ints, lifted, finish, free, low)
+near_away : (f x v k part M : ℕ) (ground : ℤ) → x ≤ v + part → f ≤ x + M → (pos v -ℤ pos k) ≤ℤ ground → pos f ≤ℤ (ground +ℤ pos (k + M + part))
+near_away f x v k part M ground lifted finish low = omega (arith, ints, lifted, finish, low)
 
 -- where t does not wait, its ground after a Take is at least virtual time less what runs
 coming_low : (o o2 : Option ℕ) (least : ℤ) (v k k2 : ℕ) → o ≡ None → (o ≡ None → o2 ≡ None) → k2 ≤ k → (pos v -ℤ pos k) ≤ℤ ground_for o2 least (pos v -ℤ pos k2)
@@ -75,7 +75,7 @@ came_low x d v k least ground starts less is low = omega (arith, ints, starts, l
 
 pub away_low : (C : Config) (P : History) (e : Entry) (t M : ℕ) → IsPacedWithin C (e ∷ P) M → head P t ≡ None → (pos (time_now C (e ∷ P)) -ℤ pos (running_length M C P t)) ≤ℤ ground M C (e ∷ P) t
 away_low C P e t M is none = elim (change C P e t M is) [
-  | inl s ↦ coming_low (head P t) (head (e ∷ P) t) _ _ _ _ none s.still s.runs
+  | inl s ↦ coming_low (head P t) (head (e ∷ P) t) _ _ _ _ none s.still (s.runs M)
   | inr x ↦ elim x [
     | inl c ↦ (let within = runs_within C P t M (within_older C P e M is) in came_low (start_now C (e ∷ P) t) (may_fall nothing C (e ∷ P) t) (time_now C (e ∷ P)) (running_length M C P t) _ _ (omega (arith, c.start_is)) (omega (arith, c.fall_is, within.parts)) refl (ground_low (head (e ∷ P) t) _ _))
     | inr n ↦ absurd (let h : head P t ≡ Some n.request = n.some in cc)
@@ -90,38 +90,14 @@ least_below C P e t M is = below (start_now C P t) (may_fall nothing C P t) (sta
     below x d x2 d2 ground low k = omega (arith, ints, low, k)
 
 -- a Take of u leaves the finish of what it takes near the ground of t
-finish_near : (C : Config) (P : History) (e : Entry) (t u M : ℕ) → IsPacedWithin C (e ∷ P) M → (n : Taken C P (e ∷ P) u M) → pos (start_now C P u + n.len) ≤ℤ (ground M C (e ∷ P) t +ℤ pos (all_and_part C M))
+pub finish_near : (C : Config) (P : History) (e : Entry) (t u M : ℕ) → IsPacedWithin C (e ∷ P) M → (n : Taken C P (e ∷ P) u M) → pos (start_now C P u + n.len) ≤ℤ (ground M C (e ∷ P) t +ℤ pos (running_length M C P t + M + greatest_part C M))
 finish_near C P e t u M is n = by_head (head P t) refl
   where
-    within : RunsWithin C P t M
-    within = runs_within C P t M (within_older C P e M is)
-
-    by_head : (o : Option ℕ) → head P t ≡ o → pos (start_now C P u + n.len) ≤ℤ (ground M C (e ∷ P) t +ℤ pos (all_and_part C M))
-    by_head None none = near_away (start_now C P u + n.len) (start_now C P u) (time_now C (e ∷ P)) (running_length M C P t) (C.workers * M) (greatest_part C M) M _ n.lifted (omega (arith, n.len_high)) (n.one_free t) (away_low C P e t M is none)
-    by_head (Some r) some = near_waiting (start_now C P u + n.len) (start_now C P t) (may_fall nothing C P t) (running_length M C P t) (C.workers * M) (greatest_part C M) M _
+    by_head : (o : Option ℕ) → head P t ≡ o → pos (start_now C P u + n.len) ≤ℤ (ground M C (e ∷ P) t +ℤ pos (running_length M C P t + M + greatest_part C M))
+    by_head None none = near_away (start_now C P u + n.len) (start_now C P u) (time_now C (e ∷ P)) (running_length M C P t) (greatest_part C M) M _ n.lifted (omega (arith, n.len_high)) (away_low C P e t M is none)
+    by_head (Some r) some = near_waiting (start_now C P u + n.len) (start_now C P t) (may_fall nothing C P t) (running_length M C P t) (greatest_part C M) M _
         (elim (cases_eq t u) [
           | inl same ↦ (let at : start_now C P t ≡ start_now C P u = ap (start_now C P) same in omega (arith, at, n.len_high))
           | inr ne ↦ n.finish_low t r ne some
         ])
-        (omega (arith, within.parts)) (n.one_free t) (least_below C P e t M is)
-
-still_near : (s s2 all : ℕ) (ground ground2 : ℤ) → pos s ≤ℤ (ground +ℤ pos all) → s2 ≡ s → ground ≤ℤ ground2 → pos s2 ≤ℤ (ground2 +ℤ pos all)
-still_near s s2 all ground ground2 low same rises = omega (arith, ints, low, same, rises)
-
-at_take : (s s2 f all : ℕ) (ground ground2 : ℤ) → pos s ≤ℤ (ground +ℤ pos all) → s2 ≡ max s f → ground ≤ℤ ground2 → pos f ≤ℤ (ground2 +ℤ pos all) → pos s2 ≤ℤ (ground2 +ℤ pos all)
-at_take s s2 f all ground ground2 low is rises finish = omega (arith, ints, low, is, rises, finish)
-
-at_nil : (s x d k all part : ℕ) (ground : ℤ) → s ≡ 0 → d ≤ k → k ≤ all → (pos x -ℤ pos d) ≤ℤ ground → pos s ≤ℤ (ground +ℤ pos (all + part))
-at_nil s x d k all part ground none less within low = omega (arith, ints, none, less, within, low)
-
-pub ground_near : (C : Config) (H : History) (t M : ℕ) → IsPacedWithin C H M → pos (pace C H).reached ≤ℤ (ground M C H t +ℤ pos (all_and_part C M))
-ground_near C [] t M is = let within = runs_within C [] t M is in at_nil (pace C []).reached (start_now C [] t) (may_fall nothing C [] t) (running_length M C [] t) (C.workers * M) (greatest_part C M) _ (cap_nil C) (omega (arith, within.parts)) within.all (ground_low (head [] t) _ _)
-ground_near C (e ∷ P) t M is =
-    let before : pos (pace C P).reached ≤ℤ (ground M C P t +ℤ pos (all_and_part C M)) = ground_near C P t M (within_older C P e M is) in
-    elim (cap_change C P e M is) [
-      | inl same ↦ still_near (pace C P).reached (pace C (e ∷ P)).reached (all_and_part C M) _ _ before same (ground_rises C P e t M is)
-      | inr x ↦ at_take (pace C P).reached (pace C (e ∷ P)).reached (start_now C P x.0 + x.1.len) (all_and_part C M) _ _ before x.1.cap_is (ground_rises C P e t M is) (finish_near C P e t x.0 M is x.1)
-    ]
-
-pub cap_near_waiting : CapStaysNear
-cap_near_waiting C H t r M is some = let near : pos (pace C H).reached ≤ℤ (ground M C H t +ℤ pos (all_and_part C M)) = ground_near C H t M is in rw some at near
+        (omega (arith, (runs_within C P t M (within_older C P e M is)).parts)) (least_below C P e t M is)

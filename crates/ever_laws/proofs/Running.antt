@@ -11,6 +11,7 @@ use Rattle.fq_model.specs.Lead.{request_length, of_request, over_running, may_ri
 use Rattle.fq_model.specs.Limits.{InLimits}
 use Rattle.fq_model.specs.Rules.{IsLegal, Fits, FitsTake}
 use Rattle.fq_model.specs.Sums.{sum_below}
+use Rattle.fq_laws.proofs.Sums.{sum_zero}
 use Rattle.fq_laws.proofs.Charge.Estimates.{estimate_range}
 use Rattle.fq_laws.proofs.Charge.Requests.{estimate_some, cost_none}
 use Rattle.fq_laws.proofs.Charge.Tenants.{taken_of}
@@ -103,25 +104,50 @@ running_charge C P i r lim l is =
     let low : 1 ≤ x.0 = estimate_low C P r x.0 lim l x.1 in
     rw (x.1, cost_none P r runs.not_done) (omega (arith, low))
 
-less_at : (C : Config) (P : History) (t M i : ℕ) → 1 ≤ M → InLimits C → IsLegal C P → term (rising (longest M)) C P t i + 1 ≤ M
-less_at C P t M i some lim l = go (running_on P i) refl
+some_at : (C : Config) (P : History) (t i : ℕ) → InLimits C → IsLegal C P → term (full 1) C P t i ≤ term (falling nothing) C P t i
+some_at C P t i lim l = go (running_on P i) refl
   where
-    of_own : (own : Bool) (x : ℕ) → (own ≡ true → 1 ≤ x) → cond own (M - x) 0 + 1 ≤ M
-    of_own true x h = omega (arith, h refl, some)
-    of_own false x h = omega (arith, some)
+    of_own : (own : Bool) (x : ℕ) → (own ≡ true → 1 ≤ x) → cond own 1 0 ≤ cond own (x - 0) 0
+    of_own true x h = omega (arith, h refl)
+    of_own false x h = omega arith
 
-    go : (o : Option ℕ) → running_on P i ≡ o → of_request P t (λ r. M - request_length C P t r) o + 1 ≤ M
-    go None is = omega (arith, some)
+    go : (o : Option ℕ) → running_on P i ≡ o → of_request P t (λ r. 1) o ≤ of_request P t (λ r. request_length C P t r - 0) o
+    go None is = omega arith
     go (Some r) is = of_own (is_of_tenant t (request_at P r)) (request_length C P t r) (λ own.
         length_some (charge P r) (taken_weight C P t r) (running_charge C P i r lim l is)
         (taken_weight_low C P t r lim l (tenant_below C P t r l own) (running_taken C P i r l is)))
 
-sum_less : (a : ℕ → ℕ) (M n : ℕ) → ((i : ℕ) → a i + 1 ≤ M) → sum_below a n + n ≤ n * M
-unfolding sum_below
-sum_less a M zero each = omega arith
-sum_less a M (suc n) each = omega (arith, each n, sum_less a M n each, add-mul 1 n M)
+-- ---- how many run
 
--- so what it lacks of M is a step less at least, for each worker
-pub rise_less : (C : Config) (P : History) (t M : ℕ) → 1 ≤ M → InLimits C → IsLegal C P → may_rise (longest M) C P t + C.workers ≤ C.workers * M
+times_at : (P : History) (t M : ℕ) (o : Option ℕ) → of_request P t (λ r. M) o ≡ of_request P t (λ r. 1) o * M
+times_at P t M None = omega arith
+times_at P t M (Some r) = times (is_of_tenant t (request_at P r))
+  where
+    times : (own : Bool) → cond own M 0 ≡ cond own 1 0 * M
+    times true = omega arith
+    times false = omega arith
+
+sum_times : (a b : ℕ → ℕ) (M n : ℕ) → ((i : ℕ) → a i ≡ b i * M) → sum_below a n ≡ sum_below b n * M
+unfolding sum_below
+sum_times a b M zero each = omega arith
+sum_times a b M (suc n) each = omega (arith, each n, sum_times a b M n each, add-mul (b n) (sum_below b n) M)
+
+-- M for each of them
+pub counted : (C : Config) (P : History) (t M : ℕ) → running_length M C P t ≡ running_length 1 C P t * M
 unfolding over_running
-rise_less C P t M some lim l = sum_less (term (rising (longest M)) C P t) M C.workers (λ i. less_at C P t M i some lim l)
+counted C P t M = sum_times (term (full M) C P t) (term (full 1) C P t) M C.workers (λ i. times_at P t M (running_on P i))
+
+sum_at_least : (a b : ℕ → ℕ) (n : ℕ) → ((i : ℕ) → a i ≤ b i) → sum_below a n ≤ sum_below b n
+unfolding sum_below
+sum_at_least a b zero each = omega arith
+sum_at_least a b (suc n) each = omega (arith, each n, sum_at_least a b n each)
+
+-- each has some length
+pub count_low : (C : Config) (P : History) (t : ℕ) → InLimits C → IsLegal C P → running_length 1 C P t ≤ may_fall nothing C P t
+unfolding over_running
+count_low C P t lim l = sum_at_least (term (full 1) C P t) (term (falling nothing) C P t) C.workers (λ i. some_at C P t i lim l)
+
+-- none runs in the history that has no entry
+pub none_run : (C : Config) (t M : ℕ) → running_length M C [] t ≡ 0
+unfolding over_running
+none_run C t M = sum_zero (term (full M) C [] t) C.workers (λ i. refl)

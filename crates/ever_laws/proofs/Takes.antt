@@ -45,11 +45,11 @@ pub record Taken (C : Config) (P Q : History) (t M : ℕ) : Type 0 where
   pub start_is : start_now C Q t ≡ start_now C P t + len
   pub rise_is : may_rise (longest M) C Q t + len ≡ may_rise (longest M) C P t + M
   pub fall_is : may_fall nothing C Q t ≡ may_fall nothing C P t + len
-  pub runs_is : running_length M C Q t ≡ running_length M C P t + M
+  pub runs_is : (N : ℕ) → running_length N C Q t ≡ running_length N C P t + N
   pub lifted : start_now C P t ≤ time_now C Q + greatest_part C M
   pub cap_is : (pace C Q).reached ≡ max (pace C P).reached (start_now C P t + len)
   pub one_free : (u : ℕ) → running_length M C P u + M ≤ C.workers * M
-  pub free : (f g : ℕ) → f ≢ g → running_length M C P f + running_length M C P g + M ≤ C.workers * M
+  pub free : (f g N : ℕ) → f ≢ g → running_length N C P f + running_length N C P g + N ≤ C.workers * N
   pub finish_low : (g r : ℕ) → g ≢ t → head P g ≡ Some r → start_now C P t + len ≤ start_now C P g + M + greatest_part C M
   pub start_low : (g r : ℕ) → g ≢ t → head P g ≡ Some r → start_now C P t + 1 ≤ start_now C P g + M
 
@@ -131,11 +131,11 @@ module _ (C : Config) (P : History) (who m w q c t M : ℕ) (is : IsPacedWithin 
     start_is = start_after;
     rise_is = rise_after;
     fall_is = omega (arith, own_only (is_of_tenant t (request_at P q)) (len - 0) _ _ own (over_taken (falling nothing) C P who m t w q c is.legal.0 fits));
-    runs_is = own_only (is_of_tenant t (request_at P q)) M _ _ own (over_taken (full M) C P who m t w q c is.legal.0 fits);
+    runs_is = λ N. own_only (is_of_tenant t (request_at P q)) N _ _ own (over_taken (full N) C P who m t w q c is.legal.0 fits);
     lifted = lifted_to;
     cap_is = reached_to;
     one_free = λ u. one_runs_before C P m w q c u M is.legal.0 fits;
-    free = λ f g ne. two_run_before C P m w q c f g M ne is.legal.0 fits;
+    free = λ f g N ne. two_run_before C P m w q c f g N ne is.legal.0 fits;
     finish_low = λ g r ne waits. behind_finish (start_now C P t) (start_now C P g) len (head_length C P g) M (part_of len w (pool_at C P)) (greatest_part C M) _ (ahead g r ne waits) (staggered C.policy len w (pool_at C P) is.policy) (part_low C len w (pool_at C P) M short fits.worker_known few) short (heads_low g);
     start_low = λ g r ne waits. behind_start (start_now C P t) (start_now C P g) len (head_length C P g) M (part_of len w (pool_at C P)) _ (ahead g r ne waits) (staggered C.policy len w (pool_at C P) is.policy) (part_below len w (pool_at C P) some_length fits.worker_known) short (heads_low g);
   }

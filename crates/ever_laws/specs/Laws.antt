@@ -1,11 +1,13 @@
 -- What bounds how far one tenant is ahead of another that waits, under 2dfq+.
-use Rattle.std.specs.Prelude.{ℕ, ◌+◌, ◌*◌, ◌≡◌, ◌≢◌, ◌∷◌, Some, ℤ, pos, ◌+ℤ◌, ◌-ℤ◌, ◌≤ℤ◌}
+use Rattle.std.specs.Prelude.{ℕ, ◌+◌, ◌*◌, ◌/◌, ◌≡◌, ◌≢◌, ◌∷◌, ◌++◌, Some, ℤ, pos, ◌+ℤ◌, ◌-ℤ◌, ◌≤ℤ◌}
 use Rattle.fq_model.specs.declared.config.Config.{Config}
 use Rattle.fq_model.specs.declared.event.Entry.{Entry}
 use Rattle.fq_model.specs.History.{History, head}
 use Rattle.fq_model.specs.Limits.{InLimits}
 use Rattle.fq_model.specs.Pace.{pace}
 use Rattle.fq_model.specs.Rules.{IsLegal}
+use Rattle.gap_laws.specs.Laws.{worst_lead, all_and_one}
+use Rattle.gap_laws.specs.Words.{IsPrefix, AreSharedFrom, WaitsFrom, AreNoShorter, takes_after, IsAccount}
 use Rattle.ever_laws.specs.Words.{IsPacedWithin, greatest_part, time_now, most_of, least_of, ground}
 
 -- what a tenant has at least never falls, under any policy and whether the tenant waits or not
@@ -35,13 +37,41 @@ CapStaysNear =
     (C : Config) (H : History) (t r M : ℕ) → IsPacedWithin C H M → head H t ≡ Some r
     → pos (pace C H).reached ≤ℤ (least_of C H t +ℤ pos (all_and_part C M))
 
--- the bound with the shorter proof: two requests of the greatest length for each worker, and the greatest part, less a
--- step
-abbrev pub simple_bound : Config → ℕ → ℤ
-simple_bound C M = pos (C.workers * M + all_and_part C M) -ℤ pos 1
+-- as many requests of the greatest length as there are workers, as half of them, rounded down, and one more, and the
+-- greatest part, less a step
+abbrev pub bound : Config → ℕ → ℤ
+bound C M = pos ((C.workers + C.workers / 2 + 1) * M + greatest_part C M) -ℤ pos 1
 
 -- what f has at most is above the ground of g by no more than that
-abbrev pub SimpleBoundHolds : Type 0
-SimpleBoundHolds =
+abbrev pub BoundHolds : Type 0
+BoundHolds =
     (C : Config) (H : History) (f g M : ℕ) → f ≢ g → IsPacedWithin C H M
-    → (most_of M C H f -ℤ ground M C H g) ≤ℤ simple_bound C M
+    → (most_of M C H f -ℤ ground M C H g) ≤ℤ bound C M
+
+-- so the worst case of the lead of f is at most that wherever g waits, and f waits or not
+abbrev pub LeadIsBounded : Type 0
+LeadIsBounded =
+    (C : Config) (H : History) (f g r M : ℕ) → f ≢ g → IsPacedWithin C H M → head H g ≡ Some r
+    → worst_lead M C H f g ≤ℤ bound C M
+
+-- and by any account f is ahead of g by no more
+abbrev pub AccountsAreBounded : Type 0
+AccountsAreBounded =
+    (C : Config) (H : History) (f g r M : ℕ) (of_f of_g : History → ℤ) → f ≢ g → IsPacedWithin C H M
+    → head H g ≡ Some r → IsAccount M C H f of_f → IsAccount M C H g of_g → (of_f H -ℤ of_g H) ≤ℤ bound C M
+
+-- while one head of g waits, from S on, f is taken no more often than its least length c goes into the bound and one
+-- request of the greatest length, less a step, and once more
+abbrev pub TakesAreBounded : Type 0
+TakesAreBounded =
+    (C : Config) (newer S : History) (f g r M c : ℕ) → f ≢ g → IsPacedWithin C (newer ++ S) M
+    → AreNoShorter C S (newer ++ S) f c → WaitsFrom S (newer ++ S) g r
+    → pos (takes_after f newer S * c) ≤ℤ ((pos c +ℤ (bound C M +ℤ pos M)) -ℤ pos 1)
+
+-- by any account f gains on g, from P to Q and while both wait, no more than one request of the greatest length more
+-- than there are workers, and the bound
+abbrev pub GainIsBounded : Type 0
+GainIsBounded =
+    (C : Config) (P Q : History) (f g M : ℕ) (of_f of_g : History → ℤ) → f ≢ g → IsPacedWithin C Q M
+    → IsPrefix P Q → AreSharedFrom P Q f g → IsAccount M C Q f of_f → IsAccount M C Q g of_g
+    → ((of_f Q -ℤ of_f P) -ℤ (of_g Q -ℤ of_g P)) ≤ℤ (pos (all_and_one C M) +ℤ bound C M)

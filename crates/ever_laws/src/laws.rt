@@ -1,5 +1,5 @@
 //! The laws, one function a law: its contract is the law, and its body is empty.
-ghost use Rattle.ever_laws.specs.Laws.{LeastRises, GroundRises, MostStaysNear, CapStaysNear, SimpleBoundHolds};
+ghost use Rattle.ever_laws.specs.Laws.{LeastRises, GroundRises, MostStaysNear, CapStaysNear, BoundHolds, LeadIsBounded, AccountsAreBounded, TakesAreBounded, GainIsBounded};
 
 /// What a tenant has at least, whatever comes of its requests that run, never falls.
 pub fn least_rises()
@@ -22,6 +22,30 @@ pub fn cap_stays_near()
 {}
 
 /// So what one tenant has at most is never far above what another has that waits, or would have if it came now.
-pub fn simple_bound_holds()
-    ensures { SimpleBoundHolds }
+pub fn bound_holds()
+    ensures { BoundHolds }
+{}
+
+/// While a tenant waits no other is ahead of it by more than one request of the greatest length for each worker, for
+/// every second worker, and for one more, and by one part of a length: whatever happened before, and however wrong the
+/// estimates.
+pub fn lead_is_bounded()
+    ensures { LeadIsBounded }
+{}
+
+/// So it is by any account of what the two have, charged, finished or measured otherwise.
+pub fn accounts_are_bounded()
+    ensures { AccountsAreBounded }
+{}
+
+/// While a head waits another tenant, whose requests have a least length above 0, is taken so often at most: as often as
+/// that length goes into the bound and one request of the greatest length, and once more.
+pub fn takes_are_bounded()
+    ensures { TakesAreBounded }
+{}
+
+/// What the one gains on the other over a while in which both wait, in the manner of Golestani (1994), by any account
+/// and from any moment on.
+pub fn gain_is_bounded()
+    ensures { GainIsBounded }
 {}

@@ -29,14 +29,6 @@ stagger_low Msf2q len i n = omega (arith, ints)
 stagger_low TwoDfq len i n = omega (arith, ints)
 stagger_low TwoDfqPlus len i n = omega (arith, ints)
 
--- a stagger is at most its length
-pub stagger_at_most : (policy : Policy) (len i n : ℕ) → i < n → stagger policy (pos len) i n ≤ℤ pos len
-stagger_at_most Wfq len i n lt = omega (arith, ints)
-stagger_at_most Wf2q len i n lt = omega (arith, ints)
-stagger_at_most Msf2q len i n lt = omega (arith, ints)
-stagger_at_most TwoDfq len i n lt = omega (arith, ints, part_le len i n lt)
-stagger_at_most TwoDfqPlus len i n lt = omega (arith, ints, part_le len i n lt)
-
 pub length_counts : (policy : Policy) (B : ℕ) → B ≤ lengths_in_bound policy * B
 length_counts Wfq B = omega arith
 length_counts Wf2q B = omega arith

@@ -24,13 +24,12 @@ use Rattle.fq_laws.proofs.Rules.Takes.{heads, TakesHead, take_head, take_waits}
 use Rattle.gap_laws.specs.Words.{IsPrefix, AreLows, AreNoLonger, WaitsFrom, AreNoShorter, takes_after}
 use Rattle.gap_laws.specs.Laws.{TakesAreFew, TakesAreFewInRun, worst_lead}
 use Rattle.gap_laws.proofs.Service.{shared_both}
-use Rattle.gap_laws.proofs.Choices.{stagger_at_most}
 use Rattle.gap_laws.proofs.Undoubted.{taken_stays}
 use Rattle.gap_laws.proofs.Runs.{prefix_older}
 use Rattle.gap_laws.proofs.Running.{over_taken, running_taken, taken_length}
 use Rattle.gap_laws.proofs.Starts.{start_step, start_rises}
 use Rattle.gap_laws.proofs.Leads.{falling, most_at, least_at, OfHead, of_head, chosen_ahead}
-use Rattle.gap_laws.proofs.WorstCase.{longest, nothing, legal_in, longest_in, caps_in, worst_lead_below}
+use Rattle.gap_laws.proofs.WorstCase.{stagger_below, head_some, longest, nothing, legal_in, longest_in, caps_in, worst_lead_below}
 
 -- ---- the least length of what is taken after S
 
@@ -65,16 +64,17 @@ least_taken C P who m w q c f low lim l own less =
     let sums : may_fall low C (one_more who m (Take w q c) P) f ≡ may_fall low C P f + (length_of c (weight_at C P f) - low q) = rw own at (over_taken (falling low) C P who m f w q c l.0 l.3) in
     own_take_least _ _ _ _ _ _ (length_of c (weight_at C P f)) (low q) (start_rises C P (record { who = who; moment = m; act = Take w q c }) f) charges sums less
 
--- before it f is ahead of g by at most one request of the greatest length
-before_take : (a b x y M : ℕ) (part : ℤ) → pos (a + x) ≤ℤ (pos b +ℤ int_max (pos y) (part +ℤ pos x)) → part ≤ℤ pos x → x ≤ M → y ≤ M → a ≤ b + M
-before_take a b x y M part ahead less low_x low_y = omega (arith, ints, clamps, ahead, less, low_x, low_y)
+-- before it f is ahead of g by less than one request of the greatest length
+before_take : (a b x y M : ℕ) (part : ℤ) → pos (a + x) ≤ℤ (pos b +ℤ int_max (pos y) (part +ℤ pos x)) → (part +ℤ pos 1) ≤ℤ pos x → 1 ≤ x → x ≤ M → y ≤ M → a + 1 ≤ b + M
+before_take a b x y M part ahead less some low_x low_y = omega (arith, ints, clamps, ahead, less, some, low_x, low_y)
 
-behind_take : (C : Config) (P : History) (who m w q c f g r M : ℕ) → f ≢ g → IsLegal C (one_more who m (Take w q c) P) → is_of_tenant f (request_at P q) ≡ true → head P g ≡ Some r → (head_length C P f ≤ M) × (head_length C P g ≤ M) → start_now C P f ≤ start_now C P g + M
-behind_take C P who m w q c f g r M ne l own waits low =
+behind_take : (C : Config) (P : History) (who m w q c f g r M : ℕ) → f ≢ g → InLimits C → IsLegal C (one_more who m (Take w q c) P) → is_of_tenant f (request_at P q) ≡ true → head P g ≡ Some r → (head_length C P f ≤ M) × (head_length C P g ≤ M) → start_now C P f + 1 ≤ start_now C P g + M
+behind_take C P who m w q c f g r M ne lim l own waits low =
     let z : OfHead C P m w f c = of_head C P m w q c f l.3 own in
+    let some : 1 ≤ head_length C P f = head_some C P who m w q c f lim l own in
     before_take (start_now C P f) (start_now C P g) (head_length C P f) (head_length C P g) M (stagger C.policy (pos (head_length C P f)) w (pool_at C P))
     (chosen_ahead C P m w f g r z.its_keys (λ e. ne (sym e)) l.0 waits l.3.worker_known z.choice)
-    (stagger_at_most C.policy (head_length C P f) w (pool_at C P) l.3.worker_known) low.0 low.1
+    (stagger_below C.policy (head_length C P f) w (pool_at C P) some l.3.worker_known) some low.0 low.1
 
 -- ---- nothing is taken of g
 
@@ -109,7 +109,7 @@ other_taken C P who m g r _ l before after = refl
 
 -- ---- along the entries after S
 
-taken_before : (newer S : History) (r : ℕ) → is_taken (newer ++ S) r ≡ false → is_taken S r ≡ false
+pub taken_before : (newer S : History) (r : ℕ) → is_taken (newer ++ S) r ≡ false → is_taken S r ≡ false
 taken_before [] S r h = h
 taken_before (e ∷ newer) S r h = taken_before newer S r (false_from_ne_true _ (λ yes. both_ways (is_taken (e ∷ newer ++ S) r) h (taken_stays e (newer ++ S) r yes)))
 
@@ -117,10 +117,10 @@ taken_before (e ∷ newer) S r h = taken_before newer S r (false_from_ne_true _ 
 record Stands (C : Config) (S P : History) (f g M c k : ℕ) : Type 0 where
   of_f : start_now C S f + may_fall (later_low S c) C P f + k * c ≤ start_now C P f + may_fall (later_low S c) C S f
   of_g : start_now C P g + may_rise (longest M) C P g ≤ start_now C S g + may_rise (longest M) C S g
-  few : pos (k * c) ≤ℤ (pos c +ℤ int_max (pos 0) (worst_lead M C S g f +ℤ pos M))
+  few : (pos (k * c) +ℤ pos 1) ≤ℤ (pos c +ℤ int_max (pos 1) (worst_lead M C S g f +ℤ pos M))
 
 -- (starts of f and g at S and at P, what may be taken from f and added to g)
-enough : (sf pf fall_s fall_p sg pg rise_s rise_p M c k : ℕ) → sf + fall_p + k * c ≤ pf + fall_s → pg + rise_p ≤ sg + rise_s → pf ≤ pg + M → pos ((1 + k) * c) ≤ℤ (pos c +ℤ int_max (pos 0) ((pos (sg + rise_s) -ℤ (pos sf -ℤ pos fall_s)) +ℤ pos M))
+enough : (sf pf fall_s fall_p sg pg rise_s rise_p M c k : ℕ) → sf + fall_p + k * c ≤ pf + fall_s → pg + rise_p ≤ sg + rise_s → pf + 1 ≤ pg + M → (pos ((1 + k) * c) +ℤ pos 1) ≤ℤ (pos c +ℤ int_max (pos 1) ((pos (sg + rise_s) -ℤ (pos sf -ℤ pos fall_s)) +ℤ pos M))
 enough sf pf fall_s fall_p sg pg rise_s rise_p M c k low high behind = omega (arith, ints, clamps, low, high, behind, add-mul 1 k c)
 
 one_on : (s fall_now fall_then p p2 fall_s k c : ℕ) → s + fall_now + k * c ≤ p + fall_s → p + fall_then + c ≤ p2 + fall_now → s + fall_then + (1 + k) * c ≤ p2 + fall_s
@@ -157,7 +157,7 @@ module _ (C : Config) (S P : History) (who m f g r M c : ℕ) (ne : f ≢ g) (li
       let less : later_low S c q ≤ length_of estimate (weight_at C P f) = rw (low, ← taken_length C P who m w q estimate f l.0 l.3) (short (after a) q ([], refl) taken new) in
       let step : start_now C P f + may_fall (later_low S c) C (after a) f + c ≤ start_now C (after a) f + may_fall (later_low S c) C P f = rw low at (least_taken C P who m w q estimate f (later_low S c) lim l own less) in
       let heads_low : (head_length C P f ≤ M) × (head_length C P g ≤ M) = h.heads (record { who = who; moment = m; act = a }) P w ([], refl) (shared_at C P m w q estimate f g r l.3 own waits) (rw own refl) in
-      let behind : start_now C P f ≤ start_now C P g + M = behind_take C P who m w q estimate f g r M ne l own waits heads_low in
+      let behind : start_now C P f + 1 ≤ start_now C P g + M = behind_take C P who m w q estimate f g r M ne lim l own waits heads_low in
       record {
         of_f = one_on _ _ _ _ _ _ k c st.of_f step;
         of_g = omega (arith, st.of_g, still_most a l h waits_on);
@@ -199,8 +199,15 @@ module _ (C : Config) (S : History) (f g r M c : ℕ) (ne : f ≢ g) (lim : InLi
         | inr t ↦ some_at C S P e.who e.moment f g r M c (takes_after f newer S) e.act t.0 t.1 t.2 ne lim (taken_before newer S) here first t.3 t.4 l h short on st
       ]
 
+-- a step less than the law says
+pub takes_fewer : (C : Config) (newer S : History) (f g r M c : ℕ) → f ≢ g → InLimits C → IsLegal C (newer ++ S) → AreNoLonger C (newer ++ S) f g M → AreNoShorter C S (newer ++ S) f c → WaitsFrom S (newer ++ S) g r → (pos (takes_after f newer S * c) +ℤ pos 1) ≤ℤ (pos c +ℤ int_max (pos 1) (worst_lead M C S g f +ℤ pos M))
+takes_fewer C newer S f g r M c ne lim l h short waits = (stand C S f g r M c ne lim newer l h short waits).few
+
+a_step_more : (takes worst : ℤ) (c M : ℕ) → (takes +ℤ pos 1) ≤ℤ (pos c +ℤ int_max (pos 1) (worst +ℤ pos M)) → takes ≤ℤ (pos c +ℤ int_max (pos 0) (worst +ℤ pos M))
+a_step_more takes worst c M few = omega (arith, ints, clamps, few)
+
 pub takes_few : TakesAreFew
-takes_few C newer S f g r M c ne lim l h short waits = (stand C S f g r M c ne lim newer l h short waits).few
+takes_few C newer S f g r M c ne lim l h short waits = a_step_more (pos (takes_after f newer S * c)) (worst_lead M C S g f) c M (takes_fewer C newer S f g r M c ne lim l h short waits)
 
 in_run : (takes worst begun : ℤ) (c all M : ℕ) → takes ≤ℤ (pos c +ℤ int_max (pos 0) (worst +ℤ pos M)) → worst ≤ℤ int_max begun (pos (all + M) -ℤ pos 1) → takes ≤ℤ (pos c +ℤ (int_max begun (pos (all + M)) +ℤ pos M))
 in_run takes worst begun c all M few low = omega (arith, ints, clamps, few, low)

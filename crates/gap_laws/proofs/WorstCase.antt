@@ -1,5 +1,5 @@
 -- The bound where nothing is known of what runs but that no request is longer than M.
-use Rattle.std.proofs.Common.{ℕ, zero, suc, ◌+◌, ◌-◌, ◌*◌, ◌/◌, ◌<◌, ◌≤◌, ◌≡◌, ◌≢◌, ◌∙◌, cond, Bool, true, false, refl, sym, subst, arith, inl, inr, [], ◌∷◌, Option, Some, None, ℤ, pos, ◌≤ℤ◌, length}
+use Rattle.std.proofs.Common.{ℕ, zero, suc, ◌+◌, ◌-◌, ◌*◌, ◌/◌, ◌<◌, ◌≤◌, ◌≡◌, ◌≢◌, ◌∙◌, cond, Bool, true, false, refl, sym, subst, arith, inl, inr, [], ◌∷◌, Option, Some, None, ℤ, pos, ◌≤ℤ◌}
 use Rattle.std.specs.Prelude.{◌+ℤ◌, ◌-ℤ◌}
 use Rattle.std.specs.Int.{int_max}
 use Rattle.std.proofs.lemmas.Int.{ints, clamps}
@@ -108,7 +108,7 @@ part_below len i n some lt =
           absurd (omega (arith, low, more, all, some, add-mul i 1 len, mul_comm len n))
     ]
 
-stagger_below : (policy : Policy) (len i n : ℕ) → 1 ≤ len → i < n → (stagger policy (pos len) i n +ℤ pos 1) ≤ℤ pos len
+pub stagger_below : (policy : Policy) (len i n : ℕ) → 1 ≤ len → i < n → (stagger policy (pos len) i n +ℤ pos 1) ≤ℤ pos len
 stagger_below Wfq len i n some lt = omega (arith, ints, some)
 stagger_below Wf2q len i n some lt = omega (arith, ints, some)
 stagger_below Msf2q len i n some lt = omega (arith, ints, some)
@@ -130,12 +130,17 @@ within head_f head_g doubts all M part low_g low_f some less sum = omega (arith,
 abbrev pub worst : Config → ℕ → ℤ
 worst C M = pos (C.workers * M + M) -ℤ pos 1
 
+-- what is taken has some length
+pub head_some : (C : Config) (P : History) (who m w q c f : ℕ) → InLimits C → IsLegal C (one_more who m (Take w q c) P) → is_of_tenant f (request_at P q) ≡ true → 1 ≤ head_length C P f
+head_some C P who m w q c f lim l own =
+    let z : OfHead C P m w f c = of_head C P m w q c f l.3 own in
+    let cost : 1 ≤ c = rw l.3.chosen.estimate_is (estimate_range C P q l.3.asked lim l.0 l.3.chosen.asked).0 in
+    rw (← z.length_is) (length_some c (weight_at C P f) cost (weight_low C P f lim l.0 (tenant_below C P f q l.0 own)))
+
 take_within : (C : Config) (P : History) (who m w q c f g M : ℕ) → f ≢ g → InLimits C → IsLegal C (one_more who m (Take w q c) P) → AreCaps C (one_more who m (Take w q c) P) g (longest M) → is_of_tenant f (request_at P q) ≡ true → head_length C P f ≤ M → head_length C P g ≤ M → (lead_of_take C P w f g +ℤ pos (doubt (longest M) nothing C (one_more who m (Take w q c) P) f g)) ≤ℤ worst C M
 take_within C P who m w q c f g M ne lim l caps own low_f low_g =
     let z : OfHead C P m w f c = of_head C P m w q c f l.3 own in
-    let tenant : f < length C.weights = tenant_below C P f q l.0 own in
-    let cost : 1 ≤ c = rw l.3.chosen.estimate_is (estimate_range C P q l.3.asked lim l.0 l.3.chosen.asked).0 in
-    let some : 1 ≤ head_length C P f = rw (← z.length_is) (length_some c (weight_at C P f) cost (weight_low C P f lim l.0 tenant)) in
+    let some : 1 ≤ head_length C P f = head_some C P who m w q c f lim l own in
     let sum : doubt (longest M) nothing C (one_more who m (Take w q c) P) f g + head_length C P f ≤ C.workers * M = rw (← z.length_is) (doubt_after C P who m w q c f g M ne l caps own (rw z.length_is low_f)) in
     within (head_length C P f) (head_length C P g) _ (C.workers * M) M (stagger C.policy (pos (head_length C P f)) w (pool_at C P)) low_g low_f some
     (stagger_below C.policy (head_length C P f) w (pool_at C P) some l.3.worker_known) sum
