@@ -60,7 +60,10 @@ fn locked<J: Job + Drop, X: Chooser + Drop>(
     ensures { IfSome result (λ r. IsFresh (crew_for config submitters (board_of shown)) r.0 r.1) }
 {
     let floor = Floor::open(alloc, config, submitters, shown).ok()?;
-    HistoryLock::open(alloc, floor).ok()
+    match HistoryLock::open(alloc, floor) {
+        Ok((lock, pass)) => Some((lock, pass)),
+        Err(_) => None,
+    }
 }
 
 // The tokens of all submitters but the first, who keeps the first pass.
