@@ -4,7 +4,7 @@ use Rattle.std.proofs.Math.Nat.{mod-lt}
 use Rattle.std.proofs.lemmas.Bool.{cases_eq, cases_lt, cond-true, cond-false, eq-eqb, ne_eqb}
 use Rattle.std.proofs.lemmas.List.{get_or-set_same, get_or-set_other, get_or_past, length-set}
 use Rattle.waiting_lists.specs.declared.links.Slot.{Slot}
-use Rattle.waiting_lists.specs.Linked.{StandsIn, slot_at}
+use Rattle.waiting_lists.specs.Linked.{empty_slot, StandsIn, slot_at}
 use Rattle.waiting_lists.specs.Cells.{number_at, without, AreOfCell, KeepsIndex, SameLists, LeadsInCell}
 use Rattle.waiting_lists.proofs.Chains.{some_is, none_not_some, linked_stays}
 use Rattle.waiting_lists.proofs.Leads.{kept_by, read_at}
@@ -148,7 +148,7 @@ module _ {J : Type 0} where
   pub number_bound : (slots : List (Slot J)) (slot n : ℕ) → number_at slots slot ≡ Some n → slot < length slots
   number_bound slots slot n e = elim (cases_lt slot (length slots)) [
     | inl lt ↦ lt
-    | inr le ↦ absurd (none_not_some (number_at slots slot) n (ap (λ (s : Slot J). option_map (λ x. x.request) s.item) (get_or_past slots slot (record { item = None; tenant = 0; before = None; next = None; next_in_cell = None }) le)) e)
+    | inr le ↦ absurd (none_not_some (number_at slots slot) n (ap (λ (s : Slot J). option_map (λ x. x.request) s.item) (get_or_past slots slot empty_slot le)) e)
   ]
 
   -- what `file` does

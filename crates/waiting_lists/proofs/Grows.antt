@@ -5,7 +5,7 @@ use Rattle.std.proofs.lemmas.List.{get_or_push, get_or_past, get_or_append_left,
 use Rattle.waiting_lists.specs.declared.item.Item.{Item}
 use Rattle.waiting_lists.specs.declared.links.Slot.{Slot}
 use Rattle.waiting_lists.specs.declared.links.Ends.{Ends}
-use Rattle.waiting_lists.specs.Linked.{StandsIn, slot_at, first_of, lists_of, count_of, AreLinked, AreListOf, Keeps, IsMadeFree}
+use Rattle.waiting_lists.specs.Linked.{StandsIn, empty_slot, slot_at, first_of, lists_of, count_of, AreLinked, AreListOf, Keeps, IsMadeFree}
 use Rattle.waiting_lists.specs.Cells.{SameLists}
 use Rattle.waiting_lists.proofs.Chains.{none_not_some, linked_bound}
 use Rattle.waiting_lists.proofs.Slots.{nexts}
@@ -14,16 +14,13 @@ use Rattle.waiting_lists.proofs.Pushes.{full_lists, full_free}
 use Rattle.waiting_lists.proofs.Same.{same_listed, still_listed, same_all}
 
 module _ {J : Type 0} where
-  abbrev pub empty : Slot J
-  empty = record { item = None; tenant = 0; before = None; next = None; next_in_cell = None }
-
   -- a slot that is read is the same, also one past the end
-  pub read_same : (slots : List (Slot J)) (i : ℕ) → slot_at (slots ++ empty ∷ []) i ≡ slot_at slots i
+  pub read_same : (slots : List (Slot J)) (i : ℕ) → slot_at (slots ++ empty_slot ∷ []) i ≡ slot_at slots i
   read_same slots i = elim (cases_lt i (length slots)) [
-    | inl lt ↦ get_or_append_left slots (empty ∷ []) empty i lt
+    | inl lt ↦ get_or_append_left slots (empty_slot ∷ []) empty_slot i lt
     | inr le ↦ elim (cases_eq i (length slots)) [
-      | inl e ↦ get_or_push slots empty empty i (sym e) ∙ sym (get_or_past slots i empty le)
-      | inr ne ↦ get_or_past (slots ++ empty ∷ []) i empty (omega (arith, le, ne, length_push slots empty)) ∙ sym (get_or_past slots i empty le)
+      | inl e ↦ get_or_push slots empty_slot empty_slot i (sym e) ∙ sym (get_or_past slots i empty_slot le)
+      | inr ne ↦ get_or_past (slots ++ empty_slot ∷ []) i empty_slot (omega (arith, le, ne, length_push slots empty_slot)) ∙ sym (get_or_past slots i empty_slot le)
     ]
   ]
 
@@ -38,10 +35,10 @@ module _ {J : Type 0} where
   -- where all slots are in lists
   module _ (slots : List (Slot J)) (ends : List (Option Ends)) (k : Keeps slots ends None) where
     abbrev after : List (Slot J)
-    after = slots ++ empty ∷ []
+    after = slots ++ empty_slot ∷ []
 
     size : length after ≡ length slots + 1
-    size = length_push slots empty
+    size = length_push slots empty_slot
 
     longer : length slots ≤ length after
     longer = omega (arith, size)
@@ -81,18 +78,18 @@ module _ {J : Type 0} where
       ];
       listed = λ t lt. subst (AreListOf after (get_or ends t None)) (sym (others_more t lt)) (same_listed slots after longer same (get_or ends t None) (k.numbers t) (k.listed t lt));
       all_listed = λ i some. still_listed slots after longer same (length ends) k.numbers numbers_more i others_more (k.all_listed i) some;
-      spare = subst (AreLinked after (Some (length slots))) (sym free_more) (refl, omega (arith, size), ap (λ (s : Slot J). s.next) (get_or_push slots empty empty (length slots) refl));
+      spare = subst (AreLinked after (Some (length slots))) (sym free_more) (refl, omega (arith, size), ap (λ (s : Slot J). s.next) (get_or_push slots empty_slot empty_slot (length slots) refl));
       short = λ t lt. omega (arith, ap (λ (l : List ℕ). length l) (others_more t lt), k.short t lt, size);
       total = omega (arith, ap (λ (l : List (List (Item J))). count_of l) lists_same, full_lists slots ends k, ap (λ (l : List ℕ). length l) free_more, size);
     }
 
-  pub one_made : (slots : List (Slot J)) (free : Option ℕ) (room slot : ℕ) → free ≡ None → slot ≡ length slots → slot < room → IsMadeFree slots free room (slots ++ empty ∷ []) (Some slot)
+  pub one_made : (slots : List (Slot J)) (free : Option ℕ) (room slot : ℕ) → free ≡ None → slot ≡ length slots → slot < room → IsMadeFree slots free room (slots ++ empty_slot ∷ []) (Some slot)
   one_made slots free room slot none last lt = record {
-    keeps = λ ends k. subst (λ v. Keeps (slots ++ empty ∷ []) ends (Some v)) (sym last) (keeps_more slots ends (subst (Keeps slots ends) none k));
+    keeps = λ ends k. subst (λ v. Keeps (slots ++ empty_slot ∷ []) ends (Some v)) (sym last) (keeps_more slots ends (subst (Keeps slots ends) none k));
     same = λ ends k. lists_same slots ends (subst (Keeps slots ends) none k);
-    longer = omega (arith, length_push slots empty);
+    longer = omega (arith, length_push slots empty_slot);
     read = read_same slots;
-    within = omega (arith, last, lt, length_push slots empty);
+    within = omega (arith, last, lt, length_push slots empty_slot);
     full = λ e. absurd (none_not_some (Some slot) slot e refl);
   }
 

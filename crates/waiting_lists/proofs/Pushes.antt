@@ -142,7 +142,6 @@ module _ {J : Type 0} where
 
           pub appended_put : IsPutAt slots slot item after
           appended_put = record {
-            within = free_bound;
             empty = slot_empty (slot_at slots slot).item refl;
             put = h.placed;
             beside = record { size = h.size; items = h.items; cells = h.cells };

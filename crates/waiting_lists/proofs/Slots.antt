@@ -4,7 +4,7 @@ use Rattle.std.proofs.lemmas.Bool.{false≢true}
 use Rattle.std.proofs.lemmas.List.{get_or-set_same, get_or-set_other}
 use Rattle.waiting_lists.specs.declared.item.Item.{Item}
 use Rattle.waiting_lists.specs.declared.links.Slot.{Slot}
-use Rattle.waiting_lists.specs.Linked.{StandsIn, slot_at, put_before, items_from, items_at, AreLinked}
+use Rattle.waiting_lists.specs.Linked.{empty_slot, StandsIn, slot_at, put_before, items_from, items_at, AreLinked}
 
 module _ {J : Type 0} where
   -- the links of slots
@@ -51,7 +51,7 @@ module _ {J : Type 0} where
 
   -- a write at one slot
   pub slot_at_same : (slots : List (Slot J)) (i : ℕ) (s : Slot J) → i < length slots → slot_at (set slots i s) i ≡ s
-  slot_at_same slots i s h = get_or-set_same slots i s (record { item = None; tenant = 0; before = None; next = None; next_in_cell = None }) h
+  slot_at_same slots i s h = get_or-set_same slots i s empty_slot h
 
   pub slot_at_other : (slots : List (Slot J)) (i k : ℕ) (s : Slot J) → k ≢ i → slot_at (set slots i s) k ≡ slot_at slots k
-  slot_at_other slots i k s ne = get_or-set_other slots i k s (record { item = None; tenant = 0; before = None; next = None; next_in_cell = None }) ne
+  slot_at_other slots i k s ne = get_or-set_other slots i k s empty_slot ne

@@ -47,9 +47,12 @@ AreEndsWithout ends before next without =
     → (first_of without ≡ first_in (front ++ rest)) × (last_of without ≡ last_behind None (front ++ rest))
 
 module _ {J : Type 0} where
+  abbrev pub empty_slot : Slot J
+  empty_slot = record { item = None; tenant = 0; before = None; next = None; next_in_cell = None }
+
   -- the slot at a place, or an empty one past the end
   abbrev pub slot_at : List (Slot J) → ℕ → Slot J
-  slot_at slots i = slice_index_or slots i (record { item = None; tenant = 0; before = None; next = None; next_in_cell = None })
+  slot_at slots i = slice_index_or slots i empty_slot
 
   abbrev pub put_before : Option (Item J) → List (Item J) → List (Item J)
   put_before None items = items
@@ -84,7 +87,6 @@ module _ {J : Type 0} where
 
   -- the slot, which was empty, holds this item
   pub record IsPutAt (slots : List (Slot J)) (slot : ℕ) (item : Item J) (slots2 : List (Slot J)) : Type 0 where
-    pub within : slot < length slots
     pub empty : (slot_at slots slot).item ≡ None
     pub put : (slot_at slots2 slot).item ≡ Some item
     pub beside : SameBeside slots slot slots2

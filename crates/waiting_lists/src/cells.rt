@@ -1,6 +1,6 @@
-//! The index: slots by the numbers of the requests in them. A number belongs to the cell of its remainder by the number
-//! of cells, and the slots of a cell are linked. There are as many cells as slots, and numbers come in order, so that few
-//! share a cell.
+//! The index: slots by the numbers of the requests in them. A number belongs to the cell of its remainder by the
+//! number of cells, and the slots of a cell are linked. There are as many cells as slots, and numbers come in order, so
+//! few share a cell.
 ghost use Rattle.std.specs.Prelude.{◌≡◌, ◌≢◌, ◌<◌, ℕ, length, None, Some, IfNone, IfSome, option_map, slice_index_or};
 ghost use Rattle.waiting_lists.specs.Cells.{number_at, without, SameLists, KeepsIndex, IsChainFrom, IsBeforeIn, NoneLeadsTo, LeadsInCell};
 

@@ -5,8 +5,8 @@ ghost use Rattle.waiting_lists.specs.Linked.{lists_of, count_of, slot_at, Keeps,
 use crate::item::Item;
 use std::mem;
 
-/// A place for an item of a tenant. Its links lead to the slots before and after it in the tenant's list, and to the next
-/// of its cell in the index.
+/// A place for an item of a tenant. Its links lead to the slots before and after it in the tenant's list, and to the
+/// next of its cell in the index.
 #[derive(Drop)]
 pub struct Slot<J> {
     pub item: Option<Item<J>>,

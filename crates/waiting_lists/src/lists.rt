@@ -10,7 +10,8 @@ use std::alloc::{AllocError, Global};
 use std::marker::Model;
 
 /// One list of waiting items a tenant, in the order in which they came. All share a fixed number of slots. Memory for
-/// them is set aside at opening, and used only for as many as ever had items at once.
+/// them is set aside at opening, and used only for as many as ever had items at once. The index, by which an item is
+/// found by the number of its request, has a cell a slot, written at opening.
 #[derive(Drop)]
 pub struct Lists<J> {
     // those that were needed so far, with memory for all

@@ -1,7 +1,7 @@
 use Rattle.std.proofs.Common.{◌≡◌, ◌<◌, None, Some, length, get_or, option_map, sym, ap, ◌∙◌, subst, rules}
 use Rattle.std.proofs.lemmas.List.{get_or_default}
 use Rattle.waiting_lists.specs.declared.links.Slot.{Slot}
-use Rattle.waiting_lists.specs.Linked.{slot_at}
+use Rattle.waiting_lists.specs.Linked.{empty_slot, slot_at}
 use Rattle.waiting_lists.specs.Cells.{number_at}
 use Rattle.waiting_lists.proofs.Walks.{walk}
 use Rattle.waiting_lists.proofs.Searches.{cell_links, same_some, other_some, IsLeft, left_bound, left_next, left_nearer, left_none}
@@ -38,7 +38,7 @@ pub returns-then-eq-clause-found : goal.returns-then-eq-clause-found
 returns-then-eq-clause-found g c =
     let l : IsLeft c.args.slots.now c.args.request (Some c.in-Some.here) = subst (IsLeft c.args.slots.now c.args.request) c.in-Some.is c.loop-at.invariant in
     let within : c.in-Some.here < length c.args.slots.now = left_bound c.args.slots.now c.args.request c.in-Some.here l in
-    let read : slot_at c.args.slots.now c.in-Some.here ≡ get_or c.args.slots.now c.in-Some.here c.index-slots-here.result = get_or_default c.args.slots.now c.in-Some.here (record { item = None; tenant = 0; before = None; next = None; next_in_cell = None }) c.index-slots-here.result within in
+    let read : slot_at c.args.slots.now c.in-Some.here ≡ get_or c.args.slots.now c.in-Some.here c.index-slots-here.result = get_or_default c.args.slots.now c.in-Some.here empty_slot c.index-slots-here.result within in
     let number : number_at c.args.slots.now c.in-Some.here ≡ c.number_of.result = ap (λ (s : Slot g.row.J.Denot). option_map (λ i. i.request) s.item) (read ∙ sym c.index-slots-here.is) ∙ sym c.number_of.ensures in
     number ∙ same_some c.number_of.result c.args.request c.if-eq.ensures
 
@@ -46,7 +46,7 @@ pub loop-at-smaller : goal.loop-at-smaller
 loop-at-smaller g c =
     let l : IsLeft c.args.slots.now c.args.request (Some c.in-Some.here) = subst (IsLeft c.args.slots.now c.args.request) c.in-Some.is c.loop-at.invariant in
     let within : c.in-Some.here < length c.args.slots.now = left_bound c.args.slots.now c.args.request c.in-Some.here l in
-    let same : cell_links c.args.slots.now c.in-Some.here ≡ (get_or c.args.slots.now c.in-Some.here c.index-slots-here-in-Some.result).next_in_cell = ap (λ (s : Slot g.row.J.Denot). s.next_in_cell) (get_or_default c.args.slots.now c.in-Some.here (record { item = None; tenant = 0; before = None; next = None; next_in_cell = None }) c.index-slots-here-in-Some.result within) in
+    let same : cell_links c.args.slots.now c.in-Some.here ≡ (get_or c.args.slots.now c.in-Some.here c.index-slots-here-in-Some.result).next_in_cell = ap (λ (s : Slot g.row.J.Denot). s.next_in_cell) (get_or_default c.args.slots.now c.in-Some.here empty_slot c.index-slots-here-in-Some.result within) in
     let nearer : length (walk (cell_links c.args.slots.now) (length c.args.slots.now) (cell_links c.args.slots.now c.in-Some.here)) < length (walk (cell_links c.args.slots.now) (length c.args.slots.now) (Some c.in-Some.here)) = left_nearer c.args.slots.now c.args.request c.in-Some.here l in
     rw c.in-Some.is (subst (λ o. length (walk (cell_links c.args.slots.now) (length c.args.slots.now) o) < length (walk (cell_links c.args.slots.now) (length c.args.slots.now) (Some c.in-Some.here))) same nearer)
 
@@ -54,9 +54,9 @@ pub loop-at-preserved : goal.loop-at-preserved
 loop-at-preserved g c =
     let l : IsLeft c.args.slots.now c.args.request (Some c.in-Some.here) = subst (IsLeft c.args.slots.now c.args.request) c.in-Some.is c.loop-at.invariant in
     let within : c.in-Some.here < length c.args.slots.now = left_bound c.args.slots.now c.args.request c.in-Some.here l in
-    let read : slot_at c.args.slots.now c.in-Some.here ≡ get_or c.args.slots.now c.in-Some.here c.index-slots-here.result = get_or_default c.args.slots.now c.in-Some.here (record { item = None; tenant = 0; before = None; next = None; next_in_cell = None }) c.index-slots-here.result within in
+    let read : slot_at c.args.slots.now c.in-Some.here ≡ get_or c.args.slots.now c.in-Some.here c.index-slots-here.result = get_or_default c.args.slots.now c.in-Some.here empty_slot c.index-slots-here.result within in
     let number : number_at c.args.slots.now c.in-Some.here ≡ c.number_of.result = ap (λ (s : Slot g.row.J.Denot). option_map (λ i. i.request) s.item) (read ∙ sym c.index-slots-here.is) ∙ sym c.number_of.ensures in
-    let same : cell_links c.args.slots.now c.in-Some.here ≡ (get_or c.args.slots.now c.in-Some.here c.index-slots-here-in-Some.result).next_in_cell = ap (λ (s : Slot g.row.J.Denot). s.next_in_cell) (get_or_default c.args.slots.now c.in-Some.here (record { item = None; tenant = 0; before = None; next = None; next_in_cell = None }) c.index-slots-here-in-Some.result within) in
+    let same : cell_links c.args.slots.now c.in-Some.here ≡ (get_or c.args.slots.now c.in-Some.here c.index-slots-here-in-Some.result).next_in_cell = ap (λ (s : Slot g.row.J.Denot). s.next_in_cell) (get_or_default c.args.slots.now c.in-Some.here empty_slot c.index-slots-here-in-Some.result within) in
     subst (IsLeft c.args.slots.now c.args.request) same (left_next c.args.slots.now c.args.request c.in-Some.here l (λ e. other_some c.number_of.result c.args.request c.if-eq.ensures (sym number ∙ e)))
 
 pub returns-clause-none : goal.returns-clause-none

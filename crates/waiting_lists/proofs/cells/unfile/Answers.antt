@@ -2,6 +2,7 @@ use Rattle.std.proofs.Common.{◌≡◌, ◌%◌, None, length, get_or, ap}
 use Rattle.std.proofs.lemmas.List.{get_or_default}
 use Rattle.waiting_lists.specs.declared.links.Slot.{Slot}
 use Rattle.waiting_lists.specs.Cells.{number_at}
+use Rattle.waiting_lists.specs.Linked.{empty_slot}
 use Rattle.waiting_lists.proofs.Searches.{cell_links}
 use Rattle.waiting_lists.proofs.Filed.{number_bound}
 use Rattle.waiting_lists.proofs.Unfiled.{chain_is, bound, unfile_same, unfile_behind, unfile_first}
@@ -13,20 +14,20 @@ before_in_cell-requires g c =
 
 pub lead_in_cell-requires : goal.lead_in_cell-requires
 lead_in_cell-requires g c =
-    let read : (get_or c.args.slots.now c.args.slot c.index-slots-slot.result).next_in_cell ≡ cell_links c.args.slots.now c.args.slot = ap (λ (s : Slot g.row.J.Denot). s.next_in_cell) (get_or_default c.args.slots.now c.args.slot c.index-slots-slot.result (record { item = None; tenant = 0; before = None; next = None; next_in_cell = None }) (number_bound c.args.slots.now c.args.slot c.args.request c.requires.held)) in
+    let read : (get_or c.args.slots.now c.args.slot c.index-slots-slot.result).next_in_cell ≡ cell_links c.args.slots.now c.args.slot = ap (λ (s : Slot g.row.J.Denot). s.next_in_cell) (get_or_default c.args.slots.now c.args.slot c.index-slots-slot.result empty_slot (number_bound c.args.slots.now c.args.slot c.args.request c.requires.held)) in
     bound c.args.cells.now c.args.slots.now c.args.slot c.args.request c.requires.some c.requires.held c.requires.kept (get_or c.args.slots.now c.args.slot c.index-slots-slot.result).next_in_cell read c.in-Some.before c.in-Some.ensures.before
 
 pub returns-in-Some-clause-keeps : goal.returns-in-Some-clause-keeps
 returns-in-Some-clause-keeps g c =
-    let read : (get_or c.args.slots.now c.args.slot c.index-slots-slot.result).next_in_cell ≡ cell_links c.args.slots.now c.args.slot = ap (λ (s : Slot g.row.J.Denot). s.next_in_cell) (get_or_default c.args.slots.now c.args.slot c.index-slots-slot.result (record { item = None; tenant = 0; before = None; next = None; next_in_cell = None }) (number_bound c.args.slots.now c.args.slot c.args.request c.requires.held)) in
+    let read : (get_or c.args.slots.now c.args.slot c.index-slots-slot.result).next_in_cell ≡ cell_links c.args.slots.now c.args.slot = ap (λ (s : Slot g.row.J.Denot). s.next_in_cell) (get_or_default c.args.slots.now c.args.slot c.index-slots-slot.result empty_slot (number_bound c.args.slots.now c.args.slot c.args.request c.requires.held)) in
     unfile_behind c.args.cells.now c.args.slots.now c.args.slot c.args.request c.requires.some c.requires.held c.requires.kept (get_or c.args.slots.now c.args.slot c.index-slots-slot.result).next_in_cell read c.in-Some.before c.in-Some.ensures.before c.lead_in_cell.new.slots c.lead_in_cell.ensures
 
 pub returns-in-Some-clause-lists : goal.returns-in-Some-clause-lists
 returns-in-Some-clause-lists g c =
-    let read : (get_or c.args.slots.now c.args.slot c.index-slots-slot.result).next_in_cell ≡ cell_links c.args.slots.now c.args.slot = ap (λ (s : Slot g.row.J.Denot). s.next_in_cell) (get_or_default c.args.slots.now c.args.slot c.index-slots-slot.result (record { item = None; tenant = 0; before = None; next = None; next_in_cell = None }) (number_bound c.args.slots.now c.args.slot c.args.request c.requires.held)) in
+    let read : (get_or c.args.slots.now c.args.slot c.index-slots-slot.result).next_in_cell ≡ cell_links c.args.slots.now c.args.slot = ap (λ (s : Slot g.row.J.Denot). s.next_in_cell) (get_or_default c.args.slots.now c.args.slot c.index-slots-slot.result empty_slot (number_bound c.args.slots.now c.args.slot c.args.request c.requires.held)) in
     unfile_same c.args.cells.now c.args.slots.now c.args.slot c.args.request c.requires.some c.requires.held c.requires.kept (get_or c.args.slots.now c.args.slot c.index-slots-slot.result).next_in_cell read c.in-Some.before c.in-Some.ensures.before c.lead_in_cell.new.slots c.lead_in_cell.ensures
 
 pub returns-in-None-clause-keeps : goal.returns-in-None-clause-keeps
 returns-in-None-clause-keeps g c =
-    let read : (get_or c.args.slots.now c.args.slot c.index-slots-slot.result).next_in_cell ≡ cell_links c.args.slots.now c.args.slot = ap (λ (s : Slot g.row.J.Denot). s.next_in_cell) (get_or_default c.args.slots.now c.args.slot c.index-slots-slot.result (record { item = None; tenant = 0; before = None; next = None; next_in_cell = None }) (number_bound c.args.slots.now c.args.slot c.args.request c.requires.held)) in
+    let read : (get_or c.args.slots.now c.args.slot c.index-slots-slot.result).next_in_cell ≡ cell_links c.args.slots.now c.args.slot = ap (λ (s : Slot g.row.J.Denot). s.next_in_cell) (get_or_default c.args.slots.now c.args.slot c.index-slots-slot.result empty_slot (number_bound c.args.slots.now c.args.slot c.args.request c.requires.held)) in
     unfile_first c.args.cells.now c.args.slots.now c.args.slot c.args.request c.requires.some c.requires.held c.requires.kept (get_or c.args.slots.now c.args.slot c.index-slots-slot.result).next_in_cell read c.in-None.ensures.none

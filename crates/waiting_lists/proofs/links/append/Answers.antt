@@ -1,7 +1,7 @@
 use Rattle.std.proofs.Common.{◌≡◌, ◌<◌, Some, None, MatchOption, length, get_or, refl, subst, rules}
 use Rattle.std.proofs.lemmas.List.{get_or_default}
 use Rattle.waiting_lists.specs.declared.links.Ends.{Ends}
-use Rattle.waiting_lists.specs.Linked.{last_of, Keeps}
+use Rattle.waiting_lists.specs.Linked.{empty_slot, last_of, Keeps}
 use Rattle.waiting_lists.proofs.Pushes.{full_lists, free_bound, HasPushed, did_push, read_bound, appended_keeps, appended_lists, appended_put}
 use Rattle.waiting_lists.proofs.links.append.Goals as goal
 
@@ -41,7 +41,7 @@ returns-clause-keeps g c =
     let first : MatchOption (get_or c.args.ends.now c.args.tenant None) (c.map_or.result ≡ c.in-Some.slot) (λ e. c.map_or.result ≡ e.first) = search rules in
     let new : Ends = record { first = c.map_or.result; last = c.in-Some.slot } in
     let pushed : HasPushed c.args.slots.now c.args.ends.now c.in-Some.slot k c.args.tenant c.requires.known c.args.item c.lead.new.slots new = did_push c.args.slots.now c.args.ends.now c.in-Some.slot k c.args.tenant c.requires.known c.args.item c.map-before.result before c.lead.new.slots new c.lead.ensures first refl in
-    rw (get_or_default c.args.slots.now c.in-Some.slot c.index-slots-slot.result (record { item = None; tenant = 0; before = None; next = None; next_in_cell = None }) (free_bound c.args.slots.now c.args.ends.now c.in-Some.slot k)) (appended_keeps c.args.slots.now c.args.ends.now c.in-Some.slot k c.args.tenant c.requires.known c.args.item c.lead.new.slots new pushed)
+    rw (get_or_default c.args.slots.now c.in-Some.slot c.index-slots-slot.result empty_slot (free_bound c.args.slots.now c.args.ends.now c.in-Some.slot k)) (appended_keeps c.args.slots.now c.args.ends.now c.in-Some.slot k c.args.tenant c.requires.known c.args.item c.lead.new.slots new pushed)
 
 pub returns-clause-appended : goal.returns-clause-appended
 returns-clause-appended g c =

@@ -2,6 +2,7 @@ use Rattle.std.proofs.Common.{◌≡◌, ◌<◌, None, length, option_map, IsSo
 use Rattle.std.proofs.lemmas.List.{get_or_default}
 use Rattle.waiting_lists.specs.declared.links.Slot.{Slot}
 use Rattle.waiting_lists.specs.Cells.{number_at}
+use Rattle.waiting_lists.specs.Linked.{empty_slot}
 use Rattle.waiting_lists.proofs.TakeOuts.{slot_bound}
 use Rattle.waiting_lists.proofs.Moves.{emptied_index, mid_keeps, mid_out, no_number}
 use Rattle.waiting_lists.proofs.taking.take_out.Goals as goal
@@ -14,19 +15,19 @@ offset_bounds-slots-slot g c =
 pub returns-in_err-request-clause-item : goal.returns-in_err-request-clause-item
 returns-in_err-request-clause-item g c =
     let within : c.args.slot < length c.args.slots.now = slot_bound c.args.slots.now c.args.ends.now c.args.free.now c.requires.kept.links c.args.slot c.requires.held in
-    let number : number_at c.args.slots.now c.args.slot ≡ c.number_of.result = ap (λ (s : Slot g.row.J.Denot). option_map (λ i. i.request) s.item) (get_or_default c.args.slots.now c.args.slot (record { item = None; tenant = 0; before = None; next = None; next_in_cell = None }) c.index-slots-slot.result within) ∙ sym c.number_of.ensures in
+    let number : number_at c.args.slots.now c.args.slot ≡ c.number_of.result = ap (λ (s : Slot g.row.J.Denot). option_map (λ i. i.request) s.item) (get_or_default c.args.slots.now c.args.slot empty_slot c.index-slots-slot.result within) ∙ sym c.number_of.ensures in
     absurd (no_number c.args.slots.now c.args.slot c.requires.held (number ∙ c.in_err-request.was))
 
 pub returns-in_err-request-clause-rest : goal.returns-in_err-request-clause-rest
 returns-in_err-request-clause-rest g c =
     let within : c.args.slot < length c.args.slots.now = slot_bound c.args.slots.now c.args.ends.now c.args.free.now c.requires.kept.links c.args.slot c.requires.held in
-    let number : number_at c.args.slots.now c.args.slot ≡ c.number_of.result = ap (λ (s : Slot g.row.J.Denot). option_map (λ i. i.request) s.item) (get_or_default c.args.slots.now c.args.slot (record { item = None; tenant = 0; before = None; next = None; next_in_cell = None }) c.index-slots-slot.result within) ∙ sym c.number_of.ensures in
+    let number : number_at c.args.slots.now c.args.slot ≡ c.number_of.result = ap (λ (s : Slot g.row.J.Denot). option_map (λ i. i.request) s.item) (get_or_default c.args.slots.now c.args.slot empty_slot c.index-slots-slot.result within) ∙ sym c.number_of.ensures in
     absurd (no_number c.args.slots.now c.args.slot c.requires.held (number ∙ c.in_err-request.was))
 
 pub unfile-requires-clause-held : goal.unfile-requires-clause-held
 unfile-requires-clause-held g c =
     let within : c.args.slot < length c.args.slots.now = slot_bound c.args.slots.now c.args.ends.now c.args.free.now c.requires.kept.links c.args.slot c.requires.held in
-    let number : number_at c.args.slots.now c.args.slot ≡ c.number_of.result = ap (λ (s : Slot g.row.J.Denot). option_map (λ i. i.request) s.item) (get_or_default c.args.slots.now c.args.slot (record { item = None; tenant = 0; before = None; next = None; next_in_cell = None }) c.index-slots-slot.result within) ∙ sym c.number_of.ensures in
+    let number : number_at c.args.slots.now c.args.slot ≡ c.number_of.result = ap (λ (s : Slot g.row.J.Denot). option_map (λ i. i.request) s.item) (get_or_default c.args.slots.now c.args.slot empty_slot c.index-slots-slot.result within) ∙ sym c.number_of.ensures in
     number ∙ c.in_ok-request.was
 
 pub unlink-requires-clause-kept : goal.unlink-requires-clause-kept

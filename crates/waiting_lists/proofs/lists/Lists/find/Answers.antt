@@ -1,7 +1,7 @@
 use Rattle.std.proofs.Common.{◌≡◌, ◌≢◌, ℕ, Some, None, sym, subst}
 use Rattle.std.proofs.lemmas.List.{get_or_read}
 use Rattle.waiting_lists.specs.declared.links.Slot.{Slot}
-use Rattle.waiting_lists.specs.Linked.{slot_at}
+use Rattle.waiting_lists.specs.Linked.{empty_slot, slot_at}
 use Rattle.waiting_lists.specs.Cells.{number_at}
 use Rattle.waiting_lists.specs.Lists.{HasNone, HasItemOf}
 use Rattle.waiting_lists.proofs.Filed.{number_bound}
@@ -19,6 +19,6 @@ pub returns-clause-some : goal.returns-clause-some
 returns-clause-some g c =
     let s = c.self.inside in
     let number : number_at s.slots.items c.in_ok-slot.slot ≡ Some c.args.request = rw c.deref.ensures.value at c.in_ok-slot.ensures.found in
-    let read : c.index.result.now ≡ slot_at s.slots.items c.in_ok-slot.slot = get_or_read s.slots.items c.in_ok-slot.slot c.index.result.now (number_bound s.slots.items c.in_ok-slot.slot c.args.request number) c.index.ensures (record { item = None; tenant = 0; before = None; next = None; next_in_cell = None }) in
+    let read : c.index.result.now ≡ slot_at s.slots.items c.in_ok-slot.slot = get_or_read s.slots.items c.in_ok-slot.slot c.index.result.now (number_bound s.slots.items c.in_ok-slot.slot c.args.request number) c.index.ensures empty_slot in
     subst (λ (x : Slot g.row.J.Denot). HasItemOf c.args.self.now c.args.request x.tenant) (sym read)
     (found_some s.slots.items s.ends.items s.free s.room c.args.self.now c.self.view_is c.self.invariant.kept.links c.in_ok-slot.slot c.args.request number)

@@ -1,7 +1,7 @@
 use Rattle.std.proofs.Common.{◌≡◌, ◌<◌, Some, None, length, get_or, sym, ap, ◌∙◌, rules}
 use Rattle.std.proofs.lemmas.List.{get_or_read}
 use Rattle.waiting_lists.specs.declared.links.Slot.{Slot}
-use Rattle.waiting_lists.specs.Linked.{slot_at}
+use Rattle.waiting_lists.specs.Linked.{empty_slot, slot_at}
 use Rattle.waiting_lists.proofs.Heads.{none_first, first_bound, head_is}
 use Rattle.waiting_lists.proofs.Counts.{known_tenant}
 use Rattle.waiting_lists.proofs.lists.Lists.head.Goals as goal
@@ -27,5 +27,5 @@ returns g c =
     let known : c.args.tenant < length s.ends.items = known_tenant s.slots.items s.ends.items s.room c.args.self.now c.args.tenant c.self.view_is c.requires in
     let some : get_or s.ends.items c.args.tenant None ≡ Some c.in_ok-ends.ends = sym (get_or_read s.ends.items c.args.tenant c.index.result.now known c.index.ensures None) ∙ c.in_ok-ends.was in
     let within : c.in_ok-ends.ends.first < length s.slots.items = first_bound s.slots.items s.ends.items s.free c.self.invariant.kept.links c.args.tenant known c.in_ok-ends.ends some in
-    let read : c.index-2.result.now ≡ slot_at s.slots.items c.in_ok-ends.ends.first = get_or_read s.slots.items c.in_ok-ends.ends.first c.index-2.result.now within c.index-2.ensures (record { item = None; tenant = 0; before = None; next = None; next_in_cell = None }) in
+    let read : c.index-2.result.now ≡ slot_at s.slots.items c.in_ok-ends.ends.first = get_or_read s.slots.items c.in_ok-ends.ends.first c.index-2.result.now within c.index-2.ensures empty_slot in
     rw (c.as_ref.ensures.value, ← c.self.view_is) (ap (λ (slot : Slot g.row.J.Denot). slot.item) read ∙ head_is s.slots.items s.ends.items s.free c.self.invariant.kept.links c.args.tenant known c.in_ok-ends.ends some)

@@ -1,6 +1,6 @@
 use Rattle.std.proofs.Common.{◌≡◌, ◌≢◌, ℕ, ◌+◌, ◌-◌, [], Some, None, length, get_or, sym, ◌∙◌, rules, arith}
 use Rattle.std.proofs.lemmas.List.{get_or_read}
-use Rattle.waiting_lists.specs.Linked.{slot_at, lists_of, IsTakenOut}
+use Rattle.waiting_lists.specs.Linked.{empty_slot, slot_at, lists_of, IsTakenOut}
 use Rattle.waiting_lists.specs.Cells.{number_at}
 use Rattle.waiting_lists.specs.Lists.{HasNone}
 use Rattle.waiting_lists.proofs.Filed.{number_bound}
@@ -48,7 +48,7 @@ returns-clause-removed g c =
     let number : number_at s.slots.items c.in_ok-slot.slot ≡ Some c.args.request = rw c.deref.ensures.value at c.in_ok-slot.ensures.found in
     let f = c.take_out.new in
     let out : IsTakenOut s.slots.items s.ends.items c.in_ok-slot.slot f.slots f.ends = rw (c.deref_mut.ensures.value, c.deref_mut-3.ensures.value) at c.take_out.ensures.rest in
-    let read : c.index.result.now ≡ slot_at s.slots.items c.in_ok-slot.slot = get_or_read s.slots.items c.in_ok-slot.slot c.index.result.now (number_bound s.slots.items c.in_ok-slot.slot c.args.request number) c.index.ensures (record { item = None; tenant = 0; before = None; next = None; next_in_cell = None }) in
+    let read : c.index.result.now ≡ slot_at s.slots.items c.in_ok-slot.slot = get_or_read s.slots.items c.in_ok-slot.slot c.index.result.now (number_bound s.slots.items c.in_ok-slot.slot c.args.request number) c.index.ensures empty_slot in
     let held : c.take_out.result ≡ (slot_at s.slots.items c.in_ok-slot.slot).item = rw c.deref_mut.ensures.value at c.take_out.ensures.item in
     let back = whole_back s.slots.len s.ends.len f.slots s.slots.items f.ends s.ends.items s.room (search rules) (search rules) in
     removed s.slots.items s.ends.items s.free s.room c.args.self.now c.self.view_is k c.in_ok-slot.slot c.args.request number f.slots f.ends out c.index.result.now read c.in_ok-item.item (sym held ∙ c.in_ok-item.was) _ back
