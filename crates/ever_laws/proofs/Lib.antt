@@ -9,3 +9,5 @@ pub mod Reach
 pub mod Bound
 pub mod Counts
 pub mod Gains
+pub mod Foretold
+pub mod Computed

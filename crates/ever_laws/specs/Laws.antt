@@ -1,6 +1,8 @@
 -- What bounds how far one tenant is ahead of another that waits, under 2dfq+.
 use Rattle.std.specs.Prelude.{ℕ, ◌+◌, ◌*◌, ◌/◌, ◌≡◌, ◌≢◌, ◌∷◌, ◌++◌, Some, ℤ, pos, ◌+ℤ◌, ◌-ℤ◌, ◌≤ℤ◌}
+use Rattle.vt_fixed.specs.Rounding.{length_of}
 use Rattle.fq_model.specs.declared.config.Config.{Config}
+use Rattle.fq_model.specs.declared.config.Policy.TheVariants.{TwoDfqPlus}
 use Rattle.fq_model.specs.declared.event.Entry.{Entry}
 use Rattle.fq_model.specs.History.{History, head}
 use Rattle.fq_model.specs.Limits.{InLimits}
@@ -8,7 +10,7 @@ use Rattle.fq_model.specs.Pace.{pace}
 use Rattle.fq_model.specs.Rules.{IsLegal}
 use Rattle.gap_laws.specs.Laws.{worst_lead, all_and_one}
 use Rattle.gap_laws.specs.Words.{IsPrefix, AreSharedFrom, WaitsFrom, AreNoShorter, takes_after, IsAccount}
-use Rattle.ever_laws.specs.Words.{IsPacedWithin, greatest_part, time_now, most_of, least_of, ground}
+use Rattle.ever_laws.specs.Words.{AreAllNoLonger, AllKeepLimits, IsPacedWithin, greatest_part, time_now, most_of, least_of, ground}
 
 -- what a tenant has at least never falls, under any policy and whether the tenant waits or not
 abbrev pub LeastRises : Type 0
@@ -75,3 +77,14 @@ GainIsBounded =
     (C : Config) (P Q : History) (f g M : ℕ) (of_f of_g : History → ℤ) → f ≢ g → IsPacedWithin C Q M
     → IsPrefix P Q → AreSharedFrom P Q f g → IsAccount M C Q f of_f → IsAccount M C Q g of_g
     → ((of_f Q -ℤ of_f P) -ℤ (of_g Q -ℤ of_g P)) ≤ℤ (pos (all_and_one C M) +ℤ bound C M)
+
+-- where costs and weights keep to limits no request is longer than the greatest cost at the least weight
+abbrev pub LengthsAreForetold : Type 0
+LengthsAreForetold =
+    (C : Config) (H : History) (c w : ℕ) → IsLegal C H → AllKeepLimits C H c w → AreAllNoLonger C H (length_of c w)
+
+-- so the bound is by that length
+abbrev pub LeadIsForetold : Type 0
+LeadIsForetold =
+    (C : Config) (H : History) (f g r c w : ℕ) → f ≢ g → C.policy ≡ TwoDfqPlus → InLimits C → IsLegal C H
+    → AllKeepLimits C H c w → head H g ≡ Some r → worst_lead (length_of c w) C H f g ≤ℤ bound C (length_of c w)

@@ -1,5 +1,5 @@
 //! The laws, one function a law: its contract is the law, and its body is empty.
-ghost use Rattle.ever_laws.specs.Laws.{LeastRises, GroundRises, MostStaysNear, CapStaysNear, BoundHolds, LeadIsBounded, AccountsAreBounded, TakesAreBounded, GainIsBounded};
+ghost use Rattle.ever_laws.specs.Laws.{LeastRises, GroundRises, MostStaysNear, CapStaysNear, BoundHolds, LeadIsBounded, AccountsAreBounded, TakesAreBounded, GainIsBounded, LengthsAreForetold, LeadIsForetold};
 
 /// What a tenant has at least, whatever comes of its requests that run, never falls.
 pub fn least_rises()
@@ -38,8 +38,8 @@ pub fn accounts_are_bounded()
     ensures { AccountsAreBounded }
 {}
 
-/// While a head waits another tenant, whose requests have a least length above 0, is taken so often at most: as often as
-/// that length goes into the bound and one request of the greatest length, and once more.
+/// While a head waits another tenant, whose requests have a least length above 0, is taken so often at most: as often
+/// as that length goes into the bound and one request of the greatest length, and once more.
 pub fn takes_are_bounded()
     ensures { TakesAreBounded }
 {}
@@ -48,4 +48,15 @@ pub fn takes_are_bounded()
 /// and from any moment on.
 pub fn gain_is_bounded()
     ensures { GainIsBounded }
+{}
+
+/// Where no estimate, use or cost of any tenant passes c, and no weight falls below w, no request is longer than c at
+/// weight w.
+pub fn lengths_are_foretold()
+    ensures { LengthsAreForetold }
+{}
+
+/// So the bound is known before the first request comes.
+pub fn lead_is_foretold()
+    ensures { LeadIsForetold }
 {}
