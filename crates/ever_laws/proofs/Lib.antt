@@ -11,3 +11,4 @@ pub mod Counts
 pub mod Gains
 pub mod Foretold
 pub mod Computed
+pub mod Charges

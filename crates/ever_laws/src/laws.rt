@@ -1,5 +1,5 @@
 //! The laws, one function a law: its contract is the law, and its body is empty.
-ghost use Rattle.ever_laws.specs.Laws.{LeastRises, GroundRises, MostStaysNear, CapStaysNear, BoundHolds, LeadIsBounded, AccountsAreBounded, TakesAreBounded, GainIsBounded, LengthsAreForetold, LeadIsForetold};
+ghost use Rattle.ever_laws.specs.Laws.{LeastRises, GroundRises, MostStaysNear, CapStaysNear, BoundHolds, LeadIsBounded, AccountsAreBounded, TakesAreBounded, ChargeIsBounded, OthersAreBounded, GainIsBounded, LengthsAreForetold, LeadIsForetold};
 
 /// What a tenant has at least, whatever comes of its requests that run, never falls.
 pub fn least_rises()
@@ -42,6 +42,16 @@ pub fn accounts_are_bounded()
 /// as that length goes into the bound and one request of the greatest length, and once more.
 pub fn takes_are_bounded()
     ensures { TakesAreBounded }
+{}
+
+/// Meanwhile it is charged no more than twice the bound and what of it ran, whatever the least length.
+pub fn charge_is_bounded()
+    ensures { ChargeIsBounded }
+{}
+
+/// So all others together are charged no more than that for each tenant before a head that waits is taken.
+pub fn others_are_bounded()
+    ensures { OthersAreBounded }
 {}
 
 /// What the one gains on the other over a while in which both wait, in the manner of Golestani (1994), by any account
