@@ -9,16 +9,21 @@ use Rattle.fq_model.specs.declared.event.Act.{Act}
 use Rattle.fq_model.specs.declared.event.Act.TheVariants.{Take}
 use Rattle.fq_model.specs.declared.event.Entry.{Entry}
 use Rattle.fq_model.specs.History.{History, request_at, is_of_tenant, head}
-use Rattle.fq_model.specs.Lead.{takes_of}
+use Rattle.fq_model.specs.Charge.{virtual_charge}
+use Rattle.fq_model.specs.Lead.{may_rise, start_now, takes_of}
+use Rattle.fq_model.specs.Pace.{tag_base}
 use Rattle.fq_model.specs.Rules.{IsLegal}
 use Rattle.fq_laws.specs.Words.{one_more, is_take}
+use Rattle.fq_laws.proofs.Keys.Tags.{base_rises}
 use Rattle.gap_laws.specs.Laws.{worst_lead}
 use Rattle.gap_laws.specs.Words.{IsPrefix, WaitsFrom, AreNoShorter, takes_after, AreNoLonger}
 use Rattle.gap_laws.proofs.Runs.{prefix_of_prefix}
+use Rattle.gap_laws.proofs.WorstCase.{longest}
 use Rattle.gap_laws.proofs.Takes.{its_head, taken_before, takes_fewer}
 use Rattle.ever_laws.specs.Laws.{bound, TakesAreBounded}
 use Rattle.ever_laws.specs.Words.{IsPacedWithin, greatest_part}
 use Rattle.ever_laws.proofs.Bound.{lead_bounded}
+use Rattle.ever_laws.proofs.Entries.{raises_of, stays, comes, starts_at}
 use Rattle.ever_laws.proofs.Takes.{within_older}
 
 -- ---- what is known of a history is known of its prefixes
@@ -63,43 +68,59 @@ none_taken C P who m f (Take w q c) l none = elim (cases_Bool (is_of_tenant f (r
 ]
 none_taken C P who m f a l none = refl
 
+-- so what it is charged, if all that runs of it turns out as long as it may, does not rise
+unraised : (v v2 b b2 x x2 u u2 : ℕ) → x ≡ v + b → x2 ≡ v2 + b2 → b ≤ b2 → x2 + u2 ≤ x + u → v2 + u2 ≤ v + u
+unraised v v2 b b2 x x2 u u2 old new bases most = omega (arith, old, new, bases, most)
+
+charge_falls : (C : Config) (P : History) (e : Entry) (f M : ℕ) → IsPacedWithin C (e ∷ P) M → takes_of f P e.act ≡ None → virtual_charge C (e ∷ P) f + may_rise (longest M) C (e ∷ P) f ≤ virtual_charge C P f + may_rise (longest M) C P f
+charge_falls C P e f M is none = elim (cases_Bool (raises_of P f e.act)) [
+  | inl raises ↦ (let c = comes C P e f M is raises in omega (arith, c.charge_is, c.rise_is))
+  | inr off ↦ unraised (virtual_charge C P f) (virtual_charge C (e ∷ P) f) (tag_base C P f) (tag_base C (e ∷ P) f) (start_now C P f) (start_now C (e ∷ P) f) (may_rise (longest M) C P f) (may_rise (longest M) C (e ∷ P) f) (starts_at C P f is.policy) (starts_at C (e ∷ P) f is.policy) (base_rises C P e f) (stays C P e f M is off none).most_is
+]
+
+-- it was charged no more at P than at S
+abbrev pub IsUncharged : Config → History → History → ℕ → ℕ → Type 0
+IsUncharged C S P f M = virtual_charge C P f + may_rise (longest M) C P f ≤ virtual_charge C S f + may_rise (longest M) C S f
+
 -- of the newer entries the first ones take nothing of f, and then f waits
-record Waits (newer S : History) (f : ℕ) : Type 0 where
-  later : History
-  mid : History
-  split : newer ≡ later ++ mid
-  request : ℕ
-  some : head (mid ++ S) f ≡ Some request
-  same : takes_after f newer S ≡ takes_after f later (mid ++ S)
+pub record Waits (C : Config) (newer S : History) (f M : ℕ) : Type 0 where
+  pub later : History
+  pub mid : History
+  pub split : newer ≡ later ++ mid
+  pub request : ℕ
+  pub some : head (mid ++ S) f ≡ Some request
+  pub same : takes_after f newer S ≡ takes_after f later (mid ++ S)
+  pub uncharged : IsUncharged C S (mid ++ S) f M
 
 -- or all of them take nothing of it
-record WaitsNot (newer S : History) (f : ℕ) : Type 0 where
-  none : head (newer ++ S) f ≡ None
-  untaken : takes_after f newer S ≡ 0
+pub record WaitsNot (C : Config) (newer S : History) (f M : ℕ) : Type 0 where
+  pub none : head (newer ++ S) f ≡ None
+  pub untaken : takes_after f newer S ≡ 0
+  pub uncharged : IsUncharged C S (newer ++ S) f M
 
-by_head : (newer S : History) (f : ℕ) (o : Option ℕ) → head (newer ++ S) f ≡ o → takes_after f newer S ≡ 0 → Waits newer S f ⊎ WaitsNot newer S f
-by_head newer S f None none untaken = inr (record { none = none; untaken = untaken })
-by_head newer S f (Some q) some untaken = inl (record { later = []; mid = newer; split = refl; request = q; some = some; same = untaken })
+by_head : (C : Config) (newer S : History) (f M : ℕ) (o : Option ℕ) → head (newer ++ S) f ≡ o → takes_after f newer S ≡ 0 → IsUncharged C S (newer ++ S) f M → Waits C newer S f M ⊎ WaitsNot C newer S f M
+by_head C newer S f M None none untaken uncharged = inr (record { none = none; untaken = untaken; uncharged = uncharged })
+by_head C newer S f M (Some q) some untaken uncharged = inl (record { later = []; mid = newer; split = refl; request = q; some = some; same = untaken; uncharged = uncharged })
 
 one_later : (newer later mid S : History) (e : Entry) (f : ℕ) → newer ≡ later ++ mid → takes_after f newer S ≡ takes_after f later (mid ++ S) → takes_after f (e ∷ newer) S ≡ takes_after f (e ∷ later) (mid ++ S)
 one_later newer later mid S e f split same =
     let at : newer ++ S ≡ later ++ (mid ++ S) = ap (λ (P : History). P ++ S) split ∙ append_assoc later mid S in
     rw (at, same) refl
 
-waits_or_not : (C : Config) (newer S : History) (f : ℕ) → IsLegal C (newer ++ S) → Waits newer S f ⊎ WaitsNot newer S f
-waits_or_not C [] S f l = by_head [] S f (head S f) refl refl
-waits_or_not C (e ∷ newer) S f l = elim (waits_or_not C newer S f l.0) [
-  | inl w ↦ inl (record { later = e ∷ w.later; mid = w.mid; split = ap (λ (P : History). e ∷ P) w.split; request = w.request; some = w.some; same = one_later newer w.later w.mid S e f w.split w.same })
+pub waits_or_not : (C : Config) (newer S : History) (f M : ℕ) → IsPacedWithin C (newer ++ S) M → Waits C newer S f M ⊎ WaitsNot C newer S f M
+waits_or_not C [] S f M is = by_head C [] S f M (head S f) refl refl (omega arith)
+waits_or_not C (e ∷ newer) S f M is = elim (waits_or_not C newer S f M (within_older C (newer ++ S) e M is)) [
+  | inl w ↦ inl (record { later = e ∷ w.later; mid = w.mid; split = ap (λ (P : History). e ∷ P) w.split; request = w.request; some = w.some; same = one_later newer w.later w.mid S e f w.split w.same; uncharged = w.uncharged })
   | inr n ↦
-      let none : takes_of f (newer ++ S) e.act ≡ None = none_taken C (newer ++ S) e.who e.moment f e.act l n.none in
-      by_head (e ∷ newer) S f (head (e ∷ newer ++ S) f) refl (rw none (omega (arith, n.untaken)))
+      let none : takes_of f (newer ++ S) e.act ≡ None = none_taken C (newer ++ S) e.who e.moment f e.act is.legal n.none in
+      by_head C (e ∷ newer) S f M (head (e ∷ newer ++ S) f) refl (rw none (omega (arith, n.untaken))) (omega (arith, charge_falls C (newer ++ S) e f M is none, n.uncharged))
 ]
 
 none_bounded : (bound : ℤ) (n c M : ℕ) → n ≡ 0 → pos 1 ≤ℤ (bound +ℤ pos M) → pos (n * c) ≤ℤ ((pos c +ℤ (bound +ℤ pos M)) -ℤ pos 1)
 none_bounded bound n c M none some = rw none (omega (arith, ints, some))
 
 pub takes_bounded : TakesAreBounded
-takes_bounded C newer S f g r M c ne is short waits = elim (waits_or_not C newer S f is.legal) [
+takes_bounded C newer S f g r M c ne is short waits = elim (waits_or_not C newer S f M is) [
   | inr n ↦ none_bounded (bound C M) (takes_after f newer S) c M n.untaken (some_bound C.workers M (greatest_part C M) is.lengths.some)
   | inl w ↦
       let all : newer ++ S ≡ w.later ++ (w.mid ++ S) = ap (λ (P : History). P ++ S) w.split ∙ append_assoc w.later w.mid S in

@@ -97,6 +97,7 @@ pub record Comes (C : Config) (P Q : History) (t M : ℕ) : Type 0 where
   pub rise_is : may_rise (longest M) C Q t ≡ may_rise (longest M) C P t
   pub fall_is : may_fall nothing C Q t ≡ may_fall nothing C P t
   pub runs_is : (N : ℕ) → running_length N C Q t ≡ running_length N C P t
+  pub charge_is : virtual_charge C Q t ≡ virtual_charge C P t
 
 raised_to : (v w charge charge2 base base2 x x2 : ℕ) → x ≡ charge + base → x2 ≡ charge2 + base2 → charge2 ≡ charge → base2 ≡ max (v - charge) base → w ≡ v → x2 ≡ max w x
 raised_to v w charge charge2 base base2 x x2 old new charges raised time = omega (arith, old, new, charges, raised, time)
@@ -113,6 +114,7 @@ comes_at C P who m t M (Submit q u kind declared label) is raises none =
       rise_is = over_submit (rising (longest M)) C P who m t q u kind declared label is.legal.0 is.legal.3.numbered;
       fall_is = over_submit (falling nothing) C P who m t q u kind declared label is.legal.0 is.legal.3.numbered;
       runs_is = λ N. over_submit (full N) C P who m t q u kind declared label is.legal.0 is.legal.3.numbered;
+      charge_is = virtual_charge_submit C P who m t q u kind declared label is.legal.0 is.legal.3.numbered;
     }
 comes_at C P who m t M a is raises none = absurd (false≢true raises)
 

@@ -9,3 +9,6 @@ pub mod Reach
 pub mod Bound
 pub mod Counts
 pub mod Gains
+pub mod Foretold
+pub mod Computed
+pub mod Charges

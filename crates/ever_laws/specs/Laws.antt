@@ -1,14 +1,18 @@
 -- What bounds how far one tenant is ahead of another that waits, under 2dfq+.
-use Rattle.std.specs.Prelude.{ℕ, ◌+◌, ◌*◌, ◌/◌, ◌≡◌, ◌≢◌, ◌∷◌, ◌++◌, Some, ℤ, pos, ◌+ℤ◌, ◌-ℤ◌, ◌≤ℤ◌}
+use Rattle.std.specs.Prelude.{ℕ, ◌+◌, ◌*◌, ◌/◌, ◌≤◌, ◌≡◌, ◌≢◌, ◌==◌, if◌then◌else◌, length, ◌∷◌, ◌++◌, Some, ℤ, pos, ◌+ℤ◌, ◌-ℤ◌, ◌≤ℤ◌}
+use Rattle.vt_fixed.specs.Rounding.{length_of}
 use Rattle.fq_model.specs.declared.config.Config.{Config}
+use Rattle.fq_model.specs.declared.config.Policy.TheVariants.{TwoDfqPlus}
 use Rattle.fq_model.specs.declared.event.Entry.{Entry}
 use Rattle.fq_model.specs.History.{History, head}
 use Rattle.fq_model.specs.Limits.{InLimits}
 use Rattle.fq_model.specs.Pace.{pace}
+use Rattle.fq_model.specs.Charge.{virtual_charge}
 use Rattle.fq_model.specs.Rules.{IsLegal}
+use Rattle.fq_model.specs.Sums.{sum_below}
 use Rattle.gap_laws.specs.Laws.{worst_lead, all_and_one}
 use Rattle.gap_laws.specs.Words.{IsPrefix, AreSharedFrom, WaitsFrom, AreNoShorter, takes_after, IsAccount}
-use Rattle.ever_laws.specs.Words.{IsPacedWithin, greatest_part, time_now, most_of, least_of, ground}
+use Rattle.ever_laws.specs.Words.{AreAllNoLonger, AllKeepLimits, IsPacedWithin, greatest_part, time_now, most_of, least_of, ground}
 
 -- what a tenant has at least never falls, under any policy and whether the tenant waits or not
 abbrev pub LeastRises : Type 0
@@ -38,9 +42,13 @@ CapStaysNear =
     → pos (pace C H).reached ≤ℤ (least_of C H t +ℤ pos (all_and_part C M))
 
 -- as many requests of the greatest length as there are workers, as half of them, rounded down, and one more, and the
--- greatest part, less a step
+-- greatest part
+abbrev pub most_lead : Config → ℕ → ℕ
+most_lead C M = (C.workers + C.workers / 2 + 1) * M + greatest_part C M
+
+-- less a step
 abbrev pub bound : Config → ℕ → ℤ
-bound C M = pos ((C.workers + C.workers / 2 + 1) * M + greatest_part C M) -ℤ pos 1
+bound C M = pos (most_lead C M) -ℤ pos 1
 
 -- what f has at most is above the ground of g by no more than that
 abbrev pub BoundHolds : Type 0
@@ -68,6 +76,27 @@ TakesAreBounded =
     → AreNoShorter C S (newer ++ S) f c → WaitsFrom S (newer ++ S) g r
     → pos (takes_after f newer S * c) ≤ℤ ((pos c +ℤ (bound C M +ℤ pos M)) -ℤ pos 1)
 
+-- what f is charged at most while one head of another waits: twice that, and what ran of it
+abbrev pub most_charged : Config → ℕ → ℕ
+most_charged C M = 2 * most_lead C M + C.workers * M
+
+-- while one head of g waits, from S on, f is charged no more than that
+abbrev pub ChargeIsBounded : Type 0
+ChargeIsBounded =
+    (C : Config) (newer S : History) (f g r M : ℕ) → f ≢ g → IsPacedWithin C (newer ++ S) M
+    → WaitsFrom S (newer ++ S) g r
+    → virtual_charge C (newer ++ S) f ≤ virtual_charge C S f + most_charged C M
+
+-- the virtual charges of all tenants but g
+abbrev pub charged_others : Config → History → ℕ → ℕ
+charged_others C P g = sum_below (λ t. if t == g then 0 else virtual_charge C P t) (length C.weights)
+
+-- and all others together are charged no more than that for each tenant
+abbrev pub OthersAreBounded : Type 0
+OthersAreBounded =
+    (C : Config) (newer S : History) (g r M : ℕ) → IsPacedWithin C (newer ++ S) M → WaitsFrom S (newer ++ S) g r
+    → charged_others C (newer ++ S) g ≤ charged_others C S g + length C.weights * most_charged C M
+
 -- by any account f gains on g, from P to Q and while both wait, no more than one request of the greatest length more
 -- than there are workers, and the bound
 abbrev pub GainIsBounded : Type 0
@@ -75,3 +104,14 @@ GainIsBounded =
     (C : Config) (P Q : History) (f g M : ℕ) (of_f of_g : History → ℤ) → f ≢ g → IsPacedWithin C Q M
     → IsPrefix P Q → AreSharedFrom P Q f g → IsAccount M C Q f of_f → IsAccount M C Q g of_g
     → ((of_f Q -ℤ of_f P) -ℤ (of_g Q -ℤ of_g P)) ≤ℤ (pos (all_and_one C M) +ℤ bound C M)
+
+-- where costs and weights keep to limits no request is longer than the greatest cost at the least weight
+abbrev pub LengthsAreForetold : Type 0
+LengthsAreForetold =
+    (C : Config) (H : History) (c w : ℕ) → IsLegal C H → AllKeepLimits C H c w → AreAllNoLonger C H (length_of c w)
+
+-- so the bound is by that length
+abbrev pub LeadIsForetold : Type 0
+LeadIsForetold =
+    (C : Config) (H : History) (f g r c w : ℕ) → f ≢ g → C.policy ≡ TwoDfqPlus → InLimits C → IsLegal C H
+    → AllKeepLimits C H c w → head H g ≡ Some r → worst_lead (length_of c w) C H f g ≤ℤ bound C (length_of c w)

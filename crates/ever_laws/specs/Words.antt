@@ -1,5 +1,5 @@
 -- Words for the bounds under 2dfq+.
-use Rattle.std.specs.Prelude.{ℕ, ◌-◌, ◌≡◌, ◌≤◌, true, ◌∷◌, Option, Some, None, ℤ, pos, ◌-ℤ◌}
+use Rattle.std.specs.Prelude.{ℕ, ◌-◌, ◌≡◌, ◌≤◌, ◌<◌, length, true, ◌∷◌, Option, Some, None, ℤ, pos, ◌-ℤ◌}
 use Rattle.std.specs.Int.{int_max}
 use Rattle.vt_fixed.specs.Rounding.{part_of}
 use Rattle.fq_model.specs.declared.config.Config.{Config}
@@ -13,6 +13,7 @@ use Rattle.fq_model.specs.Rules.{IsLegal}
 use Rattle.fq_model.specs.Time.{last_moment}
 use Rattle.fq_laws.specs.Words.{is_take}
 use Rattle.gap_laws.specs.Words.{IsPrefix, AreCaps}
+use Rattle.length_laws.specs.Words.{CostsStayBelow, WeightStaysAbove}
 
 -- no request that is taken at a prefix of H is longer there than M, whichever tenant it is of, and no head is, where a
 -- request is taken
@@ -20,6 +21,13 @@ pub record AreAllNoLonger (C : Config) (H : History) (M : ℕ) : Type 0 where
   pub some : 1 ≤ M
   pub requests : (t : ℕ) → AreCaps C H t (λ r. M)
   pub heads : (e : Entry) (Q : History) (t : ℕ) → IsPrefix (e ∷ Q) H → is_take e.act ≡ true → head_length C Q t ≤ M
+
+-- no request of any tenant costs more than c, and no tenant that there is has a lesser weight than w
+pub record AllKeepLimits (C : Config) (H : History) (c w : ℕ) : Type 0 where
+  pub some_cost : 1 ≤ c
+  pub some_weight : 1 ≤ w
+  pub costs : (t : ℕ) → CostsStayBelow C H t c
+  pub weights : (t : ℕ) → t < length C.weights → WeightStaysAbove C H t w
 
 -- H is a legal history under 2dfq+, and none of its requests is longer than M
 pub record IsPacedWithin (C : Config) (H : History) (M : ℕ) : Type 0 where

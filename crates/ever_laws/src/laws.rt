@@ -1,5 +1,5 @@
 //! The laws, one function a law: its contract is the law, and its body is empty.
-ghost use Rattle.ever_laws.specs.Laws.{LeastRises, GroundRises, MostStaysNear, CapStaysNear, BoundHolds, LeadIsBounded, AccountsAreBounded, TakesAreBounded, GainIsBounded};
+ghost use Rattle.ever_laws.specs.Laws.{LeastRises, GroundRises, MostStaysNear, CapStaysNear, BoundHolds, LeadIsBounded, AccountsAreBounded, TakesAreBounded, ChargeIsBounded, OthersAreBounded, GainIsBounded, LengthsAreForetold, LeadIsForetold};
 
 /// What a tenant has at least, whatever comes of its requests that run, never falls.
 pub fn least_rises()
@@ -38,14 +38,35 @@ pub fn accounts_are_bounded()
     ensures { AccountsAreBounded }
 {}
 
-/// While a head waits another tenant, whose requests have a least length above 0, is taken so often at most: as often as
-/// that length goes into the bound and one request of the greatest length, and once more.
+/// While a head waits another tenant, whose requests have a least length above 0, is taken so often at most: as often
+/// as that length goes into the bound and one request of the greatest length, and once more.
 pub fn takes_are_bounded()
     ensures { TakesAreBounded }
+{}
+
+/// Meanwhile it is charged no more than twice the bound and what of it ran, whatever the least length.
+pub fn charge_is_bounded()
+    ensures { ChargeIsBounded }
+{}
+
+/// So all others together are charged no more than that for each tenant before a head that waits is taken.
+pub fn others_are_bounded()
+    ensures { OthersAreBounded }
 {}
 
 /// What the one gains on the other over a while in which both wait, in the manner of Golestani (1994), by any account
 /// and from any moment on.
 pub fn gain_is_bounded()
     ensures { GainIsBounded }
+{}
+
+/// Where no estimate, use or cost of any tenant passes c, and no weight falls below w, no request is longer than c at
+/// weight w.
+pub fn lengths_are_foretold()
+    ensures { LengthsAreForetold }
+{}
+
+/// So the bound is known before the first request comes.
+pub fn lead_is_foretold()
+    ensures { LeadIsForetold }
 {}

@@ -199,6 +199,10 @@ module _ (C : Config) (S : History) (f g r M c : ℕ) (ne : f ≢ g) (lim : InLi
         | inr t ↦ some_at C S P e.who e.moment f g r M c (takes_after f newer S) e.act t.0 t.1 t.2 ne lim (taken_before newer S) here first t.3 t.4 l h short on st
       ]
 
+-- what g has at most does not rise while its head waits
+pub most_waits : (C : Config) (newer S : History) (f g r M : ℕ) → f ≢ g → InLimits C → IsLegal C (newer ++ S) → AreNoLonger C (newer ++ S) f g M → WaitsFrom S (newer ++ S) g r → start_now C (newer ++ S) g + may_rise (longest M) C (newer ++ S) g ≤ start_now C S g + may_rise (longest M) C S g
+most_waits C newer S f g r M ne lim l h waits = (stand C S f g r M 0 ne lim newer l h (λ Q q is taken new. omega arith) waits).of_g
+
 -- a step less than the law says
 pub takes_fewer : (C : Config) (newer S : History) (f g r M c : ℕ) → f ≢ g → InLimits C → IsLegal C (newer ++ S) → AreNoLonger C (newer ++ S) f g M → AreNoShorter C S (newer ++ S) f c → WaitsFrom S (newer ++ S) g r → (pos (takes_after f newer S * c) +ℤ pos 1) ≤ℤ (pos c +ℤ int_max (pos 1) (worst_lead M C S g f +ℤ pos M))
 takes_fewer C newer S f g r M c ne lim l h short waits = (stand C S f g r M c ne lim newer l h short waits).few

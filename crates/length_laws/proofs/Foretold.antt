@@ -97,7 +97,7 @@ of_tenant t (Some q) own = (q, refl, eqb-true q.tenant t own)
 length_low : (cost c v w : ℕ) → 1 ≤ w → cost ≤ c → w ≤ v → length_of cost v ≤ length_of c w
 length_low cost c v w some low above = omega (arith, length_mono cost c v (omega (arith, some, above)) low, length_falls c w v some above)
 
-caps_low : (C : Config) (H : History) (t c w : ℕ) → IsLegal C H → 1 ≤ c → 1 ≤ w → CostsStayBelow C H t c → WeightStaysAbove C H t w → AreCaps C H t (λ r. length_of c w)
+pub caps_low : (C : Config) (H : History) (t c w : ℕ) → IsLegal C H → 1 ≤ c → 1 ≤ w → CostsStayBelow C H t c → WeightStaysAbove C H t w → AreCaps C H t (λ r. length_of c w)
 unfolding is_taken_of
 caps_low C H t c w l some weight costs weights = λ Q r is taken.
     let parts = both_true (is_of_tenant t (request_at Q r)) (is_taken Q r) taken in
@@ -110,7 +110,7 @@ waits_own : (Q : History) (t r : ℕ) → waits_for Q t r ≡ true → is_of_ten
 unfolding waits_for
 waits_own Q t r waits = (both_true (is_of_tenant t (request_at Q r)) (not (is_taken Q r)) waits).0
 
-head_low : (C : Config) (H Q : History) (t c w : ℕ) → IsLegal C H → 1 ≤ c → 1 ≤ w → CostsStayBelow C H t c → WeightStaysAbove C H t w → IsPrefix Q H → head_length C Q t ≤ length_of c w
+pub head_low : (C : Config) (H Q : History) (t c w : ℕ) → IsLegal C H → 1 ≤ c → 1 ≤ w → CostsStayBelow C H t c → WeightStaysAbove C H t w → IsPrefix Q H → head_length C Q t ≤ length_of c w
 head_low C H Q t c w l some weight costs weights is = go (head Q t) refl
   where
     asked : (r : ℕ) (o : Option Request) → request_at Q r ≡ o → is_of_tenant t o ≡ true → length_of_request C Q t o ≤ length_of c w

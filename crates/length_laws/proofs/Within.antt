@@ -84,7 +84,7 @@ older_within : (c : ℕ) (newer P : History) → all_within c (newer ++ P) ≡ t
 older_within c [] P e = e
 older_within c (x ∷ newer) P e = older_within c newer P (parts (act_within c x.act) (all_within c (newer ++ P)) e).1
 
-costs_within : (C : Config) (H : History) (t c : ℕ) → initial_cost (is_declared C.estimate) C.initial ≤ c → all_within c H ≡ true → CostsStayBelow C H t c
+pub costs_within : (C : Config) (H : History) (t c : ℕ) → initial_cost (is_declared C.estimate) C.initial ≤ c → all_within c H ≡ true → CostsStayBelow C H t c
 costs_within C H t c initial e = λ P r q is asked own.
     let at = older_within c is.0 P (subst (λ K. all_within c K ≡ true) is.1 e) in
     record {
@@ -93,7 +93,7 @@ costs_within C H t c initial e = λ P r q is asked own.
       cost = λ n. costs_low c P r n at;
     }
 
-weights_positive : (C : Config) (H : History) (t : ℕ) → InLimits C → IsLegal C H → t < length C.weights → WeightStaysAbove C H t 1
+pub weights_positive : (C : Config) (H : History) (t : ℕ) → InLimits C → IsLegal C H → t < length C.weights → WeightStaysAbove C H t 1
 weights_positive C H t lim l known = λ P is. weight_low C P t lim (legal_in C H P is l) known
 
 -- where all acts are within c, the limits c and 1 are kept
