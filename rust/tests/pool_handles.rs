@@ -11,6 +11,9 @@ use std::time::Duration;
 
 use twodfq::{Builder, Handle, Pool};
 
+/// How long a call may take that ends at once where its processor is its own.
+const LIMIT: Duration = Duration::from_secs(60);
+
 fn builder() -> Builder {
     Pool::builder().workers(2).tenant("acme", 1)
 }
@@ -19,7 +22,7 @@ fn builder() -> Builder {
 fn ends<T: Send + 'static>(call: impl FnOnce() -> T + Send + 'static) -> thread::Result<T> {
     let (sender, receiver) = mpsc::channel();
     thread::spawn(move || _ = sender.send(panic::catch_unwind(AssertUnwindSafe(call))));
-    receiver.recv_timeout(Duration::from_secs(20)).expect("the call ends")
+    receiver.recv_timeout(LIMIT).expect("the call ends")
 }
 
 #[test]
@@ -46,7 +49,7 @@ fn a_callback_may_drop_its_pool_while_a_journal_is_written() {
         ended.send(()).unwrap();
     });
     sender.send(pool).unwrap();
-    end.recv_timeout(Duration::from_secs(20)).unwrap();
+    end.recv_timeout(LIMIT).unwrap();
     assert_eq!(ends(|| journal.join()).unwrap().unwrap().journals, 1);
 }
 

@@ -1,11 +1,60 @@
-//! What a status costs those who hand jobs in meanwhile, and what a look for a name costs, with as many tenants as may be.
-use std::sync::atomic::{AtomicBool, Ordering};
+//! What a status costs those who call the pool meanwhile, and what a look for a name costs, with as many tenants as may be.
+use std::alloc::{GlobalAlloc, Layout, System};
+use std::cell::Cell;
+use std::fs;
+use std::sync::atomic::{AtomicBool, AtomicUsize, Ordering};
 use std::thread;
 use std::time::{Duration, Instant};
 
 use twodfq::Pool;
 
 const TENANTS: u32 = 4096;
+
+/// How long another call may take that nobody holds up.
+const LIMIT: Duration = Duration::from_secs(20);
+
+static ASKED: AtomicUsize = AtomicUsize::new(0);
+static ANSWERED: AtomicUsize = AtomicUsize::new(0);
+static IN_TIME: AtomicUsize = AtomicUsize::new(0);
+
+thread_local! {
+    /// How many blocks the thread takes from here on until it waits once for another thread's call; 0 is none.
+    static BLOCKS: Cell<usize> = const { Cell::new(0) };
+}
+
+/// The system's allocator, which waits in the midst of some blocks.
+struct Waits;
+
+unsafe impl GlobalAlloc for Waits {
+    unsafe fn alloc(&self, layout: Layout) -> *mut u8 {
+        let left = BLOCKS.get();
+        BLOCKS.set(left.saturating_sub(1));
+        if left == 1 {
+            wait_for_a_call();
+        }
+        System.alloc(layout)
+    }
+
+    unsafe fn dealloc(&self, block: *mut u8, layout: Layout) {
+        System.dealloc(block, layout);
+    }
+}
+
+#[global_allocator]
+static ALLOCATOR: Waits = Waits;
+
+/// Asks for a call of another thread, and waits for its end, or for the limit.
+fn wait_for_a_call() {
+    let number = ASKED.fetch_add(1, Ordering::SeqCst) + 1;
+    let begun = Instant::now();
+    while begun.elapsed() < LIMIT {
+        if ANSWERED.load(Ordering::SeqCst) == number {
+            IN_TIME.fetch_add(1, Ordering::SeqCst);
+            return;
+        }
+        thread::yield_now();
+    }
+}
 
 fn name(number: u32) -> String {
     format!("tenant-with-a-name-of-some-length-{number}")
@@ -16,44 +65,47 @@ fn pool() -> Pool {
     builder.workers(1).open().unwrap()
 }
 
-/// The longest time in which no call ends while a status is told, so no less than the pool's lock is held for it.
-fn longest_pause(pool: &Pool) -> Duration {
-    let [is_begun, is_over] = [(); 2].map(|()| AtomicBool::new(false));
-    thread::scope(|scope| {
-        scope.spawn(|| {
-            while !is_begun.load(Ordering::SeqCst) {
-                thread::yield_now();
-            }
-            assert_eq!(pool.status().tenants.len(), TENANTS as usize);
-            is_over.store(true, Ordering::SeqCst);
-        });
-        let (mut longest, mut last) = (Duration::ZERO, Instant::now());
-        while !is_over.load(Ordering::SeqCst) {
+/// Makes a call whenever one is asked for.
+fn answer(pool: &Pool, is_over: &AtomicBool) {
+    while !is_over.load(Ordering::SeqCst) {
+        let asked = ASKED.load(Ordering::SeqCst);
+        if ANSWERED.load(Ordering::SeqCst) < asked {
             assert!(pool.submit(TENANTS, 0, || ()).is_err()); // it takes the lock
-            let now = Instant::now();
-            longest = longest.max(now - last);
-            last = now;
-            is_begun.store(true, Ordering::SeqCst);
+            ANSWERED.store(asked, Ordering::SeqCst);
         }
-        longest.max(last.elapsed())
-    })
+        thread::yield_now();
+    }
 }
 
 #[test]
-fn a_status_holds_nobody_up() {
+fn others_call_while_a_status_takes_memory() {
     let pool = pool();
-    // a thread may lose its processor meanwhile, so one of some attempts has to do
-    let shortest = (0..200).map(|_| longest_pause(&pool)).find(|pause| *pause < Duration::from_micros(250));
-    assert!(shortest.is_some());
+    let is_over = AtomicBool::new(false);
+    thread::scope(|scope| {
+        scope.spawn(|| answer(&pool, &is_over));
+        for block in [1, 2, 1000, 4000] {
+            BLOCKS.set(block);
+            pool.status();
+        }
+        is_over.store(true, Ordering::SeqCst);
+    });
+    assert_eq!(IN_TIME.load(Ordering::SeqCst), 4);
+}
+
+/// The processor time that the calling thread has used.
+fn processor_time() -> Duration {
+    let text = fs::read_to_string("/proc/thread-self/schedstat").unwrap();
+    Duration::from_nanos(text.split(' ').next().unwrap().parse().unwrap())
 }
 
 #[test]
 fn a_name_is_soon_found() {
     let pool = pool();
     let last = name(TENANTS - 1);
-    let begun = Instant::now();
+    let begun = processor_time();
     for _ in 0..10_000 {
         assert_eq!(pool.tenant(&last), Some(TENANTS - 1));
     }
-    assert!(begun.elapsed() < Duration::from_millis(300), "{:?}", begun.elapsed());
+    let used = processor_time() - begun;
+    assert!(used < Duration::from_millis(300), "{used:?}");
 }

@@ -40,7 +40,8 @@ use state::Request;
 /// hand in and however long these take. Which job a worker takes next is decided by a [`Scheduler`](crate::Scheduler).
 ///
 /// The pool has no end: before the room of its scheduler ends it opens the next, and workers take from the old one until
-/// that is drained. Unless the caller names less room ([`Builder::entries`]) that is after more than a thousand million jobs.
+/// that is drained. Unless the caller names less room ([`Builder::entries`]) that is after 3,500,000,000 entries at the
+/// earliest, of which a job makes three.
 ///
 /// Dropped, it closes, and waits until all accepted jobs are done. Dropped by a job of its own, or by its journal's writer,
 /// it closes and waits for nothing, since who drops it would wait for itself.
@@ -210,13 +211,14 @@ impl Pool {
 
     /// Has the journals of the pool's schedulers written while it runs, in the format of `docs/FORMATS.md`: one after
     /// another, each from its line `journal 2` on, and each to be judged by `twodfq check`. It begins with the scheduler
-    /// that serves now, and ends with the pool. The writer has a thread of its own, and no worker ever waits for it.
+    /// that serves now, or where the first entries of that are kept no longer, with its head alone and then the next; it ends
+    /// with the pool. The writer has a thread of its own, and no worker ever waits for it.
     ///
-    /// A journal has as many entries as `check` reads, 4,194,304 less what the jobs that wait need. A little before them, at
-    /// the first submit at which nothing waits, the next scheduler takes over, and has the next journal. Where something
-    /// always waits the journal ends there, and at the next submit at which nothing does the next begins. So it is where a
-    /// writer is so slow that an entry is kept no longer when it comes to it (see [`Builder::keep`]). Where five schedulers
-    /// are over before it has come to them, the oldest of these is left out.
+    /// A journal has at most the 4,194,304 entries that `check` reads, less what the jobs that wait may need. A little before
+    /// that, at the first submit at which nothing waits, the next scheduler takes over, and has the next journal. Where
+    /// something always waits the journal ends early, and the next begins at the first submit at which nothing does. It ends
+    /// early too where its writer is so slow that an entry is kept no longer when it comes to it (see [`Builder::keep`]).
+    /// Where five schedulers are over before it has come to them, the oldest of these is left out.
     ///
     /// Fails where a journal is being written already, or its thread does not start.
     ///
