@@ -44,11 +44,13 @@ fn a_callback_may_drop_its_pool_while_a_journal_is_written() {
     let journal = pool.journal(io::sink()).unwrap();
     let (sender, receiver) = mpsc::channel::<Arc<Pool>>();
     let (ended, end) = mpsc::channel();
-    pool.submit(0, 0, || ()).unwrap().then(move |_| {
+    let (begin, begins) = mpsc::channel::<()>();
+    pool.submit(0, 0, move || begins.recv().is_ok()).unwrap().then(move |_| {
         drop(receiver.recv().unwrap());
         ended.send(()).unwrap();
     });
     sender.send(pool).unwrap();
+    begin.send(()).unwrap(); // so that a worker calls it, and not this thread
     end.recv_timeout(LIMIT).unwrap();
     assert_eq!(ends(|| journal.join()).unwrap().unwrap().journals, 1);
 }
