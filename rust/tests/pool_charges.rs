@@ -108,7 +108,6 @@ fn a_visitor_is_soon_served_beside_short_jobs() {
 }
 
 #[test]
-#[ignore = "under `2dfq` virtual time goes by the clock, whatever is charged"]
 fn a_visitor_is_soon_served_beside_jobs_whose_sleep_is_not_charged() {
     assert!(Flood { measure: Measure::Processor, job: sleep, jobs: 8000 }.lets_a_visitor_in(2000));
 }

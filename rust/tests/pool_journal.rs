@@ -125,7 +125,7 @@ fn the_journal_comes_while_the_pool_runs() {
         assert!(begun.elapsed() < Duration::from_secs(10));
         thread::sleep(Duration::from_millis(1));
     }
-    let head = "journal 2\nconfig 4 2dfq pessimistic 1000 4194304 10000\ntenant acme 1\ntenant globex 2\nkind get\n\
+    let head = "journal 2\nconfig 4 2dfq+ pessimistic 1000 4194304 10000\ntenant acme 1\ntenant globex 2\nkind get\n\
                 kind scan\nworkers 64 0 3\nsubmit 64 ";
     assert!(text.journals()[0].starts_with(head), "{}", text.journals()[0]);
 }
@@ -226,10 +226,10 @@ fn hand_in_without_rest(pool: &Pool, jobs: usize) {
 #[test]
 fn a_journal_of_a_long_history_ends_where_no_more_is_judged_and_the_next_begins_at_a_rest() {
     let text = Text::default();
-    let pool = builder().workers(1).room(40).judged(400).open().unwrap();
+    let pool = builder().workers(1).room(10).judged(200).open().unwrap();
     let journal = pool.journal(text.clone()).unwrap();
-    hand_in_without_rest(&pool, 300);
-    for number in 0..300 {
+    hand_in_without_rest(&pool, 70);
+    for number in 0..80 {
         while pool.status().waiting > 0 {
             thread::yield_now();
         }
@@ -242,8 +242,8 @@ fn a_journal_of_a_long_history_ends_where_no_more_is_judged_and_the_next_begins_
     texts.iter().for_each(|journal| judge(journal));
     let closes: Vec<usize> = texts.iter().map(|journal| lines(journal, "close").len()).collect();
     assert!(closes.len() > 1 && closes[0] == 0 && closes[1..].iter().all(|&count| count == 1), "{closes:?}");
-    // of 400 entries 80 are kept for 40 jobs that wait, 4 for the workers, and 4 for one job more and the close
-    assert_eq!(texts[0].lines().skip_while(|line| !line.starts_with("workers")).count(), 312);
+    // of 200 entries 20 are kept for 10 jobs that wait, 4 for the workers, and 4 for one job more and the close
+    assert_eq!(texts[0].lines().skip_while(|line| !line.starts_with("workers")).count(), 172);
 }
 
 #[test]
