@@ -26,8 +26,8 @@ bases_rise : (C : Config) (newer S : History) (t : ℕ) → tag_base C S t ≤ t
 bases_rise C [] S t = omega arith
 bases_rise C (e ∷ newer) S t = omega (arith, bases_rise C newer S t, base_rises C (newer ++ S) e t)
 
--- (of f: start, rise, charge and base later, and start, fall, charge and base at S; of g: start, rise and fall later, and
--- start and rise at S)
+-- (of f: start, rise, charge and base later, and start, fall, charge and base at S; of g: start, rise and fall later,
+-- and start and rise at S)
 no_more : (x2 u2 v2 b2 x d v b y2 w2 e2 y w lead : ℕ) → (pos (x2 + u2) -ℤ (pos y2 -ℤ pos e2)) ≤ℤ (pos lead -ℤ pos 1) → y2 + w2 ≤ y + w → (pos (y + w) -ℤ (pos x -ℤ pos d)) ≤ℤ (pos lead -ℤ pos 1) → x2 ≡ v2 + b2 → x ≡ v + b → b ≤ b2 → v2 ≤ v + 2 * lead
 no_more x2 u2 v2 b2 x d v b y2 w2 e2 y w lead ahead still behind starts started bases = omega (arith, ints, ahead, still, behind, starts, started, bases)
 

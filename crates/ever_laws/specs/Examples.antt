@@ -1,5 +1,5 @@
--- Worked histories that come to the bounds, the newest entry first. Three tenants have the weight 1. With two workers no
--- request is longer than 4 units, and with three no request is longer than 3.
+-- Worked histories that come to the bounds, the newest entry first. Three tenants have the weight 1. With two workers
+-- no request is longer than 4 units, and with three no request is longer than 3.
 use Rattle.std.specs.Prelude.{[], ◌∷◌}
 use Rattle.fq_model.specs.declared.config.Config.{Config}
 use Rattle.fq_model.specs.declared.config.Policy.TheVariants.{TwoDfqPlus}
@@ -88,8 +88,8 @@ three_cap_history =
     ∷ entry 1 0 (Submit 0 1 0 3 1)
     ∷ []
 
--- worker 0 runs a request of tenant 1, worker 1 one of tenant 0, and worker 2 takes three of tenant 2, the last of which
--- starts late; tenants 0 and 1 then wait
+-- worker 0 runs a request of tenant 1, worker 1 one of tenant 0, and worker 2 takes three of tenant 2, the last of
+-- which starts late; tenants 0 and 1 then wait
 unfoldable pub three_begun : History
 three_begun =
     entry 1 0 (Submit 8 1 0 3 9)

@@ -76,7 +76,8 @@ TakesAreBounded =
     → AreNoShorter C S (newer ++ S) f c → WaitsFrom S (newer ++ S) g r
     → pos (takes_after f newer S * c) ≤ℤ ((pos c +ℤ (bound C M +ℤ pos M)) -ℤ pos 1)
 
--- what f is charged at most while one head of another waits: twice that, and what ran of it
+-- what a tenant is charged at most while one head of another waits: twice that, and a request of the greatest length
+-- for each worker
 abbrev pub most_charged : Config → ℕ → ℕ
 most_charged C M = 2 * most_lead C M + C.workers * M
 

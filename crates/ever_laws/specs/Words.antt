@@ -22,7 +22,7 @@ pub record AreAllNoLonger (C : Config) (H : History) (M : ℕ) : Type 0 where
   pub requests : (t : ℕ) → AreCaps C H t (λ r. M)
   pub heads : (e : Entry) (Q : History) (t : ℕ) → IsPrefix (e ∷ Q) H → is_take e.act ≡ true → head_length C Q t ≤ M
 
--- no request of any tenant costs more than c, and no tenant that there is has a lesser weight than w
+-- no request costs more than c, and no tenant of the configuration has a lesser weight than w
 pub record AllKeepLimits (C : Config) (H : History) (c w : ℕ) : Type 0 where
   pub some_cost : 1 ≤ c
   pub some_weight : 1 ≤ w

@@ -1,6 +1,6 @@
 //! Worked histories that come to the bounds: their contracts say what the definitions give, and their bodies are empty.
-//! With two workers no request is longer than 4 units, and the last worker takes 2 units off a start at most. With three
-//! no request is longer than 3, and that is 2 units too.
+//! With two workers no request is longer than 4 units, and the last worker takes 2 units off a start at most. With
+//! three no request is longer than 3, and that is 2 units too.
 ghost use Rattle.std.specs.Prelude.{◌≡◌, ◌-ℤ◌, pos, Some};
 ghost use Rattle.fq_model.specs.History.{head};
 ghost use Rattle.fq_model.specs.Pace.{pace};
@@ -10,11 +10,11 @@ ghost use Rattle.ever_laws.specs.Words.{IsPacedWithin, time_now, most_of, least_
 ghost use Rattle.ever_laws.specs.Laws.{all_and_part, bound};
 ghost use Rattle.ever_laws.specs.Examples.{pair_config, most_history, cap_history, lead_history, three_config, three_cap_history, three_lead_history};
 
-/// What a tenant has at most, above virtual time. Both workers take a request of 1 of tenant 0, and the second one lifts
-/// virtual time to 1. The first request turns out to cost 4, so that the third one starts at 5: worker 1 takes 2 off and
-/// lifts virtual time to 3. Tenant 0 is then at 9, and what worker 0 runs may still turn out 3 longer: 12, which is 9
-/// above virtual time. The bound is 2 times 4 and a part of 2, and the unit that is missing is what worker 0 runs at
-/// least.
+/// What a tenant has at most, above virtual time. Both workers take a request of 1 of tenant 0, and the second one
+/// lifts virtual time to 1. The first request turns out to cost 4, so that the third one starts at 5: worker 1 takes 2
+/// off and lifts virtual time to 3. Tenant 0 is then at 9, and what worker 0 runs may still turn out 3 longer: 12,
+/// which is 9 above virtual time. The bound is 2 times 4 and a part of 2, and the unit that is missing is what worker 0
+/// runs at least.
 pub fn most()
     ensures within { IsPacedWithin pair_config most_history (units 4) }
     ensures time { time_now pair_config most_history ≡ units 3 }
@@ -47,10 +47,10 @@ pub fn lead()
     ensures bound { bound pair_config (units 4) ≡ pos (units 18) -ℤ pos 1 }
 {}
 
-/// The cap with three workers: the bound is met. Workers 0 and 1 take two requests of tenant 1, from 0 to 6, and worker 1
-/// takes 1 off and lifts virtual time to 2. There tenant 2 comes. Worker 2 takes three requests of it that cost 3 each:
-/// the last one starts at 8, and lifts virtual time to 8 - 2, and the cap to 8 + 3. Tenant 1 then waits from 6 on, and
-/// would be at 0 if what runs of it cost nothing.
+/// The cap with three workers: the bound is met. Workers 0 and 1 take two requests of tenant 1, from 0 to 6, and worker
+/// 1 takes 1 off and lifts virtual time to 2. There tenant 2 comes. Worker 2 takes three requests of it that cost 3
+/// each: the last one starts at 8, and lifts virtual time to 8 - 2, and the cap to 8 + 3. Tenant 1 then waits from 6
+/// on, and would be at 0 if what runs of it cost nothing.
 pub fn cap_of_three()
     ensures within { IsPacedWithin three_config three_cap_history (units 3) }
     ensures waits { head three_cap_history 1 ≡ Some 5 }
@@ -59,14 +59,14 @@ pub fn cap_of_three()
     ensures bound { all_and_part three_config (units 3) ≡ units 11 }
 {}
 
-/// The lead with three workers. A request of each tenant is taken from 0 to 3. That of tenant 2 costs 3, and its next one
-/// 2, so that the third one starts at 5: it lifts virtual time to 5 - 2, and the cap to 5 + 3. Tenants 0 and 1 then wait
-/// from 3 on; what runs of them costs nothing, and both are back at 0. The head of tenant 1 finishes at 3, and the three
-/// requests of 1 of tenant 0 at 1, 2 and 3: all workers take these. In 4 microseconds three workers over two weights make
-/// 6 units, and virtual time comes to the cap, 8. There tenant 0 starts with one request more. The three others turn out
-/// to cost 3 in place of 1: it is at 14, and tenant 1 at 0. The bound is 5 times 3 and a part of 2, less a step; the 3
-/// units that are missing are the lengths at which the three were taken. (A lead that begins at 0 where both begin to
-/// wait stays below 4 times 3.)
+/// The lead with three workers. A request of each tenant is taken from 0 to 3. That of tenant 2 costs 3, and its next
+/// one 2, so that the third one starts at 5: it lifts virtual time to 5 - 2, and the cap to 5 + 3. Tenants 0 and 1 then
+/// wait from 3 on; what runs of them costs nothing, and both are back at 0. The head of tenant 1 finishes at 3, and the
+/// three requests of 1 of tenant 0 at 1, 2 and 3: all workers take these. In 4 microseconds three workers over two
+/// weights make 6 units, and virtual time comes to the cap, 8. There tenant 0 starts with one request more. The three
+/// others turn out to cost 3 in place of 1: it is at 14, and tenant 1 at 0. The bound is 5 times 3 and a part of 2,
+/// less a step; the 3 units that are missing are the lengths at which the three were taken. (A lead that begins at 0
+/// where both begin to wait stays below 4 times 3.)
 pub fn lead_of_three()
     ensures within { IsPacedWithin three_config three_lead_history (units 3) }
     ensures waits { head three_lead_history 1 ≡ Some 8 }
