@@ -11,7 +11,7 @@ use virtual_clock::times::Times;
 
 #[test]
 fn time_passes_by_the_number_of_workers(rt: HostRuntime) {
-    let mut clock = Clock128::new(4);
+    let mut clock = Clock128::new(Policy::TwoDfq, 4);
     clock.enter(3);
     clock.staff(2);
     clock.to(1000000);
