@@ -3,7 +3,7 @@ use Rattle.std.specs.Prelude.{ℕ, ◌+◌, ◌≡◌, ◌==◌, max, Bool, if�
 use Rattle.vt_fixed.specs.Rounding.{length_of}
 use Rattle.fq_model.specs.declared.config.Config.{Config}
 use Rattle.fq_model.specs.declared.event.Act.{Act}
-use Rattle.fq_model.specs.declared.event.Act.TheVariants.{Submit, Take, Report, Done}
+use Rattle.fq_model.specs.declared.event.Act.TheVariants.{Submit, Take, Report, Done, Withdraw}
 use Rattle.fq_model.specs.History.{History, request_at, is_of_tenant, weight_at}
 use Rattle.fq_model.specs.Time.{open_requests}
 use Rattle.fq_model.specs.Charge.{charge, taken_weight, virtual_charge, net_charge, greatest, decayed_by_age}
@@ -53,6 +53,8 @@ change_of C P t (Report worker request used) =
 change_of C P t (Done worker request cost) =
     recharge (is_of_tenant t (request_at P request)) (if is_of_tenant t (request_at P request) then 1 else 0) (charge P request) cost
     (taken_weight C P t request)
+change_of C P t (Withdraw request) =
+    record no_change { closed = if is_of_tenant t (request_at P request) then 1 else 0 }
 change_of C P t _ = no_change
 
 -- the history Q has this change for tenant t over P

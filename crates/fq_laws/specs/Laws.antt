@@ -7,7 +7,7 @@ use Rattle.fq_model.specs.declared.event.Reply.{Reply}
 use Rattle.fq_model.specs.declared.event.Reply.TheVariants as answer
 use Rattle.fq_model.specs.declared.event.Cause.{Cause}
 use Rattle.fq_model.specs.Limits.{InLimits, IsWithin, IsWeight}
-use Rattle.fq_model.specs.History.{History, count_acts, is_submit_of, is_take_of, is_done_of, is_submitted, is_closed, waiting, running, running_on, Runs, weight_at, pool_at, WaitsFor, IsHead, head, queue}
+use Rattle.fq_model.specs.History.{History, count_acts, is_submit_of, is_take_of, is_done_of, is_removal_of, is_end_of, is_submitted, is_taken, is_withdrawn, is_closed, waiting, running, running_on, Runs, weight_at, pool_at, WaitsFor, IsHead, head, queue}
 use Rattle.fq_model.specs.Keys.{HeadKeys, keys_at, IsChoiceAt}
 use Rattle.fq_model.specs.Rules.{IsLegal, RunsNothing, Answers}
 use Rattle.fq_model.specs.Outcome.{Outcome}
@@ -15,14 +15,22 @@ use Rattle.fq_laws.specs.Words.{first, Member, Ascends, concerns, Leaves, caller
 
 -- ---- requests
 
--- a request is submitted, taken and done once at most
+-- a request is submitted, taken and done once at most, it is taken or withdrawn once at most, and so it is done or
+-- withdrawn once at most
 pub record Once (P : History) (r : ℕ) : Type 0 where
   pub submitted : count_acts (is_submit_of r) P ≤ 1
   pub taken : count_acts (is_take_of r) P ≤ 1
   pub done : count_acts (is_done_of r) P ≤ 1
+  pub removed : count_acts (is_removal_of r) P ≤ 1
+  pub ended : count_acts (is_end_of r) P ≤ 1
 
 abbrev pub EachOnce : Type 0
 EachOnce = (C : Config) (P : History) (r : ℕ) → IsLegal C P → Once P r
+
+-- a withdrawn request is never taken
+abbrev pub WithdrawnIsNotTaken : Type 0
+WithdrawnIsNotTaken =
+    (C : Config) (P : History) (r : ℕ) → IsLegal C P → is_withdrawn P r ≡ true → is_taken P r ≡ false
 
 -- the number of a submitted request fits 32 bits
 abbrev pub NumbersFit : Type 0

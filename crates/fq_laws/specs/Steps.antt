@@ -24,18 +24,6 @@ Follows KeptIs Comes before after =
     (C : Config) (P : History) (e : Entry) → InLimits C → IsLegal C (e ∷ P) → Comes P e → KeptIs C P before
     → KeptIs C (e ∷ P) after
 
--- the act opens no request and closes none, and changes no weight and no number of workers
-abbrev pub passes : Act → Bool
-passes (Take worker request estimate) = true
-passes (Report worker request used) = true
-passes Close = true
-passes _ = false
-
--- the entry is of this moment, and is a Take, a Report or a Close
-pub record Passes (moment : ℕ) (P : History) (e : Entry) : Type 0 where
-  pub moment_is : e.moment ≡ moment
-  pub act_passes : passes e.act ≡ true
-
 -- the entry is of this moment, and submits a request of this tenant
 pub record Submits (moment tenant : ℕ) (P : History) (e : Entry) : Type 0 where
   pub request : ℕ
@@ -45,14 +33,12 @@ pub record Submits (moment tenant : ℕ) (P : History) (e : Entry) : Type 0 wher
   pub moment_is : e.moment ≡ moment
   pub act_is : e.act ≡ Submit request tenant kind declared label
 
--- the entry is of this moment, and is the Done of a request of this tenant
-pub record Completes (moment tenant : ℕ) (P : History) (e : Entry) : Type 0 where
-  pub worker : ℕ
+-- the entry is of this moment, and is the Done or the Withdraw of a request of this tenant
+pub record Ends (moment tenant : ℕ) (P : History) (e : Entry) : Type 0 where
   pub request : ℕ
-  pub cost : ℕ
   pub asked : Request
   pub moment_is : e.moment ≡ moment
-  pub act_is : e.act ≡ Done worker request cost
+  pub ends : is_end_of request e.act ≡ true
   pub asked_is : request_at P request ≡ Some asked
   pub tenant_is : asked.tenant ≡ tenant
 

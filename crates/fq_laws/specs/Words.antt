@@ -3,7 +3,7 @@ use Rattle.std.specs.Prelude.{ℕ, ◌*◌, ◌<◌, ◌≡◌, ◌==◌, ◌⊎
 use Rattle.vt_fixed.specs.Rounding.{steps_per_unit}
 use Rattle.vt_fixed.specs.declared.limits.TheConstants.{GREATEST_COST, MOST_WORKERS}
 use Rattle.fq_model.specs.declared.event.Act.{Act}
-use Rattle.fq_model.specs.declared.event.Act.TheVariants.{Submit, Take, Report, Done, Weight}
+use Rattle.fq_model.specs.declared.event.Act.TheVariants.{Submit, Take, Report, Done, Weight, Withdraw}
 use Rattle.fq_model.specs.declared.config.Config.{Config}
 use Rattle.fq_model.specs.declared.config.Policy.{Policy}
 use Rattle.fq_model.specs.declared.config.Policy.TheVariants.{TwoDfqPlus}
@@ -47,6 +47,7 @@ is_quiet (Submit request tenant kind declared label) = false
 is_quiet (Take worker request estimate) = false
 is_quiet (Report worker request used) = false
 is_quiet (Done worker request cost) = false
+is_quiet (Withdraw request) = false
 is_quiet _ = true
 
 abbrev pub is_take : Act → Bool
@@ -65,6 +66,7 @@ concerns P t (Take worker request estimate) = is_of_tenant t (request_at P reque
 concerns P t (Report worker request used) = is_of_tenant t (request_at P request)
 concerns P t (Done worker request cost) = is_of_tenant t (request_at P request)
 concerns P t (Weight tenant weight) = tenant == t
+concerns P t (Withdraw request) = is_of_tenant t (request_at P request)
 concerns P t _ = false
 
 -- tenant t stands in Q as it stands in P
@@ -86,6 +88,7 @@ caller (call.Done who moment worker cost) = who
 caller (call.Close who moment) = who
 caller (call.Weight who moment tenant weight) = who
 caller (call.Workers who moment count) = who
+caller (call.Withdraw who moment request) = who
 
 -- the moment that the call names
 abbrev pub named_moment : Call → ℕ
@@ -96,6 +99,7 @@ named_moment (call.Done who moment worker cost) = moment
 named_moment (call.Close who moment) = moment
 named_moment (call.Weight who moment tenant weight) = moment
 named_moment (call.Workers who moment count) = moment
+named_moment (call.Withdraw who moment request) = moment
 
 -- Q is P, or P and one entry more, of this caller and at the moment at which its call takes effect
 abbrev pub Extends : ℕ → ℕ → History → History → Type 0

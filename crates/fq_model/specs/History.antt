@@ -1,8 +1,8 @@
 -- A history is the list of its entries, the newest first. What is submitted, waits and runs in it.
-use Rattle.std.specs.Prelude.{ℕ, suc, ◌^◌, ◌≤◌, ◌≡◌, ◌==◌, max, Bool, true, false, not, ◌&&◌, ◌||◌, if◌then◌else◌, List, [], ◌∷◌, ◌++◌, Option, Some, None, reverse, drop, slice_index}
+use Rattle.std.specs.Prelude.{ℕ, suc, ◌^◌, ◌≤◌, ◌≡◌, ◌==◌, max, Bool, true, false, not, ◌&&◌, ◌||◌, if◌then◌else◌, List, [], ◌∷◌, ◌++◌, Option, Some, None, reverse, drop, filter, slice_index}
 use Rattle.fq_model.specs.declared.config.Config.{Config}
 use Rattle.fq_model.specs.declared.event.Act.{Act}
-use Rattle.fq_model.specs.declared.event.Act.TheVariants.{Submit, Take, Report, Done, Close, Weight, Workers}
+use Rattle.fq_model.specs.declared.event.Act.TheVariants.{Submit, Take, Report, Done, Close, Weight, Workers, Withdraw}
 use Rattle.fq_model.specs.declared.event.Entry.{Entry}
 use Rattle.fq_model.specs.Sums.{count_below, least_below}
 
@@ -33,6 +33,23 @@ abbrev pub is_done_of : ℕ → Act → Bool
 is_done_of r (Done worker request cost) = request == r
 is_done_of r _ = false
 
+-- the act is a Withdraw of r
+abbrev pub is_withdraw_of : ℕ → Act → Bool
+is_withdraw_of r (Withdraw request) = request == r
+is_withdraw_of r _ = false
+
+-- the act removes r from those that wait: it is a Take or a Withdraw of r
+abbrev pub is_removal_of : ℕ → Act → Bool
+is_removal_of r (Take worker request estimate) = request == r
+is_removal_of r (Withdraw request) = request == r
+is_removal_of r _ = false
+
+-- the act ends r: it is a Done or a Withdraw of r
+abbrev pub is_end_of : ℕ → Act → Bool
+is_end_of r (Done worker request cost) = request == r
+is_end_of r (Withdraw request) = request == r
+is_end_of r _ = false
+
 abbrev pub is_close : Act → Bool
 is_close Close = true
 is_close _ = false
@@ -41,11 +58,16 @@ abbrev pub is_submit : Act → Bool
 is_submit (Submit request tenant kind declared label) = true
 is_submit _ = false
 
--- the act changes a weight or the number of workers
+-- the act changes a weight or the number of workers, or withdraws a request
 abbrev pub is_change : Act → Bool
 is_change (Weight tenant weight) = true
 is_change (Workers count) = true
+is_change (Withdraw request) = true
 is_change _ = false
+
+abbrev pub is_withdraw : Act → Bool
+is_withdraw (Withdraw request) = true
+is_withdraw _ = false
 
 -- how many acts pass the test
 abbrev pub count_acts : (Act → Bool) → History → ℕ
@@ -66,12 +88,23 @@ is_taken P r = has_act (is_take_of r) P
 unfoldable pub is_done : History → ℕ → Bool
 is_done P r = has_act (is_done_of r) P
 
+unfoldable pub is_withdrawn : History → ℕ → Bool
+is_withdrawn P r = has_act (is_withdraw_of r) P
+
+-- r is taken or withdrawn
+unfoldable pub is_removed : History → ℕ → Bool
+is_removed P r = has_act (is_removal_of r) P
+
+-- r is done or withdrawn
+unfoldable pub is_ended : History → ℕ → Bool
+is_ended P r = has_act (is_end_of r) P
+
 unfoldable pub is_closed : History → Bool
 is_closed P = has_act is_close P
 
--- r is submitted and not taken
+-- r is submitted, and neither taken nor withdrawn
 unfoldable pub is_waiting : History → ℕ → Bool
-is_waiting P r = is_submitted P r && not (is_taken P r)
+is_waiting P r = is_submitted P r && not (is_removed P r)
 
 -- r is taken and not done
 unfoldable pub is_running : History → ℕ → Bool
@@ -123,7 +156,7 @@ is_of_tenant t (Some q) = q.tenant == t
 
 -- r is a request of tenant t, and waits
 unfoldable pub waits_for : History → ℕ → ℕ → Bool
-waits_for P t r = is_of_tenant t (request_at P r) && not (is_taken P r)
+waits_for P t r = is_of_tenant t (request_at P r) && not (is_removed P r)
 
 -- the head of tenant t: its least waiting request, if one waits
 unfoldable pub head : History → ℕ → Option ℕ
@@ -188,6 +221,8 @@ abbrev pub queue_after : History → ℕ → Act → List ℕ → List ℕ
 queue_after P t (Submit request tenant kind declared label) older = if tenant == t then older ++ request ∷ [] else older
 queue_after P t (Take worker request estimate) older =
     if is_of_tenant t (request_at P request) then drop 1 older else older
+queue_after P t (Withdraw request) older =
+    if is_of_tenant t (request_at P request) then filter (λ r. not (r == request)) older else older
 queue_after P t _ older = older
 
 -- the waiting requests of tenant t, the oldest first (a law ties it to `waits_for`)

@@ -23,7 +23,9 @@ is_submit_for t _ = false
 unfoldable pub clock_base : Config → History → ℕ → ℕ
 clock_base C [] t = 0
 clock_base C (e ∷ P) t =
-    if is_submit_for t e.act && is_none (head P t) then max (clock_time C P e.moment - virtual_charge C P t) (clock_base C P t) else clock_base C P t
+    if is_submit_for t e.act && is_none (head P t)
+    then max (clock_time C P e.moment - virtual_charge C P t) (clock_base C P t)
+    else clock_base C P t
 
 -- ---- under 2dfq+
 

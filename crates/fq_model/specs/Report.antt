@@ -6,7 +6,7 @@ use Rattle.fq_model.specs.declared.event.Act.TheVariants.{Submit}
 use Rattle.fq_model.specs.declared.lag.TenantLag.{TenantLag}
 use Rattle.fq_model.specs.declared.limits.TheConstants.{MOST_CELLS}
 use Rattle.fq_model.specs.Sums.{least_below, list_below}
-use Rattle.fq_model.specs.History.{History, is_submitted, is_done, request_bound}
+use Rattle.fq_model.specs.History.{History, is_submitted, is_ended, request_bound}
 use Rattle.fq_model.specs.Time.{last_moment}
 use Rattle.fq_model.specs.Charge.{net_charge}
 use Rattle.fq_model.specs.Fluid.{fluid_service}
@@ -99,10 +99,10 @@ least_lag rows = least_sample (map (λ row. row.least) rows)
 abbrev pub greatest_lag : List TenantLag → ℤ
 greatest_lag rows = greatest_sample (map (λ row. row.greatest) rows)
 
--- r is submitted and not done
+-- r is submitted, and neither done nor withdrawn
 abbrev pub is_unfinished : History → ℕ → Bool
-is_unfinished H r = is_submitted H r && not (is_done H r)
+is_unfinished H r = is_submitted H r && not (is_ended H r)
 
--- the least request that is submitted and not done, if there is one
+-- the least request that waits or runs, if there is one
 unfoldable pub unfinished : History → Option ℕ
 unfinished H = least_below (is_unfinished H) request_bound

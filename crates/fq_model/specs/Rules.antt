@@ -1,15 +1,15 @@
 -- Legal histories, and what each call is answered.
-use Rattle.std.specs.Prelude.{ℕ, ◌+◌, ◌*◌, ◌<◌, ◌≤◌, ◌≡◌, ◌==◌, nat_lt, nat_le, Bool, false, ◌||◌, if◌then◌else◌, List, [], ◌∷◌, ◌++◌, Option, Some, None, is_some, is_none, unwrap_or, length, MatchBool}
+use Rattle.std.specs.Prelude.{ℕ, ◌+◌, ◌*◌, ◌<◌, ◌≤◌, ◌≡◌, ◌==◌, nat_lt, nat_le, Bool, true, false, not, ◌||◌, if◌then◌else◌, List, [], ◌∷◌, ◌++◌, Option, Some, None, is_some, is_none, unwrap_or, length, MatchBool}
 use Rattle.fq_model.specs.declared.config.Config.{Config}
 use Rattle.fq_model.specs.declared.event.Act.{Act}
-use Rattle.fq_model.specs.declared.event.Act.TheVariants.{Submit, Take, Report, Done, Close, Weight, Workers}
+use Rattle.fq_model.specs.declared.event.Act.TheVariants.{Submit, Take, Report, Done, Close, Weight, Workers, Withdraw}
 use Rattle.fq_model.specs.declared.event.Call.{Call}
 use Rattle.fq_model.specs.declared.event.Call.TheVariants as call
 use Rattle.fq_model.specs.declared.event.Reply.{Reply}
 use Rattle.fq_model.specs.declared.event.Reply.TheVariants as answer
 use Rattle.fq_model.specs.declared.event.Cause.{Cause}
 use Rattle.fq_model.specs.declared.event.Cause.TheVariants as cause
-use Rattle.fq_model.specs.History.{History, Request, request_at, waiting, running, running_on, submits, is_closed, Runs, last_use, pool_at}
+use Rattle.fq_model.specs.History.{History, Request, request_at, is_waiting, waiting, running, running_on, submits, is_closed, Runs, last_use, pool_at}
 pub use Rattle.fq_model.specs.Rows.{first_true}
 use Rattle.fq_model.specs.Limits.{IsWithin, IsWeight, is_outside}
 use Rattle.vt_fixed.specs.declared.limits.TheConstants.{GREATEST_COST, GREATEST_MOMENT, GREATEST_WEIGHT}
@@ -82,6 +82,7 @@ Fits C P m (Done worker request cost) = FitsUse P worker request cost
 Fits C P m Close = is_closed P ≡ false
 Fits C P m (Weight tenant weight) = FitsWeight C P tenant weight
 Fits C P m (Workers count) = FitsWorkers C P count
+Fits C P m (Withdraw request) = is_waiting P request ≡ true
 
 -- moments do not fall, and each act fits the history before it
 abbrev pub IsLegal : Config → History → Type 0
@@ -147,6 +148,15 @@ workers_refusal C P count = first_true
     ∷ (nat_lt C.entries (needed_room P 2), cause.Full C.entries)
     ∷ [])
 
+-- why a withdraw is refused, if it is
+abbrev pub withdraw_refusal : History → ℕ → Option Cause
+withdraw_refusal P request = first_true ((not (is_waiting P request), cause.NotWaiting request) ∷ [])
+
+-- the label of a known request, else 0
+abbrev pub label_of : Option Request → ℕ
+label_of None = 0
+label_of (Some q) = q.label
+
 -- the reply is this one, and the history stays
 abbrev pub IsAnswered : History → Reply → Reply → History → Type 0
 IsAnswered P wanted reply P2 = (reply ≡ wanted) × (P2 ≡ P)
@@ -202,3 +212,6 @@ Answers C P (call.Weight who moment tenant weight) reply P2 =
 Answers C P (call.Workers who moment count) reply P2 =
     RefusedOrElse (workers_refusal C P count) P reply P2
     (IsAccepted P who moment (Workers count) answer.Accepted reply P2)
+Answers C P (call.Withdraw who moment request) reply P2 =
+    RefusedOrElse (withdraw_refusal P request) P reply P2
+    (IsAccepted P who moment (Withdraw request) (answer.Withdrawn (label_of (request_at P request))) reply P2)

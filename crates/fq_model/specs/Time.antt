@@ -4,13 +4,13 @@ use Rattle.vt_fixed.specs.Rounding.{advance_of}
 use Rattle.fq_model.specs.declared.config.Config.{Config}
 use Rattle.vt_fixed.specs.declared.limits.TheConstants.{GREATEST_MOMENT}
 use Rattle.fq_model.specs.Sums.{sum_below, count_below}
-use Rattle.fq_model.specs.History.{History, request_at, is_of_tenant, is_done, request_bound, weight_at, pool_at}
+use Rattle.fq_model.specs.History.{History, request_at, is_of_tenant, is_ended, request_bound, weight_at, pool_at}
 
--- r is a request of tenant t, and is not done
+-- r is a request of tenant t, and is neither done nor withdrawn
 unfoldable pub is_open : History → ℕ → ℕ → Bool
-is_open P t r = is_of_tenant t (request_at P r) && not (is_done P r)
+is_open P t r = is_of_tenant t (request_at P r) && not (is_ended P r)
 
--- how many requests of tenant t are submitted and not done
+-- how many requests of tenant t wait or run
 unfoldable pub open_requests : History → ℕ → ℕ
 open_requests P t = count_below (is_open P t) request_bound
 

@@ -32,9 +32,9 @@ pub enum Policy {
     Msf2q,
     /// As `Wf2q`, with a start that is staggered by worker (after Mace and others, 2016).
     TwoDfq,
-    /// As `TwoDfq`, with a virtual time that stays near what was served: it is capped at the greatest finish at which a
-    /// request was taken, and a Take whose request was not eligible lifts it to what makes it eligible (after Bennett and
-    /// Zhang, 1996; the rules are this project's own).
+    /// As `TwoDfq`, with a virtual time that stays near what was served: it is capped at the greatest finish at which
+    /// a request was taken, and a Take whose request was not eligible lifts it to what makes it eligible (after Bennett
+    /// and Zhang, 1996; the rules are this project's own).
     TwoDfqPlus,
 }
 

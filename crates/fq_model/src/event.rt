@@ -45,6 +45,10 @@ pub enum Act {
     Workers {
         count: u32,
     },
+    /// A waiting request was withdrawn: it is never taken.
+    Withdraw {
+        request: u32,
+    },
 }
 
 /// One accepted call: who made it, at what moment in microseconds, and what it did.
@@ -82,6 +86,8 @@ pub enum Cause {
     Weight(u32),
     /// A number of workers that is 0, or more than the scheduler was opened with.
     Workers(u32),
+    /// No request of this number waits: it was never submitted, or is taken or withdrawn.
+    NotWaiting(u32),
 }
 
 impl fmt::Display for Cause {
@@ -130,6 +136,7 @@ impl fmt::Display for Cause {
                 n as u64,
                 " workers, and there may be 1 to as many as at the opening",
             ),
+            Cause::NotWaiting(r) => numbered(f, "request ", r as u64, " does not wait"),
         }
     }
 }
@@ -194,6 +201,12 @@ pub enum Call {
         moment: u64,
         count: u32,
     },
+    /// A request that waits is to be taken by nobody.
+    Withdraw {
+        who: u32,
+        moment: u64,
+        request: u32,
+    },
 }
 
 /// What a scheduler answers.
@@ -215,6 +228,10 @@ pub enum Reply {
     Drained,
     /// There are so many workers now, and this one is not among them; it may ask again.
     Retired(u32),
+    /// The request is withdrawn; its job has this label.
+    Withdrawn {
+        label: u64,
+    },
     /// Nothing was done, for this cause.
     Refused(Cause),
 }

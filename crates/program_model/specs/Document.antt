@@ -9,7 +9,7 @@ use Rattle.fq_model.specs.declared.config.Config.{Config}
 use Rattle.program_model.specs.declared.fault.ScriptKind.{ScriptKind}
 use Rattle.program_model.specs.declared.fault.ScriptKind.TheVariants.{Word, Twice, TooMany, Header, Missing}
 use Rattle.program_model.specs.declared.version.Version.{Version}
-use Rattle.program_model.specs.declared.version.Version.TheVariants.{First, Second}
+use Rattle.program_model.specs.declared.version.Version.TheVariants.{First, Second, Third}
 use Rattle.vt_fixed.specs.declared.limits.TheConstants.{GREATEST_COST, GREATEST_WEIGHT, MOST_WORKERS}
 use Rattle.fq_model.specs.declared.limits.TheConstants.{MOST_TENANTS, MOST_KINDS, MOST_PAIRS, LEAST_ENTRIES, MOST_ENTRIES, MOST_REQUESTS}
 use Rattle.program_model.specs.Reading.{◌>>=◌, at_line, begins_with, is_empty}
@@ -131,11 +131,12 @@ abbrev pub below_header : {A : Type 0} → LineReader A → List (List ℕ) → 
 below_header reader [] = Err (2, Missing)
 below_header reader (line ∷ lines) = at_line 2 (config_line (words_of line)) >>= λ d. with_lines reader 3 d lines
 
--- the version that a first line names: `<title> 1` or `<title> 2`, where the title is `script` or `journal`
+-- the version that a first line names: `<title> 1`, `<title> 2` or `<title> 3`, where the title is `script` or `journal`
 abbrev pub version_of : List ℕ → List ℕ → Option Version
 version_of title line =
     if bytes_eq line (title ++ codes " 1") then Some First
     else if bytes_eq line (title ++ codes " 2") then Some Second
+    else if bytes_eq line (title ++ codes " 3") then Some Third
     else None
 
 -- what follows a first line that names this version, if it names one

@@ -1,14 +1,14 @@
 -- Journals read back: documents whose body is the entries of a history, one a line; and the call that made an entry.
 use Rattle.std.specs.Prelude.{ℕ, if◌then◌else◌, List, Result, Ok, Err, codes}
 use Rattle.fq_model.specs.declared.event.Act.{Act}
-use Rattle.fq_model.specs.declared.event.Act.TheVariants.{Submit, Take, Report, Done, Close, Weight, Workers}
+use Rattle.fq_model.specs.declared.event.Act.TheVariants.{Submit, Take, Report, Done, Close, Weight, Workers, Withdraw}
 use Rattle.fq_model.specs.declared.event.Call.{Call}
 use Rattle.fq_model.specs.declared.event.Call.TheVariants as calls
 use Rattle.fq_model.specs.declared.event.Entry.{Entry}
 use Rattle.program_model.specs.declared.fault.ScriptKind.{ScriptKind}
 use Rattle.program_model.specs.declared.fault.ScriptKind.TheVariants.{Word}
 use Rattle.program_model.specs.declared.version.Version.{Version}
-use Rattle.program_model.specs.declared.version.Version.TheVariants.{First, Second}
+use Rattle.program_model.specs.declared.version.Version.TheVariants.{First, Second, Third}
 use Rattle.program_model.specs.Reading.{◌>>=◌, begins_with}
 use Rattle.program_model.specs.Lines.{Words, with_count, number_at, index_at}
 use Rattle.program_model.specs.Document.{Document, document_of}
@@ -68,6 +68,12 @@ workers_act words = do
   count ← index_at words 3
   Ok (Workers count)
 
+-- `withdraw <who> <moment> <request>`
+unfoldable pub withdraw_act : Words → Result Act ScriptKind
+withdraw_act words = do
+  request ← index_at words 3
+  Ok (Withdraw request)
+
 -- the entry of a line of this many words: its caller, its moment, and its act
 unfoldable pub entry_with : ℕ → (Words → Result Act ScriptKind) → Words → Result Entry ScriptKind
 entry_with count act_of line = do
@@ -94,10 +100,16 @@ changing_entry_of words =
     else if begins_with words (codes "workers") then entry_with 4 workers_act words
     else fixed_entry_of words
 
+-- the entry of a line, where they may change and requests may be withdrawn
+unfoldable pub withdrawing_entry_of : Words → Result Entry ScriptKind
+withdrawing_entry_of words =
+    if begins_with words (codes "withdraw") then entry_with 4 withdraw_act words else changing_entry_of words
+
 -- the entry of a line of this version
 abbrev pub entry_of_words : Version → Words → Result Entry ScriptKind
 entry_of_words First words = fixed_entry_of words
 entry_of_words Second words = changing_entry_of words
+entry_of_words Third words = withdrawing_entry_of words
 
 -- the journal that a text spells, or its first fault
 abbrev pub journal_of : List ℕ → Result Journal (ℕ × ScriptKind)
@@ -112,6 +124,7 @@ call_of_act who moment (Done worker request cost) = calls.Done who moment worker
 call_of_act who moment Close = calls.Close who moment
 call_of_act who moment (Weight tenant weight) = calls.Weight who moment tenant weight
 call_of_act who moment (Workers count) = calls.Workers who moment count
+call_of_act who moment (Withdraw request) = calls.Withdraw who moment request
 
 -- the call whose entry this may be: with its caller, its moment, and what a caller says of such an act
 abbrev pub call_of : Entry → Call

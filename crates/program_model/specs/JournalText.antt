@@ -2,13 +2,13 @@
 use Rattle.std.specs.Prelude.{ℕ, if◌then◌else◌, List, [], ◌∷◌, ◌++◌, codes}
 use Rattle.std.specs.Fmt.{decimal}
 use Rattle.std.specs.List.{list_any}
-use Rattle.fq_model.specs.History.{is_change}
+use Rattle.fq_model.specs.History.{is_change, is_withdraw}
 use Rattle.fq_model.specs.declared.config.Config.{Config}
 use Rattle.fq_model.specs.declared.event.Act.{Act}
-use Rattle.fq_model.specs.declared.event.Act.TheVariants.{Submit, Take, Report, Done, Close, Weight, Workers}
+use Rattle.fq_model.specs.declared.event.Act.TheVariants.{Submit, Take, Report, Done, Close, Weight, Workers, Withdraw}
 use Rattle.fq_model.specs.declared.event.Entry.{Entry}
 use Rattle.program_model.specs.declared.version.Version.{Version}
-use Rattle.program_model.specs.declared.version.Version.TheVariants.{First, Second}
+use Rattle.program_model.specs.declared.version.Version.TheVariants.{First, Second, Third}
 use Rattle.fq_model.specs.Spelling.{policy_word, estimator_word}
 
 -- the rest of a line: these numbers, each after a space
@@ -29,6 +29,7 @@ act_line who moment (Done worker request cost) =
 act_line who moment Close = codes "close" ++ numbers_text (who ∷ moment ∷ [])
 act_line who moment (Weight tenant weight) = codes "weight" ++ numbers_text (who ∷ moment ∷ tenant ∷ weight ∷ [])
 act_line who moment (Workers count) = codes "workers" ++ numbers_text (who ∷ moment ∷ count ∷ [])
+act_line who moment (Withdraw request) = codes "withdraw" ++ numbers_text (who ∷ moment ∷ request ∷ [])
 
 -- the line of an entry
 abbrev pub entry_line : Entry → List ℕ
@@ -39,14 +40,19 @@ abbrev pub entries_text : List Entry → List ℕ
 entries_text [] = []
 entries_text (e ∷ es) = entry_line e ++ entries_text es
 
--- the version of a journal: the second where an entry changes a weight or the number of workers
+-- the version of a journal: the third where a request is withdrawn, else the second where an entry changes a weight or
+-- the number of workers
 abbrev pub version_for : List Entry → Version
-version_for entries = if list_any (λ e. is_change e.act) entries then Second else First
+version_for entries =
+    if list_any (λ e. is_withdraw e.act) entries then Third
+    else if list_any (λ e. is_change e.act) entries then Second
+    else First
 
 -- the first line
 abbrev pub header_line : Version → List ℕ
 header_line First = codes "journal 1\n"
 header_line Second = codes "journal 2\n"
+header_line Third = codes "journal 3\n"
 
 -- `config <workers> <policy> <estimate> <initial> <entries> <requests>`
 abbrev pub settings_line : Config → List ℕ

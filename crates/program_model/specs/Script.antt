@@ -5,7 +5,7 @@ use Rattle.fq_model.specs.declared.event.Call.TheVariants as calls
 use Rattle.program_model.specs.declared.fault.ScriptKind.{ScriptKind}
 use Rattle.program_model.specs.declared.fault.ScriptKind.TheVariants.{Word}
 use Rattle.program_model.specs.declared.version.Version.{Version}
-use Rattle.program_model.specs.declared.version.Version.TheVariants.{First, Second}
+use Rattle.program_model.specs.declared.version.Version.TheVariants.{First, Second, Third}
 use Rattle.program_model.specs.Reading.{◌>>=◌, begins_with}
 use Rattle.program_model.specs.Lines.{Words, with_count, number_at, index_at}
 use Rattle.program_model.specs.Document.{Document, document_of}
@@ -82,6 +82,15 @@ workers_of line = do
   count ← index_at words 3
   Ok (calls.Workers who moment count)
 
+-- `withdraw <who> <moment> <request>`
+unfoldable pub withdraw_of : Words → Result Call ScriptKind
+withdraw_of line = do
+  words ← with_count 4 line
+  who ← index_at words 1
+  moment ← number_at words 2
+  request ← index_at words 3
+  Ok (calls.Withdraw who moment request)
+
 -- the call of a line, where neither weights nor the number of workers change
 unfoldable pub fixed_call_of : Words → Result Call ScriptKind
 fixed_call_of words =
@@ -99,10 +108,16 @@ changing_call_of words =
     else if begins_with words (codes "workers") then workers_of words
     else fixed_call_of words
 
+-- the call of a line, where they may change and requests may be withdrawn
+unfoldable pub withdrawing_call_of : Words → Result Call ScriptKind
+withdrawing_call_of words =
+    if begins_with words (codes "withdraw") then withdraw_of words else changing_call_of words
+
 -- the call of a line of this version
 abbrev pub call_of_words : Version → Words → Result Call ScriptKind
 call_of_words First words = fixed_call_of words
 call_of_words Second words = changing_call_of words
+call_of_words Third words = withdrawing_call_of words
 
 -- the script that a text spells, or its first fault
 abbrev pub script_of : List ℕ → Result Script (ℕ × ScriptKind)

@@ -18,6 +18,7 @@ refusal_line (causes.Busy r) = codes "refused busy " ++ decimal r ++ codes "\n"
 refusal_line causes.NotRunning = codes "refused not-running\n"
 refusal_line (causes.Weight w) = codes "refused weight " ++ decimal w ++ codes "\n"
 refusal_line (causes.Workers n) = codes "refused workers " ++ decimal n ++ codes "\n"
+refusal_line (causes.NotWaiting r) = codes "refused not-waiting " ++ decimal r ++ codes "\n"
 refusal_line (causes.Falling last given) =
     codes "refused falling " ++ decimal last ++ codes " " ++ decimal given ++ codes "\n"
 
@@ -29,6 +30,7 @@ reply_line replies.Accepted = codes "ok\n"
 reply_line replies.Idle = codes "idle\n"
 reply_line replies.Drained = codes "drained\n"
 reply_line (replies.Retired n) = codes "retired " ++ decimal n ++ codes "\n"
+reply_line (replies.Withdrawn label) = codes "withdrawn " ++ decimal label ++ codes "\n"
 reply_line (replies.Refused cause) = refusal_line cause
 
 -- a line for each reply, in order

@@ -7,4 +7,6 @@ pub enum Version {
     First,
     /// They may change.
     Second,
+    /// They may change, and waiting requests may be withdrawn.
+    Third,
 }
