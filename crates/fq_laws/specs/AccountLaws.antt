@@ -63,7 +63,8 @@ EstimateRange =
 abbrev pub GreatestRuns : Type 0
 GreatestRuns =
     (initial : ℕ) → (greatest_cost_from initial [] ≡ initial)
-    × ((cost : ℕ) (costs : List ℕ) → greatest_cost_from initial (cost ∷ costs) ≡ max cost (decay_of (greatest_cost_from initial costs)))
+    × ((cost : ℕ) (costs : List ℕ)
+    → greatest_cost_from initial (cost ∷ costs) ≡ max cost (decay_of (greatest_cost_from initial costs)))
 
 -- ---- time
 
@@ -79,8 +80,10 @@ TimeIsByClock = (C : Config) (P : History) → C.policy ≢ TwoDfqPlus → IsByC
 -- an entry does not move it, but for a Take under 2dfq+
 pub record TimeStep (C : Config) (P : History) (e : Entry) : Type 0 where
   pub advances : virtual_time C P e.moment
-      ≡ capped C.policy (pace C P).reached (virtual_time C P (last_moment P) + advance_of (e.moment - last_moment P) (pool_at C P) (active_weight C P))
-  pub stays : (C.policy ≢ TwoDfqPlus) ⊎ (is_take e.act ≡ false) → virtual_time C (e ∷ P) e.moment ≡ virtual_time C P e.moment
+      ≡ capped C.policy (pace C P).reached
+      (virtual_time C P (last_moment P) + advance_of (e.moment - last_moment P) (pool_at C P) (active_weight C P))
+  pub stays : (C.policy ≢ TwoDfqPlus) ⊎ (is_take e.act ≡ false)
+      → virtual_time C (e ∷ P) e.moment ≡ virtual_time C P e.moment
 
 abbrev pub TimeSteps : Type 0
 TimeSteps = (C : Config) (P : History) (e : Entry) → TimeStep C P e
@@ -92,7 +95,8 @@ pub record Lifts (C : Config) (P Q : History) (m i : ℕ) (k : HeadKeys) : Type 
 
 abbrev pub TakesLift : Type 0
 TakesLift =
-    (C : Config) (P : History) (who m i r estimate t : ℕ) (k : HeadKeys) → C.policy ≡ TwoDfqPlus → IsLegal C (one_more who m (Take i r estimate) P)
+    (C : Config) (P : History) (who m i r estimate t : ℕ) (k : HeadKeys) → C.policy ≡ TwoDfqPlus
+    → IsLegal C (one_more who m (Take i r estimate) P)
     → IsChoiceAt C P m i t k → Lifts C P (one_more who m (Take i r estimate) P) m i k
 
 -- virtual time never falls: not from one moment to a later one, and not at an entry
@@ -113,11 +117,13 @@ TimeLimit =
     (C : Config) (P : History) (m : ℕ) → C.policy ≢ TwoDfqPlus → InLimits C → IsLegal C P → last_moment P ≤ m
     → virtual_time C P m ≤ m * greatest_rate
 
--- the virtual idle time of a tenant stays while the tenant is active, and else moves along with virtual time by the clock
+-- the virtual idle time of a tenant stays while the tenant is active, and else moves along with virtual time by the
+-- clock
 pub record IdleStep (C : Config) (P : History) (e : Entry) (t : ℕ) : Type 0 where
   pub stays : is_active P t ≡ true → virtual_idle_time C (e ∷ P) e.moment t ≡ virtual_idle_time C P (last_moment P) t
   pub moves : is_active P t ≡ false
-      → virtual_idle_time C (e ∷ P) e.moment t + clock_time C P (last_moment P) ≡ virtual_idle_time C P (last_moment P) t + clock_time C (e ∷ P) e.moment
+      → virtual_idle_time C (e ∷ P) e.moment t + clock_time C P (last_moment P)
+      ≡ virtual_idle_time C P (last_moment P) t + clock_time C (e ∷ P) e.moment
 
 abbrev pub IdleSteps : Type 0
 IdleSteps = (C : Config) (P : History) (e : Entry) (t : ℕ) → IdleStep C P e t

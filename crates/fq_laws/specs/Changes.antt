@@ -49,10 +49,11 @@ change_of C P t (Submit request tenant kind declared label) = record no_change {
 change_of C P t (Take worker request estimate) =
     recharge (is_of_tenant t (request_at P request)) 0 0 estimate (weight_at C P t)
 change_of C P t (Report worker request used) =
-    recharge (is_of_tenant t (request_at P request)) 0 (charge P request) (max used (charge P request)) (taken_weight C P t request)
-change_of C P t (Done worker request cost) =
-    recharge (is_of_tenant t (request_at P request)) (if is_of_tenant t (request_at P request) then 1 else 0) (charge P request) cost
+    recharge (is_of_tenant t (request_at P request)) 0 (charge P request) (max used (charge P request))
     (taken_weight C P t request)
+change_of C P t (Done worker request cost) =
+    recharge (is_of_tenant t (request_at P request)) (if is_of_tenant t (request_at P request) then 1 else 0)
+    (charge P request) cost (taken_weight C P t request)
 change_of C P t (Withdraw request) =
     record no_change { closed = if is_of_tenant t (request_at P request) then 1 else 0 }
 change_of C P t _ = no_change
@@ -60,7 +61,8 @@ change_of C P t _ = no_change
 -- the history Q has this change for tenant t over P
 pub record Changes (C : Config) (P Q : History) (t : ℕ) (d : Change) : Type 0 where
   pub open_is : open_requests Q t + d.closed ≡ open_requests P t + d.opened
-  pub charge_is : virtual_charge C Q t + length_of d.charged d.weight ≡ virtual_charge C P t + length_of d.recharged d.weight
+  pub charge_is :
+      virtual_charge C Q t + length_of d.charged d.weight ≡ virtual_charge C P t + length_of d.recharged d.weight
   pub net_is : net_charge Q t + d.charged ≡ net_charge P t + d.recharged
 
 -- the greatest of the costs, the newest first, each decayed once for each that is newer, the initial value the oldest

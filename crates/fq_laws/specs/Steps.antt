@@ -1,15 +1,15 @@
 -- What is kept of a history, and what it becomes at one entry more.
-use Rattle.std.specs.Prelude.{ℕ, ◌≡◌, ◌∷◌, Some, Bool, true, false}
+use Rattle.std.specs.Prelude.{ℕ, ◌≡◌, ◌∷◌, Some, true}
 use Rattle.fq_model.specs.declared.config.Config.{Config}
-use Rattle.fq_model.specs.declared.event.Act.{Act}
-use Rattle.fq_model.specs.declared.event.Act.TheVariants.{Submit, Take, Report, Done, Close, Weight, Workers}
+use Rattle.fq_model.specs.declared.event.Act.TheVariants.{Submit, Weight, Workers}
 use Rattle.fq_model.specs.declared.event.Entry.{Entry}
 use Rattle.fq_model.specs.Limits.{InLimits}
-use Rattle.fq_model.specs.History.{History, Request, request_at}
+use Rattle.fq_model.specs.History.{History, Request, request_at, is_end_of}
 use Rattle.fq_model.specs.Rules.{IsLegal}
 
 -- what is kept is that of a legal history after which such an entry may come
-pub record Awaits {K : Type 0} (KeptIs : Config → History → K → Type 0) (Comes : History → Entry → Type 0) (kept : K) : Type 0 where
+pub record Awaits {K : Type 0} (KeptIs : Config → History → K → Type 0) (Comes : History → Entry → Type 0) (kept : K)
+    : Type 0 where
   pub config : Config
   pub history : History
   pub entry : Entry

@@ -64,7 +64,8 @@ EligibleBefore at a b =
     (eligible_key at a <ℤ eligible_key at b) ⊎ ((eligible_key at a ≡ eligible_key at b) × FinishBefore a b)
 
 -- of the tenants whose keys pass, t has the first
-pub record IsFirst (Passes : HeadKeys → Type 0) (Before : HeadKeys → HeadKeys → Type 0) (Has : ℕ → HeadKeys → Type 0) (t : ℕ) (k : HeadKeys) : Type 0 where
+pub record IsFirst (Passes : HeadKeys → Type 0) (Before : HeadKeys → HeadKeys → Type 0) (Has : ℕ → HeadKeys → Type 0)
+    (t : ℕ) (k : HeadKeys) : Type 0 where
   pub has : Has t k
   pub passes : Passes k
   pub first : (u : ℕ) (l : HeadKeys) → u ≢ t → Has u l → Passes l → Before k l
@@ -83,8 +84,11 @@ IsChoice at Has t k =
 
 -- the keys of the head r of tenant t, of which q is known
 abbrev pub head_keys : Config → History → ℕ → ℕ → ℕ → Request → HeadKeys
-head_keys C P m t r q =
-    record { start = pos (start C P m t); len = pos (length_of (request_estimate C P q) (weight_at C P t)); request = r }
+head_keys C P m t r q = record {
+  start = pos (start C P m t);
+  len = pos (length_of (request_estimate C P q) (weight_at C P t));
+  request = r;
+}
 
 abbrev pub keys_of_request : Config → History → ℕ → ℕ → ℕ → Option Request → Option HeadKeys
 keys_of_request C P m t r None = None

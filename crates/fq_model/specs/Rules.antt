@@ -182,12 +182,16 @@ pub record RunsChosen (C : Config) (P : History) (who moment i : ℕ) (reply : R
 -- what a worker of the pool that runs nothing is answered: Drained or Idle where nothing waits, else the chosen request
 abbrev pub AnswersPooled : Config → History → ℕ → ℕ → ℕ → Reply → History → Type 0
 AnswersPooled C P who moment i reply P2 =
-    MatchBool (waiting P == 0) (IsAnswered P (if is_closed P then answer.Drained else answer.Idle) reply P2) (RunsChosen C P who moment i reply P2)
+    MatchBool (waiting P == 0)
+    (IsAnswered P (if is_closed P then answer.Drained else answer.Idle) reply P2)
+    (RunsChosen C P who moment i reply P2)
 
 -- what a worker that runs nothing is answered: Retired, with the number of workers, where its own is not below that
 abbrev pub AnswersFree : Config → History → ℕ → ℕ → ℕ → Reply → History → Type 0
 AnswersFree C P who moment i reply P2 =
-    MatchBool (nat_le (pool_at C P) i) (IsAnswered P (answer.Retired (pool_at C P)) reply P2) (AnswersPooled C P who moment i reply P2)
+    MatchBool (nat_le (pool_at C P) i)
+    (IsAnswered P (answer.Retired (pool_at C P)) reply P2)
+    (AnswersPooled C P who moment i reply P2)
 
 -- at the history P the call is answered by the reply, and the history is then P2
 abbrev pub Answers : Config → History → Call → Reply → History → Type 0

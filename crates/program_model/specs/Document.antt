@@ -72,7 +72,14 @@ settings_of line = do
   initial ← ranged_at words 4 1 GREATEST_COST
   entries ← ranged_at words 5 LEAST_ENTRIES MOST_ENTRIES
   requests ← ranged_at words 6 1 MOST_REQUESTS
-  Ok (record { workers = workers; policy = policy; estimate = estimate; initial = initial; entries = entries; requests = requests })
+  Ok (record {
+    workers = workers;
+    policy = policy;
+    estimate = estimate;
+    initial = initial;
+    entries = entries;
+    requests = requests;
+  })
 
 -- `tenant <name> <weight>`
 unfoldable pub with_tenant : {A : Type 0} → Document A → Words → Result (Document A) ScriptKind
@@ -131,7 +138,8 @@ abbrev pub below_header : {A : Type 0} → LineReader A → List (List ℕ) → 
 below_header reader [] = Err (2, Missing)
 below_header reader (line ∷ lines) = at_line 2 (config_line (words_of line)) >>= λ d. with_lines reader 3 d lines
 
--- the version that a first line names: `<title> 1`, `<title> 2` or `<title> 3`, where the title is `script` or `journal`
+-- the version that a first line names: `<title> 1`, `<title> 2` or `<title> 3`, where the title is `script` or
+-- `journal`
 abbrev pub version_of : List ℕ → List ℕ → Option Version
 version_of title line =
     if bytes_eq line (title ++ codes " 1") then Some First

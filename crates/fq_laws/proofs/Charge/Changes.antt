@@ -4,7 +4,7 @@ use Rattle.vt_fixed.specs.Rounding.{length_of}
 use Rattle.vt_fixed.proofs.Bounds.{length_none}
 use Rattle.fq_model.specs.declared.config.Config.{Config}
 use Rattle.fq_model.specs.declared.event.Act.{Act}
-use Rattle.fq_model.specs.declared.event.Act.TheVariants.{Submit, Take, Report, Done}
+use Rattle.fq_model.specs.declared.event.Act.TheVariants.{Submit, Take, Report, Done, Withdraw}
 use Rattle.fq_model.specs.Limits.{InLimits}
 use Rattle.fq_model.specs.History.{History, request_at, is_of_tenant, weight_at}
 use Rattle.fq_model.specs.Charge.{charge, taken_weight}
@@ -12,8 +12,8 @@ use Rattle.fq_model.specs.Rules.{IsLegal, Fits}
 use Rattle.fq_model.specs.declared.event.Entry.{Entry}
 use Rattle.fq_laws.specs.Changes.{change_of, Changes}
 use Rattle.fq_laws.specs.Words.{one_more}
-use Rattle.fq_laws.proofs.Time.Open.{open_submit, open_done, open_take, open_report, open_quiet}
-use Rattle.fq_laws.proofs.Charge.Tenants.{virtual_charge_submit, virtual_charge_taken, virtual_charge_reported, virtual_charge_finished, virtual_charge_quiet, net_charge_submit, net_charge_taken, net_charge_reported, net_charge_finished, net_charge_quiet}
+use Rattle.fq_laws.proofs.Time.Open.{open_submit, open_done, open_withdraw, open_take, open_report, open_quiet}
+use Rattle.fq_laws.proofs.Charge.Tenants.{virtual_charge_submit, virtual_charge_taken, virtual_charge_reported, virtual_charge_finished, virtual_charge_withdraw, virtual_charge_quiet, net_charge_submit, net_charge_taken, net_charge_reported, net_charge_finished, net_charge_withdraw, net_charge_quiet}
 
 length_if : (b : Bool) (c w : ℕ) → length_of (cond b c 0) w ≡ cond b (length_of c w) 0
 length_if true c w = refl
@@ -43,6 +43,11 @@ changes_at C P who m t (Done worker request cost) lim l f = record {
   open_is = omega (arith, open_done C P who m t worker request cost lim l f);
   charge_is = rw (length_if (is_of_tenant t (request_at P request)) (charge P request) (taken_weight C P t request), length_if (is_of_tenant t (request_at P request)) cost (taken_weight C P t request)) (virtual_charge_finished C P who m t worker request cost lim l f);
   net_is = net_charge_finished C P who m t worker request cost lim l f;
+}
+changes_at C P who m t (Withdraw request) lim l f = record {
+  open_is = omega (arith, open_withdraw C P who m t request lim l f);
+  charge_is = ap (λ x. x + length_of 0 0) (virtual_charge_withdraw C P who m t request);
+  net_is = ap (λ x. x + 0) (net_charge_withdraw C P who m t request);
 }
 changes_at C P who m t a lim l f = record {
   open_is = ap (λ x. x + 0) (open_quiet P who m t a refl);

@@ -5,7 +5,7 @@ use Rattle.vt_fixed.specs.Rounding.{length_of}
 use Rattle.vt_fixed.proofs.Bounds.{length_high}
 use Rattle.fq_model.specs.declared.config.Config.{Config}
 use Rattle.fq_model.specs.declared.event.Act.{Act}
-use Rattle.fq_model.specs.declared.event.Act.TheVariants.{Submit, Take, Report, Done}
+use Rattle.fq_model.specs.declared.event.Act.TheVariants.{Submit, Take, Report, Done, Withdraw}
 use Rattle.fq_model.specs.declared.event.Entry.{Entry}
 use Rattle.fq_model.specs.Limits.{InLimits}
 use Rattle.fq_model.specs.History.{History, weight_at, request_at, is_of_tenant, is_taken, submits, request_bound}
@@ -15,12 +15,12 @@ use Rattle.fq_model.specs.Sums.{count_below}
 use Rattle.vt_fixed.specs.declared.limits.TheConstants.{GREATEST_COST}
 use Rattle.fq_model.specs.declared.limits.TheConstants.{MOST_LONG_ENTRIES}
 use Rattle.fq_laws.specs.Words.{one_more, greatest_length}
-use Rattle.fq_laws.proofs.Charge.Requests.{charge_submit, charge_quiet, charge_take, charge_take_other, charge_report, charge_report_other, charge_done, charge_done_other}
+use Rattle.fq_laws.proofs.Charge.Requests.{charge_submit, charge_withdraw, charge_quiet, charge_take, charge_take_other, charge_report, charge_report_other, charge_done, charge_done_other}
 use Rattle.fq_laws.proofs.Charge.Estimates.{estimate_range}
 use Rattle.fq_laws.proofs.History.Weights.{weight_low, taken_weight_low}
 use Rattle.fq_laws.proofs.History.Requests.{tenant_below}
 use Rattle.fq_laws.proofs.History.Numbers.{take_request_small, use_small}
-use Rattle.fq_laws.proofs.Charge.Tenants.{charged_untaken, charged_taken, net_charged_untaken, net_charged_taken, virtual_charge_submit, virtual_charge_take, virtual_charge_report, virtual_charge_done, virtual_charge_quiet}
+use Rattle.fq_laws.proofs.Charge.Tenants.{charged_untaken, charged_taken, net_charged_untaken, net_charged_taken, virtual_charge_submit, virtual_charge_take, virtual_charge_report, virtual_charge_done, virtual_charge_withdraw, virtual_charge_quiet}
 use Rattle.fq_laws.proofs.Sums.{sum_at_most}
 use Rattle.fq_laws.proofs.Rules.Limits.{taken_count_low, submits_low}
 
@@ -40,6 +40,7 @@ charge_low_at C P who m r (Done worker request cost) lim l f h = elim (cases_eq 
   | inl e ↦ rw (← e) (omega (arith, charge_done P who m worker request cost f, f.in_range))
   | inr ne ↦ omega (arith, charge_done_other P who m r worker request cost ne, h)
 ]
+charge_low_at C P who m r (Withdraw request) lim l f h = rw (charge_withdraw P who m r request) h
 charge_low_at C P who m r a lim l f h = rw (charge_quiet P who m r a refl) h
 
 -- no request is charged more than the greatest cost
@@ -77,6 +78,7 @@ grows_at C P who m t (Report worker request used) lim l =
     omega (arith, virtual_charge_report C P who m t worker request used (use_small C P worker request used lim l.0 l.3.0), charged_low C (one_more who m (Report worker request used) P) t request lim l)
 grows_at C P who m t (Done worker request cost) lim l =
     omega (arith, virtual_charge_done C P who m t worker request cost (use_small C P worker request cost lim l.0 l.3), charged_low C (one_more who m (Done worker request cost) P) t request lim l)
+grows_at C P who m t (Withdraw request) lim l = omega (arith, virtual_charge_withdraw C P who m t request)
 grows_at C P who m t a lim l = omega (arith, virtual_charge_quiet C P who m t a refl)
 
 -- an entry raises a virtual charge by at most the greatest length

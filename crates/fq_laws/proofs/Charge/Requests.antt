@@ -2,7 +2,7 @@
 use Rattle.std.proofs.Common.{ℕ, ◌≡◌, max, arith, ◌==◌, true, ◌||◌, refl, inl, inr, Some, ◌≢◌, [], ◌∷◌, false, None, ◌≤◌, cond, subst}
 use Rattle.std.proofs.lemmas.Bool.{cases_Bool, false≢true, or_parts, ne_eqb, both_ways, eq-eqb, cases_eq, true_from_ne_false}
 use Rattle.fq_model.specs.declared.event.Act.{Act}
-use Rattle.fq_model.specs.declared.event.Act.TheVariants.{Take, Done, Report, Submit}
+use Rattle.fq_model.specs.declared.event.Act.TheVariants.{Take, Done, Report, Submit, Withdraw}
 use Rattle.fq_model.specs.History.{History, is_taken, is_take_of, is_done, is_done_of, last_use, use_in, weight_at}
 use Rattle.fq_model.specs.Charge.{taken_estimate, estimate_in, final_cost, cost_in, charge, taken_weight}
 use Rattle.fq_model.specs.declared.config.Config.{Config}
@@ -66,6 +66,9 @@ charge_quiet P who m r (Report worker request used) q = absurd (false≢true q)
 charge_quiet P who m r (Done worker request cost) q = absurd (false≢true q)
 charge_quiet P who m r _ q = rw (zero_max (last_use P r)) refl
 
+pub charge_withdraw : (P : History) (who m r q : ℕ) → charge (one_more who m (Withdraw q) P) r ≡ charge P r
+charge_withdraw P who m r q = rw (zero_max (last_use P r)) refl
+
 -- a Take of another request
 pub charge_take_other : (P : History) (who m r w q c : ℕ) → q ≢ r → charge (one_more who m (Take w q c) P) r ≡ charge P r
 charge_take_other P who m r w q c ne = rw (ne_eqb q r ne, zero_max (last_use P r)) refl
@@ -111,6 +114,7 @@ charge_next_at C P who m r (Submit request tenant kind declared label) l f = cha
 charge_next_at C P who m r (Take worker request estimate) l f = if_own request r _ _ _ (λ e. subst (λ s. charge (one_more who m (Take worker request estimate) P) s ≡ estimate) e (charge_take C P who m worker request estimate l f)) (λ ne. charge_take_other P who m r worker request estimate ne)
 charge_next_at C P who m r (Report worker request used) l f = if_own request r _ _ _ (λ e. subst (λ s. charge (one_more who m (Report worker request used) P) s ≡ max used (charge P s)) e (charge_report P who m worker request used f.0)) (λ ne. charge_report_other P who m r worker request used ne)
 charge_next_at C P who m r (Done worker request cost) l f = if_own request r _ _ _ (λ e. subst (λ s. charge (one_more who m (Done worker request cost) P) s ≡ cost) e (charge_done P who m worker request cost f)) (λ ne. charge_done_other P who m r worker request cost ne)
+charge_next_at C P who m r (Withdraw request) l f = charge_withdraw P who m r request
 charge_next_at C P who m r a l f = charge_quiet P who m r a refl
 
 -- a charge, one entry on

@@ -5,13 +5,13 @@ use Rattle.vt_fixed.specs.Rounding.{length_of}
 use Rattle.fq_model.specs.History.{History, request_at, is_of_tenant, is_taken, submits, weight_at, request_bound}
 use Rattle.fq_model.specs.Charge.{is_taken_of, charged, net_charged, charge, taken_weight, virtual_charge, net_charge}
 use Rattle.fq_model.specs.declared.config.Config.{Config}
-use Rattle.fq_model.specs.declared.event.Act.TheVariants.{Submit, Take, Report, Done}
+use Rattle.fq_model.specs.declared.event.Act.TheVariants.{Submit, Take, Report, Done, Withdraw}
 use Rattle.fq_model.specs.Rules.{IsLegal, Fits, FitsUse}
 use Rattle.fq_model.specs.Limits.{InLimits}
 use Rattle.fq_laws.specs.Words.{one_more, is_quiet}
 use Rattle.fq_model.specs.declared.event.Act.{Act}
 use Rattle.fq_laws.proofs.History.Requests.{fresh_untaken, use_taken, untaken_nil}
-use Rattle.fq_laws.proofs.Charge.Requests.{charge_take, charge_take_other, taken_weight_take_other, taken_weight_take, charge_report, charge_report_other, charge_done, charge_done_other, charge_submit, charge_quiet}
+use Rattle.fq_laws.proofs.Charge.Requests.{charge_take, charge_take_other, taken_weight_take_other, taken_weight_take, charge_report, charge_report_other, charge_done, charge_done_other, charge_submit, charge_quiet, charge_withdraw}
 use Rattle.fq_laws.proofs.Sums.{sum_zero, sum_at, sum_same}
 use Rattle.fq_laws.proofs.Rules.Takes.{take_waits}
 use Rattle.fq_laws.proofs.History.Asked.{and_with_true, waits_untaken}
@@ -50,6 +50,10 @@ taken_of_report P who m t r w q used = refl
 pub taken_of_done : (P : History) (who m t r w q cost : ℕ) → is_taken_of (one_more who m (Done w q cost) P) t r ≡ is_taken_of P t r
 unfolding is_taken_of is_taken
 taken_of_done P who m t r w q cost = refl
+
+pub taken_of_withdraw : (P : History) (who m t r q : ℕ) → is_taken_of (one_more who m (Withdraw q) P) t r ≡ is_taken_of P t r
+unfolding is_taken_of is_taken
+taken_of_withdraw P who m t r q = refl
 
 pub taken_of_quiet : (P : History) (who m t r : ℕ) (a : Act) → is_quiet a ≡ true → is_taken_of (one_more who m a P) t r ≡ is_taken_of P t r
 unfolding is_taken_of is_taken
@@ -112,6 +116,9 @@ taken_weight_quiet C P who m t r _ q = refl
 unmoved_quiet : (C : Config) (P : History) (who m t r : ℕ) (a : Act) → is_quiet a ≡ true → Unmoved C P (one_more who m a P) t r
 unmoved_quiet C P who m t r a q = record { taken_same = taken_of_quiet P who m t r a q; charge_same = charge_quiet P who m r a q; weight_same = taken_weight_quiet C P who m t r a q }
 
+unmoved_withdraw : (C : Config) (P : History) (who m t r q : ℕ) → Unmoved C P (one_more who m (Withdraw q) P) t r
+unmoved_withdraw C P who m t r q = record { taken_same = taken_of_withdraw P who m t r q; charge_same = charge_withdraw P who m r q; weight_same = refl }
+
 -- ---- the virtual charge at one entry more
 
 pub virtual_charge_nil : (C : Config) (t : ℕ) → virtual_charge C [] t ≡ 0
@@ -146,6 +153,13 @@ virtual_charge_submit C P who m t q u kind declared label l n = virtual_charge_s
 
 pub net_charge_submit : (C : Config) (P : History) (who m t q u kind declared label : ℕ) → IsLegal C P → q ≡ submits P → net_charge (one_more who m (Submit q u kind declared label) P) t ≡ net_charge P t
 net_charge_submit C P who m t q u kind declared label l n = net_charge_still C P _ t (λ r. unmoved_submit C P who m t r q u kind declared label l n)
+
+-- nor does a Withdraw
+pub virtual_charge_withdraw : (C : Config) (P : History) (who m t q : ℕ) → virtual_charge C (one_more who m (Withdraw q) P) t ≡ virtual_charge C P t
+virtual_charge_withdraw C P who m t q = virtual_charge_still C P _ t (λ r. unmoved_withdraw C P who m t r q)
+
+pub net_charge_withdraw : (C : Config) (P : History) (who m t q : ℕ) → net_charge (one_more who m (Withdraw q) P) t ≡ net_charge P t
+net_charge_withdraw C P who m t q = net_charge_still C P _ t (λ r. unmoved_withdraw C P who m t r q)
 
 -- nor does an act that touches no request
 pub virtual_charge_quiet : (C : Config) (P : History) (who m t : ℕ) (a : Act) → is_quiet a ≡ true → virtual_charge C (one_more who m a P) t ≡ virtual_charge C P t

@@ -1,23 +1,72 @@
 -- What a request asked, and whether it was submitted.
-use Rattle.std.proofs.Common.{Bool, false, ◌&&◌, ℕ, ◌≡◌, true, ◌==◌, ◌||◌, refl, inl, inr, Some, [], ◌∷◌, None, Option, ◌≢◌}
-use Rattle.std.proofs.lemmas.Bool.{and_parts, not-true, cases_Bool, or_right, eqb-true, false≢true, both_ways, eq-eqb, ne_eqb}
-use Rattle.fq_model.specs.History.{History, is_submitted, is_waiting, is_taken, is_submit_of, Request, request_at, request_in, is_of_tenant}
+use Rattle.std.proofs.Common.{Bool, false, ◌&&◌, ℕ, ◌≡◌, true, ◌==◌, ◌||◌, ◌⊎◌, refl, inl, inr, Some, [], ◌∷◌, None, Option, ◌≢◌}
+use Rattle.std.proofs.lemmas.Bool.{and_parts, not-true, cases_Bool, or_cases, or_left, or_right, eqb-true, false≢true, both_ways, eq-eqb, ne_eqb, false_from_ne_true}
+use Rattle.fq_model.specs.History.{History, is_submitted, is_waiting, is_taken, is_done, is_withdrawn, is_removed, is_ended, is_submit_of, is_take_of, is_done_of, is_withdraw_of, is_removal_of, is_end_of, has_act, Request, request_at, request_in, is_of_tenant}
 use Rattle.fq_model.specs.declared.event.Act.{Act}
-use Rattle.fq_model.specs.declared.event.Act.TheVariants.{Submit}
+use Rattle.fq_model.specs.declared.event.Act.TheVariants.{Submit, Take, Done, Withdraw}
 
 -- a test and one that is true
 pub and_with_true : (b c : Bool) → c ≡ true → (b && c) ≡ b
 and_with_true true c h = h
 and_with_true false c h = refl
 
--- what waits was submitted, and was not taken
+-- ---- what is removed, and what is ended
+
+-- where one test passes the other does, so an act that passes the one passes the other
+pub has_weaker : (p q : Act → Bool) → ((a : Act) → p a ≡ true → q a ≡ true) → (P : History) → has_act p P ≡ true → has_act q P ≡ true
+has_weaker p q weaker [] h = absurd (false≢true h)
+has_weaker p q weaker (e ∷ P) h = elim (or_cases (p e.act) (has_act p P) h) [
+  | inl x ↦ or_left _ _ (weaker e.act x)
+  | inr x ↦ or_right _ _ (has_weaker p q weaker P x)
+]
+
+take_removes : (r : ℕ) (a : Act) → is_take_of r a ≡ true → is_removal_of r a ≡ true
+take_removes r (Take worker request estimate) h = h
+take_removes r _ h = absurd (false≢true h)
+
+withdraw_removes : (r : ℕ) (a : Act) → is_withdraw_of r a ≡ true → is_removal_of r a ≡ true
+withdraw_removes r (Withdraw request) h = h
+withdraw_removes r _ h = absurd (false≢true h)
+
+pub taken_removed : (P : History) (r : ℕ) → is_taken P r ≡ true → is_removed P r ≡ true
+unfolding is_taken is_removed
+taken_removed P r h = has_weaker (is_take_of r) (is_removal_of r) (take_removes r) P h
+
+pub withdrawn_removed : (P : History) (r : ℕ) → is_withdrawn P r ≡ true → is_removed P r ≡ true
+unfolding is_withdrawn is_removed
+withdrawn_removed P r h = has_weaker (is_withdraw_of r) (is_removal_of r) (withdraw_removes r) P h
+
+-- what is not removed is not taken
+pub unremoved_untaken : (P : History) (r : ℕ) → is_removed P r ≡ false → is_taken P r ≡ false
+unremoved_untaken P r h = false_from_ne_true _ (λ t. both_ways _ h (taken_removed P r t))
+
+end_by : (r : ℕ) (a : Act) → is_end_of r a ≡ true → (is_done_of r a ≡ true) ⊎ (is_withdraw_of r a ≡ true)
+end_by r (Done worker request cost) h = inl h
+end_by r (Withdraw request) h = inr h
+end_by r _ h = absurd (false≢true h)
+
+-- what is ended is done or withdrawn
+pub ended_by : (P : History) (r : ℕ) → is_ended P r ≡ true → (is_done P r ≡ true) ⊎ (is_withdrawn P r ≡ true)
+unfolding is_ended is_done is_withdrawn
+ended_by [] r h = absurd (false≢true h)
+ended_by (e ∷ P) r h = elim (or_cases (is_end_of r e.act) (has_act (is_end_of r) P) h) [
+  | inl x ↦ elim (end_by r e.act x) [ inl k ↦ inl (or_left _ _ k) | inr k ↦ inr (or_left _ _ k) ]
+  | inr x ↦ elim (ended_by P r x) [ inl k ↦ inl (or_right _ _ k) | inr k ↦ inr (or_right _ _ k) ]
+]
+
+-- ---- what waits
+
+-- what waits was submitted, and was neither taken nor withdrawn
 pub waits_submitted : (P : History) (r : ℕ) → is_waiting P r ≡ true → is_submitted P r ≡ true
 unfolding is_waiting
 waits_submitted P r h = (and_parts _ _ h).0
 
-pub waits_untaken : (P : History) (r : ℕ) → is_waiting P r ≡ true → is_taken P r ≡ false
+pub waits_unremoved : (P : History) (r : ℕ) → is_waiting P r ≡ true → is_removed P r ≡ false
 unfolding is_waiting
-waits_untaken P r h = not-true _ (and_parts _ _ h).1
+waits_unremoved P r h = not-true _ (and_parts _ _ h).1
+
+pub waits_untaken : (P : History) (r : ℕ) → is_waiting P r ≡ true → is_taken P r ≡ false
+waits_untaken P r h = unremoved_untaken P r (waits_unremoved P r h)
 
 -- ---- what a request asked
 

@@ -1,13 +1,13 @@
 -- Which requests of a tenant wait, and its head.
 use Rattle.std.proofs.Common.{ℕ, ◌≡◌, ◌≢◌, refl, true, false, ◌==◌, not, arith, ◌≤◌, [], ◌<◌, ◌^◌, length, inl, inr, Some, None, Option, sym, ◌∙◌}
 use Rattle.std.proofs.lemmas.Bool.{ne_eqb, eq-eqb, not_from_false, and_right, and_parts, cases_lt, both_ways, false_from_ne_true, and_from}
-use Rattle.fq_model.specs.declared.event.Act.TheVariants.{Submit, Take}
-use Rattle.fq_model.specs.History.{History, is_taken, waits_for, submits, request_at, WaitsFor, head, request_bound, IsHead, Request, is_submitted, is_waiting, waiting}
+use Rattle.fq_model.specs.declared.event.Act.TheVariants.{Submit, Take, Withdraw}
+use Rattle.fq_model.specs.History.{History, is_removed, waits_for, submits, request_at, WaitsFor, head, request_bound, IsHead, Request, is_submitted, is_waiting, waiting}
 use Rattle.fq_model.specs.declared.config.Config.{Config}
 use Rattle.fq_model.specs.Rules.{IsLegal}
 use Rattle.fq_model.specs.Limits.{InLimits}
 use Rattle.fq_laws.specs.Words.{one_more}
-use Rattle.fq_laws.proofs.History.Requests.{fresh_untaken, fresh, submitted_below, tenant_below}
+use Rattle.fq_laws.proofs.History.Requests.{fresh_unremoved, fresh, submitted_below, tenant_below}
 use Rattle.fq_laws.proofs.History.Asked.{and_with_true, asked_submitted, is_of_asked, unasked}
 use Rattle.fq_laws.proofs.History.Numbers.{tenant_small}
 use Rattle.fq_laws.proofs.Sums.{least_same, least_by, least_exists, count_found}
@@ -16,24 +16,32 @@ use Rattle.fq_laws.proofs.Rules.Takes.{heads, Heads, no_head}
 -- ---- which requests of t wait, at one entry more
 
 pub waits_submit_same : (P : History) (who m t r q u kind declared label : ℕ) → q ≢ r → waits_for (one_more who m (Submit q u kind declared label) P) t r ≡ waits_for P t r
-unfolding waits_for is_taken
+unfolding waits_for is_removed
 waits_submit_same P who m t r q u kind declared label ne = rw (ne_eqb q r ne) refl
 
 pub waits_submit_new : (C : Config) (P : History) (who m t q u kind declared label : ℕ) → IsLegal C P → q ≡ submits P → waits_for (one_more who m (Submit q u kind declared label) P) t q ≡ (u == t)
-unfolding waits_for is_taken
-waits_submit_new C P who m t q u kind declared label l n = rw (eq-eqb q q refl) (and_with_true (u == t) (not (is_taken P q)) (not_from_false _ (fresh_untaken C P q l (omega arith))))
+unfolding waits_for is_removed
+waits_submit_new C P who m t q u kind declared label l n = rw (eq-eqb q q refl) (and_with_true (u == t) (not (is_removed P q)) (not_from_false _ (fresh_unremoved C P q l (omega arith))))
 
 pub waits_fresh : (C : Config) (P : History) (t r : ℕ) → IsLegal C P → submits P ≤ r → waits_for P t r ≡ false
 unfolding waits_for
 waits_fresh C P t r l n = rw (fresh C P r l n) refl
 
 pub waits_take_same : (P : History) (who m t r w q estimate : ℕ) → q ≢ r → waits_for (one_more who m (Take w q estimate) P) t r ≡ waits_for P t r
-unfolding waits_for is_taken
+unfolding waits_for is_removed
 waits_take_same P who m t r w q estimate ne = rw (ne_eqb q r ne) refl
 
 pub waits_take_gone : (P : History) (who m t w q estimate : ℕ) → waits_for (one_more who m (Take w q estimate) P) t q ≡ false
-unfolding waits_for is_taken
+unfolding waits_for is_removed
 waits_take_gone P who m t w q estimate = rw (eq-eqb q q refl) (and_right _ _ refl)
+
+pub waits_withdraw_same : (P : History) (who m t r q : ℕ) → q ≢ r → waits_for (one_more who m (Withdraw q) P) t r ≡ waits_for P t r
+unfolding waits_for is_removed
+waits_withdraw_same P who m t r q ne = rw (ne_eqb q r ne) refl
+
+pub waits_withdraw_gone : (P : History) (who m t q : ℕ) → waits_for (one_more who m (Withdraw q) P) t q ≡ false
+unfolding waits_for is_removed
+waits_withdraw_gone P who m t q = rw (eq-eqb q q refl) (and_right _ _ refl)
 
 pub waits_none : (t r : ℕ) → waits_for [] t r ≡ false
 unfolding waits_for
@@ -107,7 +115,7 @@ waiting_head C P l h =
     let p = and_parts _ _ x.2 in
     go x.0 x.1 p.1 p.0 (request_at P x.0) refl
   where
-    go : (r : ℕ) → r < 2 ^ 32 → not (is_taken P r) ≡ true → is_submitted P r ≡ true → (o : Option Request) → request_at P r ≡ o → HasHead C P
+    go : (r : ℕ) → r < 2 ^ 32 → not (is_removed P r) ≡ true → is_submitted P r ≡ true → (o : Option Request) → request_at P r ≡ o → HasHead C P
     go r b un sub None is = absurd (both_ways _ (unasked P r is) sub)
     go r b un sub (Some q) is =
         let w : waits_for P q.tenant r ≡ true = rw is (and_from _ _ (eq-eqb q.tenant q.tenant refl) un) in

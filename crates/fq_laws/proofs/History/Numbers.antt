@@ -1,16 +1,16 @@
 -- Numbers of requests: which are small, and how many wait and run at one entry more that fits.
 use Rattle.std.proofs.Common.{ℕ, ◌^◌, ◌<◌, ◌≡◌, true, arith, Some, suc}
 use Rattle.fq_model.specs.declared.config.Config.{Config}
-use Rattle.fq_model.specs.History.{History, is_submitted, submits, is_taken, Request, request_at, Runs, is_of_tenant, waiting, running}
+use Rattle.fq_model.specs.History.{History, is_submitted, submits, is_taken, is_waiting, Request, request_at, Runs, is_of_tenant, waiting, running}
 use Rattle.fq_model.specs.Limits.{InLimits}
 use Rattle.fq_model.specs.Rules.{IsLegal, Fits, FitsUse, FitsSubmit, FitsTake}
-use Rattle.fq_model.specs.declared.event.Act.TheVariants.{Take, Submit, Done}
+use Rattle.fq_model.specs.declared.event.Act.TheVariants.{Take, Submit, Done, Withdraw}
 use Rattle.fq_laws.specs.Words.{one_more}
 use Rattle.fq_laws.proofs.History.Requests.{submitted_below, taken_submitted, use_taken, worker_runs, runs_taken}
 use Rattle.fq_laws.proofs.Rules.Room.{small_requests, has_room}
 use Rattle.fq_laws.proofs.Rules.Takes.{take_waits}
 use Rattle.fq_laws.proofs.History.Asked.{waits_submitted, asked_submitted, is_of_asked}
-use Rattle.fq_laws.proofs.History.Counts.{waiting_submit, waiting_take, running_take, running_done}
+use Rattle.fq_laws.proofs.History.Counts.{waiting_submit, waiting_take, waiting_withdraw, running_take, running_done}
 
 -- ---- numbers fit 32 bits
 
@@ -27,6 +27,10 @@ next_small C P q lim l n = omega (arith, small_requests C P lim (has_room C P li
 -- the number of a Take that fits
 pub take_request_small : (C : Config) (P : History) (m w q c : ℕ) → InLimits C → IsLegal C P → Fits C P m (Take w q c) → q < 2 ^ 32
 take_request_small C P m w q c lim l f = submitted_small C P q lim l (waits_submitted P q (take_waits C P m w q c f))
+
+-- that of a request that waits
+pub waits_number_small : (C : Config) (P : History) (q : ℕ) → InLimits C → IsLegal C P → is_waiting P q ≡ true → q < 2 ^ 32
+waits_number_small C P q lim l w = submitted_small C P q lim l (waits_submitted P q w)
 
 -- and whose number fits
 pub use_small : (C : Config) (P : History) (w q used : ℕ) → InLimits C → IsLegal C P → FitsUse P w q used → q < 2 ^ 32
@@ -57,6 +61,10 @@ waiting_taken C P who m w q c lim l f = omega (arith, waiting_take P who m w q c
 -- and one more runs
 pub running_taken : (C : Config) (P : History) (who m w q c : ℕ) → InLimits C → IsLegal C P → FitsTake C P m w q c → running (one_more who m (Take w q c) P) ≡ suc (running P)
 running_taken C P who m w q c lim l f = omega (arith, running_take C P who m w q c l (take_waits C P m w q c f) (take_request_small C P m w q c lim l f))
+
+-- a Withdraw: one fewer waits
+pub waiting_withdrawn : (C : Config) (P : History) (who m q : ℕ) → InLimits C → IsLegal C P → is_waiting P q ≡ true → suc (waiting (one_more who m (Withdraw q) P)) ≡ waiting P
+waiting_withdrawn C P who m q lim l w = omega (arith, waiting_withdraw P who m q w (waits_number_small C P q lim l w))
 
 -- a Done: one fewer runs
 pub running_finished : (C : Config) (P : History) (who m w q cost : ℕ) → InLimits C → IsLegal C P → FitsUse P w q cost → suc (running (one_more who m (Done w q cost) P)) ≡ running P

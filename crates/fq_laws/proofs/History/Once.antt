@@ -1,15 +1,15 @@
--- A request is submitted, taken and done once at most.
+-- A request is submitted, taken and done once at most, and so it is removed and ended.
 use Rattle.std.proofs.Common.{ℕ, ◌<◌, ◌≡◌, true, false, arith, subst, ◌∷◌, Bool, refl, [], ◌≤◌, inl, inr}
 use Rattle.std.proofs.lemmas.Bool.{eqb-true, false_from_ne_true, false≢true, or_parts, cases_Bool}
 use Rattle.fq_model.specs.declared.config.Config.{Config}
 use Rattle.fq_model.specs.declared.event.Act.{Act}
-use Rattle.fq_model.specs.declared.event.Act.TheVariants.{Submit, Take, Done}
-use Rattle.fq_model.specs.History.{count_acts, History, is_submitted, is_submit_of, submits, is_take_of, is_taken, is_done_of, is_done, has_act}
+use Rattle.fq_model.specs.declared.event.Act.TheVariants.{Submit, Take, Done, Withdraw}
+use Rattle.fq_model.specs.History.{count_acts, History, is_submitted, is_submit_of, submits, is_take_of, is_taken, is_done_of, is_done, is_removal_of, is_removed, is_end_of, is_ended, has_act}
 use Rattle.fq_model.specs.Rules.{IsLegal, Fits}
 use Rattle.fq_model.specs.declared.event.Entry.{Entry}
-use Rattle.fq_laws.proofs.History.Requests.{submitted_below}
+use Rattle.fq_laws.proofs.History.Requests.{submitted_below, use_unended, waits_unended}
 use Rattle.fq_laws.proofs.Rules.Takes.{take_waits}
-use Rattle.fq_laws.proofs.History.Asked.{waits_untaken}
+use Rattle.fq_laws.proofs.History.Asked.{waits_untaken, waits_unremoved}
 
 -- ---- an act that was done before is not done anew
 
@@ -24,6 +24,16 @@ takes_new C P m r _ f h = absurd (false≢true h)
 does_new : (C : Config) (P : History) (m r : ℕ) (a : Act) → Fits C P m a → is_done_of r a ≡ true → is_done P r ≡ false
 does_new C P m r (Done worker request cost) f h = subst (λ s. is_done P s ≡ false) (eqb-true _ _ h) f.runs.not_done
 does_new C P m r _ f h = absurd (false≢true h)
+
+removes_new : (C : Config) (P : History) (m r : ℕ) (a : Act) → Fits C P m a → is_removal_of r a ≡ true → is_removed P r ≡ false
+removes_new C P m r (Take worker request estimate) f h = subst (λ s. is_removed P s ≡ false) (eqb-true _ _ h) (waits_unremoved P request (take_waits C P m worker request estimate f))
+removes_new C P m r (Withdraw request) f h = subst (λ s. is_removed P s ≡ false) (eqb-true _ _ h) (waits_unremoved P request f)
+removes_new C P m r _ f h = absurd (false≢true h)
+
+ends_new : (C : Config) (P : History) (m r : ℕ) (a : Act) → IsLegal C P → Fits C P m a → is_end_of r a ≡ true → is_ended P r ≡ false
+ends_new C P m r (Done worker request cost) l f h = subst (λ s. is_ended P s ≡ false) (eqb-true _ _ h) (use_unended C P worker request cost l f)
+ends_new C P m r (Withdraw request) l f h = subst (λ s. is_ended P s ≡ false) (eqb-true _ _ h) (waits_unended C P request l f)
+ends_new C P m r _ l f h = absurd (false≢true h)
 
 pub submitted_new : (C : Config) (P : History) (e : Entry) (r : ℕ) → IsLegal C (e ∷ P) → is_submit_of r e.act ≡ true → is_submitted P r ≡ false
 submitted_new C P e r l h = submits_new C P e.moment r e.act l.0 l.3 h
@@ -63,3 +73,13 @@ pub done_once : (C : Config) (P : History) (r : ℕ) → IsLegal C P → count_a
 unfolding is_done
 done_once C [] r l = omega arith
 done_once C (e ∷ P) r l = count_new (is_done_of r) e P (done_new C P e r l) (done_once C P r l.0)
+
+pub removed_once : (C : Config) (P : History) (r : ℕ) → IsLegal C P → count_acts (is_removal_of r) P ≤ 1
+unfolding is_removed
+removed_once C [] r l = omega arith
+removed_once C (e ∷ P) r l = count_new (is_removal_of r) e P (removes_new C P e.moment r e.act l.3) (removed_once C P r l.0)
+
+pub ended_once : (C : Config) (P : History) (r : ℕ) → IsLegal C P → count_acts (is_end_of r) P ≤ 1
+unfolding is_ended
+ended_once C [] r l = omega arith
+ended_once C (e ∷ P) r l = count_new (is_end_of r) e P (ends_new C P e.moment r e.act l.0 l.3) (ended_once C P r l.0)

@@ -1,17 +1,17 @@
 -- The waiting requests of a tenant in order.
-use Rattle.std.proofs.Common.{ℕ, ◌≡◌, true, List, inl, inr, ◌⊎◌, [], ◌∷◌, ◌++◌, refl, ◌<◌, arith, sym, ◌∙◌, false, ◌==◌, Bool, cond, drop, Some, ◌^◌}
-use Rattle.std.proofs.lemmas.Bool.{and_left, cases_eq, both_ways, false≢true, false_from_ne_true, cond_both}
-use Rattle.fq_model.specs.History.{History, waits_for, WaitsFor, submits, request_at, is_of_tenant, queue, is_taken, queue_after, head, request_bound}
+use Rattle.std.proofs.Common.{ℕ, ◌≡◌, true, List, inl, inr, ◌⊎◌, [], ◌∷◌, ◌++◌, refl, ◌<◌, arith, sym, ◌∙◌, false, ◌==◌, Bool, cond, drop, filter, not, Some, ◌^◌, ◌≢◌}
+use Rattle.std.proofs.lemmas.Bool.{and_left, cases_eq, both_ways, false≢true, false_from_ne_true, cond_both, eq-eqb, ne_eqb}
+use Rattle.fq_model.specs.History.{History, waits_for, WaitsFor, submits, request_at, is_of_tenant, queue, is_removed, queue_after, head, request_bound}
 use Rattle.fq_model.specs.declared.config.Config.{Config}
 use Rattle.fq_model.specs.Rules.{IsLegal, FitsTake, Fits}
-use Rattle.fq_model.specs.declared.event.Act.TheVariants.{Submit, Take}
+use Rattle.fq_model.specs.declared.event.Act.TheVariants.{Submit, Take, Withdraw}
 use Rattle.fq_model.specs.declared.event.Act.{Act}
 use Rattle.fq_model.specs.Limits.{InLimits}
 use Rattle.fq_model.specs.Sums.{first_of}
 use Rattle.fq_model.specs.declared.event.Entry.{Entry}
 use Rattle.fq_laws.specs.Words.{Member, Ascends, one_more, first}
 use Rattle.fq_laws.specs.Laws.{IsQueue}
-use Rattle.fq_laws.proofs.History.Heads.{waits_below, waits_submit_same, waits_submit_new, waits_fresh, waits_take_same, waits_take_gone, waits_small}
+use Rattle.fq_laws.proofs.History.Heads.{waits_below, waits_submit_same, waits_submit_new, waits_fresh, waits_take_same, waits_take_gone, waits_withdraw_same, waits_withdraw_gone, waits_small}
 use Rattle.fq_laws.proofs.Rules.Takes.{Heads, take_head}
 use Rattle.fq_laws.proofs.History.Asked.{is_of_asked}
 use Rattle.fq_laws.proofs.Sums.{IsLeast, least_by}
@@ -105,10 +105,72 @@ queued_take C P who m t w q estimate false e f h = queued_same P (one_more who m
   | inr ne ↦ waits_take_same P who m t r w q estimate ne
 ]) h
 
+-- ---- without one request
+
+-- the numbers but for q
+abbrev pub but : ℕ → List ℕ → List ℕ
+but q xs = filter (λ r. not (r == q)) xs
+
+but_member : (q r : ℕ) (xs : List ℕ) → Member r (but q xs) → Member r xs × (q ≢ r)
+but_member q r [] h = absurd h
+but_member q r (x ∷ xs) h = elim (cases_eq x q) [
+  | inl e ↦ (let k : Member r (but q xs) = rw (eq-eqb x q e) at h in let m = but_member q r xs k in (inr m.0, m.1))
+  | inr ne ↦ elim (kept ne) [ inl e ↦ (inl e, λ same. ne (sym (same ∙ e))) | inr k ↦ (let m = but_member q r xs k in (inr m.0, m.1)) ]
+]
+  where
+    kept : x ≢ q → (r ≡ x) ⊎ Member r (but q xs)
+    kept ne = rw (ne_eqb x q ne) at h
+
+member_but : (q r : ℕ) (xs : List ℕ) → q ≢ r → Member r xs → Member r (but q xs)
+member_but q r [] ne h = absurd h
+member_but q r (x ∷ xs) ne (inl e) = rw (ne_eqb x q (λ same. ne (sym (e ∙ same)))) (inl e)
+member_but q r (x ∷ xs) ne (inr h) = elim (cases_eq x q) [
+  | inl e ↦ rw (eq-eqb x q e) (member_but q r xs ne h)
+  | inr other ↦ rw (ne_eqb x q other) (inr (member_but q r xs ne h))
+]
+
+ascends_but : (q : ℕ) (xs : List ℕ) → Ascends xs → Ascends (but q xs)
+ascends_but q [] a = tt
+ascends_but q (x ∷ xs) a = elim (cases_eq x q) [
+  | inl e ↦ rw (eq-eqb x q e) (ascends_but q xs a.1)
+  | inr ne ↦ rw (ne_eqb x q ne) (λ s h. a.0 s (but_member q s xs h).0, ascends_but q xs a.1)
+]
+
+-- where q is none of them all stay
+pub but_none : (q : ℕ) (xs : List ℕ) → ((r : ℕ) → Member r xs → q ≢ r) → but q xs ≡ xs
+but_none q [] off = refl
+but_none q (x ∷ xs) off = rw (ne_eqb x q (λ e. off x (inl refl) (sym e)), but_none q xs (λ r h. off r (inr h))) refl
+
+-- and where it stands between these, it alone is gone
+pub but_middle : (q : ℕ) (front rest : List ℕ) → Ascends (front ++ q ∷ rest) → but q (front ++ q ∷ rest) ≡ front ++ rest
+but_middle q [] rest a = rw (eq-eqb q q refl) (but_none q rest (λ r h e. let b : q < r = a.0 r h in omega (arith, e)))
+but_middle q (x ∷ front) rest a =
+    let below : x < q = a.0 q (middle q front rest) in
+    rw (ne_eqb x q (λ e. omega (arith, e)), but_middle q front rest a.1) refl
+  where
+    middle : (q : ℕ) (front rest : List ℕ) → Member q (front ++ q ∷ rest)
+    middle q [] rest = inl refl
+    middle q (y ∷ front) rest = inr (middle q front rest)
+
+queued_withdraw : (P : History) (who m t q : ℕ) (b : Bool) → is_of_tenant t (request_at P q) ≡ b → Queued P t (queue P t) → Queued (one_more who m (Withdraw q) P) t (cond b (but q (queue P t)) (queue P t))
+queued_withdraw P who m t q true e h = record {
+  ascends = ascends_but q (queue P t) h.ascends;
+  only = λ r k. let x = but_member q r (queue P t) k in waits_withdraw_same P who m t r q x.1 ∙ h.only r x.0;
+  every = λ r w. elim (cases_eq q r) [
+    | inl x ↦ absurd (both_ways _ (waits_withdraw_gone P who m t q) (rw (← x) at w))
+    | inr ne ↦ member_but q r (queue P t) ne (h.every r (sym (waits_withdraw_same P who m t r q ne) ∙ w))
+  ];
+}
+queued_withdraw P who m t q false e h = queued_same P (one_more who m (Withdraw q) P) t (queue P t) (λ r. elim (cases_eq q r) [
+  | inl x ↦ rw (← x) (waits_withdraw_gone P who m t q ∙ sym (waits_not_of P t q e))
+  | inr ne ↦ waits_withdraw_same P who m t r q ne
+]) h
+
 queued_at : (C : Config) (P : History) (who m t : ℕ) (a : Act) → IsLegal C P → Fits C P m a → Queued P t (queue P t) → Queued (one_more who m a P) t (queue_after P t a (queue P t))
-unfolding waits_for is_taken
+unfolding waits_for is_removed
 queued_at C P who m t (Submit request tenant kind declared label) l f h = queued_submit C P who m t request tenant kind declared label (tenant == t) refl l f.numbered h
 queued_at C P who m t (Take worker request estimate) l f h = queued_take C P who m t worker request estimate (is_of_tenant t (request_at P request)) refl f h
+queued_at C P who m t (Withdraw request) l f h = queued_withdraw P who m t request (is_of_tenant t (request_at P request)) refl h
 queued_at C P who m t a l f h = queued_same P (one_more who m a P) t (queue P t) (λ r. refl) h
 
 -- `queue` is the waiting requests in order
@@ -154,3 +216,9 @@ pub head_take_other : (C : Config) (P : History) (who m t w q estimate : ℕ) �
 head_take_other C P who m t w q estimate lim l off =
     let h : head P t ≡ first (queue P t) = head_is_first C P t lim l.0 in
     head_after C P (record { who = who; moment = m; act = Take w q estimate }) t lim l ∙ rw (off, h) refl
+
+-- so does a Withdraw
+pub head_withdraw_other : (C : Config) (P : History) (who m t q : ℕ) → InLimits C → IsLegal C (one_more who m (Withdraw q) P) → is_of_tenant t (request_at P q) ≡ false → head (one_more who m (Withdraw q) P) t ≡ head P t
+head_withdraw_other C P who m t q lim l off =
+    let h : head P t ≡ first (queue P t) = head_is_first C P t lim l.0 in
+    head_after C P (record { who = who; moment = m; act = Withdraw q }) t lim l ∙ rw (off, h) refl

@@ -1,14 +1,14 @@
 -- What is known of the requests of legal histories.
 use Rattle.std.proofs.Common.{ℕ, ◌<◌, ◌≡◌, true, ◌||◌, arith, inl, inr, [], ◌∷◌, subst, false, refl, Some, ◌≤◌, length, Option, None, sym, ◌∙◌}
-use Rattle.std.proofs.lemmas.Bool.{eqb-true, or_cases, false≢true, or_right, and_parts, or_left, not_from_false, and_from, false_from_ne_true, both_ways, cases_eq, eq-eqb, ne_eqb}
+use Rattle.std.proofs.lemmas.Bool.{eqb-true, or_cases, false≢true, or_right, and_parts, not_from_false, and_from, false_from_ne_true, both_ways, cases_eq, eq-eqb, ne_eqb, or_from}
 use Rattle.fq_model.specs.declared.config.Config.{Config}
 use Rattle.fq_model.specs.declared.event.Act.{Act}
-use Rattle.fq_model.specs.declared.event.Act.TheVariants.{Submit, Take, Done}
-use Rattle.fq_model.specs.History.{History, is_submit_of, is_submitted, submits, with_submit, is_take_of, is_taken, is_take_by, has_act, is_running, Runs, is_done_of, is_done, Request, request_at, request_in, is_of_tenant}
+use Rattle.fq_model.specs.declared.event.Act.TheVariants.{Submit, Take, Done, Withdraw}
+use Rattle.fq_model.specs.History.{History, is_submit_of, is_submitted, submits, with_submit, is_take_of, is_taken, is_take_by, is_removal_of, is_removed, is_withdraw_of, is_withdrawn, is_ended, is_waiting, has_act, is_running, Runs, is_done_of, is_done, Request, request_at, request_in, is_of_tenant}
 use Rattle.fq_model.specs.Rules.{Fits, IsLegal, FitsUse}
 use Rattle.fq_model.specs.declared.event.Entry.{Entry}
 use Rattle.vt_fixed.specs.declared.limits.TheConstants.{GREATEST_COST}
-use Rattle.fq_laws.proofs.History.Asked.{waits_submitted, submitted_known, asked_submitted}
+use Rattle.fq_laws.proofs.History.Asked.{has_weaker, waits_submitted, waits_unremoved, waits_untaken, submitted_known, asked_submitted, taken_removed, withdrawn_removed, ended_by}
 use Rattle.fq_laws.proofs.Rules.Takes.{take_waits}
 
 -- a submitted request has a number below the count of Submits, at one entry more
@@ -24,19 +24,26 @@ unfolding is_submitted
 submitted_below C [] r l h = absurd (false≢true h)
 submitted_below C (e ∷ P) r l h = submitted_at C P e.moment r e.act l.3 (submitted_below C P r l.0) h
 
--- a taken request was submitted
-taken_at : (C : Config) (P : History) (m r : ℕ) (a : Act) → Fits C P m a → (is_taken P r ≡ true → is_submitted P r ≡ true) → (is_take_of r a || is_taken P r) ≡ true → (is_submit_of r a || is_submitted P r) ≡ true
-taken_at C P m r (Submit request tenant kind declared label) f ih h = or_right _ _ (ih h)
-taken_at C P m r (Take worker request estimate) f ih h = elim (or_cases _ _ h) [
+-- a request that is taken or withdrawn was submitted
+removed_at : (C : Config) (P : History) (m r : ℕ) (a : Act) → Fits C P m a → (is_removed P r ≡ true → is_submitted P r ≡ true) → (is_removal_of r a || is_removed P r) ≡ true → (is_submit_of r a || is_submitted P r) ≡ true
+removed_at C P m r (Submit request tenant kind declared label) f ih h = or_right _ _ (ih h)
+removed_at C P m r (Take worker request estimate) f ih h = elim (or_cases _ _ h) [
   | inl e ↦ subst (λ s. is_submitted P s ≡ true) (eqb-true _ _ e) (waits_submitted P request (take_waits C P m worker request estimate f))
   | inr e ↦ ih e
 ]
-taken_at C P m r _ f ih h = ih h
+removed_at C P m r (Withdraw request) f ih h = elim (or_cases _ _ h) [
+  | inl e ↦ subst (λ s. is_submitted P s ≡ true) (eqb-true _ _ e) (waits_submitted P request f)
+  | inr e ↦ ih e
+]
+removed_at C P m r _ f ih h = ih h
+
+pub removed_submitted : (C : Config) (P : History) (r : ℕ) → IsLegal C P → is_removed P r ≡ true → is_submitted P r ≡ true
+unfolding is_removed is_submitted
+removed_submitted C [] r l h = absurd (false≢true h)
+removed_submitted C (e ∷ P) r l h = removed_at C P e.moment r e.act l.3 (removed_submitted C P r l.0) h
 
 pub taken_submitted : (C : Config) (P : History) (r : ℕ) → IsLegal C P → is_taken P r ≡ true → is_submitted P r ≡ true
-unfolding is_taken is_submitted
-taken_submitted C [] r l h = absurd (false≢true h)
-taken_submitted C (e ∷ P) r l h = taken_at C P e.moment r e.act l.3 (taken_submitted C P r l.0) h
+taken_submitted C P r l h = removed_submitted C P r l (taken_removed P r h)
 
 -- what a worker has taken is taken
 taken_by_at : (i r : ℕ) (a : Act) → is_take_by i r a ≡ true → is_take_of r a ≡ true
@@ -44,11 +51,7 @@ taken_by_at i r (Take worker request estimate) h = (and_parts _ _ h).1
 taken_by_at i r _ h = h
 
 pub worker_took : (i r : ℕ) (P : History) → has_act (is_take_by i r) P ≡ true → has_act (is_take_of r) P ≡ true
-worker_took i r [] h = h
-worker_took i r (e ∷ P) h = elim (or_cases _ _ h) [
-  | inl x ↦ or_left _ _ (taken_by_at i r e.act x)
-  | inr x ↦ or_right _ _ (worker_took i r P x)
-]
+worker_took i r P h = has_weaker (is_take_by i r) (is_take_of r) (taken_by_at i r) P h
 
 pub worker_runs : (P : History) (i r : ℕ) → Runs P i r → is_running P r ≡ true
 unfolding is_running is_taken
@@ -81,6 +84,42 @@ untaken_nil r = refl
 pub untaken_undone : (C : Config) (P : History) (q : ℕ) → IsLegal C P → is_taken P q ≡ false → is_done P q ≡ false
 untaken_undone C P q l h = false_from_ne_true _ (λ d. both_ways _ h (done_taken C P q l d))
 
+-- ---- what is withdrawn
+
+-- a withdrawn request is never taken
+unmixed_at : (C : Config) (P : History) (m r : ℕ) (a : Act) → Fits C P m a → (is_withdrawn P r ≡ true → is_taken P r ≡ false) → (is_withdraw_of r a || is_withdrawn P r) ≡ true → (is_take_of r a || is_taken P r) ≡ false
+unmixed_at C P m r (Take worker request estimate) f ih h =
+    let there : is_removed P request ≡ false = waits_unremoved P request (take_waits C P m worker request estimate f) in
+    or_from _ _ (ne_eqb request r (λ e. both_ways _ (rw e at there) (withdrawn_removed P r h))) (ih h)
+unmixed_at C P m r (Withdraw request) f ih h = elim (or_cases _ _ h) [
+  | inl e ↦ subst (λ s. is_taken P s ≡ false) (eqb-true _ _ e) (waits_untaken P request f)
+  | inr e ↦ ih e
+]
+unmixed_at C P m r _ f ih h = ih h
+
+pub withdrawn_untaken : (C : Config) (P : History) (r : ℕ) → IsLegal C P → is_withdrawn P r ≡ true → is_taken P r ≡ false
+unfolding is_withdrawn is_taken
+withdrawn_untaken C [] r l h = absurd (false≢true h)
+withdrawn_untaken C (e ∷ P) r l h = unmixed_at C P e.moment r e.act l.3 (withdrawn_untaken C P r l.0) h
+
+-- what is ended was taken or withdrawn
+pub ended_removed : (C : Config) (P : History) (r : ℕ) → IsLegal C P → is_ended P r ≡ true → is_removed P r ≡ true
+ended_removed C P r l h = elim (ended_by P r h) [
+  | inl d ↦ taken_removed P r (done_taken C P r l d)
+  | inr w ↦ withdrawn_removed P r w
+]
+
+-- so what waits is not ended
+pub waits_unended : (C : Config) (P : History) (r : ℕ) → IsLegal C P → is_waiting P r ≡ true → is_ended P r ≡ false
+waits_unended C P r l w = false_from_ne_true _ (λ h. both_ways _ (waits_unremoved P r w) (ended_removed C P r l h))
+
+-- nor is what runs
+pub taken_unended : (C : Config) (P : History) (r : ℕ) → IsLegal C P → is_taken P r ≡ true → is_done P r ≡ false → is_ended P r ≡ false
+taken_unended C P r l t d = false_from_ne_true _ (λ h. elim (ended_by P r h) [
+  | inl k ↦ both_ways _ d k
+  | inr w ↦ both_ways _ (withdrawn_untaken C P r l w) t
+])
+
 -- ---- what a worker may report of and finish
 
 -- a use that fits is of a request that is taken
@@ -90,6 +129,9 @@ use_taken P w q used f = runs_taken P q (worker_runs P w q f.runs)
 -- and not done
 pub use_undone : (P : History) (w q used : ℕ) → FitsUse P w q used → is_done P q ≡ false
 use_undone P w q used f = f.runs.not_done
+
+pub use_unended : (C : Config) (P : History) (w q used : ℕ) → IsLegal C P → FitsUse P w q used → is_ended P q ≡ false
+use_unended C P w q used l f = taken_unended C P q l (use_taken P w q used f) (use_undone P w q used f)
 
 pub taken_known : (C : Config) (P : History) (q : ℕ) → IsLegal C P → is_taken P q ≡ true → (a : Request) × (request_at P q ≡ Some a)
 taken_known C P q l h = submitted_known P q (taken_submitted C P q l h)
@@ -136,6 +178,12 @@ fresh C P r l n = go (request_at P r) refl
 
 pub fresh_unsubmitted : (C : Config) (P : History) (r : ℕ) → IsLegal C P → submits P ≤ r → is_submitted P r ≡ false
 fresh_unsubmitted C P r l n = false_from_ne_true _ (λ h. let b : r < submits P = submitted_below C P r l h in omega arith)
+
+pub fresh_unremoved : (C : Config) (P : History) (r : ℕ) → IsLegal C P → submits P ≤ r → is_removed P r ≡ false
+fresh_unremoved C P r l n = false_from_ne_true _ (λ h. let b : r < submits P = submitted_below C P r l (removed_submitted C P r l h) in omega arith)
+
+pub fresh_unended : (C : Config) (P : History) (r : ℕ) → IsLegal C P → submits P ≤ r → is_ended P r ≡ false
+fresh_unended C P r l n = false_from_ne_true _ (λ h. both_ways _ (fresh_unremoved C P r l n) (ended_removed C P r l h))
 
 pub fresh_untaken : (C : Config) (P : History) (r : ℕ) → IsLegal C P → submits P ≤ r → is_taken P r ≡ false
 fresh_untaken C P r l n = false_from_ne_true _ (λ h. let b : r < submits P = submitted_below C P r l (taken_submitted C P r l h) in omega arith)

@@ -1,11 +1,11 @@
 -- What an entry leaves of the tenants that it does not concern, and when keys stay.
 use Rattle.std.proofs.Common.{subst, ℕ, ◌≡◌, false, refl, List, Option, Some, None, arith, ◌∷◌, ◌^◌, true, sym, ◌∙◌, ap}
 use Rattle.std.proofs.lemmas.Bool.{eqb-false, false_from_ne_true, both_ways, and_parts, and_from, not-true, not_from_false}
-use Rattle.fq_model.specs.History.{is_taken, Request, is_of_tenant, History, request_at, head, is_done, waits_for, request_bound}
+use Rattle.fq_model.specs.History.{is_removed, Request, is_of_tenant, History, request_at, head, is_ended, waits_for, request_bound}
 use Rattle.fq_model.specs.Charge.{with_completion, Completed, with_cost, completed_costs, completed, estimate_at, estimate_from, request_estimate}
 use Rattle.fq_model.specs.declared.config.Config.{Config}
 use Rattle.fq_model.specs.declared.event.Act.{Act}
-use Rattle.fq_model.specs.declared.event.Act.TheVariants.{Submit, Take, Report, Done}
+use Rattle.fq_model.specs.declared.event.Act.TheVariants.{Submit, Take, Report, Done, Withdraw}
 use Rattle.fq_model.specs.Limits.{InLimits}
 use Rattle.fq_model.specs.Time.{open_requests, is_open, is_active, last_moment}
 use Rattle.fq_model.specs.Rules.{IsLegal}
@@ -15,12 +15,12 @@ use Rattle.fq_model.specs.Pace.{tag_base}
 use Rattle.fq_laws.specs.Words.{concerns, Leaves, one_more}
 use Rattle.fq_laws.specs.Changes.{no_change, Changes, change_of}
 use Rattle.fq_laws.proofs.History.Heads.{head_same}
-use Rattle.fq_laws.proofs.History.Queues.{head_submit, head_take_other}
+use Rattle.fq_laws.proofs.History.Queues.{head_submit, head_take_other, head_withdraw_other}
 use Rattle.fq_laws.proofs.Keys.Pace.{base_step}
 use Rattle.fq_laws.proofs.Keys.Tags.{base_submit_other}
 use Rattle.fq_laws.proofs.Charge.Changes.{changes}
 use Rattle.fq_laws.proofs.Sums.{count_some}
-use Rattle.fq_laws.proofs.History.Requests.{done_taken, asked_stays}
+use Rattle.fq_laws.proofs.History.Requests.{ended_removed, asked_stays}
 use Rattle.fq_laws.proofs.Rules.Takes.{heads, Heads}
 use Rattle.fq_laws.proofs.Time.Open.{active_of_open}
 use Rattle.fq_laws.proofs.Time.Clock.{idle_active, idle_step}
@@ -38,12 +38,14 @@ nothing_changes C P t (Submit request tenant kind declared label) off = rw off r
 nothing_changes C P t (Take worker request estimate) off = rw off refl
 nothing_changes C P t (Report worker request used) off = rw off refl
 nothing_changes C P t (Done worker request cost) off = rw off refl
+nothing_changes C P t (Withdraw request) off = rw off refl
 nothing_changes C P t _ off = refl
 
 head_left : (C : Config) (P : History) (who m t : ℕ) (a : Act) → InLimits C → IsLegal C (one_more who m a P) → concerns P t a ≡ false → head (one_more who m a P) t ≡ head P t
-unfolding waits_for is_taken
+unfolding waits_for is_removed
 head_left C P who m t (Submit request tenant kind declared label) lim l off = let h = head_submit C P who m t request tenant kind declared label lim l in rw off at h
 head_left C P who m t (Take worker request estimate) lim l off = head_take_other C P who m t worker request estimate lim l off
+head_left C P who m t (Withdraw request) lim l off = head_withdraw_other C P who m t request lim l off
 head_left C P who m t a lim l off = head_same P (one_more who m a P) t (λ r. refl)
 
 base_left : (C : Config) (P : History) (who m t : ℕ) (a : Act) → concerns P t a ≡ false → tag_base C (one_more who m a P) t ≡ tag_base C P t
@@ -76,8 +78,8 @@ unfolding open_requests is_open waits_for request_bound
 head_active C P t r l h =
     let x : Heads P t r = heads P t r h in
     let p = and_parts _ _ x.waits_now in
-    let undone : is_done P r ≡ false = false_from_ne_true _ (λ d. both_ways _ (not-true _ p.1) (done_taken C P r l d)) in
-    active_of_open P t (count_some (is_open P t) r (2 ^ 32) x.small (and_from _ _ p.0 (not_from_false _ undone)))
+    let unended : is_ended P r ≡ false = false_from_ne_true _ (λ d. both_ways _ (not-true _ p.1) (ended_removed C P r l d)) in
+    active_of_open P t (count_some (is_open P t) r (2 ^ 32) x.small (and_from _ _ p.0 (not_from_false _ unended)))
 
 -- where a tenant starts does not depend on the moment while it has a head
 pub start_moment : (C : Config) (P : History) (m t r : ℕ) → IsLegal C P → head P t ≡ Some r → start C P m t ≡ start C P (last_moment P) t

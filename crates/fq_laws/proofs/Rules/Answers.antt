@@ -6,11 +6,11 @@ use Rattle.fq_model.specs.declared.config.Config.{Config}
 use Rattle.fq_model.specs.History.{History, Request, waiting, request_at, is_closed, submits, pool_at}
 use Rattle.fq_model.specs.Charge.{request_estimate}
 use Rattle.fq_model.specs.Keys.{HeadKeys, IsChoiceAt}
-use Rattle.fq_model.specs.Rules.{RefusedOrElse, IsChosen, IsLegal, IsAccepted, IsAnswered, RunsChosen, AnswersPooled, AnswersFree, RunsNothing, request_on, submit_refusal, take_refusal, report_refusal, done_refusal, close_refusal, weight_refusal, workers_refusal, Answers, Fits}
+use Rattle.fq_model.specs.Rules.{RefusedOrElse, IsChosen, IsLegal, IsAccepted, IsAnswered, RunsChosen, AnswersPooled, AnswersFree, RunsNothing, request_on, submit_refusal, take_refusal, report_refusal, done_refusal, close_refusal, weight_refusal, workers_refusal, withdraw_refusal, label_of, Answers, Fits}
 use Rattle.fq_model.specs.declared.event.Act.{Act}
 use Rattle.fq_model.specs.declared.event.Reply.{Reply}
 use Rattle.fq_model.specs.Time.{effective_moment}
-use Rattle.fq_model.specs.declared.event.Act.TheVariants.{Take, Submit, Report, Done, Close, Weight, Workers}
+use Rattle.fq_model.specs.declared.event.Act.TheVariants.{Take, Submit, Report, Done, Close, Weight, Workers, Withdraw}
 use Rattle.fq_model.specs.declared.event.Call.{Call}
 use Rattle.fq_model.specs.Limits.{InLimits}
 use Rattle.fq_model.specs.declared.event.Cause.{Cause}
@@ -19,7 +19,7 @@ use Rattle.fq_model.specs.declared.event.Reply.TheVariants as answer
 use Rattle.fq_laws.specs.Words.{one_more, Extends, caller, named_moment}
 use Rattle.fq_laws.proofs.Rules.Takes.{choice_head}
 use Rattle.fq_laws.proofs.Keys.Choices.{keys_of, KeysOf, chosen, chosen_keys}
-use Rattle.fq_laws.proofs.Rules.Refusals.{SomeReply, refused_exists, refused_one, refused_keeps, le_false, submit_fits, take_free, report_fits, done_fits, close_fits, weight_fits, workers_fits}
+use Rattle.fq_laws.proofs.Rules.Refusals.{SomeReply, refused_exists, refused_one, refused_keeps, le_false, submit_fits, take_free, report_fits, done_fits, close_fits, weight_fits, workers_fits, withdraw_fits}
 use Rattle.fq_laws.proofs.Rules.Limits.{effective_rises, effective_small}
 
 -- ---- the request that a worker takes
@@ -64,6 +64,7 @@ refusal_of C P (call.Done who moment worker cost) = done_refusal C P worker cost
 refusal_of C P (call.Close who moment) = close_refusal P
 refusal_of C P (call.Weight who moment tenant weight) = weight_refusal C P tenant weight
 refusal_of C P (call.Workers who moment count) = workers_refusal C P count
+refusal_of C P (call.Withdraw who moment request) = withdraw_refusal P request
 
 -- the act of a call that is accepted, and its reply; those of a Take are not read
 abbrev act_of : History → Call → Act
@@ -72,10 +73,12 @@ act_of P (call.Report who moment worker used) = Report worker (request_on P work
 act_of P (call.Done who moment worker cost) = Done worker (request_on P worker) cost
 act_of P (call.Weight who moment tenant weight) = Weight tenant weight
 act_of P (call.Workers who moment count) = Workers count
+act_of P (call.Withdraw who moment request) = Withdraw request
 act_of P _ = Close
 
 abbrev reply_of : History → Call → Reply
 reply_of P (call.Submit who moment tenant kind declared label) = answer.Request (submits P)
+reply_of P (call.Withdraw who moment request) = answer.Withdrawn (label_of (request_at P request))
 reply_of P _ = answer.Accepted
 
 -- what answers a call that is not refused
@@ -169,6 +172,7 @@ unrefused_legal C P (call.Done who moment worker cost) r Q lim l e x = accepted_
 unrefused_legal C P (call.Close who moment) r Q lim l e x = accepted_keeps C P who moment _ _ r Q l (close_fits P e) x
 unrefused_legal C P (call.Weight who moment tenant weight) r Q lim l e x = accepted_keeps C P who moment _ _ r Q l (weight_fits C P tenant weight e) x
 unrefused_legal C P (call.Workers who moment count) r Q lim l e x = accepted_keeps C P who moment _ _ r Q l (workers_fits C P count e) x
+unrefused_legal C P (call.Withdraw who moment request) r Q lim l e x = accepted_keeps C P who moment _ _ r Q l (withdraw_fits P request e) x
 
 -- what an answer leaves of a legal history is legal
 pub answer_legal : (C : Config) (P : History) (c : Call) (r : Reply) (Q : History) → InLimits C → IsLegal C P → Answers C P c r Q → IsLegal C Q
@@ -203,6 +207,7 @@ free_refused_at C P who moment i false x Q h = pooled_refused_at C P who moment 
 unrefused_unlike : (C : Config) (P : History) (c : Call) (x : Cause) (Q : History) → Unrefused C P c (answer.Refused x) Q → Q ≡ P
 unrefused_unlike C P (call.Take who moment worker) x Q h = free_refused_at C P who moment worker (nat_le (pool_at C P) worker) x Q h
 unrefused_unlike C P (call.Submit who moment tenant kind declared label) x Q h = let no : answer.Refused x ≡ answer.Request (submits P) = h.0 in absurd (cc)
+unrefused_unlike C P (call.Withdraw who moment request) x Q h = let no : answer.Refused x ≡ answer.Withdrawn (label_of (request_at P request)) = h.0 in absurd (cc)
 unrefused_unlike C P _ x Q h = let no : answer.Refused x ≡ answer.Accepted = h.0 in absurd (cc)
 
 -- a refused call leaves the history as it was

@@ -3,11 +3,11 @@ use Rattle.std.proofs.Common.{◌≤◌, arith, [], ◌∷◌, ℕ, min, max, �
 use Rattle.std.proofs.lemmas.Bool.{or_left, eq-eqb, ne_eqb}
 use Rattle.vt_fixed.specs.declared.limits.TheConstants.{GREATEST_MOMENT}
 use Rattle.fq_model.specs.declared.config.Config.{Config}
-use Rattle.fq_model.specs.History.{is_waiting, History, waiting, running, is_running, Runs, request_bound, is_closed, is_submitted, submits, is_taken}
+use Rattle.fq_model.specs.History.{is_waiting, History, waiting, running, is_running, Runs, request_bound, is_closed, is_submitted, is_removed, submits, is_taken}
 use Rattle.fq_model.specs.Time.{last_moment, effective_moment}
 use Rattle.fq_model.specs.Rules.{IsLegal, Fits}
 use Rattle.fq_model.specs.declared.event.Act.{Act}
-use Rattle.fq_model.specs.declared.event.Act.TheVariants.{Submit, Take}
+use Rattle.fq_model.specs.declared.event.Act.TheVariants.{Submit, Take, Withdraw}
 use Rattle.fq_model.specs.Limits.{InLimits}
 use Rattle.fq_model.specs.Sums.{count_below}
 use Rattle.fq_model.specs.declared.limits.TheConstants.{MOST_LONG_ENTRIES}
@@ -16,7 +16,7 @@ use Rattle.fq_laws.specs.Laws.{Room}
 use Rattle.fq_laws.proofs.Rules.Takes.{take_waits}
 use Rattle.fq_laws.proofs.History.Asked.{waits_submitted}
 use Rattle.fq_laws.proofs.History.Counts.{waiting_submit, waiting_take, waiting_none, submits_le_length}
-use Rattle.fq_laws.proofs.History.Numbers.{submits_small, submitted_small, runs_small, next_small}
+use Rattle.fq_laws.proofs.History.Numbers.{submits_small, submitted_small, runs_small, next_small, waiting_withdrawn}
 use Rattle.fq_laws.proofs.Rules.Room.{has_room, needs}
 use Rattle.fq_laws.proofs.Sums.{count_some, count_more, count_zero, count_at_most}
 use Rattle.fq_laws.proofs.History.Requests.{worker_runs, fresh_unsubmitted, taken_submitted}
@@ -42,7 +42,7 @@ effective_small P m = min_small (max m (last_moment P)) GREATEST_MOMENT
 -- ---- slots
 
 slots_at : (C : Config) (P : History) (who m : ℕ) (a : Act) → InLimits C → IsLegal C P → Fits C P m a → waiting P ≤ C.requests → waiting (one_more who m a P) ≤ C.requests
-unfolding waiting is_waiting is_submitted is_taken
+unfolding waiting is_waiting is_submitted is_removed
 slots_at C P who m (Submit request tenant kind declared label) lim l f ih =
     let b : request < 2 ^ 32 = omega (arith, submits_small C P lim l, f.numbered) in
     omega (arith, waiting_submit C P who m request tenant kind declared label l f.numbered b, f.slot)
@@ -50,6 +50,7 @@ slots_at C P who m (Take worker request estimate) lim l f ih =
     let w = take_waits C P m worker request estimate f in
     let b : request < 2 ^ 32 = submitted_small C P request lim l (waits_submitted P request w) in
     omega (arith, waiting_take P who m worker request estimate w b)
+slots_at C P who m (Withdraw request) lim l f ih = omega (arith, waiting_withdrawn C P who m request lim l f)
 slots_at C P who m _ lim l f ih = ih
 
 -- no more requests wait than there are slots

@@ -1,11 +1,11 @@
 -- An act that fits a history is not refused.
-use Rattle.std.proofs.Common.{ℕ, ◌<◌, ◌≤◌, ◌≡◌, ◌≢◌, ◌^◌, ◌==◌, false, length, Some, None, arith, refl, leb, ltb}
+use Rattle.std.proofs.Common.{ℕ, ◌<◌, ◌≤◌, ◌≡◌, ◌≢◌, ◌^◌, ◌==◌, true, false, length, Some, None, arith, refl, leb, ltb}
 use Rattle.std.proofs.lemmas.Bool.{ne_eqb, le-ltb, lt-leb}
 use Rattle.vt_fixed.specs.declared.limits.TheConstants.{GREATEST_COST, GREATEST_MOMENT, GREATEST_WEIGHT}
 use Rattle.fq_model.specs.declared.config.Config.{Config}
 use Rattle.fq_model.specs.History.{History, waiting, is_waiting, running_on, last_use, is_closed, request_bound}
 use Rattle.fq_model.specs.Limits.{InLimits, is_outside}
-use Rattle.fq_model.specs.Rules.{IsLegal, FitsUse, FitsSubmit, FitsTake, FitsWeight, FitsWorkers, HasRoom, needed_room, submit_refusal, take_refusal, report_refusal, done_refusal, weight_refusal, workers_refusal}
+use Rattle.fq_model.specs.Rules.{IsLegal, FitsUse, FitsSubmit, FitsTake, FitsWeight, FitsWorkers, HasRoom, needed_room, submit_refusal, take_refusal, report_refusal, done_refusal, weight_refusal, workers_refusal, withdraw_refusal}
 use Rattle.fq_model.specs.Time.{last_moment, effective_moment}
 use Rattle.fq_laws.proofs.History.Asked.{waits_submitted}
 use Rattle.fq_laws.proofs.History.Numbers.{submitted_small}
@@ -69,6 +69,9 @@ workers_passes C P count f =
     let in_range : is_outside 1 C.workers count ≡ false = within _ _ _ f.count_in_range.0 f.count_in_range.1 in
     let room : ltb C.entries (needed_room P 2) ≡ false = le-ltb _ _ f.room in
     rw (in_range, room) refl
+
+pub withdraw_passes : (P : History) (request : ℕ) → is_waiting P request ≡ true → withdraw_refusal P request ≡ None
+withdraw_passes P request w = rw w refl
 
 -- and where a Take fits something waits
 pub some_waits : (C : Config) (P : History) (m worker request estimate : ℕ) → InLimits C → IsLegal C P → FitsTake C P m worker request estimate → waiting P ≢ 0

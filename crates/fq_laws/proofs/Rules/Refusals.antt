@@ -1,13 +1,13 @@
 -- What follows where a call is not refused, and where a refusal's tests hold.
-use Rattle.std.proofs.Common.{◌≡◌, Bool, false, List, [], ◌∷◌, true, refl, None, Option, Some, sym, ◌∙◌, subst, ℕ, ◌<◌, arith, ◌≤◌, nat_lt, ◌==◌, ◌≢◌, ◌||◌, length, ◌++◌}
+use Rattle.std.proofs.Common.{◌≡◌, Bool, false, not, List, [], ◌∷◌, true, refl, None, Option, Some, sym, ◌∙◌, subst, ℕ, ◌<◌, arith, ◌≤◌, nat_lt, ◌==◌, ◌≢◌, ◌||◌, length, ◌++◌}
 use Rattle.std.specs.Prelude.{nat_le, is_some, is_none}
 use Rattle.std.proofs.lemmas.Bool.Decides.{nat_tests}
 use Rattle.std.proofs.lemmas.Bool.{or_parts, false≢true}
 use Rattle.vt_fixed.specs.declared.limits.TheConstants.{GREATEST_COST, GREATEST_WEIGHT}
 use Rattle.fq_model.specs.declared.event.Cause.{Cause}
-use Rattle.fq_model.specs.Rules.{first_true, RefusedOrElse, needed_room, IsLegal, FitsSubmit, submit_refusal, RunsNothing, request_on, take_refusal, FitsUse, use_refusals, HasRoom, report_refusal, done_refusal, close_refusal, FitsWeight, FitsWorkers, weight_refusal, workers_refusal}
+use Rattle.fq_model.specs.Rules.{first_true, RefusedOrElse, needed_room, IsLegal, FitsSubmit, submit_refusal, RunsNothing, request_on, take_refusal, FitsUse, use_refusals, HasRoom, report_refusal, done_refusal, close_refusal, FitsWeight, FitsWorkers, weight_refusal, workers_refusal, withdraw_refusal}
 use Rattle.fq_model.specs.declared.event.Reply.{Reply}
-use Rattle.fq_model.specs.History.{History, is_closed, waiting, submits, running_on, Runs, last_use}
+use Rattle.fq_model.specs.History.{History, is_closed, is_waiting, waiting, submits, running_on, Runs, last_use}
 use Rattle.fq_model.specs.declared.config.Config.{Config}
 use Rattle.fq_model.specs.Limits.{InLimits, IsWithin, is_outside}
 use Rattle.fq_model.specs.declared.event.Cause.TheVariants as cause
@@ -157,3 +157,10 @@ pub workers_fits : (C : Config) (P : History) (count : ℕ) → workers_refusal 
 workers_fits C P count h =
     let x : AllFalse (workers_rows C P count) = all_false (workers_rows C P count) h in
     record { count_in_range = within_range 1 C.workers count x.0; room = lt_false C.entries (needed_room P 2) x.1.0 }
+
+not_false : (b : Bool) → not b ≡ false → b ≡ true
+not_false true h = refl
+not_false false h = absurd (false≢true (sym h))
+
+pub withdraw_fits : (P : History) (request : ℕ) → withdraw_refusal P request ≡ None → is_waiting P request ≡ true
+withdraw_fits P request h = not_false (is_waiting P request) (row_false (not (is_waiting P request)) (cause.NotWaiting request) [] h).0

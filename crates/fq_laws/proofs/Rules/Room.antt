@@ -5,10 +5,10 @@ use Rattle.fq_model.specs.History.{History, is_close, is_closed, waiting, runnin
 use Rattle.fq_model.specs.declared.config.Config.{Config}
 use Rattle.fq_model.specs.Limits.{InLimits}
 use Rattle.fq_model.specs.declared.event.Act.{Act}
-use Rattle.fq_model.specs.declared.event.Act.TheVariants.{Submit, Take, Report, Done, Close, Weight, Workers}
+use Rattle.fq_model.specs.declared.event.Act.TheVariants.{Submit, Take, Report, Done, Close, Weight, Workers, Withdraw}
 use Rattle.fq_model.specs.Rules.{IsLegal, Fits, HasRoom}
 use Rattle.fq_laws.specs.Words.{one_more, is_quiet}
-use Rattle.fq_laws.proofs.History.Counts.{submits_le_length, waiting_submit, waiting_take, running_take, running_done, running_submit, running_report, waiting_report, waiting_done, running_quiet, waiting_quiet, waiting_none, running_none}
+use Rattle.fq_laws.proofs.History.Counts.{submits_le_length, waiting_submit, waiting_take, waiting_withdraw, running_take, running_withdraw, running_done, running_submit, running_report, waiting_report, waiting_done, running_quiet, waiting_quiet, waiting_none, running_none}
 use Rattle.fq_laws.proofs.History.Requests.{submitted_below, taken_submitted, worker_runs, runs_taken}
 use Rattle.fq_laws.proofs.History.Asked.{waits_submitted}
 use Rattle.fq_laws.proofs.Rules.Takes.{take_waits}
@@ -54,6 +54,11 @@ room_at C P who m Close lim l f ih =
     rw (waiting_quiet P who m Close refl, running_quiet P who m Close refl) (omega arith)
 room_at C P who m (Weight tenant weight) lim l f ih = room_for_two C P who m (Weight tenant weight) refl refl f.room
 room_at C P who m (Workers count) lim l f ih = room_for_two C P who m (Workers count) refl refl f.room
+room_at C P who m (Withdraw request) lim l f ih =
+    let b : request < 2 ^ 32 = omega (arith, small_requests C P lim ih, submitted_below C P request l (waits_submitted P request f)) in
+    let w = waiting_withdraw P who m request f b in
+    let r = running_withdraw P who m request in
+    omega (arith, w, r, ih)
 
 pub has_room : (C : Config) (P : History) → InLimits C → IsLegal C P → needs P ≤ C.entries
 unfolding is_closed

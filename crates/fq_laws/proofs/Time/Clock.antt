@@ -65,10 +65,6 @@ unfolding clock_time
 clock_time_split C [] m = omega (arith, advance_nil C m)
 clock_time_split C (e ∷ P) m = omega (arith, advance_none C (e ∷ P))
 
--- at the moment of one entry more: one advance since the entry before
-pub clock_time_next : (C : Config) (P : History) (e : Entry) → clock_time C (e ∷ P) e.moment ≡ clock_time C P (last_moment P) + virtual_advance C P e.moment
-clock_time_next C P e = clock_time_step C P e ∙ clock_time_split C P e.moment
-
 -- ---- virtual idle time
 
 pub idle_nil : (C : Config) (m t : ℕ) → virtual_idle_time C [] m t ≡ 0
@@ -178,8 +174,3 @@ weights_low f (suc n) h = omega (arith, h n, weights_low f n h)
 pub active_weight_low : (C : Config) (P : History) → InLimits C → IsLegal C P → active_weight C P ≤ GREATEST_ACTIVE_WEIGHT
 unfolding active_weight
 active_weight_low C P lim l = omega (arith, lim.tenants.1, weights_low (weight_if_active C P) (length C.weights) (λ t. elim (cases_Bool (is_active P t)) [ inl h ↦ rw h (weight_high C P t lim l) | inr h ↦ rw h (omega arith) ]))
-
--- ---- the same in whole numbers, wherever a legal history ends
-
-pub clock_time_within : (C : Config) (P : History) (m : ℕ) → InLimits C → IsLegal C P → last_moment P ≤ m → m ≤ GREATEST_MOMENT → clock_time C P m ≤ GREATEST_MOMENT * greatest_rate
-clock_time_within C P m lim l h k = omega (arith, clock_time_low C P m lim l h)
