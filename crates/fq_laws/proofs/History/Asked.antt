@@ -1,7 +1,7 @@
 -- What a request asked, and whether it was submitted.
 use Rattle.std.proofs.Common.{Bool, false, ◌&&◌, ℕ, ◌≡◌, true, ◌==◌, ◌||◌, ◌⊎◌, refl, inl, inr, Some, [], ◌∷◌, None, Option, ◌≢◌}
 use Rattle.std.proofs.lemmas.Bool.{and_parts, not-true, cases_Bool, or_cases, or_left, or_right, eqb-true, false≢true, both_ways, eq-eqb, ne_eqb, false_from_ne_true}
-use Rattle.fq_model.specs.History.{History, is_submitted, is_waiting, is_taken, is_done, is_withdrawn, is_removed, is_ended, is_submit_of, is_take_of, is_done_of, is_withdraw_of, is_removal_of, is_end_of, has_act, Request, request_at, request_in, is_of_tenant}
+use Rattle.fq_model.specs.History.{History, is_submitted, is_waiting, is_taken, is_done, is_withdrawn, is_removed, is_ended, is_submit_of, is_take_of, is_done_of, is_withdraw_of, is_removal_of, is_end_of, is_change, has_act, Request, request_at, request_in, is_of_tenant}
 use Rattle.fq_model.specs.declared.event.Act.{Act}
 use Rattle.fq_model.specs.declared.event.Act.TheVariants.{Submit, Take, Done, Withdraw}
 
@@ -53,6 +53,32 @@ ended_by (e ∷ P) r h = elim (or_cases (is_end_of r e.act) (has_act (is_end_of 
   | inl x ↦ elim (end_by r e.act x) [ inl k ↦ inl (or_left _ _ k) | inr k ↦ inr (or_left _ _ k) ]
   | inr x ↦ elim (ended_by P r x) [ inl k ↦ inl (or_right _ _ k) | inr k ↦ inr (or_right _ _ k) ]
 ]
+
+removal_by : (r : ℕ) (a : Act) → is_removal_of r a ≡ true → (is_take_of r a ≡ true) ⊎ (is_withdraw_of r a ≡ true)
+removal_by r (Take worker request estimate) h = inl h
+removal_by r (Withdraw request) h = inr h
+removal_by r _ h = absurd (false≢true h)
+
+-- what is removed is taken or withdrawn
+pub removed_by : (P : History) (r : ℕ) → is_removed P r ≡ true → (is_taken P r ≡ true) ⊎ (is_withdrawn P r ≡ true)
+unfolding is_removed is_taken is_withdrawn
+removed_by [] r h = absurd (false≢true h)
+removed_by (e ∷ P) r h = elim (or_cases (is_removal_of r e.act) (has_act (is_removal_of r) P) h) [
+  | inl x ↦ elim (removal_by r e.act x) [ inl k ↦ inl (or_left _ _ k) | inr k ↦ inr (or_left _ _ k) ]
+  | inr x ↦ elim (removed_by P r x) [ inl k ↦ inl (or_right _ _ k) | inr k ↦ inr (or_right _ _ k) ]
+]
+
+withdraw_changes : (r : ℕ) (a : Act) → is_withdraw_of r a ≡ true → is_change a ≡ true
+withdraw_changes r (Withdraw request) h = refl
+withdraw_changes r _ h = absurd (false≢true h)
+
+-- where nothing is changed or withdrawn, what is not taken is not removed
+pub untaken_unremoved : (P : History) (r : ℕ) → has_act is_change P ≡ false → is_taken P r ≡ false → is_removed P r ≡ false
+unfolding is_withdrawn
+untaken_unremoved P r none un = false_from_ne_true _ (λ h. elim (removed_by P r h) [
+  | inl t ↦ both_ways _ un t
+  | inr w ↦ both_ways _ none (has_weaker (is_withdraw_of r) is_change (withdraw_changes r) P w)
+])
 
 -- ---- what waits
 

@@ -14,7 +14,7 @@ use Rattle.fq_model.specs.Time.{weight_if_active, active_weight, last_moment, vi
 use Rattle.fq_model.specs.Limits.{InLimits}
 use Rattle.fq_model.specs.Rules.{IsLegal}
 use Rattle.fq_model.specs.Sums.{sum_below}
-use Rattle.vt_fixed.specs.declared.limits.TheConstants.{MOST_WORKERS, GREATEST_WEIGHT, GREATEST_ACTIVE_WEIGHT, GREATEST_MOMENT}
+use Rattle.vt_fixed.specs.declared.limits.TheConstants.{MOST_WORKERS, GREATEST_WEIGHT, GREATEST_ACTIVE_WEIGHT}
 use Rattle.fq_laws.specs.Words.{greatest_rate}
 use Rattle.fq_laws.proofs.Sums.{sum_zero, sum_at, sum_same, part_of_sum}
 use Rattle.fq_laws.proofs.Time.Open.{inactive_nil, active_of_open}
