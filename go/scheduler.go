@@ -218,13 +218,13 @@ func (s *Scheduler) Withdraw(who uint32, moment uint64, request uint32) (uint64,
 type Act uint32
 
 const (
-	Submitted     Act = C.TWODFQ_ENTRY_SUBMIT  // Request, Tenant, Kind, Amount: the declared cost, Label
-	Dispatched    Act = C.TWODFQ_ENTRY_TAKE    // Request, Worker, Amount: the estimate
-	Reported      Act = C.TWODFQ_ENTRY_REPORT  // Request, Worker, Amount: the use
-	Completed     Act = C.TWODFQ_ENTRY_DONE    // Request, Worker, Amount: the cost
-	Closed        Act = C.TWODFQ_ENTRY_CLOSE   // no number
-	WeightChanged Act = C.TWODFQ_ENTRY_WEIGHT  // Tenant, Amount: the weight
-	WorkersSet    Act = C.TWODFQ_ENTRY_WORKERS // Amount: how many
+	Submitted     Act = C.TWODFQ_ENTRY_SUBMIT   // Request, Tenant, Kind, Amount: the declared cost, Label
+	Dispatched    Act = C.TWODFQ_ENTRY_TAKE     // Request, Worker, Amount: the estimate
+	Reported      Act = C.TWODFQ_ENTRY_REPORT   // Request, Worker, Amount: the use
+	Completed     Act = C.TWODFQ_ENTRY_DONE     // Request, Worker, Amount: the cost
+	Closed        Act = C.TWODFQ_ENTRY_CLOSE    // no number
+	WeightChanged Act = C.TWODFQ_ENTRY_WEIGHT   // Tenant, Amount: the weight
+	WorkersSet    Act = C.TWODFQ_ENTRY_WORKERS  // Amount: how many
 	Withdrawn     Act = C.TWODFQ_ENTRY_WITHDRAW // Request
 )
 

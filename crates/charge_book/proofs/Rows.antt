@@ -4,7 +4,7 @@ use Rattle.std.proofs.lemmas.Bool.{ne_eqb, false≢true}
 use Rattle.std.proofs.lemmas.Option.{none-some}
 use Rattle.fq_model.specs.declared.config.Config.{Config}
 use Rattle.fq_model.specs.declared.event.Act.{Act}
-use Rattle.fq_model.specs.declared.event.Act.TheVariants.{Submit, Take, Report, Done}
+use Rattle.fq_model.specs.declared.event.Act.TheVariants.{Submit, Take, Report, Done, Withdraw}
 use Rattle.fq_model.specs.History.{History, Request, request_at, running_on, last_use, Runs}
 use Rattle.fq_model.specs.Charge.{taken_estimate, taken_weight, charge, charge_from, final_cost}
 use Rattle.fq_laws.specs.Words.{one_more, is_quiet}
@@ -71,6 +71,9 @@ reads_report C P who m w r used s ne = record { request = refl; weight = λ u. r
 
 pub reads_done : (C : Config) (P : History) (who m w r cost s : ℕ) → Reads C P (one_more who m (Done w r cost) P) s
 reads_done C P who m w r cost s = record { request = refl; weight = λ u. refl; estimate = refl; last = omega arith }
+
+pub reads_withdraw : (C : Config) (P : History) (who m r s : ℕ) → Reads C P (one_more who m (Withdraw r) P) s
+reads_withdraw C P who m r s = record { request = refl; weight = λ u. refl; estimate = refl; last = omega arith }
 
 -- an act that touches no request, as a Weight of its tenant does not, leaves what is read of every request
 pub reads_quiet : (C : Config) (P : History) (who m s : ℕ) (a : Act) → is_quiet a ≡ true → Reads C P (one_more who m a P) s

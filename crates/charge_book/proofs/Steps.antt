@@ -6,7 +6,7 @@ use Rattle.std.proofs.lemmas.List.{get_or-replicate, length-replicate}
 use Rattle.vt_fixed.specs.Rounding.{length_of}
 use Rattle.fq_model.specs.declared.config.Config.{Config}
 use Rattle.fq_model.specs.declared.event.Act.{Act}
-use Rattle.fq_model.specs.declared.event.Act.TheVariants.{Submit, Take, Report, Done}
+use Rattle.fq_model.specs.declared.event.Act.TheVariants.{Submit, Take, Report, Done, Withdraw}
 use Rattle.fq_model.specs.Limits.{InLimits}
 use Rattle.fq_model.specs.History.{History, Request, request_at, is_of_tenant, running_on, last_use, is_taken, Runs, submits, count_acts, weight_at, request_bound}
 use Rattle.fq_model.specs.Sums.{sum_below}
@@ -22,13 +22,13 @@ use Rattle.fq_laws.proofs.History.Weights.{pool_high}
 use Rattle.fq_laws.proofs.Rules.Limits.{entries_low}
 use Rattle.fq_laws.proofs.History.Numbers.{use_small}
 use Rattle.fq_laws.proofs.Charge.Requests.{charge_report, charge_done, unused}
-use Rattle.fq_laws.proofs.Charge.Tenants.{taken_of, taken_of_report, taken_of_done, virtual_charge_taken, virtual_charge_report, virtual_charge_done, net_charged_taken, net_charge_nil, net_charge_submit, net_charge_taken, net_charge_reported, net_charge_finished, net_charge_quiet}
+use Rattle.fq_laws.proofs.Charge.Tenants.{taken_of, taken_of_report, taken_of_done, virtual_charge_taken, virtual_charge_report, virtual_charge_done, net_charged_taken, net_charge_nil, net_charge_submit, net_charge_taken, net_charge_reported, net_charge_finished, net_charge_withdraw, net_charge_quiet}
 use Rattle.charge_book.specs.declared.row.RunRow.{RunRow}
 use Rattle.fq_laws.specs.Changes.{length_change}
 use Rattle.charge_book.specs.Rows.{row_charge}
 use Rattle.charge_book.specs.Book.{BookView, row_on, row_of_run, begun, recharged, with_use, reported_at, reported, report_change_at, report_change, finished_at, finished, finish_change_at, finish_change}
 use Rattle.charge_book.specs.Histories.{run_row, row_of_worker, is_take, takes, BookIs, BookFollows}
-use Rattle.charge_book.proofs.Rows.{of_worker_same, of_worker_known, of_worker_none, charge_is, reads_submit, reads_take, reads_report, reads_done, reads_quiet, running_on_quiet}
+use Rattle.charge_book.proofs.Rows.{of_worker_same, of_worker_known, of_worker_none, charge_is, reads_submit, reads_take, reads_report, reads_done, reads_withdraw, reads_quiet, running_on_quiet}
 
 -- ---- what stays
 
@@ -61,6 +61,16 @@ book_submit C P b who m r t k d x l is = record {
   where
     new : (s : ℕ) → s < submits P → r ≢ s
     new s below same = absurd (omega (arith, l.3.numbered, below, same))
+
+-- a Withdraw leaves the book: what is withdrawn does not run
+pub book_withdraw : (C : Config) (P : History) (b : BookView) (who m r : ℕ) → BookIs C P b → BookIs C (one_more who m (Withdraw r) P) b
+book_withdraw C P b who m r is = record {
+  workers = is.workers;
+  tenants = is.tenants;
+  rows = λ i b2. is.rows i b2 ∙ sym (of_worker_same C P (one_more who m (Withdraw r) P) i refl (λ s runs. reads_withdraw C P who m r s));
+  nets = λ t b2. is.nets t b2 ∙ sym (net_charge_withdraw C P who m t r);
+  begins = is.begins;
+}
 
 -- a Close, a Weight and a Workers touch no request and leave the book: each worker keeps its row, and this its weight
 pub book_quiet : (C : Config) (P : History) (b : BookView) (who m : ℕ) (a : Act) → is_quiet a ≡ true → BookIs C P b → BookIs C (one_more who m a P) b

@@ -2,14 +2,14 @@
 use Rattle.std.proofs.Common.{ℕ, false, arith, refl, sym, ◌∙◌, [], ◌∷◌}
 use Rattle.fq_model.specs.declared.config.Config.{Config}
 use Rattle.fq_model.specs.declared.event.Act.{Act}
-use Rattle.fq_model.specs.declared.event.Act.TheVariants.{Submit, Take, Report, Done, Close, Weight, Workers}
+use Rattle.fq_model.specs.declared.event.Act.TheVariants.{Submit, Take, Report, Done, Close, Weight, Workers, Withdraw}
 use Rattle.fq_model.specs.declared.event.Entry.{Entry}
 use Rattle.fq_model.specs.Limits.{InLimits}
 use Rattle.fq_model.specs.History.{History, is_closed}
 use Rattle.fq_model.specs.Rules.{IsLegal}
 use Rattle.fq_laws.specs.Words.{one_more}
 use Rattle.fq_laws.proofs.Rules.Room.{has_room}
-use Rattle.fq_laws.proofs.History.Counts.{running_submit, running_report, running_quiet, running_none}
+use Rattle.fq_laws.proofs.History.Counts.{running_submit, running_report, running_withdraw, running_quiet, running_none}
 use Rattle.fq_laws.proofs.History.Numbers.{running_taken, running_finished, submits_small}
 use Rattle.fq_laws.proofs.Rules.Limits.{running_some}
 use Rattle.sched_journal.specs.declared.tally.Tally.{Tally}
@@ -28,6 +28,7 @@ counts C P who m (Done i r c) tally lim l h = record { closed_is = h.closed_is; 
 counts C P who m Close tally lim l h = record { closed_is = refl; submits_are = h.submits_are; running_are = h.running_are ∙ sym (running_quiet P who m Close refl) }
 counts C P who m (Weight t w) tally lim l h = record { closed_is = h.closed_is; submits_are = h.submits_are; running_are = h.running_are ∙ sym (running_quiet P who m (Weight t w) refl) }
 counts C P who m (Workers n) tally lim l h = record { closed_is = h.closed_is; submits_are = h.submits_are; running_are = h.running_are ∙ sym (running_quiet P who m (Workers n) refl) }
+counts C P who m (Withdraw r) tally lim l h = record { closed_is = h.closed_is; submits_are = h.submits_are; running_are = h.running_are ∙ sym (running_withdraw P who m r) }
 
 can_count_at : (C : Config) (P : History) (who m : ℕ) (a : Act) (t : Tally) → InLimits C → IsLegal C (one_more who m a P) → TallyIs P t → CanCount t a
 can_count_at C P who m (Submit r t k d x) tally lim l h = let small = submits_small C (one_more who m (Submit r t k d x) P) lim l in omega (arith, h.submits_are, small)

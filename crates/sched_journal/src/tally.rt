@@ -37,7 +37,8 @@ impl Tally {
             Act::Take { .. } => self.running += 1,
             Act::Done { .. } => self.running -= 1,
             Act::Close => self.closed = true,
-            Act::Report { .. } | Act::Weight { .. } | Act::Workers { .. } => {}
+            Act::Report { .. } | Act::Weight { .. } | Act::Workers { .. } | Act::Withdraw { .. } =>
+                {}
         }
     }
 }

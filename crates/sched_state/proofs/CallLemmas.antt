@@ -8,7 +8,7 @@ use Rattle.vt_fixed.specs.declared.limits.TheConstants.{GREATEST_MOMENT}
 use Rattle.fq_model.specs.declared.config.Config.{Config}
 use Rattle.fq_model.specs.declared.event.Entry.{Entry}
 use Rattle.fq_model.specs.declared.event.Act.{Act}
-use Rattle.fq_model.specs.declared.event.Act.TheVariants.{Submit, Take, Report, Done, Close, Weight, Workers}
+use Rattle.fq_model.specs.declared.event.Act.TheVariants.{Submit, Take, Report, Done, Close, Weight, Workers, Withdraw}
 use Rattle.fq_model.specs.declared.event.Call.{Call}
 use Rattle.fq_model.specs.declared.event.Call.TheVariants as call
 use Rattle.fq_model.specs.declared.event.Reply.{Reply}
@@ -16,11 +16,11 @@ use Rattle.fq_model.specs.declared.event.Reply.TheVariants as answer
 use Rattle.fq_model.specs.declared.event.Cause.{Cause}
 use Rattle.fq_model.specs.declared.event.Cause.TheVariants as cause
 use Rattle.fq_model.specs.Limits.{InLimits}
-use Rattle.fq_model.specs.History.{History, Request, waiting, is_closed, submits, pool_at}
+use Rattle.fq_model.specs.History.{History, Request, request_at, waiting, is_closed, submits, pool_at}
 use Rattle.fq_model.specs.Time.{last_moment, effective_moment}
-use Rattle.fq_model.specs.Rules.{IsLegal, FitsUse, IsChosen, IsAccepted, RunsChosen, AnswersFree, RefusedOrElse, Answers, request_on, use_refusals, submit_refusal, take_refusal, report_refusal, done_refusal, close_refusal, weight_refusal, workers_refusal}
+use Rattle.fq_model.specs.Rules.{IsLegal, FitsUse, IsChosen, IsAccepted, RunsChosen, AnswersFree, RefusedOrElse, Answers, request_on, use_refusals, submit_refusal, take_refusal, report_refusal, done_refusal, close_refusal, weight_refusal, workers_refusal, withdraw_refusal, label_of}
 use Rattle.fq_laws.specs.Words.{one_more}
-use Rattle.fq_laws.proofs.Rules.Refusals.{all_false, le_false, submit_fits, report_fits, done_fits, close_fits, weight_fits, workers_fits, request_on_is}
+use Rattle.fq_laws.proofs.Rules.Refusals.{all_false, le_false, submit_fits, report_fits, done_fits, close_fits, weight_fits, workers_fits, withdraw_fits, request_on_is}
 use Rattle.charge_book.specs.declared.row.RunRow.{RunRow}
 use Rattle.charge_book.specs.Book.{row_on}
 use Rattle.charge_book.proofs.Refusals.{row_of}
@@ -32,7 +32,7 @@ use Rattle.sched_state.specs.declared.replies.AlreadyClosed.{AlreadyClosed}
 use Rattle.sched_state.specs.declared.replies.Taken.{Taken}
 use Rattle.sched_state.specs.declared.replies.Taken.TheVariants as taken
 use Rattle.sched_state.specs.Refusals.{HasNoJob}
-use Rattle.sched_state.specs.Replies.{AnswersCall, HandsOut, change_reply, close_reply}
+use Rattle.sched_state.specs.Replies.{AnswersCall, HandsOut, change_reply, withdraw_reply, close_reply}
 use Rattle.sched_state.specs.Scheduler.{SchedulerView}
 use Rattle.sched_state.specs.Tracker.{Tracks}
 use Rattle.sched_journal.proofs.JournalLemmas.{history_with}
@@ -177,3 +177,17 @@ legal_workers C P who m count none l later in_range = (l, later, in_range, worke
 
 pub answered_workers : (C : Config) (P : History) (who moment m count : ℕ) → workers_refusal C P count ≡ None → m ≡ effective_moment P moment → Answers C P (call.Workers who moment count) answer.Accepted (one_more who m (Workers count) P)
 answered_workers C P who moment m count none is = not_refused _ P _ _ _ none (accepted P who moment m _ answer.Accepted is)
+
+-- ---- a Withdraw
+
+-- where nothing refuses it
+pub legal_withdraw : (C : Config) (P : History) (who m request : ℕ) → withdraw_refusal P request ≡ None → IsLegal C P → last_moment P ≤ m → m ≤ GREATEST_MOMENT → IsLegal C (one_more who m (Withdraw request) P)
+legal_withdraw C P who m request none l later in_range = (l, later, in_range, withdraw_fits P request none)
+
+pub answered_withdraw : (C : Config) (P : History) (who moment m request label : ℕ) → withdraw_refusal P request ≡ None → m ≡ effective_moment P moment → label_of (request_at P request) ≡ label → Answers C P (call.Withdraw who moment request) (answer.Withdrawn label) (one_more who m (Withdraw request) P)
+answered_withdraw C P who moment m request label none is labelled = not_refused _ P _ _ _ none (ap (λ (l : ℕ). answer.Withdrawn l) (sym labelled), ap (λ (z : ℕ). one_more who z (Withdraw request) P) is)
+
+-- refused for the cause of an error that is handed on, in place of a job
+pub job_refused : {J : Type 0} (label : J → ℕ) (r : Result J Cause) (c : Cause) (o : Option Cause) (P : History) (Accepted : Type 0) → IsErrAnd r (λ d. d ≡ c) → Some c ≡ o → RefusedOrElse o P (withdraw_reply label r) P Accepted
+job_refused label (Ok x) c o P Accepted is e = absurd is
+job_refused label (Err d) c o P Accepted is e = refused o d P Accepted (sym e ∙ ap (λ (x : Cause). Some x) (sym is))

@@ -3,6 +3,7 @@ use Rattle.std.proofs.Common.{ℕ, ◌<◌, ◌≤◌, ◌≡◌, ◌≢◌, ◌
 use Rattle.std.specs.Prelude.{is_none, if◌then◌else◌}
 use mir.Val.{to_z, of_z}
 use Rattle.std.specs.Int.{w128}
+use Rattle.std.proofs.lemmas.Bool.{eq-eqb}
 use Rattle.std.proofs.lemmas.Int.{ints}
 use Rattle.vt_fixed.specs.Rounding.{length_of}
 use Rattle.fq_model.specs.declared.config.Config.{Config}
@@ -14,7 +15,7 @@ use Rattle.fq_model.specs.Pace.{virtual_time}
 use Rattle.fq_model.specs.Charge.{completed}
 use Rattle.fq_model.specs.Rules.{IsLegal, FitsUse}
 use Rattle.fq_laws.specs.Words.{one_more}
-use Rattle.fq_laws.specs.Steps.{Completes}
+use Rattle.fq_laws.specs.Steps.{Ends}
 use Rattle.fq_laws.proofs.Charge.Limits.{virtual_charge_within}
 use Rattle.fq_laws.proofs.History.Workers.{runs_worker_known}
 use Rattle.fq_laws.proofs.History.Weights.{pool_high}
@@ -130,7 +131,7 @@ pub record FinishStep (C : Config) (P : History) (b : BookView) (a : AccountsVie
   pub kind_known : row.kind < C.kinds
   pub cost_low : cost ≤ 1000000000
   pub completed_is : completed (one_more who m (Done w row.request cost) P) ≡ record { tenant = row.tenant; kind = row.kind; cost = cost } ∷ completed P
-  pub completes : Completes m row.tenant P (record { who = who; moment = m; act = Done w row.request cost })
+  pub ends : Ends m row.tenant P (record { who = who; moment = m; act = Done w row.request cost })
   pub others : (u : ℕ) → u ≢ row.tenant → is_of_tenant u (request_at P row.request) ≡ false
 
 pub finish_step : (C : Config) (P : History) (b : BookView) (a : AccountsView) (who m w cost : ℕ) (row : RunRow) → InLimits C → IsLegal C (one_more who m (Done w row.request cost) P) → BookIs C P b → AccountsAre C P a → row_on b w ≡ Some row → FinishStep C P b a who m w cost row
@@ -147,6 +148,6 @@ finish_step C P b a who m w cost row lim l is are held =
       kind_known = subst (λ k. k < C.kinds) says.kind_is says.in_range.kind_known;
       cost_low = l.3.in_range;
       completed_is = completed_done P who m w row.request cost says.asked says.known ∙ ap (λ (k : ℕ). record { tenant = says.asked.tenant; kind = k; cost = cost } ∷ completed P) says.kind_is ∙ ap (λ (t : ℕ). record { tenant = t; kind = row.kind; cost = cost } ∷ completed P) says.tenant_is;
-      completes = record { worker = w; request = row.request; cost = cost; asked = says.asked; moment_is = refl; act_is = refl; asked_is = says.known; tenant_is = says.tenant_is };
+      ends = record { request = row.request; asked = says.asked; moment_is = refl; ends = eq-eqb row.request row.request refl; asked_is = says.known; tenant_is = says.tenant_is };
       others = λ u ne. only_owner P row.request row.tenant u says.asked says.known says.tenant_is ne;
     }

@@ -1,5 +1,6 @@
 -- The jobs in lists of items: one more, one fewer, and where one is.
 use Rattle.std.proofs.Common.{ℕ, zero, suc, ◌<◌, ◌≡◌, ◌≢◌, arith, refl, ap, sym, ◌∙◌, List, [], ◌∷◌, ◌++◌, length, drop, subst, Option, Some, None, inl, inr, ◌⊎◌, get_or, set, slice_get}
+use Rattle.std.specs.List.{AllByRecursion}
 use Rattle.std.specs.Ordering.{nat_cmp}
 use Rattle.std.specs.FinMap as map
 use Rattle.std.proofs.lemmas.Bool.{cases_eq, eq-eqb, ne_eqb}
@@ -40,7 +41,7 @@ module _ {J : Type 0} where
   among_left i (x ∷ xs) ys (inl e) = inl e
   among_left i (x ∷ xs) ys (inr h) = inr (among_left i xs ys h)
 
-  among_right : (i : Item J) (xs ys : List (Item J)) → Among i ys → Among i (xs ++ ys)
+  pub among_right : (i : Item J) (xs ys : List (Item J)) → Among i ys → Among i (xs ++ ys)
   among_right i [] ys h = h
   among_right i (x ∷ xs) ys h = inr (among_right i xs ys h)
 
@@ -48,6 +49,18 @@ module _ {J : Type 0} where
   among_either i [] ys h = inr h
   among_either i (x ∷ xs) ys (inl e) = inl (inl e)
   among_either i (x ∷ xs) ys (inr h) = elim (among_either i xs ys h) [ inl k ↦ inl (inr k) | inr k ↦ inr k ]
+
+  -- the item at a place
+  pub among_at : (items : List (Item J)) (k : ℕ) (i : Item J) → k < length items → get_or items k i ≡ i → Among i items
+  among_at [] k i b e = absurd (omega (arith, b))
+  among_at (x ∷ xs) zero i b e = inl (sym e)
+  among_at (x ∷ xs) (suc k) i b e = inr (among_at xs k i (omega (arith, b)) e)
+
+  -- what each item has, one of them has
+  pub each_among : (P : Item J → Type 0) (items : List (Item J)) (i : Item J) → AllByRecursion P items → Among i items → P i
+  each_among P [] i h a = absurd a
+  each_among P (x ∷ xs) i h (inl e) = subst P (sym e) h.0
+  each_among P (x ∷ xs) i h (inr a) = each_among P xs i h.1 a
 
   -- it stands in some list
   pub list_of_one : (i : Item J) (all : List (List (Item J))) → Among i (all_items all) → (t : ℕ) × (t < length all) × Among i (get_or all t [])
@@ -102,24 +115,27 @@ module _ {J : Type 0} where
       let new : all_items (set all t (items ++ i ∷ [])) ≡ (r.before ++ items) ++ i ∷ r.behind = r.with (items ++ i ∷ []) ∙ (ap (λ (x : List (Item J)). r.before ++ x) (append_assoc items (i ∷ []) r.behind) ∙ sym (append_assoc r.before items (i ∷ r.behind))) in
       ap (λ x. jobs_of x) new ∙ (jobs_more (r.before ++ items) r.behind i (ap (λ x. map.get (jobs_of x) i.request) (sym old) ∙ none) ∙ ap (λ x. map.insert (jobs_of x) i.request i.job) (sym old))
 
-  -- the first of a list taken off: its job is found, and is gone
-  pub record Popped (all : List (List (Item J))) (t : ℕ) (i : Item J) : Type 0 where
+  -- where an item is off list t, of which this is left: its job is found, and is gone
+  pub record IsOut (all : List (List (Item J))) (t : ℕ) (i : Item J) (left : List (Item J)) : Type 0 where
     pub found : map.get (jobs_in all) i.request ≡ Some i.job
-    pub gone : jobs_in (set all t (drop 1 (get_or all t []))) ≡ map.remove (jobs_in all) i.request
+    pub gone : jobs_in (set all t left) ≡ map.remove (jobs_in all) i.request
+
+  pub jobs_out : (all : List (List (Item J))) (t : ℕ) (i : Item J) (front rest : List (Item J)) → t < length all → get_or all t [] ≡ front ++ i ∷ rest → map.get (jobs_in (set all t (front ++ rest))) i.request ≡ None → IsOut all t i (front ++ rest)
+  jobs_out all t i front rest b was none =
+      let r : Around all t = around all t b in
+      let old : all_items all ≡ (r.before ++ front) ++ i ∷ (rest ++ r.behind) = r.now ∙ (ap (λ (x : List (Item J)). r.before ++ (x ++ r.behind)) was ∙ (ap (λ (x : List (Item J)). r.before ++ x) (append_assoc front (i ∷ rest) r.behind) ∙ sym (append_assoc r.before front (i ∷ (rest ++ r.behind))))) in
+      let new : all_items (set all t (front ++ rest)) ≡ (r.before ++ front) ++ (rest ++ r.behind) = r.with (front ++ rest) ∙ (ap (λ (x : List (Item J)). r.before ++ x) (append_assoc front rest r.behind) ∙ sym (append_assoc r.before front (rest ++ r.behind))) in
+      let m : JobMap J = jobs_in (set all t (front ++ rest)) in
+      let more : jobs_in all ≡ map.insert m i.request i.job = ap (λ x. jobs_of x) old ∙ (jobs_more (r.before ++ front) (rest ++ r.behind) i (ap (λ x. map.get (jobs_of x) i.request) (sym new) ∙ none) ∙ ap (λ x. map.insert (jobs_of x) i.request i.job) (sym new)) in
+      record {
+        found = ap (λ n. map.get n i.request) more ∙ (found_with m i.request i.job i.request ∙ rw (eq-eqb i.request i.request refl) refl);
+        gone = same_out m i.request i.job none ∙ ap (λ n. map.remove n i.request) (sym more);
+      }
 
   first_of_list : (items : List (Item J)) (i : Item J) → slice_get items 0 ≡ Some i → items ≡ i ∷ drop 1 items
   first_of_list [] i h = absurd (cc)
   first_of_list (x ∷ xs) i h = let e : x ≡ i = cc in ap (λ (y : Item J). y ∷ xs) e
 
-  pub jobs_pop : (all : List (List (Item J))) (t : ℕ) (i : Item J) → t < length all → slice_get (get_or all t []) 0 ≡ Some i → map.get (jobs_in (set all t (drop 1 (get_or all t [])))) i.request ≡ None → Popped all t i
-  jobs_pop all t i b top none =
-      let r : Around all t = around all t b in
-      let rest : List (Item J) = drop 1 (get_or all t []) in
-      let old : all_items all ≡ r.before ++ i ∷ (rest ++ r.behind) = r.now ∙ ap (λ (x : List (Item J)). r.before ++ (x ++ r.behind)) (first_of_list (get_or all t []) i top) in
-      let new : all_items (set all t rest) ≡ r.before ++ (rest ++ r.behind) = r.with rest in
-      let m : JobMap J = jobs_in (set all t rest) in
-      let more : jobs_in all ≡ map.insert m i.request i.job = ap (λ x. jobs_of x) old ∙ (jobs_more r.before (rest ++ r.behind) i (ap (λ x. map.get (jobs_of x) i.request) (sym new) ∙ none) ∙ ap (λ x. map.insert (jobs_of x) i.request i.job) (sym new)) in
-      record {
-        found = ap (λ n. map.get n i.request) more ∙ (found_with m i.request i.job i.request ∙ rw (eq-eqb i.request i.request refl) refl);
-        gone = same_out m i.request i.job none ∙ ap (λ n. map.remove n i.request) (sym more);
-      }
+  -- so for the first of a list
+  pub jobs_pop : (all : List (List (Item J))) (t : ℕ) (i : Item J) → t < length all → slice_get (get_or all t []) 0 ≡ Some i → map.get (jobs_in (set all t (drop 1 (get_or all t [])))) i.request ≡ None → IsOut all t i (drop 1 (get_or all t []))
+  jobs_pop all t i b top none = jobs_out all t i [] (drop 1 (get_or all t [])) b (first_of_list (get_or all t []) i top) none

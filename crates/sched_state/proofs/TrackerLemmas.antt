@@ -1,7 +1,7 @@
 -- What is kept beside a journal at one entry more.
 use Rattle.std.proofs.Common.{true, ℕ, ◌+◌, ◌<◌, ◌≤◌, ◌≡◌, ◌≢◌, ◌^◌, arith, refl, sym, ap, subst, ◌∙◌, inl, inr, ◌⊎◌, [], ◌∷◌, ◌++◌, length, drop, Option, Some, None, ℤ, pos, ◌≤ℤ◌}
 use Rattle.std.specs.Prelude.{slice_get, is_none, if◌then◌else◌, IfSome, IfNone, IsSome}
-use Rattle.std.proofs.lemmas.Bool.{ne_eqb}
+use Rattle.std.proofs.lemmas.Bool.{eq-eqb, ne_eqb}
 use Rattle.std.proofs.lemmas.Int.{ints}
 use mir.Val.{to_z, of_z}
 use Rattle.std.specs.Int.{w128}
@@ -10,7 +10,7 @@ use Rattle.fq_model.specs.declared.config.Config.{Config}
 use Rattle.fq_model.specs.declared.config.Policy.{Policy}
 use Rattle.fq_model.specs.declared.config.Policy.TheVariants.{Wfq, Wf2q, Msf2q, TwoDfq, TwoDfqPlus}
 use Rattle.fq_model.specs.declared.event.Entry.{Entry}
-use Rattle.fq_model.specs.declared.event.Act.TheVariants.{Take, Report, Done, Close, Weight, Workers}
+use Rattle.fq_model.specs.declared.event.Act.TheVariants.{Take, Report, Done, Close, Weight, Workers, Withdraw}
 use Rattle.fq_model.specs.declared.event.Act.{Act}
 use Rattle.vt_fixed.specs.declared.limits.TheConstants.{GREATEST_COST, GREATEST_MOMENT}
 use Rattle.fq_model.specs.History.{History, Request, request_at, head, waiting, weight_at, pool_at}
@@ -20,8 +20,9 @@ use Rattle.fq_model.specs.Charge.{virtual_charge, completed, estimate_at}
 use Rattle.fq_model.specs.Keys.{HeadKeys, head_keys as head_keys_of, keys_at, start, start_for, tag, IsChoiceAt}
 use Rattle.fq_model.specs.Rules.{IsLegal, IsChosen, take_refusal}
 use Rattle.fq_laws.specs.Words.{one_more, is_quiet}
-use Rattle.fq_laws.specs.Steps.{Submits, Completes}
+use Rattle.fq_laws.specs.Steps.{Submits, Ends}
 use Rattle.fq_laws.proofs.Charge.Estimates.{estimate_range}
+use Rattle.fq_laws.proofs.History.Asked.{of_other}
 use Rattle.fq_laws.proofs.History.Requests.{request_known}
 use Rattle.fq_laws.proofs.Keys.Choices.{head_keys_are, no_head_no_keys, keys_tenant_known}
 use Rattle.fq_laws.proofs.Keys.Tags.{start_within}
@@ -32,8 +33,8 @@ use Rattle.fq_laws.proofs.Keys.Pace.{virtual_time_step}
 use Rattle.fq_laws.proofs.History.Weights.{pool_step}
 use Rattle.charge_book.specs.declared.row.RunRow.{RunRow}
 use Rattle.charge_book.specs.Book.{row_of_run, begun, reported, report_change, finished, finish_change}
-use Rattle.charge_book.proofs.Steps.{book_submit, book_quiet}
-use Rattle.tag_rules.proofs.AccountSteps.{accounts_quiet}
+use Rattle.charge_book.proofs.Steps.{book_submit, book_withdraw, book_quiet}
+use Rattle.tag_rules.proofs.AccountSteps.{accounts_withdraw, accounts_quiet}
 use Rattle.tag_rules.specs.Tables.{ChooserView, Setting, setting_at, with_workers, resized, NoneHas, IsTableChoice, asked_at}
 use Rattle.tag_rules.specs.Accounts.{raised, charged}
 use Rattle.virtual_clock.specs.declared.times.Times.{Times}
@@ -44,7 +45,7 @@ use Rattle.waiting_lists.specs.Lists as lists
 use Rattle.sched_state.specs.declared.tracker.Tracker.{Tracker}
 use Rattle.sched_state.specs.Costs.{CostsAre}
 use Rattle.sched_state.specs.Tracker.{Mirrors, Tracks, TracksBut, TracksSomeBut, submit_act}
-use Rattle.sched_state.proofs.ListLemmas.{item_head, no_item_head, first_is, lists_report, lists_done, lists_quiet, pushed, taken}
+use Rattle.sched_state.proofs.ListLemmas.{item_head, no_item_head, first_is, lists_report, lists_done, lists_quiet, pushed, taken, removed_asked, withdrawn}
 use Rattle.sched_state.proofs.CostLemmas.{costs_stay, completed_quiet}
 use Rattle.sched_state.proofs.ChargeLemmas.{accounts_submit, step_accounts, BeginStep, ReportStep, FinishStep}
 use Rattle.sched_state.proofs.KeyLemmas.{keys_of_others, setting_stays, latest_at, choice_is, nothing_waits}
@@ -159,7 +160,7 @@ module _ {J X : Type 0} (label : J → ℕ) (seen : X → ChooserView) (C : Conf
       }
 
   -- a Done of what the row is of
-  pub done_but : (who m w cost : ℕ) (row : RunRow) (change : ℤ) → FinishStep C P k.book k.accounts who m w cost row → ((e : Entry) → Completes m row.tenant P e → IsLegal C (e ∷ P) → TimesAre C (e ∷ P) n.times) → change ≡ finish_change k.book w cost → n.book ≡ finished k.book w cost → n.accounts ≡ charged k.accounts row.tenant (to_z w128 (of_z w128 change)) → CostsAre C (one_more who m (Done w row.request cost) P) n.costs → n.lists ≡ k.lists → n.chooser ≡ k.chooser → TracksBut label seen row.tenant C (one_more who m (Done w row.request cost) P) n
+  pub done_but : (who m w cost : ℕ) (row : RunRow) (change : ℤ) → FinishStep C P k.book k.accounts who m w cost row → ((e : Entry) → Ends m row.tenant P e → IsLegal C (e ∷ P) → TimesAre C (e ∷ P) n.times) → change ≡ finish_change k.book w cost → n.book ≡ finished k.book w cost → n.accounts ≡ charged k.accounts row.tenant (to_z w128 (of_z w128 change)) → CostsAre C (one_more who m (Done w row.request cost) P) n.costs → n.lists ≡ k.lists → n.chooser ≡ k.chooser → TracksBut label seen row.tenant C (one_more who m (Done w row.request cost) P) n
   done_but who m w cost row change x follow changed books accounts learned listed chooses =
       let e : Entry = record { who = who; moment = m; act = Done w row.request cost } in
       let o = old.mirrors in
@@ -171,7 +172,7 @@ module _ {J X : Type 0} (label : J → ℕ) (seen : X → ChooserView) (C : Conf
           book_is = rw books x.step.follows.book_is;
           accounts_are = step_accounts C P e k.accounts row.tenant _ _ change x.step changed n.accounts refl accounts;
           costs_are = learned;
-          times_are = follow e x.completes x.step.legal;
+          times_are = follow e x.ends x.step.legal;
         };
         tenant_known = x.step.tenant_known;
         chooser_is = rw chooses (keys_of_others C P e (seen k.chooser) (seen k.chooser) (λ u. u ≢ row.tenant) o.limits x.step.legal x.others old.chooser_is (setting_stays C P e (seen k.chooser) (pool_step C P e) old.chooser_is) refl (latest_at C P m (seen k.chooser) x.step.legal.1 old.chooser_is));
@@ -194,6 +195,29 @@ module _ {J X : Type 0} (label : J → ℕ) (seen : X → ChooserView) (C : Conf
         };
         tenant_known = x.step.tenant_known;
         chooser_is = keys_of_others C P e (seen k.chooser) (seen n.chooser) (λ u. u ≢ t) o.limits x.step.legal x.others old.chooser_is (ap (λ (y : ChooserView). y.setting) chooses ∙ setting_stays C P e (seen k.chooser) (pool_step C P e) old.chooser_is) (ap (λ (y : ChooserView). y.table) chooses) (rw chooses (omega (arith, ints, at)));
+      }
+
+  -- a Withdraw of the item i of tenant t
+  pub withdraw_ends : (who m t r : ℕ) (i : Item J) (left : lists.ListsView J) → lists.IsRemoved k.lists r t i left → Ends m t P (record { who = who; moment = m; act = Withdraw r })
+  withdraw_ends who m t r i left x = record { request = r; asked = _; moment_is = refl; ends = eq-eqb r r refl; asked_is = removed_asked label C P r t i k.lists left old.mirrors.lists_are x; tenant_is = refl }
+
+  pub withdraw_but : (who m t r : ℕ) (i : Item J) → IsLegal C (one_more who m (Withdraw r) P) → lists.IsRemoved k.lists r t i n.lists → ((e : Entry) → Ends m t P e → IsLegal C (e ∷ P) → TimesAre C (e ∷ P) n.times) → n.book ≡ k.book → n.accounts ≡ k.accounts → n.costs ≡ k.costs → n.chooser ≡ k.chooser → TracksBut label seen t C (one_more who m (Withdraw r) P) n
+  withdraw_but who m t r i l x follow books accounts costs chooses =
+      let e : Entry = record { who = who; moment = m; act = Withdraw r } in
+      let o = old.mirrors in
+      let asked = removed_asked label C P r t i k.lists n.lists o.lists_are x in
+      record {
+        mirrors = record {
+          limits = o.limits;
+          legal = l;
+          lists_are = (withdrawn label C P who m r t i k.lists n.lists o.limits l o.lists_are x).lists_are;
+          book_is = rw books (book_withdraw C P k.book who m r o.book_is);
+          accounts_are = rw accounts (accounts_withdraw C P k.accounts who m r o.accounts_are);
+          costs_are = rw costs (costs_stay C P (e ∷ P) k.costs o.costs_are refl);
+          times_are = follow e (withdraw_ends who m t r i n.lists x) l;
+        };
+        tenant_known = omega (arith, x.known, o.lists_are.tenants);
+        chooser_is = rw chooses (keys_of_others C P e (seen k.chooser) (seen k.chooser) (λ u. u ≢ t) o.limits l (λ u ne. of_other P u r _ asked (λ z. ne (sym z))) old.chooser_is (setting_stays C P e (seen k.chooser) (pool_step C P e) old.chooser_is) refl (latest_at C P m (seen k.chooser) l.1 old.chooser_is));
       }
 
 -- ---- after an entry that touches no request

@@ -32,6 +32,11 @@ abbrev pub change_reply : Result (Unit {0}) Cause → Reply
 change_reply (Ok accepted) = answer.Accepted
 change_reply (Err why) = answer.Refused why
 
+-- the label is that of the job that comes back
+abbrev pub withdraw_reply : {J : Type 0} → (J → ℕ) → Result J Cause → Reply
+withdraw_reply label (Ok job) = answer.Withdrawn (label job)
+withdraw_reply label (Err why) = answer.Refused why
+
 abbrev pub close_reply : Result (Unit {0}) AlreadyClosed → Reply
 close_reply (Ok closed) = answer.Accepted
 close_reply (Err closed) = answer.Refused cause.Closed

@@ -1,6 +1,6 @@
 //! Any call on a scheduler, and its reply; and the reply that each result of a call is.
 ghost use Rattle.std.specs.Prelude.{◌≡◌};
-ghost use Rattle.sched_state.specs.Replies.{AnswersCall, submit_reply, take_reply, change_reply, close_reply};
+ghost use Rattle.sched_state.specs.Replies.{AnswersCall, submit_reply, take_reply, change_reply, withdraw_reply, close_reply};
 
 use crate::replies::{AlreadyClosed, Refused, Taken};
 use crate::scheduler::Scheduler;
@@ -45,6 +45,11 @@ pub fn answer<X: Chooser>(scheduler: &mut Scheduler<u64, X>, call: Call) -> Repl
             weight,
         } => told(scheduler.weight(who, moment, tenant, weight)),
         Call::Workers { who, moment, count } => told(scheduler.workers(who, moment, count)),
+        Call::Withdraw {
+            who,
+            moment,
+            request,
+        } => withdrawn(scheduler.withdraw(who, moment, request)),
     }
 }
 
@@ -86,6 +91,16 @@ pub fn told(outcome: Result<(), Cause>) -> Reply
 {
     match outcome {
         Ok(()) => Reply::Accepted,
+        Err(cause) => Reply::Refused(cause),
+    }
+}
+
+/// The reply to a withdraw. The label of a job is the job.
+pub fn withdrawn(outcome: Result<u64, Cause>) -> Reply
+    ensures { result ≡ withdraw_reply (λ job. job) outcome }
+{
+    match outcome {
+        Ok(job) => Reply::Withdrawn { label: job },
         Err(cause) => Reply::Refused(cause),
     }
 }

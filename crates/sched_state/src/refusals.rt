@@ -1,9 +1,10 @@
 //! Why a call is refused: one function a call, which makes its tests in the order of the causes and answers the first
-//! that holds. Each is told the journal and what is kept beside it, as they are before the call.
+//! that holds. Each is told what it asks of the journal and of what is kept beside it, as they are before the call.
 ghost use Rattle.std.specs.Prelude.{◌≡◌, ◌≤◌, IfOk, IfSome, IfNone};
 ghost use Rattle.std.specs.Result.{result_err};
-ghost use Rattle.fq_model.specs.History.{waiting};
-ghost use Rattle.fq_model.specs.Rules.{submit_refusal, report_refusal, done_refusal, close_refusal, weight_refusal, workers_refusal};
+ghost use Rattle.fq_model.specs.declared.config.Config.{Config};
+ghost use Rattle.fq_model.specs.History.{History, waiting};
+ghost use Rattle.fq_model.specs.Rules.{submit_refusal, report_refusal, done_refusal, close_refusal, weight_refusal, workers_refusal, withdraw_refusal};
 ghost use Rattle.charge_book.specs.Book.{MayUse};
 ghost use Rattle.sched_journal.specs.Journal.{history};
 ghost use Rattle.sched_state.specs.Refusals.{GetsNone, GetsWork, closed_cause, room_refusal};
@@ -153,6 +154,20 @@ pub fn workers<J: Job + Drop, X: Chooser>(
         Err(Cause::Workers(count))
     } else {
         room(journal, tracker.lists().len(), 2)
+    }
+}
+
+/// Why a withdraw of this request is refused, if it is.
+pub fn withdraw<J: Job + Drop, X: Chooser>(
+    tracker: &Tracker<J, X>,
+    request: u32,
+) -> Result<(), Cause>
+    ensures { (C : Config) (P : History) → Tracks J.label_of X.seen C P tracker.now
+        → result_err result ≡ withdraw_refusal P request }
+{
+    match tracker.lists().find(request) {
+        Some(_) => Ok(()),
+        None => Err(Cause::NotWaiting(request)),
     }
 }
 

@@ -2,9 +2,10 @@
 ghost use Rattle.std.specs.Prelude.{◌≡◌, ◌<◌, [], Some, IfOk, length, pos, ◌≤ℤ◌};
 ghost use Rattle.std.specs.FinMap as map;
 ghost use Rattle.fq_model.specs.declared.event.Act.TheVariants as act;
-ghost use Rattle.fq_model.specs.History.{History};
+ghost use Rattle.fq_model.specs.History.{History, request_at};
 ghost use Rattle.fq_model.specs.Time.{last_moment};
 ghost use Rattle.fq_model.specs.Keys.{keys_at, start};
+ghost use Rattle.fq_model.specs.Rules.{label_of};
 ghost use Rattle.charge_book.specs.Book.{MayUse};
 ghost use Rattle.sched_journal.specs.Journal.{history, MayGain};
 ghost use Rattle.sched_state.specs.Lists.{jobs_in};
@@ -143,7 +144,7 @@ impl<J: Job + Drop, X: Chooser> Tracker<J, X> {
         let correction = self.book.record_cost(worker, row, cost);
         self.accounts.charge(row.tenant, correction);
         self.costs.learn(row.tenant, row.kind, cost);
-        self.times.done(moment, row.tenant);
+        self.times.end(moment, row.tenant);
         self.renew(journal.config(), row.tenant);
     }
 
@@ -177,6 +178,21 @@ impl<J: Job + Drop, X: Chooser> Tracker<J, X> {
     {
         self.times.staff(moment, count);
         self.chooser.resize(count);
+    }
+
+    /// A request that waits is withdrawn at this moment, in microseconds. Gives its job.
+    pub fn withdraw(&mut self, journal: &Ledger, moment: u64, request: u32) -> J
+        requires tracked { Tracks J.label_of X.seen journal.now.config (history journal.now) self.old }
+        requires legal { MayGain journal.now moment (act.Withdraw request) }
+        ensures tracked { TracksAfter J.label_of X.seen journal.now moment (act.Withdraw request) self.new }
+        ensures job { map.get (jobs_in self.old.lists.lists) request ≡ Some result }
+        ensures label { label_of (request_at (history journal.now) request) ≡ J.label_of result }
+        ensures jobs { jobs_in self.new.lists.lists ≡ map.remove (jobs_in self.old.lists.lists) request }
+    {
+        let (tenant, item) = self.lists.remove(request).unwrap();
+        self.times.end(moment, tenant);
+        self.renew(journal.config(), tenant);
+        item.job
     }
 
     // Gives the chooser the keys of the tenant's head, which alone may be another.

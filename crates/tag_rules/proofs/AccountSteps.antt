@@ -6,7 +6,7 @@ use Rattle.std.proofs.lemmas.Int.{ints, clamps}
 use Rattle.std.proofs.lemmas.List.{get_or-replicate, length-replicate}
 use Rattle.fq_model.specs.declared.config.Config.{Config}
 use Rattle.fq_model.specs.declared.event.Act.{Act}
-use Rattle.fq_model.specs.declared.event.Act.TheVariants.{Submit, Take, Report, Done}
+use Rattle.fq_model.specs.declared.event.Act.TheVariants.{Submit, Withdraw}
 use Rattle.fq_model.specs.declared.event.Entry.{Entry}
 use Rattle.fq_model.specs.Limits.{InLimits}
 use Rattle.fq_model.specs.History.{is_submit, History, head}
@@ -15,9 +15,9 @@ use Rattle.fq_model.specs.Charge.{virtual_charge}
 use Rattle.fq_model.specs.Keys.{tag}
 use Rattle.fq_model.specs.Rules.{IsLegal}
 use Rattle.fq_laws.specs.Words.{one_more, is_quiet}
-use Rattle.fq_laws.proofs.Charge.Tenants.{virtual_charge_nil, virtual_charge_submit, virtual_charge_quiet}
-use Rattle.fq_laws.proofs.Keys.Pace.{base_nil}
-use Rattle.fq_laws.proofs.Keys.Tags.{base_submit, base_submit_waiting, base_submit_other, base_take, base_report, base_done, base_quiet, tag_is}
+use Rattle.fq_laws.proofs.Charge.Tenants.{virtual_charge_nil, virtual_charge_submit, virtual_charge_withdraw, virtual_charge_quiet}
+use Rattle.fq_laws.proofs.Keys.Pace.{base_nil, base_step}
+use Rattle.fq_laws.proofs.Keys.Tags.{base_submit, base_submit_waiting, base_submit_other, base_quiet, tag_is}
 use Rattle.fq_laws.proofs.Charge.Limits.{virtual_charge_within}
 use Rattle.tag_rules.specs.Accounts.{AccountsView, at_first, charge_of, base_of, raised, charged, IsCharge, AccountsAre}
 
@@ -72,10 +72,7 @@ accounts_leave C P a who m r t k d x first lim l some is = record {
 
 base_left_at : (C : Config) (P : History) (who m t : ℕ) (a : Act) → is_submit a ≡ false → tag_base C (one_more who m a P) t ≡ tag_base C P t
 base_left_at C P who m t (Submit request tenant kind declared label) h = absurd (cc)
-base_left_at C P who m t (Take worker request estimate) h = base_take C P who m t worker request estimate
-base_left_at C P who m t (Report worker request used) h = base_report C P who m t worker request used
-base_left_at C P who m t (Done worker request cost) h = base_done C P who m t worker request cost
-base_left_at C P who m t a h = base_quiet C P who m t a refl
+base_left_at C P who m t a h = base_step C P (record { who = who; moment = m; act = a }) t
 
 -- an entry that is no Submit, and that changes the virtual charge of one tenant alone, charges that tenant the change
 pub accounts_charge : (C : Config) (P : History) (a : AccountsView) (e : Entry) (t : ℕ) (delta : ℤ) → is_submit e.act ≡ false → t < length C.weights → pos (virtual_charge C P t) +ℤ delta ≡ pos (virtual_charge C (e ∷ P) t) → ((u : ℕ) → u ≢ t → virtual_charge C (e ∷ P) u ≡ virtual_charge C P u) → AccountsAre C P a → AccountsAre C (e ∷ P) (charged a t delta)
@@ -92,6 +89,15 @@ may_charge C P a e t delta lim l known own is =
     let low = virtual_charge_within C (e ∷ P) t lim l in
     let is_now = is.charges_are t known in
     (omega (arith, ints, own, is_now), omega (arith, ints, own, is_now, low))
+
+-- a Withdraw leaves the accounts: what is withdrawn was not charged
+pub accounts_withdraw : (C : Config) (P : History) (a : AccountsView) (who m r : ℕ) → AccountsAre C P a → AccountsAre C (one_more who m (Withdraw r) P) a
+accounts_withdraw C P a who m r is = record {
+  charges_sized = is.charges_sized;
+  bases_sized = is.bases_sized;
+  charges_are = λ u b. is.charges_are u b ∙ ap pos (sym (virtual_charge_withdraw C P who m u r));
+  bases_are = λ u b. is.bases_are u b ∙ ap pos (sym (base_left_at C P who m u (Withdraw r) refl));
+}
 
 -- an act that touches no request leaves the accounts
 pub accounts_quiet : (C : Config) (P : History) (a : AccountsView) (who m : ℕ) (act : Act) → is_quiet act ≡ true → AccountsAre C P a → AccountsAre C (one_more who m act P) a

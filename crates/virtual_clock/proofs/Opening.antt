@@ -1,23 +1,22 @@
 -- Which entries open a request of a tenant, close one, or change a weight or the number of workers, and the active
--- weight
--- after them.
-use Rattle.std.proofs.Common.{ℕ, ◌+◌, ◌<◌, ◌≤◌, ◌≡◌, ◌≢◌, true, false, cond, arith, refl, ap, sym, subst, ◌∙◌, ◌∷◌, length, Some}
-use Rattle.std.proofs.lemmas.Bool.{eq-eqb, ne_eqb}
+-- weight after them.
+use Rattle.std.proofs.Common.{ℕ, ◌+◌, ◌<◌, ◌≤◌, ◌≡◌, ◌≢◌, Bool, true, false, cond, arith, refl, ap, sym, subst, ◌∙◌, ◌∷◌, length, Some}
+use Rattle.std.proofs.lemmas.Bool.{eq-eqb, ne_eqb, eqb-true, false≢true}
 use Rattle.fq_model.specs.declared.config.Config.{Config}
 use Rattle.fq_model.specs.declared.event.Act.{Act}
-use Rattle.fq_model.specs.declared.event.Act.TheVariants.{Submit, Take, Report, Done, Close, Weight, Workers}
+use Rattle.fq_model.specs.declared.event.Act.TheVariants.{Submit, Take, Report, Done, Close, Weight, Workers, Withdraw}
 use Rattle.fq_model.specs.declared.event.Entry.{Entry}
 use Rattle.fq_model.specs.Limits.{InLimits, IsWithin, IsWeight}
-use Rattle.fq_model.specs.History.{History, Request, request_at, weight_at, pool_at}
+use Rattle.fq_model.specs.History.{History, Request, request_at, is_of_tenant, is_end_of, weight_at, pool_at}
 use Rattle.fq_model.specs.Time.{open_requests, is_active, active_weight}
 use Rattle.fq_model.specs.Rules.{IsLegal, Fits}
-use Rattle.fq_laws.specs.Words.{one_more}
-use Rattle.fq_laws.specs.Steps.{passes, Submits, Completes, Reweighs, Staffs}
+use Rattle.fq_laws.specs.Words.{one_more, is_take}
+use Rattle.fq_laws.specs.Steps.{Submits, Ends, Reweighs, Staffs}
 use Rattle.fq_laws.proofs.Time.Clock.{SameWeight, active_weight_at}
 use Rattle.fq_laws.proofs.History.Weights.{weight_step, pool_step}
 use Rattle.fq_laws.proofs.History.Requests.{request_known}
 use Rattle.fq_laws.proofs.History.Asked.{of_own, of_other}
-use Rattle.fq_laws.proofs.Time.Open.{open_submit, open_done, open_take, open_report, open_quiet, active_of_open, inactive_of_open}
+use Rattle.fq_laws.proofs.Time.Open.{open_submit, open_done, open_withdraw, open_take, open_report, open_quiet, active_of_open, inactive_of_open}
 
 -- tenant t has one open request more in Q than in P, and each other as many
 pub record Opens (C : Config) (P Q : History) (t : ℕ) : Type 0 where
@@ -59,26 +58,52 @@ submits_open C P e m t lim l s =
     let entry = with_act e _ s.act_is in
     subst (λ (e : Entry). Opens C P (e ∷ P) t) (sym entry) (opens_submit C P e.who e.moment s.request t s.kind s.declared s.label lim (subst (λ (e : Entry). IsLegal C (e ∷ P)) entry l))
 
--- a Done closes one of the tenant of its request
-closes_done : (C : Config) (P : History) (who m i r c : ℕ) (q : Request) → InLimits C → IsLegal C (one_more who m (Done i r c) P) → request_at P r ≡ Some q → Closes C P (one_more who m (Done i r c) P) q.tenant
-closes_done C P who m i r c q lim l asked = record {
-  known = (request_known C P r q l.0 asked).tenant_known;
-  less = open_done C P who m q.tenant i r c lim l.0 l.3 ∙ ap (λ b. open_requests (one_more who m (Done i r c) P) q.tenant + cond b 1 0) (of_own P q.tenant r q asked refl);
-  others_stay = λ u other. record {
-    open_same = (
-        let k = open_done C P who m u i r c lim l.0 l.3 ∙ ap (λ b. open_requests (one_more who m (Done i r c) P) u + cond b 1 0) (of_other P u r q asked (λ e. other (sym e))) in
-        omega (arith, k)
-        );
-    weight_same = weight_step C P (record { who = who; moment = m; act = Done i r c }) u;
-  };
-  weight_stays = weight_step C P (record { who = who; moment = m; act = Done i r c }) q.tenant;
-  pool_stays = pool_step C P (record { who = who; moment = m; act = Done i r c });
-}
+-- an entry with this act closes one of the tenant of request r
+record EndsOne (C : Config) (P : History) (e : Entry) (r : ℕ) : Type 0 where
+  less : (u : ℕ) → open_requests P u ≡ open_requests (e ∷ P) u + cond (is_of_tenant u (request_at P r)) 1 0
+  weights_stay : (u : ℕ) → weight_at C (e ∷ P) u ≡ weight_at C P u
+  pool_stays : pool_at C (e ∷ P) ≡ pool_at C P
 
-pub completes_close : (C : Config) (P : History) (e : Entry) (m t : ℕ) → InLimits C → IsLegal C (e ∷ P) → Completes m t P e → Closes C P (e ∷ P) t
-completes_close C P e m t lim l s =
-    let entry = with_act e _ s.act_is in
-    subst (Closes C P (e ∷ P)) s.tenant_is (subst (λ (e : Entry). Closes C P (e ∷ P) s.asked.tenant) (sym entry) (closes_done C P e.who e.moment s.worker s.request s.cost s.asked lim (subst (λ (e : Entry). IsLegal C (e ∷ P)) entry l) s.asked_is))
+closes_one : (C : Config) (P : History) (e : Entry) (r : ℕ) (q : Request) → IsLegal C P → request_at P r ≡ Some q → EndsOne C P e r → Closes C P (e ∷ P) q.tenant
+closes_one C P e r q l asked x = record {
+  known = (request_known C P r q l asked).tenant_known;
+  less = x.less q.tenant ∙ ap (λ b. open_requests (e ∷ P) q.tenant + cond b 1 0) (of_own P q.tenant r q asked refl);
+  others_stay = λ u other. record { open_same = same u other; weight_same = x.weights_stay u };
+  weight_stays = x.weights_stay q.tenant;
+  pool_stays = x.pool_stays;
+}
+  where
+    same : (u : ℕ) → u ≢ q.tenant → open_requests (e ∷ P) u ≡ open_requests P u
+    same u other = let k = x.less u ∙ ap (λ b. open_requests (e ∷ P) u + cond b 1 0) (of_other P u r q asked (λ e. other (sym e))) in omega (arith, k)
+
+ends_at : (C : Config) (P : History) (who m r : ℕ) (a : Act) (q : Request) → InLimits C → IsLegal C (one_more who m a P) → is_end_of r a ≡ true → request_at P r ≡ Some q → Closes C P (one_more who m a P) q.tenant
+ends_at C P who m r (Submit request tenant kind declared label) q lim l h asked = absurd (false≢true h)
+ends_at C P who m r (Take worker request estimate) q lim l h asked = absurd (false≢true h)
+ends_at C P who m r (Report worker request used) q lim l h asked = absurd (false≢true h)
+ends_at C P who m r (Done worker request cost) q lim l h asked =
+    let e : Entry = record { who = who; moment = m; act = Done worker request cost } in
+    closes_one C P e request q l.0 (rw (eqb-true request r h) asked) (record { less = λ u. open_done C P who m u worker request cost lim l.0 l.3; weights_stay = weight_step C P e; pool_stays = pool_step C P e })
+ends_at C P who m r (Withdraw request) q lim l h asked =
+    let e : Entry = record { who = who; moment = m; act = Withdraw request } in
+    closes_one C P e request q l.0 (rw (eqb-true request r h) asked) (record { less = λ u. open_withdraw C P who m u request lim l.0 l.3; weights_stay = weight_step C P e; pool_stays = pool_step C P e })
+ends_at C P who m r Close q lim l h asked = absurd (false≢true h)
+ends_at C P who m r (Weight tenant weight) q lim l h asked = absurd (false≢true h)
+ends_at C P who m r (Workers count) q lim l h asked = absurd (false≢true h)
+
+pub ends_close : (C : Config) (P : History) (e : Entry) (m t : ℕ) → InLimits C → IsLegal C (e ∷ P) → Ends m t P e → Closes C P (e ∷ P) t
+ends_close C P e m t lim l s = subst (Closes C P (e ∷ P)) s.tenant_is (ends_at C P e.who e.moment s.request e.act s.asked lim l s.ends s.asked_is)
+
+-- such an act is no Take
+pub end_no_take : (r : ℕ) (a : Act) → is_end_of r a ≡ true → is_take a ≡ false
+end_no_take r (Take worker request estimate) h = absurd (false≢true h)
+end_no_take r _ h = refl
+
+-- the act opens no request and closes none, and changes no weight and no number of workers
+abbrev pub passes : Act → Bool
+passes (Take worker request estimate) = true
+passes (Report worker request used) = true
+passes Close = true
+passes _ = false
 
 -- the acts that pass leave the open requests, the weights and the number of workers
 pub record Passed (C : Config) (P Q : History) : Type 0 where
@@ -94,6 +119,7 @@ passes_at C P who m (Done worker request cost) h = absurd (cc)
 passes_at C P who m Close h = record { all_stay = λ t. record { open_same = open_quiet P who m t Close refl; weight_same = refl }; pool_stays = refl }
 passes_at C P who m (Weight tenant weight) h = absurd (cc)
 passes_at C P who m (Workers count) h = absurd (cc)
+passes_at C P who m (Withdraw request) h = absurd (cc)
 
 pub passes_leave : (C : Config) (P : History) (e : Entry) → passes e.act ≡ true → Passed C P (e ∷ P)
 passes_leave C P e h = passes_at C P e.who e.moment e.act h

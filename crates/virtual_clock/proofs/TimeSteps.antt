@@ -25,7 +25,7 @@ use Rattle.fq_laws.proofs.Rules.Takes.{choice_head}
 use Rattle.fq_laws.proofs.Keys.Choices.{KeysOf, keys_of, keys_tenant_known}
 use Rattle.fq_laws.proofs.Keys.Pace.{paced_or_not, virtual_time_take, cap_within}
 use Rattle.fq_laws.proofs.Keys.Lifts.{takes_lift}
-use Rattle.fq_laws.specs.Steps.{passes, Submits, Completes, Reweighs, Staffs, Awaits, Follows}
+use Rattle.fq_laws.specs.Steps.{Submits, Ends, Reweighs, Staffs, Awaits, Follows}
 use Rattle.fq_laws.proofs.Time.Clock.{SameWeight, active_weight_same, active_weight_low, active_covers}
 use Rattle.fq_laws.proofs.Time.Open.{open_requests_low}
 use Rattle.fq_laws.proofs.Rules.Limits.{submits_low}
@@ -33,7 +33,7 @@ use Rattle.virtual_clock.specs.declared.times.Times.{Times}
 use Rattle.virtual_clock.specs.Clock.{ClockView, cap_for, at_start, moved_to, entered, left, staffed, lifted}
 use Rattle.virtual_clock.specs.Idles.{asleep_at_first, idle_of, is_asleep, is_at_last, opened, closed}
 use Rattle.virtual_clock.specs.Histories.{ClockAt, ClockIs, WeightsAre, TimesAt, TimesAre, TakesChoice, AwaitsTake, FollowsTake}
-use Rattle.virtual_clock.proofs.Opening.{Opens, Closes, submits_open, completes_close, Passed, passes_leave, weight_woken, weight_asleep, weight_stays_in, Reweighed, reweighs, staffs, weight_traded, weight_untouched}
+use Rattle.virtual_clock.proofs.Opening.{Opens, Closes, submits_open, ends_close, end_no_take, passes, Passed, passes_leave, weight_woken, weight_asleep, weight_stays_in, Reweighed, reweighs, staffs, weight_traded, weight_untouched}
 use Rattle.virtual_clock.proofs.ClockSteps.{clock_nil, clock_moved, next_time, next_cap, clock_next}
 use Rattle.virtual_clock.proofs.IdleSteps.{idles_nil, idles_later, idles_stay, idles_written, idle_opened, idle_closed}
 
@@ -129,20 +129,20 @@ follows_submit m t old new made = λ C P e lim l s is.
       idles_are = rw (made.idles_are, ← s.moment_is, next_time C P e (moved_to old.clock e.moment) (rw s.act_is refl) (clock_moved C P e.moment old.clock lim l.0 l.1 l.2 is.clock_is)) (idles_written C P e t old.idles _ o.known (λ u other. (o.others_stay u other).open_same) (idles_later C P e.moment old.idles is.idles_are) (idle_opened C P e t (idle_of old.idles t) o.more ((idles_later C P e.moment old.idles is.idles_are).each t o.known)));
     }
 
--- ---- a Done
+-- ---- a Done or a Withdraw
 
--- what the calls at a Done ask of what was kept
-pub record MayComplete (m : ℕ) (old : Times) (t : ℕ) : Type 0 where
+-- what the calls at one ask of what was kept
+pub record MayEnd (m : ℕ) (old : Times) (t : ℕ) : Type 0 where
   pub weighed : t < length old.weights
   pub kept : t < length old.idles
   pub some : 1 ≤ (idle_of old.idles t).undone
   pub earlier : (idle_of old.idles t).since ≤ℤ (moved_to old.clock m).time
   pub entered : is_at_last (idle_of old.idles t) ≡ true → slice_index old.weights t ≤ old.clock.weights
 
-pub may_complete : (m t : ℕ) (old : Times) → Awaits TimesAre (Completes m t) old → MayComplete m old t
-may_complete m t old w =
+pub may_end : (m t : ℕ) (old : Times) → Awaits TimesAre (Ends m t) old → MayEnd m old t
+may_end m t old w =
     let C = w.config in
-    let c = completes_close C w.history w.entry m t w.limits w.legal w.comes in
+    let c = ends_close C w.history w.entry m t w.limits w.legal w.comes in
     let is = w.kept_is.idles_are.each t c.known in
     record {
       weighed = omega (arith, w.kept_is.weights_are.tenants, c.known);
@@ -152,27 +152,27 @@ may_complete m t old w =
       entered = λ last. omega (arith, w.kept_is.clock_is.weights, w.kept_is.weights_are.each t c.known, weight_asleep C w.history w.entry t c (sym is.undone ∙ eqb-true _ 1 last));
     }
 
--- what the code makes of the times at a Done
-pub record Completed (m t : ℕ) (old new : Times) : Type 0 where
+-- what the code makes of the times at one
+pub record Ended (m t : ℕ) (old new : Times) : Type 0 where
   pub clock_is : new.clock ≡ cond (is_at_last (idle_of old.idles t)) (left (moved_to old.clock m) (slice_index old.weights t)) (moved_to old.clock m)
   pub weights_are : new.weights ≡ old.weights
   pub idles_are : new.idles ≡ slice_set old.idles t (closed (idle_of old.idles t) (moved_to old.clock m).time)
 
-clock_completed : (C : Config) (P : History) (e : Entry) (t : ℕ) (old : Times) → is_take e.act ≡ false → Closes C P (e ∷ P) t → TimesAre C P old → ClockAt C P e.moment (moved_to old.clock e.moment) → ClockIs C (e ∷ P) (cond (is_at_last (idle_of old.idles t)) (left (moved_to old.clock e.moment) (slice_index old.weights t)) (moved_to old.clock e.moment))
-clock_completed C P e t old other c is moved =
+clock_ended : (C : Config) (P : History) (e : Entry) (t : ℕ) (old : Times) → is_take e.act ≡ false → Closes C P (e ∷ P) t → TimesAre C P old → ClockAt C P e.moment (moved_to old.clock e.moment) → ClockIs C (e ∷ P) (cond (is_at_last (idle_of old.idles t)) (left (moved_to old.clock e.moment) (slice_index old.weights t)) (moved_to old.clock e.moment))
+clock_ended C P e t old other c is moved =
     let undone = (is.idles_are.each t c.known).undone in
     elim (cases_eq (idle_of old.idles t).undone 1) [
       | inl one ↦ rw (eq-eqb (idle_of old.idles t).undone 1 one) (clock_next C P e (moved_to old.clock e.moment) _ _ other (is.clock_is.workers ∙ sym c.pool_stays) (omega (arith, is.clock_is.weights, is.weights_are.each t c.known, weight_asleep C P e t c (sym undone ∙ one))) moved)
       | inr more ↦ rw (ne_eqb (idle_of old.idles t).undone 1 more) (clock_next C P e (moved_to old.clock e.moment) _ _ other (is.clock_is.workers ∙ sym c.pool_stays) (is.clock_is.weights ∙ sym (weight_stays_in C P e t c.known c.weight_stays c.others_stay (omega (arith, c.less)) (omega (arith, undone, c.less, more)))) moved)
     ]
 
-pub follows_done : (m t : ℕ) (old new : Times) → Completed m t old new → Follows TimesAre (Completes m t) old new
-follows_done m t old new made = λ C P e lim l s is.
-    let c = completes_close C P e m t lim l s in
+pub follows_end : (m t : ℕ) (old new : Times) → Ended m t old new → Follows TimesAre (Ends m t) old new
+follows_end m t old new made = λ C P e lim l s is.
+    let c = ends_close C P e m t lim l s in
     record {
-      clock_is = rw (made.clock_is, ← s.moment_is) (clock_completed C P e t old (rw s.act_is refl) c is (clock_moved C P e.moment old.clock lim l.0 l.1 l.2 is.clock_is));
+      clock_is = rw (made.clock_is, ← s.moment_is) (clock_ended C P e t old (end_no_take s.request e.act s.ends) c is (clock_moved C P e.moment old.clock lim l.0 l.1 l.2 is.clock_is));
       weights_are = rw (made.weights_are) (weights_stay C P e old.weights (own_and_others C P e t c.weight_stays c.others_stay) is.weights_are);
-      idles_are = rw (made.idles_are, ← s.moment_is, next_time C P e (moved_to old.clock e.moment) (rw s.act_is refl) (clock_moved C P e.moment old.clock lim l.0 l.1 l.2 is.clock_is)) (idles_written C P e t old.idles _ c.known (λ u other. (c.others_stay u other).open_same) (idles_later C P e.moment old.idles is.idles_are) (idle_closed C P e t (idle_of old.idles t) c.less ((idles_later C P e.moment old.idles is.idles_are).each t c.known)));
+      idles_are = rw (made.idles_are, ← s.moment_is, next_time C P e (moved_to old.clock e.moment) (end_no_take s.request e.act s.ends) (clock_moved C P e.moment old.clock lim l.0 l.1 l.2 is.clock_is)) (idles_written C P e t old.idles _ c.known (λ u other. (c.others_stay u other).open_same) (idles_later C P e.moment old.idles is.idles_are) (idle_closed C P e t (idle_of old.idles t) c.less ((idles_later C P e.moment old.idles is.idles_are).each t c.known)));
     }
 
 -- ---- a Weight

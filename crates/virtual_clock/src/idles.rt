@@ -13,7 +13,7 @@ pub struct Idle {
     pub whole: i128,
     /// The virtual time at which the tenant fell asleep or woke last, in steps.
     pub since: i128,
-    /// How many of its requests are submitted and not done. It is asleep, which is not active, while that is 0.
+    /// How many of its requests wait or run. It is asleep, which is not active, while that is 0.
     pub undone: u32,
 }
 

@@ -1,7 +1,7 @@
 //! The virtual time of a history, the weights at its end, and for how long each tenant was not active.
 ghost use Rattle.std.specs.Prelude.{◌<◌, ◌≤◌, ◌≡◌, ◌≢◌, [], pos, ◌≤ℤ◌, length, IfOk};
 ghost use Rattle.fq_model.specs.declared.config.Policy.TheVariants.{TwoDfqPlus};
-ghost use Rattle.fq_laws.specs.Steps.{Awaits, Follows, Submits, Completes, Reweighs, Staffs};
+ghost use Rattle.fq_laws.specs.Steps.{Awaits, Follows, Submits, Ends, Reweighs, Staffs};
 ghost use Rattle.virtual_clock.specs.Idles.{idle_of};
 ghost use Rattle.virtual_clock.specs.Histories.{TimesAre, ComesTo, AwaitsTake, FollowsTake, IsTimeOf, IsLaterTimeOf, IsIdleTimeOf, IsWeightOf, IsPoolOf};
 
@@ -76,10 +76,10 @@ impl Times {
         }
     }
 
-    /// A Done of a request of this tenant comes at this moment, in microseconds.
-    pub fn done(&mut self, moment: u64, tenant: u32)
-        requires { Awaits TimesAre (Completes moment tenant) self.old }
-        ensures { Follows TimesAre (Completes moment tenant) self.old self.new }
+    /// A Done or a Withdraw of a request of this tenant comes at this moment, in microseconds.
+    pub fn end(&mut self, moment: u64, tenant: u32)
+        requires { Awaits TimesAre (Ends moment tenant) self.old }
+        ensures { Follows TimesAre (Ends moment tenant) self.old self.new }
     {
         self.clock.to(moment); // at the weights with this tenant's
         if self.idles.close_one(tenant, self.clock.now()) {

@@ -20,3 +20,6 @@ returns-in-Weight g c = rw (c.in-Weight.is, c.told-in-Weight.ensures) c.weight.e
 
 pub returns-in-Workers : goal.returns-in-Workers
 returns-in-Workers g c = rw (c.in-Workers.is, c.told-in-Workers.ensures) c.workers.ensures.answers
+
+pub returns-in-Withdraw : goal.returns-in-Withdraw
+returns-in-Withdraw g c = rw (c.in-Withdraw.is, c.withdrawn.ensures) c.withdraw.ensures.answers

@@ -9,7 +9,7 @@ use Rattle.sched_state.proofs.CostLemmas.{costs_learned}
 use Rattle.sched_state.proofs.TrackerLemmas.{done_but, some_but, renewed}
 use Rattle.sched_state.proofs.tracker.Tracker.done.Given as given
 use Rattle.sched_state.proofs.tracker.Tracker.done.Goals as goal
-use Rattle.sched_state.proofs.tracker.Tracker.done.Goals.{After-done}
+use Rattle.sched_state.proofs.tracker.Tracker.done.Goals.{After-end}
 
 pub charge-requires : goal.charge-requires
 charge-requires g c =
@@ -25,22 +25,22 @@ learn-requires g c =
     let x = finish_step c.args.journal.now.config (history c.args.journal.now) c.args.self.now.book c.args.self.now.accounts 0 c.args.moment c.args.worker c.args.cost c.args.row m.limits (c.requires.legal 0) m.book_is m.accounts_are c.requires.row.row_is in
     record { tenant = omega (arith, x.step.tenant_known, m.costs_are.tenants); kind = omega (arith, x.kind_known, m.costs_are.kinds); cost = x.cost_low }
 
-pub done-requires : goal.done-requires
-done-requires g c =
+pub end-requires : goal.end-requires
+end-requires g c =
     let m = c.requires.tracked.mirrors in
     let x = finish_step c.args.journal.now.config (history c.args.journal.now) c.args.self.now.book c.args.self.now.accounts 0 c.args.moment c.args.worker c.args.cost c.args.row m.limits (c.requires.legal 0) m.book_is m.accounts_are c.requires.row.row_is in
-    record { config = c.args.journal.now.config; history = history c.args.journal.now; entry = _; limits = m.limits; legal = c.requires.legal 0; comes = x.completes; kept_is = m.times_are }
+    record { config = c.args.journal.now.config; history = history c.args.journal.now; entry = _; limits = m.limits; legal = c.requires.legal 0; comes = x.ends; kept_is = m.times_are }
 
 -- what is kept is that of the longer history, but for the keys of the tenant
-but : (g : given.Over) (c : After-done g) (who : ℕ) → TracksBut g.J.Job.label_of g.X.Chooser.seen c.args.row.tenant c.args.journal.now.config (one_more who c.args.moment (Done c.args.worker c.args.row.request c.args.cost) (history c.args.journal.now)) (record { lists = c.args.self.now.lists; book = c.record_cost-correction.new.self; accounts = c.charge.new.self; costs = c.learn.new.self; times = c.done.new.self; chooser = c.args.self.now.chooser })
+but : (g : given.Over) (c : After-end g) (who : ℕ) → TracksBut g.J.Job.label_of g.X.Chooser.seen c.args.row.tenant c.args.journal.now.config (one_more who c.args.moment (Done c.args.worker c.args.row.request c.args.cost) (history c.args.journal.now)) (record { lists = c.args.self.now.lists; book = c.record_cost-correction.new.self; accounts = c.charge.new.self; costs = c.learn.new.self; times = c.end.new.self; chooser = c.args.self.now.chooser })
 but g c who =
     let m = c.requires.tracked.mirrors in
     let x = finish_step c.args.journal.now.config (history c.args.journal.now) c.args.self.now.book c.args.self.now.accounts who c.args.moment c.args.worker c.args.cost c.args.row m.limits (c.requires.legal who) m.book_is m.accounts_are c.requires.row.row_is in
     let l = c.learn.ensures in
-    done_but g.J.Job.label_of g.X.Chooser.seen c.args.journal.now.config (history c.args.journal.now) c.args.self.now _ c.requires.tracked who c.args.moment c.args.worker c.args.cost c.args.row c.record_cost-correction.result x (λ e comes legal. c.done.ensures c.args.journal.now.config (history c.args.journal.now) e m.limits legal comes m.times_are) c.record_cost-correction.ensures.change c.record_cost-correction.ensures.book c.charge.ensures (costs_learned c.args.journal.now.config (history c.args.journal.now) _ (record { tenant = c.args.row.tenant; kind = c.args.row.kind; cost = c.args.cost }) c.args.self.now.costs c.learn.new.self m.costs_are x.completed_is l.rule l.initial l.tenants l.kinds (l.learned (completed (history c.args.journal.now)) m.costs_are.learned)) refl refl
+    done_but g.J.Job.label_of g.X.Chooser.seen c.args.journal.now.config (history c.args.journal.now) c.args.self.now _ c.requires.tracked who c.args.moment c.args.worker c.args.cost c.args.row c.record_cost-correction.result x (λ e comes legal. c.end.ensures c.args.journal.now.config (history c.args.journal.now) e m.limits legal comes m.times_are) c.record_cost-correction.ensures.change c.record_cost-correction.ensures.book c.charge.ensures (costs_learned c.args.journal.now.config (history c.args.journal.now) _ (record { tenant = c.args.row.tenant; kind = c.args.row.kind; cost = c.args.cost }) c.args.self.now.costs c.learn.new.self m.costs_are x.completed_is l.rule l.initial l.tenants l.kinds (l.learned (completed (history c.args.journal.now)) m.costs_are.learned)) refl refl
 
 pub renew-requires : goal.renew-requires
-renew-requires g c = some_but g.J.Job.label_of g.X.Chooser.seen c.config.ensures.config (but g (goal.at.renew-requires g c).After-done 0)
+renew-requires g c = some_but g.J.Job.label_of g.X.Chooser.seen c.config.ensures.config (but g (goal.at.renew-requires g c).After-end 0)
 
 pub returns-clause-tracked : goal.returns-clause-tracked
-returns-clause-tracked g c = λ who. renewed g.J.Job.label_of g.X.Chooser.seen c.config.ensures.config (but g (goal.at.returns-clause-tracked g c).After-done who) c.renew.ensures.tracked
+returns-clause-tracked g c = λ who. renewed g.J.Job.label_of g.X.Chooser.seen c.config.ensures.config (but g (goal.at.returns-clause-tracked g c).After-end who) c.renew.ensures.tracked
