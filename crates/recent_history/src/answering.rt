@@ -4,7 +4,7 @@ ghost use Rattle.sched_state.specs.Replies.{AnswersCall};
 
 use crate::recent::Recent;
 use fq_model::event::{Call, Reply};
-use sched_state::answering::{closed, submitted, taken, told};
+use sched_state::answering::{closed, submitted, taken, told, withdrawn};
 use tag_rules::chooser::Chooser;
 
 /// What the scheduler answers to a call, whose label is the job of what is submitted.
@@ -46,5 +46,10 @@ pub fn answer<X: Chooser>(recent: &mut Recent<u64, X>, call: Call) -> Reply
             weight,
         } => told(recent.weight(who, moment, tenant, weight)),
         Call::Workers { who, moment, count } => told(recent.workers(who, moment, count)),
+        Call::Withdraw {
+            who,
+            moment,
+            request,
+        } => withdrawn(recent.withdraw(who, moment, request)),
     }
 }

@@ -10,7 +10,7 @@ ghost use Rattle.fq_model.specs.Status.{status_of};
 ghost use Rattle.recent_history.specs.Kept.{IsNext, kept_entry};
 ghost use Rattle.sched_state.specs.Lists.{HoldsWaiting};
 ghost use Rattle.sched_state.specs.Scheduler.{virtual_time_now};
-ghost use Rattle.sched_state.specs.Replies.{submit_reply, take_reply, change_reply, close_reply, AnswersCall, HandsOut};
+ghost use Rattle.sched_state.specs.Replies.{submit_reply, take_reply, change_reply, withdraw_reply, close_reply, AnswersCall, HandsOut, HandsBack};
 
 use circular_buffer::HeapCircularBuffer;
 use fq_model::config::Checked;
@@ -166,6 +166,19 @@ impl<J: Job + Drop, X: Chooser> Recent<J, X> {
         let before = self.core.len();
         let outcome = self.core.workers(who, moment, count);
         note(&mut self.ring, &self.core, before);
+        outcome
+    }
+
+    /// A request that waits is withdrawn: it is never taken, and its job comes back. Refused as a `Scheduler` would.
+    pub fn withdraw(&mut self, who: u32, moment: u64, request: u32) -> Result<J, Cause>
+        ensures answers { AnswersCall self.old.scheduler (call.Withdraw who moment request)
+            (withdraw_reply J.label_of result) self.new.scheduler }
+        ensures jobs { HandsBack self.old.scheduler request result self.new.scheduler }
+        ensures keep { self.new.keep ≡ self.old.keep }
+    {
+        let count = self.core.len();
+        let outcome = self.core.withdraw(who, moment, request);
+        note(&mut self.ring, &self.core, count);
         outcome
     }
 

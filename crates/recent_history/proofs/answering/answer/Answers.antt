@@ -20,3 +20,6 @@ returns-in-Weight-clause-answers g c = rw (c.in-Weight.is, c.told-in-Weight.ensu
 
 pub returns-in-Workers-clause-answers : goal.returns-in-Workers-clause-answers
 returns-in-Workers-clause-answers g c = rw (c.in-Workers.is, c.told-in-Workers.ensures) c.workers.ensures.answers
+
+pub returns-in-Withdraw-clause-answers : goal.returns-in-Withdraw-clause-answers
+returns-in-Withdraw-clause-answers g c = rw (c.in-Withdraw.is, c.withdrawn.ensures) c.withdraw.ensures.answers
