@@ -1,6 +1,6 @@
 // Times calls of the scheduler, bare and each under a mutex that nobody else wants: a first request of every tenant, then submits,
 // takes, reports and dones drawn with a seed, with about as many waiting at the end as at the start. The calls are drawn before
-// the clock starts. Run it pinned to one processor.
+// the clock starts. Then a thousand requests are withdrawn of full rooms of several sizes. Run it pinned to one processor.
 #include <pthread.h>
 #include <stdio.h>
 #include <stdlib.h>
@@ -120,6 +120,31 @@ static double time_refusals(void) {
     return a_call;
 }
 
+// Nanoseconds of a withdraw, the least of some rounds: a thousand requests of 64 tenants, drawn from a full room.
+static double time_withdraws(uint32_t room) {
+    enum { TENANTS = 64, TIMES = 1000 };
+    static uint32_t weights[TENANTS];
+    for (uint32_t tenant = 0; tenant < TENANTS; tenant++) weights[tenant] = 1;
+    twodfq_opening opening = {
+        .workers = 8, .kinds = 1, .entries = 4 * room + 4, .requests = room, .policy = TWODFQ_2DFQ_PLUS, .initial = 1000,
+    };
+    double least = 1e18;
+    for (int round = 0; round < ROUNDS; round++) {
+        twodfq scheduler = TWODFQ_NONE;
+        if (twodfq_open(&scheduler, &opening, weights, TENANTS) != TWODFQ_OPENED) exit(1);
+        state = 7;
+        for (uint32_t i = 0; i < room; i++)
+            if (twodfq_submit(&scheduler, 0, i, draw(TENANTS), 0, 100, i).kind != TWODFQ_REQUEST) exit(2);
+        double began = nanoseconds();
+        for (uint32_t i = 0; i < TIMES; i++)
+            if (twodfq_withdraw(&scheduler, 0, room, i * (room / TIMES)).kind != TWODFQ_WITHDRAWN) exit(2);
+        double a_call = (nanoseconds() - began) / TIMES;
+        if (a_call < least) least = a_call;
+        twodfq_free(&scheduler);
+    }
+    return least;
+}
+
 int main(void) {
     static const uint32_t sizes[][2] = { { 64, 8 }, { 4096, 64 } };
     pthread_mutex_t lock = PTHREAD_MUTEX_INITIALIZER;
@@ -130,4 +155,6 @@ int main(void) {
         printf("| %u | %u | %.0f | %.0f |\n", tenants, workers, bare, locked);
     }
     printf("\nA call that is refused at once: %.0f.\n", time_refusals());
+    printf("A withdraw from a full room of 2,000: %.0f, of 20,000: %.0f, of 200,000: %.0f.\n", time_withdraws(2000),
+        time_withdraws(20000), time_withdraws(200000));
 }

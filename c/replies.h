@@ -20,8 +20,10 @@ static void write_reply(twodfq_reply reply) {
     case TWODFQ_IDLE: puts("idle"); break;
     case TWODFQ_DRAINED: puts("drained"); break;
     case TWODFQ_RETIRED: printf("retired %" PRIu64 "\n", reply.first); break;
+    case TWODFQ_WITHDRAWN: printf("withdrawn %" PRIu64 "\n", reply.second); break;
     case TWODFQ_REFUSED_CLOSED: puts("refused closed"); break;
     case TWODFQ_REFUSED_BUSY: printf("refused busy %" PRIu32 "\n", reply.request); break;
+    case TWODFQ_REFUSED_NOT_WAITING: printf("refused not-waiting %" PRIu32 "\n", reply.request); break;
     case TWODFQ_REFUSED_NOT_RUNNING: puts("refused not-running"); break;
     case TWODFQ_REFUSED_FALLING: printf("refused falling %" PRIu64 " %" PRIu64 "\n", reply.first, reply.second); break;
     case TWODFQ_NO_SCHEDULER: puts("no scheduler"); break;

@@ -60,11 +60,12 @@ static twodfq_reply call(twodfq *scheduler, char *words[WORDS]) {
     if (!strcmp(name, "done")) return twodfq_done(scheduler, who, n[2], first, n[4]);
     if (!strcmp(name, "weight")) return twodfq_weight(scheduler, who, n[2], first, second);
     if (!strcmp(name, "workers")) return twodfq_workers(scheduler, who, n[2], first);
+    if (!strcmp(name, "withdraw")) return twodfq_withdraw(scheduler, who, n[2], first);
     return twodfq_close(scheduler, who, n[2]);
 }
 
 static void write_entry(twodfq_line e) {
-    static const char *const names[] = { "submit", "take", "report", "done", "close", "weight", "workers" };
+    static const char *const names[] = { "submit", "take", "report", "done", "close", "weight", "workers", "withdraw" };
     printf("%s %" PRIu32 " %" PRIu64, names[e.kind], e.who, e.moment);
     switch (e.kind) {
     case TWODFQ_ENTRY_SUBMIT:
@@ -74,7 +75,8 @@ static void write_entry(twodfq_line e) {
     case TWODFQ_ENTRY_REPORT:
     case TWODFQ_ENTRY_DONE: printf(" %" PRIu32 " %" PRIu32 " %" PRIu64, e.worker, e.request, e.amount); break;
     case TWODFQ_ENTRY_WEIGHT: printf(" %" PRIu32 " %" PRIu64, e.tenant, e.amount); break;
-    case TWODFQ_ENTRY_WORKERS: printf(" %" PRIu64, e.amount);
+    case TWODFQ_ENTRY_WORKERS: printf(" %" PRIu64, e.amount); break;
+    case TWODFQ_ENTRY_WITHDRAW: printf(" %" PRIu32, e.request);
     }
     putchar('\n');
 }
@@ -94,8 +96,10 @@ static void read_on(twodfq *scheduler) {
 
 static void write_journal(void) {
     int version = 1;
-    for (size_t i = 0; i < entries_read; i++)
+    for (size_t i = 0; i < entries_read && version < 3; i++) {
+        if (entries[i].kind == TWODFQ_ENTRY_WITHDRAW) version = 3;
         if (entries[i].kind == TWODFQ_ENTRY_WEIGHT || entries[i].kind == TWODFQ_ENTRY_WORKERS) version = 2;
+    }
     printf("journal %d\n", version);
     for (size_t i = 0; i < head_lines; i++) puts(head[i]);
     for (size_t i = 0; i < entries_read; i++) write_entry(entries[i]);

@@ -86,6 +86,7 @@ enum {
     TWODFQ_IDLE,        /* nothing waits; more may come */
     TWODFQ_DRAINED,     /* nothing waits, and nothing more will come */
     TWODFQ_RETIRED,     /* the worker is not among those that there are now; first: how many. It may ask again */
+    TWODFQ_WITHDRAWN,   /* the request is withdrawn; second: its label */
     TWODFQ_REFUSED_CLOSED = 16, /* the history is closed */
     TWODFQ_REFUSED_TENANT,      /* there is none of this number; first: the number */
     TWODFQ_REFUSED_KIND,        /* there is none of this number; first: the number */
@@ -98,6 +99,7 @@ enum {
     TWODFQ_REFUSED_FALLING,     /* less than was reported; first: what was reported, second: what is given */
     TWODFQ_REFUSED_WEIGHT,      /* not 1 to 1,000; first: the weight given */
     TWODFQ_REFUSED_WORKERS,     /* none, or more than at the opening; first: the number given */
+    TWODFQ_REFUSED_NOT_WAITING, /* request was never submitted, or is taken or withdrawn */
     TWODFQ_NO_SCHEDULER = 255
 };
 
@@ -108,7 +110,7 @@ typedef struct {
 } twodfq_reply;
 
 /* A request comes; it gets the next number. declared: the cost that its submitter names. label: any number, which comes back with
-   TWODFQ_RUN. Refused: CLOSED, TENANT, KIND, COST, SLOTS, FULL. */
+   TWODFQ_RUN and TWODFQ_WITHDRAWN. Refused: CLOSED, TENANT, KIND, COST, SLOTS, FULL. */
 twodfq_reply twodfq_submit(twodfq *handle, uint32_t who, uint64_t moment, uint32_t tenant, uint32_t kind, uint64_t declared,
     uint64_t label);
 
@@ -130,15 +132,19 @@ twodfq_reply twodfq_weight(twodfq *handle, uint32_t who, uint64_t moment, uint32
 /* There are so many workers from now on, those with lower numbers; at most as many as at the opening. Refused: WORKERS, FULL. */
 twodfq_reply twodfq_workers(twodfq *handle, uint32_t who, uint64_t moment, uint32_t count);
 
-/* An entry of the history, which has one for each call that was answered REQUEST, RUN or ACCEPTED. */
+/* A request that waits is withdrawn: it is never taken, and costs nothing. It may come after a close, too. Refused: NOT_WAITING. */
+twodfq_reply twodfq_withdraw(twodfq *handle, uint32_t who, uint64_t moment, uint32_t request);
+
+/* An entry of the history, which has one for each call that was answered REQUEST, RUN, ACCEPTED or WITHDRAWN. */
 enum {
-    TWODFQ_ENTRY_SUBMIT,  /* request, tenant, request_kind, amount: the declared cost, label */
-    TWODFQ_ENTRY_TAKE,    /* request, worker, amount: the estimate */
-    TWODFQ_ENTRY_REPORT,  /* request, worker, amount: the use */
-    TWODFQ_ENTRY_DONE,    /* request, worker, amount: the cost */
+    TWODFQ_ENTRY_SUBMIT,   /* request, tenant, request_kind, amount: the declared cost, label */
+    TWODFQ_ENTRY_TAKE,     /* request, worker, amount: the estimate */
+    TWODFQ_ENTRY_REPORT,   /* request, worker, amount: the use */
+    TWODFQ_ENTRY_DONE,     /* request, worker, amount: the cost */
     TWODFQ_ENTRY_CLOSE,
-    TWODFQ_ENTRY_WEIGHT,  /* tenant, amount: the weight */
-    TWODFQ_ENTRY_WORKERS, /* amount: how many */
+    TWODFQ_ENTRY_WEIGHT,   /* tenant, amount: the weight */
+    TWODFQ_ENTRY_WORKERS,  /* amount: how many */
+    TWODFQ_ENTRY_WITHDRAW, /* request */
     TWODFQ_ENTRY_NONE = 255
 };
 

@@ -83,26 +83,28 @@ func (f OpenFault) Error() string {
 type Refusal uint32
 
 const (
-	RefusedClosed  Refusal = C.TWODFQ_REFUSED_CLOSED
-	RefusedTenant  Refusal = C.TWODFQ_REFUSED_TENANT
-	RefusedKind    Refusal = C.TWODFQ_REFUSED_KIND
-	RefusedCost    Refusal = C.TWODFQ_REFUSED_COST
-	RefusedSlots   Refusal = C.TWODFQ_REFUSED_SLOTS
-	RefusedFull    Refusal = C.TWODFQ_REFUSED_FULL
-	RefusedWorker  Refusal = C.TWODFQ_REFUSED_WORKER
-	RefusedBusy    Refusal = C.TWODFQ_REFUSED_BUSY
-	RefusedIdle    Refusal = C.TWODFQ_REFUSED_NOT_RUNNING
-	RefusedFalling Refusal = C.TWODFQ_REFUSED_FALLING
-	RefusedWeight  Refusal = C.TWODFQ_REFUSED_WEIGHT
-	RefusedWorkers Refusal = C.TWODFQ_REFUSED_WORKERS
-	NoScheduler    Refusal = C.TWODFQ_NO_SCHEDULER
+	RefusedClosed     Refusal = C.TWODFQ_REFUSED_CLOSED
+	RefusedTenant     Refusal = C.TWODFQ_REFUSED_TENANT
+	RefusedKind       Refusal = C.TWODFQ_REFUSED_KIND
+	RefusedCost       Refusal = C.TWODFQ_REFUSED_COST
+	RefusedSlots      Refusal = C.TWODFQ_REFUSED_SLOTS
+	RefusedFull       Refusal = C.TWODFQ_REFUSED_FULL
+	RefusedWorker     Refusal = C.TWODFQ_REFUSED_WORKER
+	RefusedBusy       Refusal = C.TWODFQ_REFUSED_BUSY
+	RefusedIdle       Refusal = C.TWODFQ_REFUSED_NOT_RUNNING
+	RefusedFalling    Refusal = C.TWODFQ_REFUSED_FALLING
+	RefusedWeight     Refusal = C.TWODFQ_REFUSED_WEIGHT
+	RefusedWorkers    Refusal = C.TWODFQ_REFUSED_WORKERS
+	RefusedNotWaiting Refusal = C.TWODFQ_REFUSED_NOT_WAITING
+	NoScheduler       Refusal = C.TWODFQ_NO_SCHEDULER
 )
 
 var causes = map[Refusal]string{
 	RefusedClosed: "closed", RefusedTenant: "no such tenant", RefusedKind: "no such kind", RefusedCost: "no such cost",
 	RefusedSlots: "as many requests wait as may", RefusedFull: "the history has no room", RefusedWorker: "no such worker",
 	RefusedBusy: "the worker runs a request", RefusedIdle: "the worker runs nothing", RefusedFalling: "less than was reported",
-	RefusedWeight: "no such weight", RefusedWorkers: "no such number of workers", NoScheduler: "no scheduler is open",
+	RefusedWeight: "no such weight", RefusedWorkers: "no such number of workers",
+	RefusedNotWaiting: "the request does not wait", NoScheduler: "no scheduler is open",
 }
 
 func (r Refusal) Error() string { return "refused: " + causes[r] }
@@ -202,17 +204,28 @@ func (s *Scheduler) SetWorkers(who uint32, moment uint64, count uint32) error {
 	return refusal(C.twodfq_workers(&s.handle, C.uint32_t(who), C.uint64_t(moment), C.uint32_t(count)))
 }
 
+// Withdraw takes back a request that waits: it is never taken, and costs nothing. Its label comes back. It may come after a
+// close, too.
+func (s *Scheduler) Withdraw(who uint32, moment uint64, request uint32) (uint64, error) {
+	reply := C.twodfq_withdraw(&s.handle, C.uint32_t(who), C.uint64_t(moment), C.uint32_t(request))
+	if err := refusal(reply); err != nil {
+		return 0, err
+	}
+	return uint64(reply.second), nil
+}
+
 // Act says which call an entry is of.
 type Act uint32
 
 const (
-	Submitted     Act = C.TWODFQ_ENTRY_SUBMIT  // Request, Tenant, Kind, Amount: the declared cost, Label
-	Dispatched    Act = C.TWODFQ_ENTRY_TAKE    // Request, Worker, Amount: the estimate
-	Reported      Act = C.TWODFQ_ENTRY_REPORT  // Request, Worker, Amount: the use
-	Completed     Act = C.TWODFQ_ENTRY_DONE    // Request, Worker, Amount: the cost
-	Closed        Act = C.TWODFQ_ENTRY_CLOSE   // no number
-	WeightChanged Act = C.TWODFQ_ENTRY_WEIGHT  // Tenant, Amount: the weight
-	WorkersSet    Act = C.TWODFQ_ENTRY_WORKERS // Amount: how many
+	Submitted     Act = C.TWODFQ_ENTRY_SUBMIT   // Request, Tenant, Kind, Amount: the declared cost, Label
+	Dispatched    Act = C.TWODFQ_ENTRY_TAKE     // Request, Worker, Amount: the estimate
+	Reported      Act = C.TWODFQ_ENTRY_REPORT   // Request, Worker, Amount: the use
+	Completed     Act = C.TWODFQ_ENTRY_DONE     // Request, Worker, Amount: the cost
+	Closed        Act = C.TWODFQ_ENTRY_CLOSE    // no number
+	WeightChanged Act = C.TWODFQ_ENTRY_WEIGHT   // Tenant, Amount: the weight
+	WorkersSet    Act = C.TWODFQ_ENTRY_WORKERS  // Amount: how many
+	Withdrawn     Act = C.TWODFQ_ENTRY_WITHDRAW // Request
 )
 
 // Entry is an accepted call. Numbers that its act does not use are 0.

@@ -79,6 +79,7 @@ extern "C" {
     pub(crate) fn twodfq_close(handle: *mut Handle, who: u32, moment: u64) -> Reply;
     pub(crate) fn twodfq_weight(handle: *mut Handle, who: u32, moment: u64, tenant: u32, weight: u32) -> Reply;
     pub(crate) fn twodfq_workers(handle: *mut Handle, who: u32, moment: u64, count: u32) -> Reply;
+    pub(crate) fn twodfq_withdraw(handle: *mut Handle, who: u32, moment: u64, request: u32) -> Reply;
     pub(crate) fn twodfq_entry(handle: *mut Handle, index: u64) -> Line;
     pub(crate) fn twodfq_status(handle: *mut Handle) -> Standing;
     pub(crate) fn twodfq_free(handle: *mut Handle);
@@ -138,6 +139,7 @@ impl Line {
             4 => Act::Close,
             5 => Act::Weight { tenant, weight: amount as u32 },
             6 => Act::Workers { count: amount as u32 },
+            7 => Act::Withdraw { request },
             255 => return None,
             kind => unreachable!("no history has an entry of kind {kind}"),
         };
@@ -236,10 +238,10 @@ mod tests {
     }
 
     #[test]
-    #[should_panic = "no history has an entry of kind 7"]
+    #[should_panic = "no history has an entry of kind 8"]
     fn an_entry_of_another_kind() {
         let numbers =
-            Line { kind: 7, who: 0, moment: 0, request: 0, tenant: 0, request_kind: 0, worker: 0, amount: 0, label: 0 };
+            Line { kind: 8, who: 0, moment: 0, request: 0, tenant: 0, request_kind: 0, worker: 0, amount: 0, label: 0 };
         numbers.entry();
     }
 }

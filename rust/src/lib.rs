@@ -145,7 +145,7 @@ pub struct Submit {
     pub kind: u32,
     /// The cost that its submitter names.
     pub declared: u64,
-    /// Any number, which comes back with [`Taken::Run`].
+    /// Any number, which comes back with [`Taken::Run`], and from [`Scheduler::withdraw`].
     pub label: u64,
 }
 
@@ -187,6 +187,7 @@ pub enum Act {
     Close,
     Weight { tenant: u32, weight: u32 },
     Workers { count: u32 },
+    Withdraw { request: u32 },
 }
 
 /// An entry of the history: who made the call, when it took effect, and what it did.
@@ -365,6 +366,22 @@ impl Scheduler {
     /// ```
     pub fn workers(&mut self, who: u32, moment: u64, count: u32) -> Result<(), Refusal> {
         unsafe { ffi::twodfq_workers(&mut self.handle, who, moment, count) }.accepted().map(drop)
+    }
+
+    /// A request that waits is withdrawn: it is never taken, and costs nothing. Its label comes back. It may come after a
+    /// close, too.
+    ///
+    /// ```
+    /// use twodfq::{Config, Refusal, Scheduler, Submit, Taken};
+    ///
+    /// let mut scheduler = Scheduler::open(&Config { weights: &[1, 2], ..Config::default() }).unwrap();
+    /// let request = scheduler.submit(0, 0, Submit { tenant: 1, kind: 0, declared: 5, label: 42 }).unwrap();
+    /// assert_eq!(scheduler.withdraw(0, 3, request), Ok(42));
+    /// assert_eq!(scheduler.withdraw(0, 4, request), Err(Refusal::NotWaiting(request)));
+    /// assert_eq!(scheduler.take(1, 5, 0), Ok(Taken::Idle));
+    /// ```
+    pub fn withdraw(&mut self, who: u32, moment: u64, request: u32) -> Result<u64, Refusal> {
+        Ok(unsafe { ffi::twodfq_withdraw(&mut self.handle, who, moment, request) }.accepted()?.second)
     }
 
     /// The entry of the history with this index, in order of time, the first with 0, if there is one and it is kept.

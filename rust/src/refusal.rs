@@ -40,6 +40,8 @@ pub enum Refusal {
     Weight(u32),
     /// A number of workers that is 0, or more than the scheduler was opened with.
     Workers(u32),
+    /// No request of this number waits: it was never submitted, or is taken or withdrawn.
+    NotWaiting(u32),
 }
 
 impl Refusal {
@@ -47,7 +49,7 @@ impl Refusal {
     pub(crate) fn of_reply(reply: &Reply) -> Option<Refusal> {
         let Reply { kind, request, first, second } = *reply;
         Some(match kind {
-            0..=5 => return None,
+            0..=6 => return None,
             16 => Refusal::Closed,
             17 => Refusal::Tenant(first as u32),
             18 => Refusal::Kind(first as u32),
@@ -60,6 +62,7 @@ impl Refusal {
             25 => Refusal::Falling { last: first, given: second },
             26 => Refusal::Weight(first as u32),
             27 => Refusal::Workers(first as u32),
+            28 => Refusal::NotWaiting(request),
             _ => unreachable!("a scheduler that was opened gives no reply of kind {kind}"),
         })
     }
@@ -82,6 +85,7 @@ impl fmt::Display for Refusal {
             }
             Refusal::Weight(weight) => write!(f, "a weight of {weight}, and it may be 1 to 1000"),
             Refusal::Workers(count) => write!(f, "{count} workers, and there may be 1 to as many as at the opening"),
+            Refusal::NotWaiting(request) => write!(f, "request {request} does not wait"),
         }
     }
 }

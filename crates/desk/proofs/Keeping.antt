@@ -50,6 +50,7 @@ staffed_on label crew P who (ask.Done moment worker cost) reply Q may st x = sta
 staffed_on label crew P who (ask.Close moment) reply Q may st x = staffed_more crew.submitters who moment _ _ P _ reply Q may st x
 staffed_on label crew P who (ask.Weight moment tenant weight) reply Q may st x = staffed_more crew.submitters who moment _ _ P _ reply Q may st x
 staffed_on label crew P who (ask.Workers moment count) reply Q may st x = staffed_more crew.submitters who moment _ _ P _ reply Q may st x
+staffed_on label crew P who (ask.Withdraw moment request) reply Q may st x = staffed_more crew.submitters who moment _ _ P _ reply Q may st x
 
 -- what a call on a floor that is seen so leaves keeps what a floor keeps
 pub kept : {J : Type 0} (label : J → ℕ) (before after : SchedulerView J) (s : ℕ) (b : Option BoardView) (seen : FloorView J) (who : ℕ) (asked : Ask J) (reply : Reply) → record { scheduler = before; submitters = s; board = b } ≡ seen → MayAsk (crew_of seen) who asked

@@ -20,6 +20,7 @@ caller_is label who (ask.Done moment worker cost) = refl
 caller_is label who (ask.Close moment) = refl
 caller_is label who (ask.Weight moment tenant weight) = refl
 caller_is label who (ask.Workers moment count) = refl
+caller_is label who (ask.Withdraw moment request) = refl
 
 -- the same entries in order of time
 turned_same : (P Q : List Entry) → history_of Q ≡ history_of P → Q ≡ P

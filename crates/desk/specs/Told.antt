@@ -6,7 +6,7 @@ use Rattle.fq_model.specs.declared.event.Reply.{Reply}
 use Rattle.fq_model.specs.declared.event.Entry.{Entry}
 use Rattle.fq_model.specs.History.{history_of}
 use Rattle.fq_model.specs.Rules.{IsLegal, Answers}
-use Rattle.sched_state.specs.Replies.{submit_reply, take_reply, change_reply, close_reply}
+use Rattle.sched_state.specs.Replies.{submit_reply, take_reply, change_reply, close_reply, withdraw_reply}
 use Rattle.desk.specs.declared.floor.Crew.{Crew}
 use Rattle.desk.specs.declared.told.Ask.{Ask}
 use Rattle.desk.specs.declared.told.Ask.TheVariants as ask
@@ -23,6 +23,7 @@ call_of label who (ask.Done moment worker cost) = call.Done who moment worker co
 call_of label who (ask.Close moment) = call.Close who moment
 call_of label who (ask.Weight moment tenant weight) = call.Weight who moment tenant weight
 call_of label who (ask.Workers moment count) = call.Workers who moment count
+call_of label who (ask.Withdraw moment request) = call.Withdraw who moment request
 
 -- the reply that is told
 abbrev pub reply_of : {J : Type 0} → (J → ℕ) → Told J → Reply
@@ -32,6 +33,7 @@ reply_of label (told.Reported result) = change_reply result
 reply_of label (told.Ended result) = change_reply result
 reply_of label (told.Closed result) = close_reply result
 reply_of label (told.Changed result) = change_reply result
+reply_of label (told.Withdrawn result) = withdraw_reply label result
 
 -- what is told is of the kind that was asked, and a refused Submit gives the job back that was handed in
 abbrev pub Suits : {J : Type 0} → Ask J → Told J → Type 0
@@ -43,6 +45,7 @@ Suits (ask.Done moment worker cost) (told.Ended result) = Unit {0}
 Suits (ask.Close moment) (told.Closed result) = Unit {0}
 Suits (ask.Weight moment tenant weight) (told.Changed result) = Unit {0}
 Suits (ask.Workers moment count) (told.Changed result) = Unit {0}
+Suits (ask.Withdraw moment request) (told.Withdrawn result) = Unit {0}
 Suits _ _ = ⊥
 
 -- At P, which is legal and staffed, this is asked by this caller, and this is told; the history is then P2

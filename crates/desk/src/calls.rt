@@ -3,7 +3,7 @@ ghost use Rattle.std.specs.Prelude.{◌≡◌, IfErr};
 ghost use Rattle.fq_model.specs.declared.event.Call.TheVariants as call;
 ghost use Rattle.fq_model.specs.History.{history_of};
 ghost use Rattle.history_lock.specs.Passes.{IsOf};
-ghost use Rattle.sched_state.specs.Replies.{submit_reply, take_reply, change_reply, close_reply};
+ghost use Rattle.sched_state.specs.Replies.{submit_reply, take_reply, change_reply, close_reply, withdraw_reply};
 ghost use Rattle.desk.specs.Tokens.{Stays, IsAnswered, IsOfWorker};
 ghost use Rattle.desk.specs.Replies.{took_reply, took_pass, took_worker, TookLeft};
 ghost use Rattle.desk.specs.Replies.{live_reply, done_reply, done_pass, SameRun, GoesOn};
@@ -156,6 +156,26 @@ impl<J: Job + Drop, X: Chooser> DeskOf<Floor<J, X>> {
                 }
                 result
             }
+            _ => unreachable!(),
+        }
+    }
+
+    /// A request that waits is withdrawn: it is never taken, and its job comes back. It may be called after a close,
+    /// too. Refused as NotWaiting. It is no news for workers: none has more to take by it.
+    pub fn withdraw<R: Wait>(
+        &self,
+        rt: &R,
+        who: &mut Submitter,
+        moment: u64,
+        request: u32,
+    ) -> Result<J, Cause>
+        requires { IsOf self.now.lock who.old.pass }
+        ensures stays { Stays self.now.lock who.old.pass who.new.pass }
+        ensures answers { IsAnswered self.now.lock.frame who.old.pass
+            (call.Withdraw who.old.pass.number moment request) (withdraw_reply J.label_of result) who.new.pass }
+    {
+        match self.lock.turn(rt, &mut who.pass, Ask::Withdraw { moment, request }) {
+            Told::Withdrawn(result) => result,
             _ => unreachable!(),
         }
     }

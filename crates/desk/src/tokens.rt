@@ -7,7 +7,7 @@ ghost use Rattle.desk.specs.Tokens.{submitters_of, workers_of};
 use crate::floor::Crew;
 use history_lock::Pass;
 
-/// The right to submit, to close, and to change weights and the number of workers.
+/// The right to submit, to withdraw, to close, and to change weights and the number of workers.
 pub struct Submitter {
     pub(crate) pass: Pass<Crew>,
     ghost own: { pass.mine ≡ own_entries pass.seen pass.number },

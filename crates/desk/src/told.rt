@@ -44,6 +44,11 @@ pub enum Ask<J> {
         moment: u64,
         count: u32,
     },
+    /// A request that waits is to be taken by nobody.
+    Withdraw {
+        moment: u64,
+        request: u32,
+    },
 }
 
 /// What is told to each kind of question, as the scheduler answers it.
@@ -56,4 +61,5 @@ pub enum Told<J> {
     Closed(Result<(), AlreadyClosed>),
     /// Of a weight, and of a number of workers.
     Changed(Result<(), Cause>),
+    Withdrawn(Result<J, Cause>),
 }

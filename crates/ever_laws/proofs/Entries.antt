@@ -1,13 +1,13 @@
 -- What an entry makes of virtual time, of the cap, and of where one tenant stands, under 2dfq+.
-use Rattle.std.proofs.Common.{ℕ, ◌+◌, ◌-◌, ◌≤◌, ◌≡◌, ◌==◌, ◌&&◌, ◌∙◌, max, cond, Bool, true, false, refl, sym, arith, [], ◌∷◌, Option, Some, None}
+use Rattle.std.proofs.Common.{ℕ, ◌+◌, ◌-◌, ◌≤◌, ◌≡◌, ◌==◌, ◌&&◌, ◌∙◌, max, cond, Bool, true, false, not, ◌||◌, refl, sym, arith, [], ◌∷◌, Option, Some, None}
 use Rattle.std.specs.Prelude.{is_none}
 use Rattle.std.proofs.lemmas.Bool.{and_parts, false≢true}
 use Rattle.fq_model.specs.declared.config.Config.{Config}
 use Rattle.fq_model.specs.declared.config.Policy.TheVariants.{TwoDfqPlus}
 use Rattle.fq_model.specs.declared.event.Act.{Act}
-use Rattle.fq_model.specs.declared.event.Act.TheVariants.{Submit, Take, Report, Done}
+use Rattle.fq_model.specs.declared.event.Act.TheVariants.{Submit, Take, Report, Done, Withdraw}
 use Rattle.fq_model.specs.declared.event.Entry.{Entry}
-use Rattle.fq_model.specs.History.{History, request_at, is_of_tenant, is_taken, head, waits_for}
+use Rattle.fq_model.specs.History.{History, request_at, request_bound, is_of_tenant, is_removed, head, waits_for}
 use Rattle.fq_model.specs.Charge.{virtual_charge}
 use Rattle.fq_model.specs.Lead.{may_rise, may_fall, start_now, takes_of}
 use Rattle.fq_model.specs.Limits.{InLimits}
@@ -16,12 +16,13 @@ use Rattle.fq_model.specs.Rules.{IsLegal}
 use Rattle.fq_model.specs.Time.{last_moment}
 use Rattle.fq_laws.specs.Words.{one_more}
 use Rattle.fq_laws.proofs.Charge.Tenants.{virtual_charge_submit}
+use Rattle.fq_laws.proofs.Sums.{least_by, least_none}
 use Rattle.fq_laws.proofs.History.Heads.{head_same}
 use Rattle.fq_laws.proofs.History.Queues.{head_submit, head_take_other}
 use Rattle.fq_laws.proofs.Keys.Pace.{base_step, base_by_pace, virtual_time_rises, virtual_time_step, entry_rises}
 use Rattle.fq_laws.proofs.Keys.Tags.{start_paced}
 use Rattle.gap_laws.proofs.Leads.{rising, falling, most_at, GoesByCharge}
-use Rattle.gap_laws.proofs.Running.{over_quiet, over_submit, over_taken, over_reported, over_finished}
+use Rattle.gap_laws.proofs.Running.{over_quiet, over_submit, over_taken, over_reported, over_finished, over_withdraw}
 use Rattle.gap_laws.proofs.WorstCase.{longest, nothing, caps_in}
 use Rattle.ever_laws.specs.Words.{IsPacedWithin, time_now, running_length}
 use Rattle.ever_laws.proofs.Running.{full}
@@ -57,6 +58,7 @@ runs_at C P who m t M (Take w q c) l none =
     taken_less (is_of_tenant t (request_at P q)) _ _ M (not_own w (is_of_tenant t (request_at P q)) none) (over_taken (full M) C P who m t w q c l.0 l.3)
 runs_at C P who m t M (Report w q used) l none = omega (arith, over_reported (full M) C P who m t w q used l.0 l.3.0)
 runs_at C P who m t M (Done w q cost) l none = omega (arith, over_finished (full M) C P who m t w q cost l.0 l.3)
+runs_at C P who m t M (Withdraw q) l none = omega (arith, over_withdraw (full M) C P who m t q)
 runs_at C P who m t M a l none = omega (arith, over_quiet (full M) C P who m t a refl)
 
 -- the act does not raise the tag of t
@@ -68,13 +70,25 @@ other_submit true None h is = absurd (false≢true (sym h))
 other_submit true (Some r) h is = absurd (cc)
 other_submit false o h is = refl
 
+less_waits : (own gone removed : Bool) → (own && not removed) ≡ false → (own && not (gone || removed)) ≡ false
+less_waits false gone removed h = refl
+less_waits true true removed h = refl
+less_waits true false removed h = h
+
+-- where nothing waits of a tenant nothing does after a Withdraw
+none_after : (P : History) (who m t q : ℕ) → head P t ≡ None → head (one_more who m (Withdraw q) P) t ≡ None
+unfolding head waits_for is_removed
+none_after P who m t q is = least_by (waits_for (one_more who m (Withdraw q) P) t) request_bound None
+    (λ r b. less_waits (is_of_tenant t (request_at P r)) (q == r) (is_removed P r) (least_none (waits_for P t) request_bound is r b))
+
 still_at : (C : Config) (P : History) (who m t : ℕ) (a : Act) → InLimits C → IsLegal C (one_more who m a P) → raises_of P t a ≡ false → takes_of t P a ≡ None → head P t ≡ None → head (one_more who m a P) t ≡ None
-unfolding waits_for is_taken
+unfolding waits_for is_removed
 still_at C P who m t (Submit q u kind declared label) lim l off none is =
     let other : (u == t) ≡ false = other_submit (u == t) (head P t) off is in
     let h : head (one_more who m (Submit q u kind declared label) P) t ≡ head P t = rw other at (head_submit C P who m t q u kind declared label lim l) in
     h ∙ is
 still_at C P who m t (Take w q c) lim l off none is = head_take_other C P who m t w q c lim l (not_own w (is_of_tenant t (request_at P q)) none) ∙ is
+still_at C P who m t (Withdraw q) lim l off none is = none_after P who m t q is
 still_at C P who m t a lim l off none is = head_same P (one_more who m a P) t (λ r. refl) ∙ is
 
 goes : (C : Config) (P : History) (e : Entry) (t : ℕ) → C.policy ≡ TwoDfqPlus → raises_of P t e.act ≡ false → GoesByCharge C P (e ∷ P) t

@@ -4,7 +4,7 @@ use Rattle.std.proofs.lemmas.List.{map-append, reverse-append}
 use Rattle.std.proofs.lemmas.Bool.{cases_Bool, leb-true, le-leb, cond-true, cond-false, and_from, and_parts}
 use Rattle.fq_model.specs.declared.config.Config.{Config}
 use Rattle.fq_model.specs.declared.event.Act.{Act}
-use Rattle.fq_model.specs.declared.event.Act.TheVariants.{Submit, Take, Report, Done, Close, Weight, Workers}
+use Rattle.fq_model.specs.declared.event.Act.TheVariants.{Submit, Take, Report, Done, Close, Weight, Workers, Withdraw}
 use Rattle.fq_model.specs.declared.event.Entry.{Entry}
 use Rattle.fq_model.specs.declared.fluid.FluidRow.{FluidRow}
 use Rattle.fq_model.specs.History.{History, weight_at, pool_at}
@@ -79,6 +79,7 @@ weight_more C t m w (Take a b c) older P h = h
 weight_more C t m w (Report a b c) older P h = h
 weight_more C t m w (Done a b c) older P h = h
 weight_more C t m w Close older P h = h
+weight_more C t m w (Withdraw a) older P h = h
 
 weight_same : (C : Config) (t : ℕ) (H : History) → weight_at C (G H) t ≡ weight_at C H t
 weight_same C t [] = refl
@@ -93,6 +94,7 @@ pool_more C m w (Take a b c) older P h = h
 pool_more C m w (Report a b c) older P h = h
 pool_more C m w (Done a b c) older P h = h
 pool_more C m w Close older P h = h
+pool_more C m w (Withdraw a) older P h = h
 
 pool_same : (C : Config) (H : History) → pool_at C (G H) ≡ pool_at C H
 pool_same C [] = refl

@@ -26,7 +26,7 @@ work_between taken ended cost m =
     else if nat_le m taken then 0
     else cost * (m - taken) / (ended - taken)
 
--- the work done on r by m; 0 where r is not done, since what it costs is not known
+-- the work done on r by m; 0 where r is not done, since it may run still, or was withdrawn
 abbrev pub work_done : History → ℕ → ℕ → ℕ
 work_done H r m = work_between (take_moment H r) (done_moment H r) (measured_cost H r) m
 

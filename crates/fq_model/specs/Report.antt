@@ -103,6 +103,6 @@ greatest_lag rows = greatest_sample (map (λ row. row.greatest) rows)
 abbrev pub is_unfinished : History → ℕ → Bool
 is_unfinished H r = is_submitted H r && not (is_ended H r)
 
--- the least request that waits or runs, if there is one
+-- the least request that is submitted, and neither done nor withdrawn, if there is one
 unfoldable pub unfinished : History → Option ℕ
 unfinished H = least_below (is_unfinished H) request_bound

@@ -17,7 +17,7 @@ use Rattle.fq_model.specs.Time.{last_moment, effective_moment}
 use Rattle.fq_model.specs.Charge.{request_estimate}
 use Rattle.fq_model.specs.Keys.{HeadKeys, IsChoiceAt}
 
--- the entries that a history has, those that its waiting and its running requests will need, and x more
+-- the entries that a history has, those that its waiting and its running requests may need, and x more
 abbrev pub needed_room : History → ℕ → ℕ
 needed_room P x = length P + 2 * waiting P + running P + x
 

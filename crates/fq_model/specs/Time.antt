@@ -10,7 +10,7 @@ use Rattle.fq_model.specs.History.{History, request_at, is_of_tenant, is_ended, 
 unfoldable pub is_open : History → ℕ → ℕ → Bool
 is_open P t r = is_of_tenant t (request_at P r) && not (is_ended P r)
 
--- how many requests of tenant t wait or run
+-- how many requests of tenant t are neither done nor withdrawn
 unfoldable pub open_requests : History → ℕ → ℕ
 open_requests P t = count_below (is_open P t) request_bound
 

@@ -201,7 +201,7 @@ pub enum Call {
         moment: u64,
         count: u32,
     },
-    /// A request that waits is to be taken by nobody.
+    /// A request that waits is taken back, so that no worker takes it.
     Withdraw {
         who: u32,
         moment: u64,

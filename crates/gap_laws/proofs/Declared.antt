@@ -6,7 +6,7 @@ use Rattle.fq_model.specs.declared.config.Config.{Config}
 use Rattle.fq_model.specs.declared.config.Estimator.{Estimator}
 use Rattle.fq_model.specs.declared.config.Estimator.TheVariants.{Declared}
 use Rattle.fq_model.specs.declared.event.Act.{Act}
-use Rattle.fq_model.specs.declared.event.Act.TheVariants.{Submit, Take, Report, Done}
+use Rattle.fq_model.specs.declared.event.Act.TheVariants.{Submit, Take, Report, Done, Withdraw}
 use Rattle.fq_model.specs.declared.event.Entry.{Entry}
 use Rattle.fq_model.specs.Limits.{InLimits}
 use Rattle.fq_model.specs.History.{History, Request, request_at, request_bound, is_of_tenant, is_taken, is_take_of, is_done, last_use, weight_at}
@@ -18,7 +18,7 @@ use Rattle.fq_laws.proofs.Sums.{least_none}
 use Rattle.fq_laws.proofs.History.Numbers.{asked_small}
 use Rattle.fq_laws.proofs.History.Requests.{asked_stays, taken_known, use_taken, use_known, use_undone}
 use Rattle.fq_laws.proofs.Charge.Requests.{estimate_some, cost_none, charge_report, charge_done}
-use Rattle.fq_laws.proofs.Charge.Tenants.{virtual_charge_submit, virtual_charge_taken, virtual_charge_reported, virtual_charge_finished, virtual_charge_quiet}
+use Rattle.fq_laws.proofs.Charge.Tenants.{virtual_charge_submit, virtual_charge_taken, virtual_charge_reported, virtual_charge_finished, virtual_charge_withdraw, virtual_charge_quiet}
 use Rattle.gap_laws.specs.Words.{HasDeclaredCosts, declared_length, taken_length}
 
 -- the request r, of which q is known, is as declared
@@ -164,6 +164,7 @@ step_at C P who m t (Done worker request cost) lim l d =
     let new : charge (one_more who m (Done worker request cost) P) request ≡ q.0.declared = charge_declared C _ request q.0 l d q.1 (use_taken P worker request cost f) in
     let same : charge P request ≡ cost = old ∙ (sym new ∙ charge_done P who m worker request cost f) in
     unmoved (is_of_tenant t (request_at P request)) _ _ (charge P request) cost (taken_weight C P t request) same (virtual_charge_finished C P who m t worker request cost lim l.0 f)
+step_at C P who m t (Withdraw request) lim l d = omega (arith, virtual_charge_withdraw C P who m t request)
 step_at C P who m t a lim l d = omega (arith, virtual_charge_quiet C P who m t a refl)
 
 -- a Take alone changes a virtual charge

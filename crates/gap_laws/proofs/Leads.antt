@@ -7,7 +7,7 @@ use Rattle.std.proofs.lemmas.Bool.{eqb-true, ne_eqb}
 use Rattle.vt_fixed.specs.Rounding.{length_of}
 use Rattle.fq_model.specs.declared.config.Config.{Config}
 use Rattle.fq_model.specs.declared.event.Act.{Act}
-use Rattle.fq_model.specs.declared.event.Act.TheVariants.{Submit, Take, Report, Done}
+use Rattle.fq_model.specs.declared.event.Act.TheVariants.{Submit, Take, Report, Done, Withdraw}
 use Rattle.fq_model.specs.declared.event.Entry.{Entry}
 use Rattle.fq_model.specs.Limits.{InLimits}
 use Rattle.fq_model.specs.History.{History, Request, request_at, is_of_tenant, head, weight_at, pool_at}
@@ -17,11 +17,11 @@ use Rattle.fq_model.specs.Rules.{IsLegal, FitsTake, FitsUse, IsChosen}
 use Rattle.fq_model.specs.Gap.{is_shared, run_start}
 use Rattle.fq_model.specs.Lead.{request_length, may_rise, may_fall, start_now, lead, head_length, lead_of_take, takes_of}
 use Rattle.fq_laws.specs.Words.{one_more}
-use Rattle.fq_laws.proofs.Charge.Tenants.{virtual_charge_submit, virtual_charge_taken, virtual_charge_reported, virtual_charge_finished, virtual_charge_quiet, taken_of, taken_of_report, taken_of_done}
+use Rattle.fq_laws.proofs.Charge.Tenants.{virtual_charge_submit, virtual_charge_taken, virtual_charge_reported, virtual_charge_finished, virtual_charge_withdraw, virtual_charge_quiet, taken_of, taken_of_report, taken_of_done}
 use Rattle.fq_laws.proofs.Charge.Requests.{charge_report, charge_done}
 use Rattle.fq_laws.proofs.History.Requests.{use_taken}
 use Rattle.gap_laws.specs.Words.{IsPrefix, RunBegins, AreSharedFrom, AreCaps, AreLows, TakesStayBelow}
-use Rattle.gap_laws.proofs.Running.{Measure, over_quiet, over_submit, over_taken, over_reported, over_finished}
+use Rattle.gap_laws.proofs.Running.{Measure, over_quiet, over_submit, over_taken, over_reported, over_finished, over_withdraw}
 use Rattle.gap_laws.proofs.Runs.{BothWait, both_wait, prefix_older, run_begins}
 use Rattle.gap_laws.proofs.Starts.{start_step, start_rises}
 use Rattle.gap_laws.proofs.Choices.{keys, chosen_lead}
@@ -125,6 +125,7 @@ most_at C P who m t cap (Done w q used) lim l now before none starts =
     (virtual_charge_finished C P who m t w q used lim l.0 l.3) (over_finished (rising cap) C P who m t w q used l.0 l.3)
     (λ own. before P q ([], refl) (is_own P t w q used l.3 own))
     (λ own. rw (← finished_length C P who m t w q used l.3) (now (one_more who m (Done w q used) P) q ([], refl) (finished_own C P who m t w q used l.3 own)))
+most_at C P who m t cap (Withdraw q) lim l now before none starts = omega (arith, starts, virtual_charge_withdraw C P who m t q, over_withdraw (rising cap) C P who m t q)
 most_at C P who m t cap a lim l now before none starts = omega (arith, starts, virtual_charge_quiet C P who m t a refl, over_quiet (rising cap) C P who m t a refl)
 
 -- what it has at least does not fall
@@ -144,6 +145,7 @@ least_at C P who m t low (Done w q used) lim l now before starts =
     (virtual_charge_finished C P who m t w q used lim l.0 l.3) (over_finished (falling low) C P who m t w q used l.0 l.3)
     (λ own. before P q ([], refl) (is_own P t w q used l.3 own))
     (λ own. rw (← finished_length C P who m t w q used l.3) (now (one_more who m (Done w q used) P) q ([], refl) (finished_own C P who m t w q used l.3 own)))
+least_at C P who m t low (Withdraw q) lim l now before starts = omega (arith, starts, virtual_charge_withdraw C P who m t q, over_withdraw (falling low) C P who m t q)
 least_at C P who m t low a lim l now before starts = omega (arith, starts, virtual_charge_quiet C P who m t a refl, over_quiet (falling low) C P who m t a refl)
 
 -- ---- a Take of f

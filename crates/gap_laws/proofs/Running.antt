@@ -4,7 +4,7 @@ use Rattle.std.proofs.lemmas.Bool.{false≢true, eq-eqb, ne_eqb}
 use Rattle.vt_fixed.specs.Rounding.{length_of}
 use Rattle.fq_model.specs.declared.config.Config.{Config}
 use Rattle.fq_model.specs.declared.event.Act.{Act}
-use Rattle.fq_model.specs.declared.event.Act.TheVariants.{Submit, Take, Report, Done}
+use Rattle.fq_model.specs.declared.event.Act.TheVariants.{Submit, Take, Report, Done, Withdraw}
 use Rattle.fq_model.specs.History.{History, request_at, is_of_tenant, is_taken, running_on, submits, weight_at, Runs}
 use Rattle.fq_model.specs.Charge.{charge, taken_weight}
 use Rattle.fq_model.specs.Rules.{IsLegal, FitsTake, FitsUse}
@@ -16,7 +16,7 @@ use Rattle.fq_laws.proofs.History.Workers.{running_runs, nothing_running, runs_r
 use Rattle.fq_laws.proofs.History.Weights.{pool_high}
 use Rattle.fq_laws.proofs.History.Asked.{waits_untaken}
 use Rattle.fq_laws.proofs.Rules.Takes.{take_waits}
-use Rattle.fq_laws.proofs.Charge.Requests.{charge_take, charge_take_other, taken_weight_take, taken_weight_take_other, charge_report, charge_report_other, charge_done_other, charge_submit, charge_quiet}
+use Rattle.fq_laws.proofs.Charge.Requests.{charge_take, charge_take_other, taken_weight_take, taken_weight_take_other, charge_report, charge_report_other, charge_done_other, charge_submit, charge_withdraw, charge_quiet}
 
 -- ---- what one worker adds
 
@@ -68,6 +68,9 @@ same_report C P who m t r w q used ne = record { tenant = refl; charge_is = char
 same_done : (C : Config) (P : History) (who m t r w q cost : ℕ) → q ≢ r → Same C P (one_more who m (Done w q cost) P) t r
 same_done C P who m t r w q cost ne = record { tenant = refl; charge_is = charge_done_other P who m r w q cost ne; weight = refl }
 
+same_withdraw : (C : Config) (P : History) (who m t r q : ℕ) → Same C P (one_more who m (Withdraw q) P) t r
+same_withdraw C P who m t r q = record { tenant = refl; charge_is = charge_withdraw P who m r q; weight = refl }
+
 same_quiet : (C : Config) (P : History) (who m t r : ℕ) (a : Act) → is_quiet a ≡ true → Same C P (one_more who m a P) t r
 same_quiet C P who m t r (Submit request tenant kind declared label) q = absurd (false≢true q)
 same_quiet C P who m t r (Take worker request estimate) q = absurd (false≢true q)
@@ -103,6 +106,11 @@ pub over_submit : (v : Measure) (C : Config) (P : History) (who m t q u kind dec
 unfolding over_running
 over_submit v C P who m t q u kind declared label l n = sum_same (term v C (one_more who m (Submit q u kind declared label) P) t) (term v C P t) C.workers
     (λ i b. term_same v C P (one_more who m (Submit q u kind declared label) P) t i refl (λ r is. same_submit C P who m t r q u kind declared label l n (running_taken C P i r l is)))
+
+-- a Withdraw leaves what runs as it was
+pub over_withdraw : (v : Measure) (C : Config) (P : History) (who m t q : ℕ) → over v C (one_more who m (Withdraw q) P) t ≡ over v C P t
+unfolding over_running
+over_withdraw v C P who m t q = sum_same (term v C (one_more who m (Withdraw q) P) t) (term v C P t) C.workers (λ i b. term_same v C P (one_more who m (Withdraw q) P) t i refl (λ r is. same_withdraw C P who m t r q))
 
 -- one worker's part changes
 over_at : (v : Measure) (C : Config) (P Q : History) (t w : ℕ) → w < C.workers → ((i : ℕ) → i ≢ w → term v C Q t i ≡ term v C P t i) → over v C Q t + term v C P t w ≡ over v C P t + term v C Q t w

@@ -10,7 +10,7 @@ use Rattle.fq_model.specs.declared.config.Config.{Config}
 use Rattle.fq_model.specs.declared.event.Act.{Act}
 use Rattle.fq_model.specs.declared.event.Act.TheVariants.{Take}
 use Rattle.fq_model.specs.Limits.{InLimits}
-use Rattle.fq_model.specs.History.{History, head, request_at, is_of_tenant, is_taken, is_take_of, has_act, waits_for, running_on, weight_at, pool_at}
+use Rattle.fq_model.specs.History.{History, head, request_at, is_of_tenant, is_taken, is_take_of, is_removed, has_act, waits_for, running_on, weight_at, pool_at}
 use Rattle.fq_model.specs.Charge.{is_taken_of, virtual_charge}
 use Rattle.fq_model.specs.Keys.{stagger}
 use Rattle.fq_model.specs.Rules.{IsLegal, FitsTake}
@@ -19,7 +19,7 @@ use Rattle.fq_model.specs.Lead.{request_length, of_request, over_running, may_ri
 use Rattle.fq_laws.specs.Words.{one_more}
 use Rattle.fq_laws.proofs.Sums.{sum_same}
 use Rattle.fq_laws.proofs.Charge.Tenants.{virtual_charge_taken, taken_of_take}
-use Rattle.fq_laws.proofs.History.Asked.{waits_untaken}
+use Rattle.fq_laws.proofs.History.Asked.{unremoved_untaken, waits_untaken}
 use Rattle.fq_laws.proofs.Rules.Takes.{heads, TakesHead, take_head, take_waits}
 use Rattle.gap_laws.specs.Words.{IsPrefix, AreLows, AreNoLonger, WaitsFrom, AreNoShorter, takes_after}
 use Rattle.gap_laws.specs.Laws.{TakesAreFew, TakesAreFewInRun, worst_lead}
@@ -80,7 +80,7 @@ behind_take C P who m w q c f g r M ne lim l own waits low =
 
 head_untaken : (P : History) (t r : ℕ) → head P t ≡ Some r → is_taken P r ≡ false
 unfolding waits_for
-head_untaken P t r h = not-true _ (and_parts (is_of_tenant t (request_at P r)) (not (is_taken P r)) (heads P t r h).waits_now).1
+head_untaken P t r h = unremoved_untaken P r (not-true _ (and_parts (is_of_tenant t (request_at P r)) (not (is_removed P r)) (heads P t r h).waits_now).1)
 
 taken_now : (P : History) (who m w q c : ℕ) → is_taken (one_more who m (Take w q c) P) q ≡ true
 unfolding is_taken

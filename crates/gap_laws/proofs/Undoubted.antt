@@ -10,7 +10,7 @@ use Rattle.fq_model.specs.declared.event.Act.{Act}
 use Rattle.fq_model.specs.declared.event.Act.TheVariants.{Take}
 use Rattle.fq_model.specs.declared.event.Entry.{Entry}
 use Rattle.fq_model.specs.Limits.{InLimits}
-use Rattle.fq_model.specs.History.{History, Request, request_at, is_of_tenant, is_taken, is_take_of, waits_for, head, running_on, pool_at}
+use Rattle.fq_model.specs.History.{History, Request, request_at, is_of_tenant, is_taken, is_take_of, is_removed, waits_for, head, running_on, pool_at}
 use Rattle.fq_model.specs.Charge.{charge, is_taken_of, taken_weight}
 use Rattle.fq_model.specs.Keys.{stagger}
 use Rattle.fq_model.specs.Rules.{IsLegal, Fits}
@@ -95,7 +95,7 @@ head_low C P t B l d low = go (head P t) refl
     asked r is (Some q) was =
         let k : KeepsTo C P r q = d r q was in
         let y : Heads P t r = heads P t r is in
-        let mine : is_of_tenant t (request_at P r) ≡ true = (and_parts (is_of_tenant t (request_at P r)) (not (is_taken P r)) y.waits_now).0 in
+        let mine : is_of_tenant t (request_at P r) ≡ true = (and_parts (is_of_tenant t (request_at P r)) (not (is_removed P r)) y.waits_now).0 in
         let own : (q.tenant == t) ≡ true = rw was at mine in
         rw (estimate_declared C P q k.estimator) (length_now C P t r B q low was (eqb-true q.tenant t own))
 

@@ -5,11 +5,11 @@ use Rattle.fq_model.specs.declared.event.Call.{Call}
 use Rattle.fq_model.specs.declared.event.Call.TheVariants as calls
 use Rattle.fq_model.specs.Spelling.{is_digit}
 use Rattle.program_model.specs.declared.version.Version.{Version}
-use Rattle.program_model.specs.declared.version.Version.TheVariants.{First, Second}
+use Rattle.program_model.specs.declared.version.Version.TheVariants.{First, Second, Third}
 use Rattle.program_model.specs.Document.{LineReader}
 use Rattle.program_model.specs.Numbers.{with_digits, number_of}
 use Rattle.program_model.specs.Lines.{Words, lines_of, words_of, word, index_at, ranged_at, number_at}
-use Rattle.program_model.specs.Script.{call_of_words, submit_of, take_of, report_of, done_of, fixed_call_of, changing_call_of}
+use Rattle.program_model.specs.Script.{call_of_words, submit_of, take_of, report_of, done_of, fixed_call_of, changing_call_of, withdrawing_call_of}
 use Rattle.journal_text.specs.Reading.{IsFirstLine}
 use Rattle.journal_text.specs.AtOnce.{BeginsWithNumber, TellsFirst}
 
@@ -126,7 +126,7 @@ index_is words k n e lt =
 -- a line of a call's word and its numbers is that call
 take_said : (word1 word2 word3 : List ℕ) (who moment worker : ℕ) → number_of word1 ≡ Some who → who < 4294967296 → number_of word2 ≡ Some moment → number_of word3 ≡ Some worker → worker < 4294967296
     → (version : Version) → call_of_words version (codes "take" ∷ word1 ∷ word2 ∷ word3 ∷ []) ≡ Ok (calls.Take who moment worker)
-unfolding take_of fixed_call_of changing_call_of
+unfolding take_of fixed_call_of changing_call_of withdrawing_call_of
 take_said word1 word2 word3 who moment worker spelled1 small1 spelled2 spelled3 small3 = by_version
   where
     words : Words
@@ -138,6 +138,7 @@ take_said word1 word2 word3 who moment worker spelled1 small1 spelled2 spelled3 
     by_version : (version : Version) → call_of_words version words ≡ Ok (calls.Take who moment worker)
     by_version First = read
     by_version Second = read
+    by_version Third = read
 
 pub take_told : (rest after1 after2 below : List ℕ) (who moment worker : ℕ)
     → BeginsWithNumber rest who (32 ∷ after1) → who < 4294967296
@@ -164,7 +165,7 @@ take_told rest after1 after2 below who moment worker begins1 small1 begins2 begi
 
 report_said : (word1 word2 word3 word4 : List ℕ) (who moment worker used : ℕ) → number_of word1 ≡ Some who → who < 4294967296 → number_of word2 ≡ Some moment → number_of word3 ≡ Some worker → worker < 4294967296 → number_of word4 ≡ Some used
     → (version : Version) → call_of_words version (codes "report" ∷ word1 ∷ word2 ∷ word3 ∷ word4 ∷ []) ≡ Ok (calls.Report who moment worker used)
-unfolding report_of fixed_call_of changing_call_of
+unfolding report_of fixed_call_of changing_call_of withdrawing_call_of
 report_said word1 word2 word3 word4 who moment worker used spelled1 small1 spelled2 spelled3 small3 spelled4 = by_version
   where
     words : Words
@@ -176,6 +177,7 @@ report_said word1 word2 word3 word4 who moment worker used spelled1 small1 spell
     by_version : (version : Version) → call_of_words version words ≡ Ok (calls.Report who moment worker used)
     by_version First = read
     by_version Second = read
+    by_version Third = read
 
 pub report_told : (rest after1 after2 after3 below : List ℕ) (who moment worker used : ℕ)
     → BeginsWithNumber rest who (32 ∷ after1) → who < 4294967296
@@ -203,7 +205,7 @@ report_told rest after1 after2 after3 below who moment worker used begins1 small
 
 done_said : (word1 word2 word3 word4 : List ℕ) (who moment worker cost : ℕ) → number_of word1 ≡ Some who → who < 4294967296 → number_of word2 ≡ Some moment → number_of word3 ≡ Some worker → worker < 4294967296 → number_of word4 ≡ Some cost
     → (version : Version) → call_of_words version (codes "done" ∷ word1 ∷ word2 ∷ word3 ∷ word4 ∷ []) ≡ Ok (calls.Done who moment worker cost)
-unfolding done_of fixed_call_of changing_call_of
+unfolding done_of fixed_call_of changing_call_of withdrawing_call_of
 done_said word1 word2 word3 word4 who moment worker cost spelled1 small1 spelled2 spelled3 small3 spelled4 = by_version
   where
     words : Words
@@ -215,6 +217,7 @@ done_said word1 word2 word3 word4 who moment worker cost spelled1 small1 spelled
     by_version : (version : Version) → call_of_words version words ≡ Ok (calls.Done who moment worker cost)
     by_version First = read
     by_version Second = read
+    by_version Third = read
 
 pub done_told : (rest after1 after2 after3 below : List ℕ) (who moment worker cost : ℕ)
     → BeginsWithNumber rest who (32 ∷ after1) → who < 4294967296
@@ -242,7 +245,7 @@ done_told rest after1 after2 after3 below who moment worker cost begins1 small1 
 
 submit_said : (word1 word2 word3 word4 word5 word6 : List ℕ) (who moment tenant kind declared label : ℕ) → number_of word1 ≡ Some who → who < 4294967296 → number_of word2 ≡ Some moment → number_of word3 ≡ Some tenant → tenant < 4294967296 → number_of word4 ≡ Some kind → kind < 4294967296 → number_of word5 ≡ Some declared → number_of word6 ≡ Some label
     → (version : Version) → call_of_words version (codes "submit" ∷ word1 ∷ word2 ∷ word3 ∷ word4 ∷ word5 ∷ word6 ∷ []) ≡ Ok (calls.Submit who moment tenant kind declared label)
-unfolding submit_of fixed_call_of changing_call_of
+unfolding submit_of fixed_call_of changing_call_of withdrawing_call_of
 submit_said word1 word2 word3 word4 word5 word6 who moment tenant kind declared label spelled1 small1 spelled2 spelled3 small3 spelled4 small4 spelled5 spelled6 = by_version
   where
     words : Words
@@ -254,6 +257,7 @@ submit_said word1 word2 word3 word4 word5 word6 who moment tenant kind declared 
     by_version : (version : Version) → call_of_words version words ≡ Ok (calls.Submit who moment tenant kind declared label)
     by_version First = read
     by_version Second = read
+    by_version Third = read
 
 pub submit_told : (rest after1 after2 after3 after4 after5 below : List ℕ) (who moment tenant kind declared label : ℕ)
     → BeginsWithNumber rest who (32 ∷ after1) → who < 4294967296

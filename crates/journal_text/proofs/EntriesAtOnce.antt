@@ -5,8 +5,8 @@ use Rattle.fq_model.specs.declared.event.Act.{Act}
 use Rattle.fq_model.specs.declared.event.Act.TheVariants.{Submit, Take, Report, Done}
 use Rattle.fq_model.specs.declared.event.Entry.{Entry}
 use Rattle.program_model.specs.declared.version.Version.{Version}
-use Rattle.program_model.specs.declared.version.Version.TheVariants.{First, Second}
-use Rattle.program_model.specs.Journal.{submit_act, take_act, report_act, done_act, entry_with, fixed_entry_of, changing_entry_of, entry_of_words}
+use Rattle.program_model.specs.declared.version.Version.TheVariants.{First, Second, Third}
+use Rattle.program_model.specs.Journal.{submit_act, take_act, report_act, done_act, entry_with, fixed_entry_of, changing_entry_of, withdrawing_entry_of, entry_of_words}
 use Rattle.program_model.specs.Lines.{Words}
 use Rattle.program_model.specs.Numbers.{number_of}
 use Rattle.journal_text.specs.AtOnce.{BeginsWithNumber, TellsFirst}
@@ -17,7 +17,7 @@ entry who moment act = record { who = who; moment = moment; act = act }
 
 submit_said : (word1 word2 word3 word4 word5 word6 word7 : List ℕ) (who moment request tenant kind declared label : ℕ) → number_of word1 ≡ Some who → who < 4294967296 → number_of word2 ≡ Some moment → number_of word3 ≡ Some request → request < 4294967296 → number_of word4 ≡ Some tenant → tenant < 4294967296 → number_of word5 ≡ Some kind → kind < 4294967296 → number_of word6 ≡ Some declared → number_of word7 ≡ Some label
     → (version : Version) → entry_of_words version (codes "submit" ∷ word1 ∷ word2 ∷ word3 ∷ word4 ∷ word5 ∷ word6 ∷ word7 ∷ []) ≡ Ok (entry who moment (Submit request tenant kind declared label))
-unfolding entry_with submit_act fixed_entry_of changing_entry_of
+unfolding entry_with submit_act fixed_entry_of changing_entry_of withdrawing_entry_of
 submit_said word1 word2 word3 word4 word5 word6 word7 who moment request tenant kind declared label spelled1 small1 spelled2 spelled3 small3 spelled4 small4 spelled5 small5 spelled6 spelled7 = by_version
   where
     words : Words
@@ -29,6 +29,7 @@ submit_said word1 word2 word3 word4 word5 word6 word7 who moment request tenant 
     by_version : (version : Version) → entry_of_words version words ≡ Ok (entry who moment (Submit request tenant kind declared label))
     by_version First = read
     by_version Second = read
+    by_version Third = read
 
 pub submit_told : (rest after1 after2 after3 after4 after5 after6 below : List ℕ) (who moment request tenant kind declared label : ℕ)
     → BeginsWithNumber rest who (32 ∷ after1) → who < 4294967296
@@ -59,7 +60,7 @@ submit_told rest after1 after2 after3 after4 after5 after6 below who moment requ
 
 take_said : (word1 word2 word3 word4 word5 : List ℕ) (who moment worker request estimate : ℕ) → number_of word1 ≡ Some who → who < 4294967296 → number_of word2 ≡ Some moment → number_of word3 ≡ Some worker → worker < 4294967296 → number_of word4 ≡ Some request → request < 4294967296 → number_of word5 ≡ Some estimate
     → (version : Version) → entry_of_words version (codes "take" ∷ word1 ∷ word2 ∷ word3 ∷ word4 ∷ word5 ∷ []) ≡ Ok (entry who moment (Take worker request estimate))
-unfolding entry_with take_act fixed_entry_of changing_entry_of
+unfolding entry_with take_act fixed_entry_of changing_entry_of withdrawing_entry_of
 take_said word1 word2 word3 word4 word5 who moment worker request estimate spelled1 small1 spelled2 spelled3 small3 spelled4 small4 spelled5 = by_version
   where
     words : Words
@@ -71,6 +72,7 @@ take_said word1 word2 word3 word4 word5 who moment worker request estimate spell
     by_version : (version : Version) → entry_of_words version words ≡ Ok (entry who moment (Take worker request estimate))
     by_version First = read
     by_version Second = read
+    by_version Third = read
 
 pub take_told : (rest after1 after2 after3 after4 below : List ℕ) (who moment worker request estimate : ℕ)
     → BeginsWithNumber rest who (32 ∷ after1) → who < 4294967296
@@ -99,7 +101,7 @@ take_told rest after1 after2 after3 after4 below who moment worker request estim
 
 report_said : (word1 word2 word3 word4 word5 : List ℕ) (who moment worker request used : ℕ) → number_of word1 ≡ Some who → who < 4294967296 → number_of word2 ≡ Some moment → number_of word3 ≡ Some worker → worker < 4294967296 → number_of word4 ≡ Some request → request < 4294967296 → number_of word5 ≡ Some used
     → (version : Version) → entry_of_words version (codes "report" ∷ word1 ∷ word2 ∷ word3 ∷ word4 ∷ word5 ∷ []) ≡ Ok (entry who moment (Report worker request used))
-unfolding entry_with report_act fixed_entry_of changing_entry_of
+unfolding entry_with report_act fixed_entry_of changing_entry_of withdrawing_entry_of
 report_said word1 word2 word3 word4 word5 who moment worker request used spelled1 small1 spelled2 spelled3 small3 spelled4 small4 spelled5 = by_version
   where
     words : Words
@@ -111,6 +113,7 @@ report_said word1 word2 word3 word4 word5 who moment worker request used spelled
     by_version : (version : Version) → entry_of_words version words ≡ Ok (entry who moment (Report worker request used))
     by_version First = read
     by_version Second = read
+    by_version Third = read
 
 pub report_told : (rest after1 after2 after3 after4 below : List ℕ) (who moment worker request used : ℕ)
     → BeginsWithNumber rest who (32 ∷ after1) → who < 4294967296
@@ -139,7 +142,7 @@ report_told rest after1 after2 after3 after4 below who moment worker request use
 
 done_said : (word1 word2 word3 word4 word5 : List ℕ) (who moment worker request cost : ℕ) → number_of word1 ≡ Some who → who < 4294967296 → number_of word2 ≡ Some moment → number_of word3 ≡ Some worker → worker < 4294967296 → number_of word4 ≡ Some request → request < 4294967296 → number_of word5 ≡ Some cost
     → (version : Version) → entry_of_words version (codes "done" ∷ word1 ∷ word2 ∷ word3 ∷ word4 ∷ word5 ∷ []) ≡ Ok (entry who moment (Done worker request cost))
-unfolding entry_with done_act fixed_entry_of changing_entry_of
+unfolding entry_with done_act fixed_entry_of changing_entry_of withdrawing_entry_of
 done_said word1 word2 word3 word4 word5 who moment worker request cost spelled1 small1 spelled2 spelled3 small3 spelled4 small4 spelled5 = by_version
   where
     words : Words
@@ -151,6 +154,7 @@ done_said word1 word2 word3 word4 word5 who moment worker request cost spelled1 
     by_version : (version : Version) → entry_of_words version words ≡ Ok (entry who moment (Done worker request cost))
     by_version First = read
     by_version Second = read
+    by_version Third = read
 
 pub done_told : (rest after1 after2 after3 after4 below : List ℕ) (who moment worker request cost : ℕ)
     → BeginsWithNumber rest who (32 ∷ after1) → who < 4294967296

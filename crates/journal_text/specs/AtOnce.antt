@@ -11,6 +11,6 @@ pub record BeginsWithNumber (text : List ℕ) (number : ℕ) (rest : List ℕ) :
   pub split : text ≡ first ++ rest
   pub spelled : number_of first ≡ Some number
 
--- in a document of either version the first line of the text says this, and below it stands the rest
+-- in a document of any version the first line of the text says this, and below it stands the rest
 abbrev pub TellsFirst : {A : Type 0} → (Version → LineReader A) → List ℕ → A → List ℕ → Type 0
 TellsFirst reader text said below = (version : Version) → FirstLineSays (reader version) text said below

@@ -3,7 +3,7 @@ use Rattle.std.specs.Prelude.{ℕ, ◌≡◌, List, ◌++◌}
 use Rattle.fq_model.specs.declared.config.Config.{Config}
 use Rattle.fq_model.specs.declared.event.Entry.{Entry}
 use Rattle.program_model.specs.declared.version.Version.{Version}
-use Rattle.program_model.specs.declared.version.Version.TheVariants.{Second}
+use Rattle.program_model.specs.declared.version.Version.TheVariants.{Third}
 use Rattle.program_model.specs.JournalText.{numbers_text, header_line, head_text, entries_text}
 
 -- a line: a word, and numbers, each after a space
@@ -16,7 +16,7 @@ top_text version C tenants kinds = header_line version ++ head_text C tenants ki
 
 -- the journal of entries that are written as they come, in order of time: its version allows any
 abbrev pub streamed_text : Config → List (List ℕ) → List (List ℕ) → List Entry → List ℕ
-streamed_text C tenants kinds entries = top_text Second C tenants kinds ++ entries_text entries
+streamed_text C tenants kinds entries = top_text Third C tenants kinds ++ entries_text entries
 
 -- what stood there stands there, with perhaps more after it
 abbrev pub IsKept : List ℕ → List ℕ → Type 0

@@ -1,7 +1,7 @@
 //! Scripts, whose lines below the head are calls.
 ghost use Rattle.std.specs.Prelude.{◌≡◌, ◌<◌, codes, Ok, IfOk, IfErr};
 ghost use Rattle.program_model.specs.Document.{document_of};
-ghost use Rattle.program_model.specs.Script.{submit_of, take_of, report_of, done_of, close_of, weight_of, workers_of, fixed_call_of, changing_call_of, call_of_words, script_of};
+ghost use Rattle.program_model.specs.Script.{submit_of, take_of, report_of, done_of, close_of, weight_of, workers_of, withdraw_of, fixed_call_of, changing_call_of, withdrawing_call_of, call_of_words, script_of};
 ghost use Rattle.journal_text.specs.Body.{ReadsFirst, IsOpened, IsHeadFault, DividesText};
 ghost use Rattle.journal_text.specs.Reading.{Gives, IsFirstFault, words_in};
 
@@ -128,6 +128,21 @@ fn workers(words: &[&[u8]]) -> Result<Call, LineError>
     Ok(Call::Workers { who, moment, count })
 }
 
+#[tactic(auto, unfolding(program_model::specs::Script::withdraw_of))]
+fn withdraw(words: &[&[u8]]) -> Result<Call, LineError>
+    ensures { Gives (λ c. c) result (withdraw_of (words_in words.now)) }
+{
+    expect_count(words, 4)?;
+    let who = index_at(words, 1)?;
+    let moment = number_at(words, 2)?;
+    let request = index_at(words, 3)?;
+    Ok(Call::Withdraw {
+        who,
+        moment,
+        request,
+    })
+}
+
 // The call of a line, where neither weights nor the number of workers change.
 #[tactic(auto, unfolding(program_model::specs::Script::fixed_call_of))]
 fn fixed_call(words: &[&[u8]]) -> Result<Call, LineError>
@@ -162,6 +177,18 @@ fn changing_call(words: &[&[u8]]) -> Result<Call, LineError>
     }
 }
 
+// The call of a line, where they may change and requests may be withdrawn.
+#[tactic(auto, unfolding(program_model::specs::Script::withdrawing_call_of))]
+fn withdrawing_call(words: &[&[u8]]) -> Result<Call, LineError>
+    ensures { Gives (λ c. c) result (withdrawing_call_of (words_in words.now)) }
+{
+    if begins_with(words, b"withdraw") {
+        withdraw(words)
+    } else {
+        changing_call(words)
+    }
+}
+
 // The call of a line of this version.
 fn call(version: Version, words: &[&[u8]]) -> Result<Call, LineError>
     ensures { Gives (λ c. c) result (call_of_words version (words_in words.now)) }
@@ -169,6 +196,7 @@ fn call(version: Version, words: &[&[u8]]) -> Result<Call, LineError>
     match version {
         Version::First => fixed_call(words),
         Version::Second => changing_call(words),
+        Version::Third => withdrawing_call(words),
     }
 }
 
@@ -198,6 +226,8 @@ impl Line for Call {
             Some(Version::First)
         } else if line == b"script 2".as_slice() {
             Some(Version::Second)
+        } else if line == b"script 3".as_slice() {
+            Some(Version::Third)
         } else {
             None
         }

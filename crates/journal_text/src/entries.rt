@@ -1,6 +1,6 @@
 //! Journals, whose lines below the head are entries.
 ghost use Rattle.std.specs.Prelude.{◌≡◌, ◌<◌, codes, Ok, IfOk, IfErr, length};
-ghost use Rattle.program_model.specs.Journal.{submit_act, take_act, report_act, done_act, close_act, weight_act, workers_act, entry_with, fixed_entry_of, changing_entry_of, entry_of_words, journal_of};
+ghost use Rattle.program_model.specs.Journal.{submit_act, take_act, report_act, done_act, close_act, weight_act, workers_act, withdraw_act, entry_with, fixed_entry_of, changing_entry_of, withdrawing_entry_of, entry_of_words, journal_of};
 ghost use Rattle.journal_text.specs.Body.{ReadsFirst};
 ghost use Rattle.journal_text.specs.Reading.{Gives, IsFirstFault, words_in};
 
@@ -131,6 +131,18 @@ fn workers(words: &[&[u8]]) -> Result<Entry, LineError>
     Ok(Entry { who, moment, act })
 }
 
+#[tactic(auto, unfolding(program_model::specs::Journal::entry_with, program_model::specs::Journal::withdraw_act))]
+fn withdraw(words: &[&[u8]]) -> Result<Entry, LineError>
+    ensures { Gives (λ e. e) result (entry_with 4 withdraw_act (words_in words.now)) }
+{
+    expect_count(words, 4)?;
+    let who = index_at(words, 1)?;
+    let moment = number_at(words, 2)?;
+    let request = index_at(words, 3)?;
+    let act = Act::Withdraw { request };
+    Ok(Entry { who, moment, act })
+}
+
 // The entry of a line, where neither weights nor the number of workers change.
 #[tactic(auto, unfolding(program_model::specs::Journal::fixed_entry_of))]
 fn fixed_entry(words: &[&[u8]]) -> Result<Entry, LineError>
@@ -165,6 +177,18 @@ fn changing_entry(words: &[&[u8]]) -> Result<Entry, LineError>
     }
 }
 
+// The entry of a line, where they may change and requests may be withdrawn.
+#[tactic(auto, unfolding(program_model::specs::Journal::withdrawing_entry_of))]
+fn withdrawing_entry(words: &[&[u8]]) -> Result<Entry, LineError>
+    ensures { Gives (λ e. e) result (withdrawing_entry_of (words_in words.now)) }
+{
+    if begins_with(words, b"withdraw") {
+        withdraw(words)
+    } else {
+        changing_entry(words)
+    }
+}
+
 // The entry of a line of this version.
 fn entry(version: Version, words: &[&[u8]]) -> Result<Entry, LineError>
     ensures { Gives (λ e. e) result (entry_of_words version (words_in words.now)) }
@@ -172,6 +196,7 @@ fn entry(version: Version, words: &[&[u8]]) -> Result<Entry, LineError>
     match version {
         Version::First => fixed_entry(words),
         Version::Second => changing_entry(words),
+        Version::Third => withdrawing_entry(words),
     }
 }
 
@@ -201,6 +226,8 @@ impl Line for Entry {
             Some(Version::First)
         } else if line == b"journal 2".as_slice() {
             Some(Version::Second)
+        } else if line == b"journal 3".as_slice() {
+            Some(Version::Third)
         } else {
             None
         }

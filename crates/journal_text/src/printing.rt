@@ -2,9 +2,9 @@
 ghost use Rattle.std.specs.Prelude.{◌≡◌, ◌++◌, [], ◌∷◌, codes, string_bytes, IfOk, OnOk, OnErr};
 ghost use Rattle.std.specs.Fmt.{decimal};
 ghost use Rattle.std.specs.List.{list_any};
-ghost use Rattle.fq_model.specs.History.{is_change};
+ghost use Rattle.fq_model.specs.History.{is_change, is_withdraw};
 ghost use Rattle.fq_model.specs.Spelling.{policy_word, estimator_word};
-ghost use Rattle.program_model.specs.declared.version.Version.TheVariants.{Second};
+ghost use Rattle.program_model.specs.declared.version.Version.TheVariants.{Third};
 ghost use Rattle.program_model.specs.JournalText.{entry_line, entries_text, version_for, header_line, tenants_text, kinds_text, head_text, journal_text};
 ghost use Rattle.tenant_table.specs.Names.{names_of};
 ghost use Rattle.journal_text.specs.Printing.{row_text, top_text, IsKept};
@@ -84,11 +84,11 @@ pub fn begin_journal(
     text: &mut Vec<u8>,
 ) -> Result<(), AllocError>
     ensures added { OnOk result (text.new.items
-        ≡ text.old.items ++ top_text Second config.now (names_of tenants.now) kinds.now) }
+        ≡ text.old.items ++ top_text Third config.now (names_of tenants.now) kinds.now) }
     ensures unchanged { OnErr result (text.new.items ≡ text.old.items) }
 {
     let before = text.len();
-    if add_top(alloc, Version::Second, config, tenants, kinds, text).is_err() {
+    if add_top(alloc, Version::Third, config, tenants, kinds, text).is_err() {
         text.truncate(before);
         return Err(AllocError);
     }
@@ -118,17 +118,32 @@ fn header(version: Version) -> &'static str
     match version {
         Version::First => "journal 1\n",
         Version::Second => "journal 2\n",
+        Version::Third => "journal 3\n",
     }
 }
 
 fn version_for(past: &[Entry]) -> Version
     ensures { result ≡ version_for past.now }
 {
-    if has_change(past) {
+    if has_withdraw(past) {
+        Version::Third
+    } else if has_change(past) {
         Version::Second
     } else {
         Version::First
     }
+}
+
+fn has_withdraw(past: &[Entry]) -> bool
+    ensures { result ≡ list_any (λ e. is_withdraw e.act) past.now }
+{
+    past.iter().any(|entry| is_withdraw(entry.act))
+}
+
+fn is_withdraw(act: Act) -> bool
+    ensures { result ≡ is_withdraw act }
+{
+    matches!(act, Act::Withdraw { .. })
 }
 
 fn has_change(past: &[Entry]) -> bool
@@ -137,11 +152,14 @@ fn has_change(past: &[Entry]) -> bool
     past.iter().any(|entry| is_change(entry.act))
 }
 
-// Whether it changes a weight or the number of workers.
+// Whether it changes a weight or the number of workers, or withdraws a request.
 fn is_change(act: Act) -> bool
     ensures { result ≡ is_change act }
 {
-    matches!(act, Act::Weight { .. } | Act::Workers { .. })
+    matches!(
+        act,
+        Act::Weight { .. } | Act::Workers { .. } | Act::Withdraw { .. }
+    )
 }
 
 // Appends the lines between the first and the entries; like what it calls, it keeps what stood there.
@@ -258,6 +276,7 @@ pub fn entry_line(entry: Entry, out: &mut Vec<u8>) -> Result<(), AllocError>
             add_row("weight", &[who, moment, tenant as u64, weight as u64], out)
         }
         Act::Workers { count } => add_row("workers", &[who, moment, count as u64], out),
+        Act::Withdraw { request } => add_row("withdraw", &[who, moment, request as u64], out),
     }
 }
 

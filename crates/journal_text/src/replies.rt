@@ -22,6 +22,7 @@ pub fn reply_line(reply: Reply, out: &mut Vec<u8>) -> Result<(), AllocError>
         Reply::Idle => add_word("idle", out),
         Reply::Drained => add_word("drained", out),
         Reply::Retired(workers) => add_one("retired", workers as u64, out),
+        Reply::Withdrawn { label } => add_one("withdrawn", label, out),
         Reply::Refused(cause) => refusal_line(cause, out),
     }
 }
@@ -42,6 +43,7 @@ fn refusal_line(cause: Cause, out: &mut Vec<u8>) -> Result<(), AllocError>
         Cause::NotRunning => add_word("refused not-running", out),
         Cause::Weight(weight) => add_one("refused weight", weight as u64, out),
         Cause::Workers(count) => add_one("refused workers", count as u64, out),
+        Cause::NotWaiting(request) => add_one("refused not-waiting", request as u64, out),
         Cause::Falling { last, given } => add_row("refused falling", &[last, given], out),
     }
 }

@@ -5,13 +5,13 @@ use Rattle.std.proofs.Math.ListN.{get_or-append}
 use Rattle.std.proofs.Math.Seq.{get_or-append_seam}
 use Rattle.fq_model.specs.declared.config.Config.{Config}
 use Rattle.fq_model.specs.declared.event.Act.{Act}
-use Rattle.fq_model.specs.declared.event.Act.TheVariants.{Submit, Take, Done}
+use Rattle.fq_model.specs.declared.event.Act.TheVariants.{Submit, Take, Done, Withdraw}
 use Rattle.fq_model.specs.declared.fluid.FluidRow.{FluidRow}
-use Rattle.fq_model.specs.History.{History, Request, request_at, submits, has_act, is_submit_of, is_take_of, is_done_of, is_taken, is_done, is_submitted}
+use Rattle.fq_model.specs.History.{History, Request, request_at, submits, has_act, is_submit_of, is_take_of, is_done_of, is_taken, is_done, is_ended, is_submitted}
 use Rattle.fq_model.specs.Rules.{IsLegal, Fits}
 use Rattle.fq_model.specs.Fluid.{moment_of, submit_moment, fluid_rows_of, with_row, with_row_of}
 use Rattle.fq_model.specs.Lag.{take_moment, done_moment, measured_cost}
-use Rattle.fq_laws.proofs.History.Requests.{fresh_untaken, fresh_undone, submitted_below, taken_submitted, use_known, use_taken}
+use Rattle.fq_laws.proofs.History.Requests.{fresh_untaken, fresh_undone, fresh_unended, submitted_below, taken_submitted, use_known, use_taken}
 use Rattle.fq_laws.proofs.History.Asked.{waits_submitted, asked_submitted}
 use Rattle.fq_laws.proofs.Rules.Takes.{take_waits}
 use Rattle.fq_laws.proofs.Charge.Requests.{cost_none}
@@ -31,7 +31,7 @@ course_of H r = record {
   taken = take_moment H r;
   ended = done_moment H r;
   cost = measured_cost H r;
-  is_done = is_done H r;
+  is_ended = is_ended H r;
 }
 
 -- the courses of a history are these
@@ -41,48 +41,57 @@ pub record CoursesAre (H : History) (courses : List Course) : Type 0 where
 
 -- ---- one entry more
 
-no_moment : (test : Act → Bool) (P : History) → has_act test P ≡ false → moment_of test P ≡ None
+pub no_moment : (test : Act → Bool) (P : History) → has_act test P ≡ false → moment_of test P ≡ None
 no_moment test [] h = refl
 no_moment test (e ∷ P) h = let p = or_parts (test e.act) (has_act test P) h in cond-false (test e.act) _ _ p.0 ∙ no_moment test P p.1
 
 -- of a request that is not submitted nothing is said but what its Submit says
 fresh_course : (C : Config) (P : History) (who m tenant kind declared label : ℕ) → IsLegal C P → course_of (record { who = who; moment = m; act = Submit (submits P) tenant kind declared label } ∷ P) (submits P) ≡ submitted tenant m
-unfolding is_done is_taken is_submitted
+unfolding is_done is_taken is_ended is_submitted
 fresh_course C P who m tenant kind declared label l =
     let own : nat_eq (submits P) (submits P) ≡ true = eq-eqb (submits P) (submits P) refl in
-    rw (own, no_moment (is_take_of (submits P)) P (fresh_untaken C P (submits P) l (omega arith)), no_moment (is_done_of (submits P)) P (fresh_undone C P (submits P) l (omega arith)), cost_none P (submits P) (fresh_undone C P (submits P) l (omega arith)), fresh_undone C P (submits P) l (omega arith)) refl
+    rw (own, no_moment (is_take_of (submits P)) P (fresh_untaken C P (submits P) l (omega arith)), no_moment (is_done_of (submits P)) P (fresh_undone C P (submits P) l (omega arith)), cost_none P (submits P) (fresh_undone C P (submits P) l (omega arith)), fresh_unended C P (submits P) l (omega arith)) refl
 
 other_submit : (P : History) (who m q tenant kind declared label r : ℕ) → q ≢ r → course_of (record { who = who; moment = m; act = Submit q tenant kind declared label } ∷ P) r ≡ course_of P r
-unfolding is_done
+unfolding is_ended
 other_submit P who m q tenant kind declared label r ne = rw (ne_eqb q r ne) refl
 
 own_take : (P : History) (who m w r estimate : ℕ) → course_of (record { who = who; moment = m; act = Take w r estimate } ∷ P) r ≡ record (course_of P r) { taken = m }
-unfolding is_done
+unfolding is_ended
 own_take P who m w r estimate = rw (eq-eqb r r refl) refl
 
 other_take : (P : History) (who m w q estimate r : ℕ) → q ≢ r → course_of (record { who = who; moment = m; act = Take w q estimate } ∷ P) r ≡ course_of P r
-unfolding is_done
+unfolding is_ended
 other_take P who m w q estimate r ne = rw (ne_eqb q r ne) refl
 
-own_done : (P : History) (who m w r cost : ℕ) → course_of (record { who = who; moment = m; act = Done w r cost } ∷ P) r ≡ record (course_of P r) { ended = m; cost = cost; is_done = true }
-unfolding is_done
+own_done : (P : History) (who m w r cost : ℕ) → course_of (record { who = who; moment = m; act = Done w r cost } ∷ P) r ≡ record (course_of P r) { ended = m; cost = cost; is_ended = true }
+unfolding is_ended
 own_done P who m w r cost = rw (eq-eqb r r refl) refl
 
 other_done : (P : History) (who m w q cost r : ℕ) → q ≢ r → course_of (record { who = who; moment = m; act = Done w q cost } ∷ P) r ≡ course_of P r
-unfolding is_done
+unfolding is_ended
 other_done P who m w q cost r ne = rw (ne_eqb q r ne) refl
+
+own_withdraw : (P : History) (who m r : ℕ) → course_of (record { who = who; moment = m; act = Withdraw r } ∷ P) r ≡ record (course_of P r) { is_ended = true }
+unfolding is_ended
+own_withdraw P who m r = rw (eq-eqb r r refl) refl
+
+other_withdraw : (P : History) (who m q r : ℕ) → q ≢ r → course_of (record { who = who; moment = m; act = Withdraw q } ∷ P) r ≡ course_of P r
+unfolding is_ended
+other_withdraw P who m q r ne = rw (ne_eqb q r ne) refl
 
 -- what an act names is known
 pub names_known : (C : Config) (P : History) (m : ℕ) (a : Act) → IsLegal C P → Fits C P m a → NamesOneOf (submits P) a
 names_known C P m (Take worker request estimate) l f = submitted_below C P request l (waits_submitted P request (take_waits C P m worker request estimate f))
 names_known C P m (Done worker request cost) l f = submitted_below C P request l (taken_submitted C P request l (use_taken P worker request cost f))
+names_known C P m (Withdraw request) l f = submitted_below C P request l (waits_submitted P request f)
 names_known C P m _ l f = tt
 
 set_same : (H : History) (courses : List Course) (q r : ℕ) (v : Course) → q < length courses → q ≡ r → course_at (slice_set courses q v) r ≡ v
 set_same H courses q r v inside is = ap (course_at (slice_set courses q v)) (sym is) ∙ get_or-set_same courses q v (submitted 0 0) inside
 
 step_at : (C : Config) (P : History) (who m : ℕ) (a : Act) (courses : List Course) → IsLegal C P → Fits C P m a → CoursesAre P courses → CoursesAre (record { who = who; moment = m; act = a } ∷ P) (courses_after m a courses)
-unfolding is_done
+unfolding is_ended
 step_at C P who m (Submit q tenant kind declared label) courses l f are = record {
   counted = omega (arith, are.counted, length-append courses (submitted tenant m ∷ []));
   each = λ r b. elim (cases_eq r (submits P)) [
@@ -102,12 +111,22 @@ step_at C P who m (Take w q estimate) courses l f are =
     }
 step_at C P who m (Done w q cost) courses l f are =
     let inside : q < submits P = names_known C P m (Done w q cost) l f in
-    let v : Course = record (course_at courses q) { ended = m; cost = cost; is_done = true } in
+    let v : Course = record (course_at courses q) { ended = m; cost = cost; is_ended = true } in
     record {
       counted = length-set courses q v ∙ are.counted;
       each = λ r b. elim (cases_eq q r) [
-        | inl e ↦ set_same P courses q r v (omega (arith, inside, are.counted)) e ∙ ap (λ (c : Course). record c { ended = m; cost = cost; is_done = true }) (are.each q inside) ∙ sym (own_done P who m w q cost) ∙ ap (course_of (record { who = who; moment = m; act = Done w q cost } ∷ P)) e
+        | inl e ↦ set_same P courses q r v (omega (arith, inside, are.counted)) e ∙ ap (λ (c : Course). record c { ended = m; cost = cost; is_ended = true }) (are.each q inside) ∙ sym (own_done P who m w q cost) ∙ ap (course_of (record { who = who; moment = m; act = Done w q cost } ∷ P)) e
         | inr ne ↦ get_or-set_other courses q r v (submitted 0 0) (λ e. ne (sym e)) ∙ are.each r b ∙ sym (other_done P who m w q cost r ne)
+      ];
+    }
+step_at C P who m (Withdraw q) courses l f are =
+    let inside : q < submits P = names_known C P m (Withdraw q) l f in
+    let v : Course = record (course_at courses q) { is_ended = true } in
+    record {
+      counted = length-set courses q v ∙ are.counted;
+      each = λ r b. elim (cases_eq q r) [
+        | inl e ↦ set_same P courses q r v (omega (arith, inside, are.counted)) e ∙ ap (λ (c : Course). record c { is_ended = true }) (are.each q inside) ∙ sym (own_withdraw P who m q) ∙ ap (course_of (record { who = who; moment = m; act = Withdraw q } ∷ P)) e
+        | inr ne ↦ get_or-set_other courses q r v (submitted 0 0) (λ e. ne (sym e)) ∙ are.each r b ∙ sym (other_withdraw P who m q r ne)
       ];
     }
 step_at C P who m _ courses l f are = record { counted = are.counted; each = are.each }
@@ -116,7 +135,7 @@ pub courses_are : (C : Config) (H : History) → IsLegal C H → CoursesAre H (c
 courses_are C [] l = record { counted = refl; each = λ r b. absurd (omega (arith, b)) }
 courses_are C (e ∷ P) l = step_at C P e.who e.moment e.act (courses_of P) l.0 l.3 (courses_are C P l.0)
 
--- what is taken or ended was submitted
+-- what is taken, done or withdrawn was submitted
 pub names_submitted : (C : Config) (H : History) → IsLegal C H → NamesSubmitted H
 names_submitted C [] l = tt
 names_submitted C (e ∷ P) l = (names_submitted C P l.0, subst (λ n. NamesOneOf n e.act) (sym (courses_are C P l.0).counted) (names_known C P e.moment e.act l.0 l.3))

@@ -5,7 +5,7 @@ use Rattle.std.proofs.lemmas.List.{get_or_default}
 use Rattle.fq_model.specs.declared.config.Config.{Config}
 use Rattle.fq_model.specs.declared.event.Act.{Act}
 use Rattle.fq_model.specs.declared.event.Act.TheVariants.{Take, Done}
-use Rattle.fq_model.specs.History.{History, submits, is_waiting, is_done, is_take_of, is_done_of}
+use Rattle.fq_model.specs.History.{History, submits, is_waiting, is_taken, is_done, is_withdrawn, is_ended, is_take_of, is_done_of}
 use Rattle.fq_model.specs.Time.{last_moment}
 use Rattle.fq_model.specs.Charge.{final_cost, cost_in}
 use Rattle.fq_model.specs.Rules.{IsLegal, Fits}
@@ -14,11 +14,11 @@ use Rattle.fq_model.specs.Lag.{take_moment, done_moment, measured_cost}
 use Rattle.fq_model.specs.Report.{slots_of}
 use Rattle.fq_laws.proofs.Rules.Limits.{last_moment_small}
 use Rattle.fq_laws.proofs.Rules.Takes.{take_waits}
-use Rattle.fq_laws.proofs.History.Requests.{untaken_undone}
-use Rattle.fq_laws.proofs.History.Asked.{waits_untaken}
+use Rattle.fq_laws.proofs.History.Requests.{untaken_undone, withdrawn_untaken}
+use Rattle.fq_laws.proofs.History.Asked.{waits_untaken, ended_by}
 use Rattle.lag_report.specs.Courses.{courses_of}
 use Rattle.lag_report.specs.Work.{EndsWithin}
-use Rattle.lag_report.proofs.CoursesAre.{course_of, courses_are}
+use Rattle.lag_report.proofs.CoursesAre.{course_of, courses_are, no_moment}
 use Rattle.lag_report.proofs.Gains.{quotients}
 
 -- ---- moments
@@ -69,18 +69,26 @@ cost_low C (e ∷ P) r l = cost_at C P e.moment r e.act l.3 (cost_low C P r l.0)
 
 -- ---- courses
 
-ends : (C : Config) (H : History) (Q r : ℕ) → 1 ≤ Q → IsLegal C H → is_done H r ≡ true → EndsWithin Q (slots_of H Q) (course_of H r)
-ends C H Q r some l done =
+-- what is withdrawn was never taken
+never_taken : (C : Config) (H : History) (r : ℕ) → IsLegal C H → is_withdrawn H r ≡ true → take_moment H r ≡ 0
+unfolding is_taken
+never_taken C H r l withdrawn = ap (λ o. unwrap_or o 0) (no_moment (is_take_of r) H (withdrawn_untaken C H r l withdrawn))
+
+ends : (C : Config) (H : History) (Q r : ℕ) → 1 ≤ Q → IsLegal C H → is_ended H r ≡ true → EndsWithin Q (slots_of H Q) (course_of H r)
+ends C H Q r some l ended =
     let low : done_moment H r ≤ last_moment H = moment_low C H (is_done_of r) l in
     record {
-      in_order = ends_after C H r l done;
+      in_order = elim (ended_by H r ended) [
+        | inl done ↦ ends_after C H r l done
+        | inr withdrawn ↦ omega (arith, never_taken C H r l withdrawn)
+      ];
       moment = omega (arith, low, last_moment_small C H l);
       cost = cost_low C H r l;
       slot = omega (arith, quotients (done_moment H r - 1) (last_moment H) Q some (omega (arith, low)));
     }
 
-pub courses_end : (C : Config) (H : History) (Q : ℕ) → 1 ≤ Q → IsLegal C H → ((r : ℕ) → r < submits H → is_done H r ≡ true) → All (EndsWithin Q (slots_of H Q)) (courses_of H)
-courses_end C H Q some l done k d b =
+pub courses_end : (C : Config) (H : History) (Q : ℕ) → 1 ≤ Q → IsLegal C H → ((r : ℕ) → r < submits H → is_ended H r ≡ true) → All (EndsWithin Q (slots_of H Q)) (courses_of H)
+courses_end C H Q some l ended k d b =
     let are = courses_are C H l in
     let here : k < submits H = omega (arith, b, are.counted) in
-    subst (EndsWithin Q (slots_of H Q)) (sym (get_or_default (courses_of H) k d _ b ∙ are.each k here)) (ends C H Q k some l (done k here))
+    subst (EndsWithin Q (slots_of H Q)) (sym (get_or_default (courses_of H) k d _ b ∙ are.each k here)) (ends C H Q k some l (ended k here))

@@ -1,16 +1,16 @@
 -- The work that requests gain in each slot.
-use Rattle.std.proofs.Common.{ℕ, zero, suc, ◌+◌, ◌-◌, ◌*◌, ◌/◌, ◌<◌, ◌≤◌, ◌≡◌, nat_le, min, List, length, take, get_or, slice_set, arith, refl, ap, sym, ◌∙◌, inl, inr, sum, sum_by, replicate, All, [], pos, ◌-ℤ◌}
+use Rattle.std.proofs.Common.{ℕ, zero, suc, ◌+◌, ◌-◌, ◌*◌, ◌/◌, ◌<◌, ◌≤◌, ◌≡◌, nat_le, min, List, length, take, get_or, slice_set, arith, refl, ap, sym, ◌∙◌, inl, inr, sum, sum_by, replicate, [], pos, ◌-ℤ◌}
 use Rattle.fluid_reference.specs.Slots.{number_at}
 use Rattle.std.proofs.lemmas.Bool.{cases_Bool, cond-true, cond-false, leb-true, leb-false, le-leb, lt-leb}
 use Rattle.std.proofs.lemmas.List.{take-set-le, length-take-le, get_or-take, length-take, length-replicate, get_or-replicate, take_all}
-use Rattle.std.proofs.lemmas.List.Sums.{sum_by-set, sum_by_more, sum_by-le}
+use Rattle.std.proofs.lemmas.List.Sums.{sum_by-set, sum_by_more, sum_by-le-sum_by}
 use Rattle.std.proofs.lemmas.Nat.{le-div}
 use Rattle.std.proofs.Math.Seq.{take-set-lt}
 use Rattle.std.proofs.Math.Nat.{div-le_of_le-mul, mul-le-mul_left, mul-le-mul_right, div-mul-le_self}
 use Rattle.fluid_reference.proofs.Lists.{sum_none, list_same}
 use Rattle.fq_model.specs.Lag.{work_between}
 use Rattle.lag_report.specs.declared.course.Course.{Course}
-use Rattle.lag_report.specs.Work.{work_in, EndsWithin, GainsAre, samples_from, lags_from}
+use Rattle.lag_report.specs.Work.{work_in, GainsAre, samples_from, lags_from}
 
 -- ---- the work on one request
 
@@ -118,15 +118,11 @@ gains_step Q i courses gains new d some same are more k l =
     more k (omega (arith, l, same)) ∙ ap (λ n. n + work_in Q k (get_or courses i d)) (are k (omega (arith, l, same))) ∙ sym (sum_by_more (work_in Q k) courses i d some)
 
 -- are few, as the costs are
-pub gains_low : (Q slots : ℕ) (courses : List Course) (gains : List ℕ) → All (EndsWithin Q slots) courses → length courses ≤ 2000000 → GainsAre Q courses gains → sum gains ≤ 2000000000000000
-gains_low Q slots courses gains ends few are =
+pub gains_low : (Q : ℕ) (courses : List Course) (gains : List ℕ) → sum_by (λ c. c.cost) courses ≤ 2000000000000000 → GainsAre Q courses gains → sum gains ≤ 2000000000000000
+gains_low Q courses gains few are =
     let all : sum (take (length gains) gains) ≡ sum gains = ap sum (take_all (length gains) gains (omega arith)) in
-    let each : sum_by (work_in Q (length gains)) courses ≤ length courses * 1000000000 = sum_by-le (work_in Q (length gains)) 1000000000 courses (λ k d l. omega (arith, in_low Q (length gains) (get_or courses k d), (ends k d l).cost)) in
+    let each : sum_by (work_in Q (length gains)) courses ≤ sum_by (λ c. c.cost) courses = sum_by-le-sum_by (work_in Q (length gains)) (λ (c : Course). c.cost) courses (in_low Q (length gains)) in
     omega (arith, all, each, are (length gains) (omega arith), few)
-
--- what requests cost is few, too
-pub costs_low : (Q slots : ℕ) (courses : List Course) → All (EndsWithin Q slots) courses → length courses ≤ 2000000 → sum_by (λ c. c.cost) courses ≤ 2000000000000000
-costs_low Q slots courses ends few = omega (arith, sum_by-le (λ (c : Course). c.cost) 1000000000 courses (λ k d l. (ends k d l).cost), few)
 
 -- the lags by what was gained are those by the work
 pub lags_are : (Q : ℕ) (served gains : List ℕ) (courses : List Course) → length gains ≡ length served → GainsAre Q courses gains → samples_from served (λ k. sum (take k gains)) ≡ lags_from served courses Q

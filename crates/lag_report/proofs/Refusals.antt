@@ -15,16 +15,16 @@ use Rattle.lag_report.specs.declared.fault.ReportFault.TheVariants.{Unfinished, 
 use Rattle.lag_report.specs.Faults.{fault_from}
 use Rattle.lag_report.specs.Reports.{report_refusal, IsReason}
 
--- the number of a request that is not done fits
+-- the number of a request that waits or runs fits
 pub small : (H : History) (r : ℕ) → unfinished H ≡ Some r → r < 2 ^ 32
 unfolding unfinished request_bound
 small H r is = (least_some (is_unfinished H) (2 ^ 32) r is).1
 
--- a request that is not done is the first reason
+-- a request that waits or runs is the first reason
 pub for_request : (C : Config) (H : History) (Q r : ℕ) → unfinished H ≡ Some r → report_refusal C H Q ≡ Some (Unfinished r)
 for_request C H Q r is = ap (λ o. first_true ((is_some o, Unfinished (unwrap_or o 0)) ∷ (not (are_cells_few C H Q), TooLong (slots_of H Q) (length C.weights)) ∷ [])) is
 
--- and where all are done it is the cells
+-- and where none does it is the cells
 for_cells : (C : Config) (H : History) (Q : ℕ) → unfinished H ≡ None → report_refusal C H Q ≡ first_true ((not (are_cells_few C H Q), TooLong (slots_of H Q) (length C.weights)) ∷ [])
 for_cells C H Q is = ap (λ o. first_true ((is_some o, Unfinished (unwrap_or o 0)) ∷ (not (are_cells_few C H Q), TooLong (slots_of H Q) (length C.weights)) ∷ [])) is
 

@@ -13,7 +13,7 @@ use Rattle.fq_model.specs.declared.fluid.FluidRow.{FluidRow}
 use Rattle.fq_model.specs.declared.lag.TenantLag.{TenantLag}
 use Rattle.fq_model.specs.Limits.{InLimits}
 use Rattle.fq_model.specs.Sums.{list_below, sum_below}
-use Rattle.fq_model.specs.History.{History, submits, is_done}
+use Rattle.fq_model.specs.History.{History, submits, is_ended}
 use Rattle.fq_model.specs.Rules.{IsLegal}
 use Rattle.fq_model.specs.Charge.{net_charge}
 use Rattle.fq_model.specs.Fluid.{fluid, fluid_table, fluid_rows_of, fluid_service, changes_of}
@@ -79,16 +79,16 @@ lags_are C H Q t sorted lim l known moved =
 line_with : ℕ → ℕ → ℕ → ℕ → List ℤ → TenantLag
 line_with weight requests charged served lags = record { weight = weight; requests = requests; charged = charged; fluid = served; least = least_sample lags; p50 = percentile 50 lags; p90 = percentile 90 lags; p99 = percentile 99 lags; greatest = greatest_sample lags }
 
-pub line_is : (C : Config) (H : History) (Q t : ℕ) (sorted : List Course) → InLimits C → IsLegal C H → ((r : ℕ) → r < submits H → is_done H r ≡ true) → t < length C.weights → IsPermutation (courses_of H) sorted →
+pub line_is : (C : Config) (H : History) (Q t : ℕ) (sorted : List Course) → InLimits C → IsLegal C H → ((r : ℕ) → r < submits H → is_ended H r ≡ true) → t < length C.weights → IsPermutation (courses_of H) sorted →
     line_for C.weights sorted (fluid_table C (fluid_rows_of H) H Q (slots_of H Q)) Q t ≡ tenant_lag C H Q t
 unfolding line_with
-line_is C H Q t sorted lim l done known moved =
+line_is C H Q t sorted lim l ended known moved =
     let n : ℕ = slots_of H Q in
     let table : List (List ℕ) = fluid_table C (fluid_rows_of H) H Q n in
     let long : length table ≡ n = table_long C (fluid_rows_of H) H Q n in
     let column : length (column_of table t) ≡ n = list_length (λ k. number_at (slot_at table k) t) (length table) ∙ long in
     let requests : length (filter (is_own t) sorted) ≡ submits_for H t = length-filter (is_own t) sorted ∙ sum_by-IsPermutation (own t once) (courses_of H) sorted moved ∙ sym (count_is C H t l) in
-    let charged : sum_by (λ c. c.cost) (filter (is_own t) sorted) ≡ net_charge H t = own_is H sorted t (λ c. c.cost) moved ∙ sym (net_is C H t lim l done) in
+    let charged : sum_by (λ c. c.cost) (filter (is_own t) sorted) ≡ net_charge H t = own_is H sorted t (λ c. c.cost) moved ∙ sym (net_is C H t lim l ended) in
     let last : length (column_of table t) - 1 < length table = omega (arith, column, long) in
     let whole : suc (length (column_of table t) - 1) ≡ n = omega (arith, column) in
     let served : number_at (column_of table t) (length (column_of table t) - 1) ≡ fluid_service C H Q t n =
@@ -99,15 +99,15 @@ line_is C H Q t sorted lim l done known moved =
     ap₂ (λ (r : ℕ) (c : ℕ). line_with weight r c (number_at (column_of table t) (length (column_of table t) - 1)) (lags_from (column_of table t) (filter (is_own t) sorted) Q)) requests charged
     ∙ ap₂ (λ (s : ℕ) (g : List ℤ). line_with weight (submits_for H t) (net_charge H t) s g) served (lags_are C H Q t sorted lim l known moved)
 
-pub lines_are : (C : Config) (H : History) (Q : ℕ) (sorted : List Course) → InLimits C → IsLegal C H → ((r : ℕ) → r < submits H → is_done H r ≡ true) → IsPermutation (courses_of H) sorted →
+pub lines_are : (C : Config) (H : History) (Q : ℕ) (sorted : List Course) → InLimits C → IsLegal C H → ((r : ℕ) → r < submits H → is_ended H r ≡ true) → IsPermutation (courses_of H) sorted →
     list_below (line_for C.weights sorted (fluid_table C (fluid_rows_of H) H Q (slots_of H Q)) Q) (length C.weights) ≡ (lag_report C H Q).rows
-lines_are C H Q sorted lim l done moved = list_same _ _ (length C.weights) (λ t b. line_is C H Q t sorted lim l done b moved)
+lines_are C H Q sorted lim l ended moved = list_same _ _ (length C.weights) (λ t b. line_is C H Q t sorted lim l ended b moved)
 
 -- the lines by these weights, courses and table are those of the report
-pub lines_from : (C : Config) (H : History) (Q : ℕ) (sorted : List Course) (table : List (List ℕ)) (weights : List ℕ) (rows : List TenantLag) → InLimits C → IsLegal C H → ((r : ℕ) → r < submits H → is_done H r ≡ true) → IsPermutation (courses_of H) sorted →
+pub lines_from : (C : Config) (H : History) (Q : ℕ) (sorted : List Course) (table : List (List ℕ)) (weights : List ℕ) (rows : List TenantLag) → InLimits C → IsLegal C H → ((r : ℕ) → r < submits H → is_ended H r ≡ true) → IsPermutation (courses_of H) sorted →
     table ≡ fluid_table C (fluid_rows_of H) H Q (slots_of H Q) → weights ≡ C.weights → rows ≡ list_below (line_for weights sorted table Q) (length weights) → rows ≡ (lag_report C H Q).rows
-lines_from C H Q sorted table weights rows lim l done moved is_table same is =
-    is ∙ ap₂ (λ (ws : List ℕ) (cells : List (List ℕ)). list_below (line_for ws sorted cells Q) (length ws)) same is_table ∙ lines_are C H Q sorted lim l done moved
+lines_from C H Q sorted table weights rows lim l ended moved is_table same is =
+    is ∙ ap₂ (λ (ws : List ℕ) (cells : List (List ℕ)). list_below (line_for ws sorted cells Q) (length ws)) same is_table ∙ lines_are C H Q sorted lim l ended moved
 
 -- a report of these parts
 pub report_of : (Q slots slots2 end end2 entries entries2 : ℕ) (rows rows2 : List TenantLag) → slots ≡ slots2 → rows ≡ rows2 → end ≡ end2 → entries ≡ entries2 →

@@ -6,19 +6,19 @@ use Rattle.std.proofs.lemmas.List.{take_all}
 use Rattle.std.proofs.lemmas.List.Sums.{sum_by_more, sum_by_push, sum_by-set, fails_before_first, passes_at_first}
 use Rattle.fq_model.specs.declared.config.Config.{Config}
 use Rattle.fq_model.specs.declared.event.Act.{Act}
-use Rattle.fq_model.specs.declared.event.Act.TheVariants.{Submit, Take, Done}
+use Rattle.fq_model.specs.declared.event.Act.TheVariants.{Submit, Take, Done, Withdraw}
 use Rattle.fq_model.specs.Limits.{InLimits}
 use Rattle.fq_model.specs.Sums.{sum_below}
-use Rattle.fq_model.specs.History.{History, Request, request_at, request_in, submits, is_submitted, is_done, is_of_tenant, request_bound}
+use Rattle.fq_model.specs.History.{History, Request, request_at, request_in, submits, is_submitted, is_taken, is_done, is_ended, is_of_tenant, request_bound}
 use Rattle.fq_model.specs.Charge.{net_charge, net_charged, final_cost, cost_in}
 use Rattle.fq_model.specs.Rules.{IsLegal, Fits}
 use Rattle.fq_model.specs.Lag.{work_of, work_done_for, work_done, measured_cost}
 use Rattle.fq_model.specs.Report.{submits_for, with_submit_for, unfinished, is_unfinished}
 use Rattle.fq_laws.proofs.Sums.{sum_same, sum_at, sum_zero, least_none, least_by}
-use Rattle.fq_laws.proofs.History.Requests.{fresh, fresh_unsubmitted, fresh_untaken, done_taken}
-use Rattle.fq_laws.proofs.History.Asked.{asked_submitted}
+use Rattle.fq_laws.proofs.History.Requests.{fresh, fresh_unsubmitted, fresh_untaken, done_taken, untaken_undone, withdrawn_untaken}
+use Rattle.fq_laws.proofs.History.Asked.{asked_submitted, ended_by}
 use Rattle.fq_laws.proofs.History.Numbers.{submits_small}
-use Rattle.fq_laws.proofs.Charge.Requests.{charge_final}
+use Rattle.fq_laws.proofs.Charge.Requests.{charge_final, cost_none}
 use Rattle.fq_laws.proofs.Charge.Tenants.{net_charged_untaken, net_charged_taken}
 use Rattle.lag_report.specs.declared.course.Course.{Course}
 use Rattle.lag_report.specs.Courses.{submitted, course_at, courses_after, courses_of, own, NamesOneOf}
@@ -96,13 +96,29 @@ unfolding is_done
 final_is [] r h = absurd (false≢true h)
 final_is (e ∷ P) r h = final_at r e.act P (final_is P r) h
 
-pub net_is : (C : Config) (H : History) (t : ℕ) → InLimits C → IsLegal C H → ((r : ℕ) → r < submits H → is_done H r ≡ true) → net_charge H t ≡ sum_by (own t (λ c. c.cost)) (courses_of H)
+-- what is done is charged its cost
+net_done : (C : Config) (H : History) (t r : ℕ) → IsLegal C H → r < submits H → is_done H r ≡ true → net_charged H t r ≡ own t (λ c. c.cost) (course_of H r)
+net_done C H t r l b done =
+    let q = known C H r l b in
+    net_charged_taken H t r (done_taken C H r l done)
+    ∙ ap (λ n. cond (is_of_tenant t (request_at H r)) n 0) (charge_final C H r (measured_cost H r) l (final_is H r done))
+    ∙ ap (λ o. cond (is_of_tenant t o) (measured_cost H r) 0) q.1 ∙ sym (ap (λ o. cond (nat_eq (tenant_in o) t) (measured_cost H r) 0) q.1)
+
+-- what was never taken is charged nothing, and costs nothing
+net_untaken : (C : Config) (H : History) (t r : ℕ) → IsLegal C H → is_taken H r ≡ false → net_charged H t r ≡ own t (λ c. c.cost) (course_of H r)
+net_untaken C H t r l untaken = net_charged_untaken H t r untaken ∙ sym (nothing (nat_eq (tenant_in (request_at H r)) t) (measured_cost H r) (ap (λ o. unwrap_or o 0) (cost_none H r (untaken_undone C H r l untaken))))
+  where
+    nothing : (b : Bool) (n : ℕ) → n ≡ 0 → cond b n 0 ≡ 0
+    nothing true n is = is
+    nothing false n is = refl
+
+pub net_is : (C : Config) (H : History) (t : ℕ) → InLimits C → IsLegal C H → ((r : ℕ) → r < submits H → is_ended H r ≡ true) → net_charge H t ≡ sum_by (own t (λ c. c.cost)) (courses_of H)
 unfolding net_charge
-net_is C H t lim l done = over_courses C H (own t (λ c. c.cost)) (net_charged H t) lim l
-    (λ r b. let q = known C H r l b in
-    net_charged_taken H t r (done_taken C H r l (done r b))
-    ∙ ap (λ n. cond (is_of_tenant t (request_at H r)) n 0) (charge_final C H r (measured_cost H r) l (final_is H r (done r b)))
-    ∙ ap (λ o. cond (is_of_tenant t o) (measured_cost H r) 0) q.1 ∙ sym (ap (λ o. cond (nat_eq (tenant_in o) t) (measured_cost H r) 0) q.1))
+net_is C H t lim l ended = over_courses C H (own t (λ c. c.cost)) (net_charged H t) lim l
+    (λ r b. elim (ended_by H r (ended r b)) [
+      | inl done ↦ net_done C H t r l b done
+      | inr withdrawn ↦ net_untaken C H t r l (withdrawn_untaken C H r l withdrawn)
+    ])
     (λ r b. net_charged_untaken H t r (fresh_untaken C H r l b))
 
 -- ---- how many requests
@@ -116,7 +132,8 @@ count_at t m (Submit request tenant kind declared label) cs older names is = eli
   | inr e ↦ omega (arith, is, cond-false (nat_eq tenant t) (suc older) older e, sum_by_push (own t once) cs (submitted tenant m), cond-false {A = ℕ} (nat_eq tenant t) 1 0 e)
 ]
 count_at t m (Take worker request estimate) cs older names is = omega (arith, is, sum_by-set (own t once) cs request (record (course_at cs request) { taken = m }) (submitted 0 0) names)
-count_at t m (Done worker request cost) cs older names is = omega (arith, is, sum_by-set (own t once) cs request (record (course_at cs request) { ended = m; cost = cost; is_done = true }) (submitted 0 0) names)
+count_at t m (Done worker request cost) cs older names is = omega (arith, is, sum_by-set (own t once) cs request (record (course_at cs request) { ended = m; cost = cost; is_ended = true }) (submitted 0 0) names)
+count_at t m (Withdraw request) cs older names is = omega (arith, is, sum_by-set (own t once) cs request (record (course_at cs request) { is_ended = true }) (submitted 0 0) names)
 count_at t m _ cs older names is = is
 
 pub count_is : (C : Config) (H : History) (t : ℕ) → IsLegal C H → submits_for H t ≡ sum_by (own t once) (courses_of H)
@@ -134,33 +151,33 @@ pub all_submits : (C : Config) (H : History) → IsLegal C H → sum_below (subm
 all_submits C [] l = sum_zero (submits_for []) (length C.weights) (λ r. refl)
 all_submits C (e ∷ P) l = all_at C P e.moment e.act l.3 (all_submits C P l.0)
 
--- ---- what is not done
+-- ---- what is neither done nor withdrawn
 
-pub all_done : (C : Config) (H : History) → IsLegal C H → InLimits C → unfinished H ≡ None → (r : ℕ) → r < submits H → is_done H r ≡ true
+pub all_ended : (C : Config) (H : History) → IsLegal C H → InLimits C → unfinished H ≡ None → (r : ℕ) → r < submits H → is_ended H r ≡ true
 unfolding unfinished request_bound
-all_done C H l lim none r b =
+all_ended C H l lim none r b =
     let small : submits H < 2 ^ 32 = submits_small C H lim l in
-    true_from_ne_false (is_done H r) (λ open_still. false≢true (sym (least_none (is_unfinished H) (2 ^ 32) none r (omega (arith, b, small))) ∙ and_from _ _ (came C H r l b) (ap not open_still)))
+    true_from_ne_false (is_ended H r) (λ open_still. false≢true (sym (least_none (is_unfinished H) (2 ^ 32) none r (omega (arith, b, small))) ∙ and_from _ _ (came C H r l b) (ap not open_still)))
 
--- the first course that is not done is that of the least request that is not
-pub unfinished_is : (C : Config) (H : History) → InLimits C → IsLegal C H → position (λ c. not c.is_done) (courses_of H) ≡ unfinished H
+-- the first course that is not ended is that of the least request that is not
+pub unfinished_is : (C : Config) (H : History) → InLimits C → IsLegal C H → position (λ c. not c.is_ended) (courses_of H) ≡ unfinished H
 unfolding unfinished request_bound
 unfinished_is C H lim l =
-    let test : Course → Bool = λ c. not c.is_done in
+    let test : Course → Bool = λ c. not c.is_ended in
     let cs : List Course = courses_of H in
     let k : ℕ = position_or_len test cs in
     let are = courses_are C H l in
     let small : submits H < 2 ^ 32 = submits_small C H lim l in
-    let done : (r : ℕ) → r < k → r < submits H → is_unfinished H r ≡ false = λ r b c. and_right (is_submitted H r) (not (is_done H r)) (sym (ap test (are.each r c)) ∙ fails_before_first test cs r (submitted 0 0) b) in
+    let ended : (r : ℕ) → r < k → r < submits H → is_unfinished H r ≡ false = λ r b c. and_right (is_submitted H r) (not (is_ended H r)) (sym (ap test (are.each r c)) ∙ fails_before_first test cs r (submitted 0 0) b) in
     elim (cases_Bool (nat_lt k (length cs))) [
       | inl e ↦
           let inside : k < submits H = omega (arith, ltb-true _ _ e, are.counted) in
-          let here : not (is_done H k) ≡ true = sym (ap test (are.each k inside)) ∙ passes_at_first test cs (submitted 0 0) (ltb-true _ _ e) in
-          cond-true (nat_lt k (length cs)) _ _ e ∙ sym (least_by (is_unfinished H) (2 ^ 32) (Some k) (and_from _ _ (came C H k l inside) here, omega (arith, inside, small), λ s b. done s b (omega (arith, b, inside))))
+          let here : not (is_ended H k) ≡ true = sym (ap test (are.each k inside)) ∙ passes_at_first test cs (submitted 0 0) (ltb-true _ _ e) in
+          cond-true (nat_lt k (length cs)) _ _ e ∙ sym (least_by (is_unfinished H) (2 ^ 32) (Some k) (and_from _ _ (came C H k l inside) here, omega (arith, inside, small), λ s b. ended s b (omega (arith, b, inside))))
       | inr e ↦
           let past : submits H ≤ k = omega (arith, ltb-false _ _ e, are.counted) in
           cond-false (nat_lt k (length cs)) _ _ e ∙ sym (least_by (is_unfinished H) (2 ^ 32) None (λ s b. elim (cases_Bool (nat_lt s (submits H))) [
-            | inl f ↦ done s (omega (arith, ltb-true _ _ f, past)) (ltb-true _ _ f)
-            | inr f ↦ and_left (is_submitted H s) (not (is_done H s)) (fresh_unsubmitted C H s l (ltb-false _ _ f))
+            | inl f ↦ ended s (omega (arith, ltb-true _ _ f, past)) (ltb-true _ _ f)
+            | inr f ↦ and_left (is_submitted H s) (not (is_ended H s)) (fresh_unsubmitted C H s l (ltb-false _ _ f))
           ]))
     ]

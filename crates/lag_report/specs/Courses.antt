@@ -1,14 +1,14 @@
 -- What a history says of the courses of its requests.
-use Rattle.std.specs.Prelude.{ℕ, ◌<◌, ◌≡◌, ◌==◌, true, false, if◌then◌else◌, List, [], ◌∷◌, ◌++◌, length, All, slice_index_or, slice_set}
+use Rattle.std.specs.Prelude.{ℕ, ◌<◌, ◌==◌, true, false, if◌then◌else◌, List, [], ◌∷◌, ◌++◌, length, slice_index_or, slice_set}
 use Rattle.fq_model.specs.declared.event.Act.{Act}
-use Rattle.fq_model.specs.declared.event.Act.TheVariants.{Submit, Take, Done}
+use Rattle.fq_model.specs.declared.event.Act.TheVariants.{Submit, Take, Done, Withdraw}
 use Rattle.fq_model.specs.declared.fluid.FluidRow.{FluidRow}
 use Rattle.fq_model.specs.History.{History}
 use Rattle.lag_report.specs.declared.course.Course.{Course}
 
 -- a request of a tenant that was submitted at m, and no more
 abbrev pub submitted : ℕ → ℕ → Course
-submitted tenant m = record { tenant = tenant; submit = m; taken = 0; ended = 0; cost = 0; is_done = false }
+submitted tenant m = record { tenant = tenant; submit = m; taken = 0; ended = 0; cost = 0; is_ended = false }
 
 -- the course at a place
 abbrev pub course_at : List Course → ℕ → Course
@@ -20,7 +20,9 @@ courses_after m (Submit request tenant kind declared label) older = older ++ sub
 courses_after m (Take worker request estimate) older =
     slice_set older request (record (course_at older request) { taken = m })
 courses_after m (Done worker request cost) older =
-    slice_set older request (record (course_at older request) { ended = m; cost = cost; is_done = true })
+    slice_set older request (record (course_at older request) { ended = m; cost = cost; is_ended = true })
+courses_after m (Withdraw request) older =
+    slice_set older request (record (course_at older request) { is_ended = true })
 courses_after m _ older = older
 
 -- the courses of the requests of a history, by number
@@ -39,13 +41,14 @@ abbrev pub rows_of : History → List FluidRow
 rows_of [] = []
 rows_of (e ∷ P) = rows_after (courses_of P) e.act (rows_of P)
 
--- a request that the act takes or ends is one of the first n
+-- a request that the act takes, completes or withdraws is one of the first n
 abbrev pub NamesOneOf : ℕ → Act → Type 0
 NamesOneOf n (Take worker request estimate) = request < n
 NamesOneOf n (Done worker request cost) = request < n
+NamesOneOf n (Withdraw request) = request < n
 NamesOneOf n _ = Unit {0}
 
--- what is taken or ended was submitted before
+-- what is taken, done or withdrawn was submitted before
 abbrev pub NamesSubmitted : History → Type 0
 NamesSubmitted [] = Unit {0}
 NamesSubmitted (e ∷ P) = NamesSubmitted P × NamesOneOf (length (courses_of P)) e.act
@@ -53,7 +56,3 @@ NamesSubmitted (e ∷ P) = NamesSubmitted P × NamesOneOf (length (courses_of P)
 -- f of a course of tenant t, and 0 of another
 abbrev pub own : ℕ → (Course → ℕ) → Course → ℕ
 own t f c = if c.tenant == t then f c else 0
-
--- each is done
-abbrev pub AreDone : List Course → Type 0
-AreDone courses = All (λ c. c.is_done ≡ true) courses

@@ -2,7 +2,7 @@
 
 use fluid_reference::owned::Owned;
 
-/// When a request came, was taken and was done, in microseconds.
+/// When a request came, was taken and was done, in microseconds. One that is withdrawn is never taken or done.
 #[derive(Clone, Copy)]
 pub struct Course {
     /// Whose it is.
@@ -15,7 +15,8 @@ pub struct Course {
     pub ended: u64,
     /// Its measured cost, or 0 where it is not done.
     pub cost: u64,
-    pub is_done: bool,
+    /// Whether it is done or withdrawn.
+    pub is_ended: bool,
 }
 
 impl Owned for Course {

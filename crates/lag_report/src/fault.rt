@@ -12,7 +12,7 @@ use thiserror::Error;
 /// Why there is no report of a history.
 #[derive(Clone, Copy, PartialEq, Eq, Error)]
 pub enum ReportFault {
-    /// This request, the least of its kind, is submitted and not done, so that its cost is not known.
+    /// This request, the least of its kind, waits or runs, so that its cost is not known.
     #[error("request {0} is not done")]
     Unfinished(u32),
     /// So many slots for so many tenants; there may be 4,000,000 cells.

@@ -10,9 +10,7 @@ use crate::work::gains;
 use fluid_reference::owned::of_tenant;
 use fluid_reference::reference::FluidReference;
 use fq_model::lag::TenantLag;
-use fq_model::limits::{
-    GREATEST_BACKLOG, GREATEST_SLOT, MOST_CELLS, MOST_FLUID_ROWS, MOST_TENANTS,
-};
+use fq_model::limits::{GREATEST_BACKLOG, GREATEST_SLOT, MOST_CELLS, MOST_ENTRIES, MOST_TENANTS};
 use std::alloc::{AllocError, Global};
 
 /// What a report says of each tenant, by number: of requests in the order of their tenants, where tenants are served
@@ -29,7 +27,8 @@ pub fn lines(
     requires tenants { length weights.now ≤ MOST_TENANTS }
     requires table { IsTable (length weights.now) fluid.now }
     requires order { IsNonDecreasingBy (λ c. c.tenant) courses.now }
-    requires requests { length courses.now ≤ MOST_FLUID_ROWS }
+    requires requests { length courses.now ≤ MOST_ENTRIES }
+    requires costs { sum_by (λ c. c.cost) courses.now ≤ GREATEST_BACKLOG }
     requires end { All (EndsWithin slot (length fluid.now)) courses.now }
     ensures { IfOk result (λ v. v.items
         ≡ list_below (line_for weights.now courses.now fluid.now slot) (length weights.now)) }
@@ -58,7 +57,8 @@ fn line(
     requires some { 1 ≤ length served.now }
     requires few { length served.now ≤ MOST_CELLS }
     requires served { All (λ s. s ≤ GREATEST_BACKLOG) served.now }
-    requires requests { length courses.now ≤ MOST_FLUID_ROWS }
+    requires requests { length courses.now ≤ MOST_ENTRIES }
+    requires costs { sum_by (λ c. c.cost) courses.now ≤ GREATEST_BACKLOG }
     requires end { All (EndsWithin slot (length served.now)) courses.now }
     ensures { IfOk result (λ line. line ≡ line_of weight served.now courses.now slot) }
 {
@@ -78,7 +78,7 @@ fn line(
     })
 }
 
-// What requests that are done were charged.
+// What requests were charged that are done or withdrawn.
 fn charged(courses: &[Course]) -> u64
     requires { sum_by (λ c. c.cost) courses.now ≤ GREATEST_BACKLOG }
     ensures { result ≡ sum_by (λ c. c.cost) courses.now }

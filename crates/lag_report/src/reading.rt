@@ -56,10 +56,11 @@ impl Contents {
                 self.courses[request as usize] = Course {
                     ended: moment,
                     cost,
-                    is_done: true,
+                    is_ended: true,
                     ..course
                 };
             }
+            Act::Withdraw { request } => self.courses[request as usize].is_ended = true,
             _ => add_change(entry, &mut self.changes)?,
         }
         Ok(())
@@ -76,7 +77,7 @@ fn submitted(tenant: u32, submit: u64) -> Course
         taken: 0,
         ended: 0,
         cost: 0,
-        is_done: false,
+        is_ended: false,
     }
 }
 
@@ -100,11 +101,11 @@ pub fn read(alloc: Global, past: &[Entry]) -> Result<Contents, AllocError>
     Ok(contents)
 }
 
-/// The least request that is not done, if there is one.
+/// The least request that is neither done nor withdrawn, if there is one.
 pub fn unfinished(courses: &[Course]) -> Option<usize>
-    ensures { result ≡ position (λ c. not c.is_done) courses.now }
+    ensures { result ≡ position (λ c. not c.is_ended) courses.now }
 {
-    courses.iter().position(|course| !course.is_done)
+    courses.iter().position(|course| !course.is_ended)
 }
 
 // Adds what the entry changes, if it is a change.

@@ -1,10 +1,10 @@
 //! The work done on requests, by slot.
-ghost use Rattle.std.specs.Prelude.{◌≡◌, ◌≤◌, ◌<◌, ◌+◌, ◌*◌, ◌/◌, length, take, sum, All, IfOk, ℕ};
+ghost use Rattle.std.specs.Prelude.{◌≡◌, ◌≤◌, ◌<◌, ◌+◌, ◌*◌, ◌/◌, length, take, sum, sum_by, All, IfOk, ℕ};
 ghost use Rattle.vt_fixed.specs.declared.limits.TheConstants.{GREATEST_COST};
 ghost use Rattle.lag_report.specs.Work.{worked, work_in, EndsWithin, GainsAre};
 
 use crate::course::Course;
-use fq_model::limits::{GREATEST_BACKLOG, GREATEST_SLOT, MOST_FLUID_ROWS};
+use fq_model::limits::{GREATEST_BACKLOG, GREATEST_SLOT};
 use std::alloc::{AllocError, Global};
 
 /// The work gained in each slot by requests that end in these slots.
@@ -16,7 +16,7 @@ pub fn gains(
 ) -> Result<Vec<u64>, AllocError>
     requires positive { 1 ≤ slot }
     requires short { slot ≤ GREATEST_SLOT }
-    requires few { length courses.now ≤ MOST_FLUID_ROWS }
+    requires costs { sum_by (λ c. c.cost) courses.now ≤ GREATEST_BACKLOG }
     requires end { All (EndsWithin slot slots) courses.now }
     ensures len { IfOk result (λ v. length v.items ≡ slots) }
     ensures gains { IfOk result (λ v. GainsAre slot courses.now v.items) }

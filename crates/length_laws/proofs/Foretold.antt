@@ -8,7 +8,7 @@ use Rattle.fq_model.specs.declared.event.Act.{Act}
 use Rattle.fq_model.specs.declared.event.Act.TheVariants.{Take}
 use Rattle.fq_model.specs.declared.event.Entry.{Entry}
 use Rattle.fq_model.specs.Charge.{taken_estimate, estimate_in, final_cost, charge_from, charge, taken_weight, is_taken_of, request_estimate}
-use Rattle.fq_model.specs.History.{History, Request, request_at, is_of_tenant, is_take_of, is_taken, head, weight_at, waits_for}
+use Rattle.fq_model.specs.History.{History, Request, request_at, is_of_tenant, is_take_of, is_taken, is_removed, head, weight_at, waits_for}
 use Rattle.fq_model.specs.Lead.{head_length, length_of_head, length_of_request}
 use Rattle.fq_model.specs.Rules.{FitsTake, IsChosen, IsLegal}
 use Rattle.fq_laws.specs.Words.{one_more}
@@ -108,7 +108,7 @@ caps_low C H t c w l some weight costs weights = λ Q r is taken.
 
 waits_own : (Q : History) (t r : ℕ) → waits_for Q t r ≡ true → is_of_tenant t (request_at Q r) ≡ true
 unfolding waits_for
-waits_own Q t r waits = (both_true (is_of_tenant t (request_at Q r)) (not (is_taken Q r)) waits).0
+waits_own Q t r waits = (both_true (is_of_tenant t (request_at Q r)) (not (is_removed Q r)) waits).0
 
 pub head_low : (C : Config) (H Q : History) (t c w : ℕ) → IsLegal C H → 1 ≤ c → 1 ≤ w → CostsStayBelow C H t c → WeightStaysAbove C H t w → IsPrefix Q H → head_length C Q t ≤ length_of c w
 head_low C H Q t c w l some weight costs weights is = go (head Q t) refl

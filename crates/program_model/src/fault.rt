@@ -7,7 +7,7 @@ use std::fmt;
 /// What is wrong with a line of a script or a journal.
 #[derive(Clone, Copy, PartialEq, Eq)]
 pub enum ScriptKind {
-    /// The first line is not `script 1` or `script 2`, or for a journal `journal 1` or `journal 2`.
+    /// The first line is not `script` or, for a journal, `journal`, with 1, 2 or 3 behind it.
     Header,
     /// A word that does not stand here: no line begins so at this place, or it is no name, policy or
     /// estimator.

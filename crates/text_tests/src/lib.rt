@@ -19,9 +19,13 @@ mod paced_tests;
 #[cfg(test)]
 mod printing_tests;
 #[cfg(test)]
+mod random_tests;
+#[cfg(test)]
 mod reading_tests;
 #[cfg(test)]
 mod report_tests;
+#[cfg(test)]
+mod rows;
 #[cfg(test)]
 mod samples;
 #[cfg(test)]
@@ -32,3 +36,5 @@ mod stream_tests;
 mod time_tests;
 #[cfg(test)]
 mod trace_tests;
+#[cfg(test)]
+mod withdrawn_tests;

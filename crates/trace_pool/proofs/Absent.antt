@@ -2,7 +2,7 @@
 use Rattle.std.proofs.Common.{◌≡◌, ◌<◌, ◌≤◌, ◌+◌, ℕ, Bool, true, false, not, [], ◌∷◌, refl, sym, ◌∙◌, arith, inl, inr}
 use Rattle.std.proofs.lemmas.Bool.{or_parts, false≢true}
 use Rattle.fq_model.specs.declared.event.Act.{Act}
-use Rattle.fq_model.specs.declared.event.Act.TheVariants.{Report, Weight, Workers}
+use Rattle.fq_model.specs.declared.event.Act.TheVariants.{Report, Weight, Workers, Withdraw}
 use Rattle.program_model.specs.declared.trace.RunOptions.{RunOptions}
 use Rattle.program_model.specs.Courses.{submitters}
 use Rattle.fq_model.specs.History.{History, has_act, is_change}
@@ -46,6 +46,7 @@ module _ (T : Trace) (O : RunOptions) (Tells : ℕ → Type 0) (H : History) (p 
   change_other : (a : Act) → is_change a ≡ true → is_other a ≡ true
   change_other (Weight tenant weight) h = refl
   change_other (Workers count) h = refl
+  change_other (Withdraw request) h = refl
   change_other _ h = absurd (false≢true h)
 
   -- nobody changes weights or the number of workers

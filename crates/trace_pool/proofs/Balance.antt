@@ -1,18 +1,18 @@
 -- How many entries a legal history has, and what its Takes come to.
-use Rattle.std.proofs.Common.{◌≡◌, ◌<◌, ◌≤◌, ◌+◌, ◌*◌, ◌^◌, ◌==◌, ℕ, suc, true, false, cond, [], ◌∷◌, ◌++◌, length, refl, sym, arith, Option, Some, None, if◌then◌else◌}
+use Rattle.std.proofs.Common.{◌≡◌, ◌<◌, ◌≤◌, ◌+◌, ◌*◌, ◌^◌, ◌==◌, ℕ, suc, true, false, cond, [], ◌∷◌, ◌++◌, length, refl, sym, ap, arith, Option, Some, None, if◌then◌else◌, ◌≢◌}
 use Rattle.std.proofs.lemmas.Bool.{eq-eqb, ne_eqb, or_parts, or_left, and_left, and_right, and_from, not_from_false, false≢true}
 use Rattle.fq_model.specs.declared.config.Config.{Config}
 use Rattle.fq_model.specs.declared.event.Act.{Act}
-use Rattle.fq_model.specs.declared.event.Act.TheVariants.{Submit, Take, Report, Done, Close, Weight, Workers}
-use Rattle.fq_model.specs.History.{History, Request, request_at, request_in, has_act, count_acts, is_change, is_close, is_closed, is_submitted, is_taken, is_waiting, waiting, running, submits}
+use Rattle.fq_model.specs.declared.event.Act.TheVariants.{Submit, Take, Report, Done, Close, Weight, Workers, Withdraw}
+use Rattle.fq_model.specs.History.{History, Request, request_at, request_in, has_act, count_acts, is_change, is_close, is_closed, is_submitted, is_removed, is_waiting, waiting, running, submits}
 use Rattle.fq_model.specs.Limits.{InLimits}
 use Rattle.fq_model.specs.Rules.{IsLegal, Fits}
 use Rattle.fq_model.specs.Sums.{sum_below}
 use Rattle.fq_laws.specs.Words.{one_more}
 use Rattle.fq_laws.proofs.Sums.{sum_at, sum_zero}
 use Rattle.fq_laws.proofs.History.Counts.{running_submit, running_report, waiting_report, waiting_done, running_quiet, waiting_quiet, waiting_none, running_none}
-use Rattle.fq_laws.proofs.History.Numbers.{waiting_submitted, waiting_taken, running_taken, running_finished, next_small, take_request_small}
-use Rattle.fq_laws.proofs.History.Requests.{fresh_unsubmitted, fresh_untaken, asked_stays}
+use Rattle.fq_laws.proofs.History.Numbers.{waiting_submitted, waiting_taken, running_taken, running_finished, next_small, take_request_small, waits_number_small}
+use Rattle.fq_laws.proofs.History.Requests.{fresh_unsubmitted, fresh_unremoved, asked_stays}
 use Rattle.fq_laws.proofs.Rules.Takes.{take_waits}
 use Rattle.trace_pool.proofs.Parts.{acts}
 use Rattle.trace_pool.proofs.Sums.{act_sum, number_weight, take_weight, submit_weight, report_weight}
@@ -40,6 +40,7 @@ balanced_at C P who m (Done worker request cost) lim l f n h =
 balanced_at C P who m Close lim l f n h = omega (arith, h, waiting_quiet P who m Close refl, running_quiet P who m Close refl)
 balanced_at C P who m (Weight tenant weight) lim l f n h = absurd (false≢true (sym n))
 balanced_at C P who m (Workers count) lim l f n h = absurd (false≢true (sym n))
+balanced_at C P who m (Withdraw request) lim l f n h = absurd (false≢true (sym n))
 
 pub balanced : (C : Config) (P : History) → InLimits C → IsLegal C P → has_act is_change P ≡ false → Balanced P
 balanced C [] lim l n = omega (arith, waiting_none, running_none)
@@ -47,7 +48,7 @@ balanced C (e ∷ P) lim l n =
     let x = or_parts (is_change e.act) (has_act is_change P) n in
     balanced_at C P e.who e.moment e.act lim l.0 l.3 x.0 (balanced C P lim l.0 x.1)
 
--- ---- what is submitted waits or was taken
+-- ---- what is taken or waits is submitted
 
 -- what is made of the numbers of the requests that wait
 abbrev waits : (ℕ → ℕ) → History → ℕ → ℕ
@@ -56,17 +57,18 @@ waits h P r = cond (is_waiting P r) (h r) 0
 abbrev waiting_sum : (ℕ → ℕ) → History → ℕ
 waiting_sum h P = sum_below (waits h P) (2 ^ 32)
 
+-- no more is made of those that are taken and of those that wait than of those that are submitted
 abbrev Covered : (ℕ → ℕ) → History → Type 0
-Covered h P = act_sum (number_weight h) (acts P) ≡ act_sum (take_weight h) (acts P) + waiting_sum h P
+Covered h P = act_sum (take_weight h) (acts P) + waiting_sum h P ≤ act_sum (number_weight h) (acts P)
 
 sum_submit : (C : Config) (h : ℕ → ℕ) (P : History) (who m request tenant kind declared label : ℕ) → InLimits C → IsLegal C P → request ≡ submits P → waiting_sum h (one_more who m (Submit request tenant kind declared label) P) ≡ waiting_sum h P + h request
-unfolding is_waiting is_submitted is_taken
+unfolding is_waiting is_submitted is_removed
 sum_submit C h P who m request tenant kind declared label lim l n =
     let low : submits P ≤ request = omega arith in
     let fresh : is_submitted P request ≡ false = fresh_unsubmitted C P request l low in
-    let untaken : is_taken P request ≡ false = fresh_untaken C P request l low in
+    let there : is_removed P request ≡ false = fresh_unremoved C P request l low in
     let old : is_waiting P request ≡ false = and_left _ _ fresh in
-    let new : is_waiting (one_more who m (Submit request tenant kind declared label) P) request ≡ true = and_from _ _ (or_left _ _ (eq-eqb request request refl)) (not_from_false _ untaken) in
+    let new : is_waiting (one_more who m (Submit request tenant kind declared label) P) request ≡ true = and_from _ _ (or_left _ _ (eq-eqb request request refl)) (not_from_false _ there) in
     let before : waits h P request ≡ 0 = rw old refl in
     let after : waits h (one_more who m (Submit request tenant kind declared label) P) request ≡ h request = rw new refl in
     omega (
@@ -77,33 +79,41 @@ sum_submit C h P who m request tenant kind declared label lim l n =
           (λ s ne. let no : (request == s) ≡ false = ne_eqb request s (λ e. ne (sym e)) in rw no refl),
     )
 
-sum_take : (C : Config) (h : ℕ → ℕ) (P : History) (who m w request estimate : ℕ) → request < 2 ^ 32 → is_waiting P request ≡ true → waiting_sum h P ≡ waiting_sum h (one_more who m (Take w request estimate) P) + h request
-unfolding is_waiting is_submitted is_taken
-sum_take C h P who m w request estimate small old =
-    let new : is_waiting (one_more who m (Take w request estimate) P) request ≡ false = (let yes : (request == request) ≡ true = eq-eqb request request refl in rw yes (and_right _ _ refl)) in
+-- where one that waited does not, and each other waits or not as before
+sum_gone : (h : ℕ → ℕ) (P Q : History) (request : ℕ) → request < 2 ^ 32 → is_waiting P request ≡ true → is_waiting Q request ≡ false → ((s : ℕ) → s ≢ request → is_waiting P s ≡ is_waiting Q s) → waiting_sum h P ≡ waiting_sum h Q + h request
+sum_gone h P Q request small old new same =
     let before : waits h P request ≡ h request = rw old refl in
-    let after : waits h (one_more who m (Take w request estimate) P) request ≡ 0 = rw new refl in
-    omega (
-      arith,
-      before,
-      after,
-      sum_at (waits h P) (waits h (one_more who m (Take w request estimate) P)) request (2 ^ 32) small
-          (λ s ne. let no : (request == s) ≡ false = ne_eqb request s (λ e. ne (sym e)) in rw no refl),
-    )
+    let after : waits h Q request ≡ 0 = rw new refl in
+    omega (arith, before, after, sum_at (waits h P) (waits h Q) request (2 ^ 32) small (λ s ne. ap (λ b. cond b (h s) 0) (same s ne)))
+
+sum_take : (h : ℕ → ℕ) (P : History) (who m w request estimate : ℕ) → request < 2 ^ 32 → is_waiting P request ≡ true → waiting_sum h P ≡ waiting_sum h (one_more who m (Take w request estimate) P) + h request
+unfolding is_waiting is_submitted is_removed
+sum_take h P who m w request estimate small old =
+    sum_gone h P (one_more who m (Take w request estimate) P) request small old
+    (let yes : (request == request) ≡ true = eq-eqb request request refl in rw yes (and_right _ _ refl))
+    (λ s ne. let no : (request == s) ≡ false = ne_eqb request s (λ e. ne (sym e)) in rw no refl)
+
+sum_withdraw : (h : ℕ → ℕ) (P : History) (who m request : ℕ) → request < 2 ^ 32 → is_waiting P request ≡ true → waiting_sum h P ≡ waiting_sum h (one_more who m (Withdraw request) P) + h request
+unfolding is_waiting is_submitted is_removed
+sum_withdraw h P who m request small old =
+    sum_gone h P (one_more who m (Withdraw request) P) request small old
+    (let yes : (request == request) ≡ true = eq-eqb request request refl in rw yes (and_right _ _ refl))
+    (λ s ne. let no : (request == s) ≡ false = ne_eqb request s (λ e. ne (sym e)) in rw no refl)
 
 covered_at : (C : Config) (h : ℕ → ℕ) (P : History) (who m : ℕ) (a : Act) → InLimits C → IsLegal C P → Fits C P m a → Covered h P → Covered h (one_more who m a P)
-unfolding is_waiting is_submitted is_taken
+unfolding is_waiting is_submitted is_removed
 covered_at C h P who m (Submit request tenant kind declared label) lim l f ih = omega (arith, ih, sum_submit C h P who m request tenant kind declared label lim l f.numbered)
 covered_at C h P who m (Take worker request estimate) lim l f ih =
-    omega (arith, ih, sum_take C h P who m worker request estimate (take_request_small C P m worker request estimate lim l f) (take_waits C P m worker request estimate f))
+    omega (arith, ih, sum_take h P who m worker request estimate (take_request_small C P m worker request estimate lim l f) (take_waits C P m worker request estimate f))
 covered_at C h P who m (Report worker request used) lim l f ih = let same : waiting_sum h (one_more who m (Report worker request used) P) ≡ waiting_sum h P = refl in omega (arith, ih, same)
 covered_at C h P who m (Done worker request cost) lim l f ih = let same : waiting_sum h (one_more who m (Done worker request cost) P) ≡ waiting_sum h P = refl in omega (arith, ih, same)
 covered_at C h P who m Close lim l f ih = let same : waiting_sum h (one_more who m Close P) ≡ waiting_sum h P = refl in omega (arith, ih, same)
 covered_at C h P who m (Weight tenant weight) lim l f ih = let same : waiting_sum h (one_more who m (Weight tenant weight) P) ≡ waiting_sum h P = refl in omega (arith, ih, same)
 covered_at C h P who m (Workers count) lim l f ih = let same : waiting_sum h (one_more who m (Workers count) P) ≡ waiting_sum h P = refl in omega (arith, ih, same)
+covered_at C h P who m (Withdraw request) lim l f ih = omega (arith, ih, sum_withdraw h P who m request (waits_number_small C P request lim l f) f)
 
 covered : (C : Config) (h : ℕ → ℕ) (P : History) → InLimits C → IsLegal C P → Covered h P
-unfolding is_waiting is_submitted is_taken
+unfolding is_waiting is_submitted is_removed
 covered C h [] lim l = omega (arith, sum_zero (waits h []) (2 ^ 32) (λ r. refl))
 covered C h (e ∷ P) lim l = covered_at C h P e.who e.moment e.act lim l.0 l.3 (covered C h P lim l.0)
 

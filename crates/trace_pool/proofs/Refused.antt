@@ -6,7 +6,7 @@ use Rattle.std.proofs.lemmas.Bool.Decides.{nat_tests}
 use Rattle.vt_fixed.specs.declared.limits.TheConstants.{GREATEST_COST}
 use Rattle.fq_model.specs.declared.config.Config.{Config}
 use Rattle.fq_model.specs.declared.event.Act.{Act}
-use Rattle.fq_model.specs.declared.event.Act.TheVariants.{Submit, Take, Report, Done, Close, Weight, Workers}
+use Rattle.fq_model.specs.declared.event.Act.TheVariants.{Submit, Take, Report, Done, Close, Weight, Workers, Withdraw}
 use Rattle.fq_model.specs.declared.event.Cause.{Cause}
 use Rattle.fq_model.specs.declared.event.Reply.TheVariants as answer
 use Rattle.program_model.specs.declared.trace.RunOptions.{RunOptions}
@@ -21,7 +21,7 @@ use Rattle.program_model.specs.Trace.{Trace}
 use Rattle.program_model.specs.TraceText.{IsLawfulTrace, IsLawfulRow}
 use Rattle.fq_laws.specs.Words.{one_more}
 use Rattle.fq_laws.proofs.History.Counts.{waiting_report, waiting_done, waiting_quiet, waiting_none}
-use Rattle.fq_laws.proofs.History.Numbers.{waiting_submitted, waiting_taken}
+use Rattle.fq_laws.proofs.History.Numbers.{waiting_submitted, waiting_taken, waiting_withdrawn}
 use Rattle.fq_laws.proofs.History.Requests.{IsKnown, submitted_below}
 use Rattle.gate_rules.specs.declared.rows.Row.{Row}
 use Rattle.worker_gate.specs.Feeding.{Splits, IsRefused, ClosesAt, is_last_submit}
@@ -102,6 +102,7 @@ waiting_at C P who m (Done worker request cost) lim l f h = omega (arith, h, wai
 waiting_at C P who m Close lim l f h = omega (arith, h, waiting_quiet P who m Close refl)
 waiting_at C P who m (Weight tenant weight) lim l f h = omega (arith, h, waiting_quiet P who m (Weight tenant weight) refl)
 waiting_at C P who m (Workers count) lim l f h = omega (arith, h, waiting_quiet P who m (Workers count) refl)
+waiting_at C P who m (Withdraw request) lim l f h = omega (arith, h, waiting_withdrawn C P who m request lim l f)
 
 waiting_low : (C : Config) (P : History) → InLimits C → IsLegal C P → waiting P ≤ submits P
 waiting_low C [] lim l = omega (arith, waiting_none)

@@ -5,13 +5,13 @@ use Rattle.std.proofs.lemmas.Bool.{cases_Bool, eqb-true, or_cases, or_parts, bot
 use Rattle.std.proofs.lemmas.Bool.Decides.{nat_tests}
 use Rattle.fq_model.specs.declared.config.Config.{Config}
 use Rattle.fq_model.specs.declared.event.Act.{Act}
-use Rattle.fq_model.specs.declared.event.Act.TheVariants.{Submit, Workers, Take}
+use Rattle.fq_model.specs.declared.event.Act.TheVariants.{Submit, Workers, Take, Withdraw}
 use Rattle.fq_model.specs.declared.event.Cause.{Cause}
 use Rattle.fq_model.specs.declared.event.Reply.{Reply}
 use Rattle.fq_model.specs.declared.event.Reply.TheVariants as answer
 use Rattle.program_model.specs.declared.trace.RunOptions.{RunOptions}
 use Rattle.program_model.specs.Courses.{submitters, worker_caller}
-use Rattle.fq_model.specs.History.{History, history_of, has_act, is_change, is_close, is_closed, is_submit_of, is_submitted, is_take_of, is_taken, is_done_of, is_done, is_waiting, waiting, pool_at, pool_after, request_bound}
+use Rattle.fq_model.specs.History.{History, history_of, has_act, is_change, is_close, is_closed, is_submit_of, is_submitted, is_take_of, is_taken, is_removed, is_done_of, is_done, is_waiting, waiting, pool_at, pool_after, request_bound}
 use Rattle.fq_model.specs.Limits.{InLimits}
 use Rattle.program_model.specs.RunLimits.{AreInRange}
 use Rattle.fq_model.specs.Outcome.{own_entries}
@@ -19,6 +19,7 @@ use Rattle.program_model.specs.PoolHistory.{pool_config, IsServedOnce}
 use Rattle.fq_model.specs.Rules.{IsLegal, Fits, AnswersFree, AnswersPooled, RefusedOrElse, RunsChosen, take_refusal}
 use Rattle.program_model.specs.Trace.{Trace}
 use Rattle.fq_laws.proofs.Sums.{count_some}
+use Rattle.fq_laws.proofs.History.Asked.{untaken_unremoved}
 use Rattle.fq_laws.proofs.History.Numbers.{submitted_small}
 use Rattle.fq_laws.proofs.History.Once.{taken_once}
 use Rattle.worker_gate.specs.Running.{EndsWork, with_runs}
@@ -33,6 +34,7 @@ use Rattle.trace_pool.proofs.Sums.{any_act, counted, has_is, has_less, has_withi
 
 pool_same_at : (a : Act) (n : ℕ) → is_change a ≡ false → pool_after a n ≡ n
 pool_same_at (Workers count) n h = absurd (false≢true (sym h))
+pool_same_at (Withdraw request) n h = absurd (false≢true (sym h))
 pool_same_at _ n h = refl
 
 pool_same : (C : Config) (P : History) → has_act is_change P ≡ false → pool_at C P ≡ C.workers
@@ -75,24 +77,28 @@ submitted_before C (e ∷ newer) P r l closed h = elim (or_cases (is_submit_of r
   | inr was ↦ submitted_before C newer P r l.0 closed was
 ]
 
-waits_so : (P : History) (r : ℕ) → is_submitted P r ≡ true → is_taken P r ≡ false → is_waiting P r ≡ true
+waits_so : (P : History) (r : ℕ) → has_act is_change P ≡ false → is_submitted P r ≡ true → is_taken P r ≡ false → is_waiting P r ≡ true
 unfolding is_waiting
-waits_so P r s t = and_from (is_submitted P r) (not (is_taken P r)) s (not_from_false (is_taken P r) t)
+waits_so P r still s t = and_from (is_submitted P r) (not (is_removed P r)) s (not_from_false (is_removed P r) (untaken_unremoved P r still t))
 
--- where nothing waits, what is submitted is taken
-taken_where_none_waits : (C : Config) (P : History) (r : ℕ) → InLimits C → IsLegal C P → waiting P ≡ 0 → is_submitted P r ≡ true → is_taken P r ≡ true
+-- where nothing waits and nothing was changed, what is submitted is taken
+taken_where_none_waits : (C : Config) (P : History) (r : ℕ) → InLimits C → IsLegal C P → has_act is_change P ≡ false → waiting P ≡ 0 → is_submitted P r ≡ true → is_taken P r ≡ true
 unfolding waiting request_bound
-taken_where_none_waits C P r lim l none h = elim (cases_Bool (is_taken P r)) [
+taken_where_none_waits C P r lim l still none h = elim (cases_Bool (is_taken P r)) [
   | inl is ↦ is
-  | inr free ↦ (let some : 1 ≤ waiting P = count_some (is_waiting P) r (2 ^ 32) (submitted_small C P r lim l h) (waits_so P r h free) in absurd (omega (arith, none, some)))
+  | inr free ↦ (let some : 1 ≤ waiting P = count_some (is_waiting P) r (2 ^ 32) (submitted_small C P r lim l h) (waits_so P r still h free) in absurd (omega (arith, none, some)))
 ]
 
 module _ (T : Trace) (O : RunOptions) (Tells : ℕ → Type 0) (H : History) (range : AreInRange O) (lim : InLimits (pool_config T O)) (p : PoolParts T O Tells H) where
-  -- what worker i has seen is over
+  -- in what worker i has seen nothing was changed
+  seen_still : (i : ℕ) (w : WorkPart T O Tells H i) → has_act is_change (history_of w.seen) ≡ false
+  seen_still i w = none_within is_change w.sees.newer (history_of w.seen) (ap (has_act is_change) (sym w.sees.begins) ∙ no_change T O Tells H p)
+
+  -- and it is over
   seen_over : (i : ℕ) → i < O.workers → (w : WorkPart T O Tells H i) → IsOver (history_of w.seen)
   seen_over i h w =
       let C : Config = pool_config T O in
-      let still : has_act is_change (history_of w.seen) ≡ false = none_within is_change w.sees.newer (history_of w.seen) (ap (has_act is_change) (sym w.sees.begins) ∙ no_change T O Tells H p) in
+      let still : has_act is_change (history_of w.seen) ≡ false = seen_still i w in
       over_taken C (history_of w.seen) w.number w.moment i w.reply (take_refusal C (history_of w.seen) i) (subst (λ n. i < n) (sym (pool_same C (history_of w.seen) still)) h) w.turned_away w.ends
 
   all_taken : (i r : ℕ) → i < O.workers → (w : WorkPart T O Tells H i) → is_submitted H r ≡ true → has_act (is_take_of r) H ≡ true
@@ -103,7 +109,7 @@ module _ (T : Trace) (O : RunOptions) (Tells : ℕ → Type 0) (H : History) (ra
       let over : IsOver P = seen_over i h w in
       let legal : IsLegal C (w.sees.newer ++ P) = subst (IsLegal C) w.sees.begins p.legal in
       let submitted : is_submitted P r ≡ true = submitted_before C w.sees.newer P r legal over.1 (subst (λ Q. is_submitted Q r ≡ true) w.sees.begins s) in
-      let taken : has_act (is_take_of r) P ≡ true = taken_where_none_waits C P r lim (legal_older C w.sees.newer P legal) over.0 submitted in
+      let taken : has_act (is_take_of r) P ≡ true = taken_where_none_waits C P r lim (legal_older C w.sees.newer P legal) (seen_still i w) over.0 submitted in
       ap (has_act (is_take_of r)) w.sees.begins ∙ has_within (is_take_of r) w.sees.newer P taken
 
   take_other : (r : ℕ) (a : Act) → is_take_of r a ≡ true → is_other a ≡ true

@@ -106,7 +106,7 @@ all_done T O P a r p k n l = by_bool (is_taken P r) refl (is_done P r) refl
     by_bool t e true f = f
     by_bool false e false f =
         let sub : is_submitted P r ≡ true = submitted_all (run_config T O) P r k.legal (omega (arith, n.timed.requests, k.submitted_is)) in
-        absurd (none_waits P r (omega (arith, bound_high, p.lawful.few)) (zero_waits T O P a p k n) (and_from _ _ sub (not_from_false _ e)))
+        absurd (none_waits P r (omega (arith, bound_high, p.lawful.few)) (zero_waits T O P a p k n) (and_from _ _ sub (not_from_false _ (untaken_unremoved P r k.unchanged e))))
     by_bool true e false f =
         let on = somewhere P r e f in
         let s = served_by T O P a r on.0 k on.1 in

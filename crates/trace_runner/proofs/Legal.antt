@@ -3,7 +3,7 @@ use Rattle.std.proofs.Common.{ℕ, zero, suc, ◌+◌, ◌*◌, ◌<◌, ◌≤�
 use Rattle.std.proofs.lemmas.Bool.{cases_eq, eq-eqb, ne_eqb, false≢true, both_ways, or_parts, or_cases, or_left, or_right, and_from, cond-true, cond-false}
 use Rattle.fq_model.specs.declared.config.Config.{Config}
 use Rattle.fq_model.specs.declared.event.Act.{Act}
-use Rattle.fq_model.specs.declared.event.Act.TheVariants.{Submit, Take, Report, Done, Close, Weight, Workers}
+use Rattle.fq_model.specs.declared.event.Act.TheVariants.{Submit, Take, Report, Done, Close, Weight, Workers, Withdraw}
 use Rattle.fq_model.specs.declared.event.Entry.{Entry}
 use Rattle.program_model.specs.Courses.{course, serves}
 use Rattle.fq_model.specs.History.{History, has_act, count_acts, is_submitted, is_taken, is_done, is_closed, is_change, is_take_of, is_take_by, is_submit_of, is_waiting, waiting, running, submits, with_submit, last_use, use_in, Runs, pool_at, request_bound}
@@ -21,6 +21,7 @@ use Rattle.fq_laws.proofs.Rules.Limits.{submitted_count}
 
 pool_kept : (C : Config) (P : History) (a : Act) (pool : ℕ) → is_change a ≡ false → Rattle.fq_model.specs.History.pool_after a pool ≡ pool
 pool_kept C P (Workers count) pool h = absurd (false≢true (sym h))
+pool_kept C P (Withdraw request) pool h = absurd (false≢true (sym h))
 pool_kept C P (Close) pool h = refl
 pool_kept C P _ pool h = refl
 
@@ -127,6 +128,7 @@ counted_at C P who m (Done w q c) lim l f o n ih = omega (arith, ih, waiting_don
 counted_at C P who m Close lim l f o n ih = absurd (false≢true (sym o))
 counted_at C P who m (Weight t w) lim l f o n ih = absurd (false≢true (sym n))
 counted_at C P who m (Workers c) lim l f o n ih = absurd (false≢true (sym n))
+counted_at C P who m (Withdraw request) lim l f o n ih = absurd (false≢true (sym n))
 
 -- each request will have a Submit, a Take and a Done
 pub counted : (C : Config) (P : History) → InLimits C → IsLegal C P → is_closed P ≡ false → has_act is_change P ≡ false → length P + 2 * waiting P + running P ≡ 3 * submits P + reports P

@@ -3,7 +3,7 @@ use Rattle.std.proofs.Common.{ℕ, ◌<◌, ◌≤◌, ◌≡◌, ◌⊎◌, Boo
 use Rattle.std.proofs.lemmas.Bool.{cases_lt, eq-eqb, false≢true, both_ways, or_left}
 use Rattle.std.proofs.lemmas.List.{reverse-reverse}
 use Rattle.fq_model.specs.declared.event.Act.{Act}
-use Rattle.fq_model.specs.declared.event.Act.TheVariants.{Submit, Take, Report, Done, Close, Weight, Workers}
+use Rattle.fq_model.specs.declared.event.Act.TheVariants.{Submit, Take, Report, Done, Close, Weight, Workers, Withdraw}
 use Rattle.fq_model.specs.declared.event.Entry.{Entry}
 use Rattle.program_model.specs.declared.trace.RunOptions.{RunOptions}
 use Rattle.program_model.specs.declared.trace.TraceRow.{TraceRow}
@@ -59,6 +59,7 @@ after_take T O P m i r estimate f b known fit low h (inr s) = by_act f.act refl 
     by_act Close is run k2 = unsettled T O P m i r estimate b known fit (h.busy.settled (inr is))
     by_act (Weight t w) is run k2 = false≢true (sym (sym (ap is_change is) ∙ h.kept))
     by_act (Workers c) is run k2 = false≢true (sym (sym (ap is_change is) ∙ h.kept))
+    by_act (Withdraw request) is run k2 = false≢true (sym (sym (ap is_change is) ∙ h.kept))
 
 -- ---- the end
 
@@ -133,6 +134,7 @@ after_close T O e f es fs P ec s t = by_act f.act refl h.legal.3
     by_act Close is fit = is
     by_act (Weight t1 w) is fit = absurd (false≢true (sym (sym (ap is_change is) ∙ h.kept)))
     by_act (Workers c) is fit = absurd (false≢true (sym (sym (ap is_change is) ∙ h.kept)))
+    by_act (Withdraw request) is fit = absurd (false≢true (sym (sym (ap is_change is) ∙ h.kept)))
 
 -- ---- nothing is skipped
 
@@ -166,6 +168,7 @@ no_skip T O e f es fs P few s t b = by_act e.act refl h.legal.3
         irrefl e (subst (λ x. Before e x) ((ends_here f fs P c t.closed).is ∙ sym (ends_here e es P is s.closed).is) b)
     by_act (Weight t1 w) is fit = false≢true (sym (sym (ap is_change is) ∙ h.kept))
     by_act (Workers c) is fit = false≢true (sym (sym (ap is_change is) ∙ h.kept))
+    by_act (Withdraw request) is fit = false≢true (sym (sym (ap is_change is) ∙ h.kept))
 
 -- ---- the next entries agree
 
@@ -208,6 +211,7 @@ submit_rank (Done w q c) i h = absurd (omega (arith, class_of 1 w 2 i h))
 submit_rank Close i h = absurd (omega (arith, class_of 4 0 2 i h))
 submit_rank (Weight t w) i h = absurd (omega (arith, class_of 4 0 2 i h))
 submit_rank (Workers n) i h = absurd (omega (arith, class_of 4 0 2 i h))
+submit_rank (Withdraw request) i h = absurd (omega (arith, class_of 4 0 2 i h))
 
 take_rank : (a : Act) (i : ℕ) → rank a ≡ (3, i) → (r : ℕ) × (estimate : ℕ) × (a ≡ Take i r estimate)
 take_rank (Submit q t k d l) i h = absurd (omega (arith, class_of 2 q 3 i h))
@@ -217,6 +221,7 @@ take_rank (Done w q c) i h = absurd (omega (arith, class_of 1 w 3 i h))
 take_rank Close i h = absurd (omega (arith, class_of 4 0 3 i h))
 take_rank (Weight t w) i h = absurd (omega (arith, class_of 4 0 3 i h))
 take_rank (Workers n) i h = absurd (omega (arith, class_of 4 0 3 i h))
+take_rank (Withdraw request) i h = absurd (omega (arith, class_of 4 0 3 i h))
 
 report_rank : (a : Act) (i : ℕ) → rank a ≡ (0, i) → (r : ℕ) × (used : ℕ) × (a ≡ Report i r used)
 report_rank (Submit q t k d l) i h = absurd (omega (arith, class_of 2 q 0 i h))
@@ -226,6 +231,7 @@ report_rank (Done w q c) i h = absurd (omega (arith, class_of 1 w 0 i h))
 report_rank Close i h = absurd (omega (arith, class_of 4 0 0 i h))
 report_rank (Weight t w) i h = absurd (omega (arith, class_of 4 0 0 i h))
 report_rank (Workers n) i h = absurd (omega (arith, class_of 4 0 0 i h))
+report_rank (Withdraw request) i h = absurd (omega (arith, class_of 4 0 0 i h))
 
 done_rank : (a : Act) (i : ℕ) → rank a ≡ (1, i) → (r : ℕ) × (cost : ℕ) × (a ≡ Done i r cost)
 done_rank (Submit q t k d l) i h = absurd (omega (arith, class_of 2 q 1 i h))
@@ -235,6 +241,7 @@ done_rank (Done w q c) i h = (q, c, ap (λ n. Done n q c) (number_of 1 w 1 i h))
 done_rank Close i h = absurd (omega (arith, class_of 4 0 1 i h))
 done_rank (Weight t w) i h = absurd (omega (arith, class_of 4 0 1 i h))
 done_rank (Workers n) i h = absurd (omega (arith, class_of 4 0 1 i h))
+done_rank (Withdraw request) i h = absurd (omega (arith, class_of 4 0 1 i h))
 
 close_rank : (a : Act) → rank a ≡ (4, 0) → is_change a ≡ false → a ≡ Close
 close_rank (Submit q t k d l) h c = absurd (omega (arith, class_of 2 q 4 0 h))
@@ -244,6 +251,7 @@ close_rank (Done w q k) h c = absurd (omega (arith, class_of 1 w 4 0 h))
 close_rank Close h c = refl
 close_rank (Weight t w) h c = absurd (false≢true (sym c))
 close_rank (Workers n) h c = absurd (false≢true (sym c))
+close_rank (Withdraw request) h c = absurd (false≢true (sym c))
 
 agree : (T : Trace) (O : RunOptions) (e f : Entry) (es fs : List Entry) (P : History) → IsSimulated T O (onto (e ∷ es) P) → IsSimulated T O (onto (f ∷ fs) P) → e.moment ≡ f.moment → rank e.act ≡ rank f.act → e ≡ f
 unfolding onto
@@ -290,6 +298,7 @@ agree T O e f es fs P s t m k = by_act e.act refl h.legal.3
         (ends_here e es P is s.closed).is ∙ sym (ends_here f fs P c t.closed).is
     by_act (Weight t1 w) is fit = absurd (false≢true (sym (sym (ap is_change is) ∙ h.kept)))
     by_act (Workers c) is fit = absurd (false≢true (sym (sym (ap is_change is) ∙ h.kept)))
+    by_act (Withdraw request) is fit = absurd (false≢true (sym (sym (ap is_change is) ∙ h.kept)))
 
 -- ---- one simulated history
 

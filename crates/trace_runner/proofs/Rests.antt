@@ -4,7 +4,7 @@ use Rattle.std.proofs.lemmas.Bool.{cases_lt, false≢true, both_ways, cond-true,
 use Rattle.std.proofs.lemmas.List.{reverse-append, reverse-reverse, append_cancel_right, length-reverse}
 use Rattle.fq_model.specs.declared.config.Config.{Config}
 use Rattle.fq_model.specs.declared.event.Act.{Act}
-use Rattle.fq_model.specs.declared.event.Act.TheVariants.{Submit, Take, Report, Done, Close, Weight, Workers}
+use Rattle.fq_model.specs.declared.event.Act.TheVariants.{Submit, Take, Report, Done, Close, Weight, Workers, Withdraw}
 use Rattle.fq_model.specs.declared.event.Entry.{Entry}
 use Rattle.program_model.specs.declared.trace.RunOptions.{RunOptions}
 use Rattle.program_model.specs.declared.trace.TraceRow.{TraceRow}
@@ -89,6 +89,7 @@ closes (Report w q u) h = absurd (false≢true h)
 closes (Done w q c) h = absurd (false≢true h)
 closes (Weight t w) h = absurd (false≢true h)
 closes (Workers c) h = absurd (false≢true h)
+closes (Withdraw request) h = absurd (false≢true h)
 
 pub open_rank : (a : Act) → is_close a ≡ false → is_change a ≡ false → RankBefore (rank a) (4, 0)
 open_rank (Submit q t k d l) o c = inl (omega arith)
@@ -98,6 +99,7 @@ open_rank (Done w q k) o c = inl (omega arith)
 open_rank Close o c = absurd (false≢true (sym o))
 open_rank (Weight t w) o c = absurd (false≢true (sym c))
 open_rank (Workers n) o c = absurd (false≢true (sym c))
+open_rank (Withdraw request) o c = absurd (false≢true (sym c))
 
 -- ---- what is known of an entry and the history before it
 

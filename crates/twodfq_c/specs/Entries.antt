@@ -40,6 +40,7 @@ plain_act (act.Done worker request cost) = run_by 3 worker request cost
 plain_act act.Close = numbers 4 0 0 0 0 0 0
 plain_act (act.Weight tenant weight) = numbers 5 0 tenant 0 0 weight 0
 plain_act (act.Workers count) = numbers 6 0 0 0 0 count 0
+plain_act (act.Withdraw request) = numbers 7 request 0 0 0 0 0
 
 -- the act's numbers, with who did it and when
 abbrev pub plain_entry : Entry → PlainEntry

@@ -31,6 +31,7 @@ plain_cause cause.NotRunning = numbered 24 0 0
 plain_cause (cause.Falling last given) = numbered 25 last given
 plain_cause (cause.Weight weight) = numbered 26 weight 0
 plain_cause (cause.Workers workers) = numbered 27 workers 0
+plain_cause (cause.NotWaiting request) = requested 28 request 0 0
 
 abbrev pub plain_reply : Reply → PlainReply
 plain_reply (answer.Request request) = requested 0 request 0 0
@@ -39,4 +40,5 @@ plain_reply answer.Accepted = numbered 2 0 0
 plain_reply answer.Idle = numbered 3 0 0
 plain_reply answer.Drained = numbered 4 0 0
 plain_reply (answer.Retired workers) = numbered 5 workers 0
+plain_reply (answer.Withdrawn label) = numbered 6 0 label
 plain_reply (answer.Refused why) = plain_cause why

@@ -16,6 +16,7 @@ use fq_model::event::{Act, Entry};
 /// | 4 | close | | | | | | |
 /// | 5 | weight | | the tenant | | | weight | |
 /// | 6 | workers | | | | | how many | |
+/// | 7 | withdraw | its number | | | | | |
 /// | 255 | no entry that is kept has the index | | | | | first index of one that is | |
 #[repr(C)]
 #[derive(Clone, Copy, Debug, PartialEq, Eq)]
@@ -112,6 +113,11 @@ fn of_act(act: Act) -> PlainEntry
         Act::Workers { count } => PlainEntry {
             kind: 6,
             amount: count as u64,
+            ..BLANK
+        },
+        Act::Withdraw { request } => PlainEntry {
+            kind: 7,
+            request,
             ..BLANK
         },
     }

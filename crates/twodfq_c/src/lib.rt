@@ -178,6 +178,25 @@ pub extern "C" fn twodfq_workers(
     handle.call(alloc, call)
 }
 
+/// A request that waits is withdrawn: it is never taken.
+#[unsafe(no_mangle)]
+pub extern "C" fn twodfq_withdraw(
+    handle: &mut Handle,
+    alloc: Global,
+    who: u32,
+    moment: u64,
+    request: u32,
+) -> PlainReply
+    ensures { AnswersHeld handle.old.slot.held (call.Withdraw who moment request) result handle.new.slot.held }
+{
+    let call = Call::Withdraw {
+        who,
+        moment,
+        request,
+    };
+    handle.call(alloc, call)
+}
+
 /// Reads one entry of the history, if it is among the last that are kept; the first of all has the index 0.
 #[unsafe(no_mangle)]
 pub extern "C" fn twodfq_entry(handle: &mut Handle, alloc: Global, index: u64) -> PlainEntry

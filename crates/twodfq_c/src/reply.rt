@@ -1,6 +1,6 @@
 //! Replies in plain numbers.
 ghost use Rattle.std.specs.Prelude.{◌≡◌};
-ghost use Rattle.twodfq_c.specs.Replies.{plain_reply, plain_cause, numbered, no_scheduler};
+ghost use Rattle.twodfq_c.specs.Replies.{plain_reply, plain_cause, requested, numbered, no_scheduler};
 
 use fq_model::event::{Cause, Reply};
 
@@ -12,6 +12,7 @@ use fq_model::event::{Cause, Reply};
 /// | 1 | run | its number | estimate, in microseconds | label |
 /// | 2, 3, 4 | accepted, idle, drained | | | |
 /// | 5 | retired | | workers now | |
+/// | 6 | withdrawn | | | label |
 /// | 16 | refused: closed | | | |
 /// | 17, 18 | refused: no such tenant, kind | | the number given | |
 /// | 19 | refused: cost out of its range | | the cost given | |
@@ -21,6 +22,7 @@ use fq_model::event::{Cause, Reply};
 /// | 24 | refused: the worker runs nothing | | | |
 /// | 25 | refused: less than reported before | | reported | given |
 /// | 26, 27 | refused: weight, number of workers out of its range | | the number given | |
+/// | 28 | refused: the request does not wait | that one | | |
 /// | 255 | the handle holds no scheduler | | | |
 #[repr(C)]
 #[derive(Clone, Copy, Debug, PartialEq, Eq)]
@@ -44,12 +46,7 @@ impl PlainReply {
         ensures { result ≡ plain_reply reply }
     {
         match reply {
-            Reply::Request(request) => PlainReply {
-                kind: 0,
-                request,
-                first: 0,
-                second: 0,
-            },
+            Reply::Request(request) => requested(0, request),
             Reply::Run {
                 request,
                 estimate,
@@ -64,6 +61,7 @@ impl PlainReply {
             Reply::Idle => numbered(3, 0, 0),
             Reply::Drained => numbered(4, 0, 0),
             Reply::Retired(workers) => numbered(5, workers as u64, 0),
+            Reply::Withdrawn { label } => numbered(6, 0, label),
             Reply::Refused(cause) => refused(cause),
         }
     }
@@ -81,16 +79,24 @@ fn refused(cause: Cause) -> PlainReply
         Cause::Slots(slots) => numbered(20, slots as u64, 0),
         Cause::Full(entries) => numbered(21, entries as u64, 0),
         Cause::Worker(worker) => numbered(22, worker as u64, 0),
-        Cause::Busy(request) => PlainReply {
-            kind: 23,
-            request,
-            first: 0,
-            second: 0,
-        },
+        Cause::Busy(request) => requested(23, request),
         Cause::NotRunning => numbered(24, 0, 0),
         Cause::Falling { last, given } => numbered(25, last, given),
         Cause::Weight(weight) => numbered(26, weight as u64, 0),
         Cause::Workers(workers) => numbered(27, workers as u64, 0),
+        Cause::NotWaiting(request) => requested(28, request),
+    }
+}
+
+// A reply that names a request and no more.
+fn requested(kind: u32, request: u32) -> PlainReply
+    ensures { result ≡ requested kind request 0 0 }
+{
+    PlainReply {
+        kind,
+        request,
+        first: 0,
+        second: 0,
     }
 }
 

@@ -1,6 +1,7 @@
 use crate::{
     Handle, Opening, twodfq_close, twodfq_done, twodfq_entry, twodfq_free, twodfq_open,
-    twodfq_report, twodfq_status, twodfq_submit, twodfq_take, twodfq_weight, twodfq_workers,
+    twodfq_report, twodfq_status, twodfq_submit, twodfq_take, twodfq_weight, twodfq_withdraw,
+    twodfq_workers,
 };
 use std::test::Fail;
 
@@ -36,6 +37,26 @@ fn a_request_from_its_submit_to_its_entry(rt: HostRuntime) -> Result<(), Fail> {
     assert_eq!(rt; twodfq_entry(&mut handle, rt.alloc(), 4).kind, 255);
     twodfq_free(&mut handle, rt.alloc());
     assert_eq!(rt; twodfq_take(&mut handle, rt.alloc(), 9, 7, 0).kind, 255);
+    Ok(())
+}
+
+// Of two requests the first is withdrawn, and once more.
+#[test]
+fn a_request_is_withdrawn(rt: HostRuntime) -> Result<(), Fail> {
+    let mut handle = Handle::empty();
+    assert_eq!(rt; twodfq_open(&mut handle, rt.alloc(), &OPENING, &[1]), 0);
+    for label in [77, 78] {
+        assert_eq!(rt; twodfq_submit(&mut handle, rt.alloc(), 5, 3, 0, 0, 10, label).kind, 0);
+    }
+    let withdrawn = twodfq_withdraw(&mut handle, rt.alloc(), 5, 4, 0);
+    assert_eq!(rt; (withdrawn.kind, withdrawn.second), (6, 77));
+    let refused = twodfq_withdraw(&mut handle, rt.alloc(), 5, 5, 0);
+    assert_eq!(rt; (refused.kind, refused.request), (28, 0));
+    let run = twodfq_take(&mut handle, rt.alloc(), 9, 6, 0);
+    assert_eq!(rt; (run.kind, run.request), (1, 1));
+    let entry = twodfq_entry(&mut handle, rt.alloc(), 2);
+    assert_eq!(rt; (entry.kind, entry.who, entry.request), (7, 5, 0));
+    twodfq_free(&mut handle, rt.alloc());
     Ok(())
 }
 

@@ -247,6 +247,7 @@ fn add_entry(Entry { who, moment, act }: &Entry, text: &mut String) {
         Act::Close => line("close", format_args!("")),
         Act::Weight { tenant, weight } => line("weight", format_args!(" {tenant} {weight}")),
         Act::Workers { count } => line("workers", format_args!(" {count}")),
+        Act::Withdraw { request } => line("withdraw", format_args!(" {request}")),
     }
 }
 

@@ -7,8 +7,8 @@ use Rattle.std.proofs.Math.Path.{fun_ext}
 use Rattle.std.proofs.lemmas.Bool.{and_parts, ltb-true, ne_eqb, or_from, cases_Bool, cases_eq, and_left}
 use Rattle.vt_fixed.specs.Rounding.{advance_of, length_of, part_of, decay_of}
 use Rattle.fq_model.specs.declared.event.Act.{Act}
-use Rattle.fq_model.specs.declared.event.Act.TheVariants.{Submit, Take, Report, Done, Close, Weight, Workers}
-use Rattle.fq_model.specs.History.{History, Request, request_in, request_at, is_submit_of, is_submitted, is_take_of, is_taken, is_of_tenant, is_waiting, waiting, request_bound, is_running, running, waits_for, head, weight_at, pool_at, is_done, is_closed}
+use Rattle.fq_model.specs.declared.event.Act.TheVariants.{Submit, Take, Report, Done, Close, Weight, Workers, Withdraw}
+use Rattle.fq_model.specs.History.{History, Request, request_in, request_at, is_submit_of, is_submitted, is_take_of, is_taken, is_of_tenant, is_waiting, waiting, request_bound, is_running, running, waits_for, head, weight_at, pool_at, is_done, is_removed, is_ended, is_closed}
 use Rattle.fq_model.specs.declared.event.Entry.{Entry}
 use Rattle.fq_model.specs.Sums.{sum_below, count_below, least_below, first_of}
 use Rattle.fq_model.specs.Time.{is_open, open_requests, is_active, weight_if_active, active_weight, last_moment, virtual_advance, clock_time, virtual_idle_time}
@@ -31,6 +31,7 @@ act_within n k (Done worker request cost) = nat_lt request n
 act_within n k Close = true
 act_within n k (Weight tenant weight) = nat_lt tenant k
 act_within n k (Workers count) = true
+act_within n k (Withdraw request) = nat_lt request n
 
 abbrev pub acts_within : ℕ → ℕ → History → Bool
 acts_within n k [] = true
@@ -334,5 +335,5 @@ turn_is n k C P m i s = ap (λ (v : ℕ). record { policy = C.policy; workers = 
 
 -- the line `unfolding computing` opens all of these
 unfoldable pub computing : Unit {0}
-unfolding sum_below count_below least_below weight_at pool_at length_of advance_of part_of decay_of estimate_at is_submitted is_taken is_done is_closed is_waiting is_running waits_for is_open is_taken_of waiting_within running_within head_within is_active_within active_weight_within advance_within clock_time_within idle_time_within virtual_charge_within clock_base_within pace_within virtual_time_within tag_base_within tag_within start_within keys_within turn_within
+unfolding sum_below count_below least_below weight_at pool_at length_of advance_of part_of decay_of estimate_at is_submitted is_taken is_done is_removed is_ended is_closed is_waiting is_running waits_for is_open is_taken_of waiting_within running_within head_within is_active_within active_weight_within advance_within clock_time_within idle_time_within virtual_charge_within clock_base_within pace_within virtual_time_within tag_base_within tag_within start_within keys_within turn_within
 computing = tt

@@ -3,12 +3,12 @@ use Rattle.std.proofs.Common.{ℕ, ◌+◌, ◌*◌, nat_le, Bool, length, ◌�
 use Rattle.std.proofs.lemmas.Bool.{leb-true, eqb-true, and_parts, false≢true, not-true, ltb-true, eqb-false}
 use Rattle.std.proofs.lemmas.List.Elements.{All-nil, All-cons}
 use Rattle.fq_model.specs.declared.config.Config.{Config}
-use Rattle.fq_model.specs.History.{History, Request, request_at, is_done, is_take_by, has_act, last_use, running_on, submits, is_closed, pool_at}
+use Rattle.fq_model.specs.History.{History, Request, request_at, is_done, is_take_by, has_act, last_use, running_on, submits, is_closed, is_waiting, pool_at}
 use Rattle.fq_model.specs.Rules.{HasRoom, IsChosen, FitsUse, Fits, IsLegal, FitsTake}
 use Rattle.fq_model.specs.Keys.{HeadKeys}
 use Rattle.fq_model.specs.Charge.{request_estimate}
 use Rattle.fq_model.specs.declared.event.Act.{Act}
-use Rattle.fq_model.specs.declared.event.Act.TheVariants.{Submit, Take, Report, Done, Close, Weight, Workers}
+use Rattle.fq_model.specs.declared.event.Act.TheVariants.{Submit, Take, Report, Done, Close, Weight, Workers, Withdraw}
 use Rattle.fq_model.specs.Time.{last_moment}
 use Rattle.fq_model.specs.Limits.{IsWithin, IsWeight, InLimits}
 use Rattle.vt_fixed.specs.declared.limits.TheConstants.{GREATEST_WEIGHT, GREATEST_COST, MOST_WORKERS, GREATEST_MOMENT}
@@ -75,6 +75,7 @@ fits_test n k C P m (Done worker request cost) = use_test P worker request cost
 fits_test n k C P m Close = not (is_closed P)
 fits_test n k C P m (Weight tenant weight) = nat_lt tenant (length C.weights) && (nat_le 1 weight && (nat_le weight GREATEST_WEIGHT && room_test n C P 2))
 fits_test n k C P m (Workers count) = nat_le 1 count && (nat_le count C.workers && room_test n C P 2)
+fits_test n k C P m (Withdraw request) = is_waiting P request
 
 fits_true : (n k : ℕ) (C : Config) (P : History) (m : ℕ) (a : Act) → IsShort n k P → IsLegal C P → fits_test n k C P m a ≡ true → Fits C P m a
 fits_true n k C P m (Submit request tenant kind declared label) s l h =
@@ -117,6 +118,7 @@ fits_true n k C P m (Workers count) s l h =
     let p1 = and_parts _ _ h in
     let p2 = and_parts _ _ p1.1 in
     record { count_in_range = (leb-true _ _ p1.0, leb-true _ _ p2.0); room = room_true n k C P 2 s p2.1 }
+fits_true n k C P m (Withdraw request) s l h = h
 
 abbrev pub legal_test : ℕ → ℕ → Config → History → Bool
 legal_test n k C [] = true

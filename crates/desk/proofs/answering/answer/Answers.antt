@@ -43,3 +43,9 @@ returns-in-Workers-clause-answers g c = told_so g.J.Job.label_of _ _ c.args.who 
 
 pub returns-in-Workers-clause-suits : goal.returns-in-Workers-clause-suits
 returns-in-Workers-clause-suits g c = suits_so _ _ (told.Changed c.workers.result) c.in-Workers.is tt
+
+pub returns-in-Withdraw-clause-answers : goal.returns-in-Withdraw-clause-answers
+returns-in-Withdraw-clause-answers g c = told_so g.J.Job.label_of _ _ c.args.who _ _ (told.Withdrawn c.withdraw.result) c.in-Withdraw.is c.withdraw.ensures.answers
+
+pub returns-in-Withdraw-clause-suits : goal.returns-in-Withdraw-clause-suits
+returns-in-Withdraw-clause-suits g c = suits_so _ _ (told.Withdrawn c.withdraw.result) c.in-Withdraw.is tt

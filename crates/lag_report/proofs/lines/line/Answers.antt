@@ -7,7 +7,7 @@ use Rattle.fq_model.specs.declared.lag.TenantLag.{TenantLag}
 use Rattle.lag_report.specs.declared.samples.Ranked.{Ranked}
 use Rattle.lag_report.specs.Ranked.{ranked}
 use Rattle.lag_report.specs.Work.{GainsAre, lags_from}
-use Rattle.lag_report.proofs.Gains.{gains_low, costs_low, lags_are}
+use Rattle.lag_report.proofs.Gains.{gains_low, lags_are}
 use Rattle.lag_report.proofs.lines.line.Goals as goal
 use Rattle.lag_report.proofs.lines.line.Goals.{After-as_mut_slice}
 
@@ -21,16 +21,13 @@ as_many : (c : After-as_mut_slice) → length c.as_mut_slice.result.now ≡ leng
 as_many c = ap length (lags_of c) ∙ list_length _ (length c.args.served.now)
 
 pub samples-requires-clause-gained : goal.samples-requires-clause-gained
-samples-requires-clause-gained c = omega (arith, ap sum c.as_slice.ensures.value, gains_low c.args.slot (length c.args.served.now) c.args.courses.now c.in_ok-gains.gains.items c.requires.end c.requires.requests c.in_ok-gains.ensures.gains)
+samples-requires-clause-gained c = omega (arith, ap sum c.as_slice.ensures.value, gains_low c.args.slot c.args.courses.now c.in_ok-gains.gains.items c.requires.costs c.in_ok-gains.ensures.gains)
 
 pub rank-lag-requires-clause-some : goal.rank-lag-requires-clause-some
 rank-lag-requires-clause-some c = omega (arith, as_many c, c.requires.some)
 
 pub rank-lag-requires-clause-few : goal.rank-lag-requires-clause-few
 rank-lag-requires-clause-few c = omega (arith, as_many c, c.requires.few)
-
-pub charged-requires : goal.charged-requires
-charged-requires c = costs_low c.args.slot (length c.args.served.now) c.args.courses.now c.requires.end c.requires.requests
 
 abbrev line_with : ℕ → ℕ → ℕ → ℕ → Ranked → TenantLag
 line_with weight requests charged fluid r = record { weight = weight; requests = requests; charged = charged; fluid = fluid; least = r.least; p50 = r.p50; p90 = r.p90; p99 = r.p99; greatest = r.greatest }

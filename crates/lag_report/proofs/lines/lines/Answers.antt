@@ -1,4 +1,4 @@
-use Rattle.std.proofs.Common.{ℕ, ◌≡◌, ◌<◌, ◌≤◌, ◌++◌, ◌∷◌, [], List, length, All, arith, ap, ap₂, sym, ◌∙◌, subst, slice_index}
+use Rattle.std.proofs.Common.{ℕ, ◌≡◌, ◌<◌, ◌≤◌, ◌++◌, ◌∷◌, [], List, length, All, arith, ap, ap₂, sym, ◌∙◌, subst, slice_index, sum_by}
 use Rattle.fluid_reference.specs.Slots.{column_of, number_at, slot_at}
 use Rattle.std.proofs.lemmas.List.Elements.{All-filter}
 use Rattle.std.proofs.lemmas.List.Sums.{length-filter, count_by-le-length}
@@ -7,7 +7,7 @@ use Rattle.fq_model.specs.Sums.{list_below}
 use Rattle.fq_model.specs.declared.lag.TenantLag.{TenantLag}
 use Rattle.lag_report.specs.declared.course.Course.{Course}
 use Rattle.lag_report.specs.Work.{EndsWithin, line_of, line_for}
-use Rattle.lag_report.proofs.Groups.{is_own}
+use Rattle.lag_report.proofs.Groups.{is_own, own_low}
 use Rattle.lag_report.proofs.lines.lines.Goals as goal
 use Rattle.lag_report.proofs.lines.lines.Goals.{After-as_slice}
 
@@ -35,6 +35,9 @@ line-requires-clause-served c = subst (All (λ s. s ≤ 2000000000000000)) (sym 
 
 pub line-requires-clause-requests : goal.line-requires-clause-requests
 line-requires-clause-requests c = omega (arith, ap length c.of_tenant-own.ensures, length-filter (is_own c.loop-t.t) c.args.courses.now, count_by-le-length (is_own c.loop-t.t) c.args.courses.now, c.requires.requests)
+
+pub line-requires-clause-costs : goal.line-requires-clause-costs
+line-requires-clause-costs c = omega (arith, ap (sum_by (λ (x : Course). x.cost)) c.of_tenant-own.ensures, own_low c.loop-t.t (λ x. x.cost) c.args.courses.now, c.requires.costs)
 
 pub line-requires-clause-end : goal.line-requires-clause-end
 line-requires-clause-end c = subst (λ n. All (EndsWithin c.args.slot n) c.of_tenant-own.result.now) (sym (as_many c)) (subst (All (EndsWithin c.args.slot (length c.args.fluid.now))) (sym c.of_tenant-own.ensures) (All-filter (is_own c.loop-t.t) (EndsWithin c.args.slot (length c.args.fluid.now)) c.args.courses.now c.requires.end))

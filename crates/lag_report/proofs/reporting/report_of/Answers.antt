@@ -1,12 +1,12 @@
 use Rattle.std.proofs.Common.{ℕ, ◌+◌, ◌*◌, ◌/◌, ◌<◌, ◌≤◌, ◌≡◌, true, not, Some, None, length, All, arith, rules, ap, sym, ◌∙◌, subst, ◌^◌}
 use Rattle.std.specs.List.{position}
 use Rattle.std.specs.List.Sorted.{IsNonDecreasingBy}
-use Rattle.std.proofs.lemmas.List.Sorted.{All-permutation, length_permutation}
+use Rattle.std.proofs.lemmas.List.Sorted.{All-permutation, length_permutation, sum_by-IsPermutation}
 use Rattle.std.proofs.lemmas.List.{length-reverse}
 use Rattle.fluid_reference.specs.Slots.{IsRowOf, IsChangeOf}
 use Rattle.fluid_reference.proofs.Lists.{list_length}
 use Rattle.fq_model.specs.declared.fluid.Change.{Change}
-use Rattle.fq_model.specs.History.{history_of, submits, is_done}
+use Rattle.fq_model.specs.History.{history_of, submits, is_ended}
 use Rattle.fq_model.specs.Fluid.{fluid_table, fluid_rows_of, changes_of}
 use Rattle.fq_model.specs.Report.{slots_of, unfinished}
 use Rattle.lag_report.specs.declared.course.Course.{Course}
@@ -14,9 +14,9 @@ use Rattle.lag_report.specs.Courses.{courses_of, rows_of}
 use Rattle.lag_report.specs.Work.{EndsWithin, IsTable, line_for}
 use Rattle.lag_report.specs.Reports.{report_refusal, IsReason}
 use Rattle.lag_report.proofs.CoursesAre.{courses_are, rows_are}
-use Rattle.lag_report.proofs.Totals.{unfinished_is, all_done}
+use Rattle.lag_report.proofs.Totals.{unfinished_is, all_ended}
 use Rattle.lag_report.proofs.Ends.{courses_end}
-use Rattle.lag_report.proofs.Counts.{courses_in, submits_few, rows_few, rows_in, changes_in, changes_order}
+use Rattle.lag_report.proofs.Counts.{courses_in, submits_few, costs_few, rows_few, rows_in, changes_in, changes_order}
 use Rattle.lag_report.proofs.TenantLines.{is_table, lines_from, table_is, report_of}
 use Rattle.lag_report.proofs.Refusals.{small, for_request, for_none, for_fluid, few_slots, none_from, given_reason}
 use Rattle.lag_report.specs.Faults.{fault_from}
@@ -24,10 +24,10 @@ use Rattle.std.specs.List.Sorted.{IsPermutation}
 use Rattle.lag_report.proofs.reporting.report_of.Goals as goal
 use Rattle.lag_report.proofs.reporting.report_of.Goals.{In-Some, After-as_slice-2, After-as_slice-3}
 
--- the first course that is not done is that of the least request that is not
+-- the first course that is not ended is that of the least request that is not
 found : (c : In-Some) → unfinished (history_of c.args.contents.now.past.items) ≡ Some c.in-Some.request
 found c =
-    let at : position (λ (r : Course). not r.is_done) c.as_slice.result.now ≡ unfinished (history_of c.args.contents.now.past.items) = ap (position (λ (r : Course). not r.is_done)) (c.as_slice.ensures.value ∙ c.requires.courses) ∙ unfinished_is c.args.config.now (history_of c.args.contents.now.past.items) c.weights-weights.ensures.limits c.requires.legal in
+    let at : position (λ (r : Course). not r.is_ended) c.as_slice.result.now ≡ unfinished (history_of c.args.contents.now.past.items) = ap (position (λ (r : Course). not r.is_ended)) (c.as_slice.ensures.value ∙ c.requires.courses) ∙ unfinished_is c.args.config.now (history_of c.args.contents.now.past.items) c.weights-weights.ensures.limits c.requires.legal in
     sym (c.in-Some.ensures ∙ at)
 
 pub overflow_cast-result : goal.overflow_cast-result
@@ -36,10 +36,10 @@ overflow_cast-result c = let fits : c.in-Some.request < 2 ^ 32 = small (history_
 pub returns-in-Some-clause-reason : goal.returns-in-Some-clause-reason
 returns-in-Some-clause-reason c = for_request c.args.config.now (history_of c.args.contents.now.past.items) c.args.slot c.in-Some.request (found (goal.at.returns-in-Some-clause-reason c).In-Some)
 
--- all requests are done
+-- all requests are done or withdrawn
 none : (c : After-as_slice-2) → unfinished (history_of c.args.contents.now.past.items) ≡ None
 none c =
-    let at : position (λ (r : Course). not r.is_done) c.as_slice.result.now ≡ unfinished (history_of c.args.contents.now.past.items) = ap (position (λ (r : Course). not r.is_done)) (c.as_slice.ensures.value ∙ c.requires.courses) ∙ unfinished_is c.args.config.now (history_of c.args.contents.now.past.items) c.weights-weights.ensures.limits c.requires.legal in
+    let at : position (λ (r : Course). not r.is_ended) c.as_slice.result.now ≡ unfinished (history_of c.args.contents.now.past.items) = ap (position (λ (r : Course). not r.is_ended)) (c.as_slice.ensures.value ∙ c.requires.courses) ∙ unfinished_is c.args.config.now (history_of c.args.contents.now.past.items) c.weights-weights.ensures.limits c.requires.legal in
     sym at ∙ sym c.unfinished.ensures ∙ none_from c.unfinished.result c.in_default.not-Some
 
 -- what the fluid service is asked
@@ -91,10 +91,10 @@ by_tenant-requires c =
     let taken : c.replace-taken.result.items ≡ courses_of (history_of c.args.contents.now.past.items) = ap (λ v. v.items) c.replace-taken.ensures.value ∙ c.requires.courses in
     subst (All (λ (x : Course). x.tenant ≤ 4096)) (sym taken) (λ k d l. omega (arith, courses_in c.args.config.now (history_of c.args.contents.now.past.items) c.requires.legal k d l, c.weights-weights.ensures.limits.tenants.1))
 
-all_are_done : (c : After-as_slice-3) → (r : ℕ) → r < submits (history_of c.args.contents.now.past.items) → is_done (history_of c.args.contents.now.past.items) r ≡ true
-all_are_done c =
-    let at : position (λ (r : Course). not r.is_done) c.as_slice.result.now ≡ unfinished (history_of c.args.contents.now.past.items) = ap (position (λ (r : Course). not r.is_done)) (c.as_slice.ensures.value ∙ c.requires.courses) ∙ unfinished_is c.args.config.now (history_of c.args.contents.now.past.items) c.weights-weights.ensures.limits c.requires.legal in
-    all_done c.args.config.now (history_of c.args.contents.now.past.items) c.requires.legal c.weights-weights.ensures.limits (sym at ∙ sym c.unfinished.ensures ∙ none_from c.unfinished.result c.in_default.not-Some)
+all_are_ended : (c : After-as_slice-3) → (r : ℕ) → r < submits (history_of c.args.contents.now.past.items) → is_ended (history_of c.args.contents.now.past.items) r ≡ true
+all_are_ended c =
+    let at : position (λ (r : Course). not r.is_ended) c.as_slice.result.now ≡ unfinished (history_of c.args.contents.now.past.items) = ap (position (λ (r : Course). not r.is_ended)) (c.as_slice.ensures.value ∙ c.requires.courses) ∙ unfinished_is c.args.config.now (history_of c.args.contents.now.past.items) c.weights-weights.ensures.limits c.requires.legal in
+    all_ended c.args.config.now (history_of c.args.contents.now.past.items) c.requires.legal c.weights-weights.ensures.limits (sym at ∙ sym c.unfinished.ensures ∙ none_from c.unfinished.result c.in_default.not-Some)
 
 cells_few : (c : After-as_slice-3) → slots_of (history_of c.args.contents.now.past.items) c.args.slot * length c.args.config.now.weights ≤ 4000000
 cells_few c = subst (λ n. n * length c.args.config.now.weights ≤ 4000000) (ap (λ n. n / c.args.slot + 1) c.requires.end) c.in_ok-fluid.ensures.fits
@@ -119,13 +119,18 @@ lines-requires-clause-requests c =
     let b : After-as_slice-3 = (goal.at.lines-requires-clause-requests c).After-as_slice-3 in
     omega (arith, length_permutation _ _ (courses_now b), (courses_are c.args.config.now (history_of c.args.contents.now.past.items) c.requires.legal).counted, submits_few c.args.config.now (history_of c.args.contents.now.past.items) c.weights-weights.ensures.limits c.requires.room c.requires.legal)
 
+pub lines-requires-clause-costs : goal.lines-requires-clause-costs
+lines-requires-clause-costs c =
+    let b : After-as_slice-3 = (goal.at.lines-requires-clause-costs c).After-as_slice-3 in
+    omega (arith, sum_by-IsPermutation (λ (x : Course). x.cost) _ _ (courses_now b), costs_few c.args.config.now (history_of c.args.contents.now.past.items) c.weights-weights.ensures.limits c.requires.room c.requires.legal)
+
 pub lines-requires-clause-end : goal.lines-requires-clause-end
 lines-requires-clause-end c =
     let b : After-as_slice-3 = (goal.at.lines-requires-clause-end c).After-as_slice-3 in
     let C = c.args.config.now in
     let H = history_of c.args.contents.now.past.items in
     let long : length c.in_ok-fluid.fluid ≡ slots_of H c.args.slot = c.in_ok-fluid.ensures.len ∙ ap (λ n. n / c.args.slot + 1) c.requires.end in
-    subst (λ n. All (EndsWithin c.args.slot n) c.as_slice-3.result.now) (sym long) (All-permutation (EndsWithin c.args.slot (slots_of H c.args.slot)) _ _ (courses_now b) (courses_end C H c.args.slot c.requires.positive c.requires.legal (all_are_done b)))
+    subst (λ n. All (EndsWithin c.args.slot n) c.as_slice-3.result.now) (sym long) (All-permutation (EndsWithin c.args.slot (slots_of H c.args.slot)) _ _ (courses_now b) (courses_end C H c.args.slot c.requires.positive c.requires.legal (all_are_ended b)))
 
 pub new-requires-3 : goal.new-requires-3
 new-requires-3 c = omega (
@@ -144,7 +149,7 @@ returns-clause-report c =
     c.new-3.ensures
     ∙ report_of c.args.slot _ _ _ _ _ _ _ _
     (ap (λ n. n / c.args.slot + 1) c.requires.end)
-    (lines_from C H c.args.slot c.as_slice-3.result.now c.in_ok-fluid.fluid c.weights-weights.result.now c.in_ok-rows.rows.items c.weights-weights.ensures.limits c.requires.legal (all_are_done b) (courses_now b) (table_now b) c.weights-weights.ensures.value c.in_ok-rows.ensures)
+    (lines_from C H c.args.slot c.as_slice-3.result.now c.in_ok-fluid.fluid c.weights-weights.result.now c.in_ok-rows.rows.items c.weights-weights.ensures.limits c.requires.legal (all_are_ended b) (courses_now b) (table_now b) c.weights-weights.ensures.value c.in_ok-rows.ensures)
     c.requires.end
     (c.requires.entries ∙ sym (length-reverse c.args.contents.now.past.items))
 

@@ -1,6 +1,6 @@
 use Rattle.std.proofs.Common.{◌≡◌, ◌++◌, length, take, drop, replicate, arith, rules, ap, sym, ◌∙◌, subst, ℕ, sum, ◌+◌, ◌≤◌}
-use Rattle.std.proofs.lemmas.List.{length-replicate, length-take, take_all}
-use Rattle.std.proofs.lemmas.List.Elements.{All-take}
+use Rattle.std.proofs.lemmas.List.{length-replicate, take_all}
+use Rattle.std.proofs.lemmas.List.Sums.{sum_by-take-le}
 use Rattle.fluid_reference.proofs.Known.{written_back}
 use Rattle.lag_report.specs.declared.course.Course.{Course}
 use Rattle.lag_report.specs.Courses.{course_at}
@@ -31,9 +31,8 @@ pub spread-requires-clause-room : goal.spread-requires-clause-room
 spread-requires-clause-room c = omega (
   arith,
   ap sum c.as_mut_slice.ensures.value,
-  gains_low c.args.slot c.args.slots (take c.loop-course.course-index c.args.courses.now) c.loop-course.gains.items
-      (All-take (EndsWithin c.args.slot c.args.slots) c.loop-course.course-index c.args.courses.now c.requires.end)
-      (omega (arith, length-take c.loop-course.course-index c.args.courses.now, c.requires.few))
+  gains_low c.args.slot (take c.loop-course.course-index c.args.courses.now) c.loop-course.gains.items
+      (omega (arith, sum_by-take-le (λ (x : Course). x.cost) c.args.courses.now c.loop-course.course-index, c.requires.costs))
       c.loop-course.invariant.gains,
 )
 
