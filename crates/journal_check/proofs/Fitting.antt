@@ -2,22 +2,22 @@
 use Rattle.std.proofs.Common.{ℕ, ◌<◌, ◌≡◌, ◌∷◌, None, arith, refl}
 use Rattle.fq_model.specs.declared.config.Config.{Config}
 use Rattle.fq_model.specs.declared.event.Act.{Act}
-use Rattle.fq_model.specs.declared.event.Act.TheVariants.{Submit, Take, Report, Done, Close, Weight, Workers}
+use Rattle.fq_model.specs.declared.event.Act.TheVariants.{Submit, Take, Report, Done, Close, Weight, Workers, Withdraw}
 use Rattle.fq_model.specs.declared.event.Entry.{Entry}
 use Rattle.fq_model.specs.declared.event.Reply.{Reply}
 use Rattle.fq_model.specs.declared.event.Reply.TheVariants as answer
-use Rattle.fq_model.specs.History.{History}
+use Rattle.fq_model.specs.History.{History, request_at}
 use Rattle.fq_model.specs.Limits.{InLimits}
-use Rattle.fq_model.specs.Rules.{Answers, IsLegal, Fits, close_refusal}
+use Rattle.fq_model.specs.Rules.{Answers, IsLegal, Fits, close_refusal, label_of}
 use Rattle.fq_model.specs.Time.{effective_moment}
 use Rattle.fq_laws.specs.Words.{one_more}
 use Rattle.fq_laws.proofs.History.Weights.{pool_high}
 use Rattle.fq_laws.proofs.History.Workers.{nothing_running}
 use Rattle.fq_laws.proofs.Rules.Answers.{answer_one}
-use Rattle.fq_laws.proofs.Rules.Passes.{in_order, submit_passes, take_passes, runs, report_passes, done_passes, weight_passes, workers_passes, some_waits}
+use Rattle.fq_laws.proofs.Rules.Passes.{in_order, submit_passes, take_passes, runs, report_passes, done_passes, weight_passes, workers_passes, withdraw_passes, some_waits}
 use Rattle.fq_laws.proofs.Rules.Refusals.{request_on_is}
 use Rattle.program_model.specs.Journal.{call_of_act, call_of}
-use Rattle.sched_state.proofs.CallLemmas.{not_refused, answered_submit, took, answered_close, answered_weight, answered_workers}
+use Rattle.sched_state.proofs.CallLemmas.{not_refused, answered_submit, took, answered_close, answered_weight, answered_workers, answered_withdraw}
 
 -- an act that fits at a moment in order is what its call adds
 fits_at : (C : Config) (P : History) (who m : ℕ) (act : Act) → InLimits C → IsLegal C P → m ≡ effective_moment P m → Fits C P m act
@@ -41,6 +41,8 @@ fits_at C P who m Close limits legal now f =
     (answer.Accepted, answered_close C P who m m open_still now)
 fits_at C P who m (Weight tenant weight) limits legal now f = (answer.Accepted, answered_weight C P who m m tenant weight (weight_passes C P tenant weight f) now)
 fits_at C P who m (Workers count) limits legal now f = (answer.Accepted, answered_workers C P who m m count (workers_passes C P count f) now)
+fits_at C P who m (Withdraw request) limits legal now f =
+    (answer.Withdrawn (label_of (request_at P request)), answered_withdraw C P who m m request _ (withdraw_passes P request f) now refl)
 
 -- the call of an entry that may follow is answered by that entry
 entry_answers : (C : Config) (P : History) (e : Entry) → InLimits C → IsLegal C (e ∷ P) → (reply : Reply) × Answers C P (call_of e) reply (e ∷ P)

@@ -116,6 +116,11 @@ pub(crate) fn call_of(entry: Entry) -> Call
             weight,
         },
         Act::Workers { count } => Call::Workers { who, moment, count },
+        Act::Withdraw { request } => Call::Withdraw {
+            who,
+            moment,
+            request,
+        },
     }
 }
 

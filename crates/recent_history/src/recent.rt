@@ -1,5 +1,5 @@
 //! A scheduler that keeps the last of its entries.
-ghost use Rattle.std.specs.Prelude.{ℕ, ◌≡◌, ◌-◌, ◌<◌, ◌≤◌, [], Some, IfOk, IfErr, OnOk, OnErr, length, pos, ◌≤ℤ◌};
+ghost use Rattle.std.specs.Prelude.{ℕ, ◌≡◌, ◌-◌, ◌<◌, ◌≤◌, [], IfOk, IfErr, OnErr, length, pos, ◌≤ℤ◌};
 ghost use Rattle.std.specs.FinMap as map;
 ghost use Rattle.circular_buffer.specs.Buffer.{buffer, keep_last};
 ghost use Rattle.fq_model.specs.declared.event.Call.TheVariants as call;
@@ -10,7 +10,7 @@ ghost use Rattle.fq_model.specs.Status.{status_of};
 ghost use Rattle.recent_history.specs.Kept.{IsNext, kept_entry};
 ghost use Rattle.sched_state.specs.Lists.{HoldsWaiting};
 ghost use Rattle.sched_state.specs.Scheduler.{virtual_time_now};
-ghost use Rattle.sched_state.specs.Replies.{submit_reply, take_reply, change_reply, withdraw_reply, close_reply, AnswersCall, HandsOut};
+ghost use Rattle.sched_state.specs.Replies.{submit_reply, take_reply, change_reply, withdraw_reply, close_reply, AnswersCall, HandsOut, HandsBack};
 
 use circular_buffer::HeapCircularBuffer;
 use fq_model::config::Checked;
@@ -173,9 +173,7 @@ impl<J: Job + Drop, X: Chooser> Recent<J, X> {
     pub fn withdraw(&mut self, who: u32, moment: u64, request: u32) -> Result<J, Cause>
         ensures answers { AnswersCall self.old.scheduler (call.Withdraw who moment request)
             (withdraw_reply J.label_of result) self.new.scheduler }
-        ensures job_back { IfOk result (λ job. map.get self.old.scheduler.jobs request ≡ Some job) }
-        ensures jobs { OnOk result (self.new.scheduler.jobs ≡ map.remove self.old.scheduler.jobs request) }
-        ensures unchanged { OnErr result (self.new ≡ self.old) }
+        ensures jobs { HandsBack self.old.scheduler request result self.new.scheduler }
         ensures keep { self.new.keep ≡ self.old.keep }
     {
         let count = self.core.len();

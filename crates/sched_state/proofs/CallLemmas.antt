@@ -32,7 +32,7 @@ use Rattle.sched_state.specs.declared.replies.AlreadyClosed.{AlreadyClosed}
 use Rattle.sched_state.specs.declared.replies.Taken.{Taken}
 use Rattle.sched_state.specs.declared.replies.Taken.TheVariants as taken
 use Rattle.sched_state.specs.Refusals.{HasNoJob}
-use Rattle.sched_state.specs.Replies.{AnswersCall, HandsOut, change_reply, withdraw_reply, close_reply}
+use Rattle.sched_state.specs.Replies.{AnswersCall, HandsOut, HandsBack, change_reply, withdraw_reply, close_reply}
 use Rattle.sched_state.specs.Scheduler.{SchedulerView}
 use Rattle.sched_state.specs.Tracker.{Tracks}
 use Rattle.sched_journal.proofs.JournalLemmas.{history_with}
@@ -187,7 +187,12 @@ legal_withdraw C P who m request none l later in_range = (l, later, in_range, wi
 pub answered_withdraw : (C : Config) (P : History) (who moment m request label : ℕ) → withdraw_refusal P request ≡ None → m ≡ effective_moment P moment → label_of (request_at P request) ≡ label → Answers C P (call.Withdraw who moment request) (answer.Withdrawn label) (one_more who m (Withdraw request) P)
 answered_withdraw C P who moment m request label none is labelled = not_refused _ P _ _ _ none (ap (λ (l : ℕ). answer.Withdrawn l) (sym labelled), ap (λ (z : ℕ). one_more who z (Withdraw request) P) is)
 
--- refused for the cause of an error that is handed on, in place of a job
+-- where it is refused no job comes back
+pub none_handed_back : {J : Type 0} (now : SchedulerView J) (request : ℕ) (r : Result J Cause) (c : Cause) → IsErrAnd r (λ d. d ≡ c) → HandsBack now request r now
+none_handed_back now request (Ok job) c is = absurd is
+none_handed_back now request (Err d) c is = refl
+
+-- and it is refused for the cause of the error that is handed on
 pub job_refused : {J : Type 0} (label : J → ℕ) (r : Result J Cause) (c : Cause) (o : Option Cause) (P : History) (Accepted : Type 0) → IsErrAnd r (λ d. d ≡ c) → Some c ≡ o → RefusedOrElse o P (withdraw_reply label r) P Accepted
 job_refused label (Ok x) c o P Accepted is e = absurd is
 job_refused label (Err d) c o P Accepted is e = refused o d P Accepted (sym e ∙ ap (λ (x : Cause). Some x) (sym is))

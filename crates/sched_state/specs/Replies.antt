@@ -51,3 +51,9 @@ abbrev pub HandsOut : {J : Type 0} → SchedulerView J → Taken J → Scheduler
 HandsOut old (taken.Run request estimate job) new =
     (map.get old.jobs request ≡ Some job) × (new.jobs ≡ map.remove old.jobs request)
 HandsOut old _ new = new ≡ old
+
+-- a job that comes back is the one of its request, and is kept no longer; else nothing changes
+abbrev pub HandsBack : {J : Type 0} → SchedulerView J → ℕ → Result J Cause → SchedulerView J → Type 0
+HandsBack old request (Ok job) new =
+    (map.get old.jobs request ≡ Some job) × (new.jobs ≡ map.remove old.jobs request)
+HandsBack old request (Err why) new = new ≡ old

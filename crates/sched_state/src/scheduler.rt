@@ -1,5 +1,5 @@
 //! A scheduler.
-ghost use Rattle.std.specs.Prelude.{ℕ, ◌≡◌, ◌<◌, ◌≤◌, [], Some, IfOk, IfErr, OnOk, OnErr, length, pos, ◌≤ℤ◌, vec_capacity};
+ghost use Rattle.std.specs.Prelude.{ℕ, ◌≡◌, ◌<◌, ◌≤◌, [], IfOk, IfErr, OnErr, length, pos, ◌≤ℤ◌, vec_capacity};
 ghost use Rattle.std.specs.FinMap as map;
 ghost use Rattle.fq_model.specs.declared.event.Call.TheVariants as call;
 ghost use Rattle.fq_model.specs.History.{history_of, pool_at};
@@ -12,7 +12,7 @@ ghost use Rattle.charge_book.specs.Histories.{row_of_worker};
 ghost use Rattle.sched_state.specs.Kept.{IsBehind};
 ghost use Rattle.sched_state.specs.Lists.{HoldsWaiting};
 ghost use Rattle.sched_state.specs.Scheduler.{virtual_time_now};
-ghost use Rattle.sched_state.specs.Replies.{submit_reply, take_reply, change_reply, withdraw_reply, close_reply, AnswersCall, HandsOut};
+ghost use Rattle.sched_state.specs.Replies.{submit_reply, take_reply, change_reply, withdraw_reply, close_reply, AnswersCall, HandsOut, HandsBack};
 
 use crate::replies::{AlreadyClosed, Refused, Taken};
 use crate::scheduler_core::Core;
@@ -165,9 +165,7 @@ impl<J: Job + Drop, X: Chooser> Scheduler<J, X> {
     pub fn withdraw(&mut self, who: u32, moment: u64, request: u32) -> Result<J, Cause>
         ensures answers { AnswersCall self.old (call.Withdraw who moment request) (withdraw_reply J.label_of result)
             self.new }
-        ensures job_back { IfOk result (λ job. map.get self.old.jobs request ≡ Some job) }
-        ensures jobs { OnOk result (self.new.jobs ≡ map.remove self.old.jobs request) }
-        ensures unchanged { OnErr result (self.new ≡ self.old) }
+        ensures jobs { HandsBack self.old request result self.new }
     {
         let outcome = self.core.withdraw(who, moment, request);
         keep_newest(&mut self.entries, &self.core);
