@@ -46,7 +46,10 @@ fn a_request_is_withdrawn(rt: HostRuntime) -> Result<(), Fail> {
     let mut handle = Handle::empty();
     assert_eq!(rt; twodfq_open(&mut handle, rt.alloc(), &OPENING, &[1]), 0);
     for label in [77, 78] {
-        assert_eq!(rt; twodfq_submit(&mut handle, rt.alloc(), 5, 3, 0, 0, 10, label).kind, 0);
+        assert_eq!(rt;
+            twodfq_submit(&mut handle, rt.alloc(), 5, 3, 0, 0, 10, label).kind,
+            0
+        );
     }
     let withdrawn = twodfq_withdraw(&mut handle, rt.alloc(), 5, 4, 0);
     assert_eq!(rt; (withdrawn.kind, withdrawn.second), (6, 77));
