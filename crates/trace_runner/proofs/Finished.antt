@@ -25,16 +25,20 @@ done_ended : (P : History) (r : ℕ) → is_done P r ≡ true → is_ended P r �
 unfolding is_done is_ended
 done_ended P r h = has_weaker (is_done_of r) (is_end_of r) (done_ends r) P h
 
+-- where each submitted request is done, none is unfinished
+pub none_is_unfinished : (H : History) → ((r : ℕ) → is_submitted H r ≡ true → is_done H r ≡ true) → unfinished H ≡ None
+unfolding unfinished
+none_is_unfinished H done = least_by (is_unfinished H) request_bound None (λ r _. go r (is_submitted H r) refl)
+  where
+    go : (r : ℕ) (b : Bool) → is_submitted H r ≡ b → (b && not (is_ended H r)) ≡ false
+    go r false is = refl
+    go r true is = ap not (done_ended H r (done r is))
+
 module _ (T : Trace) (O : RunOptions) (H : History) (s : IsSimulated T O H) where
   ended : (r : ℕ) → is_submitted H r ≡ true → is_done H r ≡ true
   ended r submitted =
       let b = submitted_below (run_config T O) H r s.legal submitted in
       served_done T O.refresh H r (row_at T.rows r) (s.served r (row_at T.rows r) (row_there T.rows r (omega (arith, b, all_submitted T O H s))))
 
-  not_unfinished : (r : ℕ) (b : Bool) → is_submitted H r ≡ b → (b && not (is_ended H r)) ≡ false
-  not_unfinished r false is = refl
-  not_unfinished r true is = ap not (done_ended H r (ended r is))
-
   pub none_unfinished : unfinished H ≡ None
-  unfolding unfinished
-  none_unfinished = least_by (is_unfinished H) request_bound None (λ r _. not_unfinished r (is_submitted H r) refl)
+  none_unfinished = none_is_unfinished H ended

@@ -1,7 +1,6 @@
 -- The configuration of a simulation is in its limits.
 use Rattle.std.proofs.Common.{arith}
 use Rattle.program_model.specs.declared.trace.RunOptions.{RunOptions}
-use Rattle.fq_model.specs.declared.limits.TheConstants.{MOST_ENTRIES}
 use Rattle.fq_model.specs.Limits.{InLimits}
 use Rattle.program_model.specs.Simulated.{run_config}
 use Rattle.program_model.specs.Trace.{Trace}

@@ -1,15 +1,14 @@
 -- What is answered of a history of a pool, which leaves no request undone.
-use Rattle.std.proofs.Common.{ℕ, ◌≡◌, ◌∙◌, sym, ap, subst, refl, arith, List, ◌++◌, length, Bool, true, false, not, ◌&&◌, None}
+use Rattle.std.proofs.Common.{ℕ, ◌≡◌, ◌∙◌, sym, ap, subst, refl, arith, List, ◌++◌, length, true, false, None}
 use Rattle.std.specs.String.{string_bytes}
 use Rattle.std.proofs.lemmas.Bool.{ltb-false}
 use Rattle.fq_model.specs.declared.config.Config.{Config}
 use Rattle.fq_model.specs.declared.event.Entry.{Entry}
 use Rattle.fq_model.specs.declared.limits.TheConstants.{MOST_ENTRIES}
 use Rattle.fq_model.specs.declared.parts.Status.{Status}
-use Rattle.fq_model.specs.History.{History, history_of, is_submitted, is_done, request_bound}
+use Rattle.fq_model.specs.History.{History, history_of}
 use Rattle.fq_model.specs.Limits.{HasShortHistory}
-use Rattle.fq_model.specs.Report.{unfinished, is_unfinished}
-use Rattle.fq_laws.proofs.Sums.{least_by}
+use Rattle.fq_model.specs.Report.{unfinished}
 use Rattle.program_model.specs.declared.command.LiveOptions.{LiveOptions}
 use Rattle.program_model.specs.declared.ending.Stop.{Stop}
 use Rattle.program_model.specs.declared.ending.Stop.TheVariants as stops
@@ -22,15 +21,10 @@ use Rattle.program_model.specs.Readings.{AreReadings, status_lines}
 use Rattle.program_model.specs.Trace.{Trace}
 use Rattle.command_texts.specs.Making.{IsStop}
 use Rattle.command_texts.proofs.Making.{else_answers}
+use Rattle.trace_runner.proofs.Finished.{none_is_unfinished}
 
-module _ (T : Trace) (O : RunOptions) (H : History) (s : IsPoolHistory T O H) where
-  not_unfinished : (r : ℕ) (b : Bool) → is_submitted H r ≡ b → (b && not (is_done H r)) ≡ false
-  not_unfinished r false is = refl
-  not_unfinished r true is = ap not (s.served r is).done
-
-  pub none_unfinished : unfinished H ≡ None
-  unfolding unfinished
-  none_unfinished = least_by (is_unfinished H) request_bound None (λ r _. not_unfinished r (is_submitted H r) refl)
+pub none_unfinished : (T : Trace) (O : RunOptions) (H : History) → IsPoolHistory T O H → unfinished H ≡ None
+none_unfinished T O H s = none_is_unfinished H (λ r is. (s.served r is).done)
 
 -- it may be kept whole
 pub short_pool : (T : Trace) (O : RunOptions) (C : Config) → C ≡ pool_config T O → has_many_entries (needed_pool_entries T.rows O.refresh) ≡ false → HasShortHistory C
