@@ -103,6 +103,7 @@ reported_runs i r H (answer.Run request estimate label) x = absurd x
 reported_runs i r H answer.Idle x = absurd x
 reported_runs i r H answer.Drained x = absurd x
 reported_runs i r H (answer.Retired workers) x = absurd x
+reported_runs i r H (answer.Withdrawn label) x = absurd x
 
 -- where K runs on the worker what H runs, the same is left
 pub took_same : (i : ℕ) (H K : History) (reply : Reply) → running_on K i ≡ running_on H i → TookLeft i H reply → TookLeft i K reply
@@ -110,6 +111,7 @@ took_same i H K (answer.Run request estimate label) same x = same ∙ x
 took_same i H K answer.Idle same x = same ∙ x
 took_same i H K answer.Drained same x = same ∙ x
 took_same i H K (answer.Retired workers) same x = same ∙ x
+took_same i H K (answer.Withdrawn label) same x = absurd x
 took_same i H K (answer.Request request) same x = x
 took_same i H K answer.Accepted same x = x
 took_same i H K (answer.Refused why) same x = x
@@ -122,6 +124,7 @@ report_same i r H K (answer.Run request estimate label) same x = x
 report_same i r H K answer.Idle same x = x
 report_same i r H K answer.Drained same x = x
 report_same i r H K (answer.Retired workers) same x = x
+report_same i r H K (answer.Withdrawn label) same x = absurd x
 
 pub done_same : (i r : ℕ) (H K : History) (reply : Reply) → running_on K i ≡ running_on H i → DoneLeft i r H reply → DoneLeft i r K reply
 done_same i r H K answer.Accepted same x = same ∙ x
@@ -131,3 +134,4 @@ done_same i r H K (answer.Run request estimate label) same x = x
 done_same i r H K answer.Idle same x = x
 done_same i r H K answer.Drained same x = x
 done_same i r H K (answer.Retired workers) same x = x
+done_same i r H K (answer.Withdrawn label) same x = absurd x

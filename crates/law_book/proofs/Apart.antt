@@ -4,10 +4,10 @@ use Rattle.std.specs.Prelude.{codes, bytes_eq}
 use Rattle.std.proofs.lemmas.List.{append_cancel_left}
 use Rattle.std.proofs.lemmas.List.Elements.{All-head, All-tail}
 use Rattle.fq_model.specs.declared.event.Act.{Act}
-use Rattle.fq_model.specs.declared.event.Act.TheVariants.{Submit, Take, Report, Done, Close, Weight, Workers}
+use Rattle.fq_model.specs.declared.event.Act.TheVariants.{Submit, Take, Report, Done, Close, Weight, Workers, Withdraw}
 use Rattle.fq_model.specs.declared.event.Entry.{Entry}
 use Rattle.program_model.specs.declared.version.Version.{Version}
-use Rattle.program_model.specs.declared.version.Version.TheVariants.{First, Second}
+use Rattle.program_model.specs.declared.version.Version.TheVariants.{First, Second, Third}
 use Rattle.program_model.specs.JournalText.{numbers_text, act_line, entry_line, entries_text, header_line, head_text, journal_text, version_for}
 use Rattle.law_book.specs.Journals.{FitsTypes, IsEntry, AreEntries, JournalsTellHistories}
 use Rattle.law_book.proofs.Telling.{IsWord, AreSmall, regrouped, some_line, line_told}
@@ -21,6 +21,7 @@ word_of (Done worker request cost) = codes "done"
 word_of Close = codes "close"
 word_of (Weight tenant weight) = codes "weight"
 word_of (Workers count) = codes "workers"
+word_of (Withdraw request) = codes "withdraw"
 
 abbrev pub numbers_in : Act → List ℕ
 numbers_in (Submit request tenant kind declared label) = request ∷ tenant ∷ kind ∷ declared ∷ label ∷ []
@@ -30,6 +31,7 @@ numbers_in (Done worker request cost) = worker ∷ request ∷ cost ∷ []
 numbers_in Close = []
 numbers_in (Weight tenant weight) = tenant ∷ weight ∷ []
 numbers_in (Workers count) = count ∷ []
+numbers_in (Withdraw request) = request ∷ []
 
 -- the act of this word with these numbers
 abbrev act_of : List ℕ → List ℕ → Act
@@ -40,7 +42,8 @@ act_of word ns =
     else if bytes_eq word (codes "done") then Done (get_or ns 0 0) (get_or ns 1 0) (get_or ns 2 0)
     else if bytes_eq word (codes "close") then Close
     else if bytes_eq word (codes "weight") then Weight (get_or ns 0 0) (get_or ns 1 0)
-    else Workers (get_or ns 0 0)
+    else if bytes_eq word (codes "workers") then Workers (get_or ns 0 0)
+    else Withdraw (get_or ns 0 0)
 
 act_back : (a : Act) → act_of (word_of a) (numbers_in a) ≡ a
 act_back (Submit request tenant kind declared label) = refl
@@ -50,6 +53,7 @@ act_back (Done worker request cost) = refl
 act_back Close = refl
 act_back (Weight tenant weight) = refl
 act_back (Workers count) = refl
+act_back (Withdraw request) = refl
 
 act_told : (a b : Act) → word_of a ≡ word_of b → numbers_in a ≡ numbers_in b → a ≡ b
 act_told a b word numbers = sym (act_back a) ∙ (rw (word, numbers) (act_back b))
@@ -62,6 +66,7 @@ act_row who moment (Done worker request cost) = refl
 act_row who moment Close = refl
 act_row who moment (Weight tenant weight) = refl
 act_row who moment (Workers count) = refl
+act_row who moment (Withdraw request) = refl
 
 pub is_word : (a : Act) → IsWord (word_of a)
 is_word (Submit request tenant kind declared label) = omega arith
@@ -71,6 +76,7 @@ is_word (Done worker request cost) = omega arith
 is_word Close = omega arith
 is_word (Weight tenant weight) = omega arith
 is_word (Workers count) = omega arith
+is_word (Withdraw request) = omega arith
 
 are_small : (a : Act) → FitsTypes a → AreSmall (numbers_in a)
 are_small (Submit request tenant kind declared label) fits = omega (arith, fits)
@@ -80,6 +86,7 @@ are_small (Done worker request cost) fits = omega (arith, fits)
 are_small Close fits = tt
 are_small (Weight tenant weight) fits = omega (arith, fits)
 are_small (Workers count) fits = omega (arith, fits)
+are_small (Withdraw request) fits = omega (arith, fits)
 
 -- the numbers of an entry's line
 abbrev pub row_of : Entry → List ℕ
@@ -125,8 +132,13 @@ entries_told (d ∷ ds) (e ∷ es) one two same =
 below_header : (v w : Version) (below rest : List ℕ) → header_line v ++ below ≡ header_line w ++ rest → below ≡ rest
 below_header First First below rest same = cc
 below_header First Second below rest same = cc
+below_header First Third below rest same = cc
 below_header Second First below rest same = cc
 below_header Second Second below rest same = cc
+below_header Second Third below rest same = cc
+below_header Third First below rest same = cc
+below_header Third Second below rest same = cc
+below_header Third Third below rest same = cc
 
 pub told_histories : JournalsTellHistories
 unfolding journal_text

@@ -11,12 +11,12 @@ use Rattle.std.proofs.lemmas.Nat.{mul-le}
 use Rattle.fq_model.specs.declared.config.Config.{Config}
 use Rattle.fq_model.specs.declared.event.Entry.{Entry}
 use Rattle.fq_model.specs.declared.limits.TheConstants.{MOST_TENANTS, MOST_KINDS, MOST_PAIRS}
-use Rattle.fq_model.specs.History.{is_change}
+use Rattle.fq_model.specs.History.{is_change, is_withdraw}
 use Rattle.fq_model.specs.Limits.{InLimits, HasShortHistory, IsWeight}
 use Rattle.fq_model.specs.Names.{AreNames}
 use Rattle.fq_model.specs.Spelling.{is_name, policy_word, estimator_word}
 use Rattle.program_model.specs.declared.version.Version.{Version}
-use Rattle.program_model.specs.declared.version.Version.TheVariants.{First, Second}
+use Rattle.program_model.specs.declared.version.Version.TheVariants.{First, Second, Third}
 use Rattle.program_model.specs.Document.{Settings, LineReader, below_header, config_line, document_of, document_of_lines, with_lines}
 use Rattle.program_model.specs.Journal.{Journal, entry_of_words}
 use Rattle.program_model.specs.JournalText.{numbers_text, entry_line, entries_text, header_line, head_text, journal_text, kinds_text, settings_line, tenants_text, version_for}
@@ -35,7 +35,8 @@ use Rattle.law_book.proofs.Telling.{IsWord, decimal-word}
 -- these are entries of a journal of this version
 abbrev AreOf : Version → List Entry → Type 0
 AreOf First es = list_any (λ e. is_change e.act) es ≡ false
-AreOf Second es = Unit {0}
+AreOf Second es = list_any (λ e. is_withdraw e.act) es ≡ false
+AreOf Third es = Unit {0}
 
 first_of : (a b : Bool) → (a || b) ≡ false → (a ≡ false) × (b ≡ false)
 first_of true b is = absurd (cc)
@@ -43,15 +44,17 @@ first_of false b is = (refl, is)
 
 one_of : (v : Version) (e : Entry) (es : List Entry) → AreOf v (e ∷ es) → MayStand v e.act × AreOf v es
 one_of First e es are = first_of (is_change e.act) (list_any (λ e. is_change e.act) es) are
-one_of Second e es are = (tt, tt)
+one_of Second e es are = first_of (is_withdraw e.act) (list_any (λ e. is_withdraw e.act) es) are
+one_of Third e es are = (tt, tt)
 
 -- the entries of a journal are of its version
 of_version : (es : List Entry) → AreOf (version_for es) es
-of_version es = go (list_any (λ e. is_change e.act) es) refl
+of_version es = go (list_any (λ e. is_withdraw e.act) es) (list_any (λ e. is_change e.act) es) refl refl
   where
-    go : (t : Bool) → list_any (λ e. is_change e.act) es ≡ t → AreOf (if t then Second else First) es
-    go true is = tt
-    go false is = is
+    go : (t u : Bool) → list_any (λ e. is_withdraw e.act) es ≡ t → list_any (λ e. is_change e.act) es ≡ u → AreOf (if t then Third else if u then Second else First) es
+    go true u withdraws changes = tt
+    go false true withdraws changes = withdraws
+    go false false withdraws changes = changes
 
 entry_text : (e : Entry) (below : List ℕ) → entry_line e ++ below ≡ (word_of e.act ++ spaced (map decimal (row_of e))) ++ 10 ∷ below
 entry_text e below = ap (λ l. l ++ below) (line_row e) ∙ row_spaced (word_of e.act) (row_of e) below
@@ -212,8 +215,9 @@ module _ (C : Config) (tenants kinds : List (List ℕ)) (past : List Entry) (lim
   text_read : (v : Version) → AreOf v past → document_of_lines (codes "journal") entry_of_words (lines_of (header_line v ++ (settings_line C ++ below_settings))) ≡ Ok (journal_with C tenants kinds past)
   text_read First of = head_read First of
   text_read Second of = head_read Second of
+  text_read Third of = head_read Third of
 
-  -- a text of either version that may have these entries
+  -- a text of a version that may have these entries
   text_of : (v : Version) → AreOf v past → IsReadBack C tenants kinds past (top_text v C tenants kinds ++ entries_text past)
   unfolding document_of
   text_of v of = record {
@@ -226,4 +230,4 @@ unfolding journal_text
 read_back C tenants kinds past limits short names are = text_of C tenants kinds past limits short names are (version_for past) (of_version past)
 
 pub streamed_back : StreamedReadBack
-streamed_back C tenants kinds past limits short names are = text_of C tenants kinds past limits short names are Second tt
+streamed_back C tenants kinds past limits short names are = text_of C tenants kinds past limits short names are Third tt

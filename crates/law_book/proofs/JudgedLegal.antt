@@ -3,13 +3,13 @@ use Rattle.std.proofs.Common.{ℕ, zero, suc, List, [], ◌∷◌, ◌++◌, All
 use Rattle.std.proofs.lemmas.List.Elements.{All-head, All-tail}
 use Rattle.fq_model.specs.declared.config.Config.{Config}
 use Rattle.fq_model.specs.declared.event.Act.{Act}
-use Rattle.fq_model.specs.declared.event.Act.TheVariants.{Submit, Take, Report, Done, Close, Weight, Workers}
+use Rattle.fq_model.specs.declared.event.Act.TheVariants.{Submit, Take, Report, Done, Close, Weight, Workers, Withdraw}
 use Rattle.fq_model.specs.declared.event.Entry.{Entry}
 use Rattle.fq_model.specs.History.{History, history_of}
 use Rattle.fq_model.specs.Limits.{InLimits}
 use Rattle.fq_model.specs.Rules.{IsLegal, Fits}
 use Rattle.fq_laws.proofs.Charge.Estimates.{estimate_range}
-use Rattle.fq_laws.proofs.History.Numbers.{next_small, take_request_small, use_small}
+use Rattle.fq_laws.proofs.History.Numbers.{next_small, take_request_small, waits_number_small, use_small}
 use Rattle.fq_laws.proofs.History.Weights.{pool_high}
 use Rattle.fq_laws.proofs.History.Workers.{runs_worker_known}
 use Rattle.program_model.specs.Document.{config_of}
@@ -46,6 +46,7 @@ act_fits C P m Close limits legal f unread = tt
 act_fits C P m (Weight tenant weight) limits legal f unread =
     (omega (arith, f.tenant_known, limits.tenants.1), omega (arith, f.weight_in_range.1))
 act_fits C P m (Workers count) limits legal f unread = omega (arith, f.count_in_range.1, limits.workers.1)
+act_fits C P m (Withdraw request) limits legal f unread = waits_number_small C P request limits legal f
 
 entry_fits : (C : Config) (P : History) (e : Entry) → InLimits C → IsLegal C (e ∷ P) → IsUnreadFit e → IsEntry e
 entry_fits C P e limits legal unread = record {

@@ -12,17 +12,17 @@ use Rattle.fq_model.specs.declared.config.Estimator.TheVariants.{Declared, Recen
 use Rattle.fq_model.specs.declared.config.Policy.{Policy}
 use Rattle.fq_model.specs.declared.config.Policy.TheVariants.{Wfq, Wf2q, Msf2q, TwoDfq, TwoDfqPlus}
 use Rattle.fq_model.specs.declared.event.Act.{Act}
-use Rattle.fq_model.specs.declared.event.Act.TheVariants.{Submit, Take, Report, Done, Close, Weight, Workers}
+use Rattle.fq_model.specs.declared.event.Act.TheVariants.{Submit, Take, Report, Done, Close, Weight, Workers, Withdraw}
 use Rattle.fq_model.specs.declared.event.Entry.{Entry}
 use Rattle.fq_model.specs.declared.limits.TheConstants.{LEAST_ENTRIES, MOST_ENTRIES, MOST_REQUESTS, MOST_TENANTS, MOST_KINDS, MOST_PAIRS}
-use Rattle.fq_model.specs.History.{is_change}
+use Rattle.fq_model.specs.History.{is_change, is_withdraw}
 use Rattle.fq_model.specs.Limits.{InLimits, HasShortHistory, IsWeight, IsWithin}
 use Rattle.fq_model.specs.Spelling.{is_name, is_name_byte, policy_word, estimator_word}
 use Rattle.fq_laws.proofs.Rules.Passes.{within}
 use Rattle.program_model.specs.declared.version.Version.{Version}
-use Rattle.program_model.specs.declared.version.Version.TheVariants.{First, Second}
+use Rattle.program_model.specs.declared.version.Version.TheVariants.{First, Second, Third}
 use Rattle.program_model.specs.Document.{Settings, LineReader, config_line, new_among, not_too_many, settings_of, with_body, with_kind, with_line, with_tenant}
-use Rattle.program_model.specs.Journal.{Journal, submit_act, take_act, report_act, done_act, close_act, weight_act, workers_act, entry_with, fixed_entry_of, changing_entry_of, entry_of_words}
+use Rattle.program_model.specs.Journal.{Journal, submit_act, take_act, report_act, done_act, close_act, weight_act, workers_act, withdraw_act, entry_with, fixed_entry_of, changing_entry_of, withdrawing_entry_of, entry_of_words}
 use Rattle.program_model.specs.Lines.{Words, word, number_at, ranged_at, index_at, name_at, policy_at, estimator_at}
 use Rattle.journal_text.specs.Reading.{settings_in}
 use Rattle.trace_reader.proofs.Numerals.{number-decimal}
@@ -74,7 +74,8 @@ words_in e = words_of_act e.who e.moment e.act
 -- an act of a journal of this version
 abbrev pub MayStand : Version → Act → Type 0
 MayStand First act = is_change act ≡ false
-MayStand Second act = Unit {0}
+MayStand Second act = is_withdraw act ≡ false
+MayStand Third act = Unit {0}
 
 module _ (who moment : ℕ) (w : who < 2 ^ 32) (m : moment < 2 ^ 64) where
   submit_read : (request tenant kind declared label : ℕ) → FitsTypes (Submit request tenant kind declared label)
@@ -160,6 +161,17 @@ module _ (who moment : ℕ) (w : who < 2 ^ 32) (m : moment < 2 ^ 64) where
         index_read words 3 count refl fits,
       ) refl
 
+  withdraw_read : (request : ℕ) → FitsTypes (Withdraw request)
+      → entry_with 4 withdraw_act (words_of_act who moment (Withdraw request)) ≡ Ok (entry who moment (Withdraw request))
+  unfolding entry_with withdraw_act
+  withdraw_read request fits =
+      let words = words_of_act who moment (Withdraw request) in
+      rw (
+        index_read words 1 who refl w,
+        number_read words 2 moment refl m,
+        index_read words 3 request refl fits,
+      ) refl
+
   fixed_read : (act : Act) → FitsTypes act → is_change act ≡ false → fixed_entry_of (words_of_act who moment act) ≡ Ok (entry who moment act)
   unfolding fixed_entry_of
   fixed_read (Submit request tenant kind declared label) fits fixed = submit_read request tenant kind declared label fits
@@ -169,20 +181,34 @@ module _ (who moment : ℕ) (w : who < 2 ^ 32) (m : moment < 2 ^ 64) where
   fixed_read Close fits fixed = close_read
   fixed_read (Weight tenant weight) fits fixed = absurd (cc)
   fixed_read (Workers count) fits fixed = absurd (cc)
+  fixed_read (Withdraw request) fits fixed = absurd (cc)
 
-  changing_read : (act : Act) → FitsTypes act → changing_entry_of (words_of_act who moment act) ≡ Ok (entry who moment act)
+  changing_read : (act : Act) → FitsTypes act → is_withdraw act ≡ false → changing_entry_of (words_of_act who moment act) ≡ Ok (entry who moment act)
   unfolding changing_entry_of
-  changing_read (Submit request tenant kind declared label) fits = fixed_read (Submit request tenant kind declared label) fits refl
-  changing_read (Take worker request estimate) fits = fixed_read (Take worker request estimate) fits refl
-  changing_read (Report worker request used) fits = fixed_read (Report worker request used) fits refl
-  changing_read (Done worker request cost) fits = fixed_read (Done worker request cost) fits refl
-  changing_read Close fits = fixed_read Close fits refl
-  changing_read (Weight tenant weight) fits = weight_read tenant weight fits
-  changing_read (Workers count) fits = workers_read count fits
+  changing_read (Submit request tenant kind declared label) fits kept = fixed_read (Submit request tenant kind declared label) fits refl
+  changing_read (Take worker request estimate) fits kept = fixed_read (Take worker request estimate) fits refl
+  changing_read (Report worker request used) fits kept = fixed_read (Report worker request used) fits refl
+  changing_read (Done worker request cost) fits kept = fixed_read (Done worker request cost) fits refl
+  changing_read Close fits kept = fixed_read Close fits refl
+  changing_read (Weight tenant weight) fits kept = weight_read tenant weight fits
+  changing_read (Workers count) fits kept = workers_read count fits
+  changing_read (Withdraw request) fits kept = absurd (cc)
+
+  withdrawing_read : (act : Act) → FitsTypes act → withdrawing_entry_of (words_of_act who moment act) ≡ Ok (entry who moment act)
+  unfolding withdrawing_entry_of
+  withdrawing_read (Submit request tenant kind declared label) fits = changing_read (Submit request tenant kind declared label) fits refl
+  withdrawing_read (Take worker request estimate) fits = changing_read (Take worker request estimate) fits refl
+  withdrawing_read (Report worker request used) fits = changing_read (Report worker request used) fits refl
+  withdrawing_read (Done worker request cost) fits = changing_read (Done worker request cost) fits refl
+  withdrawing_read Close fits = changing_read Close fits refl
+  withdrawing_read (Weight tenant weight) fits = changing_read (Weight tenant weight) fits refl
+  withdrawing_read (Workers count) fits = changing_read (Workers count) fits refl
+  withdrawing_read (Withdraw request) fits = withdraw_read request fits
 
 entry_read : (v : Version) (e : Entry) → IsEntry e → MayStand v e.act → entry_of_words v (words_in e) ≡ Ok e
 entry_read First e is may = fixed_read e.who e.moment is.who is.moment e.act is.act may
-entry_read Second e is may = changing_read e.who e.moment is.who is.moment e.act is.act
+entry_read Second e is may = changing_read e.who e.moment is.who is.moment e.act is.act may
+entry_read Third e is may = withdrawing_read e.who e.moment is.who is.moment e.act is.act
 
 -- ---- a line of the body
 
@@ -199,6 +225,7 @@ begins_none (Done worker request cost) = (refl, refl)
 begins_none Close = (refl, refl)
 begins_none (Weight tenant weight) = (refl, refl)
 begins_none (Workers count) = (refl, refl)
+begins_none (Withdraw request) = (refl, refl)
 
 pub body_line_read : (v : Version) (s : Settings) (tenants : List (List ℕ)) (weights : List ℕ) (kinds : List (List ℕ)) (body : List Entry) (e : Entry)
     → (length kinds == 0) ≡ false → IsEntry e → MayStand v e.act

@@ -4,7 +4,7 @@ use Rattle.std.specs.List.{All}
 use Rattle.fq_model.specs.declared.config.Config.{Config}
 use Rattle.fq_model.specs.declared.limits.TheConstants.{MOST_TENANTS, MOST_KINDS}
 use Rattle.fq_model.specs.declared.event.Act.{Act}
-use Rattle.fq_model.specs.declared.event.Act.TheVariants.{Submit, Take, Report, Done, Close, Weight, Workers}
+use Rattle.fq_model.specs.declared.event.Act.TheVariants.{Submit, Take, Report, Done, Close, Weight, Workers, Withdraw}
 use Rattle.fq_model.specs.declared.event.Entry.{Entry}
 use Rattle.fq_model.specs.History.{history_of}
 use Rattle.fq_model.specs.Limits.{InLimits, HasShortHistory}
@@ -29,6 +29,7 @@ FitsTypes (Done worker request cost) = (worker < 2 ^ 32) × (request < 2 ^ 32) �
 FitsTypes Close = Unit {0}
 FitsTypes (Weight tenant weight) = (tenant < 2 ^ 32) × (weight < 2 ^ 32)
 FitsTypes (Workers count) = count < 2 ^ 32
+FitsTypes (Withdraw request) = request < 2 ^ 32
 
 -- each number of an entry fits its type, as in every entry of the program
 pub record IsEntry (e : Entry) : Type 0 where

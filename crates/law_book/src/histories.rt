@@ -1,9 +1,15 @@
 //! Laws of histories, calls and choices.
-ghost use Rattle.fq_laws.specs.Laws.{EachOnce, NumbersFit, RunningLaw, PoolRange, RunnersKnown, WeightRange, HeadLaw, QueueLaw, ChoiceExists, OneChoice, EntriesLeaveOthers, KeysDoNotAge, OthersKeepKeys, AnswerExists, OneAnswer, AnswersKeepLegality, AnswersAddOne, RefusalsChangeNothing, RoomRemains, OutcomeExists, OneOutcome, OutcomesAreLegal};
+ghost use Rattle.fq_laws.specs.Laws.{EachOnce, WithdrawnIsNotTaken, NumbersFit, RunningLaw, PoolRange, RunnersKnown, WeightRange, HeadLaw, QueueLaw, ChoiceExists, OneChoice, EntriesLeaveOthers, KeysDoNotAge, OthersKeepKeys, AnswerExists, OneAnswer, AnswersKeepLegality, AnswersAddOne, RefusalsChangeNothing, RoomRemains, OutcomeExists, OneOutcome, OutcomesAreLegal};
 
-/// In a legal history a request is submitted, taken and done once at most.
+/// In a legal history a request is submitted, taken and done once at most, and is taken or withdrawn once at most, and
+/// so done or withdrawn once at most.
 pub fn each_once()
     ensures { EachOnce }
+{}
+
+/// In a legal history a withdrawn request is never taken.
+pub fn withdrawn_is_not_taken()
+    ensures { WithdrawnIsNotTaken }
 {}
 
 /// In a legal history the number of each submitted request fits 32 bits.

@@ -1,22 +1,24 @@
 -- What is kept of a history, one entry on, and where its tenants start.
 use Rattle.std.proofs.Common.{ℕ, ◌+◌, ◌<◌, ◌≡◌, ◌≢◌, ◌⊎◌, ◌∙◌, ◌&&◌, true, false, Bool, refl, ap, sym, subst, arith, inl, inr, List, ◌∷◌, length, Some, None, ℤ, pos, get_or, ◌-ℤ◌}
 use Rattle.std.specs.Prelude.{slice_index, slice_get, is_some, if◌then◌else◌}
+use Rattle.std.proofs.lemmas.Bool.{eq-eqb}
 use Rattle.std.proofs.lemmas.Option.{get_or_from_slice_get, slice_get_within}
 use Rattle.fq_model.specs.declared.config.Config.{Config}
 use Rattle.fq_model.specs.declared.config.Policy.{Policy}
 use Rattle.fq_model.specs.declared.config.Policy.TheVariants.{Wfq, Wf2q, Msf2q, TwoDfq, TwoDfqPlus}
 use Rattle.fq_model.specs.declared.event.Act.{Act}
-use Rattle.fq_model.specs.declared.event.Act.TheVariants.{Submit, Take, Report, Done, Close, Weight, Workers}
+use Rattle.fq_model.specs.declared.event.Act.TheVariants.{Submit, Take, Report, Done, Close, Weight, Workers, Withdraw}
 use Rattle.fq_model.specs.declared.event.Entry.{Entry}
-use Rattle.fq_model.specs.History.{History, Request, request_at, head, queue, queue_after}
+use Rattle.fq_model.specs.History.{History, Request, request_at, head, queue, queue_after, is_waiting}
 use Rattle.fq_model.specs.Time.{last_moment, virtual_idle_time}
 use Rattle.fq_model.specs.Charge.{virtual_charge}
 use Rattle.fq_model.specs.Keys.{tag, start}
 use Rattle.fq_model.specs.Pace.{tag_base, is_submit_for}
 use Rattle.fq_model.specs.Rules.{Fits, FitsTake, FitsUse}
 use Rattle.fq_model.specs.Gap.{is_shared, start_difference}
-use Rattle.fq_laws.specs.Steps.{Awaits, Follows, Submits, Completes, Reweighs, Staffs}
+use Rattle.fq_laws.specs.Steps.{Awaits, Follows, Submits, Ends, Reweighs, Staffs}
 use Rattle.fq_laws.proofs.History.Queues.{head_is_first}
+use Rattle.fq_laws.proofs.History.Asked.{waits_submitted, submitted_known}
 use Rattle.fq_laws.proofs.History.Requests.{use_known}
 use Rattle.fq_laws.proofs.Keys.Pace.{base_step}
 use Rattle.virtual_clock.specs.Histories.{TimesAre, ComesTo}
@@ -27,14 +29,15 @@ use Rattle.tag_gap.specs.declared.asked.Asked.{Asked}
 use Rattle.tag_gap.specs.declared.reading.Reading.{Reading}
 use Rattle.tag_gap.specs.Asked.{asked_of}
 use Rattle.tag_gap.proofs.ReadingLemmas.{no_first, some_first}
-use Rattle.tag_gap.specs.Reading.{Keeps, Takes, MayCome, AwaitsEntry, FollowsEntry, difference_at}
+use Rattle.tag_gap.specs.Reading.{Keeps, Takes, Withdraws, MayCome, AwaitsEntry, FollowsEntry, difference_at}
 
 -- ---- the other acts
 
--- the act is no Submit and no Take
+-- the act is no Submit, no Take and no Withdraw
 abbrev pub is_steady : Act → Bool
 is_steady (Submit request tenant kind declared label) = false
 is_steady (Take worker request estimate) = false
+is_steady (Withdraw request) = false
 is_steady _ = true
 
 -- it takes no length, raises no base and changes no queue
@@ -46,6 +49,7 @@ record Steady (C : Config) (P : History) (u : ℕ) (a : Act) : Type 0 where
 steady_at : (C : Config) (P : History) (u : ℕ) (a : Act) → is_steady a ≡ true → Steady C P u a
 steady_at C P u (Submit request tenant kind declared label) h = absurd (cc)
 steady_at C P u (Take worker request estimate) h = absurd (cc)
+steady_at C P u (Withdraw request) h = absurd (cc)
 steady_at C P u a h = record { no_length = refl; no_submit = refl; same_queue = refl }
 
 -- all but the times is the same
@@ -103,7 +107,7 @@ module _ (C : Config) (P : History) (asked : List Asked) (e : Entry) (may : MayC
         tenant_is = ap (λ (x : Asked). x.tenant) (sym (get_or_from_slice_get asked r (asked_of q) (record { tenant = 0; declared = 0 }) at));
       }
 
-  -- so is one that is taken or done
+  -- so is one that is taken, done or withdrawn
   taken_at : (w r estimate : ℕ) → e.act ≡ Take w r estimate → KnownAt P asked r
   taken_at w r estimate act = let f : FitsTake C P e.moment w r estimate = subst (Fits C P e.moment) act may.costs.legal.3 in known_at r f.asked f.chosen.asked
 
@@ -116,15 +120,31 @@ module _ (C : Config) (P : History) (asked : List Asked) (e : Entry) (may : MayC
   takes_is : (w r estimate : ℕ) → e.act ≡ Take w r estimate → Takes e.moment w (asked_at asked r).tenant estimate P e
   takes_is w r estimate act = let x = taken_at w r estimate act in record { request = r; asked = x.what; moment_is = refl; act_is = act; asked_is = x.was; tenant_is = x.tenant_is }
 
-  completes_is : (w r cost : ℕ) → e.act ≡ Done w r cost → Completes e.moment (asked_at asked r).tenant P e
-  completes_is w r cost act = let x = done_at w r cost act in record { worker = w; request = r; cost = cost; asked = x.what; moment_is = refl; act_is = act; asked_is = x.was; tenant_is = x.tenant_is }
+  completes_is : (w r cost : ℕ) → e.act ≡ Done w r cost → Ends e.moment (asked_at asked r).tenant P e
+  completes_is w r cost act = let x = done_at w r cost act in record { request = r; asked = x.what; moment_is = refl; ends = rw act (eq-eqb r r refl); asked_is = x.was; tenant_is = x.tenant_is }
+
+  withdrawn_at : (r : ℕ) → e.act ≡ Withdraw r → KnownAt P asked r
+  withdrawn_at r act =
+      let w : is_waiting P r ≡ true = subst (Fits C P e.moment) act may.costs.legal.3 in
+      let q = submitted_known P r (waits_submitted P r w) in
+      known_at r q.0 q.1
+
+  withdraws_is : (r : ℕ) → e.act ≡ Withdraw r → Withdraws e.moment (asked_at asked r).tenant P e
+  withdraws_is r act = let x = withdrawn_at r act in record { request = r; asked = x.what; moment_is = refl; act_is = act; asked_is = x.was; tenant_is = x.tenant_is }
 
 -- what the calls at a Done ask for
 pub done_within : (asked : List Asked) (e : Entry) (k : Reading) (w r cost : ℕ) → AwaitsEntry asked e k → e.act ≡ Done w r cost → r < length asked
 done_within asked e k w r cost a act = (done_at a.config a.history asked e a.comes w r cost act).within
 
-pub awaits_done : (asked : List Asked) (e : Entry) (k : Reading) (w r cost : ℕ) → AwaitsEntry asked e k → e.act ≡ Done w r cost → Awaits TimesAre (Completes e.moment (asked_at asked r).tenant) k.times
+pub awaits_done : (asked : List Asked) (e : Entry) (k : Reading) (w r cost : ℕ) → AwaitsEntry asked e k → e.act ≡ Done w r cost → Awaits TimesAre (Ends e.moment (asked_at asked r).tenant) k.times
 awaits_done asked e k w r cost a act = record { config = a.config; history = a.history; entry = e; limits = a.keeps.limits; legal = a.comes.costs.legal; comes = completes_is a.config a.history asked e a.comes w r cost act; kept_is = a.keeps.times_are }
+
+-- and at a Withdraw
+pub withdraw_within : (asked : List Asked) (e : Entry) (k : Reading) (r : ℕ) → AwaitsEntry asked e k → e.act ≡ Withdraw r → r < length asked
+withdraw_within asked e k r a act = (withdrawn_at a.config a.history asked e a.comes r act).within
+
+pub awaits_withdraw : (asked : List Asked) (e : Entry) (k : Reading) (r : ℕ) → AwaitsEntry asked e k → e.act ≡ Withdraw r → Awaits Keeps (Withdraws e.moment (asked_at asked r).tenant) k
+awaits_withdraw asked e k r a act = record { config = a.config; history = a.history; entry = e; limits = a.keeps.limits; legal = a.comes.costs.legal; comes = withdraws_is a.config a.history asked e a.comes r act; kept_is = a.keeps }
 
 -- what each act makes of what is kept
 pub read_submit : (asked : List Asked) (e : Entry) (k n : Reading) (r t kind declared label : ℕ) → e.act ≡ Submit r t kind declared label → Follows Keeps (Submits e.moment t) k n → FollowsEntry asked e k n
@@ -137,7 +157,7 @@ pub read_pass : (asked : List Asked) (e : Entry) (k n : Reading) → ((w : ℕ) 
 read_pass asked e k n (inl x) f same = λ C P may is. steady_keeps C P e k n (rw x.3 refl) may.costs (times_pass C P e n.times (rw x.3 refl) (rw x.3 refl) (f C P is.limits may.costs.legal.0 is.times_are)) same is
 read_pass asked e k n (inr act) f same = λ C P may is. steady_keeps C P e k n (rw act refl) may.costs (times_pass C P e n.times (rw act refl) (rw act refl) (f C P is.limits may.costs.legal.0 is.times_are)) same is
 
-pub read_done : (asked : List Asked) (e : Entry) (k n : Reading) (w r cost : ℕ) → e.act ≡ Done w r cost → Follows TimesAre (Completes e.moment (asked_at asked r).tenant) k.times n.times → SameRest k n → FollowsEntry asked e k n
+pub read_done : (asked : List Asked) (e : Entry) (k n : Reading) (w r cost : ℕ) → e.act ≡ Done w r cost → Follows TimesAre (Ends e.moment (asked_at asked r).tenant) k.times n.times → SameRest k n → FollowsEntry asked e k n
 read_done asked e k n w r cost act f same = λ C P may is. steady_keeps C P e k n (rw act refl) may.costs (f C P e is.limits may.costs.legal (completes_is C P asked e may w r cost act) is.times_are) same is
 
 pub read_weight : (asked : List Asked) (e : Entry) (k n : Reading) (t weight : ℕ) → e.act ≡ Weight t weight → Follows TimesAre (Reweighs e.moment t weight) k.times n.times → SameRest k n → FollowsEntry asked e k n
@@ -145,6 +165,9 @@ read_weight asked e k n t weight act f same = λ C P may is. steady_keeps C P e 
 
 pub read_workers : (asked : List Asked) (e : Entry) (k n : Reading) (count : ℕ) → e.act ≡ Workers count → Follows TimesAre (Staffs e.moment count) k.times n.times → SameRest k n → FollowsEntry asked e k n
 read_workers asked e k n count act f same = λ C P may is. steady_keeps C P e k n (rw act refl) may.costs (f C P e is.limits may.costs.legal (record { moment_is = refl; act_is = act }) is.times_are) same is
+
+pub read_withdraw : (asked : List Asked) (e : Entry) (k n : Reading) (r : ℕ) → e.act ≡ Withdraw r → Follows Keeps (Withdraws e.moment (asked_at asked r).tenant) k n → FollowsEntry asked e k n
+read_withdraw asked e k n r act f = λ C P may is. f C P e is.limits may.costs.legal (withdraws_is C P asked e may r act) is
 
 -- ---- starts and their difference
 

@@ -1,7 +1,7 @@
 -- What is kept of a history, one entry on.
 use Rattle.std.proofs.Common.{ℕ, ◌+◌, ◌-◌, ◌<◌, ◌≤◌, ◌≡◌, ◌≢◌, ◌==◌, ◌∙◌, true, false, Bool, cond, refl, ap, ap₂, sym, subst, arith, inl, inr, List, [], ◌∷◌, length, replicate, Some, None, ℤ, pos, get_or, ◌+ℤ◌, length-set, get_or-set_same, get_or-set_other, length-append, length-drop}
 use Rattle.std.specs.Prelude.{slice_index, slice_set}
-use Rattle.std.proofs.lemmas.Bool.{cases_Bool, cases_eq, eq-eqb, ne_eqb}
+use Rattle.std.proofs.lemmas.Bool.{cases_Bool, cases_eq, eq-eqb, ne_eqb, and_from, not_from_false}
 use Rattle.std.proofs.lemmas.Int.{ints}
 use Rattle.std.proofs.lemmas.List.{get_or-replicate, length-replicate}
 use Rattle.std.proofs.lemmas.Option.{get_or_from_slice_get, slice_get_read}
@@ -10,19 +10,19 @@ use Rattle.vt_fixed.specs.declared.limits.TheConstants.{GREATEST_COST}
 use Rattle.fq_model.specs.declared.config.Config.{Config}
 use Rattle.fq_model.specs.declared.config.Policy.TheVariants.{TwoDfqPlus}
 use Rattle.fq_model.specs.declared.event.Act.{Act}
-use Rattle.fq_model.specs.declared.event.Act.TheVariants.{Submit, Take}
+use Rattle.fq_model.specs.declared.event.Act.TheVariants.{Submit, Take, Withdraw}
 use Rattle.fq_model.specs.declared.event.Entry.{Entry}
 use Rattle.fq_model.specs.Limits.{InLimits}
-use Rattle.fq_model.specs.History.{History, Request, request_at, is_of_tenant, head, queue, queue_after, weight_at, is_submit}
+use Rattle.fq_model.specs.History.{History, Request, request_at, is_of_tenant, head, queue, queue_after, weight_at, is_submit, is_waiting, waits_for}
 use Rattle.fq_model.specs.Pace.{virtual_time}
 use Rattle.fq_model.specs.Charge.{virtual_charge, request_estimate}
 use Rattle.fq_model.specs.Keys.{HeadKeys, tag, start}
 use Rattle.fq_model.specs.Rules.{IsLegal, Fits, FitsTake}
-use Rattle.fq_laws.specs.Words.{one_more, first}
-use Rattle.fq_laws.specs.Steps.{Awaits, Follows, passes, Submits}
-use Rattle.fq_laws.proofs.History.Queues.{head_is_first}
+use Rattle.fq_laws.specs.Words.{Member, Ascends, one_more, first}
+use Rattle.fq_laws.specs.Steps.{Awaits, Follows, Submits, Ends}
+use Rattle.fq_laws.proofs.History.Queues.{head_is_first, queue_is, but, but_none}
 use Rattle.fq_laws.proofs.History.Requests.{request_known}
-use Rattle.fq_laws.proofs.History.Asked.{of_own, of_other}
+use Rattle.fq_laws.proofs.History.Asked.{of_own, of_other, waits_unremoved}
 use Rattle.fq_laws.proofs.Charge.Estimates.{estimate_range}
 use Rattle.fq_laws.proofs.Charge.Tenants.{virtual_charge_taken}
 use Rattle.fq_laws.proofs.Rules.Takes.{choice_head, take_head}
@@ -31,12 +31,12 @@ use Rattle.fq_laws.proofs.Keys.Choices.{KeysOf, keys_of}
 use Rattle.fq_laws.proofs.Keys.Pace.{virtual_time_step}
 use Rattle.virtual_clock.specs.declared.times.Times.{Times}
 use Rattle.virtual_clock.specs.Histories.{TimesAt, TimesAre, ComesTo, TakesChoice, AwaitsTake, FollowsTake, IsTimeOf, IsWeightOf}
-use Rattle.virtual_clock.proofs.Opening.{submits_open}
+use Rattle.virtual_clock.proofs.Opening.{passes, submits_open}
 use Rattle.virtual_clock.proofs.TimeSteps.{times_take}
 use Rattle.tag_rules.specs.Accounts.{AccountsView, AccountsAre, IsCharge, at_first, charge_of, base_of, charged}
-use Rattle.tag_rules.proofs.AccountSteps.{accounts_nil, accounts_raise, accounts_leave, accounts_charge, may_charge, tag_is_sum}
+use Rattle.tag_rules.proofs.AccountSteps.{accounts_nil, accounts_raise, accounts_leave, accounts_charge, accounts_withdraw, may_charge, tag_is_sum}
 use Rattle.tag_gap.specs.declared.reading.Reading.{Reading}
-use Rattle.tag_gap.specs.Reading.{WaitingAre, Keeps, Takes, raised_first}
+use Rattle.tag_gap.specs.Reading.{WaitingAre, Keeps, Takes, Withdraws, raised_first}
 
 -- an entry, once its act is known
 entry_is : (e : Entry) (a : Act) → e.act ≡ a → e ≡ record { who = e.who; moment = e.moment; act = a }
@@ -66,9 +66,14 @@ waiting_written C P e t n waiting known own others is = record {
   ];
 }
 
+but_low : (q : ℕ) (xs : List ℕ) → length (but q xs) ≤ length xs
+but_low q [] = omega arith
+but_low q (x ∷ xs) = elim (cases_Bool (x == q)) [ inl e ↦ rw e (omega (arith, but_low q xs)) | inr e ↦ rw e (omega (arith, but_low q xs)) ]
+
 queue_low_at : (P : History) (t : ℕ) (a : Act) → length (queue P t) ≤ length P → length (queue_after P t a (queue P t)) ≤ length P + 1
 queue_low_at P t (Submit request tenant kind declared label) h = elim (cases_Bool (tenant == t)) [ inl e ↦ rw e (omega (arith, length-append (queue P t) (request ∷ []), h)) | inr e ↦ rw e (omega (arith, h)) ]
 queue_low_at P t (Take worker request estimate) h = elim (cases_Bool (is_of_tenant t (request_at P request))) [ inl e ↦ rw e (omega (arith, length-drop 1 (queue P t), h)) | inr e ↦ rw e (omega (arith, h)) ]
+queue_low_at P t (Withdraw request) h = elim (cases_Bool (is_of_tenant t (request_at P request))) [ inl e ↦ rw e (omega (arith, but_low request (queue P t), h)) | inr e ↦ rw e (omega (arith, h)) ]
 queue_low_at P t a h = omega (arith, h)
 
 queue_low : (P : History) (t : ℕ) → length (queue P t) ≤ length P
@@ -302,4 +307,73 @@ may_take m w t estimate k passed a comes =
           );
       waits = omega (arith, x.known, a.kept_is.waiting_are.tenants);
       some = omega (arith, a.kept_is.waiting_are.each t x.known, x.waits);
+    }
+
+-- ---- a Withdraw
+
+-- one fewer stands in a list that ascends without one that stands in it
+one_fewer : (q : ℕ) (xs : List ℕ) → Ascends xs → Member q xs → length (but q xs) + 1 ≡ length xs
+one_fewer q [] a h = absurd h
+one_fewer q (x ∷ xs) a (inl e) = rw (eq-eqb x q (sym e), but_none q xs (λ r k same. let b : x < r = a.0 r k in omega (arith, e, same, b))) (omega arith)
+one_fewer q (x ∷ xs) a (inr h) = let b : x < q = a.0 q h in rw (ne_eqb x q (λ e. omega (arith, e, b))) (omega (arith, one_fewer q xs a.1 h))
+
+-- what is withdrawn waits for its tenant
+waits_own : (P : History) (t r : ℕ) → is_of_tenant t (request_at P r) ≡ true → is_waiting P r ≡ true → waits_for P t r ≡ true
+unfolding waits_for
+waits_own P t r own w = and_from _ _ own (not_from_false _ (waits_unremoved P r w))
+
+-- what a Withdraw of a request of tenant t changes
+record WithdrawStep (C : Config) (P : History) (e : Entry) (t : ℕ) : Type 0 where
+  known : t < length C.weights
+  own_queue : length (queue (e ∷ P) t) + 1 ≡ length (queue P t)
+  other_queues : (u : ℕ) → u ≢ t → queue (e ∷ P) u ≡ queue P u
+  accounts_stay : (a : AccountsView) → AccountsAre C P a → AccountsAre C (e ∷ P) a
+
+withdraw_step_at : (C : Config) (P : History) (who m r : ℕ) (q : Request) → IsLegal C (one_more who m (Withdraw r) P) → request_at P r ≡ Some q → WithdrawStep C P (record { who = who; moment = m; act = Withdraw r }) q.tenant
+withdraw_step_at C P who m r q l was =
+    let own : is_of_tenant q.tenant (request_at P r) ≡ true = of_own P q.tenant r q was refl in
+    let queued = queue_is C P q.tenant l.0 in
+    record {
+      known = (request_known C P r q l.0 was).tenant_known;
+      own_queue = rw own (one_fewer r (queue P q.tenant) queued.ascends (queued.every r (waits_own P q.tenant r own l.3)));
+      other_queues = λ u ne. rw (of_other P u r q was (λ e. ne (sym e))) refl;
+      accounts_stay = λ a is. accounts_withdraw C P a who m r is;
+    }
+
+withdraw_step : (C : Config) (P : History) (e : Entry) (m t : ℕ) → IsLegal C (e ∷ P) → Withdraws m t P e → WithdrawStep C P e t
+withdraw_step C P e m t l s =
+    let entry = entry_is e _ s.act_is in
+    let at = withdraw_step_at C P e.who e.moment s.request s.asked (subst (λ (x : Entry). IsLegal C (x ∷ P)) entry l) s.asked_is in
+    subst (λ (u : ℕ). WithdrawStep C P e u) s.tenant_is (subst (λ (x : Entry). WithdrawStep C P x s.asked.tenant) (sym entry) at)
+
+-- it ends the request
+withdraw_ends : (P : History) (e : Entry) (m t : ℕ) → Withdraws m t P e → Ends m t P e
+withdraw_ends P e m t s = record { request = s.request; asked = s.asked; moment_is = s.moment_is; ends = rw s.act_is (eq-eqb s.request s.request refl); asked_is = s.asked_is; tenant_is = s.tenant_is }
+
+pub awaits_end : (m t : ℕ) (k : Reading) → Awaits Keeps (Withdraws m t) k → Awaits TimesAre (Ends m t) k.times
+awaits_end m t k a = record { config = a.config; history = a.history; entry = a.entry; limits = a.limits; legal = a.legal; comes = withdraw_ends a.history a.entry m t a.comes; kept_is = a.kept_is.times_are }
+
+pub withdraw_follows : (m t waited : ℕ) (k n : Reading) → Follows TimesAre (Ends m t) k.times n.times → n.policy ≡ k.policy → n.accounts ≡ k.accounts → waited ≡ slice_index k.waiting.items t → n.waiting.items ≡ slice_set k.waiting.items t (waited - 1) → Follows Keeps (Withdraws m t) k n
+withdraw_follows m t waited k n times policy accounts read waiting = λ C P e lim l s is.
+    let x = withdraw_step C P e m t l s in
+    record {
+      limits = lim;
+      legal = l;
+      policy_is = policy ∙ is.policy_is;
+      times_are = times C P e lim l (withdraw_ends P e m t s) is.times_are;
+      accounts_are = rw accounts (x.accounts_stay k.accounts is.accounts_are);
+      waiting_are = rw waiting (waiting_written C P e t (waited - 1) k.waiting.items x.known (omega (arith, read, is.waiting_are.each t x.known, x.own_queue)) x.other_queues is.waiting_are);
+    }
+
+-- what the calls at a Withdraw ask for
+pub record MayWithdraw (k : Reading) (t : ℕ) : Type 0 where
+  pub waits : t < length k.waiting.items
+  pub some : 1 ≤ slice_index k.waiting.items t
+
+pub may_withdraw : (m t : ℕ) (k : Reading) → Awaits Keeps (Withdraws m t) k → MayWithdraw k t
+may_withdraw m t k a =
+    let x = withdraw_step a.config a.history a.entry m t a.legal a.comes in
+    record {
+      waits = omega (arith, x.known, a.kept_is.waiting_are.tenants);
+      some = omega (arith, a.kept_is.waiting_are.each t x.known, x.own_queue);
     }

@@ -1,7 +1,7 @@
 -- What is kept of a history while its entries are read.
 use Rattle.std.specs.Prelude.{ℕ, ℤ, ◌<◌, ◌≡◌, ◌==◌, ◌∷◌, if◌then◌else◌, List, Option, Some, None, length, slice_get, slice_index}
 use Rattle.fq_model.specs.declared.config.Config.{Config}
-use Rattle.fq_model.specs.declared.event.Act.TheVariants.{Take}
+use Rattle.fq_model.specs.declared.event.Act.TheVariants.{Take, Withdraw}
 use Rattle.fq_model.specs.declared.event.Entry.{Entry}
 use Rattle.fq_model.specs.Limits.{InLimits}
 use Rattle.fq_model.specs.History.{History, Request, request_at, queue}
@@ -38,6 +38,15 @@ pub record Takes (moment worker tenant estimate : ℕ) (P : History) (e : Entry)
   pub asked : Request
   pub moment_is : e.moment ≡ moment
   pub act_is : e.act ≡ Take worker request estimate
+  pub asked_is : request_at P request ≡ Some asked
+  pub tenant_is : asked.tenant ≡ tenant
+
+-- the entry is of this moment, and withdraws a request of this tenant
+pub record Withdraws (moment tenant : ℕ) (P : History) (e : Entry) : Type 0 where
+  pub request : ℕ
+  pub asked : Request
+  pub moment_is : e.moment ≡ moment
+  pub act_is : e.act ≡ Withdraw request
   pub asked_is : request_at P request ≡ Some asked
   pub tenant_is : asked.tenant ≡ tenant
 

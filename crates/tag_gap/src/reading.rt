@@ -5,7 +5,7 @@ ghost use Rattle.fq_model.specs.History.{History};
 ghost use Rattle.fq_model.specs.Time.{last_moment};
 ghost use Rattle.fq_model.specs.Keys.{start};
 ghost use Rattle.fq_laws.specs.Steps.{Awaits, Follows, Submits};
-ghost use Rattle.tag_gap.specs.Reading.{Keeps, KeepsSome, Takes, raised_first, difference_at};
+ghost use Rattle.tag_gap.specs.Reading.{Keeps, KeepsSome, Takes, Withdraws, raised_first, difference_at};
 ghost use Rattle.tag_gap.specs.Reading.{AwaitsEntry, FollowsEntry};
 ghost use Rattle.tag_gap.specs.declared.fault.GapFault.TheVariants as faults;
 
@@ -56,9 +56,10 @@ impl Reading {
                 estimate,
             } => self.take(moment, worker, asked[request as usize].tenant, estimate),
             Act::Report { .. } | Act::Close => self.times.pass(moment),
-            Act::Done { request, .. } => self.times.done(moment, asked[request as usize].tenant),
+            Act::Done { request, .. } => self.times.end(moment, asked[request as usize].tenant),
             Act::Weight { tenant, weight } => self.times.reweigh(moment, tenant, weight),
             Act::Workers { count } => self.times.staff(moment, count),
+            Act::Withdraw { request } => self.withdraw(moment, asked[request as usize].tenant),
         }
     }
 
@@ -86,6 +87,16 @@ impl Reading {
         self.accounts.charge(tenant, len);
         let waiting = self.waiting[tenant as usize];
         self.waiting[tenant as usize] = waiting - 1;
+    }
+
+    // A request of the tenant that waits is withdrawn.
+    fn withdraw(&mut self, moment: u64, tenant: u32)
+        requires { Awaits Keeps (Withdraws moment tenant) self.old }
+        ensures { Follows Keeps (Withdraws moment tenant) self.old self.new }
+    {
+        self.times.end(moment, tenant);
+        let left = self.waiting[tenant as usize] - 1;
+        self.waiting[tenant as usize] = left;
     }
 
     /// How far the start of tenant f is above that of tenant g, in steps, where a request of each waits.

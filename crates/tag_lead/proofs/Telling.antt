@@ -4,15 +4,15 @@ use Rattle.std.proofs.lemmas.Bool.{eq-eqb, false≢true}
 use Rattle.vt_fixed.specs.Rounding.{length_of}
 use Rattle.fq_model.specs.declared.config.Config.{Config}
 use Rattle.fq_model.specs.declared.event.Act.{Act}
-use Rattle.fq_model.specs.declared.event.Act.TheVariants.{Submit, Take, Report, Done, Close, Weight, Workers}
+use Rattle.fq_model.specs.declared.event.Act.TheVariants.{Submit, Take, Report, Done, Close, Weight, Workers, Withdraw}
 use Rattle.fq_model.specs.declared.event.Entry.{Entry}
 use Rattle.fq_model.specs.Limits.{InLimits}
 use Rattle.fq_model.specs.History.{History, Request, request_at, is_taken, running_on}
 use Rattle.fq_model.specs.Charge.{charge, taken_weight, is_taken_of, charged}
 use Rattle.fq_model.specs.Rules.{IsLegal, FitsTake, FitsUse}
 use Rattle.fq_laws.specs.Words.{one_more, is_quiet}
-use Rattle.fq_laws.proofs.Charge.Requests.{charge_submit, charge_quiet, charge_take_other, charge_report_other, charge_done, charge_done_other, taken_weight_take_other}
-use Rattle.fq_laws.proofs.Charge.Tenants.{taken_of, untaken_of, taken_of_submit, taken_of_take_other, taken_of_report, taken_of_done, taken_of_quiet, charged_taken}
+use Rattle.fq_laws.proofs.Charge.Requests.{charge_submit, charge_withdraw, charge_quiet, charge_take_other, charge_report_other, charge_done, charge_done_other, taken_weight_take_other}
+use Rattle.fq_laws.proofs.Charge.Tenants.{taken_of, untaken_of, taken_of_submit, taken_of_take_other, taken_of_report, taken_of_done, taken_of_withdraw, taken_of_quiet, charged_taken}
 use Rattle.fq_laws.proofs.History.Asked.{of_own, of_other, waits_untaken}
 use Rattle.fq_laws.proofs.History.Workers.{runs_running}
 use Rattle.fq_laws.proofs.Rules.Takes.{take_waits}
@@ -113,6 +113,8 @@ tells_at C P who m (Submit request tenant kind declared label) lim l =
 tells_at C P who m (Take worker request estimate) lim l = take_tells C P who m worker request estimate lim l
 tells_at C P who m (Report worker request used) lim l = report_tells C P who m worker request used lim l
 tells_at C P who m (Done worker request cost) lim l = done_tells C P who m worker request cost lim l
+tells_at C P who m (Withdraw request) lim l =
+    λ t r. charged_same C P (one_more who m (Withdraw request) P) t r (taken_of_withdraw P who m t r request) (charge_withdraw P who m r request) refl
 tells_at C P who m Close lim l = quiet_tells C P who m Close refl
 tells_at C P who m (Weight tenant weight) lim l = quiet_tells C P who m (Weight tenant weight) refl
 tells_at C P who m (Workers count) lim l = quiet_tells C P who m (Workers count) refl

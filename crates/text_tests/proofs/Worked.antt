@@ -1,6 +1,6 @@
 -- Worked histories are legal.
 use Rattle.std.proofs.Common.{[], ◌∷◌, List, refl, arith}
-use Rattle.fq_model.specs.declared.event.Act.TheVariants.{Submit, Take, Done, Close, Weight}
+use Rattle.fq_model.specs.declared.event.Act.TheVariants.{Submit, Take, Done, Close, Weight, Withdraw}
 use Rattle.fq_model.specs.declared.event.Entry.{Entry}
 use Rattle.fq_model.specs.History.{history_of}
 use Rattle.fq_model.specs.Rules.{IsLegal}
@@ -43,6 +43,24 @@ weight_entries =
 pub weight_entries_legal : IsLegal (worked_config 1) (history_of weight_entries)
 unfolding computing
 weight_entries_legal = legal_is 2 2 (worked_config 1) (history_of weight_entries) (record { bound = omega arith; acts = refl }) refl
+
+-- one worker, and a request that is withdrawn while another runs
+abbrev pub withdrawn_entries : List Entry
+withdrawn_entries =
+    record { who = 0; moment = 0; act = Submit 0 0 0 8 0 }
+    ∷ record { who = 0; moment = 0; act = Submit 1 1 0 2 1 }
+    ∷ record { who = 0; moment = 0; act = Submit 2 1 0 2 2 }
+    ∷ record { who = 2; moment = 0; act = Take 0 1 2 }
+    ∷ record { who = 0; moment = 1; act = Withdraw 0 }
+    ∷ record { who = 2; moment = 2; act = Done 0 1 2 }
+    ∷ record { who = 2; moment = 2; act = Take 0 2 2 }
+    ∷ record { who = 2; moment = 4; act = Done 0 2 2 }
+    ∷ record { who = 0; moment = 4; act = Close }
+    ∷ []
+
+pub withdrawn_entries_legal : IsLegal (worked_config 1) (history_of withdrawn_entries)
+unfolding computing
+withdrawn_entries_legal = legal_is 3 2 (worked_config 1) (history_of withdrawn_entries) (record { bound = omega arith; acts = refl }) refl
 
 -- two requests that wait
 abbrev pub waiting_entries : List Entry

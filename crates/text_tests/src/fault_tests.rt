@@ -8,10 +8,12 @@ use std::process::Abort;
 // A first line and a configuration.
 const CONFIG: &str = "script 1\nconfig 1 2dfq declared 1000 100 10\n";
 
-// Heads of either version.
+// Heads of each version.
 const HEAD: &str = "script 1\nconfig 1 2dfq declared 1000 100 10\ntenant a 1\nkind get\n";
 
 const HEAD_2: &str = "script 2\nconfig 1 2dfq declared 1000 100 10\ntenant a 1\nkind get\n";
+
+const HEAD_3: &str = "script 3\nconfig 1 2dfq declared 1000 100 10\ntenant a 1\nkind get\n";
 
 // Each text, behind these lines, has this first fault.
 fn expect(rt: &impl Abort, alloc: Global, before: &str, faults: &[(&str, u64, ScriptKind)]) {
@@ -36,8 +38,9 @@ fn names_faults_of_the_first_lines(rt: HostRuntime) {
     let faults = [
         ("", 1, ScriptKind::Header),
         ("\n", 1, ScriptKind::Header),
-        ("script 3\n", 1, ScriptKind::Header),
+        ("script 4\n", 1, ScriptKind::Header),
         ("script 2", 2, ScriptKind::Missing),
+        ("script 3\n", 2, ScriptKind::Missing),
         ("script 1 \n", 1, ScriptKind::Header),
         ("script 1\r\n", 1, ScriptKind::Header),
         ("script 1", 2, ScriptKind::Missing),
@@ -188,6 +191,7 @@ fn names_faults_of_calls(rt: HostRuntime) {
         ("close 0 00\n", 5, ScriptKind::Number(3)),
         ("weight 0 0 0 1\n", 5, ScriptKind::Word),
         ("workers 0 0 1\n", 5, ScriptKind::Word),
+        ("withdraw 0 0 0\n", 5, ScriptKind::Word),
     ];
     expect(&rt, rt.alloc(), HEAD, &faults);
 }
@@ -203,6 +207,22 @@ fn names_faults_of_changes(rt: HostRuntime) {
         ("workers 0 0 0 1\n", 5, ScriptKind::Fields(5)),
         ("workers -1 0 1\n", 5, ScriptKind::Number(2)),
         ("workers 0 0 4294967296\n", 5, ScriptKind::Range(4)),
+        ("withdraw 0 0 0\n", 5, ScriptKind::Word),
     ];
     expect(&rt, rt.alloc(), HEAD_2, &faults);
+}
+
+#[test]
+fn names_faults_of_withdrawals(rt: HostRuntime) {
+    let faults = [
+        ("withdrawn 0 0 0\n", 5, ScriptKind::Word),
+        ("withdraw 0 0\n", 5, ScriptKind::Fields(3)),
+        ("withdraw 0 0 0 0\n", 5, ScriptKind::Fields(5)),
+        ("withdraw 4294967296 x 0\n", 5, ScriptKind::Range(2)),
+        ("withdraw 0 -1 0\n", 5, ScriptKind::Number(3)),
+        ("withdraw 0 0 \n", 5, ScriptKind::Number(4)),
+        ("withdraw 0 0 4294967296\n", 5, ScriptKind::Range(4)),
+        ("weight 0 0 0\n", 5, ScriptKind::Fields(4)),
+    ];
+    expect(&rt, rt.alloc(), HEAD_3, &faults);
 }

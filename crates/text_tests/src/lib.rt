@@ -37,4 +37,6 @@ mod time_tests;
 #[cfg(test)]
 mod trace_tests;
 #[cfg(test)]
+mod withdrawn_report_tests;
+#[cfg(test)]
 mod withdrawn_tests;

@@ -35,6 +35,9 @@ fn prints_every_reply(rt: HostRuntime) {
         Reply::Idle,
         Reply::Drained,
         Reply::Retired(2),
+        Reply::Withdrawn {
+            label: 18446744073709551615,
+        },
         Reply::Refused(Cause::Closed),
         Reply::Refused(Cause::Tenant(2)),
         Reply::Refused(Cause::Kind(1)),
@@ -47,11 +50,14 @@ fn prints_every_reply(rt: HostRuntime) {
         Reply::Refused(Cause::Falling { last: 8, given: 7 }),
         Reply::Refused(Cause::Weight(1001)),
         Reply::Refused(Cause::Workers(0)),
+        Reply::Refused(Cause::NotWaiting(4294967295)),
     ];
     let lines = "request 0\nrun 4294967295 5 18446744073709551615\nok\nidle\ndrained\nretired 2\n\
+        withdrawn 18446744073709551615\n\
         refused closed\nrefused tenant 2\nrefused kind 1\nrefused cost 1000000001\n\
         refused slots 10\nrefused full 100\nrefused worker 64\nrefused busy 3\n\
-        refused not-running\nrefused falling 8 7\nrefused weight 1001\nrefused workers 0\nidle\n";
+        refused not-running\nrefused falling 8 7\nrefused weight 1001\nrefused workers 0\n\
+        refused not-waiting 4294967295\nidle\n";
     expect_replies(&rt, rt.alloc(), &replies, Reply::Idle, lines);
 }
 
@@ -67,7 +73,7 @@ fn entry(act: Act) -> Entry {
 }
 
 // One of each act.
-fn entries() -> [Entry; 7] {
+fn entries() -> [Entry; 8] {
     [
         entry(Act::Submit {
             request: 0,
@@ -97,6 +103,7 @@ fn entries() -> [Entry; 7] {
             weight: 1000,
         }),
         entry(Act::Workers { count: 1 }),
+        entry(Act::Withdraw { request: 3 }),
     ]
 }
 
@@ -134,7 +141,8 @@ fn expect_journal<R: Abort>(
     expect_text(rt, text, wanted.as_bytes());
 }
 
-// It is of the second version only where a weight or the number of workers changes.
+// It is of the third version only where a request is withdrawn, and else of the second only where a weight or the number
+// of workers changes.
 #[test]
 fn prints_a_journal(rt: HostRuntime) {
     let past = entries();
@@ -144,7 +152,11 @@ fn prints_a_journal(rt: HostRuntime) {
     let changes = "weight 7 20 1 1000\n";
     expect_journal(&rt, rt.alloc(), &past[..6], "journal 2\n", entries, changes);
     let changes = "weight 7 20 1 1000\nworkers 7 20 1\n";
-    expect_journal(&rt, rt.alloc(), &past, "journal 2\n", entries, changes);
+    expect_journal(&rt, rt.alloc(), &past[..7], "journal 2\n", entries, changes);
+    let changes = "weight 7 20 1 1000\nworkers 7 20 1\nwithdraw 7 20 3\n";
+    expect_journal(&rt, rt.alloc(), &past, "journal 3\n", entries, changes);
+    let alone = "withdraw 7 20 3\n";
+    expect_journal(&rt, rt.alloc(), &past[7..], "journal 3\n", "", alone);
 }
 
 // The line of an entry alone.

@@ -1,6 +1,6 @@
 //! Random histories in which requests are withdrawn, over each chooser, and the verdicts on their journals.
 use eligible_index::index::IndexChooser;
-use fq_model::event::Call;
+use fq_model::event::{Call, Reply};
 use journal_check::checking::check;
 use journal_check::read_journal;
 use journal_text::calls::read_script;
@@ -20,8 +20,8 @@ use tag_rules::chooser::Chooser;
 const HEAD: &str = " 20 4000 6\ntenant a 1\ntenant b 3\ntenant c 2\nkind get\nkind scan\n";
 
 // A call at this moment that four random numbers say. Of eight calls three submit, two take, two end what runs, and one
-// withdraws a request of the last that were submitted, of which there are this many.
-fn call_of(moment: u64, submits: u32, numbers: [u32; 4]) -> Call {
+// withdraws one of the last eight requests.
+fn call_of(moment: u64, newest: u32, numbers: [u32; 4]) -> Call {
     let [kind, first, second, cost] = numbers;
     let cost = 1 + (cost % 40) as u64;
     match kind % 8 {
@@ -47,7 +47,7 @@ fn call_of(moment: u64, submits: u32, numbers: [u32; 4]) -> Call {
         _ => Call::Withdraw {
             who: 0,
             moment,
-            request: submits.saturating_sub(first % 8),
+            request: newest.saturating_sub(first % 8),
         },
     }
 }
@@ -56,7 +56,7 @@ fn call_of(moment: u64, submits: u32, numbers: [u32; 4]) -> Call {
 fn call_at_random<X: Chooser>(scheduler: &mut Scheduler<u64, X>, seed: u64, calls: u32) {
     let mut numbers = Lcg64Xsh32::seed_from_u64(seed);
     let mut moment = 0_u64;
-    let mut submits = 0_u32;
+    let mut newest = 0;
     for _ in 0..calls {
         moment = moment.saturating_add((numbers.next_word() % 12) as u64);
         let drawn = [
@@ -65,11 +65,9 @@ fn call_at_random<X: Chooser>(scheduler: &mut Scheduler<u64, X>, seed: u64, call
             numbers.next_word(),
             numbers.next_word(),
         ];
-        let call = call_of(moment, submits, drawn);
-        if let Call::Submit { .. } = call {
-            submits = submits.saturating_add(1);
+        if let Reply::Request(request) = answer(scheduler, call_of(moment, newest, drawn)) {
+            newest = request;
         }
-        answer(scheduler, call);
     }
 }
 

@@ -40,9 +40,9 @@ fn expect_script<R: Abort>(rt: &R, alloc: Global, text: &str, calls: &[Call]) {
 
 #[test]
 fn reads_a_script(rt: HostRuntime) {
-    let text = "script 2\nconfig 1 2dfq declared 1000 100 10\ntenant a 1\ntenant b 3\nkind get\n\
+    let text = "script 3\nconfig 1 2dfq declared 1000 100 10\ntenant a 1\ntenant b 3\nkind get\n\
         submit 0 0 0 0 5 7\ntake 9 0 0\ndone 9 5 0 5\nreport 9 5 0 3\nclose 0 5\n\
-        weight 4 7 5 4294967295\nworkers 6 18446744073709551615 0\n";
+        weight 4 7 5 4294967295\nworkers 6 18446744073709551615 0\nwithdraw 3 2 4294967295\n";
     let calls = [
         Call::Submit {
             who: 0,
@@ -80,6 +80,11 @@ fn reads_a_script(rt: HostRuntime) {
             who: 6,
             moment: 18446744073709551615,
             count: 0,
+        },
+        Call::Withdraw {
+            who: 3,
+            moment: 2,
+            request: 4294967295,
         },
     ];
     expect_script(&rt, rt.alloc(), text, &calls);
@@ -119,6 +124,19 @@ fn reads_a_script_call_by_call(rt: HostRuntime) {
         take 9 0 3\nclose 7 5";
     let calls = [take_at(0), Call::Close { who: 7, moment: 5 }];
     expect_call_by_call(&rt, rt.alloc(), text, &calls);
+}
+
+// Below a first line of version 3, calls that are read at once and one that is read by its words.
+#[test]
+fn reads_a_withdrawal_among_others(rt: HostRuntime) {
+    let text = "script 3\nconfig 1 2dfq declared 1000 100 10\ntenant a 1\nkind get\nkind put\n\
+        take 9 0 3\nwithdraw 7 5 8\ntake 9 6 3\n";
+    let withdraw = Call::Withdraw {
+        who: 7,
+        moment: 5,
+        request: 8,
+    };
+    expect_call_by_call(&rt, rt.alloc(), text, &[take_at(0), withdraw, take_at(6)]);
 }
 
 // Numbers of up to 18 digits are read as they are passed, longer ones by their words.

@@ -56,7 +56,7 @@ fn expect_printed<R: Abort>(rt: &R, alloc: Global, told: &Report, wanted: &[u8])
 }
 
 // The report of a history is printed so, and has this summary, if one is told.
-fn expect_report<R: Abort>(
+pub(crate) fn expect_report<R: Abort>(
     rt: &R,
     alloc: Global,
     workers: u32,

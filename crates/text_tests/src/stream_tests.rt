@@ -13,16 +13,16 @@ use recent_history::{Recent, answer};
 use std::alloc::{AllocError, Global};
 use std::process::Abort;
 
-// Two requests, each of which is taken in its turn; a weight changes in between.
+// Three requests, of which two are taken in their turn, and one is withdrawn; a weight changes in between.
 const SCRIPT: &str =
-    "script 2\nconfig 1 2dfq declared 1000 100 10\ntenant a 1\ntenant b 1\nkind get\n\
-    submit 0 0 0 0 5 7\nsubmit 0 1 1 0 30 8\ntake 9 1 0\ndone 9 6 0 5\nweight 0 6 1 4\ntake 9 6 0\n\
-    done 9 9 0 3\nclose 0 9\n";
+    "script 3\nconfig 1 2dfq declared 1000 100 10\ntenant a 1\ntenant b 1\nkind get\n\
+    submit 0 0 0 0 5 7\nsubmit 0 1 1 0 30 8\nsubmit 0 1 0 0 9 9\ntake 9 1 0\nwithdraw 0 2 2\n\
+    done 9 6 0 5\nweight 0 6 1 4\ntake 9 6 0\ndone 9 9 0 3\nclose 0 9\n";
 
 const JOURNAL: &str =
-    "journal 2\nconfig 1 2dfq declared 1000 100 10\ntenant a 1\ntenant b 1\nkind get\n\
-    submit 0 0 0 0 0 5 7\nsubmit 0 1 1 1 0 30 8\ntake 9 1 0 0 5\ndone 9 6 0 0 5\nweight 0 6 1 4\n\
-    take 9 6 0 1 30\ndone 9 9 0 1 3\nclose 0 9\n";
+    "journal 3\nconfig 1 2dfq declared 1000 100 10\ntenant a 1\ntenant b 1\nkind get\n\
+    submit 0 0 0 0 0 5 7\nsubmit 0 1 1 1 0 30 8\nsubmit 0 1 2 0 0 9 9\ntake 9 1 0 0 5\nwithdraw 0 2 2\n\
+    done 9 6 0 0 5\nweight 0 6 1 4\ntake 9 6 0 1 30\ndone 9 9 0 1 3\nclose 0 9\n";
 
 // How many of the last entries are kept.
 const KEPT: u32 = 3;
@@ -112,9 +112,9 @@ fn a_log_that_comes_too_late(rt: HostRuntime) {
         answer(&mut recent, *call);
     }
     assert!(rt; recent.entry(0).is_none());
-    assert_eq!(rt; recent.first_kept(), 5);
+    assert_eq!(rt; recent.first_kept(), 7);
     let mut text = Vec::new(rt.alloc());
-    read_on(&rt, &recent, 5, &mut text);
+    read_on(&rt, &recent, 7, &mut text);
     let wanted = "take 9 6 0 1 30\ndone 9 9 0 1 3\nclose 0 9\n";
     expect_text(&rt, Ok::<Vec<u8>, AllocError>(text), wanted.as_bytes());
 }

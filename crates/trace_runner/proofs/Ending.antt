@@ -14,6 +14,7 @@ use Rattle.fq_model.specs.Rules.{Answers}
 use Rattle.program_model.specs.Simulated.{run_config, row_submits, IsSimulated, InTurn, needed_entries}
 use Rattle.fq_model.specs.Time.{last_moment}
 use Rattle.program_model.specs.Trace.{Trace}
+use Rattle.fq_laws.proofs.History.Asked.{untaken_unremoved}
 use Rattle.fq_laws.proofs.History.Counts.{waiting_none}
 use Rattle.fq_laws.proofs.Rules.Limits.{last_moment_small, length_entries}
 use Rattle.fq_laws.proofs.Sums.{count_some}

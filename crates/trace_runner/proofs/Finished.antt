@@ -1,10 +1,14 @@
 -- A simulated history leaves no request undone.
 use Rattle.std.proofs.Common.{ℕ, ◌≡◌, Bool, true, false, not, ◌&&◌, None, arith, refl, ap}
+use Rattle.std.proofs.lemmas.Bool.{false≢true}
 use Rattle.program_model.specs.declared.trace.RunOptions.{RunOptions}
-use Rattle.fq_model.specs.History.{History, is_submitted, is_done, request_bound}
+use Rattle.fq_model.specs.declared.event.Act.{Act}
+use Rattle.fq_model.specs.declared.event.Act.TheVariants.{Done}
+use Rattle.fq_model.specs.History.{History, is_submitted, is_done, is_ended, is_done_of, is_end_of, request_bound}
 use Rattle.fq_model.specs.Report.{unfinished, is_unfinished}
 use Rattle.program_model.specs.Simulated.{run_config, IsSimulated}
 use Rattle.program_model.specs.Trace.{Trace}
+use Rattle.fq_laws.proofs.History.Asked.{has_weaker}
 use Rattle.fq_laws.proofs.History.Requests.{submitted_below}
 use Rattle.fq_laws.proofs.Sums.{least_by}
 use Rattle.trace_reader.specs.Rows.{row_at}
@@ -12,15 +16,24 @@ use Rattle.trace_runner.proofs.Only.{served_done}
 use Rattle.trace_runner.proofs.Rests.{all_submitted}
 use Rattle.trace_runner.proofs.Rows.{row_there}
 
+done_ends : (r : ℕ) (a : Act) → is_done_of r a ≡ true → is_end_of r a ≡ true
+done_ends r (Done worker request cost) h = h
+done_ends r _ h = absurd (false≢true h)
+
+-- what is done is ended
+done_ended : (P : History) (r : ℕ) → is_done P r ≡ true → is_ended P r ≡ true
+unfolding is_done is_ended
+done_ended P r h = has_weaker (is_done_of r) (is_end_of r) (done_ends r) P h
+
 module _ (T : Trace) (O : RunOptions) (H : History) (s : IsSimulated T O H) where
   ended : (r : ℕ) → is_submitted H r ≡ true → is_done H r ≡ true
   ended r submitted =
       let b = submitted_below (run_config T O) H r s.legal submitted in
       served_done T O.refresh H r (row_at T.rows r) (s.served r (row_at T.rows r) (row_there T.rows r (omega (arith, b, all_submitted T O H s))))
 
-  not_unfinished : (r : ℕ) (b : Bool) → is_submitted H r ≡ b → (b && not (is_done H r)) ≡ false
+  not_unfinished : (r : ℕ) (b : Bool) → is_submitted H r ≡ b → (b && not (is_ended H r)) ≡ false
   not_unfinished r false is = refl
-  not_unfinished r true is = ap not (ended r is)
+  not_unfinished r true is = ap not (done_ended H r (ended r is))
 
   pub none_unfinished : unfinished H ≡ None
   unfolding unfinished

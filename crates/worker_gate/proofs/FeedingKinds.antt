@@ -44,3 +44,4 @@ module _ {J : Type 0} (label : J → ℕ) (kind_for : Row J → ℕ) (C : Config
   not_by_kind kinds (cause.Falling last given) low few r = tt
   not_by_kind kinds (cause.Weight weight) low few r = tt
   not_by_kind kinds (cause.Workers workers) low few r = tt
+  not_by_kind kinds (cause.NotWaiting request) low few r = tt

@@ -1,12 +1,18 @@
 use Rattle.std.proofs.Common.{refl}
-use Rattle.tag_gap.proofs.EntryLemmas.{read_submit, read_take, read_pass, read_done, read_weight, read_workers, awaits_done, done_within}
+use Rattle.tag_gap.proofs.EntryLemmas.{read_submit, read_take, read_pass, read_done, read_weight, read_workers, read_withdraw, awaits_done, done_within, awaits_withdraw, withdraw_within}
 use Rattle.tag_gap.proofs.reading.Reading.read.Goals as goal
 
 pub bounds-asked-request-in-Done : goal.bounds-asked-request-in-Done
 bounds-asked-request-in-Done c = done_within c.args.asked.now c.args.entry.now c.args.self.now c.in-Done.worker c.in-Done.request c.in-Done.cost c.requires c.in-Done.is
 
-pub done-requires : goal.done-requires
-done-requires c = awaits_done c.args.asked.now c.args.entry.now c.args.self.now c.in-Done.worker c.in-Done.request c.in-Done.cost c.requires c.in-Done.is
+pub end-requires : goal.end-requires
+end-requires c = awaits_done c.args.asked.now c.args.entry.now c.args.self.now c.in-Done.worker c.in-Done.request c.in-Done.cost c.requires c.in-Done.is
+
+pub bounds-asked-request-in-Withdraw : goal.bounds-asked-request-in-Withdraw
+bounds-asked-request-in-Withdraw c = withdraw_within c.args.asked.now c.args.entry.now c.args.self.now c.in-Withdraw.request c.requires c.in-Withdraw.is
+
+pub withdraw-requires : goal.withdraw-requires
+withdraw-requires c = awaits_withdraw c.args.asked.now c.args.entry.now c.args.self.now c.in-Withdraw.request c.requires c.in-Withdraw.is
 
 pub returns-in-Submit : goal.returns-in-Submit
 returns-in-Submit c = read_submit c.args.asked.now c.args.entry.now c.args.self.now c.submit.new.self c.in-Submit.request c.in-Submit.tenant c.in-Submit.kind c.in-Submit.declared c.in-Submit.label c.in-Submit.is c.submit.ensures
@@ -18,10 +24,13 @@ pub returns-in-Report : goal.returns-in-Report
 returns-in-Report c = read_pass c.args.asked.now c.args.entry.now c.args.self.now _ c.in-Report.is c.pass.ensures (record { policy = refl; accounts = refl; waiting = refl })
 
 pub returns-in-Done : goal.returns-in-Done
-returns-in-Done c = read_done c.args.asked.now c.args.entry.now c.args.self.now _ c.in-Done.worker c.in-Done.request c.in-Done.cost c.in-Done.is c.done.ensures (record { policy = refl; accounts = refl; waiting = refl })
+returns-in-Done c = read_done c.args.asked.now c.args.entry.now c.args.self.now _ c.in-Done.worker c.in-Done.request c.in-Done.cost c.in-Done.is c.end.ensures (record { policy = refl; accounts = refl; waiting = refl })
 
 pub returns-in-Weight : goal.returns-in-Weight
 returns-in-Weight c = read_weight c.args.asked.now c.args.entry.now c.args.self.now _ c.in-Weight.tenant c.in-Weight.weight c.in-Weight.is c.reweigh.ensures (record { policy = refl; accounts = refl; waiting = refl })
 
 pub returns-in-Workers : goal.returns-in-Workers
 returns-in-Workers c = read_workers c.args.asked.now c.args.entry.now c.args.self.now _ c.in-Workers.count c.in-Workers.is c.staff.ensures (record { policy = refl; accounts = refl; waiting = refl })
+
+pub returns-in-Withdraw : goal.returns-in-Withdraw
+returns-in-Withdraw c = read_withdraw c.args.asked.now c.args.entry.now c.args.self.now c.withdraw.new.self c.in-Withdraw.request c.in-Withdraw.is c.withdraw.ensures
