@@ -47,6 +47,7 @@ AreEndsWithout ends before next without =
     → (first_of without ≡ first_in (front ++ rest)) × (last_of without ≡ last_behind None (front ++ rest))
 
 module _ {J : Type 0} where
+  -- a slot that has no item and leads nowhere
   abbrev pub empty_slot : Slot J
   empty_slot = record { item = None; tenant = 0; before = None; next = None; next_in_cell = None }
 
@@ -54,6 +55,7 @@ module _ {J : Type 0} where
   abbrev pub slot_at : List (Slot J) → ℕ → Slot J
   slot_at slots i = slice_index_or slots i empty_slot
 
+  -- the items, after this one where there is one
   abbrev pub put_before : Option (Item J) → List (Item J) → List (Item J)
   put_before None items = items
   put_before (Some item) items = item ∷ items

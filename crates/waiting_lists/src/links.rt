@@ -1,6 +1,6 @@
 //! Slots, and how they are linked to lists.
 ghost use Rattle.std.specs.Prelude.{◌≡◌, ◌<◌, ◌≤◌, [], length, None, Some, OnOk, OnErr, IfErr, IfOk, IfSome, IsSome, MatchOption, slice_get, slice_index_or, vec_capacity};
-ghost use Rattle.waiting_lists.specs.Linked.{lists_of, count_of, slot_at, Keeps, IsMadeFree, IsAppended, IsTakenOut, IsPutAt, IsEmptied, Leads, LeadsBack, AreEndsWithout};
+ghost use Rattle.waiting_lists.specs.Linked.{lists_of, count_of, empty_slot, slot_at, Keeps, IsMadeFree, IsAppended, IsTakenOut, IsPutAt, IsEmptied, Leads, LeadsBack, AreEndsWithout};
 
 use crate::item::Item;
 use std::mem;
@@ -14,6 +14,21 @@ pub struct Slot<J> {
     pub before: Option<u32>,
     pub next: Option<u32>,
     pub next_in_cell: Option<u32>,
+}
+
+impl<J> Slot<J> {
+    // One that has no item, and leads to this slot.
+    fn empty(next: Option<u32>) -> Slot<J>
+        ensures { result ≡ record empty_slot { next = next } }
+    {
+        Slot {
+            item: None,
+            tenant: 0,
+            before: None,
+            next,
+            next_in_cell: None,
+        }
+    }
 }
 
 /// The first and the last slot of a list that has an item.
@@ -32,13 +47,7 @@ pub fn make_free<J: Drop>(slots: &mut Vec<Slot<J>>, free: &mut Option<u32>, room
 {
     let count = slots.len() as u32;
     if free.is_none() && count < room {
-        slots.push_reserved(Slot {
-            item: None,
-            tenant: 0,
-            before: None,
-            next: None,
-            next_in_cell: None,
-        });
+        slots.push_reserved(Slot::empty(None));
         *free = Some(count);
     }
 }
@@ -117,20 +126,13 @@ pub fn unlink<J: Drop>(
     ensures rest { IsTakenOut slots.old ends.old slot slots.new ends.new }
     ensures emptied { IsEmptied slots.old slot slots.new }
 {
-    let place = Slot {
-        item: None,
-        tenant: 0,
-        before: None,
-        next: *free,
-        next_in_cell: None,
-    };
     let Slot {
         item,
         tenant,
         before,
         next,
         ..
-    } = mem::replace(&mut slots[slot as usize], place);
+    } = mem::replace(&mut slots[slot as usize], Slot::empty(*free));
     *free = Some(slot);
     lead(slots, before, next);
     lead_back(slots, next, before);

@@ -1,4 +1,4 @@
-use Rattle.std.proofs.Common.{◌≡◌, ◌%◌, None, length, get_or, ap}
+use Rattle.std.proofs.Common.{◌≡◌, ◌%◌, length, get_or, ap}
 use Rattle.std.proofs.lemmas.List.{get_or_default}
 use Rattle.waiting_lists.specs.declared.links.Slot.{Slot}
 use Rattle.waiting_lists.specs.Cells.{number_at}

@@ -6,4 +6,4 @@ pub returns-then-count-room-clause-made : goal.returns-then-count-room-clause-ma
 returns-then-count-room-clause-made g c =
     let none : c.args.free.now ≡ None = search rules in
     let last : c.len-count.result ≡ length c.args.slots.now.items = search rules in
-    rw c.push_reserved.ensures.items (one_made c.args.slots.now.items c.args.free.now c.args.room c.len-count.result none last (omega arith))
+    rw (c.push_reserved.ensures.items, c.empty.ensures) (one_made c.args.slots.now.items c.args.free.now c.args.room c.len-count.result none last (omega arith))
