@@ -1,4 +1,4 @@
-use Rattle.std.proofs.Common.{◌≡◌, inl, inr, ◌+◌, ap, ◌∙◌}
+use Rattle.std.proofs.Common.{inl, inr, ◌+◌, ap, ◌∙◌}
 use Rattle.fq_model.specs.Time.{last_moment}
 use Rattle.fq_model.specs.Pace.{pace, virtual_time}
 use Rattle.fq_laws.specs.Words.{capped}
