@@ -43,6 +43,8 @@ pub(crate) fn answer<J: Job + Drop, X: Chooser>(
             weight,
         } => Told::Changed(scheduler.weight(who, moment, tenant, weight)),
         Ask::Workers { moment, count } => Told::Changed(scheduler.workers(who, moment, count)),
-        Ask::Withdraw { moment, request } => Told::Withdrawn(scheduler.withdraw(who, moment, request)),
+        Ask::Withdraw { moment, request } => Told::Withdrawn(scheduler.withdraw(
+            who, moment, request,
+        )),
     }
 }

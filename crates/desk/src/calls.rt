@@ -174,7 +174,8 @@ impl<J: Job + Drop, X: Chooser> DeskOf<Floor<J, X>> {
         ensures answers { IsAnswered self.now.lock.frame who.old.pass
             (call.Withdraw who.old.pass.number moment request) (withdraw_reply J.label_of result) who.new.pass }
     {
-        match self.lock.turn(rt, &mut who.pass, Ask::Withdraw { moment, request }) {
+        let ask = Ask::Withdraw { moment, request };
+        match self.lock.turn(rt, &mut who.pass, ask) {
             Told::Withdrawn(result) => result,
             _ => unreachable!(),
         }
