@@ -51,13 +51,13 @@ static void want(const char *what, bool is_so) {
 
 enum { MOST_TENANTS = 4096, WORKERS = 8, ROUNDS = 20000 };
 
-static uint32_t weights[MOST_TENANTS];
+static uint32_t weights[MOST_TENANTS + 1];
 
 static twodfq_opening opening_for(uint32_t tenants, uint32_t estimate) {
     return (twodfq_opening){
         .workers = WORKERS,
         .kinds = 2,
-        .entries = 4 * ROUNDS + 3 * tenants + 3, // a weight, the workers and the close beside the requests
+        .entries = 4 * ROUNDS + 3 * tenants + 5, // a withdraw, a weight, the workers and the close beside the requests
         .requests = 2 * tenants,
         .policy = TWODFQ_2DFQ,
         .estimate = estimate,
@@ -76,6 +76,8 @@ static void serve(twodfq *scheduler, uint32_t tenants) {
         if (i % 2) want("it reports", twodfq_report(scheduler, 1, moment, worker, i % 5).kind == TWODFQ_ACCEPTED);
         want("it is done", twodfq_done(scheduler, 1, moment, worker, 5 + i % 100).kind == TWODFQ_ACCEPTED);
     }
+    want("one is withdrawn", twodfq_withdraw(scheduler, 0, 0, ROUNDS).kind == TWODFQ_WITHDRAWN);
+    want("another comes", twodfq_submit(scheduler, 0, 0, 0, 0, 10, 0).kind == TWODFQ_REQUEST);
     want("a weight changes", twodfq_weight(scheduler, 0, 0, 3, 1000).kind == TWODFQ_ACCEPTED);
     want("the workers change", twodfq_workers(scheduler, 0, 0, 1).kind == TWODFQ_ACCEPTED);
     want("one is retired", twodfq_take(scheduler, 1, 0, 1).kind == TWODFQ_RETIRED);
@@ -130,6 +132,15 @@ static void of_a_service(void) {
     want("all bytes come back", bytes == 0);
 }
 
+// Of too many tenants the weights are not read.
+static void too_many(void) {
+    twodfq scheduler = TWODFQ_NONE;
+    twodfq_opening opening = opening_for(64, TWODFQ_DECLARED);
+    long before = calls;
+    want("it is refused", twodfq_open(&scheduler, &opening, weights, MOST_TENANTS + 1) == TWODFQ_OPEN_TENANTS);
+    want("the heap is not asked", calls == before);
+}
+
 int main(void) {
     for (uint32_t tenant = 0; tenant < MOST_TENANTS; tenant++) weights[tenant] = 1 + tenant % 1000;
     for (uint32_t estimate = TWODFQ_DECLARED; estimate <= TWODFQ_PESSIMISTIC; estimate++) {
@@ -139,4 +150,5 @@ int main(void) {
             estimate, few, many, MOST_TENANTS);
     }
     of_a_service();
+    too_many();
 }

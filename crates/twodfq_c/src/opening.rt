@@ -1,5 +1,6 @@
 //! Opening a scheduler from plain numbers.
-ghost use Rattle.std.specs.Prelude.{◌≡◌, ◌≤◌, IfOk, IfErr, IfSome, IfNone, Some, None};
+ghost use Rattle.std.specs.Prelude.{◌≡◌, ◌≤◌, length, IfOk, IfErr, IfSome, IfNone, Some, None};
+ghost use Rattle.fq_model.specs.declared.config.Config.{Config};
 ghost use Rattle.twodfq_c.specs.declared.opening.Refusal.TheVariants as refusal;
 ghost use Rattle.fq_model.specs.Limits.{InLimits};
 ghost use Rattle.twodfq_c.specs.Opening.{OpensWith, HoldsOpened, IsConfigOf, WhyRefused, unnamed_number, kept_of};
@@ -8,6 +9,7 @@ ghost use Rattle.twodfq_c.specs.Opening.{status, fault_status, policy_number, es
 
 use crate::handle::Handle;
 use fq_model::config::{Checked, Config, ConfigFault, Estimator, Policy, Weights};
+use fq_model::limits::{MOST_TENANTS, MOST_WORKERS};
 use recent_history::Recent;
 use std::alloc::{AllocError, Global};
 
@@ -139,7 +141,23 @@ impl Opening {
         }
     }
 
-    // The configuration, whose limits nobody has looked at.
+    // The first fault, where there are more weights than there may be tenants.
+    fn crowd_fault(&self, weights: &[u32]) -> Option<ConfigFault>
+        ensures some { IfSome result (λ why. (c : Config) → IsConfigOf self.now weights.now c
+            → opening_fault self.now c ≡ Some why) }
+        ensures none { IfNone result (length weights.now ≤ MOST_TENANTS) }
+    {
+        if weights.len() <= MOST_TENANTS as usize {
+            None
+        } else if self.workers < 1 || self.workers > MOST_WORKERS {
+            Some(ConfigFault::Workers(self.workers))
+        } else {
+            Some(ConfigFault::Tenants(weights.len() as u64))
+        }
+    }
+
+    // The configuration, whose limits nobody has looked at but for the number of weights: no more of them are read than
+    // there may be tenants.
     fn config(&self, alloc: Global, weights: &[u32]) -> Result<Config, Refusal>
         ensures config { IfOk result (IsConfigOf self.now weights.now) }
         ensures named { IfOk result (λ _. unnamed_number self.now ≡ None) }
@@ -151,6 +169,9 @@ impl Opening {
         let Some(estimate) = estimator_of(self.estimate) else {
             return Err(Refusal::Estimator);
         };
+        if let Some(fault) = self.crowd_fault(weights) {
+            return Err(Refusal::Config(fault));
+        }
         Ok(Config {
             workers: self.workers,
             weights: Weights::from_vec(Vec::from_slice(alloc, weights)?),

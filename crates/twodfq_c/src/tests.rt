@@ -40,6 +40,26 @@ fn a_request_from_its_submit_to_its_entry(rt: HostRuntime) -> Result<(), Fail> {
     Ok(())
 }
 
+// Of more weights than there may be tenants none is looked at, and the workers come first.
+#[test]
+fn too_many_weights(rt: HostRuntime) -> Result<(), Fail> {
+    let mut handle = Handle::empty();
+    let weights = [0; 4097];
+    assert_eq!(rt;
+        twodfq_open(&mut handle, rt.alloc(), &OPENING, &weights),
+        17
+    );
+    let workers = Opening {
+        workers: 65,
+        ..OPENING
+    };
+    assert_eq!(rt;
+        twodfq_open(&mut handle, rt.alloc(), &workers, &weights),
+        16
+    );
+    Ok(())
+}
+
 // Of two requests the first is withdrawn, and once more.
 #[test]
 fn a_request_is_withdrawn(rt: HostRuntime) -> Result<(), Fail> {
