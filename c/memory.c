@@ -76,8 +76,8 @@ static void serve(twodfq *scheduler, uint32_t tenants) {
         if (i % 2) want("it reports", twodfq_report(scheduler, 1, moment, worker, i % 5).kind == TWODFQ_ACCEPTED);
         want("it is done", twodfq_done(scheduler, 1, moment, worker, 5 + i % 100).kind == TWODFQ_ACCEPTED);
     }
-    want("one is withdrawn", twodfq_withdraw(scheduler, 0, 0, ROUNDS).kind == TWODFQ_WITHDRAWN);
-    want("another comes", twodfq_submit(scheduler, 0, 0, 0, 0, 10, 0).kind == TWODFQ_REQUEST);
+    uint32_t last = twodfq_submit(scheduler, 0, 0, 0, 0, 10, 0).request;
+    want("one is withdrawn", twodfq_withdraw(scheduler, 0, 0, last).kind == TWODFQ_WITHDRAWN);
     want("a weight changes", twodfq_weight(scheduler, 0, 0, 3, 1000).kind == TWODFQ_ACCEPTED);
     want("the workers change", twodfq_workers(scheduler, 0, 0, 1).kind == TWODFQ_ACCEPTED);
     want("one is retired", twodfq_take(scheduler, 1, 0, 1).kind == TWODFQ_RETIRED);
