@@ -169,6 +169,28 @@ fn a_job_from_its_submission_to_the_end(rt: HostRuntime) {
     assert!(rt; are_callers(past.as_slice(), &[0, 1, 1, 1, 0]));
 }
 
+// A desk's entries after two jobs came and the first was withdrawn, and once more; a worker runs the other.
+fn one_withdrawn<X: Chooser + Drop, R: Wait + Abort>(rt: &R, alloc: Global) -> Vec<Entry> {
+    let (desk, mut who, worker) = small::<X, R>(rt, alloc);
+    assert_eq!(rt; submit(rt, &desk, &mut who, 50, 7), Ok(0));
+    assert_eq!(rt; submit(rt, &desk, &mut who, 50, 8), Ok(1));
+    assert_eq!(rt; desk.withdraw(rt, &mut who, 50, 0), Ok(7));
+    assert_eq!(rt;
+        desk.withdraw(rt, &mut who, 50, 0),
+        Err(Cause::NotWaiting(0))
+    );
+    let (running, job) = taken_now(rt, &desk, worker, 50);
+    assert_eq!(rt; (job, running.request()), (8, 1));
+    let worker = done(rt, &desk, running, 50, 5);
+    ended(rt, alloc, desk, who, worker)
+}
+
+#[test]
+fn a_job_that_is_withdrawn(rt: HostRuntime) {
+    let past = one_withdrawn::<IndexChooser, HostRuntime>(&rt, rt.alloc());
+    assert!(rt; are_callers(past.as_slice(), &[0, 0, 0, 1, 1]));
+}
+
 // A desk's entries after calls at 50, at an earlier moment, at the last one that can be named, and at 0.
 fn calls_out_of_order<X: Chooser + Drop, R: Wait + Abort>(rt: &R, alloc: Global) -> Vec<Entry> {
     let (desk, mut who, worker) = small::<X, R>(rt, alloc);

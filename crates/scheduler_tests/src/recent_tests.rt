@@ -33,6 +33,14 @@ fn take(moment: u64) -> Call {
     }
 }
 
+fn withdraw(moment: u64) -> Call {
+    Call::Withdraw {
+        who: 0,
+        moment,
+        request: 0,
+    }
+}
+
 fn done(moment: u64) -> Call {
     Call::Done {
         who: 1,
@@ -60,6 +68,19 @@ fn calls() -> [Call; 12] {
     ]
 }
 
+// Of two requests the first is withdrawn, and once more; the other one ends.
+fn withdrawals() -> [Call; 7] {
+    [
+        submit(1, 0),
+        submit(2, 1),
+        withdraw(3),
+        withdraw(4),
+        take(5),
+        done(9),
+        Call::Close { who: 0, moment: 9 },
+    ]
+}
+
 // Of the replies that come here.
 fn is_same(a: Reply, b: Reply) -> bool {
     match (a, b) {
@@ -76,25 +97,27 @@ fn is_same(a: Reply, b: Reply) -> bool {
                 ..
             },
         ) => request == r && estimate == e,
+        (Reply::Withdrawn { label }, Reply::Withdrawn { label: l }) => label == l,
         (Reply::Refused(a), Reply::Refused(b)) => a == b,
         (Reply::Accepted, Reply::Accepted) => true,
         _ => false,
     }
 }
 
-// Each call is answered as by a scheduler that keeps all, and the last entries are told as it has them.
-fn expect_last<R: Abort>(rt: &R, alloc: Global, keep: u32) {
+// Each call is answered as by a scheduler that keeps all, the last entries are told as it has them, and there are this
+// many entries in all.
+fn expect_last<R: Abort>(rt: &R, alloc: Global, keep: u32, calls: &[Call], entries: u32) {
     let whole = Scheduler::<u64, PlainChooser>::open(alloc, short_history(rt, alloc));
     let recent = Recent::<u64, PlainChooser>::open(alloc, short_history(rt, alloc), keep);
     let (Ok(mut whole), Ok(mut recent)) = (whole, recent) else {
         panic!(rt; "no memory for schedulers")
     };
-    for call in calls() {
-        let reply = sched_state::answer(&mut whole, call);
-        assert!(rt; is_same(recent_history::answer(&mut recent, call), reply));
+    for call in calls {
+        let reply = sched_state::answer(&mut whole, *call);
+        assert!(rt; is_same(recent_history::answer(&mut recent, *call), reply));
         expect_kept(rt, &whole, &recent, keep);
     }
-    assert_eq!(rt; recent.len(), 10);
+    assert_eq!(rt; recent.len(), entries);
     drop(recent);
     drop(whole);
 }
@@ -121,20 +144,25 @@ fn expect_kept<R: Abort>(
 
 #[test]
 fn none_is_kept(rt: HostRuntime) {
-    expect_last(&rt, rt.alloc(), 0);
+    expect_last(&rt, rt.alloc(), 0, &calls(), 10);
 }
 
 #[test]
 fn one_is_kept(rt: HostRuntime) {
-    expect_last(&rt, rt.alloc(), 1);
+    expect_last(&rt, rt.alloc(), 1, &calls(), 10);
 }
 
 #[test]
 fn four_are_kept(rt: HostRuntime) {
-    expect_last(&rt, rt.alloc(), 4);
+    expect_last(&rt, rt.alloc(), 4, &calls(), 10);
 }
 
 #[test]
 fn more_are_kept_than_come(rt: HostRuntime) {
-    expect_last(&rt, rt.alloc(), 100);
+    expect_last(&rt, rt.alloc(), 100, &calls(), 10);
+}
+
+#[test]
+fn one_is_withdrawn_where_two_are_kept(rt: HostRuntime) {
+    expect_last(&rt, rt.alloc(), 2, &withdrawals(), 6);
 }
