@@ -1,10 +1,10 @@
-//! Scripts under 2DFQ+ that were worked by hand. Virtual time rises with the clock, but not above the greatest finish at
-//! which a request was taken (the cap); and a take whose request is not eligible lifts it to that request's eligible
+//! Scripts under 2DFQ+ that were worked by hand. Virtual time rises with the clock, but not above the greatest finish
+//! at which a request was taken (the cap); and a take whose request is not eligible lifts it to that request's eligible
 //! key. Starts, finishes, keys and virtual time are told in units.
 use crate::rows::{expect_each, told};
 
-// Two workers that serve two tenants of weight 1: virtual time rises by 2 units a microsecond while one tenant is active,
-// and by 1 while both are.
+// Two workers that serve two tenants of weight 1: virtual time rises by 2 units a microsecond while one tenant is
+// active, and by 1 while both are.
 const TWO_WORKERS: &str =
     "script 1\nconfig 2 2dfq+ declared 1000 100 10\ntenant a 1\ntenant b 1\nkind get\n";
 
@@ -50,8 +50,8 @@ fn capped(rt: HostRuntime) {
     expect_each(&rt, rt.alloc(), TWO_WORKERS, &rows);
 }
 
-// A request that was thought to cost 4 costs 9, so that its tenant starts above the cap. The next take comes at a capped
-// time, 4 and not 6, and lifts it to its key, 9 less 2.
+// A request that was thought to cost 4 costs 9, so that its tenant starts above the cap. The next take comes at a
+// capped time, 4 and not 6, and lifts it to its key, 9 less 2.
 #[test]
 fn capped_and_lifted(rt: HostRuntime) {
     let rows = [
@@ -67,8 +67,8 @@ fn capped_and_lifted(rt: HostRuntime) {
     expect_each(&rt, rt.alloc(), TWO_WORKERS, &rows);
 }
 
-// A request that was thought to cost 20 costs 2. Its tenant gets 18 back, and the cap stays at 20: virtual time comes to
-// 12 while that tenant is charged 6 in all.
+// A request that was thought to cost 20 costs 2. Its tenant gets 18 back, and the cap stays at 20: virtual time comes
+// to 12 while that tenant is charged 6 in all.
 #[test]
 fn a_refund_leaves_the_cap(rt: HostRuntime) {
     let one_worker =

@@ -141,8 +141,8 @@ fn expect_journal<R: Abort>(
     expect_text(rt, text, wanted.as_bytes());
 }
 
-// It is of the third version only where a request is withdrawn, and else of the second only where a weight or the number
-// of workers changes.
+// It is of the third version only where a request is withdrawn, and else of the second only where a weight or the
+// number of workers changes.
 #[test]
 fn prints_a_journal(rt: HostRuntime) {
     let past = entries();

@@ -44,7 +44,8 @@ fn the_head_and_one_in_the_middle(rt: HostRuntime) {
     expect_each(&rt, rt.alloc(), head, &rows);
 }
 
-// A tenant that runs a request is still active when its last that waits is withdrawn, and nothing is charged or learned.
+// A tenant that runs a request is still active when its last that waits is withdrawn, and nothing is charged or
+// learned.
 #[test]
 fn one_whose_tenant_runs_another(rt: HostRuntime) {
     let head = "script 3\nconfig 1 2dfq recent 10 100 10\ntenant a 1\nkind get\n";
