@@ -31,7 +31,7 @@ impl Text {
     /// The journals, each with its head.
     fn journals(&self) -> Vec<String> {
         let text = String::from_utf8(self.0.lock().unwrap().clone()).unwrap();
-        text.split("journal 3\n").skip(1).map(|rest| format!("journal 3\n{rest}")).collect()
+        text.split("journal 2\n").skip(1).map(|rest| format!("journal 2\n{rest}")).collect()
     }
 }
 
@@ -125,7 +125,7 @@ fn the_journal_comes_while_the_pool_runs() {
         assert!(begun.elapsed() < Duration::from_secs(10));
         thread::sleep(Duration::from_millis(1));
     }
-    let head = "journal 3\nconfig 4 2dfq+ pessimistic 1000 4194304 10000\ntenant acme 1\ntenant globex 2\nkind get\n\
+    let head = "journal 2\nconfig 4 2dfq+ pessimistic 1000 4194304 10000\ntenant acme 1\ntenant globex 2\nkind get\n\
                 kind scan\nworkers 64 0 3\nsubmit 64 ";
     assert!(text.journals()[0].starts_with(head), "{}", text.journals()[0]);
 }

@@ -226,7 +226,8 @@ impl Reader {
 fn add_head(settings: &Settings, weights: &[u32], text: &mut String) {
     let Settings { most_workers, tenants, kinds, room, policy, estimator, initial, .. } = settings;
     let (policy, estimator, entries) = (policy_name(*policy), estimator_name(*estimator), settings.journal_entries());
-    add(text, format_args!("journal 3\nconfig {most_workers} {policy} {estimator} {initial} {entries} {room}\n"));
+    // of the second version: weights and workers may change, and a pool withdraws nothing
+    add(text, format_args!("journal 2\nconfig {most_workers} {policy} {estimator} {initial} {entries} {room}\n"));
     for (tenant, weight) in tenants.iter().zip(weights) {
         add(text, format_args!("tenant {tenant} {weight}\n"));
     }

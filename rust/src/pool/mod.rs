@@ -210,7 +210,7 @@ impl Pool {
     }
 
     /// Has the journals of the pool's schedulers written while it runs, in the format of `docs/FORMATS.md`: one after
-    /// another, each from its line `journal 3` on, and each to be judged by `twodfq check`. It begins with the scheduler
+    /// another, each from its line `journal 2` on, and each to be judged by `twodfq check`. It begins with the scheduler
     /// that serves now, or where the first entries of that are kept no longer, with its head alone and then the next; it ends
     /// with the pool. The writer has a thread of its own, and no worker ever waits for it.
     ///
