@@ -8,7 +8,6 @@ use Rattle.program_model.specs.declared.argument.Argument.{Argument}
 use Rattle.program_model.specs.declared.argument.Argument.TheVariants.{Number, Name}
 use Rattle.program_model.specs.Numbers.{number_of}
 use Rattle.program_model.specs.Lines.{Words}
-use Rattle.program_model.specs.Names.{name_of, IsName}
 use Rattle.program_model.specs.Options.{Values, Within, Among, Named, Absent, Required, Nothing, Default, OptionRow, Given, Value, options_of, are_known, texts_for, is_value, within, argument_among, argument_for, absent_value, value_of, values_of, values_in}
 use Rattle.command_line.specs.Rows.{IsWithin, IsValueOf, AreValuesOf}
 
@@ -45,32 +44,23 @@ both_true : (a b : Bool) → (a && b) ≡ true → (a ≡ true) × (b ≡ true)
 both_true true b h = (refl, h)
 both_true false b h = absurd (cc)
 
-is_name_of : (text : List ℕ) → is_name text ≡ true → IsName (name_of text)
-is_name_of text is =
-    let long = both_true (nat_le 1 (length text)) _ is in
-    let few = both_true (nat_le (length text) 64) _ long.1 in
-    record {
-      few = leb-true (length text) 64 few.0;
-      spelled = ap is_name (take-append_seam text (replicate (64 - length text) 0)) ∙ is;
-    }
-
 place_range : (words : Words) (place : Option ℕ) (a : Argument) → option_map (λ n. Number n) place ≡ Some a → IsWithin (Among words) a
 place_range words None a e = absurd (cc)
 place_range words (Some n) a e =
     let same : Number n ≡ a = cc in
     subst (IsWithin (Among words)) same tt
 
-name_range : (b : Bool) (text : List ℕ) (a : Argument) → is_name text ≡ b → (if b then Some (Name (name_of text)) else None) ≡ Some a → IsWithin Named a
-name_range false text a is e = absurd (cc)
-name_range true text a is e =
-    let same : Name (name_of text) ≡ a = cc in
-    subst (IsWithin Named) same (is_name_of text is)
+name_range : (b : Bool) (text : List ℕ) (a : Argument) → (if b then Some (Name text) else None) ≡ Some a → IsWithin Named a
+name_range false text a e = absurd (cc)
+name_range true text a e =
+    let same : Name text ≡ a = cc in
+    subst (IsWithin Named) same tt
 
 argument_range : (values : Values) (text : List ℕ) (a : Argument) → argument_for values text ≡ Some a → IsWithin values a
 unfolding argument_for
 argument_range (Among words) text a e = place_range words (position (λ w. bytes_eq w text) words) a (where_value (is_value text) (argument_among (Among words) text) a e)
 argument_range (Within low high) text a e = number_range low high (number_of text) a (where_value (is_value text) (argument_among (Within low high) text) a e)
-argument_range Named text a e = name_range (is_name text) text a refl (where_value (is_value text) (argument_among Named text) a e)
+argument_range Named text a e = name_range (is_name text) text a (where_value (is_value text) (argument_among Named text) a e)
 
 -- what is found is the value
 found_range : (row : OptionRow) (found : Option Argument) (v : Value) → GivesWithin row.values found → option_map (λ a. Some a) found ≡ Some v → IsValueOf row v

@@ -4,8 +4,6 @@ use Rattle.std.specs.List.{list_any}
 use Rattle.std.specs.Option.{option_and_then}
 use Rattle.fq_model.specs.Spelling.{is_name}
 use Rattle.program_model.specs.declared.argument.Argument.TheVariants.{Number, Name}
-use Rattle.program_model.specs.declared.name.Name as held
-use Rattle.program_model.specs.Names.{name_of}
 use Rattle.program_model.specs.Numbers.{number_of}
 use Rattle.program_model.specs.Lines.{Words}
 use Rattle.program_model.specs.Options.{Within, Among, Named, Given, is_equals, given_by, options_of, is_value, within, argument_for}
@@ -83,10 +81,10 @@ pub number_within : (low high : ℕ) (text : List ℕ) (number : Option ℕ) →
 unfolding argument_for
 number_within low high text number value is = rw value (ap (option_map (λ n. Number n)) (sym is))
 
-some_name : (b : Bool) (x : held.Name) (name : Option held.Name) → name ≡ (if b then Some x else None) → (if b then Some (Name x) else None) ≡ option_map (λ n. Name n) name
+some_name : (b : Bool) (x : List ℕ) (name : Option (List ℕ)) → name ≡ (if b then Some x else None) → (if b then Some (Name x) else None) ≡ option_map (λ n. Name n) name
 some_name true x name is = ap (option_map (λ n. Name n)) (sym is)
 some_name false x name is = ap (option_map (λ n. Name n)) (sym is)
 
-pub name_named : (text : List ℕ) (name : Option held.Name) → is_value text ≡ true → name ≡ (if is_name text then Some (name_of text) else None) → argument_for Named text ≡ option_map (λ n. Name n) name
+pub name_named : (text : List ℕ) (name : Option (List ℕ)) → is_value text ≡ true → name ≡ (if is_name text then Some text else None) → argument_for Named text ≡ option_map (λ n. Name n) name
 unfolding argument_for
-name_named text name value is = rw value (some_name (is_name text) (name_of text) name is)
+name_named text name value is = rw value (some_name (is_name text) text name is)

@@ -8,7 +8,6 @@ use Rattle.command_line.specs.declared.options.Absent.TheVariants as absent
 use Rattle.command_line.specs.declared.options.OptionRow as code_row
 use Rattle.program_model.specs.declared.argument.Argument.{Argument}
 use Rattle.program_model.specs.declared.argument.Argument.TheVariants.{Number, Name}
-use Rattle.program_model.specs.Names.{IsName}
 use Rattle.program_model.specs.Options.{Values, Within, Among, Named, Absent, Required, Nothing, Default, OptionRow, Value, absent_value}
 
 -- what may be written as a value
@@ -45,7 +44,7 @@ or_absent row None = absent_value row.values row.absent
 abbrev pub IsWithin : Values → Argument → Type 0
 IsWithin (Within low high) (Number n) = (low ≤ n) × (n ≤ high)
 IsWithin (Among words) (Number n) = Unit {0}
-IsWithin Named (Name name) = IsName name
+IsWithin Named (Name name) = Unit {0}
 IsWithin _ _ = ⊥
 
 -- an option may have this value, or none
@@ -71,5 +70,5 @@ IsAtMost high None = Unit {0}
 
 -- the value is a name
 abbrev pub IsNameGiven : Value → Type 0
-IsNameGiven (Some (Name name)) = IsName name
+IsNameGiven (Some (Name name)) = Unit {0}
 IsNameGiven _ = ⊥

@@ -5,7 +5,6 @@ ghost use Rattle.program_model.specs.Options.{command_of, command_by};
 ghost use Rattle.program_model.specs.CommandLimits.{IsInRange};
 ghost use Rattle.program_model.specs.CommandOptions.{number_given, name_given};
 ghost use Rattle.program_model.specs.Commands.{built_commands};
-ghost use Rattle.program_model.specs.Names.{IsName};
 ghost use Rattle.program_model.specs.RunLimits.{AreInRange};
 ghost use Rattle.program_model.specs.TraceCommand.{run_options_of};
 ghost use Rattle.program_model.specs.ScriptCommand.{script_row};
@@ -221,8 +220,7 @@ fn number(value: Value) -> u64
 // The name that a value is.
 fn name(value: Value) -> Name
     requires { IsNameGiven value }
-    ensures value { result ≡ name_given value }
-    ensures is_name { IsName result }
+    ensures { result ≡ name_given value }
 {
     match value {
         Some(Argument::Name(name)) => name,

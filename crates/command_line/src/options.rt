@@ -2,7 +2,6 @@
 ghost use Rattle.std.specs.Prelude.{◌≡◌, IsTrue, IfSome, if◌then◌else◌, length, map, option_and_then, position, bytes_eq, Some, None};
 ghost use Rattle.std.specs.String.{string_bytes};
 ghost use Rattle.fq_model.specs.Spelling.{is_name};
-ghost use Rattle.program_model.specs.Names.{name_of};
 ghost use Rattle.program_model.specs.Numbers.{number_of};
 ghost use Rattle.program_model.specs.Options.{is_value, within, argument_for, absent_value, values_in};
 ghost use Rattle.command_line.specs.Rows.{seen_values, seen_row, are_distinct, or_absent, AreValuesOf};
@@ -11,7 +10,6 @@ use crate::given::{first_option, is_end};
 use program_model::argument::Argument;
 use program_model::name::Name;
 use program_model::numbers::number;
-use tenant_table::name::is_name;
 
 /// What may be written as the value of an option. It is never empty, and never begins with `-`.
 pub enum Values {
@@ -116,7 +114,7 @@ impl Values {
                 Some(Argument::Number(number_within(*low, *high, text)?))
             }
             Values::Among(words) => Some(Argument::Number(place_among(words, text)? as u64)),
-            Values::Named => Some(Argument::Name(name(text)?)),
+            Values::Named => Some(Argument::Name(Name::new(text)?)),
         }
     }
 }
@@ -146,12 +144,3 @@ fn place_among(words: &[&str], text: &str) -> Option<usize>
     words.iter().position(|word| *word == text)
 }
 
-// The name that a text is, if it is one.
-fn name(text: &str) -> Option<Name>
-    ensures { result ≡ (if is_name text.now then Some (name_of text.now) else None) }
-{
-    if !is_name(text.as_bytes()) {
-        return None;
-    }
-    Name::new(text)
-}

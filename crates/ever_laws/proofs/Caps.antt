@@ -4,6 +4,7 @@ use Rattle.std.specs.Prelude.{◌-ℤ◌, ◌+ℤ◌}
 use Rattle.std.proofs.lemmas.Int.{ints}
 use Rattle.std.proofs.lemmas.Nat.{mul-le}
 use Rattle.std.proofs.lemmas.Bool.{cases_lt}
+use Rattle.fq_model.specs.Ever.{greatest_part}
 use Rattle.fq_model.specs.declared.config.Config.{Config}
 use Rattle.fq_model.specs.declared.event.Entry.{Entry}
 use Rattle.fq_model.specs.History.{History, head}
@@ -11,7 +12,7 @@ use Rattle.fq_model.specs.Lead.{may_fall, start_now}
 use Rattle.fq_model.specs.Pace.{pace}
 use Rattle.gap_laws.proofs.WorstCase.{nothing}
 use Rattle.ever_laws.specs.Laws.{all_and_part, CapStaysNear}
-use Rattle.ever_laws.specs.Words.{IsPacedWithin, greatest_part, running_length, ground}
+use Rattle.ever_laws.specs.Words.{IsPacedWithin, running_length, ground}
 use Rattle.ever_laws.proofs.Grounds.{runs_within, ground_low, ground_rises}
 use Rattle.ever_laws.proofs.Near.{cap_nil, finish_near}
 use Rattle.ever_laws.proofs.Running.{counted, none_run}

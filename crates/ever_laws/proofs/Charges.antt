@@ -4,6 +4,7 @@ use Rattle.std.specs.Prelude.{◌-ℤ◌}
 use Rattle.std.proofs.lemmas.Int.{ints}
 use Rattle.std.proofs.lemmas.Bool.{cases_Bool, eqb-false}
 use Rattle.std.proofs.Math.Nat.{add-mul}
+use Rattle.fq_model.specs.Ever.{most_lead}
 use Rattle.fq_model.specs.declared.config.Config.{Config}
 use Rattle.fq_model.specs.History.{History, head}
 use Rattle.fq_model.specs.Charge.{virtual_charge}
@@ -15,7 +16,7 @@ use Rattle.gap_laws.specs.Words.{IsPrefix, WaitsFrom}
 use Rattle.gap_laws.proofs.Runs.{prefix_of_prefix}
 use Rattle.gap_laws.proofs.Takes.{most_waits}
 use Rattle.gap_laws.proofs.WorstCase.{longest, nothing}
-use Rattle.ever_laws.specs.Laws.{most_lead, most_charged, ChargeIsBounded, OthersAreBounded}
+use Rattle.ever_laws.specs.Laws.{most_charged, ChargeIsBounded, OthersAreBounded}
 use Rattle.ever_laws.specs.Words.{IsPacedWithin}
 use Rattle.ever_laws.proofs.Bound.{lead_bounded}
 use Rattle.ever_laws.proofs.Counts.{no_longer, within_earlier, waits_or_not}

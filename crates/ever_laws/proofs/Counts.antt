@@ -4,6 +4,7 @@ use Rattle.std.specs.Prelude.{◌-ℤ◌, ◌+ℤ◌}
 use Rattle.std.specs.Int.{int_max}
 use Rattle.std.proofs.lemmas.Int.{ints, clamps}
 use Rattle.std.proofs.lemmas.Bool.{cases_Bool}
+use Rattle.fq_model.specs.Ever.{greatest_part, ever_bound}
 use Rattle.fq_model.specs.declared.config.Config.{Config}
 use Rattle.fq_model.specs.declared.event.Act.{Act}
 use Rattle.fq_model.specs.declared.event.Act.TheVariants.{Take}
@@ -20,8 +21,8 @@ use Rattle.gap_laws.specs.Words.{IsPrefix, WaitsFrom, AreNoShorter, takes_after,
 use Rattle.gap_laws.proofs.Runs.{prefix_of_prefix}
 use Rattle.gap_laws.proofs.WorstCase.{longest}
 use Rattle.gap_laws.proofs.Takes.{its_head, taken_before, takes_fewer}
-use Rattle.ever_laws.specs.Laws.{bound, TakesAreBounded}
-use Rattle.ever_laws.specs.Words.{IsPacedWithin, greatest_part}
+use Rattle.ever_laws.specs.Laws.{TakesAreBounded}
+use Rattle.ever_laws.specs.Words.{IsPacedWithin}
 use Rattle.ever_laws.proofs.Bound.{lead_bounded}
 use Rattle.ever_laws.proofs.Entries.{raises_of, stays, comes, starts_at}
 use Rattle.ever_laws.proofs.Takes.{within_older}
@@ -51,9 +52,9 @@ fewer_takes takes worst bound c M few low some = omega (arith, ints, clamps, few
 some_bound : (n M part : ℕ) → 1 ≤ M → pos 1 ≤ℤ ((pos ((n + n / 2 + 1) * M + part) -ℤ pos 1) +ℤ pos M)
 some_bound n M part some = omega (arith, ints, some)
 
-takes_waiting : (C : Config) (newer S : History) (f g r q M c : ℕ) → f ≢ g → IsPacedWithin C (newer ++ S) M → AreNoShorter C S (newer ++ S) f c → WaitsFrom S (newer ++ S) g r → head S f ≡ Some q → pos (takes_after f newer S * c) ≤ℤ ((pos c +ℤ (bound C M +ℤ pos M)) -ℤ pos 1)
+takes_waiting : (C : Config) (newer S : History) (f g r q M c : ℕ) → f ≢ g → IsPacedWithin C (newer ++ S) M → AreNoShorter C S (newer ++ S) f c → WaitsFrom S (newer ++ S) g r → head S f ≡ Some q → pos (takes_after f newer S * c) ≤ℤ ((pos c +ℤ (ever_bound C M +ℤ pos M)) -ℤ pos 1)
 takes_waiting C newer S f g r q M c ne is short waits some =
-    fewer_takes (pos (takes_after f newer S * c)) (worst_lead M C S g f) (bound C M) c M
+    fewer_takes (pos (takes_after f newer S * c)) (worst_lead M C S g f) (ever_bound C M) c M
     (takes_fewer C newer S f g r M c ne is.limits is.legal (no_longer C (newer ++ S) f g M is) short waits)
     (lead_bounded C S g f q M (λ e. ne (sym e)) (within_earlier C newer S M is) some)
     (some_bound C.workers M (greatest_part C M) is.lengths.some)
@@ -121,7 +122,7 @@ none_bounded bound n c M none some = rw none (omega (arith, ints, some))
 
 pub takes_bounded : TakesAreBounded
 takes_bounded C newer S f g r M c ne is short waits = elim (waits_or_not C newer S f M is) [
-  | inr n ↦ none_bounded (bound C M) (takes_after f newer S) c M n.untaken (some_bound C.workers M (greatest_part C M) is.lengths.some)
+  | inr n ↦ none_bounded (ever_bound C M) (takes_after f newer S) c M n.untaken (some_bound C.workers M (greatest_part C M) is.lengths.some)
   | inl w ↦
       let all : newer ++ S ≡ w.later ++ (w.mid ++ S) = ap (λ (P : History). P ++ S) w.split ∙ append_assoc w.later w.mid S in
       let from : IsPrefix S (w.mid ++ S) = (w.mid, refl) in

@@ -3,14 +3,15 @@ use Rattle.std.proofs.Common.{ℕ, ◌+◌, ◌*◌, ◌/◌, ◌≤◌, ◌≡�
 use Rattle.std.specs.Prelude.{◌-ℤ◌, ◌+ℤ◌}
 use Rattle.std.specs.Int.{int_max}
 use Rattle.std.proofs.lemmas.Int.{ints, clamps}
+use Rattle.fq_model.specs.Ever.{greatest_part, ever_bound}
 use Rattle.fq_model.specs.Gap.{is_shared}
 use Rattle.fq_model.specs.Lead.{may_rise, may_fall, start_now}
 use Rattle.gap_laws.specs.Laws.{worst_lead}
 use Rattle.gap_laws.proofs.Leads.{lead_from}
 use Rattle.gap_laws.proofs.Runs.{BothWait, both_wait}
 use Rattle.gap_laws.proofs.WorstCase.{longest, nothing, worst, worst_premises}
-use Rattle.ever_laws.specs.Laws.{bound, GainIsBounded}
-use Rattle.ever_laws.specs.Words.{IsPacedWithin, greatest_part, most_of, least_of, running_length}
+use Rattle.ever_laws.specs.Laws.{GainIsBounded}
+use Rattle.ever_laws.specs.Words.{IsPacedWithin, most_of, least_of, running_length}
 use Rattle.ever_laws.proofs.Bound.{lead_bounded}
 use Rattle.ever_laws.proofs.Counts.{no_longer, within_earlier}
 use Rattle.ever_laws.proofs.Grounds.{runs_within}
@@ -34,7 +35,7 @@ gain_bounded C P Q f g M of_f of_g ne is inner shared account_f account_g =
     let then_f = account_f P inner in
     let then_g = account_g P inner in
     gained (start_now C P f) (start_now C P g) (may_rise (longest M) C P f) (may_rise (longest M) C P g) (may_fall nothing C P f) (may_fall nothing C P g) (running_length M C P f) (running_length M C P g) (C.workers * M) M
-    (worst_lead M C Q f g) (most_of M C Q f) (least_of C Q g) (of_f P) (of_f Q) (of_g P) (of_g Q) (bound C M)
+    (worst_lead M C Q f g) (most_of M C Q f) (least_of C Q g) (of_f P) (of_f Q) (of_g P) (of_g Q) (ever_bound C M)
     (lead_from (longest M) nothing C P Q f g (worst C M) ne (worst_premises C P Q f g M ne is.limits is.legal (no_longer C Q f g M is)) inner shared)
     refl now_f.1 now_g.0 then_f.0 then_g.1
     (lead_bounded C P g f wait.first M (λ e. ne (sym e)) at_p wait.first_is)

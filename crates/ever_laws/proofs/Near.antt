@@ -3,6 +3,7 @@ use Rattle.std.proofs.Common.{ℕ, ◌+◌, ◌≤◌, ◌≡◌, refl, ap, arit
 use Rattle.std.specs.Prelude.{◌-ℤ◌, ◌+ℤ◌}
 use Rattle.std.proofs.lemmas.Int.{ints, clamps}
 use Rattle.std.proofs.lemmas.Bool.{cases_eq}
+use Rattle.fq_model.specs.Ever.{greatest_part}
 use Rattle.fq_model.specs.declared.config.Config.{Config}
 use Rattle.fq_model.specs.declared.event.Entry.{Entry}
 use Rattle.fq_model.specs.History.{History, head}
@@ -12,7 +13,7 @@ use Rattle.fq_laws.proofs.Charge.Tenants.{virtual_charge_nil}
 use Rattle.fq_laws.proofs.Keys.Pace.{base_nil}
 use Rattle.gap_laws.proofs.WorstCase.{longest, nothing}
 use Rattle.ever_laws.specs.Laws.{all_and_part, MostStaysNear}
-use Rattle.ever_laws.specs.Words.{IsPacedWithin, greatest_part, time_now, running_length, ground_for, ground}
+use Rattle.ever_laws.specs.Words.{IsPacedWithin, time_now, running_length, ground_for, ground}
 use Rattle.ever_laws.proofs.Entries.{starts_at, time_rises}
 use Rattle.ever_laws.proofs.Grounds.{runs_within, least_on, ground_low}
 use Rattle.ever_laws.proofs.Takes.{Taken, change, cap_change, within_older}

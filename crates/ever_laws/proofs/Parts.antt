@@ -4,8 +4,8 @@ use Rattle.std.proofs.lemmas.Nat.{mul-le, le-div}
 use Rattle.std.proofs.Math.Nat.{div-mul-le_self}
 use Rattle.vt_fixed.specs.Rounding.{part_of}
 use Rattle.vt_fixed.proofs.Bounds.{part_le}
+use Rattle.fq_model.specs.Ever.{greatest_part}
 use Rattle.fq_model.specs.declared.config.Config.{Config}
-use Rattle.ever_laws.specs.Words.{greatest_part}
 
 -- (p + 1 workers in the pool, of which i is one, and k beyond it)
 part_scaled : (q i p k len M : ℕ) → q * (p + 1) ≤ i * len → q ≤ M → i ≤ p → len ≤ M → q * (p + 1 + k) ≤ (p + k) * M

@@ -4,14 +4,14 @@ use Rattle.std.specs.Prelude.{◌-ℤ◌, ◌+ℤ◌}
 use Rattle.std.proofs.lemmas.Int.{ints}
 use Rattle.std.proofs.lemmas.Nat.{mul-le}
 use Rattle.std.proofs.lemmas.Bool.{cases_lt}
+use Rattle.fq_model.specs.Ever.{greatest_part, ever_bound}
 use Rattle.fq_model.specs.declared.config.Config.{Config}
 use Rattle.fq_model.specs.declared.event.Entry.{Entry}
 use Rattle.fq_model.specs.History.{History, head}
 use Rattle.fq_model.specs.Lead.{may_fall, start_now}
 use Rattle.fq_model.specs.Pace.{pace}
 use Rattle.gap_laws.proofs.WorstCase.{nothing}
-use Rattle.ever_laws.specs.Laws.{bound}
-use Rattle.ever_laws.specs.Words.{IsPacedWithin, greatest_part, time_now, running_length, ground}
+use Rattle.ever_laws.specs.Words.{IsPacedWithin, time_now, running_length, ground}
 use Rattle.ever_laws.proofs.Caps.{AreNear, are_near}
 use Rattle.ever_laws.proofs.Grounds.{runs_within, ground_low, ground_rises}
 use Rattle.ever_laws.proofs.Near.{cap_nil, cap_near, least_below, away_low, finish_near}
@@ -21,7 +21,7 @@ use Rattle.ever_laws.proofs.Takes.{Taken, change, cap_change, within_older}
 -- with M for each request of f that runs, less a step
 abbrev pub IsInReach : Config → History → ℕ → ℕ → ℕ → Type 0
 IsInReach C P f g M =
-    pos ((pace C P).reached + running_length M C P f) ≤ℤ (ground M C P g +ℤ (bound C M +ℤ pos (running_length 1 C P f)))
+    pos ((pace C P).reached + running_length M C P f) ≤ℤ (ground M C P g +ℤ (ever_bound C M +ℤ pos (running_length 1 C P f)))
 
 -- ---- where nothing is taken of f
 
@@ -41,7 +41,7 @@ other_raised s2 f k k2 l b n M part ground is near less free some = omega (arith
 
 module _ (C : Config) (P : History) (e : Entry) (f g M : ℕ) (ne : f ≢ g) (is : IsPacedWithin C (e ∷ P) M) (before : IsInReach C P f g M) (runs : (N : ℕ) → running_length N C (e ∷ P) f ≤ running_length N C P f) where
   not_raised : (pace C (e ∷ P)).reached ≡ (pace C P).reached → IsInReach C (e ∷ P) f g M
-  not_raised same = still (pace C P).reached (pace C (e ∷ P)).reached (running_length M C P f) (running_length M C (e ∷ P) f) (running_length 1 C P f) (running_length 1 C (e ∷ P) f) (bound C M) _ _ before same
+  not_raised same = still (pace C P).reached (pace C (e ∷ P)).reached (running_length M C P f) (running_length M C (e ∷ P) f) (running_length 1 C P f) (running_length 1 C (e ∷ P) f) (ever_bound C M) _ _ before same
       (omega (arith, fewer (running_length 1 C P f) (running_length 1 C (e ∷ P) f) M (runs 1) is.lengths.some, counted C P f M, counted C (e ∷ P) f M)) (ground_rises C P e g M is)
 
   untaken : IsInReach C (e ∷ P) f g M

@@ -5,6 +5,7 @@ use Rattle.std.specs.Int.{int_max}
 use Rattle.std.proofs.lemmas.Int.{ints, clamps}
 use Rattle.std.proofs.lemmas.Bool.{cases_Bool, eqb-true, eq-eqb}
 use Rattle.vt_fixed.specs.Rounding.{length_of, part_of}
+use Rattle.fq_model.specs.Ever.{greatest_part}
 use Rattle.fq_model.specs.declared.config.Config.{Config}
 use Rattle.fq_model.specs.declared.config.Policy.{Policy}
 use Rattle.fq_model.specs.declared.config.Policy.TheVariants.{TwoDfqPlus}
@@ -30,7 +31,7 @@ use Rattle.gap_laws.proofs.Running.{over_taken}
 use Rattle.gap_laws.proofs.Runs.{prefix_older}
 use Rattle.gap_laws.proofs.Takes.{its_head, by_act}
 use Rattle.gap_laws.proofs.WorstCase.{longest, nothing, caps_in, length_some, part_below}
-use Rattle.ever_laws.specs.Words.{IsPacedWithin, greatest_part, time_now, running_length}
+use Rattle.ever_laws.specs.Words.{IsPacedWithin, time_now, running_length}
 use Rattle.ever_laws.proofs.Entries.{Stays, Comes, raises_of, stays, comes, starts_at}
 use Rattle.ever_laws.proofs.Parts.{part_low}
 use Rattle.ever_laws.proofs.Running.{full, one_runs_before, two_run_before}

@@ -1,6 +1,7 @@
 -- What bounds how far one tenant is ahead of another that waits, under 2dfq+.
 use Rattle.std.specs.Prelude.{ℕ, ◌+◌, ◌*◌, ◌/◌, ◌≤◌, ◌≡◌, ◌≢◌, ◌==◌, if◌then◌else◌, length, ◌∷◌, ◌++◌, Some, ℤ, pos, ◌+ℤ◌, ◌-ℤ◌, ◌≤ℤ◌}
 use Rattle.vt_fixed.specs.Rounding.{length_of}
+use Rattle.fq_model.specs.Ever.{greatest_part, most_lead, ever_bound}
 use Rattle.fq_model.specs.declared.config.Config.{Config}
 use Rattle.fq_model.specs.declared.config.Policy.TheVariants.{TwoDfqPlus}
 use Rattle.fq_model.specs.declared.event.Entry.{Entry}
@@ -12,7 +13,7 @@ use Rattle.fq_model.specs.Rules.{IsLegal}
 use Rattle.fq_model.specs.Sums.{sum_below}
 use Rattle.gap_laws.specs.Laws.{worst_lead, all_and_one}
 use Rattle.gap_laws.specs.Words.{IsPrefix, AreSharedFrom, WaitsFrom, AreNoShorter, takes_after, IsAccount}
-use Rattle.ever_laws.specs.Words.{AreAllNoLonger, AllKeepLimits, IsPacedWithin, greatest_part, time_now, most_of, least_of, ground}
+use Rattle.ever_laws.specs.Words.{AreAllNoLonger, AllKeepLimits, IsPacedWithin, time_now, most_of, least_of, ground}
 
 -- what a tenant has at least never falls, under any policy and whether the tenant waits or not
 abbrev pub LeastRises : Type 0
@@ -41,32 +42,23 @@ CapStaysNear =
     (C : Config) (H : History) (t r M : ℕ) → IsPacedWithin C H M → head H t ≡ Some r
     → pos (pace C H).reached ≤ℤ (least_of C H t +ℤ pos (all_and_part C M))
 
--- as many requests of the greatest length as there are workers, as half of them, rounded down, and one more, and the
--- greatest part
-abbrev pub most_lead : Config → ℕ → ℕ
-most_lead C M = (C.workers + C.workers / 2 + 1) * M + greatest_part C M
-
--- less a step
-abbrev pub bound : Config → ℕ → ℤ
-bound C M = pos (most_lead C M) -ℤ pos 1
-
 -- what f has at most is above the ground of g by no more than that
 abbrev pub BoundHolds : Type 0
 BoundHolds =
     (C : Config) (H : History) (f g M : ℕ) → f ≢ g → IsPacedWithin C H M
-    → (most_of M C H f -ℤ ground M C H g) ≤ℤ bound C M
+    → (most_of M C H f -ℤ ground M C H g) ≤ℤ ever_bound C M
 
 -- so the worst case of the lead of f is at most that wherever g waits, and f waits or not
 abbrev pub LeadIsBounded : Type 0
 LeadIsBounded =
     (C : Config) (H : History) (f g r M : ℕ) → f ≢ g → IsPacedWithin C H M → head H g ≡ Some r
-    → worst_lead M C H f g ≤ℤ bound C M
+    → worst_lead M C H f g ≤ℤ ever_bound C M
 
 -- and by any account f is ahead of g by no more
 abbrev pub AccountsAreBounded : Type 0
 AccountsAreBounded =
     (C : Config) (H : History) (f g r M : ℕ) (of_f of_g : History → ℤ) → f ≢ g → IsPacedWithin C H M
-    → head H g ≡ Some r → IsAccount M C H f of_f → IsAccount M C H g of_g → (of_f H -ℤ of_g H) ≤ℤ bound C M
+    → head H g ≡ Some r → IsAccount M C H f of_f → IsAccount M C H g of_g → (of_f H -ℤ of_g H) ≤ℤ ever_bound C M
 
 -- while one head of g waits, from S on, f is taken no more often than its least length c goes into the bound and one
 -- request of the greatest length, less a step, and once more
@@ -74,7 +66,7 @@ abbrev pub TakesAreBounded : Type 0
 TakesAreBounded =
     (C : Config) (newer S : History) (f g r M c : ℕ) → f ≢ g → IsPacedWithin C (newer ++ S) M
     → AreNoShorter C S (newer ++ S) f c → WaitsFrom S (newer ++ S) g r
-    → pos (takes_after f newer S * c) ≤ℤ ((pos c +ℤ (bound C M +ℤ pos M)) -ℤ pos 1)
+    → pos (takes_after f newer S * c) ≤ℤ ((pos c +ℤ (ever_bound C M +ℤ pos M)) -ℤ pos 1)
 
 -- what a tenant is charged at most while one head of another waits: twice that, and a request of the greatest length
 -- for each worker
@@ -104,7 +96,7 @@ abbrev pub GainIsBounded : Type 0
 GainIsBounded =
     (C : Config) (P Q : History) (f g M : ℕ) (of_f of_g : History → ℤ) → f ≢ g → IsPacedWithin C Q M
     → IsPrefix P Q → AreSharedFrom P Q f g → IsAccount M C Q f of_f → IsAccount M C Q g of_g
-    → ((of_f Q -ℤ of_f P) -ℤ (of_g Q -ℤ of_g P)) ≤ℤ (pos (all_and_one C M) +ℤ bound C M)
+    → ((of_f Q -ℤ of_f P) -ℤ (of_g Q -ℤ of_g P)) ≤ℤ (pos (all_and_one C M) +ℤ ever_bound C M)
 
 -- where costs and weights keep to limits no request is longer than the greatest cost at the least weight
 abbrev pub LengthsAreForetold : Type 0
@@ -115,4 +107,4 @@ LengthsAreForetold =
 abbrev pub LeadIsForetold : Type 0
 LeadIsForetold =
     (C : Config) (H : History) (f g r c w : ℕ) → f ≢ g → C.policy ≡ TwoDfqPlus → InLimits C → IsLegal C H
-    → AllKeepLimits C H c w → head H g ≡ Some r → worst_lead (length_of c w) C H f g ≤ℤ bound C (length_of c w)
+    → AllKeepLimits C H c w → head H g ≡ Some r → worst_lead (length_of c w) C H f g ≤ℤ ever_bound C (length_of c w)

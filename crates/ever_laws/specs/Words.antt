@@ -1,7 +1,6 @@
 -- Words for the bounds under 2dfq+.
-use Rattle.std.specs.Prelude.{ℕ, ◌-◌, ◌≡◌, ◌≤◌, ◌<◌, length, true, ◌∷◌, Option, Some, None, ℤ, pos, ◌-ℤ◌}
+use Rattle.std.specs.Prelude.{ℕ, ◌≡◌, ◌≤◌, ◌<◌, length, true, ◌∷◌, Option, Some, None, ℤ, pos, ◌-ℤ◌}
 use Rattle.std.specs.Int.{int_max}
-use Rattle.vt_fixed.specs.Rounding.{part_of}
 use Rattle.fq_model.specs.declared.config.Config.{Config}
 use Rattle.fq_model.specs.declared.config.Policy.TheVariants.{TwoDfqPlus}
 use Rattle.fq_model.specs.declared.event.Entry.{Entry}
@@ -35,10 +34,6 @@ pub record IsPacedWithin (C : Config) (H : History) (M : ℕ) : Type 0 where
   pub limits : InLimits C
   pub legal : IsLegal C H
   pub lengths : AreAllNoLonger C H M
-
--- what no stagger passes: the part of the last of all workers, of a length of M
-abbrev pub greatest_part : Config → ℕ → ℕ
-greatest_part C M = part_of M (C.workers - 1) C.workers
 
 -- virtual time just after the last entry
 abbrev pub time_now : Config → History → ℕ

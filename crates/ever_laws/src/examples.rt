@@ -2,12 +2,13 @@
 //! With two workers no request is longer than 4 units, and the last worker takes 2 units off a start at most. With
 //! three no request is longer than 3, and that is 2 units too.
 ghost use Rattle.std.specs.Prelude.{◌≡◌, ◌-ℤ◌, pos, Some};
+ghost use Rattle.fq_model.specs.Ever.{ever_bound};
 ghost use Rattle.fq_model.specs.History.{head};
 ghost use Rattle.fq_model.specs.Pace.{pace};
 ghost use Rattle.fq_model.specs.Gap.{start_difference};
 ghost use Rattle.worked_histories.specs.Examples.{units};
 ghost use Rattle.ever_laws.specs.Words.{IsPacedWithin, time_now, most_of, least_of};
-ghost use Rattle.ever_laws.specs.Laws.{all_and_part, bound};
+ghost use Rattle.ever_laws.specs.Laws.{all_and_part};
 ghost use Rattle.ever_laws.specs.Examples.{pair_config, most_history, cap_history, lead_history, three_config, three_cap_history, three_lead_history};
 
 /// What a tenant has at most, above virtual time. Both workers take a request of 1 of tenant 0, and the second one
@@ -44,7 +45,7 @@ pub fn lead()
     ensures within { IsPacedWithin pair_config lead_history (units 4) }
     ensures waits { head lead_history 1 ≡ Some 6 }
     ensures lead { start_difference pair_config lead_history 0 1 ≡ pos (units 14) }
-    ensures bound { bound pair_config (units 4) ≡ pos (units 18) -ℤ pos 1 }
+    ensures bound { ever_bound pair_config (units 4) ≡ pos (units 18) -ℤ pos 1 }
 {}
 
 /// The cap with three workers: the bound is met. Workers 0 and 1 take two requests of tenant 1, from 0 to 6, and worker
@@ -71,5 +72,5 @@ pub fn lead_of_three()
     ensures within { IsPacedWithin three_config three_lead_history (units 3) }
     ensures waits { head three_lead_history 1 ≡ Some 8 }
     ensures lead { start_difference three_config three_lead_history 0 1 ≡ pos (units 14) }
-    ensures bound { bound three_config (units 3) ≡ pos (units 17) -ℤ pos 1 }
+    ensures bound { ever_bound three_config (units 3) ≡ pos (units 17) -ℤ pos 1 }
 {}

@@ -1,8 +1,8 @@
--- Counts, sums and the least of the numbers that pass a test.
-use Rattle.std.proofs.Common.{ℕ, zero, suc, ◌+◌, ◌<◌, ◌≡◌, Bool, cond, arith, refl, ap, ◌∙◌, ◌≢◌, true, false, inl, inr, ◌≤◌, ◌*◌, Option, Some, None, subst, sym}
+-- Counts, sums, the least of the numbers that pass a test, and the greatest value.
+use Rattle.std.proofs.Common.{ℕ, zero, suc, ◌+◌, ◌<◌, max, ◌≡◌, Bool, cond, arith, refl, ap, ◌∙◌, ◌≢◌, true, false, inl, inr, ◌≤◌, ◌*◌, Option, Some, None, subst, sym}
 use Rattle.std.proofs.lemmas.Bool.{cases_eq, cases_Bool, cases_order, false≢true}
 use Rattle.std.proofs.Math.Nat.{add-mul}
-use Rattle.fq_model.specs.Sums.{count_below, sum_below, first_of, least_below}
+use Rattle.fq_model.specs.Sums.{count_below, sum_below, max_below, first_of, least_below}
 
 -- equal tests, equal counts
 pub count_same : (p q : ℕ → Bool) (n : ℕ) → ((r : ℕ) → r < n → p r ≡ q r) → count_below p n ≡ count_below q n
@@ -166,3 +166,45 @@ count_at_most p q zero h = omega arith
 count_at_most p q (suc n) h =
     let rest : count_below p n ≤ count_below q n = count_at_most p q n h in
     elim (cases_Bool (p n)) [ inl e ↦ rw (e, h n e) (omega arith) | inr e ↦ rw e (omega arith) ]
+
+-- each value is no more than the greatest
+pub max_covers : (f : ℕ → ℕ) (r n : ℕ) → r < n → f r ≤ max_below f n
+unfolding max_below
+max_covers f r zero b = absurd (omega arith)
+max_covers f r (suc n) b = elim (cases_eq n r) [
+  | inl e ↦ let one : f n ≡ f r = ap f e in omega arith
+  | inr ne ↦ let rest : f r ≤ max_below f n = max_covers f r n (omega arith) in omega arith
+]
+
+-- and the greatest is no more than what bounds them all
+pub max_under : (f : ℕ → ℕ) (n bound : ℕ) → ((r : ℕ) → r < n → f r ≤ bound) → max_below f n ≤ bound
+unfolding max_below
+max_under f zero bound h = omega arith
+max_under f (suc n) bound h =
+    let here : f n ≤ bound = h n (omega arith) in
+    let rest : max_below f n ≤ bound = max_under f n bound (λ r b. h r (omega arith)) in
+    omega arith
+
+-- equal numbers, equal greatest
+pub max_same : (f g : ℕ → ℕ) (n : ℕ) → ((r : ℕ) → r < n → f r ≡ g r) → max_below f n ≡ max_below g n
+unfolding max_below
+max_same f g zero h = refl
+max_same f g (suc n) h =
+    let e : f n ≡ g n = h n (omega arith) in
+    let rest : max_below f n ≡ max_below g n = max_same f g n (λ r b. h r (omega arith)) in
+    omega arith
+
+-- the greatest where one value rises
+pub max_at : (f g : ℕ → ℕ) (r x n : ℕ) → r < n → g r ≡ max (f r) x → ((s : ℕ) → s ≢ r → g s ≡ f s) → max_below g n ≡ max x (max_below f n)
+unfolding max_below
+max_at f g r x zero b here others = absurd (omega arith)
+max_at f g r x (suc n) b here others = elim (cases_eq n r) [
+  | inl e ↦
+      let one : g n ≡ max (f n) x = ap g e ∙ (here ∙ ap (λ k. max (f k) x) (sym e)) in
+      let rest : max_below g n ≡ max_below f n = max_same g f n (λ s c. others s (λ same. omega (arith, c, same, e))) in
+      rw (one, rest) (omega arith)
+  | inr ne ↦
+      let one : g n ≡ f n = others n ne in
+      let rest : max_below g n ≡ max x (max_below f n) = max_at f g r x n (omega arith) here others in
+      rw (one, rest) (omega arith)
+]

@@ -10,8 +10,10 @@ pub mod Pace
 pub mod Keys
 pub mod Rules
 pub mod Outcome
+pub mod Due
 pub mod Gap
 pub mod Lead
+pub mod Ever
 pub mod Status
 pub mod Level
 pub mod Fluid

@@ -1,10 +1,15 @@
 -- Sums, counts, the least, the greatest and lists, over the numbers below a bound.
-use Rattle.std.specs.Prelude.{ℕ, zero, suc, ◌+◌, Bool, if◌then◌else◌, List, [], ◌∷◌, ◌++◌, Option, Some, None}
+use Rattle.std.specs.Prelude.{ℕ, zero, suc, ◌+◌, max, Bool, if◌then◌else◌, List, [], ◌∷◌, ◌++◌, Option, Some, None}
 
 -- the sum of f over the numbers below n
 unfoldable pub sum_below : (ℕ → ℕ) → ℕ → ℕ
 sum_below f zero = 0
 sum_below f (suc n) = f n + sum_below f n
+
+-- the greatest value of f at the numbers below n, or 0
+unfoldable pub max_below : (ℕ → ℕ) → ℕ → ℕ
+max_below f zero = 0
+max_below f (suc n) = max (f n) (max_below f n)
 
 -- how many numbers below n pass the test
 unfoldable pub count_below : (ℕ → Bool) → ℕ → ℕ

@@ -1,4 +1,4 @@
-//! Entries of a history, calls and replies.
+//! Entries of a history, calls and replies, and what a worker that asked would find.
 
 use crate::limits::{GREATEST_COST, GREATEST_WEIGHT};
 use crate::messages::{numbered, plain, two_numbers};
@@ -233,5 +233,21 @@ pub enum Reply {
         label: u64,
     },
     /// Nothing was done, for this cause.
+    Refused(Cause),
+}
+
+/// What a worker that asked for work would find.
+#[derive(Clone, Copy)]
+pub enum Due {
+    /// Nothing waits, whether or not more may come.
+    Nothing,
+    /// Some head is eligible for the worker.
+    Eligible,
+    /// Requests wait, and no head is eligible for the worker: it would get this one before its time, charged this
+    /// estimate.
+    Early { request: u32, estimate: u64 },
+    /// There are so many workers now, and this one is not among them.
+    Retired(u32),
+    /// It would be refused, for this cause: no worker has its number, or it runs a request.
     Refused(Cause),
 }

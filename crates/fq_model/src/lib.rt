@@ -10,5 +10,6 @@ pub mod lag;
 pub mod level;
 pub mod limits;
 pub mod messages;
+pub mod names;
 pub mod parts;
 pub mod words;

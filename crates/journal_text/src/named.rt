@@ -3,7 +3,7 @@ ghost use Rattle.std.specs.Prelude.{◌≡◌, is_some, IfSome};
 ghost use Rattle.fq_model.specs.Spelling.{is_name, policy_of, estimator_of};
 
 use fq_model::config::{Estimator, Policy};
-use tenant_table::name::is_name;
+use fq_model::names::is_name;
 
 /// The name of a tenant or a kind that a word is, if it is one.
 pub fn name(word: &[u8]) -> Option<&str>

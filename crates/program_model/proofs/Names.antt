@@ -1,11 +1,12 @@
--- The bytes of a name are ASCII, and a text that is written over 64 bytes of 0 is held in them.
-use Rattle.std.proofs.Common.{ℕ, zero, suc, ◌-◌, ◌<◌, ◌≤◌, ◌≡◌, ◌==◌, ◌&&◌, ◌||◌, ◌⊎◌, inl, inr, nat_le, Bool, true, false, if◌then◌else◌, List, [], ◌∷◌, ◌++◌, length, drop, replicate, Some, None, refl, ap, ◌∙◌, arith}
+-- The bytes of a name are ASCII, and one that is written over 64 bytes of 0 is held in them.
+use Rattle.std.proofs.Common.{ℕ, zero, suc, ◌<◌, ◌≤◌, ◌≡◌, ◌==◌, ◌&&◌, ◌||◌, ◌⊎◌, inl, inr, nat_le, Bool, true, false, List, [], ◌∷◌, ◌++◌, length, take, drop, replicate, refl, sym, ap, ◌∙◌, arith}
 use Rattle.std.specs.Str.{IsAscii}
 use Rattle.std.specs.List.{list_all}
 use Rattle.std.proofs.lemmas.List.{drop-replicate}
+use Rattle.std.proofs.Math.Seq.{take-append_seam}
 use Rattle.std.proofs.lemmas.Bool.{le-leb, leb-true, eqb-true}
 use Rattle.fq_model.specs.Spelling.{is_digit, is_name_byte, is_name}
-use Rattle.program_model.specs.Names.{name_of}
+use Rattle.program_model.specs.Names.{padded, HoldsName}
 
 split : (a b : Bool) → (a && b) ≡ true → (a ≡ true) × (b ≡ true)
 split true b h = (refl, h)
@@ -45,7 +46,12 @@ bytes_are_ascii (b ∷ bs) h (suc i) = bytes_are_ascii bs (split (is_name_byte b
 pub name_ascii : (bs : List ℕ) → is_name bs ≡ true → IsAscii bs
 name_ascii bs h = bytes_are_ascii bs (split (nat_le (length bs) 64) _ (split (nat_le 1 (length bs)) _ h).1).1
 
-pub written_text : (front text : List ℕ) → front ≡ text → length text ≤ 64 → Some (record { bytes = front ++ drop (length text) (replicate 64 0); len = length text }) ≡ (if nat_le (length text) 64 then Some (name_of text) else None)
-written_text front text same few =
-    let whole : front ++ drop (length text) (replicate 64 0) ≡ text ++ replicate (64 - length text) 0 = ap (λ l. l ++ drop (length text) (replicate 64 0)) same ∙ ap (λ l. text ++ l) (drop-replicate (length text) 64 0) in
-    rw (le-leb (length text) 64 few) (ap (λ (bytes : List ℕ). Some (record { bytes = bytes; len = length text })) whole)
+-- a name that is written over 64 bytes of 0 is held in them
+pub held_in : (front text : List ℕ) → front ≡ text → is_name text ≡ true → HoldsName (front ++ drop (length text) (replicate 64 0)) (length text)
+held_in front text same is =
+    let seam : take (length text) (front ++ drop (length text) (replicate 64 0)) ≡ text = ap (λ l. take (length text) (l ++ drop (length text) (replicate 64 0))) same ∙ take-append_seam text _ in
+    record {
+      whole = sym (ap length seam);
+      rest = ap (λ l. l ++ drop (length text) (replicate 64 0)) same ∙ (ap (λ l. text ++ l) (drop-replicate (length text) 64 0) ∙ sym (ap padded seam));
+      spelled = ap is_name seam ∙ is;
+    }

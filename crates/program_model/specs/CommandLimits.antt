@@ -6,17 +6,15 @@ use Rattle.program_model.specs.declared.command.Command.{Command}
 use Rattle.program_model.specs.declared.command.Command.TheVariants.{Plain, Live, Compare}
 use Rattle.program_model.specs.declared.command.PlainCommand.{PlainCommand}
 use Rattle.program_model.specs.declared.command.PlainCommand.TheVariants.{Script, Run, Gen, Check, Lead, Shape}
-use Rattle.program_model.specs.Names.{IsName}
 use Rattle.program_model.specs.RunLimits.{AreInRange, CanCompare}
 
--- the numbers are within their limits, and names are names; a seed, or the number of a request that is asked about, may
--- be any
+-- the numbers are within their limits; a seed, or the number of a request that is asked about, may be any
 abbrev pub IsPlainInRange : PlainCommand → Type 0
 IsPlainInRange (Script print) = Unit {0}
 IsPlainInRange (Run options slot print) = AreInRange options × (slot ≤ GREATEST_SLOT)
 IsPlainInRange (Gen seed tenants requests print) = IsWithin 1 MOST_TENANTS tenants × (requests ≤ MOST_ROWS)
 IsPlainInRange (Check explain) = Unit {0}
-IsPlainInRange (Lead of over) = IsName of × IsName over
+IsPlainInRange (Lead of over) = Unit {0}
 IsPlainInRange (Shape rate burst) = IsWithin 1 GREATEST_RATE rate × IsWithin 1 GREATEST_BURST burst
 
 abbrev pub IsInRange : Command → Type 0

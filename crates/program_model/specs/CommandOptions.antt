@@ -7,9 +7,7 @@ use Rattle.fq_model.specs.declared.config.Estimator.TheVariants.{Declared, Recen
 use Rattle.vt_fixed.specs.declared.limits.TheConstants.{GREATEST_COST, MOST_WORKERS}
 use Rattle.fq_model.specs.declared.limits.TheConstants.{GREATEST_SLOT}
 use Rattle.program_model.specs.declared.argument.Argument.TheVariants.{Number, Name}
-use Rattle.program_model.specs.declared.name.Name as held
 use Rattle.program_model.specs.Lines.{Words}
-use Rattle.program_model.specs.Names.{name_of}
 use Rattle.fq_model.specs.Spelling.{policy_word, estimator_word}
 use Rattle.program_model.specs.Options.{Within, Among, Named, Required, Default, OptionRow, Value}
 
@@ -26,10 +24,10 @@ abbrev pub number_given : Value → Option ℕ
 number_given (Some (Number n)) = Some n
 number_given _ = None
 
--- the name that it is, or that of no bytes
-abbrev pub name_given : Value → held.Name
+-- the name that it is, or no bytes
+abbrev pub name_given : Value → List ℕ
 name_given (Some (Name name)) = name
-name_given _ = name_of []
+name_given _ = []
 
 -- the value of option k, if it has one; the first is option 0
 abbrev pub given_at : List Value → ℕ → Value

@@ -1,14 +1,15 @@
 -- `lead`: tells how far one tenant of a journal got ahead of another while both waited, and what bounds that.
-use Rattle.std.specs.Prelude.{ℕ, ◌≡◌, ◌==◌, true, if◌then◌else◌, List, [], ◌∷◌, ◌++◌, Option, Some, None, codes}
+use Rattle.std.specs.Prelude.{ℕ, ℤ, ◌≡◌, ◌==◌, true, if◌then◌else◌, List, [], ◌∷◌, ◌++◌, Option, Some, None, codes}
 use Rattle.std.specs.Fmt.{signed_decimal}
+use Rattle.fq_model.specs.declared.config.Config.{Config}
+use Rattle.fq_model.specs.Ever.{measured_ever_bound}
 use Rattle.fq_model.specs.Gap.{TagGap}
-use Rattle.fq_model.specs.History.{history_of}
+use Rattle.fq_model.specs.History.{History, history_of}
 use Rattle.fq_model.specs.Lead.{measured_gap}
 use Rattle.fq_model.specs.Names.{number_among}
 use Rattle.program_model.specs.declared.command.Command.{Command}
 use Rattle.program_model.specs.declared.command.Command.TheVariants.{Plain}
 use Rattle.program_model.specs.declared.command.PlainCommand.TheVariants as commands
-use Rattle.program_model.specs.declared.name.Name.{Name}
 use Rattle.program_model.specs.declared.verdict.Verdict.{Verdict}
 use Rattle.program_model.specs.declared.verdict.Verdict.TheVariants.{Legal, Bad}
 use Rattle.program_model.specs.Answer.{Answer, Text, Message, message_line, IsReadAnswer}
@@ -17,7 +18,6 @@ use Rattle.program_model.specs.CommandOptions.{given_at, name_given, name_option
 use Rattle.program_model.specs.Document.{config_of}
 use Rattle.program_model.specs.FaultTexts.{journal_fault_text}
 use Rattle.program_model.specs.Journal.{Journal, journal_of}
-use Rattle.program_model.specs.Names.{text_of}
 use Rattle.program_model.specs.Options.{OptionRow, Value, CommandRow}
 use Rattle.program_model.specs.Verdicts.{IsVerdict}
 use Rattle.program_model.specs.VerdictTexts.{verdict_text}
@@ -37,13 +37,22 @@ lead_row = record {
   reads_input = true;
 }
 
--- the line of what was measured: the largest difference of their starts and its bound, in steps, or that the two never
--- waited together
-abbrev pub lead_text : (of over : List ℕ) → Option TagGap → List ℕ
-lead_text of over None = of ++ codes " and " ++ over ++ codes " never waited together\n"
-lead_text of over (Some gap) =
+-- the words of the bound that holds whatever came before, in steps, where there is one
+abbrev pub ever_text : Option ℤ → List ℕ
+ever_text None = []
+ever_text (Some bound) = codes " ever " ++ signed_decimal bound
+
+-- the line of what was measured: the largest difference of their starts and its bound, in steps, and the bound that
+-- holds whatever came before; or that the two never waited together
+abbrev pub lead_text : (of over : List ℕ) → Option ℤ → Option TagGap → List ℕ
+lead_text of over ever None = of ++ codes " and " ++ over ++ codes " never waited together\n"
+lead_text of over ever (Some gap) =
     codes "lead of " ++ of ++ codes " over " ++ over ++ codes " largest " ++ signed_decimal gap.largest
-    ++ codes " bound " ++ signed_decimal gap.bound ++ codes "\n"
+    ++ codes " bound " ++ signed_decimal gap.bound ++ ever_text ever ++ codes "\n"
+
+-- the line of tenants f and g of a legal journal
+abbrev pub measured_text : (of over : List ℕ) → Config → History → (f g : ℕ) → List ℕ
+measured_text of over C H f g = lead_text of over (measured_ever_bound C H) (measured_gap C H f g)
 
 -- what is said of a name that no tenant of the journal has
 abbrev pub unknown_answer : List ℕ → Answer
@@ -60,7 +69,7 @@ pair_answer journal of over None g = unknown_answer of
 pair_answer journal of over (Some f) None = unknown_answer over
 pair_answer journal of over (Some f) (Some g) =
     if f == g then same_answer of
-    else Text 0 (lead_text of over (measured_gap (config_of journal) (history_of journal.body) f g))
+    else Text 0 (measured_text of over (config_of journal) (history_of journal.body) f g)
 
 -- what is answered of a journal with this verdict: where it isn't legal, the same as by `check`
 abbrev pub lead_answer : (of over : List ℕ) → Journal → Verdict → Answer
@@ -76,6 +85,6 @@ pub record IsLeadTold (of over : List ℕ) (journal : Journal) (answer : Answer)
   pub answer_is : answer ≡ lead_answer of over journal verdict
 
 -- what is answered of a journal, and of an input that is none its first fault
-abbrev pub IsLeadAnswer : (of over : Name) → List ℕ → Answer → Type 0
+abbrev pub IsLeadAnswer : (of over : List ℕ) → List ℕ → Answer → Type 0
 IsLeadAnswer of over input answer =
-    IsReadAnswer journal_fault_text (IsLeadTold (text_of of) (text_of over)) (journal_of input) answer
+    IsReadAnswer journal_fault_text (IsLeadTold of over) (journal_of input) answer

@@ -6,7 +6,6 @@ use Rattle.fq_model.specs.Spelling.{is_name}
 use Rattle.program_model.specs.declared.argument.Argument.{Argument}
 use Rattle.program_model.specs.declared.argument.Argument.TheVariants.{Number, Name}
 use Rattle.program_model.specs.Lines.{Words}
-use Rattle.program_model.specs.Names.{name_of}
 use Rattle.program_model.specs.Numbers.{number_of}
 
 -- what may be written as the value of an option: a number from low to high; one of these words, which stands for its
@@ -90,7 +89,7 @@ within low high n = if is_outside low high n then None else Some n
 abbrev pub argument_among : Values → List ℕ → Option Argument
 argument_among (Within low high) text = option_map (λ n. Number n) (option_and_then (within low high) (number_of text))
 argument_among (Among words) text = option_map (λ n. Number n) (position (λ w. bytes_eq w text) words)
-argument_among Named text = if is_name text then Some (Name (name_of text)) else None
+argument_among Named text = if is_name text then Some (Name text) else None
 
 -- the same, where the text may be a value at all
 unfoldable pub argument_for : Values → List ℕ → Option Argument

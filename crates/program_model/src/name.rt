@@ -1,27 +1,43 @@
 //! Names that are held in place, so that what has one can be copied.
-ghost use Rattle.std.specs.Prelude.{◌≡◌, ◌≤◌, nat_le, if◌then◌else◌, Some, None, length};
-ghost use Rattle.program_model.specs.Names.{text_of, name_of, IsName};
+ghost use Rattle.std.specs.Prelude.{◌≡◌, IsTrue, if◌then◌else◌, Some, None};
+ghost use Rattle.fq_model.specs.Spelling.{is_name};
 
+use fq_model::names::is_name;
+use std::marker::Model;
 use std::str;
 
-/// The most bytes of a name.
-pub const MOST_NAME_BYTES: usize = 64;
-
-/// A text of at most 64 bytes.
+/// A name: 1 to 64 ASCII letters, digits, `_`, `-` or `.`.
 #[derive(Clone, Copy, PartialEq, Eq)]
 pub struct Name {
-    /// The bytes of the text, and 0 above them.
-    pub bytes: [u8; 64],
-    /// How many bytes the text has.
-    pub len: usize,
+    // the bytes of the text, and 0 above them
+    bytes: [u8; 64],
+    // how many bytes the text has
+    len: usize,
+}
+
+impl Model for Name {
+    ghost use Rattle.std.specs.Prelude.{ℕ, List, length, take};
+    ghost use Rattle.std.proofs.Common.{sym, ap, ◌∙◌};
+    ghost use Rattle.program_model.specs.Names.{padded, HoldsName};
+
+    ghost Value = { List ℕ };
+
+    ghost view = { λ n. take n.len n.bytes };
+
+    ghost inverse = { λ text. record { bytes = padded text; len = length text } };
+
+    ghost invariant = { λ n. HoldsName n.bytes n.len };
+
+    ghost inverse_ok = { λ n h. ap (λ b. record { bytes = b; len = length (take n.len n.bytes) }) (sym h.rest)
+        ∙ ap (λ l. record { bytes = n.bytes; len = l }) (sym h.whole) };
 }
 
 impl Name {
-    /// The name with this text; None where that has more than 64 bytes.
+    /// The name with this text; None where that is no name.
     pub fn new(text: &str) -> Option<Name>
-        ensures { result ≡ (if nat_le (length text.now) 64 then Some (name_of text.now) else None) }
+        ensures { result ≡ (if is_name text.now then Some text.now else None) }
     {
-        if text.len() > MOST_NAME_BYTES {
+        if !is_name(text.as_bytes()) {
             return None;
         }
         let mut bytes = [0; 64];
@@ -34,8 +50,8 @@ impl Name {
 
     /// The text.
     pub fn as_str(&self) -> &str
-        requires { IsName self.now }
-        ensures { result.now ≡ text_of self.now }
+        ensures text { result.now ≡ self.now }
+        ensures spelled { IsTrue (is_name result.now) }
     {
         match str::from_utf8(&self.bytes[..self.len]) {
             Ok(text) => text,

@@ -281,8 +281,8 @@ impl<J: Job + Drop, X: Chooser> Core<J, X> {
         self.tracker.times().now()
     }
 
-    /// Virtual time at a moment, in steps: what it comes to by then where no call is accepted before. A moment before the
-    /// last entry's stands for that.
+    /// Virtual time at a moment, in steps: what it comes to by then where no call is accepted before. A moment before
+    /// the last entry's stands for that.
     pub fn virtual_time_at(&self, moment: u64) -> i128
         ensures value { result ≡ pos (virtual_time self.now.config (history_of self.now.past)
             (effective_moment (history_of self.now.past) moment)) }

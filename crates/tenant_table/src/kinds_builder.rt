@@ -6,7 +6,7 @@ ghost use Rattle.tenant_table.specs.Rows.{kinds_of};
 
 use crate::fault::NameFault;
 use crate::kinds::Kinds;
-use crate::name::is_name;
+use fq_model::names::is_name;
 use fq_model::limits::MOST_KINDS;
 use indexmap::IndexSet;
 use std::alloc::{AllocError, Global};

@@ -4,6 +4,5 @@
 pub mod fault;
 pub mod kinds;
 pub mod kinds_builder;
-pub mod name;
 pub mod tenants;
 pub mod tenants_builder;

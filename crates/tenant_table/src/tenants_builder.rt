@@ -6,7 +6,7 @@ ghost use Rattle.tenant_table.specs.Names.{names_of, number_among, AreTenants, t
 ghost use Rattle.tenant_table.specs.Rows.{tenants_of};
 
 use crate::fault::NameFault;
-use crate::name::is_name;
+use fq_model::names::is_name;
 use crate::tenants::Tenants;
 use fq_model::limits::{GREATEST_WEIGHT, MOST_TENANTS};
 use indexmap::IndexMap;

@@ -17,7 +17,7 @@ use fq_model::limits::GREATEST_TRACE_MOMENT;
 use program_model::fault::TraceKind;
 use program_model::numbers::number;
 use program_model::trace::TraceRow;
-use tenant_table::name::is_name;
+use fq_model::names::is_name;
 use tenant_table::tenants_builder::TenantsBuilder;
 
 /// A record whose fields are all texts.

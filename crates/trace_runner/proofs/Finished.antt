@@ -8,22 +8,13 @@ use Rattle.fq_model.specs.History.{History, is_submitted, is_done, is_ended, is_
 use Rattle.fq_model.specs.Report.{unfinished, is_unfinished}
 use Rattle.program_model.specs.Simulated.{run_config, IsSimulated}
 use Rattle.program_model.specs.Trace.{Trace}
-use Rattle.fq_laws.proofs.History.Asked.{has_weaker}
+use Rattle.fq_laws.proofs.History.Asked.{done_ended}
 use Rattle.fq_laws.proofs.History.Requests.{submitted_below}
 use Rattle.fq_laws.proofs.Sums.{least_by}
 use Rattle.trace_reader.specs.Rows.{row_at}
 use Rattle.trace_runner.proofs.Only.{served_done}
 use Rattle.trace_runner.proofs.Rests.{all_submitted}
 use Rattle.trace_runner.proofs.Rows.{row_there}
-
-done_ends : (r : ℕ) (a : Act) → is_done_of r a ≡ true → is_end_of r a ≡ true
-done_ends r (Done worker request cost) h = h
-done_ends r _ h = absurd (false≢true h)
-
--- what is done is ended
-done_ended : (P : History) (r : ℕ) → is_done P r ≡ true → is_ended P r ≡ true
-unfolding is_done is_ended
-done_ended P r h = has_weaker (is_done_of r) (is_end_of r) (done_ends r) P h
 
 -- where each submitted request is done, none is unfinished
 pub none_is_unfinished : (H : History) → ((r : ℕ) → is_submitted H r ≡ true → is_done H r ≡ true) → unfinished H ≡ None

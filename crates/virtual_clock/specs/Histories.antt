@@ -25,8 +25,8 @@ pub record ClockAt (C : Config) (P : History) (m : ℕ) (c : ClockView) : Type 0
   pub time : c.time ≡ pos (virtual_time C P m)
   pub cap : c.cap ≡ cap_for C.policy (pace C P).reached
 
--- the open requests of tenant t are counted, and under the policies whose virtual time is that of the clock its total at
--- any moment is its virtual idle time
+-- the open requests of tenant t are counted, and under the policies whose virtual time is that of the clock its total
+-- at any moment is its virtual idle time
 pub record IdleAt (C : Config) (P : History) (m t : ℕ) (i : Idle) : Type 0 where
   pub undone : i.undone ≡ open_requests P t
   pub earlier : i.since ≤ℤ pos (virtual_time C P m)

@@ -11,8 +11,8 @@ use vt_fixed::advance;
 
 /// Virtual time along a history, in steps. It rises at the rate of generalized processor sharing (Parekh and
 /// Gallager, 1993): the number of workers over the sum of the active tenants' weights, and it stands while no tenant
-/// is active. Under `2dfq+` it does not pass a cap, and may be lifted. Each piece between two moments is rounded down by
-/// itself, so `to` belongs at each entry and nowhere else.
+/// is active. Under `2dfq+` it does not pass a cap, and may be lifted. Each piece between two moments is rounded down
+/// by itself, so `to` belongs at each entry and nowhere else.
 #[derive(Drop)]
 pub struct Clock128 {
     workers: u32,

@@ -34,8 +34,8 @@ impl Times {
         })
     }
 
-    /// A Take, a Report or a Close comes at this moment, in microseconds. A Take is told to `take` too, once it is known
-    /// what is taken.
+    /// A Take, a Report or a Close comes at this moment, in microseconds. For a Take `take` is called too, once the
+    /// request is chosen.
     pub fn pass(&mut self, moment: u64)
         requires later { self.old.clock.moment ≤ moment }
         requires in_range { moment ≤ GREATEST_MOMENT }
@@ -44,7 +44,7 @@ impl Times {
         self.clock.to(moment);
     }
 
-    /// At the moment that was passed to, the worker takes a request that starts there and has this length, both in steps.
+    /// At the moment that was passed to, the worker takes a request with this start and this length, both in steps.
     pub fn take(&mut self, policy: Policy, worker: u32, start: i128, len: i128)
         requires { policy ≡ TwoDfqPlus → AwaitsTake worker start len self.old }
         ensures paced { policy ≡ TwoDfqPlus → FollowsTake worker start len self.old self.new }

@@ -40,6 +40,15 @@ withdrawn_removed P r h = has_weaker (is_withdraw_of r) (is_removal_of r) (withd
 pub unremoved_untaken : (P : History) (r : ℕ) → is_removed P r ≡ false → is_taken P r ≡ false
 unremoved_untaken P r h = false_from_ne_true _ (λ t. both_ways _ h (taken_removed P r t))
 
+done_ends : (r : ℕ) (a : Act) → is_done_of r a ≡ true → is_end_of r a ≡ true
+done_ends r (Done worker request cost) h = h
+done_ends r _ h = absurd (false≢true h)
+
+-- what is done is ended
+pub done_ended : (P : History) (r : ℕ) → is_done P r ≡ true → is_ended P r ≡ true
+unfolding is_done is_ended
+done_ended P r h = has_weaker (is_done_of r) (is_end_of r) (done_ends r) P h
+
 end_by : (r : ℕ) (a : Act) → is_end_of r a ≡ true → (is_done_of r a ≡ true) ⊎ (is_withdraw_of r a ≡ true)
 end_by r (Done worker request cost) h = inl h
 end_by r (Withdraw request) h = inr h

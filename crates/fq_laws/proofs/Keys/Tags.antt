@@ -39,12 +39,6 @@ base_submit_other C P who m t q u kind declared label ne = rw (base_step C P (re
 pub base_take : (C : Config) (P : History) (who m t w q c : ℕ) → tag_base C (one_more who m (Take w q c) P) t ≡ tag_base C P t
 base_take C P who m t w q c = base_step C P (record { who = who; moment = m; act = Take w q c }) t
 
-pub base_report : (C : Config) (P : History) (who m t w q used : ℕ) → tag_base C (one_more who m (Report w q used) P) t ≡ tag_base C P t
-base_report C P who m t w q used = base_step C P (record { who = who; moment = m; act = Report w q used }) t
-
-pub base_done : (C : Config) (P : History) (who m t w q cost : ℕ) → tag_base C (one_more who m (Done w q cost) P) t ≡ tag_base C P t
-base_done C P who m t w q cost = base_step C P (record { who = who; moment = m; act = Done w q cost }) t
-
 pub base_quiet : (C : Config) (P : History) (who m t : ℕ) (a : Act) → is_quiet a ≡ true → tag_base C (one_more who m a P) t ≡ tag_base C P t
 base_quiet C P who m t (Submit request tenant kind declared label) q = absurd (false≢true q)
 base_quiet C P who m t a q = base_step C P (record { who = who; moment = m; act = a }) t
