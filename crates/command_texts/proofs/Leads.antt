@@ -1,14 +1,25 @@
--- A name that is looked for among those of the tenants, one after another.
-use Rattle.std.proofs.Common.{ℕ, ◌+◌, ◌<◌, ◌≤◌, ◌≡◌, true, false, List, [], length, get_or, Some, None, bytes_eq, sym, ap, subst, ◌∙◌, inl, inr, arith}
-use Rattle.std.specs.Prelude.{slice_get}
+-- A name that is looked for among those of the tenants, one after another, and the line of what was measured.
+use Rattle.std.proofs.Common.{ℕ, ℤ, ◌+◌, ◌++◌, append_assoc, ◌<◌, ◌≤◌, ◌≡◌, true, false, List, [], length, get_or, Option, Some, None, refl, bytes_eq, sym, ap, subst, ◌∙◌, inl, inr, arith}
+use Rattle.std.specs.Prelude.{slice_get, codes}
+use Rattle.std.specs.Fmt.{signed_decimal}
 use Rattle.std.proofs.lemmas.Bool.{cases_lt, false≢true, false_from_ne_true}
 use Rattle.std.proofs.lemmas.Option.{get_or_from_slice_get}
 use Rattle.std.proofs.lemmas.Slice.Eq.{bytes_eq-Decides}
 use Rattle.fq_model.specs.declared.limits.TheConstants.{MOST_TENANTS}
+use Rattle.fq_model.specs.declared.config.Config.{Config}
+use Rattle.fq_model.specs.Ever.{measured_ever_bound}
+use Rattle.fq_model.specs.Gap.{TagGap}
+use Rattle.fq_model.specs.History.{History}
+use Rattle.fq_model.specs.Lead.{measured_gap}
 use Rattle.fq_model.specs.Names.{number_among}
+use Rattle.program_model.specs.LeadCommand.{lead_text, measured_text}
+use Rattle.tag_gap.specs.Gaps.{told}
+use Rattle.tag_lead.specs.declared.leads.Lead.{Lead}
+use Rattle.tag_lead.specs.Leads.{IsLead}
 use Rattle.tenant_table.specs.Names.{names_of, AreTenants}
 use Rattle.tenant_table.proofs.Tables.{length_names, finds}
 use Rattle.trace_shape.proofs.Sizes.{none_found}
+use Rattle.command_texts.specs.Leading.{IsLineOf}
 
 -- no tenant before t has it
 abbrev pub NoneBefore : List (List ℕ × ℕ) → List ℕ → ℕ → Type 0
@@ -41,3 +52,23 @@ none_here tenants name found t is ne before s below = elim (cases_lt s t) [
 pub none_at_all : (tenants : List (List ℕ × ℕ)) (name : List ℕ) (t : ℕ) → length tenants ≤ t → NoneBefore tenants name t → None ≡ number_among (names_of tenants) name
 none_at_all tenants name t past before =
     sym (none_found (bytes_eq name) (names_of tenants) [] (λ k below. before k (omega (arith, past, below, length_names tenants))))
+
+-- ---- what was measured
+
+line_of : (of over : List ℕ) (ever measured_ever : Option ℤ) (gap measured : Option TagGap) → ever ≡ measured_ever → gap ≡ measured → lead_text of over ever gap ≡ lead_text of over measured_ever measured
+line_of of over ever measured_ever gap measured e f = rw (e, f) refl
+
+-- the line of a lead is that of what it is
+pub line_told : (of over : List ℕ) (C : Config) (H : History) (f g : ℕ) (lead : Option Lead) (text : List ℕ) → IsLead C H f g lead → IsLineOf of over lead text → text ≡ measured_text of over C H f g
+line_told of over C H f g None text is line = line ∙ line_of of over _ _ None (measured_gap C H f g) refl is.gap_is
+line_told of over C H f g (Some lead) text is line = line ∙ line_of of over lead.ever (measured_ever_bound C H) (Some (told lead.gap)) (measured_gap C H f g) is.ever_is is.gap_is
+
+-- the pieces of the line, one after another
+in_row : (a b c d e f g h : List ℕ) → a ++ (b ++ (c ++ (d ++ (e ++ (f ++ (g ++ h)))))) ≡ ((((((a ++ b) ++ c) ++ d) ++ e) ++ f) ++ g) ++ h
+in_row a b c d e f g h = sym (simp append_assoc)
+
+pub ever_whole : (of over : List ℕ) (largest bound ever : ℤ) → codes "lead of " ++ (of ++ (codes " over " ++ (over ++ (codes " largest " ++ (signed_decimal largest ++ (codes " bound " ++ (signed_decimal bound ++ (codes " ever " ++ (signed_decimal ever ++ codes "\n"))))))))) ≡ lead_text of over (Some ever) (Some (record { largest = largest; bound = bound }))
+ever_whole of over largest bound ever =
+    ap (λ l. codes "lead of " ++ l)
+    (in_row of (codes " over ") over (codes " largest ") (signed_decimal largest) (codes " bound ") (signed_decimal bound) (codes " ever " ++ (signed_decimal ever ++ codes "\n"))
+    ∙ sym (append_assoc (((((((of ++ codes " over ") ++ over) ++ codes " largest ") ++ signed_decimal largest) ++ codes " bound ") ++ signed_decimal bound)) (codes " ever " ++ signed_decimal ever) (codes "\n")))

@@ -28,16 +28,14 @@ use Rattle.program_model.specs.FaultTexts.{script_fault_text, journal_fault_text
 use Rattle.program_model.specs.HistoryAnswer.{IsHistoryAnswer, has_many_entries, entries_answer, makes_report, has_many_cells, cells_answer, history_output, history_answer}
 use Rattle.fq_model.specs.declared.config.Config.{Config}
 use Rattle.fq_model.specs.History.{History, history_of}
-use Rattle.fq_model.specs.Lead.{measured_gap}
 use Rattle.fq_model.specs.Names.{number_among}
 use Rattle.fq_model.specs.Report.{cells_of}
 use Rattle.program_model.specs.declared.command.HistoryPrint.{HistoryPrint}
 use Rattle.program_model.specs.Generator.{generated_trace}
 use Rattle.program_model.specs.GenCommand.{default_run_options, IsGeneratedAnswer}
 use Rattle.program_model.specs.Journal.{Journal, journal_of}
-use Rattle.program_model.specs.LeadCommand.{lead_text, same_answer, pair_answer, lead_answer, IsLeadTold}
+use Rattle.program_model.specs.LeadCommand.{measured_text, same_answer, pair_answer, lead_answer, IsLeadTold}
 use Rattle.program_model.specs.LiveCommand.{after_lines, IsWatchedAnswer, IsPoolAnswer}
-use Rattle.program_model.specs.Names.{text_of}
 use Rattle.program_model.specs.PoolHistory.{needed_pool_entries, pool_config}
 use Rattle.program_model.specs.Readings.{status_lines}
 use Rattle.program_model.specs.RunCommand.{IsSimulationAnswer}
@@ -94,7 +92,7 @@ pair_sound : (journal : Journal) (of over : List ℕ) (f g : Option ℕ) → IsS
 pair_sound journal of over None g = refl
 pair_sound journal of over (Some f) None = refl
 pair_sound journal of over (Some f) (Some g) =
-    either_sound (f == g) (same_answer of) (Text 0 (lead_text of over (measured_gap (config_of journal) (history_of journal.body) f g))) refl refl
+    either_sound (f == g) (same_answer of) (Text 0 (measured_text of over (config_of journal) (history_of journal.body) f g)) refl refl
 
 lead_sound : (of over : List ℕ) (journal : Journal) (answer : Answer) → IsLeadTold of over journal answer → IsSound answer
 lead_sound of over journal answer x = sound_as answer (lead_answer of over journal x.verdict) x.answer_is (go x.verdict)
@@ -130,7 +128,7 @@ plain_sound (Run options slot print) input answer x =
 plain_sound (Gen seed tenants requests print) input answer x = generated_sound print (generated_trace seed tenants requests) answer x
 plain_sound (Check explain) input answer x = read_sound journal_fault_text (IsJudged explain) (journal_of input) answer (λ journal y. judged_sound explain journal answer y) x
 plain_sound (Lead of over) input answer x =
-    read_sound journal_fault_text (IsLeadTold (text_of of) (text_of over)) (journal_of input) answer (λ journal y. lead_sound (text_of of) (text_of over) journal answer y) x
+    read_sound journal_fault_text (IsLeadTold of over) (journal_of input) answer (λ journal y. lead_sound of over journal answer y) x
 plain_sound (Shape rate burst) input answer x = trace_sound (IsShapedAnswer rate burst) input answer (λ T y. sized_sound rate burst T (too_big T burst) answer y) x
 
 compared_sound : (o : CompareOptions) (T : Trace) (answer : Answer) → IsComparisonAnswer o T answer → IsSound answer

@@ -1,3 +1,4 @@
 pub mod Making
 pub mod Histories
 pub mod Serving
+pub mod Leading

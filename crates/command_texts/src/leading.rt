@@ -1,15 +1,15 @@
 //! `lead`: how far one tenant of a journal got ahead of another, and a bound of that, by what its requests became.
-ghost use Rattle.std.specs.Prelude.{◌≡◌, ◌<◌, ◌≢◌, ◌++◌, codes, Some, None, IfOk, IfSome, length, option_map, string_bytes};
+ghost use Rattle.std.specs.Prelude.{◌≡◌, ◌<◌, ◌≢◌, ◌++◌, codes, Some, None, IfOk, IfSome, length, string_bytes};
 ghost use Rattle.fq_model.specs.History.{history_of};
-ghost use Rattle.fq_model.specs.Lead.{measured_gap};
 ghost use Rattle.fq_model.specs.Names.{number_among};
 ghost use Rattle.fq_model.specs.Rules.{IsLegal};
 ghost use Rattle.program_model.specs.declared.verdict.Verdict.TheVariants.{Legal};
 ghost use Rattle.program_model.specs.Document.{config_of};
-ghost use Rattle.program_model.specs.LeadCommand.{lead_text, unknown_answer, same_answer, lead_answer, IsLeadTold, IsLeadAnswer};
-ghost use Rattle.program_model.specs.Names.{IsName};
+ghost use Rattle.program_model.specs.LeadCommand.{lead_text, measured_text, unknown_answer, same_answer, lead_answer, IsLeadTold, IsLeadAnswer};
 ghost use Rattle.tag_gap.specs.Gaps.{told};
+ghost use Rattle.tag_lead.specs.Leads.{IsLead};
 ghost use Rattle.tenant_table.specs.Names.{names_of};
+ghost use Rattle.command_texts.specs.Leading.{IsLineOf};
 ghost use Rattle.command_texts.specs.Making.{Makes, IsStop};
 
 use crate::messages::{document_stop, told};
@@ -23,13 +23,11 @@ use program_model::verdict::Verdict;
 use std::alloc::{AllocError, Global};
 use tag_gap::fault::GapFault;
 use tag_gap::gap::Gap;
-use tag_lead::leads::tag_lead;
+use tag_lead::leads::{Lead, tag_lead};
 use tenant_table::tenants::Tenants;
 
 /// What `lead` answers to its input, which is given up before the journal is judged.
 pub fn answer(alloc: Global, of: Name, over: Name, input: Vec<u8>) -> Result<Output, Stop>
-    requires of { IsName of }
-    requires over { IsName over }
     ensures { Makes (IsLeadAnswer of over input.items) result }
 {
     let journal = read_journal(alloc, input.as_slice());
@@ -70,8 +68,7 @@ fn of_pair(alloc: Global, of: &str, over: &str, journal: &Journal) -> Result<Out
         (Some(_), None) => Err(unknown(alloc, over)),
         (Some(f), Some(g)) if f == g => Err(same(alloc, of)),
         (Some(f), Some(g)) => {
-            let lead = lead_of(alloc, journal, f, g)?;
-            let text = lead_text(alloc, of, over, lead)?;
+            let text = measured_text(alloc, of, over, journal, f, g)?;
             Ok(Output::success(text))
         }
     }
@@ -90,14 +87,33 @@ fn number_of(tenants: &Tenants, name: &str) -> Option<u32>
     None
 }
 
-// How far one tenant of a legal journal got ahead of another, and what bounds that.
-fn lead_of(alloc: Global, journal: &Journal, f: u32, g: u32) -> Result<Option<Gap>, AllocError>
+// The line of what was measured of two tenants of a legal journal.
+fn measured_text(
+    alloc: Global,
+    of: &str,
+    over: &str,
+    journal: &Journal,
+    f: u32,
+    g: u32,
+) -> Result<Vec<u8>, AllocError>
     requires legal { IsLegal (config_of journal.now) (history_of journal.now.body) }
     requires f { f < length journal.now.weights }
     requires g { g < length journal.now.weights }
     requires apart { f ≢ g }
-    ensures { IfOk result (λ lead.
-        option_map told lead ≡ measured_gap (config_of journal.now) (history_of journal.now.body) f g) }
+    ensures { IfOk result (λ text. text.items ≡
+        measured_text of.now over.now (config_of journal.now) (history_of journal.now.body) f g) }
+{
+    let lead = lead_of(alloc, journal, f, g)?;
+    lead_text(alloc, of, over, lead)
+}
+
+// How far one tenant of a legal journal got ahead of another, and what bounds that.
+fn lead_of(alloc: Global, journal: &Journal, f: u32, g: u32) -> Result<Option<Lead>, AllocError>
+    requires legal { IsLegal (config_of journal.now) (history_of journal.now.body) }
+    requires f { f < length journal.now.weights }
+    requires g { g < length journal.now.weights }
+    requires apart { f ≢ g }
+    ensures { IfOk result (IsLead (config_of journal.now) (history_of journal.now.body) f g) }
 {
     match tag_lead::<IndexChooser>(alloc, journal.body(), journal.config(), f, g) {
         Ok(lead) => Ok(lead),
@@ -107,12 +123,21 @@ fn lead_of(alloc: Global, journal: &Journal, f: u32, g: u32) -> Result<Option<Ga
 }
 
 // The line of what was measured, in steps.
-fn lead_text(alloc: Global, of: &str, over: &str, lead: Option<Gap>) -> Result<Vec<u8>, AllocError>
-    ensures { IfOk result (λ text. text.items ≡ lead_text of.now over.now (option_map told lead)) }
+fn lead_text(alloc: Global, of: &str, over: &str, lead: Option<Lead>) -> Result<Vec<u8>, AllocError>
+    ensures { IfOk result (λ text. IsLineOf of.now over.now lead text.items) }
 {
     match lead {
-        Some(gap) => {
-            let line = measured_line(alloc, of, over, gap)?;
+        Some(Lead { gap, ever: None }) => {
+            let line = gap_line(alloc, of, over, gap)?;
+            Ok(line.into_bytes())
+        }
+        Some(
+            Lead {
+                gap,
+                ever: Some(ever),
+            },
+        ) => {
+            let line = ever_line(alloc, of, over, gap, ever)?;
             Ok(line.into_bytes())
         }
         None => {
@@ -122,17 +147,31 @@ fn lead_text(alloc: Global, of: &str, over: &str, lead: Option<Gap>) -> Result<V
     }
 }
 
-// The same where the two waited together.
-fn measured_line(alloc: Global, of: &str, over: &str, gap: Gap) -> Result<String, AllocError>
-    ensures { IfOk result (λ line. string_bytes line ≡ lead_text of.now over.now (Some (told gap))) }
+// Where the two waited together.
+fn gap_line(alloc: Global, of: &str, over: &str, gap: Gap) -> Result<String, AllocError>
+    ensures { IfOk result (λ line. string_bytes line ≡ lead_text of.now over.now None (Some (told gap))) }
 {
     let Gap { largest, bound } = gap;
     format!(in alloc; "lead of {of} over {over} largest {largest} bound {bound}\n")
 }
 
+// The same with the bound that asks nothing of the past.
+fn ever_line(
+    alloc: Global,
+    of: &str,
+    over: &str,
+    gap: Gap,
+    ever: i128,
+) -> Result<String, AllocError>
+    ensures { IfOk result (λ line. string_bytes line ≡ lead_text of.now over.now (Some ever) (Some (told gap))) }
+{
+    let Gap { largest, bound } = gap;
+    format!(in alloc; "lead of {of} over {over} largest {largest} bound {bound} ever {ever}\n")
+}
+
 // Where they never did.
 fn apart_line(alloc: Global, of: &str, over: &str) -> Result<String, AllocError>
-    ensures { IfOk result (λ line. string_bytes line ≡ lead_text of.now over.now None) }
+    ensures { IfOk result (λ line. string_bytes line ≡ lead_text of.now over.now None None) }
 {
     format!(in alloc; "{of} and {over} never waited together\n")
 }

@@ -10,5 +10,6 @@ pub mod Bound
 pub mod Counts
 pub mod Gains
 pub mod Foretold
+pub mod Measured
 pub mod Computed
 pub mod Charges

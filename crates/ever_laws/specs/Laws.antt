@@ -1,7 +1,8 @@
 -- What bounds how far one tenant is ahead of another that waits, under 2dfq+.
 use Rattle.std.specs.Prelude.{ℕ, ◌+◌, ◌*◌, ◌/◌, ◌≤◌, ◌≡◌, ◌≢◌, ◌==◌, if◌then◌else◌, length, ◌∷◌, ◌++◌, Some, ℤ, pos, ◌+ℤ◌, ◌-ℤ◌, ◌≤ℤ◌}
 use Rattle.vt_fixed.specs.Rounding.{length_of}
-use Rattle.fq_model.specs.Ever.{greatest_part, most_lead, ever_bound}
+use Rattle.fq_model.specs.Ever.{longest_of_all, greatest_part, most_lead, ever_bound, measured_ever_bound}
+use Rattle.fq_model.specs.Gap.{start_difference}
 use Rattle.fq_model.specs.declared.config.Config.{Config}
 use Rattle.fq_model.specs.declared.config.Policy.TheVariants.{TwoDfqPlus}
 use Rattle.fq_model.specs.declared.event.Entry.{Entry}
@@ -108,3 +109,15 @@ abbrev pub LeadIsForetold : Type 0
 LeadIsForetold =
     (C : Config) (H : History) (f g r c w : ℕ) → f ≢ g → C.policy ≡ TwoDfqPlus → InLimits C → IsLegal C H
     → AllKeepLimits C H c w → head H g ≡ Some r → worst_lead (length_of c w) C H f g ≤ℤ ever_bound C (length_of c w)
+
+-- no request of a legal history is longer than the greatest length in it
+abbrev pub LongestIsNoShorter : Type 0
+LongestIsNoShorter =
+    (C : Config) (H : History) → InLimits C → IsLegal C H → AreAllNoLonger C H (longest_of_all C H)
+
+-- so the bound that is measured by it holds for the starts of two tenants wherever the other one waits
+abbrev pub MeasuredBoundHolds : Type 0
+MeasuredBoundHolds =
+    (C : Config) (H P : History) (f g r : ℕ) (measured : ℤ) → f ≢ g → InLimits C → IsLegal C H
+    → measured_ever_bound C H ≡ Some measured → IsPrefix P H → head P g ≡ Some r
+    → start_difference C P f g ≤ℤ measured

@@ -1,5 +1,5 @@
 //! The laws, one function a law: its contract is the law, and its body is empty.
-ghost use Rattle.ever_laws.specs.Laws.{LeastRises, GroundRises, MostStaysNear, CapStaysNear, BoundHolds, LeadIsBounded, AccountsAreBounded, TakesAreBounded, ChargeIsBounded, OthersAreBounded, GainIsBounded, LengthsAreForetold, LeadIsForetold};
+ghost use Rattle.ever_laws.specs.Laws.{LeastRises, GroundRises, MostStaysNear, CapStaysNear, BoundHolds, LeadIsBounded, AccountsAreBounded, TakesAreBounded, ChargeIsBounded, OthersAreBounded, GainIsBounded, LengthsAreForetold, LeadIsForetold, LongestIsNoShorter, MeasuredBoundHolds};
 
 /// What a tenant has at least, whatever comes of its requests that run, never falls.
 pub fn least_rises()
@@ -70,4 +70,14 @@ pub fn lengths_are_foretold()
 /// So the bound is known before the first request comes.
 pub fn lead_is_foretold()
     ensures { LeadIsForetold }
+{}
+
+/// No request of a history is longer than the greatest length in it.
+pub fn longest_is_no_shorter()
+    ensures { LongestIsNoShorter }
+{}
+
+/// So the bound that `lead` measures holds: no tenant is further ahead of one that waits.
+pub fn measured_bound_holds()
+    ensures { MeasuredBoundHolds }
 {}

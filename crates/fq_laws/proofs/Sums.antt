@@ -195,16 +195,16 @@ max_same f g (suc n) h =
     omega arith
 
 -- the greatest where one value rises
-pub max_at : (f g : ℕ → ℕ) (r x n : ℕ) → r < n → g r ≡ max (f r) x → ((s : ℕ) → s ≢ r → g s ≡ f s) → max_below g n ≡ max x (max_below f n)
+pub max_at : (f g : ℕ → ℕ) (r x n : ℕ) → r < n → g r ≡ max x (f r) → ((s : ℕ) → s < n → s ≢ r → g s ≡ f s) → max_below g n ≡ max x (max_below f n)
 unfolding max_below
 max_at f g r x zero b here others = absurd (omega arith)
 max_at f g r x (suc n) b here others = elim (cases_eq n r) [
   | inl e ↦
-      let one : g n ≡ max (f n) x = ap g e ∙ (here ∙ ap (λ k. max (f k) x) (sym e)) in
-      let rest : max_below g n ≡ max_below f n = max_same g f n (λ s c. others s (λ same. omega (arith, c, same, e))) in
+      let one : g n ≡ max x (f n) = ap g e ∙ (here ∙ ap (λ k. max x (f k)) (sym e)) in
+      let rest : max_below g n ≡ max_below f n = max_same g f n (λ s c. others s (omega arith) (λ same. omega (arith, c, same, e))) in
       rw (one, rest) (omega arith)
   | inr ne ↦
-      let one : g n ≡ f n = others n ne in
-      let rest : max_below g n ≡ max x (max_below f n) = max_at f g r x n (omega arith) here others in
+      let one : g n ≡ f n = others n (omega arith) ne in
+      let rest : max_below g n ≡ max x (max_below f n) = max_at f g r x n (omega arith) here (λ s c. others s (omega arith)) in
       rw (one, rest) (omega arith)
 ]

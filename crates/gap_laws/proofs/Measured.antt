@@ -63,7 +63,7 @@ shortest_covers C [] [] t r l h = absurd (none_taken t r h)
 shortest_covers C [] (e ∷ P) t r l h = shortest_first (is_taken_of P t r) (charged C (e ∷ P) t r) (shortest_of C P t r)
 shortest_covers C (e ∷ newer) P t r l h = rw (of_tenant_on C newer P t r l.0 h) (omega (arith, shortest_covers C newer P t r l.0 h))
 
-caps_are : (C : Config) (H : History) (t : ℕ) → AreCaps C H t (longest_of C H t)
+pub caps_are : (C : Config) (H : History) (t : ℕ) → AreCaps C H t (longest_of C H t)
 caps_are C H t = λ Q r is taken. rw (is.1, ← charged_is C Q t r taken) (longest_covers C is.0 Q t r taken)
 
 lows_are : (C : Config) (H : History) (t : ℕ) → IsLegal C H → AreLows C H t (shortest_of C H t)

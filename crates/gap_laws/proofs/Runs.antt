@@ -11,7 +11,7 @@ use Rattle.gap_laws.specs.Laws.{RunStartIs}
 
 -- ---- heads
 
-head_nil : (t : ℕ) → head [] t ≡ None
+pub head_nil : (t : ℕ) → head [] t ≡ None
 unfolding head waits_for
 head_nil t = least_by (waits_for [] t) request_bound None (λ s b. refl)
 

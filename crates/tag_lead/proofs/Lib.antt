@@ -4,3 +4,4 @@ pub mod Entering
 pub mod SpanLemmas
 pub mod DoubtLemmas
 pub mod LeadLemmas
+pub mod GreatestLemmas

@@ -21,7 +21,7 @@ unfolding longest_of
 longest_reaches C [] t r = omega (arith, charged_untaken C [] t r (untaken_nil r))
 longest_reaches C (e ∷ P) t r = omega arith
 
-longest_stays : (C : Config) (P : History) (e : Entry) (t r : ℕ) → charged C (e ∷ P) t r ≡ charged C P t r → longest_of C (e ∷ P) t r ≡ longest_of C P t r
+pub longest_stays : (C : Config) (P : History) (e : Entry) (t r : ℕ) → charged C (e ∷ P) t r ≡ charged C P t r → longest_of C (e ∷ P) t r ≡ longest_of C P t r
 unfolding longest_of
 longest_stays C P e t r same = omega (arith, same, longest_reaches C P t r)
 

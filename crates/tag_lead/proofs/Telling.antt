@@ -51,6 +51,7 @@ pub record Tells (C : Config) (P Q : History) (x : Told) : Type 0 where
   pub foreign : (t : ℕ) → t ≢ x.tenant → charged C Q t x.request ≡ charged C P t x.request
   pub own : charged C Q x.tenant x.request ≡ x.len
   pub first : is_taken_of P x.tenant x.request ≡ not x.taken
+  pub taken : is_taken_of Q x.tenant x.request ≡ true
 
 abbrev pub TellsIf : Config → History → History → Option Told → Type 0
 TellsIf C P Q None = (t r : ℕ) → charged C Q t r ≡ charged C P t r
@@ -64,6 +65,7 @@ row_tells C P Q i r x first before others was = record {
   foreign = λ t ne. charged_foreign C Q t r x.what x.was ne ∙ sym (charged_foreign C P t r x.what before ne);
   own = charged_own C Q r x.what x.was x.taken ∙ ap (λ (n : ℕ). length_of n (taken_weight C Q x.what.tenant r)) x.charge_was;
   first = was;
+  taken = taken_own Q r x.what x.was x.taken;
 }
 
 quiet_weight : (C : Config) (P : History) (who m t r : ℕ) (a : Act) → is_quiet a ≡ true → taken_weight C (one_more who m a P) t r ≡ taken_weight C P t r
@@ -105,6 +107,7 @@ done_tells C P who m w r cost lim l =
       foreign = λ t ne. charged_foreign C Q t r x.what x.was ne ∙ sym (charged_foreign C P t r x.what x.was ne);
       own = same_length _ true (charge Q r) cost _ _ now (charge_done P who m w r cost f) refl;
       first = taken_own P r x.what x.was x.taken;
+      taken = now;
     })
 
 tells_at : (C : Config) (P : History) (who m : ℕ) (a : Act) → InLimits C → IsLegal C (one_more who m a P) → TellsIf C P (one_more who m a P) (told_by a (row_of_act C P a) (row_of_act C (one_more who m a P) a))

@@ -1,13 +1,16 @@
 -- How far one tenant is ahead of another at a prefix, and what a Take tells.
-use Rattle.std.specs.Prelude.{ℕ, ◌==◌, max, if◌then◌else◌, Option, Some, None, pos, unsigned_abs, ◌+ℤ◌, ◌-ℤ◌}
+use Rattle.std.specs.Prelude.{ℕ, ◌≡◌, ◌==◌, max, if◌then◌else◌, Option, Some, None, option_map, IfSome, pos, unsigned_abs, ◌+ℤ◌, ◌-ℤ◌}
 use Rattle.fq_model.specs.declared.config.Config.{Config}
 use Rattle.fq_model.specs.declared.event.Act.{Act}
 use Rattle.fq_model.specs.declared.event.Act.TheVariants.{Take}
 use Rattle.fq_model.specs.History.{History}
 use Rattle.fq_model.specs.Keys.{HeadKeys}
 use Rattle.fq_model.specs.Gap.{is_shared, start_difference}
-use Rattle.fq_model.specs.Lead.{head_length, is_lead_take}
+use Rattle.fq_model.specs.Ever.{measured_ever_bound}
+use Rattle.fq_model.specs.Lead.{head_length, is_lead_take, measured_gap}
+use Rattle.tag_gap.specs.Gaps.{told}
 use Rattle.tag_lead.specs.declared.found.Ahead.{Ahead}
+use Rattle.tag_lead.specs.declared.leads.Lead.{Lead}
 
 -- how far f is ahead of g, where both wait and so much is in doubt
 abbrev pub ahead_at : Config → History → ℕ → ℕ → ℕ → Option Ahead
@@ -32,3 +35,8 @@ abbrev pub taken_by : Act → Option HeadKeys → Option HeadKeys → Option ℕ
 taken_by (Take worker request estimate) (Some k) (Some l) =
     if request == k.request then Some (max (unsigned_abs k.len) (unsigned_abs l.len)) else None
 taken_by _ _ _ = None
+
+-- this is the lead of f over g, or none where they never wait both
+pub record IsLead (C : Config) (H : History) (f g : ℕ) (lead : Option Lead) : Type 0 where
+  pub gap_is : option_map (λ x. told x.gap) lead ≡ measured_gap C H f g
+  pub ever_is : IfSome lead (λ x. x.ever ≡ measured_ever_bound C H)

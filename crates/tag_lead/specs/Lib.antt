@@ -1,4 +1,6 @@
 pub mod Spans
+pub mod Greatest
+pub mod Measured
 pub mod Doubts
 pub mod Found
 pub mod Leads

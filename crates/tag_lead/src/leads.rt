@@ -1,19 +1,19 @@
 //! How far one tenant got ahead of another while both waited.
-ghost use Rattle.std.specs.Prelude.{◌≡◌, ◌≢◌, ◌<◌, ◌≤◌, ◌⊎◌, ◌∷◌, [], length, IfOk, IfErr, IfSome, Err, Some, None, option_map, ◌≤ℤ◌};
+ghost use Rattle.std.specs.Prelude.{◌≡◌, ◌≢◌, ◌<◌, ◌≤◌, ◌⊎◌, ◌∷◌, [], length, IfOk, IfErr, IfSome, Err, Some, None, ◌≤ℤ◌};
 ghost use Rattle.fq_model.specs.History.{history_of};
-ghost use Rattle.fq_model.specs.Lead.{measured_gap};
 ghost use Rattle.fq_model.specs.Limits.{InLimits};
 ghost use Rattle.fq_model.specs.Rules.{IsLegal};
-ghost use Rattle.tag_gap.specs.Gaps.{told, tenant_fault};
+ghost use Rattle.tag_gap.specs.Gaps.{tenant_fault};
 ghost use Rattle.tag_gap.specs.declared.fault.GapFault.{GapFault};
 ghost use Rattle.tag_gap.specs.declared.fault.GapFault.TheVariants as faults;
 ghost use Rattle.tag_lead.specs.Found.{LeadsIn};
-ghost use Rattle.tag_lead.specs.Leads.{ahead_by, ahead_at, taken_by, taken_at};
+ghost use Rattle.tag_lead.specs.Leads.{ahead_by, ahead_at, taken_by, taken_at, IsLead};
 ghost use Rattle.tag_lead.specs.Spans.{LongestAre, ShortestAre};
 
 use crate::doubts::doubt;
 use crate::found::{Ahead, Leads};
-use crate::measuring::measure;
+use crate::greatest::ever_bound;
+use crate::measuring::{Measured, measure};
 use crate::spans::Spans;
 use fq_model::config::Checked;
 use fq_model::event::{Act, Entry};
@@ -26,11 +26,20 @@ use tag_gap::gaps::tenant_fault;
 use tag_rules::chooser::Chooser;
 use tag_rules::parts::Keys;
 
+/// How far one tenant got ahead of another while both waited, in steps.
+#[derive(Clone, Copy, Debug, PartialEq, Eq)]
+pub struct Lead {
+    /// The greatest difference of their starts, and its bound.
+    pub gap: Gap,
+    /// Under 2dfq+ a bound that asks nothing of the past: by the greatest length of a request in it.
+    pub ever: Option<i128>,
+}
+
 /// How far the start of tenant f was above that of tenant g at most, at the prefixes of a past in which both wait, and
 /// what bounds it, whatever requests cost; none where they never wait both. The bound is the greater of two numbers:
-/// the greatest lead with which both began to wait, and one length of a head, or two under 2dfq and 2dfq+, with what was
-/// in doubt of the requests that ran: each may turn out as long, or as short, as it did in this past. Nothing is asked
-/// of the past but that it is legal. The faults of the tenants are found before any memory is taken, and no request is a
+/// the greatest lead with which both began to wait, and one length of a head, or two under 2dfq and 2dfq+, with the
+/// doubt of the requests that ran: each may turn out as long, or as short, as it did in this past. Nothing is asked of
+/// the past but that it is legal. The faults of the tenants are found before any memory is taken, and no request is a
 /// fault. The past's calls are made twice on a scheduler over any chooser, and what runs on each worker is looked at
 /// after each.
 pub fn tag_lead<X: Chooser + Drop>(
@@ -39,12 +48,12 @@ pub fn tag_lead<X: Chooser + Drop>(
     config: &Checked,
     f: u32,
     g: u32,
-) -> Result<Option<Gap>, GapFault>
+) -> Result<Option<Lead>, GapFault>
     requires legal { IsLegal config.now (history_of past.now) }
     ensures lead { IfOk result (λ lead. (tenant_fault config.now f g ≡ None)
-        × (option_map told lead ≡ measured_gap config.now (history_of past.now) f g)) }
+        × IsLead config.now (history_of past.now) f g lead) }
     ensures tenants { (x : GapFault) → tenant_fault config.now f g ≡ Some x → result ≡ Err x }
-    ensures bounded { IfOk result (λ lead. IfSome lead (λ x. x.largest ≤ℤ x.bound)) }
+    ensures bounded { IfOk result (λ lead. IfSome lead (λ x. x.gap.largest ≤ℤ x.gap.bound)) }
     ensures fault { IfErr result (λ x. (x ≡ faults.NoMemory) ⊎ (tenant_fault config.now f g ≡ Some x)) }
 {
     if let Some(fault) = tenant_fault(config, f, g) {
@@ -61,18 +70,22 @@ fn lead_of<X: Chooser + Drop>(
     config: &Checked,
     f: u32,
     g: u32,
-) -> Result<Option<Gap>, AllocError>
+) -> Result<Option<Lead>, AllocError>
     requires legal { IsLegal config.now (history_of past.now) }
     requires f_known { f < length config.now.weights }
     requires g_known { g < length config.now.weights }
     requires apart { f ≢ g }
-    ensures lead { IfOk result (λ lead. option_map told lead ≡ measured_gap config.now (history_of past.now) f g) }
-    ensures bounded { IfOk result (λ lead. IfSome lead (λ x. x.largest ≤ℤ x.bound)) }
+    ensures lead { IfOk result (IsLead config.now (history_of past.now) f g) }
+    ensures bounded { IfOk result (λ lead. IfSome lead (λ x. x.gap.largest ≤ℤ x.gap.bound)) }
 {
-    let spans = measure::<X>(alloc, past, config, f, g)?;
+    let Measured { spans, longest } = measure::<X>(alloc, past, config, f, g)?;
     let leads = leads_of::<X>(alloc, past, config, &spans, f, g);
     drop(spans);
-    Ok(leads?.lead(config.policy()))
+    let ever = ever_bound(config, longest);
+    match leads?.lead(config.policy()) {
+        Some(gap) => Ok(Some(Lead { gap, ever })),
+        None => Ok(None),
+    }
 }
 
 // What the leads come to, where all turned out as it is known.

@@ -3,6 +3,7 @@
 
 mod doubts;
 mod found;
+mod greatest;
 pub mod leads;
 mod measuring;
 mod spans;

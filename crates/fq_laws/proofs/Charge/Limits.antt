@@ -64,7 +64,7 @@ charged_at_most C P t r lim l = elim (cases_Bool (is_taken P r)) [
     within e (inl m) = rw m (length_high (charge P r) (taken_weight C P t r) (charge_low C P r lim l) (taken_weight_low C P t r lim l (tenant_below C P t r l m) e))
     within e (inr m) = rw m (omega arith)
 
-charged_low : (C : Config) (P : History) (t r : ℕ) → InLimits C → IsLegal C P → charged C P t r ≤ greatest_length
+pub charged_low : (C : Config) (P : History) (t r : ℕ) → InLimits C → IsLegal C P → charged C P t r ≤ greatest_length
 charged_low C P t r lim l = elim (cases_Bool (is_taken P r)) [
   | inl e ↦ (let k : charged C P t r ≤ greatest_length = rw e at (charged_at_most C P t r lim l) in k)
   | inr e ↦ omega (arith, charged_untaken C P t r e)

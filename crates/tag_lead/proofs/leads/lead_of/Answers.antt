@@ -1,11 +1,37 @@
+use Rattle.std.proofs.Common.{◌≡◌, ◌∙◌, ap}
+use Rattle.std.specs.Prelude.{option_map}
+use Rattle.fq_model.specs.Ever.{under_plus, ever_bound, measured_ever_bound}
 use Rattle.fq_model.specs.History.{history_of}
+use Rattle.fq_model.specs.Lead.{measured_gap}
+use Rattle.tag_gap.specs.Gaps.{told}
 use Rattle.tag_lead.proofs.LeadLemmas.{leads_told, lead_bounded}
 use Rattle.tag_lead.proofs.leads.lead_of.Goals as goal
 
-pub returns-clause-lead : goal.returns-clause-lead
-returns-clause-lead g c = rw c.lead.ensures (leads_told c.args.config.now (history_of c.args.past.now) c.args.f c.args.g _ c.policy.result c.policy.ensures.value c.in_ok-leads.ensures)
+pub returns-in-Some-clause-lead : goal.returns-in-Some-clause-lead
+unfolding measured_ever_bound
+returns-in-Some-clause-lead g c =
+    let C = c.args.config.now in
+    let H = history_of c.args.past.now in
+    let gap : option_map told c.lead.result ≡ measured_gap C H c.args.f c.args.g = rw c.lead.ensures (leads_told C H c.args.f c.args.g _ c.policy.result c.policy.ensures.value c.in_ok-leads.ensures) in
+    record {
+      gap_is = rw c.in-Some.is at gap;
+      ever_is = c.ever_bound-ever.ensures ∙ ap (λ M. under_plus C.policy (ever_bound C M)) c.in_ok-spans.ensures.longest_is;
+    }
 
-pub returns-clause-bounded : goal.returns-clause-bounded
-returns-clause-bounded g c =
-    let told = leads_told c.args.config.now (history_of c.args.past.now) c.args.f c.args.g _ c.policy.result c.policy.ensures.value c.in_ok-leads.ensures in
-    lead_bounded c.args.config.now (history_of c.args.past.now) c.args.f c.args.g c.lead.result c.requires.apart c.policy.ensures.limits c.requires.legal (rw c.lead.ensures told)
+pub returns-in-None-clause-lead : goal.returns-in-None-clause-lead
+returns-in-None-clause-lead g c =
+    let C = c.args.config.now in
+    let H = history_of c.args.past.now in
+    let gap : option_map told c.lead.result ≡ measured_gap C H c.args.f c.args.g = rw c.lead.ensures (leads_told C H c.args.f c.args.g _ c.policy.result c.policy.ensures.value c.in_ok-leads.ensures) in
+    record {
+      gap_is = rw c.in-None.is at gap;
+      ever_is = tt;
+    }
+
+pub returns-in-Some-clause-bounded : goal.returns-in-Some-clause-bounded
+returns-in-Some-clause-bounded g c =
+    let C = c.args.config.now in
+    let H = history_of c.args.past.now in
+    let gap = leads_told C H c.args.f c.args.g _ c.policy.result c.policy.ensures.value c.in_ok-leads.ensures in
+    let bounded = lead_bounded C H c.args.f c.args.g c.lead.result c.requires.apart c.policy.ensures.limits c.requires.legal (rw c.lead.ensures gap) in
+    rw c.in-Some.is at bounded

@@ -1,8 +1,11 @@
-use Rattle.std.proofs.Common.{◌≡◌, length}
+use Rattle.std.proofs.Common.{◌≡◌, ◌≤◌, length}
+use Rattle.std.specs.Prelude.{vec_capacity}
+use Rattle.fq_model.specs.Ever.{longest_of_all}
 use Rattle.fq_model.specs.History.{history_of}
 use Rattle.tag_gap.proofs.Prefixes.{first_entries}
+use Rattle.tag_lead.specs.Greatest.{TenantsAre}
 use Rattle.tag_lead.specs.Spans.{LongestAre, ShortestAre}
-use Rattle.tag_lead.proofs.measuring.spans_in.Given as goal
+use Rattle.tag_lead.proofs.measuring.measured_in.Given as goal
 
 abbrev pub invariant-loop-entry : goal.invariant-loop-entry
 invariant-loop-entry g l = record {
@@ -10,4 +13,7 @@ invariant-loop-entry g l = record {
   past_is : history_of l.scheduler.past ≡ first_entries l.past l.entry-index;
   longest : LongestAre l.fn.scheduler.config (first_entries l.past l.entry-index) l.f (length l.past) l.spans.longest.items;
   shortest : ShortestAre l.fn.scheduler.config (first_entries l.past l.entry-index) l.g (length l.past) l.spans.shortest.items;
+  longest_is : l.greatest.length ≡ longest_of_all l.fn.scheduler.config (first_entries l.past l.entry-index);
+  tenants : TenantsAre (first_entries l.past l.entry-index) l.greatest.tenants.items;
+  room : length l.past ≤ vec_capacity l.greatest.tenants;
 }

@@ -1,0 +1,52 @@
+-- The greatest length of a request so far, and the tenants of the requests.
+use Rattle.std.specs.Prelude.{ℕ, ◌<◌, ◌≡◌, ◌∷◌, ◌++◌, true, [], List, length, slice_index, Option, Some, None, unsigned_abs}
+use Rattle.fq_model.specs.declared.config.Config.{Config}
+use Rattle.fq_model.specs.declared.event.Act.{Act}
+use Rattle.fq_model.specs.declared.event.Act.TheVariants.{Submit, Take, Report, Done, Weight, Withdraw}
+use Rattle.fq_model.specs.History.{History, request_at, is_of_tenant, submits}
+use Rattle.fq_model.specs.Keys.{HeadKeys}
+use Rattle.fq_model.specs.Lead.{head_length}
+use Rattle.tag_lead.specs.declared.spans.Told.{Told}
+
+-- whose each request is, of all that are submitted
+pub record TenantsAre (P : History) (xs : List ℕ) : Type 0 where
+  pub sized : length xs ≡ submits P
+  pub each : (r : ℕ) → r < submits P → is_of_tenant (slice_index xs r) (request_at P r) ≡ true
+
+-- the request of the act, but for a Submit, is one of the first n
+abbrev pub IsAmong : ℕ → Act → Type 0
+IsAmong n (Take worker request estimate) = request < n
+IsAmong n (Report worker request used) = request < n
+IsAmong n (Done worker request cost) = request < n
+IsAmong n (Withdraw request) = request < n
+IsAmong n _ = Unit {0}
+
+-- whose request or weight the act is about, where these are the tenants of the requests
+abbrev pub tenant_of_act : List ℕ → Act → Option ℕ
+tenant_of_act xs (Submit request tenant kind declared label) = Some tenant
+tenant_of_act xs (Take worker request estimate) = Some (slice_index xs request)
+tenant_of_act xs (Report worker request used) = Some (slice_index xs request)
+tenant_of_act xs (Done worker request cost) = Some (slice_index xs request)
+tenant_of_act xs (Weight tenant weight) = Some tenant
+tenant_of_act xs (Withdraw request) = Some (slice_index xs request)
+tenant_of_act xs _ = None
+
+-- the tenants with that of a request that comes
+abbrev pub tenants_with : List ℕ → Act → List ℕ
+tenants_with xs (Submit request tenant kind declared label) = xs ++ tenant ∷ []
+tenants_with xs _ = xs
+
+-- the length that an entry makes known of a request that is taken, or 0
+abbrev pub told_length : Option Told → ℕ
+told_length None = 0
+told_length (Some x) = x.len
+
+-- the length of the head of a tenant, if there is one, or 0
+abbrev pub head_length_if : Config → History → Option ℕ → ℕ
+head_length_if C P None = 0
+head_length_if C P (Some t) = head_length C P t
+
+-- the same by the keys of the head
+abbrev pub length_by : Option HeadKeys → ℕ
+length_by None = 0
+length_by (Some k) = unsigned_abs k.len
