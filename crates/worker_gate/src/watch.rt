@@ -74,7 +74,8 @@ pub(crate) fn watch(
             due(expected, times - *left, times),
             &mut waits,
         );
-        seen.push_reserved(reader.read(board));
+        let status = reader.read(board);
+        seen.push_reserved(status);
         *left -= 1;
     }
 }

@@ -11,8 +11,8 @@ loop-left-preserved c =
     let next : c.args.left.now - (c.loop-left.left - 1) ≡ suc times = omega (arith, some, was.fewer) in
     let waited : Watched c.args.board.now times c.args.reader.now c.await_entries.new.reader c.args.seen.now.items c.loop-left.seen.items =
     subst (λ reader. Watched c.args.board.now times c.args.reader.now reader c.args.seen.now.items c.loop-left.seen.items) (sym c.await_entries.ensures.same) was.watched in record {
-      watched = watched_more c.args.board.now times (c.args.left.now - (c.loop-left.left - 1)) c.args.reader.now c.await_entries.new.reader c.read.new.self c.args.seen.now.items c.loop-left.seen.items c.push_reserved.new.self.items c.read.result next
-          waited c.read.ensures.own c.read.ensures.noted c.read.ensures.seen c.read.ensures.status c.push_reserved.ensures.items;
+      watched = watched_more c.args.board.now times (c.args.left.now - (c.loop-left.left - 1)) c.args.reader.now c.await_entries.new.reader c.read-status.new.self c.args.seen.now.items c.loop-left.seen.items c.push_reserved.new.self.items c.read-status.result next
+          waited c.read-status.ensures.own c.read-status.ensures.noted c.read-status.ensures.seen c.read-status.ensures.status c.push_reserved.ensures.items;
       room = omega (arith, was.room, some, c.push_reserved.ensures.len, c.push_reserved.ensures.capacity);
       fewer = omega (arith, was.fewer);
     }
