@@ -23,8 +23,8 @@ const REQUESTS: u64 = 2000;
 // How often a reader looks at most.
 const LOOKS: u32 = 20000000;
 
-// A desk of one submitter and one worker that shows its past, and a reader.
-fn opened<X: Chooser + Drop, R: Abort>(
+/// A desk of one submitter and one worker that shows its past, and a reader.
+pub fn opened<X: Chooser + Drop, R: Abort>(
     rt: &R,
     alloc: Global,
     requests: u32,
@@ -88,8 +88,8 @@ fn another<X: Chooser, R: Abort>(rt: &R, desk: &Desk<u64, X>, reader: &mut Reade
     second
 }
 
-// Whether these are the numbers of a status.
-fn tells(
+/// Whether these are the numbers of a status.
+pub fn tells(
     status: Status,
     entries: u64,
     moment: u64,

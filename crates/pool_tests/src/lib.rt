@@ -24,4 +24,8 @@ mod samples;
 #[cfg(test)]
 mod slice_tests;
 #[cfg(test)]
+mod turned_tests;
+#[cfg(test)]
+mod watch_tests;
+#[cfg(test)]
 mod work_tests;

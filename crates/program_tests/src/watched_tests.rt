@@ -1,5 +1,5 @@
 //! A pool of threads whose status is read while it serves a trace.
-use crate::samples::{NEVER, TRACE, sink_of, words_of};
+use crate::samples::{NEVER, TRACE, joined, sink_with_room, words_of};
 use crate::worked_tests::{Wanted, check, sound_sink, sound_source};
 use fq_memory::{FixedClock, MemSink};
 use std::alloc::Global;
@@ -9,15 +9,16 @@ use std::sync::Wait;
 use std::thread::Threads;
 use twodfq_main::program::live;
 
-// What is written where the trace is served at the moment 7, and its status is read three times.
-fn watched<T: Abort + Wait + Threads + Sync>(rt: &T, alloc: Global) -> MemSink {
-    let words = words_of(
-        rt,
-        alloc,
-        "live --workers 2 --refresh 0 --watch 3 --print journal",
-    );
-    let mut source = sound_source(rt, alloc, TRACE);
-    let mut written = sink_of(rt, alloc, 1000, NEVER);
+// What is written where a trace is served at the moment 7 by these words.
+fn served<T: Abort + Wait + Threads + Sync>(
+    rt: &T,
+    alloc: Global,
+    words: &str,
+    trace: &str,
+) -> MemSink {
+    let words = words_of(rt, alloc, words);
+    let mut source = sound_source(rt, alloc, trace);
+    let mut written = sink_with_room(rt, alloc, 200000, 1000, NEVER);
     let mut told = sound_sink(rt, alloc);
     let clock = FixedClock::new(7);
     let status = live(
@@ -77,7 +78,8 @@ fn after_lines<'a, R: Abort>(rt: &R, text: &'a str) -> &'a str {
 
 // So many lines come first, and a legal journal of all requests follows.
 fn lines_and_journal<T: Abort + Wait + Threads + Sync>(rt: &T, alloc: Global) {
-    let written = watched(rt, alloc);
+    let words = "live --workers 2 --refresh 0 --watch 3 --print journal";
+    let written = served(rt, alloc, words, TRACE);
     let Ok(text) = from_utf8(written.bytes()) else {
         panic!(rt; "a text")
     };
@@ -94,4 +96,59 @@ fn lines_and_journal<T: Abort + Wait + Threads + Sync>(rt: &T, alloc: Global) {
 #[test]
 fn three_lines_and_the_journal(rt: HostRuntime) {
     lines_and_journal(&rt, rt.alloc());
+}
+
+// A trace of two thousand requests of one tenant.
+fn long_trace<R: Abort>(rt: &R, alloc: Global) -> String {
+    let mut text = joined(rt, alloc, &["tenant,a,1\n"]);
+    for _ in 0..2000 {
+        let kept = text.push_str("request,0,0,a,get,2,2\n");
+        let Ok(()) = kept else {
+            panic!(rt; "no memory for a request")
+        };
+    }
+    text
+}
+
+// How many of the first fifty lines tell of more entries than the one before.
+fn moments_in<R: Abort>(rt: &R, text: &str) -> u32 {
+    let mut rest = text;
+    let mut entries = 0;
+    let mut moments: u32 = 0;
+    for _ in 0..50 {
+        let Some((line, later)) = rest.split_once('\n') else {
+            panic!(rt; "fewer lines")
+        };
+        let mut words = line.split(' ');
+        assert_eq!(rt; words.next(), Some("status"));
+        let now = number(rt, words.next());
+        if now > entries {
+            moments = moments.saturating_add(1);
+        }
+        entries = now;
+        rest = later;
+    }
+    moments
+}
+
+// One run of twenty tells of many moments. Which of them does nobody can say: the thread that watches may be held up
+// while the others serve.
+fn many_moments<T: Abort + Wait + Threads + Sync>(rt: &T, alloc: Global) {
+    let words = "live --workers 2 --refresh 0 --watch 50 --print journal";
+    let trace = long_trace(rt, alloc);
+    for _ in 0..20 {
+        let written = served(rt, alloc, words, trace.as_str());
+        let Ok(text) = from_utf8(written.bytes()) else {
+            panic!(rt; "a text")
+        };
+        if moments_in(rt, text) >= 25 {
+            return;
+        }
+    }
+    panic!(rt; "no run tells of many moments")
+}
+
+#[test]
+fn lines_of_many_moments(rt: HostRuntime) {
+    many_moments(&rt, rt.alloc());
 }

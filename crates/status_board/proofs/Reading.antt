@@ -9,7 +9,7 @@ use Rattle.fq_model.specs.declared.event.Entry.{Entry}
 use Rattle.history_lock.specs.Histories.{IsPrefix}
 use Rattle.status_board.specs.declared.table.View.{View}
 use Rattle.status_board.specs.declared.table.Stage.TheVariants.{Idle, Reading}
-use Rattle.status_board.specs.Plays.{Holding, looked, peeked, HasPeeked, checked}
+use Rattle.status_board.specs.Plays.{Holding, looked, peeked, HasPeeked, checked, glanced}
 use Rattle.status_board.specs.Rule.{Marks, Staged, Kept}
 use Rattle.status_board.specs.Words.{words_of, words_in, FitStatus}
 use Rattle.status_board.proofs.Lists.{prefix_of_itself, prefix_length, prefix_whole}
@@ -73,6 +73,12 @@ module _ (C : Config) where
         ((λ _. (omega arith, subst FitStatus words (r.at_rest quiet).1, refl)), λ miss. absurd (miss hit)),
       ))
       (λ miss. (kept, keeps, tt, loaded C s r 0 id kept know.0, ((λ hit. absurd (miss hit)), λ _. refl)))
+
+  pub glances : (slots id : ℕ) (me : Holding) → me.0.stage ≡ Idle → Allows (Kept C) slots id me 0 (λ n. n) (glanced (step slots 0 0 0 none) me)
+  glances slots id me idle s r deep at _ =
+      let live = known C s r id me.0 Idle at idle in let is = version_is s r in
+      let long = prefix_length me.0.seen r.marks.shown live.1 in
+      (me.0, keeps, tt, loaded C s r 0 id me.0 (r.each_seat id me.0 at), (refl, omega (arith, is, long)))
 
 -- what a look at one word tells, said of the place as it was when the first was looked at
 pub then_peeked : (slots i : ℕ) (me0 me me2 : Holding) (version found : ℕ) → me ≡ (record me0.0 { version = version }, me0.1) → peeked (step slots i 0 0 none) me found me2

@@ -1,9 +1,10 @@
 -- What contracts see of a board, of its writer and of a reader.
-use Rattle.std.specs.Prelude.{◌≡◌, true, List, [], Option, Some}
+use Rattle.std.specs.Prelude.{◌≡◌, true, List, [], ◌∷◌, ◌++◌, Option, Some}
 use Rattle.atomic_table.specs.Seated.{TableId}
 use Rattle.fq_model.specs.declared.config.Config.{Config}
 use Rattle.fq_model.specs.declared.event.Entry.{Entry}
 use Rattle.fq_model.specs.declared.parts.Status.{Status}
+use Rattle.status_board.specs.declared.answers.Answers.{Answers, Nothing, Next'}
 use Rattle.status_board.specs.Plays.{Holding}
 use Rattle.status_board.specs.Views.{is_idle, is_resting}
 use Rattle.status_board.specs.Words.{word_count, status_in}
@@ -19,17 +20,24 @@ pub record WriterView : Type 0 where
   pub config : Option Config
   pub shown : List Entry
 
--- a reader: which board it is of, and the history that it has seen
+-- a reader: which board it is of, the history that it has seen, and all that it has answered, in order
 pub record ReaderView : Type 0 where
   pub table : TableId
   pub config : Option Config
   pub seen : List Entry
+  pub answers : List Status
 
 abbrev pub writer_view : TableId → Holding → WriterView
 writer_view table me = record { table = table; config = me.0.config; shown = me.0.seen }
 
-abbrev pub reader_view : TableId → Holding → ReaderView
-reader_view table me = record { table = table; config = me.0.config; seen = me.0.seen }
+-- answers in order, the newest last
+abbrev pub answers_in : Answers → List Status
+answers_in Nothing = []
+answers_in (Next' status mark before) = answers_in before ++ status.value ∷ []
+
+abbrev pub reader_view : TableId → Holding → Answers → ReaderView
+reader_view table me answers =
+    record { table = table; config = me.0.config; seen = me.0.seen; answers = answers_in answers }
 
 -- the writer is of this board
 abbrev pub IsWriterOf : BoardView → WriterView → Type 0

@@ -36,6 +36,10 @@ checked at me found me2 =
     (found ≡ 2 * length me.0.noted → (me.0.version ≤ 2 * length me.0.noted) × FitStatus (words_in me.0.config me.0.noted) × (me2 ≡ (record me.0 { stage = Idle; seen = me.0.noted }, me.1)))
     × (found ≢ 2 * length me.0.noted → me2 ≡ (record me.0 { stage = Idle }, me.1))
 
+-- the version is not below that of what was seen
+abbrev pub glanced : At → Holding → ℕ → Holding → Type 0
+glanced at me found me2 = (me2 ≡ me) × (2 * length me.0.seen ≤ found)
+
 -- the writer begins: the words are those of what it has shown
 abbrev pub began : At → Holding → ℕ → Holding → Type 0
 began at me stored me2 = me2 ≡ (record me.0 { stage = Writes; words = words_in me.0.config me.0.seen }, me.1)

@@ -3,6 +3,7 @@ ghost use Rattle.std.specs.Prelude.{◌≡◌, [], IfOk};
 ghost use Rattle.history_lock.specs.Histories.{IsPrefix};
 ghost use Rattle.status_board.specs.Boards.{IsWriterOf, IsReaderOf};
 
+use crate::answers::Answers;
 use crate::plays::{Confirm, Fork, Merge};
 use crate::reader::Reader;
 use crate::table::{BoardTable, VERSION};
@@ -41,6 +42,7 @@ impl Board {
         ensures shown { IfOk result (λ r. r.1.shown ≡ []) }
         ensures reader { IfOk result (λ r. IsReaderOf r.0 r.2) }
         ensures seen { IfOk result (λ r. r.2.seen ≡ []) }
+        ensures unread { IfOk result (λ r. r.2.answers ≡ []) }
     {
         let about = Snapshot::of(config);
         let (table, mut place) = Table::of_words(alloc, &[0, 0, 0, 0, 0, 0], &about)?;
@@ -54,20 +56,23 @@ impl Board {
         let reader = Reader {
             place: table.shared.split_seat::<Fork>(&mut place),
             status,
+            answers: Answers::Nothing,
         };
         Ok((Board { table }, Writer { place, status }, reader))
     }
 
-    /// Another reader, which has seen the same.
+    /// Another reader, which has seen the same, and has answered nothing.
     pub fn second(&self, reader: &mut Reader) -> Result<Reader, AllocError>
         requires own { IsReaderOf self.now reader.old }
         ensures same { reader.new ≡ reader.old }
         ensures own { IfOk result (λ r. IsReaderOf self.now r) }
         ensures seen { IfOk result (λ r. r.seen ≡ reader.old.seen) }
+        ensures unread { IfOk result (λ r. r.answers ≡ []) }
     {
         Ok(Reader {
             place: self.table.shared.split_seat::<Fork>(&mut reader.place),
             status: reader.status,
+            answers: Answers::Nothing,
         })
     }
 
@@ -78,7 +83,11 @@ impl Board {
         ensures same { writer.new ≡ writer.old }
         ensures seen { IsPrefix reader.seen writer.new.shown }
     {
-        let Reader { place, status: _ } = reader;
+        let Reader {
+            place,
+            status: _,
+            answers: _,
+        } = reader;
         let shared = &self.table.shared;
         shared.join_seat::<Merge>(&mut writer.place, place);
         shared.load::<Confirm>(&mut writer.place, VERSION);

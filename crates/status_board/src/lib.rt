@@ -5,6 +5,7 @@
 //! neither side ever waits.
 #![tactic(auto)]
 
+mod answers;
 pub mod board;
 pub mod crossing;
 mod plays;

@@ -1,7 +1,7 @@
 //! What each step on the table tells.
 ghost use Rattle.std.specs.Prelude.{List, []};
 ghost use Rattle.fq_model.specs.declared.event.Entry.{Entry};
-ghost use Rattle.status_board.specs.Plays.{looked, peeked, checked, began, wrote, published, confirmed};
+ghost use Rattle.status_board.specs.Plays.{looked, peeked, checked, glanced, began, wrote, published, confirmed};
 ghost use Rattle.status_board.specs.Views.{same_view, new_reader, with_joined, spent_view};
 
 use crate::table::View;
@@ -27,6 +27,13 @@ pub(crate) struct Check;
 
 impl Play<(), View> for Check {
     ghost then = { checked };
+}
+
+/// A reader looks how many entries are shown.
+pub(crate) struct Glance;
+
+impl Play<(), View> for Glance {
+    ghost then = { glanced };
 }
 
 /// The version becomes odd, before any other word changes.

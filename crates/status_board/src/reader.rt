@@ -1,5 +1,5 @@
 //! Readers.
-ghost use Rattle.std.specs.Prelude.{◌≡◌, [], ◌∷◌, Some, MatchOption};
+ghost use Rattle.std.specs.Prelude.{◌≡◌, ◌≤◌, [], ◌∷◌, ◌++◌, length, Some, MatchOption};
 ghost use Rattle.fq_model.specs.History.{history_of};
 ghost use Rattle.fq_model.specs.Status.{status_of};
 ghost use Rattle.history_lock.specs.Histories.{IsPrefix};
@@ -8,18 +8,22 @@ ghost use Rattle.status_board.specs.Boards.{IsPlaceAt, IsReaderOf};
 ghost use Rattle.status_board.specs.Plays.{HasPeeked};
 ghost use Rattle.status_board.specs.Words.{status_in};
 
+use crate::answers::Answers;
 use crate::board::Board;
-use crate::plays::{Check, Look, Peek};
+use crate::plays::{Check, Glance, Look, Peek};
 use crate::table::{BoardTable, HIGH, LOW, MOMENT, Place, RUNNING, VERSION, WAITING};
 use crate::words::joined;
 use fq_model::parts::Status;
 use std::marker::Model;
+use std::snapshot::Snapshot;
 
 /// A right to read one board. It is no copy of another, and must be spent: by `Board::join`, which ties what it has
-/// seen to what the writer has shown, or by `end`.
+/// seen to what the writer has shown, or by `end`. Contracts see all that it has answered, which holds nothing when it
+/// runs.
 pub struct Reader {
     pub(crate) place: Place,
     pub(crate) status: Status,
+    pub(crate) answers: Answers,
 }
 
 impl Model for Reader {
@@ -27,7 +31,7 @@ impl Model for Reader {
 
     ghost Value = { ReaderView };
 
-    ghost view = { λ r. reader_view r.place.table_id r.place.me };
+    ghost view = { λ r. reader_view r.place.table_id r.place.me r.answers };
 
     ghost invariant = { λ r. ReaderRests r.status r.place.me };
 }
@@ -102,16 +106,32 @@ impl Reader {
         ensures own { IsReaderOf board.now self.new }
         ensures status { result ≡ status_of board.now.config (history_of self.new.seen) }
         ensures seen { IsPrefix self.old.seen self.new.seen }
+        ensures noted { self.new.answers ≡ self.old.answers ++ result ∷ [] }
     {
         if let Some(status) = try_read(&board.table, &mut self.place) {
             self.status = status;
         }
-        self.status
+        let status = self.status;
+        self.answers = Answers::Next(Snapshot::of(&status), Snapshot::of(&self.answers));
+        status
+    }
+
+    /// How many entries are shown, or were just before. It is no answer of the reader, and it has then seen no more.
+    pub fn shown(&mut self, board: &Board) -> u64
+        requires own { IsReaderOf board.now self.old }
+        ensures same { self.new ≡ self.old }
+        ensures shown { length self.old.seen ≤ result }
+    {
+        board.table.shared.load::<Glance>(&mut self.place, VERSION) / 2
     }
 
     /// Lets the reader go.
     pub fn end(self) {
-        let Reader { place, status: _ } = self;
+        let Reader {
+            place,
+            status: _,
+            answers: _,
+        } = self;
         drop(place);
     }
 }

@@ -84,11 +84,11 @@ module _ (rows : List TraceRow) (lock : LockView Crew) (shared : Option BoardVie
       } in
       subst (HasFedHand rows lock refresh Tells j) (sym did.3) done
   fed_hand j (Work slot log) new is did = absurd is
-  fed_hand j (Watch reader left seen) new is did = absurd is
+  fed_hand j (Watch reader left expected seen) new is did = absurd is
 
   worked_hand : (i : ℕ) (old new : TraceHand) → IsWorkOf rows lock i old → Did old new → HasWorkedHand rows lock refresh Tells i new
   worked_hand i (Feed who queue total stopped) new is did = absurd is
-  worked_hand i (Watch reader left seen) new is did = absurd is
+  worked_hand i (Watch reader left expected seen) new is did = absurd is
   worked_hand i (Work slot log) new is did =
       let same : is.0 ≡ did.0 = (let both : Some is.0 ≡ Some did.0 = sym is.1 ∙ did.3 in cc) in
       let done : HasWorked rows lock refresh Tells i did.1 = record {
@@ -151,12 +151,12 @@ module _ (rows : List TraceRow) (lock : LockView Crew) (shared : Option BoardVie
   feeds_of j [] h = All-nil (IsHandOf lock shared)
   feeds_of j (Feed who queue total stopped ∷ hands) h = All-cons (IsHandOf lock shared) (Feed who queue total stopped) hands h.0.0.own (feeds_of (suc j) hands h.1)
   feeds_of j (Work slot log ∷ hands) h = absurd h.0
-  feeds_of j (Watch reader left seen ∷ hands) h = absurd h.0
+  feeds_of j (Watch reader left expected seen ∷ hands) h = absurd h.0
 
   works_of : (i : ℕ) (hands : List TraceHand) → HoldsFrom (IsWorkOf rows lock) i hands → All (IsHandOf lock shared) hands
   works_of i [] h = All-nil (IsHandOf lock shared)
   works_of i (Feed who queue total stopped ∷ hands) h = absurd h.0
-  works_of i (Watch reader left seen ∷ hands) h = absurd h.0
+  works_of i (Watch reader left expected seen ∷ hands) h = absurd h.0
   works_of i (Work slot log ∷ hands) h = All-cons (IsHandOf lock shared) (Work slot log) hands (h.0.0, h.0.1, h.0.2.own) (works_of (suc i) hands h.1)
 
   -- all hands are of the desk

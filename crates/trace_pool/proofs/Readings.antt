@@ -60,10 +60,10 @@ pub reader_front : (past : List Entry) (none readers : List ReaderView) (reader 
 reader_front past none readers reader empty is seen = (subst (HaveSeen past) (is ∙ ap (λ l. l ++ reader ∷ []) empty) seen).0
 
 -- what such a hand read is read of the past
-pub watch_read : (rows : List TraceRow) (lock : LockView Crew) (shared : Option BoardView) (refresh : ℕ) (Tells : ℕ → Type 0) (board : BoardView) (reader reader2 : ReaderView) (times left : ℕ) (given seen : Vec Status Global) (C : Config) (past : List Entry)
-    → TraceHandDid rows lock shared refresh Tells (Watch reader times given) (Watch reader2 left seen) → shared ≡ Some board → board.config ≡ C → given.items ≡ [] → reader.seen ≡ [] → IsPrefix reader2.seen past
+pub watch_read : (rows : List TraceRow) (lock : LockView Crew) (shared : Option BoardView) (refresh : ℕ) (Tells : ℕ → Type 0) (board : BoardView) (reader reader2 : ReaderView) (times left expected expected2 : ℕ) (given seen : Vec Status Global) (C : Config) (past : List Entry)
+    → TraceHandDid rows lock shared refresh Tells (Watch reader times expected given) (Watch reader2 left expected2 seen) → shared ≡ Some board → board.config ≡ C → given.items ≡ [] → reader.seen ≡ [] → IsPrefix reader2.seen past
     → (length seen.items ≡ times) × AreReadings C past 0 seen.items
-watch_read rows lock shared refresh Tells board reader reader2 times left given seen C past (board2, reader3, seen3, shown, is, w) shared_is config none unseen on =
+watch_read rows lock shared refresh Tells board reader reader2 times left expected expected2 given seen C past (board2, reader3, seen3, shown, is, w) shared_is config none unseen on =
     let same_reader : reader3 ≡ reader2 = cc in
     let same_seen : seen3 ≡ seen = cc in
     let both : Some board2 ≡ Some board = sym shown ∙ shared_is in

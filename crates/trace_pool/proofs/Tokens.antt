@@ -50,19 +50,19 @@ module _ (rows : List TraceRow) (lock : LockView Crew) (refresh : ℕ) (Tells : 
   no_submitters : (i : ℕ) (second : List TraceHand) → HoldsFrom ServedHand i second → submitters_in second ≡ []
   no_submitters i [] h = refl
   no_submitters i (Feed who queue total stopped ∷ hands) h = absurd h.0
-  no_submitters i (Watch reader left seen ∷ hands) h = absurd h.0
+  no_submitters i (Watch reader left expected seen ∷ hands) h = absurd h.0
   no_submitters i (Work slot log ∷ hands) h = no_submitters (suc i) hands h.1
 
   pub fed_tokens : (j : ℕ) (first second : List TraceHand) → HoldsFrom FedHand j first → HoldsFrom ServedHand 0 second → HoldsFrom Fed j (submitters_in (first ++ second))
   fed_tokens j [] second h w = subst (HoldsFrom Fed j) (sym (no_submitters 0 second w)) tt
   fed_tokens j (Feed who queue total stopped ∷ hands) second h w = (h.0, fed_tokens (suc j) hands second h.1 w)
   fed_tokens j (Work slot log ∷ hands) second h w = absurd h.0
-  fed_tokens j (Watch reader left seen ∷ hands) second h w = absurd h.0
+  fed_tokens j (Watch reader left expected seen ∷ hands) second h w = absurd h.0
 
   served_tokens : (i : ℕ) (second : List TraceHand) → HoldsFrom ServedHand i second → HoldsFrom Served i (workers_in second)
   served_tokens i [] w = tt
   served_tokens i (Feed who queue total stopped ∷ hands) w = absurd w.0
-  served_tokens i (Watch reader left seen ∷ hands) w = absurd w.0
+  served_tokens i (Watch reader left expected seen ∷ hands) w = absurd w.0
   served_tokens i (Work None log ∷ hands) w = let none : None ≡ Some w.0.0 = w.0.1 in absurd (cc)
   served_tokens i (Work (Some worker) log ∷ hands) w =
       let same : worker ≡ w.0.0 = (let both : Some worker ≡ Some w.0.0 = w.0.1 in cc) in
@@ -72,18 +72,18 @@ module _ (rows : List TraceRow) (lock : LockView Crew) (refresh : ℕ) (Tells : 
   worked_tokens j [] second h w = served_tokens 0 second w
   worked_tokens j (Feed who queue total stopped ∷ hands) second h w = worked_tokens (suc j) hands second h.1 w
   worked_tokens j (Work slot log ∷ hands) second h w = absurd h.0
-  worked_tokens j (Watch reader left seen ∷ hands) second h w = absurd h.0
+  worked_tokens j (Watch reader left expected seen ∷ hands) second h w = absurd h.0
 
   pub submitter_count : (j : ℕ) (first second : List TraceHand) → HoldsFrom FedHand j first → HoldsFrom ServedHand 0 second → length (submitters_in (first ++ second)) ≡ length first
   submitter_count j [] second h w = ap length (no_submitters 0 second w)
   submitter_count j (Feed who queue total stopped ∷ hands) second h w = ap suc (submitter_count (suc j) hands second h.1 w)
   submitter_count j (Work slot log ∷ hands) second h w = absurd h.0
-  submitter_count j (Watch reader left seen ∷ hands) second h w = absurd h.0
+  submitter_count j (Watch reader left expected seen ∷ hands) second h w = absurd h.0
 
   served_count : (i : ℕ) (second : List TraceHand) → HoldsFrom ServedHand i second → length (workers_in second) ≡ length second
   served_count i [] w = refl
   served_count i (Feed who queue total stopped ∷ hands) w = absurd w.0
-  served_count i (Watch reader left seen ∷ hands) w = absurd w.0
+  served_count i (Watch reader left expected seen ∷ hands) w = absurd w.0
   served_count i (Work None log ∷ hands) w = let none : None ≡ Some w.0.0 = w.0.1 in absurd (cc)
   served_count i (Work (Some worker) log ∷ hands) w = ap suc (served_count (suc i) hands w.1)
 
@@ -91,19 +91,19 @@ module _ (rows : List TraceRow) (lock : LockView Crew) (refresh : ℕ) (Tells : 
   worker_count j [] second h w = served_count 0 second w
   worker_count j (Feed who queue total stopped ∷ hands) second h w = worker_count (suc j) hands second h.1 w
   worker_count j (Work slot log ∷ hands) second h w = absurd h.0
-  worker_count j (Watch reader left seen ∷ hands) second h w = absurd h.0
+  worker_count j (Watch reader left expected seen ∷ hands) second h w = absurd h.0
 
   served_hold : (i : ℕ) (second : List TraceHand) → HoldsFrom ServedHand i second → All HoldsToken second
   served_hold i [] w = All-nil HoldsToken
   served_hold i (Feed who queue total stopped ∷ hands) w = absurd w.0
-  served_hold i (Watch reader left seen ∷ hands) w = absurd w.0
+  served_hold i (Watch reader left expected seen ∷ hands) w = absurd w.0
   served_hold i (Work slot log ∷ hands) w = All-cons HoldsToken (Work slot log) hands (w.0.0, w.0.1) (served_hold (suc i) hands w.1)
 
   pub hold_tokens : (j : ℕ) (first second : List TraceHand) → HoldsFrom FedHand j first → HoldsFrom ServedHand 0 second → All HoldsToken (first ++ second)
   hold_tokens j [] second h w = served_hold 0 second w
   hold_tokens j (Feed who queue total stopped ∷ hands) second h w = All-cons HoldsToken (Feed who queue total stopped) (hands ++ second) tt (hold_tokens (suc j) hands second h.1 w)
   hold_tokens j (Work slot log ∷ hands) second h w = absurd h.0
-  hold_tokens j (Watch reader left seen ∷ hands) second h w = absurd h.0
+  hold_tokens j (Watch reader left expected seen ∷ hands) second h w = absurd h.0
 
   -- what is taken back of hands that have done their parts
   pub have_done : {feeds works : ℕ} (hands : List TraceHand) (submitters : List Submitter) (workers : List Worker) → AreDone rows lock refresh Tells feeds works hands → feeds ≡ lock.frame.submitters → works ≡ lock.frame.config.workers → submitters ≡ submitters_in hands → workers ≡ workers_in hands

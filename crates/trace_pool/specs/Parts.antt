@@ -52,7 +52,7 @@ workers_in (_ ∷ hands) = workers_in hands
 abbrev pub HoldsToken : TraceHand → Type 0
 HoldsToken (Feed who queue total stopped) = Unit {0}
 HoldsToken (Work slot log) = (worker : Worker) × (slot ≡ Some worker)
-HoldsToken (Watch reader left seen) = ⊥
+HoldsToken (Watch reader left expected seen) = ⊥
 
 module _ (rows : List TraceRow) (lock : LockView Crew) where
   -- a hand that is to feed the rows of submitter j

@@ -138,6 +138,7 @@ fn serve_at_desk<'a, X: Chooser + Drop + Send, K: Clock + Sync, R: Threads + Wai
     let watch = Hand::Watch {
         reader,
         left: times,
+        expected: needed(trace, options.refresh) as u32,
         seen: statuses,
     };
     let watch = serve_rows::<X, K, R>(
@@ -155,6 +156,7 @@ fn serve_at_desk<'a, X: Chooser + Drop + Send, K: Clock + Sync, R: Threads + Wai
     let Hand::Watch {
         reader,
         left: _,
+        expected: _,
         seen,
     } = watch
     else {
@@ -193,8 +195,8 @@ fn make_room<'a>(alloc: Global, hands: u32, times: u32) -> Result<Room<'a>, Pool
 /// Serves a trace by a pool of threads, one for each submitter and one for each worker, and gives the history that
 /// they made. Rows come when their submitter comes to them: their moments are not used. The clock is asked by the
 /// threads alone, before each call that they make, and labels are the rows' numbers from 0. One more thread reads the
-/// scheduler's status so often meanwhile, and waits for none of the others. All memory is taken before the first call,
-/// and none where there would be too many entries.
+/// scheduler's status so often meanwhile, spread over the entries that are to come, and no other waits for it. All
+/// memory is taken before the first call, and none where there would be too many entries.
 pub fn serve<X: Chooser + Drop + Send, K: Clock + Sync, R: Threads + Wait + Sync>(
     rt: &R,
     alloc: Global,

@@ -25,10 +25,10 @@ module _ {J G : Type 0} (label : J → ℕ) (lock : LockView Crew) (shared : Opt
   did_work hand slot slot2 log log2 worker worker2 is was now w =
       did_so hand (Work slot log) (Work slot2 log2) is (worker, worker2, log2, was, ap (λ s. let h : Hand J G = Work s log2 in h) now, w)
 
-  pub did_watch : (hand : Hand J G) (board : BoardView) (reader reader2 : ReaderView) (left left2 : ℕ) (seen seen2 : Vec Status Global) → hand ≡ Watch reader left seen → shared ≡ Some board → left2 ≡ 0
-      → Watched board left reader reader2 seen.items seen2.items → HandDid label lock shared course_of cost_of Tells hand (Watch reader2 left2 seen2)
-  did_watch hand board reader reader2 left left2 seen seen2 is shown none w =
-      did_so hand (Watch reader left seen) (Watch reader2 left2 seen2) is (board, reader2, seen2, shown, ap (λ n. let h : Hand J G = Watch reader2 n seen2 in h) none, w)
+  pub did_watch : (hand : Hand J G) (board : BoardView) (reader reader2 : ReaderView) (left left2 expected : ℕ) (seen seen2 : Vec Status Global) → hand ≡ Watch reader left expected seen → shared ≡ Some board → left2 ≡ 0
+      → Watched board left reader reader2 seen.items seen2.items → HandDid label lock shared course_of cost_of Tells hand (Watch reader2 left2 expected seen2)
+  did_watch hand board reader reader2 left left2 expected seen seen2 is shown none w =
+      did_so hand (Watch reader left expected seen) (Watch reader2 left2 expected seen2) is (board, reader2, seen2, shown, ap (λ n. let h : Hand J G = Watch reader2 n expected seen2 in h) none, w)
 
   -- what a call with a `&mut` to a hand has made of it
   pub did_at : (hand argument after new : Hand J G) → argument ≡ hand → after ≡ new → HandDid label lock shared course_of cost_of Tells argument after → HandDid label lock shared course_of cost_of Tells hand new

@@ -24,15 +24,16 @@ module _ (C : Config) where
 module _ (board : BoardView) where
   -- nothing is read
   pub watched_none : (reader : ReaderView) (seen : List Status) → IsReaderOf board reader → Watched board 0 reader reader seen seen
-  watched_none reader seen own = record { own = own; answers = []; are_answers = refl; count = refl; added = sym (append-nil seen) }
+  watched_none reader seen own = record { own = own; answers = []; are_its = sym (append-nil reader.answers); are_answers = refl; count = refl; added = sym (append-nil seen) }
 
   -- one time more
   pub watched_more : (times times2 : ℕ) (old new newer : ReaderView) (seen seen2 seen3 : List Status) (last : Status) → times2 ≡ suc times → Watched board times old new seen seen2
-      → IsReaderOf board newer → IsPrefix new.seen newer.seen → last ≡ status_of board.config (history_of newer.seen) → seen3 ≡ seen2 ++ last ∷ []
+      → IsReaderOf board newer → newer.answers ≡ new.answers ++ last ∷ [] → IsPrefix new.seen newer.seen → last ≡ status_of board.config (history_of newer.seen) → seen3 ≡ seen2 ++ last ∷ []
       → Watched board times2 old newer seen seen3
-  watched_more times times2 old new newer seen seen2 seen3 last next w own on is pushed = record {
+  watched_more times times2 old new newer seen seen2 seen3 last next w own noted on is pushed = record {
     own = own;
     answers = w.answers ++ last ∷ [];
+    are_its = noted ∙ (ap (λ l. l ++ last ∷ []) w.are_its ∙ append_assoc old.answers w.answers (last ∷ []));
     are_answers = answers_end board.config old.seen w.answers new.seen newer.seen last w.are_answers on is;
     count = omega (arith, length-append w.answers (last ∷ []), w.count, next);
     added = pushed ∙ (ap (λ l. l ++ last ∷ []) w.added ∙ append_assoc seen w.answers (last ∷ []));

@@ -18,7 +18,7 @@ module _ {J G : Type 0} where
   abbrev pub IsHandOf : LockView Crew → (shared : Option BoardView) → Hand J G → Type 0
   IsHandOf lock shared (Feed who rows total stopped) = IsOf lock who.pass
   IsHandOf lock shared (Work slot log) = (worker : Worker) × (slot ≡ Some worker) × IsOf lock worker.pass
-  IsHandOf lock shared (Watch reader left seen) = (board : BoardView) × (shared ≡ Some board) × IsReaderOf board reader
+  IsHandOf lock shared (Watch reader left expected seen) = (board : BoardView) × (shared ≡ Some board) × IsReaderOf board reader
       × (length seen.items + left ≤ vec_capacity seen)
 
   abbrev pub AreHandsOf : LockView Crew → Option BoardView → List (Hand J G) → Type 0
@@ -33,9 +33,9 @@ module _ {J G : Type 0} where
     HandDid (Work slot log) new =
         (worker : Worker) × (worker2 : Worker) × (log2 : _) × (slot ≡ Some worker) × (new ≡ Work (Some worker2) log2)
         × Worked lock course_of cost_of Tells worker worker2 log log2
-    HandDid (Watch reader left seen) new =
+    HandDid (Watch reader left expected seen) new =
         (board : BoardView) × (reader2 : ReaderView) × (seen2 : _) × (shared ≡ Some board)
-        × (new ≡ Watch reader2 0 seen2)
+        × (new ≡ Watch reader2 0 expected seen2)
         × Watched board left reader reader2 seen.items seen2.items
 
     -- each hand has, in its place

@@ -15,10 +15,11 @@ AreAnswers C seen [] seen2 = seen2 ≡ seen
 AreAnswers C seen (status ∷ later) seen2 =
     (P : List Entry) × IsPrefix seen P × (status ≡ status_of C (history_of P)) × AreAnswers C P later seen2
 
--- the reader has been read so often, and its answers stand after the older ones
+-- the reader has been read so often and no more, and its answers stand after the older ones
 pub record Watched (board : BoardView) (times : ℕ) (old new : ReaderView) (seen seen2 : List Status) : Type 0 where
   pub own : IsReaderOf board new
   pub answers : List Status
+  pub are_its : new.answers ≡ old.answers ++ answers
   pub are_answers : AreAnswers board.config old.seen answers new.seen
   pub count : length answers ≡ times
   pub added : seen2 ≡ seen ++ answers

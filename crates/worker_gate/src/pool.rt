@@ -35,10 +35,12 @@ pub enum Hand<J, G> {
     /// A worker serves. It stands here before and afterwards, with a log of the slices that it asks for.
     Work(Option<Worker>, SliceLog<G>),
     /// The status of a desk that shows its past is read, as often as is left. Afterwards nothing is left, and `seen`,
-    /// which has room for them, has the answers behind the older ones.
+    /// which has room for them, has the answers behind the older ones. The reads are spread over the entries that the
+    /// history is expected to come to, as long as some come.
     Watch {
         reader: Reader,
         left: u32,
+        expected: u32,
         seen: Vec<Status>,
     },
 }
@@ -71,11 +73,16 @@ fn run<J: Job + Drop, X: Chooser, G: Gate<J>, K: Clock, F: Cost, R: Wait>(
             let back = slot.replace(work(desk, rt, worker, gate, log, clock, rule));
             let None = back else { unreachable!() };
         }
-        Hand::Watch { reader, left, seen } => {
+        Hand::Watch {
+            reader,
+            left,
+            expected,
+            seen,
+        } => {
             let Some(board) = desk.board() else {
                 unreachable!()
             };
-            watch(board, reader, left, seen);
+            watch(board, reader, left, *expected, seen);
         }
     }
 }

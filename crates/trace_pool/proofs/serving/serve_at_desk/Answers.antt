@@ -54,6 +54,6 @@ pub returns-clause-statuses : goal.returns-clause-statuses
 returns-clause-statuses g c =
     let C = pool_config c.args.trace.now c.args.options in let shown = c.in-Ok.ensures.tokens in
     subst (λ past. (length c.in-Watch.seen.items ≡ c.args.times) × AreReadings C past 0 c.in-Watch.seen.items) (sym c.into_history.ensures.past)
-    (watch_read c.rows-2.result.now c.in-Ok.desk.lock (option_map arc_value c.in-Ok.desk.board) c.args.options.refresh (g.K.Clock.tells c.args.clock.now) shown.board c.in-Ok.reader c.in-Watch.reader c.args.times c.in-Watch.left c.args.room.statuses c.in-Watch.seen C c.in-Ok-finish_shown.scheduler.past
+    (watch_read c.rows-2.result.now c.in-Ok.desk.lock (option_map arc_value c.in-Ok.desk.board) c.args.options.refresh (g.K.Clock.tells c.args.clock.now) shown.board c.in-Ok.reader c.in-Watch.reader c.args.times c.in-Watch.left _ _ c.args.room.statuses c.in-Watch.seen C c.in-Ok-finish_shown.scheduler.past
     c.in-Watch.ensures.other shown.shared_is (shown.config_is ∙ c.requires.config) c.requires.room.statuses_are shown.reader_seen
     (reader_front c.in-Ok-finish_shown.scheduler.past c.args.room.readers.items c.push_reserved.new.self.items c.in-Watch.reader c.requires.room.readers_are c.push_reserved.ensures.items c.in-Ok-finish_shown.ensures.seen))

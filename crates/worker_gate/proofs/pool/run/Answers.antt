@@ -12,5 +12,5 @@ returns-in-None g c =
 
 pub returns-in-Some-board : goal.returns-in-Some-board
 returns-in-Some-board g c =
-    did_watch g.J.Job.label_of c.args.desk.now.lock _ _ _ _ c.args.hand.now c.in-Some-board.board.now c.in-Watch.reader c.watch.new.reader c.in-Watch.left c.watch.new.left c.in-Watch.seen c.watch.new.seen
+    did_watch g.J.Job.label_of c.args.desk.now.lock _ _ _ _ c.args.hand.now c.in-Some-board.board.now c.in-Watch.reader c.watch.new.reader c.in-Watch.left c.watch.new.left c.in-Watch.expected c.in-Watch.seen c.watch.new.seen
     c.in-Watch.is (sym c.in-Some-board.ensures) c.watch.ensures.none_left c.watch.ensures.watched
