@@ -1,7 +1,7 @@
 -- A text that spells a script or a journal names a configuration that a scheduler can be opened with.
-use Rattle.std.proofs.Common.{ℕ, ◌+◌, ◌≡◌, Bool, true, false, not, ◌&&◌, if◌then◌else◌, List, [], ◌∷◌, ◌++◌, length, Option, Some, None, Result, Ok, Err, refl, sym, ap, ◌∙◌, subst, arith, length-append, ◌⊎◌, inl, inr}
+use Rattle.std.proofs.Common.{ℕ, ◌+◌, ◌≡◌, Bool, true, false, not, ◌&&◌, if◌then◌else◌, List, [], ◌∷◌, ◌++◌, length, Option, Some, None, Result, Ok, Err, refl, sym, ap, ◌∙◌, subst, arith, length-append}
 use Rattle.std.specs.Prelude.{codes}
-use Rattle.std.proofs.lemmas.Bool.{eqb-true, false_from_ne_true, false≢true}
+use Rattle.std.proofs.lemmas.Bool.{and_parts, cond_both, eqb-true, false_from_ne_true, false≢true, not-true}
 use Rattle.fq_model.specs.Limits.{InLimits}
 use Rattle.program_model.specs.declared.fault.ScriptKind.{ScriptKind}
 use Rattle.program_model.specs.declared.fault.ScriptKind.TheVariants.{Missing}
@@ -10,20 +10,6 @@ use Rattle.program_model.specs.Document.{Document, LineReader, config_of, config
 use Rattle.program_model.specs.Lines.{Words, words_of, lines_of}
 use Rattle.program_model.specs.Reading.{at_line, begins_with, is_empty}
 use Rattle.journal_text.proofs.HeadLimits.{bind_ok, IsKept, with_tenant-kept, with_kind-kept, config_line-kept, config_of-in_limits, some_if}
-
--- which step read a line
-which : {A : Type 0} (t : Bool) (x y r : A) → (if t then x else y) ≡ r → ((t ≡ true) × (x ≡ r)) ⊎ ((t ≡ false) × (y ≡ r))
-which true x y r h = inl (refl, h)
-which false x y r h = inr (refl, h)
-
-both : (a b : Bool) → (a && b) ≡ true → (a ≡ true) × (b ≡ true)
-both true true h = (refl, refl)
-both true false h = absurd (cc)
-both false b h = absurd (cc)
-
-not_true : (a : Bool) → not a ≡ true → a ≡ false
-not_true true h = absurd (cc)
-not_true false h = refl
 
 read_at : {A F : Type 0} (place : ℕ) (read : Result A F) (x : A) → at_line place read ≡ Ok x → read ≡ Ok x
 read_at place (Ok y) x h = let same : y ≡ x = cc in ap Ok same
@@ -52,18 +38,14 @@ module _ {A : Type 0} (reader : LineReader A) where
 
   step_of : (d u : Document A) (line : Words) → with_line reader d line ≡ Ok u → Step d u
   unfolding with_line
-  step_of d u line h = elim (which (begins_with line (codes "tenant") && is_empty d.kinds) _ _ (Ok u) h) [
-    | inl a ↦ Tenant line (both (begins_with line (codes "tenant")) (is_empty d.kinds) a.0).1 a.1
-    | inr a ↦ elim (which (begins_with line (codes "kind") && (not (is_empty d.tenants) && is_empty d.body)) _ _ (Ok u) a.1) [
-      | inl b ↦
-          let may = both (not (is_empty d.tenants)) (is_empty d.body) (both (begins_with line (codes "kind")) _ b.0).1 in
-          Kind line (not_true (is_empty d.tenants) may.0) may.1 b.1
-      | inr b ↦ elim (which (is_empty d.kinds) _ _ (Ok u) b.1) [
-        | inl c ↦ absurd (cc)
-        | inr c ↦ let x = said d u line c.1 in Said x.0 c.0 x.1
-      ]
-    ]
-  ]
+  step_of d u line =
+      cond_both (begins_with line (codes "tenant") && is_empty d.kinds) _ _ (λ read. read ≡ Ok u → Step d u)
+      (λ a w. Tenant line (and_parts (begins_with line (codes "tenant")) (is_empty d.kinds) a).1 w)
+      (λ a. cond_both (begins_with line (codes "kind") && (not (is_empty d.tenants) && is_empty d.body)) _ _ (λ read. read ≡ Ok u → Step d u)
+      (λ b w.
+      let may = and_parts (not (is_empty d.tenants)) (is_empty d.body) (and_parts (begins_with line (codes "kind")) _ b).1 in
+      Kind line (not-true (is_empty d.tenants) may.0) may.1 w)
+      (λ b. cond_both (is_empty d.kinds) _ _ (λ read. read ≡ Ok u → Step d u) (λ c w. absurd (cc)) (λ c w. let x = said d u line w in Said x.0 c x.1)))
 
   -- a line, and those below it
   one_line : (place : ℕ) (d u : Document A) (line : List ℕ) (lines : List (List ℕ)) → with_lines reader place d (line ∷ lines) ≡ Ok u → (e : Document A) × Step d e × (with_lines reader (place + 1) e lines ≡ Ok u)
@@ -86,7 +68,7 @@ module _ {A : Type 0} (reader : LineReader A) where
       by_step e (Kind l named none w) rest = absurd (false≢true (sym more ∙ none))
       by_step e (Said x kinds is) rest = rest x is
 
-  -- what follows a head that is being read leaves a whole one
+  -- a document whose head is being read stays within the limits, whatever lines follow
   head_limits : (lines : List (List ℕ)) (place : ℕ) (d u : Document A) → IsKept d → with_lines reader place d lines ≡ Ok u → InLimits (config_of u)
   head_limits [] place d u kept h =
       let end = ended place d u h in
