@@ -235,7 +235,7 @@ smalls T O P a p k i w e =
     let s = k.works i w e in
     small_work T O P a w p k s.in_time (elim (due_cases T O P i w s) [ inl d ↦ omega (arith, d.1) | inr d ↦ omega (arith, d.1) ])
 
-abbrev Simulation : Trace → RunOptions → Type 0
+abbrev pub Simulation : Trace → RunOptions → Type 0
 Simulation T O = (H : History) × IsSimulated T O H
 
 goes_on : (fuel : ℕ) (T : Trace) (O : RunOptions) (P : History) (a : Agenda) → IsPlan T O → Keeps T O P a → max 4 (needed_entries T.rows O.refresh) < length P + fuel → Simulation T O

@@ -8,6 +8,12 @@ mod Exists
 mod Entries
 mod OneComparison
 mod OneAnswer
+mod DocumentLimits
+mod SomeVerdict
+mod SomeRows
+mod SomeExplanation
+mod SomeComparison
+mod SomeAnswer
 pub mod CleanRuns
 pub mod Rows
 pub mod Checked

@@ -33,7 +33,6 @@ use Rattle.program_model.specs.HistoryAnswer.{IsHistoryAnswer, history_answer, h
 use Rattle.program_model.specs.Journal.{Journal, journal_of}
 use Rattle.program_model.specs.JournalText.{journal_text}
 use Rattle.program_model.specs.LeadCommand.{lead_answer, IsLeadTold}
-use Rattle.program_model.specs.Names.{text_of}
 use Rattle.program_model.specs.RunCommand.{IsSimulatedAnswer, IsSimulationAnswer}
 use Rattle.program_model.specs.Script.{Script as Calls, script_of}
 use Rattle.program_model.specs.ScriptCommand.{script_output_text, AreCallsMade}
@@ -134,7 +133,7 @@ one_plain (Gen seed tenants requests print) input a b some x y =
     one_generated print (generated_trace seed tenants requests) a b (generated_lawful seed tenants requests some.0.0 some.0.1 some.1) x y
 one_plain (Check explain) input a b some x y = one_read journal_fault_text (IsJudged explain) (journal_of input) a b (λ journal is. one_judged explain journal a b) x y
 one_plain (Lead of over) input a b some x y =
-    one_read journal_fault_text (IsLeadTold (text_of of) (text_of over)) (journal_of input) a b (λ journal is. one_lead (text_of of) (text_of over) journal a b) x y
+    one_read journal_fault_text (IsLeadTold of over) (journal_of input) a b (λ journal is. one_lead of over journal a b) x y
 one_plain (Shape rate burst) input a b some x y =
     one_read trace_fault_text (IsShapedAnswer rate burst) (trace_of input) a b (λ T is. one_sized rate burst T (too_big T burst) a b) x y
 

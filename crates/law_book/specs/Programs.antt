@@ -12,12 +12,14 @@ use Rattle.program_model.specs.declared.command.PlainCommand.{PlainCommand}
 use Rattle.program_model.specs.declared.command.PlainCommand.TheVariants.{Run, Gen}
 use Rattle.program_model.specs.Answer.{Answer, Text, answer_status}
 use Rattle.program_model.specs.CheckCommand.{IsCheckAnswer}
+use Rattle.program_model.specs.CommandLimits.{IsInRange}
 use Rattle.program_model.specs.Commands.{built_commands, is_live, row_of, IsAnswer}
 use Rattle.program_model.specs.Document.{config_of}
 use Rattle.program_model.specs.GenCommand.{default_run_options}
 use Rattle.program_model.specs.Journal.{Journal, journal_of}
 use Rattle.program_model.specs.Options.{Value, CommandRow, command_of}
 use Rattle.program_model.specs.Program.{Move, IsRun}
+use Rattle.program_model.specs.Statuses.{MaySay, MustSay}
 
 -- what a row means is a command of this row
 abbrev pub IsOwnRow : CommandRow Command → Type 0
@@ -61,6 +63,18 @@ OneStatus Told =
     (command : Command) (input : List ℕ) (a b : Answer)
     → is_live command ≡ false → IsWithinLimits command → IsAnswer Told command input a → IsAnswer Told command input b
     → answer_status a ≡ answer_status b
+
+-- a command that asks no clock, with numbers in their ranges, has an answer to each input
+abbrev pub SomeAnswer : (ℕ → Type 0) → Type 0
+SomeAnswer Told =
+    (command : Command) (input : List ℕ) → is_live command ≡ false → IsInRange command
+    → (answer : Answer) × IsAnswer Told command input answer
+
+-- so each input has one status: something of this status may be said of it, and whatever is said of it has this status
+abbrev pub SomeStatus : (ℕ → Type 0) → Type 0
+SomeStatus Told =
+    (command : Command) (input : List ℕ) → is_live command ≡ false → IsInRange command
+    → (status : ℕ) × MaySay status Told command input × MustSay status Told command input
 
 -- Runs over memory that never fails.
 

@@ -1,5 +1,5 @@
 //! The laws: what follows from the definitions, and from what each part promises. The contract of each function is a
-//! law, and its body is empty.
+//! law, and its body is empty, or calls the laws that it stands on.
 #![tactic(auto)]
 
 pub mod accounts;
