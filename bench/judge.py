@@ -256,6 +256,27 @@ def turned_out(journal, tenant):
     return found
 
 
+def longest(journal):
+    """The greatest length of a request at an entry, as a head or by its charge, in steps; 1 at least."""
+    history, found = History(journal), [1]
+    for entry in journal.entries:
+        done = [history.runs[entry.rest[0]]] if entry.act == "done" else []
+        history.enter(entry)
+        for tenant in history.tenants:
+            if tenant.waits:
+                found.append(length(history.estimate(history.requests[tenant.waits[0]]), tenant.weight))
+        found += [length(runs.charge, runs.weight) for runs in [*history.runs.values(), *done]]
+    return max(found)
+
+
+def ever(journal):
+    """The words of the bound that asks nothing of the past, which a journal under 2dfq+ has."""
+    if journal.config.policy != "2dfq+":
+        return ""
+    n, most = journal.config.workers, longest(journal)
+    return f" ever {(n + n // 2 + 1) * most + (n - 1) * most // n - 1}"
+
+
 def lead(text, of, over):
     """What `lead` writes of a legal journal, and of two tenants of it."""
     journal = read(text)
@@ -286,7 +307,7 @@ def lead(text, of, over):
     if not differences:
         return f"{of} and {over} never waited together\n"
     bound = max([(2 if journal.config.policy in ("2dfq", "2dfq+") else 1) * max(lengths) + max(doubts), *firsts])
-    return f"lead of {of} over {over} largest {max(differences)} bound {bound}\n"
+    return f"lead of {of} over {over} largest {max(differences)} bound {bound}{ever(journal)}\n"
 
 
 def explained(journal, heads, take):

@@ -10,7 +10,7 @@ use fq_model::event::Entry;
 use std::alloc::Global;
 use std::process::Abort;
 use tag_gap::gap::Gap;
-use tag_lead::leads::tag_lead;
+use tag_lead::leads::{Lead, tag_lead};
 
 // What is told of a history with two tenants of weight 1, where costs are not what was declared: the lead of the first
 // over the second, and of the second over the first.
@@ -20,8 +20,8 @@ fn expect_leads<R: Abort>(
     workers: u32,
     policy: Policy,
     past: &[Entry],
-    first: Option<Gap>,
-    second: Option<Gap>,
+    first: Option<Lead>,
+    second: Option<Lead>,
 )
     requires { IsLegal (gap_config workers 1 policy Declared) (history_of past.now) }
 {
@@ -33,11 +33,12 @@ fn expect_leads<R: Abort>(
 }
 
 // A lead of so many units of virtual time, below a bound of so many.
-fn lead(largest: i64, bound: i64) -> Option<Gap> {
-    Some(Gap {
+fn lead(largest: i64, bound: i64) -> Option<Lead> {
+    let gap = Gap {
         largest: largest as i128 * 1048576,
         bound: bound as i128 * 1048576,
-    })
+    };
+    Some(Lead { gap, ever: None })
 }
 
 // The fourth request of the first costs 4 and not 1: in doubt are 3, with the head of the second, which is 4 long.
