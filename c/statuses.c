@@ -1,5 +1,5 @@
-// What a handle that holds no scheduler answers, and each status of an opening but want of memory (memory.c): every number that
-// has limits is given just outside them, and at them.
+// What a handle that holds no scheduler answers, what a worker would find, and each status of an opening but want of memory
+// (memory.c): every number that has limits is given just outside them, and at them.
 #include <stdio.h>
 #include <stdlib.h>
 
@@ -56,12 +56,42 @@ static void no_scheduler(twodfq *handle) {
     want("close", twodfq_close(handle, 0, 0).kind, TWODFQ_NO_SCHEDULER);
     want("weight", twodfq_weight(handle, 0, 0, 0, 1).kind, TWODFQ_NO_SCHEDULER);
     want("workers", twodfq_workers(handle, 0, 0, 1).kind, TWODFQ_NO_SCHEDULER);
+    want("due", twodfq_due(handle, 0, 0).kind, TWODFQ_NO_SCHEDULER);
     want("entry", twodfq_entry(handle, 0).kind, TWODFQ_ENTRY_NONE);
     want("status", twodfq_status(handle).kind, TWODFQ_NO_SCHEDULER);
     twodfq_free(handle);
 }
 
+// What a worker would find, of each kind. Virtual time goes at 2 units a microsecond; the second request starts at 10 and has the
+// length 10, so worker 1 of 2 may take it from 5 on.
+static void finds(void) {
+    twodfq scheduler = TWODFQ_NONE;
+    twodfq_opening opening = plain();
+    opening.workers = 2;
+    opening.entries = 20;
+    opening.requests = 2;
+    opening.policy = TWODFQ_2DFQ;
+    uint32_t weight = 1;
+    want("open", twodfq_open(&scheduler, &opening, &weight, 1), TWODFQ_OPENED);
+    want("nothing", twodfq_due(&scheduler, 0, 0).kind, TWODFQ_NOTHING);
+    want("a worker beyond", twodfq_due(&scheduler, 0, 2).kind, TWODFQ_REFUSED_WORKER);
+    twodfq_submit(&scheduler, 0, 0, 0, 0, 10, 0);
+    twodfq_submit(&scheduler, 0, 0, 0, 0, 10, 0);
+    want("eligible", twodfq_due(&scheduler, 0, 0).kind, TWODFQ_ELIGIBLE);
+    want("run", twodfq_take(&scheduler, 0, 0, 0).kind, TWODFQ_RUN);
+    want("busy", twodfq_due(&scheduler, 0, 0).kind, TWODFQ_REFUSED_BUSY);
+    want("eligible later", twodfq_due(&scheduler, 3, 1).kind, TWODFQ_ELIGIBLE);
+    twodfq_reply early = twodfq_due(&scheduler, 2, 1);
+    want("early", early.kind, TWODFQ_EARLY);
+    want("which one", early.request, 1);
+    want("its estimate", (uint32_t)early.first, 10);
+    twodfq_workers(&scheduler, 0, 0, 1);
+    want("retired", twodfq_due(&scheduler, 0, 1).kind, TWODFQ_RETIRED);
+    twodfq_free(&scheduler);
+}
+
 int main(void) {
+    finds();
     for (uint32_t tenant = 0; tenant <= MOST_TENANTS; tenant++) weights[tenant] = 1 + tenant % 1000;
 
     LIMITS(workers, 1, 64, TWODFQ_OPEN_WORKERS);
@@ -97,5 +127,5 @@ int main(void) {
     want("what waits", twodfq_status(&scheduler).waiting, 1);
     twodfq_free(&scheduler);
     no_scheduler(&scheduler);
-    printf("statuses: %d answers at and beyond the limits, and of a handle that holds none\n", count);
+    printf("statuses: %d answers at and beyond the limits, of what is found, and of a handle that holds none\n", count);
 }

@@ -87,6 +87,9 @@ enum {
     TWODFQ_DRAINED,     /* nothing waits, and nothing more will come */
     TWODFQ_RETIRED,     /* the worker is not among those that there are now; first: how many. It may ask again */
     TWODFQ_WITHDRAWN,   /* the request is withdrawn; second: its label */
+    TWODFQ_NOTHING,     /* found: nothing waits, whether or not more may come */
+    TWODFQ_ELIGIBLE,    /* found: some tenant's head is eligible for the worker */
+    TWODFQ_EARLY,       /* found: requests wait, and no head is eligible; it would get request before its time, first: its estimate */
     TWODFQ_REFUSED_CLOSED = 16, /* the history is closed */
     TWODFQ_REFUSED_TENANT,      /* there is none of this number; first: the number */
     TWODFQ_REFUSED_KIND,        /* there is none of this number; first: the number */
@@ -134,6 +137,10 @@ twodfq_reply twodfq_workers(twodfq *handle, uint32_t who, uint64_t moment, uint3
 
 /* A request that waits is withdrawn: it is never taken, and costs nothing. It may come after a close, too. Refused: NOT_WAITING. */
 twodfq_reply twodfq_withdraw(twodfq *handle, uint32_t who, uint64_t moment, uint32_t request);
+
+/* What a worker would find that asked for work at this moment: NOTHING, ELIGIBLE, EARLY or RETIRED. It changes nothing, and calls
+   after it may be at earlier moments. Refused as a take would be: WORKER, BUSY. */
+twodfq_reply twodfq_due(twodfq *handle, uint64_t moment, uint32_t worker);
 
 /* An entry of the history, which has one for each call that was answered REQUEST, RUN, ACCEPTED or WITHDRAWN. */
 enum {

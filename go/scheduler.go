@@ -127,6 +127,23 @@ const (
 	Retired TakenKind = C.TWODFQ_RETIRED // the worker is not among those that there are now; it may ask again
 )
 
+// Due is what a worker would find that asked for work.
+type Due struct {
+	Kind     DueKind
+	Request  uint32 // these two are of a DueEarly
+	Estimate uint64
+}
+
+// DueKind is the kind of a Due.
+type DueKind uint32
+
+const (
+	DueNothing  DueKind = C.TWODFQ_NOTHING  // nothing waits, whether or not more may come
+	DueEligible DueKind = C.TWODFQ_ELIGIBLE // some tenant's head is eligible for the worker
+	DueEarly    DueKind = C.TWODFQ_EARLY    // requests wait, none is eligible, and the worker would get this one before its time
+	DueRetired  DueKind = C.TWODFQ_RETIRED  // the worker is not among those that there are now
+)
+
 // Request is one that comes.
 type Request struct {
 	Tenant, Kind uint32
@@ -212,6 +229,20 @@ func (s *Scheduler) Withdraw(who uint32, moment uint64, request uint32) (uint64,
 		return 0, err
 	}
 	return uint64(reply.second), nil
+}
+
+// Due says what a worker would find that asked for work at this moment. It changes nothing, and calls after it may be at
+// earlier moments. Refused as a Take would be.
+func (s *Scheduler) Due(moment uint64, worker uint32) (Due, error) {
+	reply := C.twodfq_due(&s.handle, C.uint64_t(moment), C.uint32_t(worker))
+	if err := refusal(reply); err != nil {
+		return Due{}, err
+	}
+	due := Due{Kind: DueKind(reply.kind)}
+	if due.Kind == DueEarly {
+		due.Request, due.Estimate = uint32(reply.request), uint64(reply.first)
+	}
+	return due, nil
 }
 
 // Act says which call an entry is of.

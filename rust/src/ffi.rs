@@ -7,7 +7,7 @@ use std::panic::{self, AssertUnwindSafe};
 use std::sync::{Arc, Condvar, Mutex, PoisonError};
 
 use crate::pool::Job;
-use crate::{Act, Entry, Refusal, Taken};
+use crate::{Act, Due, Entry, Refusal, Taken};
 
 #[repr(C)]
 #[derive(Debug)]
@@ -80,6 +80,7 @@ extern "C" {
     pub(crate) fn twodfq_weight(handle: *mut Handle, who: u32, moment: u64, tenant: u32, weight: u32) -> Reply;
     pub(crate) fn twodfq_workers(handle: *mut Handle, who: u32, moment: u64, count: u32) -> Reply;
     pub(crate) fn twodfq_withdraw(handle: *mut Handle, who: u32, moment: u64, request: u32) -> Reply;
+    pub(crate) fn twodfq_due(handle: *mut Handle, moment: u64, worker: u32) -> Reply;
     pub(crate) fn twodfq_entry(handle: *mut Handle, index: u64) -> Line;
     pub(crate) fn twodfq_status(handle: *mut Handle) -> Standing;
     pub(crate) fn twodfq_free(handle: *mut Handle);
@@ -118,6 +119,17 @@ impl Reply {
             4 => Taken::Drained,
             5 => Taken::Retired { workers: self.first as u32 },
             kind => unreachable!("a take gets no reply of kind {kind}"),
+        }
+    }
+
+    /// What a worker would find, where the question is not refused.
+    pub(crate) fn due(self) -> Due {
+        match self.kind {
+            5 => Due::Retired { workers: self.first as u32 },
+            7 => Due::Nothing,
+            8 => Due::Eligible,
+            9 => Due::Early { request: self.request, estimate: self.first },
+            kind => unreachable!("nothing of kind {kind} is found"),
         }
     }
 }

@@ -169,6 +169,26 @@ pub enum Taken {
     Retired { workers: u32 },
 }
 
+/// What a worker would find that asked for work.
+///
+/// ```
+/// use twodfq::{Config, Due, Scheduler};
+///
+/// let mut scheduler = Scheduler::open(&Config { weights: &[1, 2], ..Config::default() }).unwrap();
+/// assert_eq!(scheduler.due(0, 0), Ok(Due::Nothing));
+/// ```
+#[derive(Clone, Copy, Debug, PartialEq, Eq)]
+pub enum Due {
+    /// Nothing waits, whether or not more may come.
+    Nothing,
+    /// Some tenant's head is eligible for the worker.
+    Eligible,
+    /// Requests wait, and no head is eligible for the worker: it would get this one before its time, charged this estimate.
+    Early { request: u32, estimate: u64 },
+    /// There are only so many workers now.
+    Retired { workers: u32 },
+}
+
 /// What an accepted call did.
 ///
 /// ```
@@ -382,6 +402,32 @@ impl Scheduler {
     /// ```
     pub fn withdraw(&mut self, who: u32, moment: u64, request: u32) -> Result<u64, Refusal> {
         Ok(unsafe { ffi::twodfq_withdraw(&mut self.handle, who, moment, request) }.accepted()?.second)
+    }
+
+    /// What a worker would find that asked for work at this moment. It changes nothing, and calls after it may be at earlier
+    /// moments. Refused as a take would be.
+    ///
+    /// ```
+    /// use twodfq::{Config, Due, Estimator, Policy, Refusal, Scheduler, Submit};
+    ///
+    /// let (policy, estimate) = (Policy::TwoDfq, Estimator::Declared);
+    /// let config = Config { weights: &[1], workers: 2, policy, estimate, ..Config::default() };
+    /// let mut scheduler = Scheduler::open(&config).unwrap();
+    /// for label in [42, 43] {
+    ///     scheduler.submit(0, 0, Submit { tenant: 0, kind: 0, declared: 10, label }).unwrap();
+    /// }
+    /// assert_eq!(scheduler.due(0, 0), Ok(Due::Eligible));
+    /// scheduler.take(1, 0, 0).unwrap();
+    /// assert_eq!(scheduler.due(0, 0), Err(Refusal::Busy(0)));
+    /// // the second starts at 10, where virtual time comes at 2 units a microsecond, and worker 1 may begin it half its
+    /// // length before
+    /// assert_eq!(scheduler.due(2, 1), Ok(Due::Early { request: 1, estimate: 10 }));
+    /// assert_eq!(scheduler.due(3, 1), Ok(Due::Eligible));
+    /// scheduler.workers(0, 0, 1).unwrap();
+    /// assert_eq!(scheduler.due(0, 1), Ok(Due::Retired { workers: 1 }));
+    /// ```
+    pub fn due(&mut self, moment: u64, worker: u32) -> Result<Due, Refusal> {
+        Ok(unsafe { ffi::twodfq_due(&mut self.handle, moment, worker) }.accepted()?.due())
     }
 
     /// The entry of the history with this index, in order of time, the first with 0, if there is one and it is kept.

@@ -49,7 +49,7 @@ impl Refusal {
     pub(crate) fn of_reply(reply: &Reply) -> Option<Refusal> {
         let Reply { kind, request, first, second } = *reply;
         Some(match kind {
-            0..=6 => return None,
+            0..=9 => return None,
             16 => Refusal::Closed,
             17 => Refusal::Tenant(first as u32),
             18 => Refusal::Kind(first as u32),

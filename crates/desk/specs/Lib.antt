@@ -7,3 +7,4 @@ pub mod Tokens
 pub mod Replies
 pub mod Opening
 pub mod Ending
+pub mod Found

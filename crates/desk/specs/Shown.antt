@@ -1,7 +1,6 @@
 -- What is shown of a past, and where.
 use Rattle.std.specs.Prelude.{◌≡◌, refl, List, [], ◌∷◌, Option, Some, None, option_map}
 use Rattle.std.specs.Coded.{Coded, code_by, coded×, coded_list}
-use Rattle.std.specs.Arc.{arc_value}
 use Rattle.atomic_table.specs.Seated.{TableId, table_id_coded}
 use Rattle.fq_model.specs.contracts.config.Config as config_type
 use Rattle.fq_model.specs.contracts.event.Entry as entry_type

@@ -6,15 +6,17 @@ ghost use Rattle.desk.specs.Shown.{board_of, Shows};
 
 use crate::answering::answer;
 use crate::shown::{Shown, show_past};
-use crate::told::{Ask, Told};
+use crate::told::{Ask, AskDue, Told};
 use fq_model::config::Checked;
+use fq_model::event::Due;
 use fq_model::job::Job;
-use history_lock::Machine;
+use history_lock::{Inspect, Machine};
 use sched_state::Scheduler;
 use status_board::Board;
 use std::alloc::{AllocError, Global};
 use std::marker::Model;
 use tag_rules::chooser::Chooser;
+use tag_rules::foresees::Foresees;
 
 /// What no call changes: what the scheduler was opened with, how many submitters there are, and the board that shows
 /// the past, if there is one. No value of it is ever made: it stands in contracts alone.
@@ -105,5 +107,19 @@ impl<J: Job + Drop, X: Chooser> Machine for Floor<J, X> {
         let told = answer(&mut self.scheduler, who, call);
         show_past(&mut self.shown, &self.scheduler);
         told
+    }
+}
+
+impl<J: Job + Drop, X: Foresees> Inspect for Floor<J, X> {
+    ghost use Rattle.desk.specs.Found.{finds_due};
+
+    type Question = AskDue;
+
+    type Finding = Due;
+
+    ghost finds = { finds_due };
+
+    fn inspect(&self, question: AskDue) -> Due {
+        self.scheduler.due(question.moment, question.worker)
     }
 }

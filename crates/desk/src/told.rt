@@ -63,3 +63,10 @@ pub enum Told<J> {
     Changed(Result<(), Cause>),
     Withdrawn(Result<J, Cause>),
 }
+
+/// Asks what a worker would find that asked for work at this moment, in microseconds.
+#[derive(Clone, Copy)]
+pub struct AskDue {
+    pub moment: u64,
+    pub worker: u32,
+}

@@ -9,6 +9,7 @@ use fq_model::config::{Checked, Policy};
 use std::alloc::{AllocError, Global};
 use std::marker::Model;
 use tag_rules::chooser::Chooser;
+use tag_rules::foresees::{Foreseen, Foresees, foreseen_in};
 use tag_rules::parts::Keys;
 use tag_rules::turn::Turn;
 use winner_tree::Tree;
@@ -94,6 +95,19 @@ impl Chooser for IndexChooser {
         let trees = &mut self.trees[worker as usize];
         trees.catch_up(turn, &self.table);
         trees.first()
+    }
+}
+
+impl Foresees for IndexChooser {
+    /// The trees are brought up to date at a choice alone, so this looks at the keys of each tenant.
+    fn foresee(&self, worker: u32, v: i128) -> Foreseen {
+        let turn = Turn {
+            policy: self.policy,
+            workers: self.workers,
+            worker,
+            virtual_time: v,
+        };
+        foreseen_in(turn, &self.table)
     }
 }
 

@@ -9,6 +9,7 @@ use fq_model::config::Checked;
 use shared_order::chooser::SharedChooser;
 use std::alloc::{AllocError, Global};
 use tag_rules::chooser::Chooser;
+use tag_rules::foresees::{Foreseen, Foresees};
 use tag_rules::parts::Keys;
 
 /// The program's chooser: two trees a worker where there are few workers and few tenants, and else one order of heads.
@@ -54,6 +55,15 @@ impl<F: Chooser, M: Chooser> Chooser for FittedChooser<F, M> {
         match self {
             FittedChooser::ForFew(inner) => inner.choose(worker, v),
             FittedChooser::ForMany(inner) => inner.choose(worker, v),
+        }
+    }
+}
+
+impl<F: Foresees, M: Foresees> Foresees for FittedChooser<F, M> {
+    fn foresee(&self, worker: u32, v: i128) -> Foreseen {
+        match self {
+            FittedChooser::ForFew(inner) => inner.foresee(worker, v),
+            FittedChooser::ForMany(inner) => inner.foresee(worker, v),
         }
     }
 }

@@ -6,6 +6,7 @@ use Rattle.atomic_table.specs.Seated.{TableId}
 use Rattle.fq_model.specs.declared.event.Entry.{Entry}
 use Rattle.fq_model.specs.Outcome.{own_entries}
 use Rattle.history_lock.specs.declared.table.View.{View}
+use Rattle.history_lock.specs.Histories.{IsPrefix}
 use Rattle.history_lock.specs.Rule.{word_count}
 use Rattle.history_lock.specs.Views.{view_of, is_idle}
 
@@ -37,6 +38,16 @@ module _ {F : Type 0} where
   -- the pass is of this lock
   abbrev pub IsOf : LockView F → PassView F → Type 0
   IsOf lock pass = (pass.table ≡ lock.table) × (pass.frame ≡ Some lock.frame)
+
+  -- the pass is of the same caller of this lock: it has seen more, perhaps, and none of that is its own
+  pub record SeesMore (lock : LockView F) (old new : PassView F) : Type 0 where
+    pub own : IsOf lock new
+    pub number : new.number ≡ old.number
+    pub made : new.made ≡ old.made
+    pub ended : new.ended ≡ old.ended
+    pub seen : IsPrefix old.seen new.seen
+    pub mine : new.mine ≡ old.mine
+    pub mine_is : new.mine ≡ own_entries new.seen new.number
 
   -- between two calls a pass holds no turn, and its own entries are those of its number in what it has seen
   pub record IsAtRest (number made : ℕ) (views : List (View F)) : Type 0 where

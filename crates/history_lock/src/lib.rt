@@ -17,5 +17,5 @@ mod steps;
 mod table;
 
 pub use lock::{HistoryLock, Unsettled};
-pub use machine::Machine;
+pub use machine::{Inspect, Machine};
 pub use pass::Pass;

@@ -3,10 +3,10 @@ ghost use Rattle.std.specs.Prelude.{◌≡◌, ◌≢◌, ℕ, ◌+◌, ◌<◌,
 ghost use Rattle.fq_model.specs.declared.event.Entry.{Entry};
 ghost use Rattle.fq_model.specs.Outcome.{own_entries};
 ghost use Rattle.history_lock.specs.Histories.{IsPrefix, Gains, longer};
-ghost use Rattle.history_lock.specs.Passes.{IsOf, HasEnded, HasNoneAbove, AllEnded};
+ghost use Rattle.history_lock.specs.Passes.{IsOf, SeesMore, HasEnded, HasNoneAbove, AllEnded};
 ghost use Rattle.history_lock.specs.Last.{WasLast};
 
-use crate::machine::Machine;
+use crate::machine::{Inspect, Machine};
 use crate::pass::Pass;
 use crate::plays::{Fork, Merge, Note};
 use crate::steps::{enter, leave};
@@ -122,6 +122,27 @@ impl<M: Machine> HistoryLock<M> {
             .join_seat::<Merge>(&mut place, badge.into_seat());
         self.table.shared.load::<Note>(&mut place, 1);
         pass.badge = place.into_badge();
+    }
+}
+
+impl<M: Inspect> HistoryLock<M> {
+    /// Waits for a turn as `turn` does, and asks the machine. The history is what the pass has then seen.
+    pub fn inspect<R: Wait>(
+        &self,
+        rt: &R,
+        pass: &mut Pass<M::Frame>,
+        question: M::Question,
+    ) -> M::Finding
+        requires { IsOf self.now pass.old }
+        ensures pass { SeesMore self.now pass.old pass.new }
+        ensures found { M.finds self.now.frame pass.new.seen question result }
+    {
+        let mut place: Place<M> = mem::replace(&mut pass.badge, Badge::blank()).into_seat();
+        let machine = enter(&self.table, rt, &mut place);
+        let found = machine.inspect(question);
+        leave(&self.table, &mut place, machine);
+        pass.badge = place.into_badge();
+        found
     }
 }
 

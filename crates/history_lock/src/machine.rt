@@ -33,3 +33,19 @@ pub trait Machine {
     ghost grows: { (like : Self.Frame) (P : List Entry) (who : ℕ) (call : Self.Call) (reply : Self.Reply)
         (P2 : List Entry) → answers like P who call reply P2 → Grows who P P2 };
 }
+
+/// A machine that may be asked what is so of its history: a question changes nothing. `finds` says which answer is
+/// right.
+pub trait Inspect: Machine {
+    /// What is asked.
+    type Question;
+
+    /// What is found.
+    type Finding;
+
+    ghost finds: { Self.Frame → List Entry → Self.Question → Self.Finding → Type 0 };
+
+    /// Answers the question.
+    fn inspect(&self, question: Self::Question) -> Self::Finding
+        ensures { finds (Self.frame self.now) (Self.past self.now) question result };
+}

@@ -3,6 +3,7 @@ ghost use Rattle.std.specs.Prelude.{ℕ, ◌≡◌, ◌-◌, ◌<◌, ◌≤◌,
 ghost use Rattle.std.specs.FinMap as map;
 ghost use Rattle.circular_buffer.specs.Buffer.{buffer, keep_last};
 ghost use Rattle.fq_model.specs.declared.event.Call.TheVariants as call;
+ghost use Rattle.fq_model.specs.Due.{IsDue};
 ghost use Rattle.fq_model.specs.History.{history_of, pool_at};
 ghost use Rattle.fq_model.specs.Keys.{keys_at};
 ghost use Rattle.fq_model.specs.Rules.{IsLegal};
@@ -14,7 +15,7 @@ ghost use Rattle.sched_state.specs.Replies.{submit_reply, take_reply, change_rep
 
 use circular_buffer::HeapCircularBuffer;
 use fq_model::config::Checked;
-use fq_model::event::{Cause, Entry};
+use fq_model::event::{Cause, Due, Entry};
 use fq_model::job::Job;
 use fq_model::limits::GREATEST_VIRTUAL_TIME;
 use fq_model::parts::Status;
@@ -22,6 +23,7 @@ use sched_state::{AlreadyClosed, Core, Refused, Taken};
 use std::alloc::{AllocError, Global};
 use std::marker::Model;
 use tag_rules::chooser::Chooser;
+use tag_rules::foresees::Foresees;
 use tag_rules::parts::Keys;
 
 /// A scheduler and the last of its entries, as many as were asked for at its opening. Contracts see what they see of
@@ -251,6 +253,16 @@ impl<J: Job + Drop, X: Chooser> Recent<J, X> {
         ensures { result ≡ status_of self.now.scheduler.config (history_of self.now.scheduler.past) }
     {
         self.core.status()
+    }
+}
+
+impl<J: Job + Drop, X: Foresees> Recent<J, X> {
+    /// What a worker would find that asked for work at this moment. Nothing changes, and later calls may be at earlier
+    /// moments.
+    pub fn due(&self, moment: u64, worker: u32) -> Due
+        ensures { IsDue self.now.scheduler.config (history_of self.now.scheduler.past) moment worker result }
+    {
+        self.core.due(moment, worker)
     }
 }
 

@@ -1,13 +1,14 @@
 //! A chooser that goes through all keys.
-ghost use Rattle.std.specs.Prelude.{length};
+ghost use Rattle.std.specs.Prelude.{◌≡◌, ◌<◌, length};
+ghost use Rattle.tag_rules.specs.Tables.{turn_of};
 
-use crate::pass::Pass;
-use crate::scan::first_in;
 use fq_model::config::{Checked, Policy};
 use std::alloc::{AllocError, Global};
 use std::marker::Model;
 use tag_rules::chooser::Chooser;
+use tag_rules::foresees::{Foreseen, Foresees, foreseen_in};
 use tag_rules::parts::Keys;
+use tag_rules::scan::choice_in;
 use tag_rules::turn::Turn;
 
 /// Keeps the keys by tenant, and looks at each at a choice.
@@ -66,16 +67,28 @@ impl Chooser for PlainChooser {
 
     fn choose(&mut self, worker: u32, v: i128) -> Option<u32> {
         self.latest = v;
-        let turn = Turn {
+        let found = choice_in(self.turn(worker, v), &self.table)?;
+        Some(found.tenant)
+    }
+}
+
+impl Foresees for PlainChooser {
+    fn foresee(&self, worker: u32, v: i128) -> Foreseen {
+        foreseen_in(self.turn(worker, v), &self.table)
+    }
+}
+
+impl PlainChooser {
+    // Where a worker chooses at this virtual time, in steps.
+    fn turn(&self, worker: u32, v: i128) -> Turn
+        requires { worker < self.now.setting.workers }
+        ensures { result ≡ turn_of self.now.setting worker v }
+    {
+        Turn {
             policy: self.policy,
             workers: self.workers,
             worker,
             virtual_time: v,
-        };
-        let table = self.table.as_slice();
-        match first_in(Pass::Eligible, turn, table) {
-            Some(tenant) => Some(tenant),
-            None => first_in(Pass::Fallback, turn, table),
         }
     }
 }

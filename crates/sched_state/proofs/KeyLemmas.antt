@@ -102,21 +102,21 @@ choice_over at H K t k there back (inl a) = inl (record { has = there t k a.has;
 choice_over at H K t k there back (inr a) = inr (λ u l has. a.0 u l (back u l has), record { has = there t k a.1.has; passes = a.1.passes; first = λ u l ne has p. a.1.first u l ne (back u l has) p })
 
 module _ (C : Config) (P : History) (m : ℕ) (x : ChooserView) (l : IsLegal C P) (is : ChooserIs C P x) where
-  has_keys : (t : ℕ) (k : HeadKeys) → Has x.table t k → HasKeys C P m t k
+  pub has_keys : (t : ℕ) (k : HeadKeys) → Has x.table t k → HasKeys C P m t k
   has_keys t k has =
       let b : t < length x.table = slice_get_within x.table t (Some k) has in
       let e : Some (keys_at C P (last_moment P) t) ≡ Some (Some k) = sym (is.keys_are t (omega (arith, is.sized, b)) tt) ∙ has in
       let now : keys_at C P (last_moment P) t ≡ Some k = cc in
       keys_still C P m (last_moment P) t l ∙ now
 
-  keys_have : (t : ℕ) (k : HeadKeys) → HasKeys C P m t k → Has x.table t k
+  pub keys_have : (t : ℕ) (k : HeadKeys) → HasKeys C P m t k → Has x.table t k
   keys_have t k at = is.keys_are t (keys_tenant_known C P m t k l at) tt ∙ ap Some (keys_still C P (last_moment P) m t l ∙ at)
 
   -- a worker that is known is one of the setting
   pub worker_in : (i : ℕ) → i < pool_at C P → i < x.setting.workers
   worker_in i known = subst (λ (s : Setting). i < s.workers) (sym is.setting_is) known
 
-  same_turn : (i : ℕ) (v : ℤ) → v ≡ pos (virtual_time C P m) → turn_of x.setting i v ≡ turn_at C P m i
+  pub same_turn : (i : ℕ) (v : ℤ) → v ≡ pos (virtual_time C P m) → turn_of x.setting i v ≡ turn_at C P m i
   same_turn i v e = rw (is.setting_is, e) refl
 
   -- what is chosen over the table is the choice

@@ -8,3 +8,4 @@ pub mod KeyLemmas
 pub mod TrackerLemmas
 pub mod CallLemmas
 pub mod KeptLemmas
+pub mod DueLemmas

@@ -2,6 +2,8 @@
 use Rattle.std.specs.Prelude.{ℕ, ◌≡◌, Result, Ok, Err, Some}
 use Rattle.std.specs.FinMap as map
 use Rattle.fq_model.specs.declared.event.Call.{Call}
+use Rattle.fq_model.specs.declared.event.Due.{Due}
+use Rattle.fq_model.specs.declared.event.Due.TheVariants as due
 use Rattle.fq_model.specs.declared.event.Reply.{Reply}
 use Rattle.fq_model.specs.declared.event.Reply.TheVariants as answer
 use Rattle.fq_model.specs.declared.event.Cause.{Cause}
@@ -26,6 +28,13 @@ take_reply label (taken.Retired workers) = answer.Retired workers
 take_reply label (taken.Run request estimate job) = answer.Run request estimate (label job)
 take_reply label taken.Drained = answer.Drained
 take_reply label taken.Idle = answer.Idle
+
+-- what a worker would find that would be told this in place of work
+abbrev pub due_by : {J : Type 0} → Taken J → Due
+due_by (taken.UnknownWorker worker) = due.Refused (cause.Worker worker)
+due_by (taken.Busy request) = due.Refused (cause.Busy request)
+due_by (taken.Retired workers) = due.Retired workers
+due_by _ = due.Nothing
 
 -- of a Report, a Done, a Weight and a Workers
 abbrev pub change_reply : Result (Unit {0}) Cause → Reply

@@ -1,6 +1,8 @@
 //! What the calls of a scheduler give.
+ghost use Rattle.std.specs.Prelude.{◌≡◌};
+ghost use Rattle.sched_state.specs.Replies.{due_by};
 
-use fq_model::event::Cause;
+use fq_model::event::{Cause, Due};
 use std::error::Error;
 use std::fmt;
 
@@ -46,4 +48,16 @@ pub enum Taken<J> {
     Drained,
     /// Nothing waits now; more may come.
     Idle,
+}
+
+/// What a worker would find that asked for work, and would be told this in place of work.
+pub fn due_of<J: Drop>(told: Taken<J>) -> Due
+    ensures { result ≡ due_by told }
+{
+    match told {
+        Taken::UnknownWorker(worker) => Due::Refused(Cause::Worker(worker)),
+        Taken::Busy(request) => Due::Refused(Cause::Busy(request)),
+        Taken::Retired(workers) => Due::Retired(workers),
+        Taken::Run { .. } | Taken::Drained | Taken::Idle => Due::Nothing,
+    }
 }

@@ -2,6 +2,7 @@
 ghost use Rattle.std.specs.Prelude.{ℕ, ◌≡◌, ◌<◌, ◌≤◌, [], IfOk, IfErr, OnErr, length, pos, ◌≤ℤ◌, vec_capacity};
 ghost use Rattle.std.specs.FinMap as map;
 ghost use Rattle.fq_model.specs.declared.event.Call.TheVariants as call;
+ghost use Rattle.fq_model.specs.Due.{IsDue};
 ghost use Rattle.fq_model.specs.History.{history_of, pool_at};
 ghost use Rattle.fq_model.specs.Keys.{keys_at};
 ghost use Rattle.fq_model.specs.Rules.{IsLegal};
@@ -18,7 +19,7 @@ use crate::replies::{AlreadyClosed, Refused, Taken};
 use crate::scheduler_core::Core;
 use charge_book::row::RunRow;
 use fq_model::config::Checked;
-use fq_model::event::{Cause, Entry};
+use fq_model::event::{Cause, Due, Entry};
 use fq_model::job::Job;
 use fq_model::limits::GREATEST_VIRTUAL_TIME;
 use fq_model::parts::Status;
@@ -26,6 +27,7 @@ use sched_journal::History;
 use std::alloc::{AllocError, Global};
 use std::marker::Model;
 use tag_rules::chooser::Chooser;
+use tag_rules::foresees::Foresees;
 use tag_rules::parts::Keys;
 
 /// One history, from its opening on, and the jobs of the requests that wait in it. Contracts see the entries in
@@ -238,6 +240,16 @@ impl<J: Job + Drop, X: Chooser> Scheduler<J, X> {
         ensures { result ≡ status_of self.now.config (history_of self.now.past) }
     {
         self.core.status()
+    }
+}
+
+impl<J: Job + Drop, X: Foresees> Scheduler<J, X> {
+    /// What a worker would find that asked for work at this moment. Nothing changes, and later calls may be at earlier
+    /// moments.
+    pub fn due(&self, moment: u64, worker: u32) -> Due
+        ensures { IsDue self.now.config (history_of self.now.past) moment worker result }
+    {
+        self.core.due(moment, worker)
     }
 }
 

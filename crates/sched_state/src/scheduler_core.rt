@@ -2,6 +2,7 @@
 ghost use Rattle.std.specs.Prelude.{ℕ, ◌≡◌, ◌<◌, ◌≤◌, [], IfOk, IfErr, OnErr, length, pos, ◌≤ℤ◌};
 ghost use Rattle.std.specs.FinMap as map;
 ghost use Rattle.fq_model.specs.declared.event.Call.TheVariants as call;
+ghost use Rattle.fq_model.specs.Due.{IsDue};
 ghost use Rattle.fq_model.specs.History.{history_of, pool_at};
 ghost use Rattle.fq_model.specs.Keys.{keys_at};
 ghost use Rattle.fq_model.specs.Rules.{IsLegal};
@@ -15,11 +16,11 @@ ghost use Rattle.sched_state.specs.Scheduler.{virtual_time_now};
 ghost use Rattle.sched_state.specs.Replies.{submit_reply, take_reply, change_reply, withdraw_reply, close_reply, AnswersCall, HandsOut, HandsBack};
 
 use crate::refusals;
-use crate::replies::{AlreadyClosed, Refused, Taken};
+use crate::replies::{AlreadyClosed, Refused, Taken, due_of};
 use crate::tracker::Tracker;
 use charge_book::row::RunRow;
 use fq_model::config::Checked;
-use fq_model::event::{Act, Cause, Entry};
+use fq_model::event::{Act, Cause, Due, Entry};
 use fq_model::job::Job;
 use fq_model::limits::GREATEST_VIRTUAL_TIME;
 use fq_model::parts::Status;
@@ -27,6 +28,7 @@ use sched_journal::Ledger;
 use std::alloc::{AllocError, Global};
 use std::marker::Model;
 use tag_rules::chooser::Chooser;
+use tag_rules::foresees::Foresees;
 use tag_rules::parts::Keys;
 use waiting_lists::item::Item;
 
@@ -317,6 +319,19 @@ impl<J: Job + Drop, X: Chooser> Core<J, X> {
             vtime: self.tracker.times().now(),
             waiting: self.tracker.lists().len(),
             running: self.journal.running(),
+        }
+    }
+}
+
+impl<J: Job + Drop, X: Foresees> Core<J, X> {
+    /// What a worker would find that asked for work at this moment. Nothing changes, and later calls may be at earlier
+    /// moments.
+    pub fn due(&self, moment: u64, worker: u32) -> Due
+        ensures { IsDue self.now.config (history_of self.now.past) moment worker result }
+    {
+        match refusals::take(&self.journal, &self.tracker, worker) {
+            Some(told) => due_of(told),
+            None => self.tracker.due(&self.journal, moment, worker),
         }
     }
 }

@@ -3,12 +3,14 @@ ghost use Rattle.std.specs.Prelude.{◌≡◌, ◌<◌, [], Some, IfOk, length, 
 ghost use Rattle.std.specs.FinMap as map;
 ghost use Rattle.fq_model.specs.declared.event.Act.TheVariants as act;
 ghost use Rattle.fq_model.specs.History.{History, request_at};
-ghost use Rattle.fq_model.specs.Time.{last_moment};
+ghost use Rattle.fq_model.specs.Due.{IsDueOfWaiting};
+ghost use Rattle.fq_model.specs.Time.{last_moment, effective_moment};
 ghost use Rattle.fq_model.specs.Keys.{keys_at, start};
 ghost use Rattle.fq_model.specs.Rules.{label_of};
 ghost use Rattle.charge_book.specs.Book.{MayUse};
 ghost use Rattle.sched_journal.specs.Journal.{history, MayGain};
 ghost use Rattle.sched_state.specs.Lists.{jobs_in};
+ghost use Rattle.sched_state.specs.Refusals.{GetsWork};
 ghost use Rattle.sched_state.specs.Tracker.{Mirrors, Tracks, TracksBut, TracksSomeBut, TracksAfter, submit_act, MayBegin, Begins, raised_first};
 
 use charge_book::book::Book;
@@ -16,12 +18,14 @@ use charge_book::row::RunRow;
 use cost_estimate::any::AnyCost;
 use cost_estimate::estimate::Estimate;
 use fq_model::config::{Checked, Policy};
+use fq_model::event::Due;
 use fq_model::job::Job;
 use fq_model::limits::GREATEST_VIRTUAL_TIME;
 use sched_journal::Ledger;
 use std::alloc::{AllocError, Global};
 use tag_rules::accounts::Accounts;
 use tag_rules::chooser::Chooser;
+use tag_rules::foresees::{Foreseen, Foresees};
 use tag_rules::keys::keys;
 use tag_rules::parts::Keys;
 use virtual_clock::times::Times;
@@ -229,6 +233,31 @@ impl<J: Job + Drop, X: Chooser> Tracker<J, X> {
             Policy::Msf2q => self.accounts.credit(tenant) + self.times.idle(tenant),
             Policy::Wfq | Policy::Wf2q | Policy::TwoDfq | Policy::TwoDfqPlus => {
                 self.accounts.tag(tenant)
+            }
+        }
+    }
+}
+
+impl<J: Job + Drop, X: Foresees> Tracker<J, X> {
+    /// What a worker would find that asked for work at this moment, in microseconds, and would get some. Nothing
+    /// changes.
+    pub fn due(&self, journal: &Ledger, moment: u64, worker: u32) -> Due
+        requires tracked { Tracks J.label_of X.seen journal.now.config (history journal.now) self.now }
+        requires gets { GetsWork journal.now.config (history journal.now) worker }
+        ensures { IsDueOfWaiting journal.now.config (history journal.now)
+            (effective_moment (history journal.now) moment) worker result }
+    {
+        let v = self.times.at(journal.effective(moment));
+        match self.chooser.foresee(worker, v) {
+            Foreseen::Nothing => Due::Nothing,
+            Foreseen::Eligible => Due::Eligible,
+            Foreseen::Early(tenant) => {
+                let item = self.lists.head(tenant).unwrap();
+                let estimate = self.costs.now(tenant, item.kind, item.declared);
+                Due::Early {
+                    request: item.request,
+                    estimate,
+                }
             }
         }
     }

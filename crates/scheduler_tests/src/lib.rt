@@ -12,6 +12,8 @@ mod choosers;
 #[cfg(test)]
 mod clock_tests;
 #[cfg(test)]
+mod due_tests;
+#[cfg(test)]
 mod estimate_tests;
 #[cfg(test)]
 mod fitted_tests;

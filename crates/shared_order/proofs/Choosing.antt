@@ -4,13 +4,16 @@ use Rattle.std.specs.List.{All, Contains}
 use Rattle.std.proofs.lemmas.Int.{ints}
 use Rattle.std.proofs.lemmas.List.Elements.{All-contains, Contains-append_cases}
 use Rattle.vt_fixed.specs.declared.limits.TheConstants.{GREATEST_LENGTH}
-use Rattle.fq_model.specs.Keys.{HeadKeys, Turn, finish, eligible_key, IsEligible, FinishBefore, EligibleBefore, IsFirst, Every, IsChoice}
+use Rattle.fq_model.specs.Keys.{HeadKeys, Turn, finish, eligible_key, IsEligible, FinishBefore, EligibleBefore, IsFirst, Every, IsChoice, NoneIsEligible}
 use Rattle.tag_rules.specs.Tables.{Table, Has, NoneHas}
+use Rattle.tag_rules.specs.Foreseen.{IsForeseenOver}
+use Rattle.tag_rules.specs.declared.foresees.Foreseen.{Foreseen}
+use Rattle.tag_rules.specs.declared.foresees.Foreseen.TheVariants.{Nothing, Eligible, Early}
 use Rattle.shared_order.specs.Reach.{key_by_finish, IsInReach}
 use Rattle.shared_order.proofs.Reach.{eligible_in_reach, key_by_its_finish}
 use Rattle.shared_order.specs.Heads.{HeadView, head_of, HeadBefore, IsSorted}
 use Rattle.shared_order.specs.Search.{IsReached, key_of, IsSooner, IsFirstThat, IsLeast}
-use Rattle.shared_order.specs.Mirrors.{keys_of, Mirrors, IsChosen}
+use Rattle.shared_order.specs.Mirrors.{keys_of, Mirrors, IsChosen, IsOutlook}
 use Rattle.shared_order.proofs.Pieces.{back_pairs, across_pairs, holds_middle}
 use Rattle.shared_order.proofs.Mirroring.{among}
 
@@ -79,17 +82,29 @@ by_key at table heads h lt m l =
           ];
     }
 
+none_eligible : (at : Turn) (table : Table) (heads : List HeadView) → at.worker < at.workers → Mirrors table heads → All (λ (x : HeadView). ¬ IsReached at x) heads → NoneIsEligible at (Has table)
+none_eligible at table heads lt m none = λ u k has eligible.
+    let other : Contains heads (head_of u k) = m.held u k has in
+    All-contains (λ (x : HeadView). ¬ IsReached at x) heads (head_of u k) none other (is_reached at u k lt (low table heads (head_of u k) m other) eligible)
+
 pub chosen : (at : Turn) (table : Table) (heads : List HeadView) (h : HeadView) → at.worker < at.workers → Mirrors table heads → IsSorted heads → IsChosen at heads h → IsChoice at (Has table) h.tenant (keys_of h)
 chosen at table heads h lt m sorted (inl first) = inl (by_finish at table heads h lt m sorted first)
-chosen at table heads h lt m sorted (inr least) = inr (
-  λ u k has eligible.
-      let other : Contains heads (head_of u k) = m.held u k has in
-      All-contains (λ (x : HeadView). ¬ IsReached at x) heads (head_of u k) least.0 other (is_reached at u k lt (low table heads (head_of u k) m other) eligible),
-  by_key at table heads h lt m least.1,
-)
+chosen at table heads h lt m sorted (inr least) = inr (none_eligible at table heads lt m least.0, by_key at table heads h lt m least.1)
 
 pub none_chosen : (table : Table) (heads : List HeadView) → Mirrors table heads → heads ≡ [] → NoneHas table
 none_chosen table heads m is = λ t k has. nothing (head_of t k) (subst (λ (xs : List HeadView). Contains xs (head_of t k)) is (m.held t k has))
   where
     nothing : (h : HeadView) → ¬ Contains [] h
     nothing h there = absurd (omega (arith, there.1))
+
+-- ---- what is foreseen
+
+pub foreseen : (at : Turn) (table : Table) (heads : List HeadView) (found : Foreseen) → at.worker < at.workers → Mirrors table heads → IsSorted heads → IsOutlook at heads found → IsForeseenOver at table found
+foreseen at table heads Nothing lt m sorted is = none_chosen table heads m is
+foreseen at table heads Eligible lt m sorted o =
+    let first = by_finish at table heads o.0 lt m sorted o.1 in
+    record { tenant = o.0.tenant; keys = keys_of o.0; has = first.has; eligible = first.passes }
+foreseen at table heads (Early t) lt m sorted o = (
+  none_eligible at table heads lt m o.1.1.0,
+  (keys_of o.0, subst (λ u. IsChoice at (Has table) u (keys_of o.0)) o.1.0 (chosen at table heads o.0 lt m sorted (inr o.1.1))),
+)

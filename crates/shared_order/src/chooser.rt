@@ -6,11 +6,12 @@ ghost use Rattle.shared_order.specs.Heads.{head_of, Gains};
 
 use crate::head::Head;
 use crate::order::Order;
-use crate::search::choice;
+use crate::search::{choice, outlook};
 use fq_model::config::{Checked, Policy};
 use std::alloc::{AllocError, Global};
 use std::marker::Model;
 use tag_rules::chooser::Chooser;
+use tag_rules::foresees::{Foreseen, Foresees};
 use tag_rules::parts::Keys;
 use tag_rules::turn::Turn;
 
@@ -89,6 +90,19 @@ impl Chooser for SharedChooser {
         };
         let head = choice(turn, self.order.blocks())?;
         Some(head.tenant)
+    }
+}
+
+impl Foresees for SharedChooser {
+    /// Looks for the head that becomes eligible soonest, as a choice does where none is eligible.
+    fn foresee(&self, worker: u32, v: i128) -> Foreseen {
+        let turn = Turn {
+            policy: self.policy,
+            workers: self.workers,
+            worker,
+            virtual_time: v,
+        };
+        outlook(turn, self.order.blocks())
     }
 }
 

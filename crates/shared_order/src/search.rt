@@ -4,12 +4,13 @@ ghost use Rattle.std.specs.List.{All};
 ghost use Rattle.shared_order.specs.Reach.{key_by_finish, Reaches, IsInReach};
 ghost use Rattle.shared_order.specs.Blocks.{all_heads};
 ghost use Rattle.shared_order.specs.Search.{AreInRange, AreInOrder, AreInLimits, IsReached, IsSooner, IsFirstThat, IsLeast, TakesSoonest};
-ghost use Rattle.shared_order.specs.Mirrors.{IsChosen};
+ghost use Rattle.shared_order.specs.Mirrors.{IsChosen, IsOutlook};
 
 use crate::block::Block;
 use crate::head::Head;
 use fq_model::config::Policy;
 use fq_model::limits::{GREATEST_LENGTH, GREATEST_START};
+use tag_rules::foresees::Foreseen;
 use tag_rules::turn::Turn;
 use vt_fixed::part;
 
@@ -23,6 +24,21 @@ pub fn choice(turn: Turn, blocks: &[Block]) -> Option<Head>
     match first_eligible(turn, blocks) {
         Some(head) => Some(head),
         None => soonest(turn, blocks),
+    }
+}
+
+/// What the worker would find: it stops at the first eligible head.
+pub fn outlook(turn: Turn, blocks: &[Block]) -> Foreseen
+    requires begun { pos 0 ≤ℤ turn.virtual_time }
+    requires in_order { AreInOrder (all_heads blocks.now) }
+    ensures { IsOutlook turn (all_heads blocks.now) result }
+{
+    if first_eligible(turn, blocks).is_some() {
+        return Foreseen::Eligible;
+    }
+    match soonest(turn, blocks) {
+        Some(head) => Foreseen::Early(head.tenant),
+        None => Foreseen::Nothing,
     }
 }
 

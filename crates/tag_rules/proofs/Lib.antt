@@ -1,3 +1,5 @@
 pub mod AccountSteps
 pub mod Ranges
 pub mod Comparing
+pub mod Scanning
+pub mod Soonest

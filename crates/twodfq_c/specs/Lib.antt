@@ -5,3 +5,4 @@ pub mod Answering
 pub mod Entries
 pub mod Opening
 pub mod Statuses
+pub mod Finding

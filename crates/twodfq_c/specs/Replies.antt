@@ -2,6 +2,8 @@
 use Rattle.std.specs.Prelude.{ℕ}
 use Rattle.fq_model.specs.declared.event.Cause.{Cause}
 use Rattle.fq_model.specs.declared.event.Cause.TheVariants as cause
+use Rattle.fq_model.specs.declared.event.Due.{Due}
+use Rattle.fq_model.specs.declared.event.Due.TheVariants as due
 use Rattle.fq_model.specs.declared.event.Reply.{Reply}
 use Rattle.fq_model.specs.declared.event.Reply.TheVariants as answer
 use Rattle.twodfq_c.specs.declared.reply.PlainReply.{PlainReply}
@@ -42,3 +44,11 @@ plain_reply answer.Drained = numbered 4 0 0
 plain_reply (answer.Retired workers) = numbered 5 workers 0
 plain_reply (answer.Withdrawn label) = numbered 6 0 label
 plain_reply (answer.Refused why) = plain_cause why
+
+-- what a worker would find
+abbrev pub plain_due : Due → PlainReply
+plain_due due.Nothing = numbered 7 0 0
+plain_due due.Eligible = numbered 8 0 0
+plain_due (due.Early request estimate) = requested 9 request estimate 0
+plain_due (due.Retired workers) = numbered 5 workers 0
+plain_due (due.Refused why) = plain_cause why

@@ -2,6 +2,7 @@
 ghost use Rattle.std.specs.Prelude.{◌≡◌, Some, None, is_some, option_map};
 ghost use Rattle.twodfq_c.specs.Answering.{AnswersHeld};
 ghost use Rattle.twodfq_c.specs.Entries.{ReadsHeld};
+ghost use Rattle.twodfq_c.specs.Finding.{FindsHeld};
 ghost use Rattle.twodfq_c.specs.Statuses.{TellsHeld};
 
 use crate::entry::PlainEntry;
@@ -66,6 +67,19 @@ impl Handle {
         let reply = answer(&mut served, call);
         *self = Handle::holding(served);
         PlainReply::of(reply)
+    }
+
+    /// What a worker would find that asked for work at this moment.
+    pub(crate) fn due(&mut self, alloc: Global, moment: u64, worker: u32) -> PlainReply
+        ensures due { FindsHeld self.old.slot.held moment worker result }
+        ensures unchanged { self.new.slot.held ≡ self.old.slot.held }
+    {
+        let Some(held) = self.take(alloc) else {
+            return PlainReply::no_scheduler();
+        };
+        let due = held.due(moment, worker);
+        *self = Handle::holding(held);
+        PlainReply::of_due(due)
     }
 
     /// Reads the entry with this index, if it is kept.

@@ -5,6 +5,7 @@
 ghost use Rattle.std.specs.Prelude.{◌≡◌, None};
 ghost use Rattle.fq_model.specs.declared.event.Call.TheVariants as call;
 ghost use Rattle.twodfq_c.specs.Answering.{AnswersHeld};
+ghost use Rattle.twodfq_c.specs.Finding.{FindsHeld};
 ghost use Rattle.twodfq_c.specs.Opening.{Opens};
 ghost use Rattle.twodfq_c.specs.Entries.{ReadsHeld};
 ghost use Rattle.twodfq_c.specs.Statuses.{TellsHeld};
@@ -195,6 +196,20 @@ pub extern "C" fn twodfq_withdraw(
         request,
     };
     handle.call(alloc, call)
+}
+
+/// What a worker would find that asked for work at this moment; nothing changes.
+#[unsafe(no_mangle)]
+pub extern "C" fn twodfq_due(
+    handle: &mut Handle,
+    alloc: Global,
+    moment: u64,
+    worker: u32,
+) -> PlainReply
+    ensures due { FindsHeld handle.old.slot.held moment worker result }
+    ensures unchanged { handle.new.slot.held ≡ handle.old.slot.held }
+{
+    handle.due(alloc, moment, worker)
 }
 
 /// Reads one entry of the history, if it is among the last that are kept; the first of all has the index 0.

@@ -1,10 +1,10 @@
 //! Replies in plain numbers.
 ghost use Rattle.std.specs.Prelude.{◌≡◌};
-ghost use Rattle.twodfq_c.specs.Replies.{plain_reply, plain_cause, requested, numbered, no_scheduler};
+ghost use Rattle.twodfq_c.specs.Replies.{plain_reply, plain_due, plain_cause, requested, numbered, no_scheduler};
 
-use fq_model::event::{Cause, Reply};
+use fq_model::event::{Cause, Due, Reply};
 
-/// A reply to a call: its kind, and the numbers that come with it, 0 where none does.
+/// A reply to a call, or what a worker would find: its kind, and the numbers that come with it, 0 where none does.
 ///
 /// | kind | reply | request | first | second |
 /// |---|---|---|---|---|
@@ -13,6 +13,8 @@ use fq_model::event::{Cause, Reply};
 /// | 2, 3, 4 | accepted, idle, drained | | | |
 /// | 5 | retired | | workers now | |
 /// | 6 | withdrawn | | | label |
+/// | 7, 8 | found: nothing waits; some head is eligible | | | |
+/// | 9 | found: no head is eligible, and this one would be taken | its number | estimate, in microseconds | |
 /// | 16 | refused: closed | | | |
 /// | 17, 18 | refused: no such tenant, kind | | the number given | |
 /// | 19 | refused: cost out of its range | | the cost given | |
@@ -63,6 +65,24 @@ impl PlainReply {
             Reply::Retired(workers) => numbered(5, workers as u64, 0),
             Reply::Withdrawn { label } => numbered(6, 0, label),
             Reply::Refused(cause) => refused(cause),
+        }
+    }
+
+    /// What a worker would find, in numbers.
+    pub(crate) fn of_due(due: Due) -> PlainReply
+        ensures { result ≡ plain_due due }
+    {
+        match due {
+            Due::Nothing => numbered(7, 0, 0),
+            Due::Eligible => numbered(8, 0, 0),
+            Due::Early { request, estimate } => PlainReply {
+                kind: 9,
+                request,
+                first: estimate,
+                second: 0,
+            },
+            Due::Retired(workers) => numbered(5, workers as u64, 0),
+            Due::Refused(cause) => refused(cause),
         }
     }
 }

@@ -1,5 +1,5 @@
 use crate::{
-    Handle, Opening, twodfq_close, twodfq_done, twodfq_entry, twodfq_free, twodfq_open,
+    Handle, Opening, twodfq_close, twodfq_done, twodfq_due, twodfq_entry, twodfq_free, twodfq_open,
     twodfq_report, twodfq_status, twodfq_submit, twodfq_take, twodfq_weight, twodfq_withdraw,
     twodfq_workers,
 };
@@ -79,6 +79,37 @@ fn a_request_is_withdrawn(rt: HostRuntime) -> Result<(), Fail> {
     assert_eq!(rt; (run.kind, run.request), (1, 1));
     let entry = twodfq_entry(&mut handle, rt.alloc(), 2);
     assert_eq!(rt; (entry.kind, entry.who, entry.request), (7, 5, 0));
+    twodfq_free(&mut handle, rt.alloc());
+    Ok(())
+}
+
+// What a worker would find, of each kind. With one tenant of weight 1 virtual time goes at 2 units a microsecond. The
+// second request starts at 10 and has the length 10, so worker 1 of 2 may take it from 5 on.
+#[test]
+fn what_a_worker_would_find(rt: HostRuntime) -> Result<(), Fail> {
+    let mut handle = Handle::empty();
+    assert_eq!(rt; twodfq_due(&mut handle, rt.alloc(), 0, 0).kind, 255);
+    assert_eq!(rt; twodfq_open(&mut handle, rt.alloc(), &OPENING, &[1]), 0);
+    assert_eq!(rt; twodfq_due(&mut handle, rt.alloc(), 0, 0).kind, 7);
+    let unknown = twodfq_due(&mut handle, rt.alloc(), 0, 2);
+    assert_eq!(rt; (unknown.kind, unknown.first), (22, 2));
+    for label in [77, 78] {
+        assert_eq!(rt;
+            twodfq_submit(&mut handle, rt.alloc(), 5, 0, 0, 0, 10, label).kind,
+            0
+        );
+    }
+    assert_eq!(rt; twodfq_due(&mut handle, rt.alloc(), 0, 0).kind, 8);
+    assert_eq!(rt; twodfq_take(&mut handle, rt.alloc(), 9, 0, 0).kind, 1);
+    let busy = twodfq_due(&mut handle, rt.alloc(), 0, 0);
+    assert_eq!(rt; (busy.kind, busy.request), (23, 0));
+    assert_eq!(rt; twodfq_due(&mut handle, rt.alloc(), 3, 1).kind, 8);
+    let early = twodfq_due(&mut handle, rt.alloc(), 2, 1);
+    assert_eq!(rt; (early.kind, early.request), (9, 1));
+    assert_eq!(rt; (early.first, early.second), (10, 0));
+    assert_eq!(rt; twodfq_workers(&mut handle, rt.alloc(), 5, 0, 1).kind, 2);
+    let retired = twodfq_due(&mut handle, rt.alloc(), 0, 1);
+    assert_eq!(rt; (retired.kind, retired.first), (5, 1));
     twodfq_free(&mut handle, rt.alloc());
     Ok(())
 }

@@ -1,8 +1,8 @@
-use Rattle.rival_policies.specs.Passes.{GoesIn, BeforeIn}
+use Rattle.tag_rules.specs.Passes.{GoesIn, BeforeIn}
 use Rattle.tag_rules.proofs.Comparing.{not_so}
-use Rattle.rival_policies.proofs.Scanning.{order_in, takes_new, takes_old, takes_none}
-use Rattle.rival_policies.proofs.scan.with_next.Goals as goal
-use Rattle.rival_policies.proofs.scan.with_next.Goals.{else-comes_first-via-then-comes_first+else-takes, else-comes_first-via-else-comes_first}
+use Rattle.tag_rules.proofs.Scanning.{order_in, takes_new, takes_old, takes_none}
+use Rattle.tag_rules.proofs.scan.with_next.Goals as goal
+use Rattle.tag_rules.proofs.scan.with_next.Goals.{else-comes_first-via-then-comes_first+else-takes, else-comes_first-via-else-comes_first}
 
 pub returns-then-takes : goal.returns-then-takes
 returns-then-takes c = takes_new (GoesIn c.args.pass c.args.turn) (BeforeIn c.args.pass c.args.turn) c.args.first c.args.next (order_in c.args.pass c.args.turn) (c.takes.ensures.0 c.if-takes.true) (c.comes_first.ensures.0 c.if-comes_first.true)

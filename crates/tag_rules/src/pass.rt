@@ -1,9 +1,9 @@
 //! The two passes of a choice.
 ghost use Rattle.std.specs.Prelude.{◌↔◌, IsTrue};
-ghost use Rattle.rival_policies.specs.Passes.{GoesIn, BeforeIn};
+ghost use Rattle.tag_rules.specs.Passes.{GoesIn, BeforeIn};
 
-use tag_rules::parts::Keys;
-use tag_rules::turn::{Turn, finishes_before};
+use crate::parts::Keys;
+use crate::turn::{Turn, finishes_before};
 
 /// A pass over the tenants' heads. The second is made where the first finds none.
 #[derive(Clone, Copy, Debug, PartialEq, Eq)]

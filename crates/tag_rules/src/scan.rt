@@ -1,23 +1,38 @@
 //! The first of the tenants in a table.
 ghost use Rattle.std.specs.Prelude.{◌≤◌, ◌↔◌, length, IsTrue, IfSome, IfNone};
-ghost use Rattle.tag_rules.specs.Tables.{RequestsDiffer};
-ghost use Rattle.rival_policies.specs.Passes.{GoesIn, BeforeIn, IsFirstIn, NoneGoesIn};
-ghost use Rattle.rival_policies.specs.Scan.{TakesIn, ComesFirst};
+ghost use Rattle.fq_model.specs.Keys.{IsChoice};
+ghost use Rattle.tag_rules.specs.Tables.{Has, NoneHas, RequestsDiffer};
+ghost use Rattle.tag_rules.specs.Passes.{GoesIn, BeforeIn, IsFirstIn, NoneGoesIn};
+ghost use Rattle.tag_rules.specs.Scan.{TakesIn, ComesFirst};
 
+use crate::parts::Keys;
 use crate::pass::Pass;
+use crate::turn::Turn;
 use fq_model::limits::MOST_TENANTS;
-use tag_rules::parts::Keys;
-use tag_rules::turn::Turn;
 
-/// A tenant that has a head.
+/// A tenant that has a head, and the keys of that.
 #[derive(Clone, Copy, Debug, PartialEq, Eq)]
-struct Found {
-    tenant: u32,
-    keys: Keys,
+pub struct Found {
+    pub tenant: u32,
+    pub keys: Keys,
+}
+
+/// The head that a worker takes, of those of a table: of the eligible ones the first by finish, or, where none is
+/// eligible, the first of all by eligible key. Each is looked at.
+pub fn choice_in(turn: Turn, table: &[Option<Keys>]) -> Option<Found>
+    requires few { length table.now ≤ MOST_TENANTS }
+    requires differ { RequestsDiffer table.now }
+    ensures chosen { IfSome result (λ f. IsChoice turn (Has table.now) f.tenant f.keys) }
+    ensures none { IfNone result (NoneHas table.now) }
+{
+    match first_in(Pass::Eligible, turn, table) {
+        Some(found) => Some(found),
+        None => first_in(Pass::Fallback, turn, table),
+    }
 }
 
 /// Of the tenants whose heads go in the pass, the one whose head is first by it.
-pub fn first_in(pass: Pass, turn: Turn, table: &[Option<Keys>]) -> Option<u32>
+pub fn first_in(pass: Pass, turn: Turn, table: &[Option<Keys>]) -> Option<Found>
     requires few { length table.now ≤ MOST_TENANTS }
     requires differ { RequestsDiffer table.now }
     ensures first { IfSome result (IsFirstIn pass turn table.now) }
@@ -33,7 +48,7 @@ pub fn first_in(pass: Pass, turn: Turn, table: &[Option<Keys>]) -> Option<u32>
             first = with_next(pass, turn, first, found);
         }
     }
-    first.map(|found| found.tenant)
+    first
 }
 
 // The first of those that go in the pass, the next tenant with them.

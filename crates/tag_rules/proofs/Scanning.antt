@@ -4,11 +4,11 @@ use Rattle.std.proofs.lemmas.Bool.{cases_eq}
 use Rattle.fq_model.specs.Keys.{HeadKeys, Turn}
 use Rattle.fq_laws.proofs.Keys.Choices.{IsOrder, by_finish, by_eligible}
 use Rattle.tag_rules.specs.Tables.{Table, Has}
-use Rattle.rival_policies.specs.declared.pass.Pass.{Pass}
-use Rattle.rival_policies.specs.declared.pass.Pass.TheVariants.{Eligible, Fallback}
-use Rattle.rival_policies.specs.Passes.{BeforeIn}
-use Rattle.rival_policies.specs.Scan.{IsFirstBelow, TakesIn, ComesFirst}
-use Rattle.rival_policies.specs.declared.scan.Found.{Found}
+use Rattle.tag_rules.specs.declared.pass.Pass.{Pass}
+use Rattle.tag_rules.specs.declared.pass.Pass.TheVariants.{Eligible, Fallback}
+use Rattle.tag_rules.specs.Passes.{BeforeIn}
+use Rattle.tag_rules.specs.Scan.{IsFirstBelow, TakesIn, ComesFirst}
+use Rattle.tag_rules.specs.declared.scan.Found.{Found}
 
 -- each pass has an order
 pub order_in : (pass : Pass) (at : Turn) → IsOrder (BeforeIn pass at)

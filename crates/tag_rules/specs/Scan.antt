@@ -2,7 +2,7 @@
 use Rattle.std.specs.Prelude.{ℕ, ◌+◌, ◌<◌, ◌≢◌, Option, Some, None}
 use Rattle.fq_model.specs.Keys.{HeadKeys}
 use Rattle.tag_rules.specs.Tables.{Table, Has, RequestsDiffer}
-use Rattle.rival_policies.specs.declared.scan.Found.{Found}
+use Rattle.tag_rules.specs.declared.scan.Found.{Found}
 
 -- of the tenants below n whose keys pass, t has the first
 pub record LeadsBelow (Passes : HeadKeys → Type 0) (Before : HeadKeys → HeadKeys → Type 0) (table : Table) (n t : ℕ) (k : HeadKeys) : Type 0 where

@@ -1,0 +1,32 @@
+//! What a worker would find, asked at a desk.
+ghost use Rattle.std.specs.Prelude.{◌≡◌};
+ghost use Rattle.history_lock.specs.Passes.{IsOf};
+ghost use Rattle.desk.specs.Tokens.{Stays};
+ghost use Rattle.desk.specs.Found.{IsFound};
+
+use crate::desk::DeskOf;
+use crate::floor::Floor;
+use crate::tokens::Worker;
+use crate::told::AskDue;
+use fq_model::event::Due;
+use fq_model::job::Job;
+use std::sync::Wait;
+use tag_rules::foresees::Foresees;
+
+impl<J: Job + Drop, X: Foresees> DeskOf<Floor<J, X>> {
+    /// What the worker would find if it asked for work at this moment. It waits for its turn, takes no memory, and
+    /// changes nothing.
+    pub fn due<R: Wait>(&self, rt: &R, worker: &mut Worker, moment: u64) -> Due
+        requires { IsOf self.now.lock worker.old.pass }
+        ensures stays { Stays self.now.lock worker.old.pass worker.new.pass }
+        ensures found { IsFound self.now.lock.frame worker.old.pass moment worker.old.worker result worker.new.pass }
+        ensures worker { worker.new.worker ≡ worker.old.worker }
+    {
+        let number = worker.worker;
+        let question = AskDue {
+            moment,
+            worker: number,
+        };
+        self.lock.inspect(rt, &mut worker.pass, question)
+    }
+}

@@ -1,0 +1,280 @@
+use eligible_index::index::IndexChooser;
+use fitted_chooser::chooser::ProgramChooser;
+use fq_model::config::{Checked, Policy};
+use fq_model::event::{Call, Cause, Due, Reply};
+use rival_policies::plain::PlainChooser;
+use sched_state::{Scheduler, answer};
+use shared_order::chooser::SharedChooser;
+use std::alloc::Global;
+use std::process::Abort;
+use tag_rules::foresees::Foresees;
+use tag_rules::parts::Keys;
+use tag_rules::turn::Turn;
+use test_samples::sample_config;
+
+// Numbers drawn one after another.
+#[derive(Drop)]
+struct Draw {
+    state: u32,
+}
+
+impl Draw {
+    // Below this bound, which is at most 65,536; of the bound 0 it is 0.
+    fn below(&mut self, bound: u32) -> u32 {
+        self.state = self.state.wrapping_mul(1664525).wrapping_add(1013904223);
+        (self.state / 65536).checked_rem(bound).unwrap_or(0)
+    }
+}
+
+// What was found so often.
+#[derive(Clone, Copy)]
+struct Tally {
+    nothing: u32,
+    eligible: u32,
+    early: u32,
+}
+
+// Three tenants share at most four workers.
+fn shared_workers<R: Abort>(rt: &R, alloc: Global, policy: Policy) -> Checked {
+    let mut config = sample_config(vec![in alloc; 1, 2, 5].expect(rt, "memory for weights"));
+    config.workers = 4;
+    config.entries = 1000;
+    config.policy = policy;
+    config.check().expect(rt, "numbers in their limits")
+}
+
+// What this request is declared to cost.
+fn cost_of(request: u32) -> u64 {
+    (request % 7) as u64 * 12 + 1
+}
+
+// Some call at this moment, where so many requests were submitted.
+fn drawn(draw: &mut Draw, moment: u64, submits: u32) -> Call {
+    match draw.below(9) {
+        0 | 1 | 2 => Call::Submit {
+            who: 0,
+            moment,
+            tenant: draw.below(3),
+            kind: 0,
+            declared: cost_of(submits),
+            label: 0,
+        },
+        3 | 4 => Call::Take {
+            who: 1,
+            moment,
+            worker: draw.below(5),
+        },
+        5 | 6 => Call::Done {
+            who: 1,
+            moment,
+            worker: draw.below(4),
+            cost: draw.below(80) as u64,
+        },
+        7 => Call::Workers {
+            who: 0,
+            moment,
+            count: draw.below(5),
+        },
+        _ => Call::Withdraw {
+            who: 0,
+            moment,
+            request: draw.below(submits),
+        },
+    }
+}
+
+// What a worker would find, by the definitions: the virtual time at the moment, and the keys of each head.
+fn found_by_keys<X: Foresees>(scheduler: &Scheduler<u64, X>, moment: u64, worker: u32) -> Due {
+    let config = scheduler.config();
+    if worker >= config.workers() {
+        return Due::Refused(Cause::Worker(worker));
+    }
+    if let Some(row) = scheduler.running(worker) {
+        return Due::Refused(Cause::Busy(row.request));
+    }
+    let workers = scheduler.pool();
+    if worker >= workers {
+        return Due::Retired(workers);
+    }
+    let turn = Turn {
+        policy: config.policy(),
+        workers,
+        worker,
+        virtual_time: scheduler.virtual_time_at(moment),
+    };
+    let mut soonest: Option<Keys> = None;
+    for tenant in 0..config.tenants() {
+        if let Some(keys) = scheduler.keys(tenant) {
+            if turn.is_eligible(keys) {
+                return Due::Eligible;
+            }
+            soonest = Some(sooner(turn, soonest, keys));
+        }
+    }
+    match soonest {
+        Some(keys) => Due::Early {
+            request: keys.request,
+            estimate: cost_of(keys.request),
+        },
+        None => Due::Nothing,
+    }
+}
+
+// Of two heads, or one, that which is eligible sooner.
+fn sooner(turn: Turn, soonest: Option<Keys>, keys: Keys) -> Keys {
+    match soonest {
+        Some(first) if turn.eligible_before(first, keys) => first,
+        _ => keys,
+    }
+}
+
+fn is_same(a: Due, b: Due) -> bool {
+    match (a, b) {
+        (Due::Nothing, Due::Nothing) | (Due::Eligible, Due::Eligible) => true,
+        (
+            Due::Early { request, estimate },
+            Due::Early {
+                request: r,
+                estimate: e,
+            },
+        ) => request == r && estimate == e,
+        (Due::Retired(a), Due::Retired(b)) => a == b,
+        (Due::Refused(a), Due::Refused(b)) => a == b,
+        _ => false,
+    }
+}
+
+// A take is answered as was found before it.
+fn agrees(due: Due, reply: Reply) -> bool {
+    match (due, reply) {
+        (Due::Nothing, Reply::Idle) | (Due::Eligible, Reply::Run { .. }) => true,
+        (
+            Due::Early { request, estimate },
+            Reply::Run {
+                request: r,
+                estimate: e,
+                ..
+            },
+        ) => request == r && estimate == e,
+        (Due::Retired(a), Reply::Retired(b)) => a == b,
+        (Due::Refused(a), Reply::Refused(b)) => a == b,
+        _ => false,
+    }
+}
+
+// With what was found once more.
+fn counted(tally: Tally, due: Due) -> Tally {
+    match due {
+        Due::Nothing => Tally {
+            nothing: tally.nothing.wrapping_add(1),
+            ..tally
+        },
+        Due::Eligible => Tally {
+            eligible: tally.eligible.wrapping_add(1),
+            ..tally
+        },
+        Due::Early { .. } => Tally {
+            early: tally.early.wrapping_add(1),
+            ..tally
+        },
+        _ => tally,
+    }
+}
+
+// Asks each worker's question, and one of a worker that there is not, before, at and after this moment.
+fn ask_all<X: Foresees, R: Abort>(
+    rt: &R,
+    scheduler: &Scheduler<u64, X>,
+    moment: u64,
+    tally: Tally,
+) -> Tally {
+    let mut tally = tally;
+    for worker in 0..5 {
+        for other in [
+            moment.saturating_sub(3),
+            moment,
+            moment.saturating_add(2),
+            moment.saturating_add(40),
+        ] {
+            let due = scheduler.due(other, worker);
+            assert!(rt; is_same(due, found_by_keys(scheduler, other, worker)));
+            tally = counted(tally, due);
+        }
+    }
+    tally
+}
+
+// Makes the call; a take is answered as a question before it.
+fn made<X: Foresees, R: Abort>(rt: &R, scheduler: &mut Scheduler<u64, X>, call: Call) -> Reply {
+    let Call::Take { moment, worker, .. } = call else {
+        return answer(scheduler, call);
+    };
+    let due = scheduler.due(moment, worker);
+    let reply = answer(scheduler, call);
+    assert!(rt; agrees(due, reply));
+    reply
+}
+
+// Two schedulers answer the same calls, and only one is asked questions: both have one history.
+fn expect_exact<X: Foresees + Drop, R: Abort>(rt: &R, alloc: Global, policy: Policy) -> Tally {
+    let asked = Scheduler::<u64, X>::open(alloc, shared_workers(rt, alloc, policy));
+    let quiet = Scheduler::<u64, X>::open(alloc, shared_workers(rt, alloc, policy));
+    let (Ok(mut asked), Ok(mut quiet)) = (asked, quiet) else {
+        panic!(rt; "no memory for schedulers")
+    };
+    let mut draw = Draw { state: 7 };
+    let mut tally = Tally {
+        nothing: 0,
+        eligible: 0,
+        early: 0,
+    };
+    let mut moment: u64 = 0;
+    let mut submits: u32 = 0;
+    for _ in 0..100 {
+        moment = moment.saturating_add(draw.below(4) as u64);
+        tally = ask_all(rt, &asked, moment, tally);
+        let call = drawn(&mut draw, moment, submits);
+        if let Reply::Request(request) = made(rt, &mut asked, call) {
+            submits = request.saturating_add(1);
+        }
+        answer(&mut quiet, call);
+        assert_eq!(rt; asked.past().len(), quiet.past().len());
+        assert!(rt; asked.past().last().copied() == quiet.past().last().copied());
+    }
+    drop(asked);
+    drop(quiet);
+    tally
+}
+
+// Under each policy the answers are exact, and under these three each of the answers comes.
+fn expect_under_each<X: Foresees + Drop, R: Abort>(rt: &R, alloc: Global) {
+    for policy in [Policy::Wf2q, Policy::TwoDfq, Policy::TwoDfqPlus] {
+        let tally = expect_exact::<X, R>(rt, alloc, policy);
+        assert!(rt; tally.nothing > 0);
+        assert!(rt; tally.eligible > 0);
+        assert!(rt; tally.early > 0);
+    }
+    let by_finish = expect_exact::<X, R>(rt, alloc, Policy::Wfq);
+    assert_eq!(rt; by_finish.early, 0);
+    expect_exact::<X, R>(rt, alloc, Policy::Msf2q);
+}
+
+#[test]
+fn by_a_scan(rt: HostRuntime) {
+    expect_under_each::<PlainChooser, HostRuntime>(&rt, rt.alloc());
+}
+
+#[test]
+fn by_trees(rt: HostRuntime) {
+    expect_under_each::<IndexChooser, HostRuntime>(&rt, rt.alloc());
+}
+
+#[test]
+fn by_one_order(rt: HostRuntime) {
+    expect_under_each::<SharedChooser, HostRuntime>(&rt, rt.alloc());
+}
+
+#[test]
+fn by_the_one_that_fits(rt: HostRuntime) {
+    expect_under_each::<ProgramChooser, HostRuntime>(&rt, rt.alloc());
+}
