@@ -143,4 +143,3 @@ fn place_among(words: &[&str], text: &str) -> Option<usize>
 {
     words.iter().position(|word| *word == text)
 }
-

@@ -6,8 +6,8 @@ ghost use Rattle.tenant_table.specs.Rows.{kinds_of};
 
 use crate::fault::NameFault;
 use crate::kinds::Kinds;
-use fq_model::names::is_name;
 use fq_model::limits::MOST_KINDS;
+use fq_model::names::is_name;
 use indexmap::IndexSet;
 use std::alloc::{AllocError, Global};
 use std::marker::Model;

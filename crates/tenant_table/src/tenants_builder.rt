@@ -6,9 +6,9 @@ ghost use Rattle.tenant_table.specs.Names.{names_of, number_among, AreTenants, t
 ghost use Rattle.tenant_table.specs.Rows.{tenants_of};
 
 use crate::fault::NameFault;
-use fq_model::names::is_name;
 use crate::tenants::Tenants;
 use fq_model::limits::{GREATEST_WEIGHT, MOST_TENANTS};
+use fq_model::names::is_name;
 use indexmap::IndexMap;
 use std::alloc::{AllocError, Global};
 use std::marker::Model;

@@ -144,7 +144,7 @@ fn lead<R: Abort>(rt: &R, of: &str, over: &str) -> Command {
 fn name<R: Abort>(rt: &R, text: &str) -> Name {
     match Name::new(text) {
         Some(name) => name,
-        None => panic!(rt; "{text} is too long for a name"),
+        None => panic!(rt; "{text} is no name"),
     }
 }
 

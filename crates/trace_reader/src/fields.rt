@@ -14,10 +14,10 @@ ghost use Rattle.trace_reader.specs.Reading.{Gives};
 use crate::fault::RecordError;
 use csv::{ByteRecord, StringRecord};
 use fq_model::limits::GREATEST_TRACE_MOMENT;
+use fq_model::names::is_name;
 use program_model::fault::TraceKind;
 use program_model::numbers::number;
 use program_model::trace::TraceRow;
-use fq_model::names::is_name;
 use tenant_table::tenants_builder::TenantsBuilder;
 
 /// A record whose fields are all texts.
