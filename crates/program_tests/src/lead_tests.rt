@@ -21,6 +21,13 @@ const ILLEGAL: &str =
     "journal 1\nconfig 1 wfq declared 1000 100 10\ntenant a 1\ntenant b 1\nkind get\n\
     submit 0 0 0 0 0 1 1\nsubmit 1 0 1 1 0 1 2\ntake 9 0 0 1 1\n";
 
+// Two workers under 2dfq+. A request of a that is thought to cost 2 costs 7. The head of b costs 5. One of c, of weight
+// 2, is thought to cost 40, and is a head once the one before it is withdrawn: 20 units long, the longest of all.
+const EVER: &str =
+    "journal 3\nconfig 2 2dfq+ declared 1000 100 10\ntenant a 1\ntenant b 1\ntenant c 2\nkind get\n\
+    submit 0 0 0 0 0 2 1\nsubmit 0 0 1 1 0 5 2\nsubmit 0 0 2 2 0 6 3\nsubmit 0 0 3 2 0 40 4\n\
+    take 9 0 0 0 2\nwithdraw 0 0 2\nwithdraw 0 0 3\ndone 9 1 0 0 7\n";
+
 // These words write this for the input, and tell this.
 fn expect<R: Abort>(rt: &R, alloc: Global, words: &[&str], input: &str, wanted: Wanted) {
     let mut source = sound_source(rt, alloc, input);
@@ -71,6 +78,19 @@ fn leads_are_told(rt: HostRuntime) {
         ALONE,
         0,
         "a and b never waited together\n",
+    );
+}
+
+// Two heads are 2 and 5 long where one is taken, which lacks 5; and 4 and a half of 20 units bound what comes.
+#[test]
+fn a_lead_under_2dfq_plus_has_a_bound_for_ever(rt: HostRuntime) {
+    expect_line(
+        &rt,
+        rt.alloc(),
+        &["lead", "--of", "a", "--over", "b"],
+        EVER,
+        0,
+        "lead of a over b largest 0 bound 15728640 ever 94371839\n",
     );
 }
 
