@@ -7,7 +7,7 @@ ghost use Rattle.program_model.specs.Document.{config_of};
 ghost use Rattle.command_texts.specs.Making.{Makes};
 
 use crate::messages::document_stop;
-use eligible_index::index::IndexChooser;
+use fitted_chooser::chooser::ProgramChooser;
 use journal_check::checking::check;
 use journal_check::explaining::explain;
 use journal_check::printing::{explanation_text, verdict_text};
@@ -36,7 +36,7 @@ pub fn answer(alloc: Global, asked: Option<u32>, input: Vec<u8>) -> Result<Outpu
 fn judged(alloc: Global, asked: Option<u32>, journal: &Journal) -> Result<Output, Stop>
     ensures { Makes (IsJudged asked journal.now) result }
 {
-    let verdict = check::<IndexChooser>(alloc, journal)?;
+    let verdict = check::<ProgramChooser>(alloc, journal)?;
     let text = verdict_text(alloc, journal.body(), verdict)?;
     match (verdict, asked) {
         (Verdict::Legal, None) => Ok(Output::success(text)),
@@ -55,6 +55,6 @@ fn explanation(alloc: Global, journal: &Journal, request: u32) -> Result<Vec<u8>
     requires { IsLegal (config_of journal.now) (history_of journal.now.body) }
     ensures { IfOk result (λ text. IsExplanation journal.now request text.items) }
 {
-    let explained = explain::<IndexChooser>(alloc, journal, request)?;
+    let explained = explain::<ProgramChooser>(alloc, journal, request)?;
     explanation_text(alloc, journal.tenants(), request, explained)
 }

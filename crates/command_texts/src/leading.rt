@@ -13,7 +13,7 @@ ghost use Rattle.command_texts.specs.Leading.{IsLineOf};
 ghost use Rattle.command_texts.specs.Making.{Makes, IsStop};
 
 use crate::messages::{document_stop, told};
-use eligible_index::index::IndexChooser;
+use fitted_chooser::chooser::ProgramChooser;
 use journal_check::checking::check;
 use journal_check::printing::verdict_text;
 use journal_check::{Journal, read_journal};
@@ -46,7 +46,7 @@ pub fn answer(alloc: Global, of: Name, over: Name, input: Vec<u8>) -> Result<Out
 fn judged(alloc: Global, of: &str, over: &str, journal: &Journal) -> Result<Output, Stop>
     ensures { Makes (IsLeadTold of.now over.now journal.now) result }
 {
-    let verdict = check::<IndexChooser>(alloc, journal)?;
+    let verdict = check::<ProgramChooser>(alloc, journal)?;
     match verdict {
         Verdict::Legal => of_pair(alloc, of, over, journal),
         Verdict::Bad { .. } => {
@@ -115,7 +115,7 @@ fn lead_of(alloc: Global, journal: &Journal, f: u32, g: u32) -> Result<Option<Le
     requires apart { f ≢ g }
     ensures { IfOk result (IsLead (config_of journal.now) (history_of journal.now.body) f g) }
 {
-    match tag_lead::<IndexChooser>(alloc, journal.body(), journal.config(), f, g) {
+    match tag_lead::<ProgramChooser>(alloc, journal.body(), journal.config(), f, g) {
         Ok(lead) => Ok(lead),
         Err(GapFault::NoMemory) => Err(AllocError),
         Err(_) => unreachable!(),
