@@ -7,6 +7,10 @@ import collections
 # Steps of virtual time in a unit, the greatest moment and the greatest cost, both in microseconds.
 UNIT, GREATEST_MOMENT, GREATEST_COST = 1 << 20, 10**15, 10**9
 
+# The rules of 2dfq+ by name: virtual time never passes the greatest finish at which a request was taken; a take makes it at
+# least the eligible key of its request; and a submit that finds none of its tenant's requests waiting raises the tag to it.
+RULES = ("cap", "lift", "raise")
+
 Config = collections.namedtuple("Config", "workers policy estimate initial entries requests")
 Entry = collections.namedtuple("Entry", "act who moment rest")
 Request = collections.namedtuple("Request", "tenant kind declared label")
@@ -55,9 +59,10 @@ class Tenant:
 
 
 class History:
-    """What a scheduler has to go by after some entries."""
+    """What a scheduler has to go by after some entries. With fewer than all of the rules it is no scheduler of this project."""
 
-    def __init__(self, journal):
+    def __init__(self, journal, rules=RULES):
+        self.rules = rules
         self.config, self.kinds = journal.config, len(journal.kinds)
         self.tenants = [Tenant(weight) for weight in journal.weights]
         self.workers, self.moment, self.virtual = journal.config.workers, 0, 0
@@ -73,7 +78,7 @@ class History:
     def time_at(self, moment):
         """Virtual time at this moment, which under 2dfq+ never passes the greatest finish of a request that was taken."""
         by_clock = self.virtual + self.advance(moment)
-        return min(by_clock, self.reached) if self.config.policy == "2dfq+" else by_clock
+        return min(by_clock, self.reached) if self.config.policy == "2dfq+" and "cap" in self.rules else by_clock
 
     def stagger(self, worker, lasts):
         """By how much a worker may begin a head of this length before its start."""
@@ -150,6 +155,11 @@ class History:
         ]
         return causes, "ok", (worker, runs and runs.request, use)
 
+    def withdrawn(self, request):
+        asked = self.requests[request] if request < len(self.requests) else None
+        waits = asked is not None and request in self.tenants[asked.tenant].waits
+        return [(not waits, f"not-waiting {request}")], f"withdrawn {asked and asked.label}", (request,)
+
     def changed(self, act, *numbers):
         if act == "close":
             causes = [(self.closed, "closed")]
@@ -171,6 +181,8 @@ class History:
             causes, reply, rest = self.taken(moment, entry.rest[0])
         elif entry.act in ("report", "done"):
             causes, reply, rest = self.used(entry.act, entry.rest[0], entry.rest[2])
+        elif entry.act == "withdraw":
+            causes, reply, rest = self.withdrawn(*entry.rest)
         else:
             causes, reply, rest = self.changed(entry.act, *entry.rest)
         for so, cause in causes:
@@ -188,7 +200,7 @@ class History:
             number, *rest = entry.rest
             self.requests.append(Request(*rest))
             tenant = self.tenants[rest[0]]
-            if not tenant.waits:
+            if not tenant.waits and "raise" in self.rules:
                 tenant.base = max(tenant.base, self.virtual - tenant.charged)
             tenant.waits.append(number)
             tenant.open, self.waiting = tenant.open + 1, self.waiting + 1
@@ -196,6 +208,8 @@ class History:
             self.take(*entry.rest)
         elif entry.act in ("report", "done"):
             self.charge(entry.act, *entry.rest)
+        elif entry.act == "withdraw":
+            self.withdraw(*entry.rest)
         elif entry.act == "close":
             self.closed = True
         elif entry.act == "weight":
@@ -207,14 +221,21 @@ class History:
         tenant = self.tenants[self.requests[request].tenant]
         lasts = length(estimate, tenant.weight)
         if self.config.policy == "2dfq+":
-            # virtual time is lifted to what makes the request eligible
             start = tenant.charged + tenant.base
-            self.virtual = max(self.virtual, start - self.stagger(worker, lasts))
+            if "lift" in self.rules:
+                # to what makes the request eligible
+                self.virtual = max(self.virtual, start - self.stagger(worker, lasts))
             self.reached = max(self.reached, start + lasts)
         tenant.waits.popleft()
         self.waiting -= 1
         self.runs[worker] = Running(request, estimate, tenant.weight)
         tenant.charged += lasts
+
+    def withdraw(self, request):
+        """Nothing is charged or learned."""
+        tenant = self.tenants[self.requests[request].tenant]
+        tenant.waits.remove(request)
+        tenant.open, self.waiting = tenant.open - 1, self.waiting - 1
 
     def status(self):
         """What a line `status` has: entries, the last moment, virtual time at it, and how many requests wait and run."""
@@ -256,25 +277,33 @@ def turned_out(journal, tenant):
     return found
 
 
+def enter_for_lengths(history, entry):
+    """Enters an entry, and gives the lengths at it: of each head, and by its charge of each request that runs or ended with it."""
+    ended = [history.runs[entry.rest[0]]] if entry.act == "done" else []
+    history.enter(entry)
+    heads = [(history.requests[tenant.waits[0]], tenant.weight) for tenant in history.tenants if tenant.waits]
+    found = [length(history.estimate(request), weight) for request, weight in heads]
+    return found + [length(runs.charge, runs.weight) for runs in [*history.runs.values(), *ended]]
+
+
 def longest(journal):
     """The greatest length of a request at an entry, as a head or by its charge, in steps; 1 at least."""
-    history, found = History(journal), [1]
+    history, most = History(journal), 1
     for entry in journal.entries:
-        done = [history.runs[entry.rest[0]]] if entry.act == "done" else []
-        history.enter(entry)
-        for tenant in history.tenants:
-            if tenant.waits:
-                found.append(length(history.estimate(history.requests[tenant.waits[0]]), tenant.weight))
-        found += [length(runs.charge, runs.weight) for runs in [*history.runs.values(), *done]]
-    return max(found)
+        most = max([most, *enter_for_lengths(history, entry)])
+    return most
+
+
+def furthest(workers, most):
+    """How far a tenant gets ahead of one that waits, at most, where no request is longer."""
+    return (workers + workers // 2 + 1) * most + (workers - 1) * most // workers - 1
 
 
 def ever(journal):
     """The words of the bound that asks nothing of the past, which a journal under 2dfq+ has."""
     if journal.config.policy != "2dfq+":
         return ""
-    n, most = journal.config.workers, longest(journal)
-    return f" ever {(n + n // 2 + 1) * most + (n - 1) * most // n - 1}"
+    return f" ever {furthest(journal.config.workers, longest(journal))}"
 
 
 def lead(text, of, over):
