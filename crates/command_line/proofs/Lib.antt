@@ -1,5 +1,6 @@
 pub mod Lists
 pub mod Words
+pub mod Lengths
 pub mod Arguments
 pub mod Defaults
 pub mod Ranges

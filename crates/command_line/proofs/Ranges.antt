@@ -1,8 +1,7 @@
 -- What is read of options lies in their ranges.
-use Rattle.std.proofs.Common.{ℕ, ◌≤◌, ◌-◌, ◌≡◌, ◌&&◌, nat_le, nat_lt, Bool, true, false, ◌||◌, if◌then◌else◌, List, [], ◌∷◌, Option, Some, None, option_map, position, bytes_eq, length, replicate, refl, ap, ◌∙◌, subst, arith}
+use Rattle.std.proofs.Common.{ℕ, ◌≤◌, ◌≡◌, ◌&&◌, nat_lt, Bool, true, false, ◌||◌, if◌then◌else◌, List, [], ◌∷◌, Option, Some, None, option_map, position, bytes_eq, refl, subst, arith}
 use Rattle.std.specs.Option.{option_and_then}
-use Rattle.std.proofs.lemmas.Bool.{leb-true, ltb-false}
-use Rattle.std.proofs.Math.Seq.{take-append_seam}
+use Rattle.std.proofs.lemmas.Bool.{ltb-false}
 use Rattle.fq_model.specs.Spelling.{is_name}
 use Rattle.program_model.specs.declared.argument.Argument.{Argument}
 use Rattle.program_model.specs.declared.argument.Argument.TheVariants.{Number, Name}

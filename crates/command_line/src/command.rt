@@ -222,8 +222,8 @@ fn name(value: Value) -> Name
     requires { IsNameGiven value }
     ensures { result ≡ name_given value }
 {
-    match value {
-        Some(Argument::Name(name)) => name,
+    match &value {
+        Some(Argument::Name(name)) => *name,
         Some(Argument::Number(_)) | None => unreachable!(),
     }
 }

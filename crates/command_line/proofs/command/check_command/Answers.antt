@@ -1,9 +1,8 @@
-use Rattle.std.proofs.Common.{◌≡◌, map, Some, option_map, sym, ap, ◌∙◌}
+use Rattle.std.proofs.Common.{◌≡◌, map, option_map, sym, ap, ◌∙◌, length, arith}
 use Rattle.std.specs.String.{string_bytes}
-use Rattle.program_model.specs.declared.command.Command.TheVariants.{Plain}
-use Rattle.program_model.specs.declared.command.PlainCommand.TheVariants.{Check}
 use Rattle.program_model.specs.CheckCommand.{check_options, check_of_values}
 use Rattle.program_model.specs.Options.{values_in}
+use Rattle.command_line.proofs.Lengths.{values_length, value_there}
 use Rattle.command_line.proofs.command.check_command.Goals as goal
 
 pub returns-in_err-explain-clause-asked : goal.returns-in_err-explain-clause-asked
@@ -13,5 +12,8 @@ returns-in_err-explain-clause-asked c =
 
 pub returns-clause-asked : goal.returns-clause-asked
 returns-clause-asked c =
+    let v = c.in_ok-explain.field-0 in
     let values : c.values_in.result ≡ values_in check_options (map string_bytes c.args.words.now) = c.values_in.ensures.values in
-    ap (λ explain. Some (Plain (Check explain))) c.request_number-explain.ensures ∙ ap (option_map check_of_values) (sym c.in_ok-explain.was ∙ values)
+    let long : length v ≡ 1 = values_length check_options (map string_bytes c.args.words.now) v (sym values ∙ c.in_ok-explain.was) in
+    rw (c.request_number-explain.ensures, value_there v 0 c.index-branch-0.result (omega (arith, long)))
+    (ap (option_map check_of_values) (sym c.in_ok-explain.was ∙ values))

@@ -1,7 +1,8 @@
-use Rattle.std.proofs.Common.{◌≡◌, map, option_map, sym, ap, ◌∙◌}
+use Rattle.std.proofs.Common.{◌≡◌, map, option_map, sym, ap, ◌∙◌, length, arith}
 use Rattle.std.specs.String.{string_bytes}
 use Rattle.program_model.specs.Options.{values_in}
 use Rattle.program_model.specs.LiveCommand.{live_options, live_of_values}
+use Rattle.command_line.proofs.Lengths.{values_length, value_there}
 use Rattle.command_line.proofs.command.live_command.Goals as goal
 
 pub returns-in_err-workers-clause-asked : goal.returns-in_err-workers-clause-asked
@@ -11,5 +12,8 @@ returns-in_err-workers-clause-asked c =
 
 pub returns-clause-asked : goal.returns-clause-asked
 returns-clause-asked c =
+    let v = c.in_ok-workers.field-0 in
     let values : c.values_in.result ≡ values_in live_options (map string_bytes c.args.words.now) = c.values_in.ensures.values in
-    rw (c.run_options.ensures.value, c.number.ensures, c.choice.ensures, c.number-2.ensures) (ap (option_map live_of_values) (sym c.in_ok-workers.was ∙ values))
+    let long : length v ≡ 8 = values_length live_options (map string_bytes c.args.words.now) v (sym values ∙ c.in_ok-workers.was) in
+    rw (c.run_options.ensures.value, c.number.ensures, c.choice.ensures, c.number-2.ensures, value_there v 0 c.index-branch-0.result (omega (arith, long)), value_there v 1 c.index-branch-1.result (omega (arith, long)), value_there v 2 c.index-branch-2.result (omega (arith, long)), value_there v 3 c.index-branch-3.result (omega (arith, long)), value_there v 4 c.index-branch-4.result (omega (arith, long)), value_there v 5 c.index-branch-5.result (omega (arith, long)), value_there v 6 c.index-branch-6.result (omega (arith, long)), value_there v 7 c.index-branch-7.result (omega (arith, long)))
+    (ap (option_map live_of_values) (sym c.in_ok-workers.was ∙ values))

@@ -1,6 +1,7 @@
 use Rattle.std.proofs.Common.{ℕ, ◌≤◌, ◌≡◌, if◌then◌else◌, List, [], map, length, get_or, position, Option, Some, None, sym, ap, ◌∙◌, arith}
 use Rattle.std.proofs.Math.ListN.{set, length-set, get_or-map}
 use Rattle.std.proofs.lemmas.List.{length-replicate}
+use Rattle.std.proofs.lemmas.List.Quantifiers.{position-Some}
 use Rattle.std.specs.String.{string_bytes}
 use Rattle.command_line.specs.declared.options.OptionRow as code
 use Rattle.program_model.specs.declared.argument.Argument.{Argument}
@@ -12,6 +13,7 @@ use Rattle.command_line.proofs.Words.{rest_shorter}
 use Rattle.command_line.proofs.Arguments.{after_start, after_unknown, after_twice, after_bad, after_step, after_end, with_absent}
 use Rattle.command_line.proofs.Defaults.{filled_start, filled_more, filled_stop, filled_all}
 use Rattle.command_line.proofs.Ranges.{values_in-range}
+use Rattle.command_line.proofs.Lengths.{value_there}
 use Rattle.command_line.proofs.options.values_in.Goals as goal
 
 -- an option that is no row's
@@ -43,7 +45,7 @@ returns-then-is_some-clause-values g c =
     let given = seen_given c.in-Some.given in
     let place = place_seen c.args.rows.now given.name c.place_of.result (Some c.in_ok-k.k) c.place_of.ensures c.in_ok-k.was in
     let long : length c.loop-given.values ≡ length (map seen_row c.args.rows.now) = omega (arith, length_map seen_row c.args.rows.now) in
-    let twice = after_twice (map seen_row c.args.rows.now) c.loop-given.values (map string_bytes c.loop-given.left.now) given (map string_bytes c.in-Some.more.now) c.in_ok-k.k no_option (sym c.in-Some.ensures) place long (sym c.if-is_some.ensures) in
+    let twice = after_twice (map seen_row c.args.rows.now) c.loop-given.values (map string_bytes c.loop-given.left.now) given (map string_bytes c.in-Some.more.now) c.in_ok-k.k no_option (sym c.in-Some.ensures) place long (rw (value_there c.loop-given.values c.in_ok-k.k c.index-values-k.result (omega (arith, long, (position-Some (has_name given.name) (map seen_row c.args.rows.now) c.in_ok-k.k no_option place).0))) at (sym c.if-is_some.ensures)) in
     sym (c.loop-given.invariant.1 ∙ twice)
 
 pub returns-in_err-argument-clause-values : goal.returns-in_err-argument-clause-values
@@ -68,7 +70,7 @@ loop-given-preserved g c =
     let place = place_seen c.args.rows.now given.name c.place_of.result (Some c.in_ok-k.k) c.place_of.ensures c.in_ok-k.was in
     let argument = argument_seen c.args.rows.now c.in_ok-k.k _ given.text c.argument_for.result (Some c.in_ok-argument.argument) c.argument_for.ensures c.in_ok-argument.was in
     let long : length c.loop-given.values ≡ length (map seen_row c.args.rows.now) = omega (arith, length_map seen_row c.args.rows.now) in
-    let step = after_step (map seen_row c.args.rows.now) c.loop-given.values (map string_bytes c.loop-given.left.now) given (map string_bytes c.in-Some.more.now) c.in_ok-k.k _ c.in_ok-argument.argument (sym c.in-Some.ensures) c.requires.distinct place long (sym c.if-is_some.ensures) argument in
+    let step = after_step (map seen_row c.args.rows.now) c.loop-given.values (map string_bytes c.loop-given.left.now) given (map string_bytes c.in-Some.more.now) c.in_ok-k.k _ c.in_ok-argument.argument (sym c.in-Some.ensures) c.requires.distinct place long (rw (value_there c.loop-given.values c.in_ok-k.k c.index-values-k.result (omega (arith, long, (position-Some (has_name given.name) (map seen_row c.args.rows.now) c.in_ok-k.k no_option place).0))) at (sym c.if-is_some.ensures)) argument in
     (length-set c.loop-given.values c.in_ok-k.k (Some c.in_ok-argument.argument) ∙ c.loop-given.invariant.0, c.loop-given.invariant.1 ∙ step)
 
 pub loop-k-init : goal.loop-k-init
@@ -80,13 +82,13 @@ loop-k-init g c =
 
 pub returns-in_err-values-clause-values : goal.returns-in_err-values-clause-values
 returns-in_err-values-clause-values g c =
-    let stop = filled_stop c.args.rows.now c.loop-k.values c.loop-k.k _ (omega arith) (omega arith) (sym c.or_absent.ensures ∙ c.in_err-values.was) in
+    let stop = filled_stop c.args.rows.now c.loop-k.values c.loop-k.k _ (omega arith) (omega arith) (rw (value_there c.loop-k.values c.loop-k.k c.index-values-k-in-loop-k.result (omega (arith, c.loop-k.invariant.0))) at (sym c.or_absent.ensures ∙ c.in_err-values.was)) in
     c.from_residual-in_err-values.ensures ∙ sym (c.loop-k.invariant.1 ∙ stop)
 
 pub loop-k-preserved : goal.loop-k-preserved
 loop-k-preserved g c =
     let long : length (set c.loop-k.values c.loop-k.k c.in_ok-values.field-0) ≡ length c.args.rows.now = omega (arith, length-set c.loop-k.values c.loop-k.k c.in_ok-values.field-0) in
-    (long, c.loop-k.invariant.1 ∙ filled_more c.args.rows.now c.loop-k.values c.loop-k.k _ c.in_ok-values.field-0 (omega arith) (omega arith) (sym c.or_absent.ensures ∙ c.in_ok-values.was))
+    (long, c.loop-k.invariant.1 ∙ filled_more c.args.rows.now c.loop-k.values c.loop-k.k _ c.in_ok-values.field-0 (omega arith) (omega arith) (rw (value_there c.loop-k.values c.loop-k.k c.index-values-k-in-loop-k.result (omega (arith, c.loop-k.invariant.0))) at (sym c.or_absent.ensures ∙ c.in_ok-values.was)))
 
 pub returns-clause-values : goal.returns-clause-values
 returns-clause-values g c =

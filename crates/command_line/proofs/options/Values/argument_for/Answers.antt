@@ -28,12 +28,12 @@ returns-in_ok-place_among-in-Among c =
     let seen = ap (λ v. argument_for (seen_values v) c.args.text.now) c.in-Among.is in
     sym (seen ∙ place_among_words c.in-Among.words.now c.args.text.now (Some c.in_ok-place_among-in-Among.field-0) (sym c.if-not-is_value.ensures) (sym c.in_ok-place_among-in-Among.was ∙ c.place_among.ensures))
 
-pub returns-in_err-name-in-Named : goal.returns-in_err-name-in-Named
-returns-in_err-name-in-Named c =
+pub returns-in_err-new-in-Named : goal.returns-in_err-new-in-Named
+returns-in_err-new-in-Named c =
     let seen = ap (λ v. argument_for (seen_values v) c.args.text.now) c.in-Named.is in
-    c.from_residual-in_err-name-in-Named.ensures ∙ sym (seen ∙ name_named c.args.text.now None (sym c.if-not-is_value.ensures) (sym c.in_err-name-in-Named.was ∙ c.name.ensures))
+    c.from_residual-in_err-new-in-Named.ensures ∙ sym (seen ∙ name_named c.args.text.now None (sym c.if-not-is_value.ensures) (sym c.in_err-new-in-Named.was ∙ c.new.ensures))
 
-pub returns-in_ok-name-in-Named : goal.returns-in_ok-name-in-Named
-returns-in_ok-name-in-Named c =
+pub returns-in_ok-new-in-Named : goal.returns-in_ok-new-in-Named
+returns-in_ok-new-in-Named c =
     let seen = ap (λ v. argument_for (seen_values v) c.args.text.now) c.in-Named.is in
-    sym (seen ∙ name_named c.args.text.now (Some c.in_ok-name-in-Named.field-0) (sym c.if-not-is_value.ensures) (sym c.in_ok-name-in-Named.was ∙ c.name.ensures))
+    sym (seen ∙ name_named c.args.text.now (Some c.in_ok-new-in-Named.field-0) (sym c.if-not-is_value.ensures) (sym c.in_ok-new-in-Named.was ∙ c.new.ensures))
