@@ -18,20 +18,35 @@ var RefusedNoJob = errors.New("refused: the job is nil")
 // the time that passes from the moment at which its worker takes it until it ends, and at least one microsecond. One that
 // panics ends alone: package log writes what it said, and its stack. One that calls runtime.Goexit ends like any other.
 //
+// Where the turn of no waiting job has come a free worker takes one before its time, and what another tenant submits
+// next may have to wait until that ends. So it waits first, for the part Config.Patience of the job's estimate at most,
+// from the moment at which it became free, and takes at once a job whose turn it is. A worker that nothing comes to
+// meanwhile keeps at least 1/(1 + Patience) of its time, where jobs cost what they are thought to. Each job that it
+// takes meanwhile begins a new wait. So where short jobs keep coming a worker may stay with them, and lose more, until
+// the turn of the long one has come. It doesn't wait where one tenant alone has jobs that wait or run, where the wait
+// would be about a millisecond or less, as long as a sleep may be late, while two schedulers are in use, nor once the
+// pool is closed.
+//
 // The pool has no end: where the room of its scheduler ends it opens the next, and workers take from the old one until
 // nothing waits there.
 type Pool struct {
 	config  Config
 	begun   time.Time
+	part    float64 // of an estimate, for which a worker waits at most
 	workers sync.WaitGroup
 
-	lock      sync.Mutex // it guards what follows
-	news      *sync.Cond // something waits, or nothing more comes
-	histories []*history // the oldest first; the last takes what comes
-	jobs      map[uint64]job
-	next      uint64 // the label of the next job
-	waiting   uint32
-	closed    bool
+	lock       sync.Mutex    // it guards what follows
+	sleepers   *sync.Cond    // something waits, or nothing more comes
+	news       chan struct{} // it is closed where something has changed, and another follows
+	patient    bool          // whether a worker may wait for news
+	histories  []*history    // the oldest first; the last takes what comes
+	jobs       map[uint64]job
+	next       uint64 // the label of the next job
+	waiting    uint32
+	unfinished []uint32 // by tenant, how many jobs wait or run
+	tenants    int      // how many tenants have such jobs
+	greatest   uint64   // no estimate is above it
+	closed     bool
 }
 
 // A scheduler, and what of it is in use.
@@ -56,11 +71,8 @@ type run struct {
 // NewPool opens a pool of config.Workers goroutines. It has one kind of request and keeps one entry, whatever config says
 // of both, so where Entries is 0 there is room for 4,000,000,000. The weights are copied.
 func NewPool(config Config) (*Pool, error) {
-	config.Kinds, config.Keep = 1, 1
-	config.Weights = append([]uint32(nil), config.Weights...)
-	pool := &Pool{config: config, begun: time.Now(), jobs: make(map[uint64]job)}
-	pool.news = sync.NewCond(&pool.lock)
-	if err := pool.open(); err != nil {
+	pool, err := newPool(config)
+	if err != nil {
 		return nil, err
 	}
 	for worker := uint32(0); worker < config.Workers; worker++ {
@@ -68,6 +80,20 @@ func NewPool(config Config) (*Pool, error) {
 		go pool.work(worker, nil)
 	}
 	return pool, nil
+}
+
+// A pool whose workers have not begun.
+func newPool(config Config) (*Pool, error) {
+	part, err := patiencePart(config.Patience)
+	if err != nil {
+		return nil, err
+	}
+	config.Kinds, config.Keep = 1, 1
+	config.Weights = append([]uint32(nil), config.Weights...)
+	pool := &Pool{config: config, begun: time.Now(), part: part, jobs: make(map[uint64]job), news: make(chan struct{}),
+		unfinished: make([]uint32, len(config.Weights)), greatest: config.Initial}
+	pool.sleepers = sync.NewCond(&pool.lock)
+	return pool, pool.open()
 }
 
 // Submit has call run in the tenant's turn. It is refused with RefusedNoJob, RefusedClosed, RefusedTenant, or RefusedSlots
@@ -90,7 +116,9 @@ func (p *Pool) Submit(tenant uint32, call func()) error {
 	p.jobs[p.next] = job{tenant, call}
 	p.next++
 	p.waiting++
-	p.news.Signal()
+	p.begins(tenant)
+	p.sleepers.Signal()
+	p.tell()
 	return nil
 }
 
@@ -98,7 +126,8 @@ func (p *Pool) Submit(tenant uint32, call func()) error {
 func (p *Pool) Close() {
 	p.lock.Lock()
 	p.closed = true
-	p.news.Broadcast()
+	p.sleepers.Broadcast()
+	p.tell()
 	p.lock.Unlock()
 	p.workers.Wait()
 	p.lock.Lock()
@@ -188,8 +217,8 @@ func (j job) perform() {
 	j.call()
 }
 
-// Notes the job that the worker has ended, and gives it the next one, which is taken where the last has ended: what passes
-// between two jobs is charged. None where nothing more comes.
+// Notes the job that the worker has ended, and gives it the next one. Where the worker doesn't wait that is taken where
+// the last has ended: what passes between two jobs is charged. None where nothing more comes.
 func (p *Pool) follow(worker uint32, ended *run) *run {
 	now := p.now()
 	p.lock.Lock()
@@ -197,14 +226,18 @@ func (p *Pool) follow(worker uint32, ended *run) *run {
 	if ended != nil {
 		p.done(worker, ended, now)
 	}
-	for p.waiting == 0 {
-		if p.closed {
-			return nil
+	for since := now; ; now = p.now() {
+		if p.waiting == 0 {
+			if p.closed {
+				return nil
+			}
+			p.sleepers.Wait()
+		} else if longest := p.stillSleeps(worker, since, now); longest > 0 {
+			p.awaitNews(longest)
+		} else {
+			return p.take(worker, now)
 		}
-		p.news.Wait()
-		now = p.now()
 	}
-	return p.take(worker, now)
 }
 
 // What the worker runs next, by the oldest scheduler that has something for it.
@@ -222,6 +255,7 @@ func (p *Pool) take(worker uint32, now time.Duration) *run {
 		p.waiting--
 		job := p.jobs[taken.Label]
 		delete(p.jobs, taken.Label)
+		p.tell()
 		return &run{job, history, now}
 	}
 	panic("twodfq: a request waits in no scheduler")
@@ -229,10 +263,13 @@ func (p *Pool) take(worker uint32, now time.Duration) *run {
 
 // The worker's job has ended.
 func (p *Pool) done(worker uint32, ended *run, now time.Duration) {
-	if err := ended.history.scheduler.Done(worker, moment(now), worker, cost(now-ended.begun)); err != nil {
+	cost := cost(now - ended.begun)
+	if err := ended.history.scheduler.Done(worker, moment(now), worker, cost); err != nil {
 		panic("twodfq: a running request can't end: " + err.Error())
 	}
 	ended.history.running--
+	p.ends(ended.tenant, cost)
+	p.tell()
 	p.free()
 }
 

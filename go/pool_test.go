@@ -14,10 +14,13 @@ import (
 )
 
 // Each job is run once, whoever hands it in, while schedulers of few entries follow one another.
-func TestEachJobRunsOnce(t *testing.T) {
+func TestEachJobRunsOnce(t *testing.T) { withPatience(t, eachJobRunsOnce) }
+
+func eachJobRunsOnce(t *testing.T, patience float64) {
 	const submitters, each = 8, 2000
 	config := Default(1, 2, 3)
 	config.Entries, config.Requests = 1000, submitters*each
+	config.Patience = patience
 	pool, err := NewPool(config)
 	if err != nil {
 		t.Fatal(err)
@@ -46,9 +49,12 @@ func TestEachJobRunsOnce(t *testing.T) {
 }
 
 // A job beside a queue of another tenant's, whose jobs cost more, is served before that queue.
-func TestATenantIsServedInItsTurn(t *testing.T) {
+func TestATenantIsServedInItsTurn(t *testing.T) { withPatience(t, aTenantIsServedInItsTurn) }
+
+func aTenantIsServedInItsTurn(t *testing.T, patience float64) {
 	config := Default(1, 1)
 	config.Workers = 1
+	config.Patience = patience
 	pool, err := NewPool(config)
 	if err != nil {
 		t.Fatal(err)
@@ -72,9 +78,12 @@ func TestATenantIsServedInItsTurn(t *testing.T) {
 	}
 }
 
-func TestRefusals(t *testing.T) {
+func TestRefusals(t *testing.T) { withPatience(t, refusals) }
+
+func refusals(t *testing.T, patience float64) {
 	config := Default(1)
 	config.Workers, config.Requests = 1, 2
+	config.Patience = patience
 	pool, err := NewPool(config)
 	if err != nil {
 		t.Fatal(err)
@@ -103,12 +112,15 @@ func TestRefusals(t *testing.T) {
 }
 
 // A job may end its goroutine, and may panic: its worker goes on, and all that waits is run.
-func TestJobsThatDoNotReturn(t *testing.T) {
+func TestJobsThatDoNotReturn(t *testing.T) { withPatience(t, jobsThatDoNotReturn) }
+
+func jobsThatDoNotReturn(t *testing.T, patience float64) {
 	var told bytes.Buffer
 	log.SetOutput(&told)
 	defer log.SetOutput(os.Stderr)
 	config := Default(1)
 	config.Workers = 2
+	config.Patience = patience
 	pool, err := NewPool(config)
 	if err != nil {
 		t.Fatal(err)

@@ -47,11 +47,13 @@ type Config struct {
 	Requests uint32   // how many requests may wait at once: 1 to 262,144
 	Policy   Policy
 	Estimate Estimator
-	Initial  uint64 // the estimate before any completion: 1 to 1,000,000,000
-	Keep     uint32 // for how many of the last entries memory is taken; 0, and any number above Entries, is all of them
+	Initial  uint64  // the estimate before any completion: 1 to 1,000,000,000
+	Keep     uint32  // for how many of the last entries memory is taken; 0, and any number above Entries, is all of them
+	Patience float64 // for a Pool: the part of an estimate for which a worker waits; 0: 0.02, below 0: none, at most 1
 }
 
-// Default gives four workers, 0 for Entries and Keep, 10,000 requests, TwoDFQPlus, Pessimistic and 1,000 microseconds.
+// Default gives four workers, 0 for Entries, Keep and Patience, 10,000 requests, TwoDFQPlus, Pessimistic and 1,000
+// microseconds.
 func Default(weights ...uint32) Config {
 	return Config{Workers: 4, Weights: weights, Kinds: 1, Requests: 10_000, Policy: TwoDFQPlus, Estimate: Pessimistic,
 		Initial: 1000}
