@@ -14,6 +14,9 @@ fn builder() -> Builder {
     Pool::builder().workers(4).tenant("acme", 1).tenant("globex", 2).tenant("hooli", 3).kind("get").kind("scan")
 }
 
+/// None, the usual one, and the greatest.
+const PATIENCE: [f64; 3] = [0.0, 0.02, 1.0];
+
 /// A pool of one worker which waits until the sender is used or dropped.
 fn held(builder: Builder) -> (Pool, mpsc::Sender<()>) {
     let pool = builder.workers(1).open().unwrap();
@@ -30,10 +33,12 @@ fn held(builder: Builder) -> (Pool, mpsc::Sender<()>) {
 
 #[test]
 fn join_gives_the_result() {
-    let pool = builder().open().unwrap();
-    let handles: Vec<_> = (0..100_u32).map(|i| pool.submit(i % 3, i % 2, move || i * i).unwrap()).collect();
-    let squares: Vec<u32> = handles.into_iter().map(|handle| handle.join().unwrap()).collect();
-    assert_eq!(squares, (0..100).map(|i| i * i).collect::<Vec<_>>());
+    for patience in PATIENCE {
+        let pool = builder().patience(patience).open().unwrap();
+        let handles: Vec<_> = (0..100_u32).map(|i| pool.submit(i % 3, i % 2, move || i * i).unwrap()).collect();
+        let squares: Vec<u32> = handles.into_iter().map(|handle| handle.join().unwrap()).collect();
+        assert_eq!(squares, (0..100).map(|i| i * i).collect::<Vec<_>>());
+    }
 }
 
 #[test]
@@ -138,25 +143,27 @@ fn what_no_pool_is_opened_with() {
 
 #[test]
 fn a_job_that_panics_is_done_and_its_worker_goes_on() {
-    let pool = builder().workers(1).open().unwrap();
-    let fails = pool
-        .submit(0, 0, || {
-            if true {
-                panic!("by {}", "number")
-            }
-        })
-        .unwrap();
-    let odd = pool
-        .submit(0, 0, || {
-            if true {
-                panic::panic_any(5_u8)
-            }
-        })
-        .unwrap();
-    pool.submit(0, 0, || ()).unwrap().then(|_| panic!("a callback"));
-    assert_eq!(fails.join().unwrap_err().message(), "by number");
-    assert_eq!(odd.join().unwrap_err().message(), "no message");
-    assert_eq!(pool.submit(1, 0, || 42).unwrap().join().unwrap(), 42);
+    for patience in PATIENCE {
+        let pool = builder().patience(patience).workers(1).open().unwrap();
+        let fails = pool
+            .submit(0, 0, || {
+                if true {
+                    panic!("by {}", "number")
+                }
+            })
+            .unwrap();
+        let odd = pool
+            .submit(0, 0, || {
+                if true {
+                    panic::panic_any(5_u8)
+                }
+            })
+            .unwrap();
+        pool.submit(0, 0, || ()).unwrap().then(|_| panic!("a callback"));
+        assert_eq!(fails.join().unwrap_err().message(), "by number");
+        assert_eq!(odd.join().unwrap_err().message(), "no message");
+        assert_eq!(pool.submit(1, 0, || 42).unwrap().join().unwrap(), 42);
+    }
 }
 
 #[test]
@@ -205,24 +212,26 @@ fn a_payload_that_panics_does_no_harm() {
 
 #[test]
 fn every_wanted_worker_runs_at_once_and_no_other() {
-    let pool = builder().workers(2).most_workers(6).open().unwrap();
-    for count in [2, 6, 3, 6, 1] {
-        pool.workers(count).unwrap();
-        let barrier = Arc::new(Barrier::new(count as usize));
-        let (now, most) = (Arc::new(AtomicU32::new(0)), Arc::new(AtomicU32::new(0)));
-        let job = |barrier: Arc<Barrier>, now: Arc<AtomicU32>, most: Arc<AtomicU32>| {
-            move || {
-                most.fetch_max(now.fetch_add(1, Ordering::SeqCst) + 1, Ordering::SeqCst);
-                barrier.wait();
-                now.fetch_sub(1, Ordering::SeqCst);
+    for patience in PATIENCE {
+        let pool = builder().patience(patience).workers(2).most_workers(6).open().unwrap();
+        for count in [2, 6, 3, 6, 1] {
+            pool.workers(count).unwrap();
+            let barrier = Arc::new(Barrier::new(count as usize));
+            let (now, most) = (Arc::new(AtomicU32::new(0)), Arc::new(AtomicU32::new(0)));
+            let job = |barrier: Arc<Barrier>, now: Arc<AtomicU32>, most: Arc<AtomicU32>| {
+                move || {
+                    most.fetch_max(now.fetch_add(1, Ordering::SeqCst) + 1, Ordering::SeqCst);
+                    barrier.wait();
+                    now.fetch_sub(1, Ordering::SeqCst);
+                }
+            };
+            let jobs =
+                (0..4 * count).map(|i| pool.submit(i % 3, 0, job(barrier.clone(), now.clone(), most.clone())).unwrap());
+            for handle in jobs.collect::<Vec<_>>() {
+                handle.join().unwrap();
             }
-        };
-        let jobs =
-            (0..4 * count).map(|i| pool.submit(i % 3, 0, job(barrier.clone(), now.clone(), most.clone())).unwrap());
-        for handle in jobs.collect::<Vec<_>>() {
-            handle.join().unwrap();
+            assert_eq!(most.load(Ordering::SeqCst), count);
         }
-        assert_eq!(most.load(Ordering::SeqCst), count);
     }
 }
 

@@ -70,11 +70,12 @@ impl Flood {
 
     /// How many jobs of the flood are run while ten requests of a visitor wait, who comes once half of them are, and who sends
     /// the next request when one is done.
-    fn waits(&self) -> usize {
+    fn waits(&self, patience: f64) -> usize {
         static TURN: Mutex<()> = Mutex::new(()); // one flood at a time
         let _turn = TURN.lock().unwrap_or_else(PoisonError::into_inner);
         let builder = Pool::builder().workers(WORKERS).tenant("flood", 1).tenant("visitor", 1).room(262_144);
-        let pool = builder.policy(Policy::default()).measure(self.measure).open().unwrap();
+        let builder = builder.policy(Policy::default()).measure(self.measure);
+        let pool = builder.patience(patience).open().unwrap();
         let progress = self.begin(&pool);
         while progress.ran() < self.jobs / 2 {
             thread::sleep(Duration::from_millis(1));
@@ -90,10 +91,10 @@ impl Flood {
         waits
     }
 
-    /// Whether a visitor waits for fewer jobs than these in one of some attempts: where a worker loses its processor in the
-    /// midst of a job, the others may run many before that is charged.
+    /// Whether under each patience a visitor waits for fewer jobs than these in one of some attempts: where a worker loses its
+    /// processor in the midst of a job, the others may run many before that is charged.
     fn lets_a_visitor_in(&self, jobs: usize) -> bool {
-        (0..5).any(|_| self.waits() < jobs)
+        [0.0, 0.02, 1.0].into_iter().all(|patience| (0..5).any(|_| self.waits(patience) < jobs))
     }
 }
 

@@ -56,10 +56,11 @@ fn lines_of_the_head(journal: &str) -> usize {
     journal.lines().filter(|line| line.starts_with("tenant ") || line.starts_with("kind ")).count()
 }
 
-/// What the jobs of a pool that rolls over leave in its journals under a policy and an estimator.
-fn each_job_in_a_journal(policy: Policy, estimator: Estimator) {
+/// What the jobs of a pool that rolls over leave in its journals under a policy, an estimator and a patience.
+fn each_job_in_a_journal(policy: Policy, estimator: Estimator, patience: f64) {
     let text = Text::default();
-    let pool = builder().policy(policy).estimator(estimator).entries(200).refresh(Duration::ZERO).open().unwrap();
+    let builder = builder().policy(policy).estimator(estimator).patience(patience);
+    let pool = builder.entries(200).refresh(Duration::ZERO).open().unwrap();
     let journal = pool.journal(text.clone()).unwrap();
     for i in 0..1000_u32 {
         let job = move || {
@@ -108,7 +109,9 @@ fn each_job_in_a_journal(policy: Policy, estimator: Estimator) {
 fn each_job_stands_once_in_a_journal() {
     for policy in [Policy::Wfq, Policy::Wf2q, Policy::Msf2q, Policy::TwoDfq, Policy::TwoDfqPlus] {
         for estimator in [Estimator::Declared, Estimator::Recent, Estimator::Pessimistic] {
-            each_job_in_a_journal(policy, estimator);
+            for patience in [0.0, 0.02, 1.0] {
+                each_job_in_a_journal(policy, estimator, patience);
+            }
         }
     }
 }

@@ -10,6 +10,9 @@ fn builder() -> Builder {
     Pool::builder().tenant("acme", 1).tenant("globex", 2).tenant("hooli", 3).kind("get").kind("scan")
 }
 
+/// None, the usual one, and the greatest.
+const PATIENCE: [f64; 3] = [0.0, 0.02, 1.0];
+
 /// How often each of so many jobs was run.
 #[derive(Clone)]
 struct Runs(Arc<Vec<AtomicU8>>);
@@ -49,46 +52,50 @@ fn insist(pool: &Pool, tenant: u32, kind: u32, mut job: impl FnOnce() + Send + '
 fn each_job_once_while_sixteen_submit_and_the_pool_changes() {
     const SUBMITTERS: usize = 16;
     const EACH: usize = 2000;
-    let pool = builder().workers(3).most_workers(8).room(500).entries(1000).open().unwrap();
-    let runs = Runs::new(SUBMITTERS * EACH);
-    let goes_on = AtomicBool::new(true);
-    thread::scope(|scope| {
-        let (pool, runs, goes_on) = (&pool, &runs, &goes_on);
-        scope.spawn(move || {
-            for count in (1..=8).cycle().take_while(|_| goes_on.load(Ordering::SeqCst)) {
-                pool.workers(count).unwrap();
-                pool.weight(count % 3, 1 + 100 * count).unwrap();
-                thread::sleep(Duration::from_micros(300));
-            }
-        });
-        let submitters = (0..SUBMITTERS).map(|submitter| {
+    for patience in PATIENCE {
+        let pool = builder().patience(patience).workers(3).most_workers(8).room(500).entries(1000).open().unwrap();
+        let runs = Runs::new(SUBMITTERS * EACH);
+        let goes_on = AtomicBool::new(true);
+        thread::scope(|scope| {
+            let (pool, runs, goes_on) = (&pool, &runs, &goes_on);
             scope.spawn(move || {
-                for i in 0..EACH {
-                    insist(pool, (i % 3) as u32, (i % 2) as u32, runs.job(submitter * EACH + i));
+                for count in (1..=8).cycle().take_while(|_| goes_on.load(Ordering::SeqCst)) {
+                    pool.workers(count).unwrap();
+                    pool.weight(count % 3, 1 + 100 * count).unwrap();
+                    thread::sleep(Duration::from_micros(300));
                 }
-            })
+            });
+            let submitters = (0..SUBMITTERS).map(|submitter| {
+                scope.spawn(move || {
+                    for i in 0..EACH {
+                        insist(pool, (i % 3) as u32, (i % 2) as u32, runs.job(submitter * EACH + i));
+                    }
+                })
+            });
+            for submitter in submitters.collect::<Vec<_>>() {
+                submitter.join().unwrap();
+            }
+            goes_on.store(false, Ordering::SeqCst);
         });
-        for submitter in submitters.collect::<Vec<_>>() {
-            submitter.join().unwrap();
-        }
-        goes_on.store(false, Ordering::SeqCst);
-    });
-    pool.join();
-    assert!(runs.each_once());
+        pool.join();
+        assert!(runs.each_once());
+    }
 }
 
 #[test]
 fn a_thousand_rollings_lose_nothing() {
     const JOBS: usize = 20_000;
-    let pool = builder().workers(4).room(500).entries(60).open().unwrap();
-    let runs = Runs::new(JOBS);
-    for i in 0..JOBS {
-        insist(&pool, (i % 3) as u32, 0, runs.job(i));
+    for patience in PATIENCE {
+        let pool = builder().patience(patience).workers(4).room(500).entries(60).open().unwrap();
+        let runs = Runs::new(JOBS);
+        for i in 0..JOBS {
+            insist(&pool, (i % 3) as u32, 0, runs.job(i));
+        }
+        // a job makes three entries, and so each scheduler has served 20 at most
+        assert!(pool.status().schedulers >= 1000);
+        pool.join();
+        assert!(runs.each_once());
     }
-    // a job makes three entries, and so each scheduler has served 20 at most
-    assert!(pool.status().schedulers >= 1000);
-    pool.join();
-    assert!(runs.each_once());
 }
 
 #[test]
@@ -141,40 +148,46 @@ fn hand_in_jobs_that_meet(pool: &Pool, meeting: usize, jobs: usize) -> Vec<Handl
 
 #[test]
 fn no_worker_idles_while_old_schedulers_drain() {
-    let pool = builder().workers(4).entries(16).open().unwrap();
-    for handle in hand_in_jobs_that_meet(&pool, 4, 400) {
-        handle.join().unwrap();
+    for patience in PATIENCE {
+        let pool = builder().patience(patience).workers(4).entries(16).open().unwrap();
+        for handle in hand_in_jobs_that_meet(&pool, 4, 400) {
+            handle.join().unwrap();
+        }
+        assert!(pool.join().schedulers >= 100);
     }
-    assert!(pool.join().schedulers >= 100);
 }
 
 #[test]
 fn workers_that_join_take_from_old_schedulers_too() {
-    let pool = builder().workers(2).most_workers(6).entries(64).open().unwrap();
-    let handles = hand_in_jobs_that_meet(&pool, 6, 120);
-    let schedulers = pool.status().schedulers;
-    assert!(schedulers >= 6);
-    pool.workers(6).unwrap();
-    for handle in handles {
-        handle.join().unwrap();
+    for patience in PATIENCE {
+        let pool = builder().patience(patience).workers(2).most_workers(6).entries(64).open().unwrap();
+        let handles = hand_in_jobs_that_meet(&pool, 6, 120);
+        let schedulers = pool.status().schedulers;
+        assert!(schedulers >= 6);
+        pool.workers(6).unwrap();
+        for handle in handles {
+            handle.join().unwrap();
+        }
+        assert_eq!(pool.join().schedulers, schedulers);
     }
-    assert_eq!(pool.join().schedulers, schedulers);
 }
 
 #[test]
 fn dropped_while_it_runs_it_does_what_it_has() {
-    let runs = Runs::new(1000);
-    let pool = builder().workers(4).entries(100).open().unwrap();
-    for i in 0..1000 {
-        let job = runs.job(i);
-        let slow = move || {
-            thread::sleep(Duration::from_micros(50));
-            job();
-        };
-        pool.submit((i % 3) as u32, 1, slow).unwrap();
+    for patience in PATIENCE {
+        let runs = Runs::new(1000);
+        let pool = builder().patience(patience).workers(4).entries(100).open().unwrap();
+        for i in 0..1000 {
+            let job = runs.job(i);
+            let slow = move || {
+                thread::sleep(Duration::from_micros(50));
+                job();
+            };
+            pool.submit((i % 3) as u32, 1, slow).unwrap();
+        }
+        drop(pool);
+        assert!(runs.each_once());
     }
-    drop(pool);
-    assert!(runs.each_once());
 }
 
 #[test]
@@ -188,9 +201,11 @@ fn a_job_may_drop_its_pool() {
 
 #[test]
 fn jobs_that_find_the_workers_asleep() {
-    let pool = builder().workers(4).open().unwrap();
-    for i in 0..200_u64 {
-        thread::sleep(Duration::from_micros(i % 50 * 20));
-        assert_eq!(pool.submit(0, 0, move || i).unwrap().join(), Ok(i));
+    for patience in PATIENCE {
+        let pool = builder().patience(patience).workers(4).open().unwrap();
+        for i in 0..200_u64 {
+            thread::sleep(Duration::from_micros(i % 50 * 20));
+            assert_eq!(pool.submit(0, 0, move || i).unwrap().join(), Ok(i));
+        }
     }
 }

@@ -39,6 +39,7 @@ const WHOLE_ENTRIES: u32 = 1_000_000;
 ///     .policy(Policy::TwoDfq)
 ///     .estimator(Estimator::Pessimistic)
 ///     .initial(1000)
+///     .patience(0.02)
 ///     .measure(Measure::Wall)
 ///     .refresh(Duration::from_millis(10))
 ///     .room(10_000)
@@ -72,6 +73,7 @@ impl Builder {
             policy: Policy::default(),
             estimator: Estimator::Pessimistic,
             initial: 1000,
+            patience: 0.02,
         };
         let refresh = Duration::from_millis(10);
         Builder { workers: 4, weights: Vec::new(), entries: None, settings, measure: Measure::Wall, refresh }
@@ -154,6 +156,35 @@ impl Builder {
     /// ```
     pub fn initial(mut self, microseconds: u64) -> Builder {
         self.settings.initial = microseconds;
+        self
+    }
+
+    /// What part of its time the pool may lose so that cheap jobs find a free worker: 0 to 1, by default 0.02. 0 turns
+    /// it off.
+    ///
+    /// Where cheap tenants ask for less than their share there are moments with nothing cheap to do. Without patience
+    /// every worker then takes a costly job before its time, and the next cheap one waits until one of these ends. A
+    /// patient worker waits a little before that, and takes the cheap one that comes meanwhile.
+    ///
+    /// A wait ends at the latest when `part` times the estimate of the job that would be taken has passed since the
+    /// worker became free, by its last job's end or its start. The worker asks again whenever something changes, since
+    /// then there may be a job whose time has come. All waits together last at most `part` of what jobs have cost, and
+    /// of a second of every worker besides. So in the long run the pool keeps at least 1 / (1 + `part`) of its time. By
+    /// the first bound alone it would not, since a worker that was given a cheap job may wait anew after it.
+    ///
+    /// Nobody waits where one tenant alone has jobs in the pool, where a sleep would take longer than the wait (about
+    /// 60 microseconds), while an older scheduler has jobs that wait (see [`Builder::entries`]), or once the pool is
+    /// closed.
+    ///
+    /// ```
+    /// use twodfq::{BuildFault, Pool};
+    ///
+    /// let pool = Pool::builder().tenant("acme", 1).tenant("globex", 1).patience(0.05).open().unwrap();
+    /// pool.submit(0, 0, || ()).unwrap();
+    /// assert!(matches!(Pool::builder().tenant("acme", 1).patience(1.5).open(), Err(BuildFault::Patience(1.5))));
+    /// ```
+    pub fn patience(mut self, part: f64) -> Builder {
+        self.settings.patience = part;
         self
     }
 
@@ -243,6 +274,9 @@ impl Builder {
         settings.kinds.sort()?;
         if settings.entries < LEAST_ENTRIES {
             return Err(BuildFault::Entries(settings.entries));
+        }
+        if !(0.0..=1.0).contains(&settings.patience) {
+            return Err(BuildFault::Patience(settings.patience));
         }
         let may_be = 1..=settings.most_workers;
         may_be.contains(&self.workers).then_some(()).ok_or(BuildFault::Workers(self.workers))

@@ -123,6 +123,8 @@ pub enum BuildFault {
     Entries(u32),
     /// More workers than there may be at most.
     Workers(u32),
+    /// A patience that is not 0 to 1.
+    Patience(f64),
     /// The first scheduler was not opened.
     Scheduler(OpenFault),
     /// A thread was not started.
@@ -136,6 +138,7 @@ impl fmt::Display for BuildFault {
             BuildFault::Twice(name) => write!(f, "`{name}` is named twice"),
             BuildFault::Entries(entries) => write!(f, "{entries} entries, and a pool asks for 16 at least"),
             BuildFault::Workers(count) => write!(f, "{count} workers, and it may not have as many"),
+            BuildFault::Patience(part) => write!(f, "a patience of {part}, and it may be 0 to 1"),
             BuildFault::Scheduler(fault) => fault.fmt(f),
             BuildFault::Thread(fault) => write!(f, "a thread was not started: {fault}"),
         }

@@ -6,6 +6,7 @@ mod handle;
 mod jobs;
 mod journal;
 mod names;
+mod patience;
 mod rolling;
 mod scope;
 mod shared;

@@ -3,7 +3,7 @@
 use std::sync::Arc;
 
 use super::names::Names;
-use crate::{Config, Estimator, OpenFault, Policy, Refusal, Scheduler, Submit, Taken};
+use crate::{Config, Due, Estimator, OpenFault, Policy, Refusal, Scheduler, Submit, Taken};
 
 /// The caller whom entries name that no worker made.
 const CALLER: u32 = 64;
@@ -25,6 +25,7 @@ pub(crate) struct Settings {
     pub(crate) policy: Policy,
     pub(crate) estimator: Estimator,
     pub(crate) initial: u64,
+    pub(crate) patience: f64,
 }
 
 impl Settings {
@@ -239,6 +240,19 @@ impl Rolling {
             }
         }
         None
+    }
+
+    /// The estimate of the job that the worker would take before its time. None while an older scheduler has jobs that wait:
+    /// who comes waits for these anyway.
+    pub(crate) fn early(&mut self, moment: u64, worker: u32) -> Option<u64> {
+        let (newest, older) = self.histories.split_last_mut()?;
+        if newest.waiting == 0 || older.iter().any(|history| history.waiting > 0) {
+            return None;
+        }
+        match newest.scheduler.due(moment, worker) {
+            Ok(Due::Early { estimate, .. }) => Some(estimate),
+            _ => None,
+        }
     }
 
     fn place(&self, number: u64) -> Option<usize> {

@@ -6,6 +6,7 @@ use std::time::{Duration, Instant};
 use super::cause::Cause;
 use super::clock::{Clock, Reading};
 use super::jobs::Job;
+use super::patience::{Free, Step};
 use super::rolling::Spare;
 use super::state::{Effects, Ended, Request, Run, State};
 
@@ -19,6 +20,8 @@ pub(crate) struct Shared {
     pub(crate) refresh: Duration,
     /// Workers with nothing to do sleep here,
     news: Condvar,
+    /// here those that would take a job before its time,
+    patient: Condvar,
     /// and here those that are not wanted at present,
     change: Condvar,
     /// and here a journal that has written all that there is.
@@ -27,8 +30,8 @@ pub(crate) struct Shared {
 
 impl Shared {
     pub(crate) fn new(state: State, clock: Clock, refresh: Duration) -> Shared {
-        let [news, change, written] = [(); 3].map(|()| Condvar::new());
-        Shared { state: Mutex::new(state), clock, refresh, news, change, written }
+        let [news, patient, change, written] = [(); 4].map(|()| Condvar::new());
+        Shared { state: Mutex::new(state), clock, refresh, news, patient, change, written }
     }
 
     fn moment(&self) -> u64 {
@@ -56,6 +59,9 @@ impl Shared {
     fn carry_out(&self, effects: Effects) {
         if effects.wakes_worker {
             self.news.notify_one();
+        }
+        if effects.wakes_patient {
+            self.patient.notify_all();
         }
         if effects.wakes_journal {
             self.written.notify_one();
@@ -93,19 +99,26 @@ impl Shared {
     pub(crate) fn next(&self, worker: u32, ended: Option<Ended>) -> Option<Run> {
         // where a job ends the next one is taken
         let mut at = ended.as_ref().map_or_else(|| self.reading(), |ended| ended.at);
+        let mut free = Free::new(worker, at.moment);
         let mut state = self.lock();
         if let Some(ended) = ended {
             state.done(worker, &ended);
         }
         loop {
-            let run = if worker < state.rolling.workers { state.take(at, worker) } else { None };
-            if run.is_some() || state.is_over_for(worker) {
-                self.leave(state);
-                return run;
-            }
+            let until = match state.step(at, &mut free) {
+                Step::Leave(run) => {
+                    self.leave(state);
+                    return run;
+                }
+                Step::Wait(until) => Some(until),
+                Step::Sleep => None,
+            };
             let effects = state.effects();
             if effects.is_none() {
-                state = self.sleep(state, worker);
+                state = match until {
+                    Some(until) => self.wait(state, until),
+                    None => self.sleep(state, worker),
+                };
             } else {
                 drop(state);
                 self.carry_out(effects);
@@ -133,6 +146,16 @@ impl Shared {
         news.wait(state).unwrap_or_else(PoisonError::into_inner)
     }
 
+    /// Waits until there is news, and until this moment at most. All who wait so learn all news: they are few, and only the
+    /// scheduler knows whom a job suits.
+    fn wait<'a>(&'a self, mut state: MutexGuard<'a, State>, until: u64) -> MutexGuard<'a, State> {
+        let left = Duration::from_micros(until.saturating_sub(self.moment()));
+        state.patience.waiting += 1;
+        let (mut state, _) = self.patient.wait_timeout(state, left).unwrap_or_else(PoisonError::into_inner);
+        state.patience.waiting -= 1;
+        state
+    }
+
     pub(crate) fn report(&self, moment: u64, worker: u32, history: u64, tenant: u32, used: u64) {
         let mut state = self.lock();
         state.report(moment, worker, history, tenant, used);
@@ -147,6 +170,7 @@ impl Shared {
         let mut state = self.lock();
         let reply = if state.is_closed { Err(Cause::Closed) } else { change(&mut state, moment) };
         state.sleeping = 0;
+        state.has_news = true;
         let effects = state.effects();
         drop(state);
         self.news.notify_all();

@@ -4,6 +4,7 @@ use std::mem;
 use super::cause::Cause;
 use super::clock::Reading;
 use super::jobs::{Job, Jobs, Waiting};
+use super::patience::Patience;
 use super::rolling::{Dispatch, History, Rolling};
 use crate::Submit;
 
@@ -24,6 +25,13 @@ pub(crate) struct Count {
     pub(crate) panicked: u64,
     pub(crate) reports: u64,
     pub(crate) microseconds: u64,
+}
+
+impl Count {
+    /// Whether the tenant has jobs in the pool.
+    fn is_open(&self) -> bool {
+        self.waiting > 0 || self.running > 0
+    }
 }
 
 /// Whose a job is, and what it is said to cost.
@@ -52,9 +60,9 @@ pub(crate) struct Ended {
 }
 
 /// What is left to do once the lock is given back.
-#[derive(Default)]
 pub(crate) struct Effects {
     pub(crate) wakes_worker: bool,
+    pub(crate) wakes_patient: bool,
     pub(crate) wakes_journal: bool,
     pub(crate) ahead: Option<Vec<u32>>,
     /// These give their memory back.
@@ -63,7 +71,8 @@ pub(crate) struct Effects {
 
 impl Effects {
     pub(crate) fn is_none(&self) -> bool {
-        !self.wakes_worker && !self.wakes_journal && self.ahead.is_none() && self.over.is_empty()
+        let wakes = self.wakes_worker || self.wakes_patient || self.wakes_journal;
+        !wakes && self.ahead.is_none() && self.over.is_empty()
     }
 }
 
@@ -73,6 +82,11 @@ pub(crate) struct State {
     pub(crate) counts: Vec<Count>,
     pub(crate) waiting: u32,
     pub(crate) running: u32,
+    /// How many tenants have jobs that wait or run.
+    pub(crate) open_tenants: u32,
+    pub(crate) patience: Patience,
+    /// Whether something has changed for those who wait patiently.
+    pub(crate) has_news: bool,
     pub(crate) is_closed: bool,
     /// How many workers sleep that were not woken since. It may be too many, since a sleeper may wake by itself.
     pub(crate) sleeping: u32,
@@ -83,12 +97,16 @@ pub(crate) struct State {
 impl State {
     pub(crate) fn new(rolling: Rolling) -> State {
         let counts = vec![Count::default(); rolling.weights.len()];
+        let patience = Patience::new(rolling.settings.patience, rolling.workers);
         State {
             rolling,
             jobs: Jobs::default(),
             counts,
             waiting: 0,
             running: 0,
+            open_tenants: 0,
+            patience,
+            has_news: false,
             is_closed: false,
             sleeping: 0,
             journal_sleeps: false,
@@ -124,11 +142,13 @@ impl State {
             }
         };
         if let Some(count) = self.counts.get_mut(request.tenant as usize) {
+            self.open_tenants += u32::from(reply.is_ok() && !count.is_open());
             count.submitted += u64::from(reply.is_ok());
             count.refused += u64::from(reply.is_err());
             count.waiting += u32::from(reply.is_ok());
         }
         reply?;
+        self.has_news = true;
         self.waiting += 1;
         self.jobs.put(Waiting { job: job(), tenant: request.tenant });
         Ok(())
@@ -148,15 +168,19 @@ impl State {
 
     pub(crate) fn report(&mut self, moment: u64, worker: u32, history: u64, tenant: u32, used: u64) {
         if self.rolling.report(moment, worker, history, used) {
+            self.has_news = true;
             self.counts[tenant as usize].reports += 1;
         }
     }
 
     pub(crate) fn done(&mut self, worker: u32, ended: &Ended) {
         self.rolling.done(ended.at.moment, worker, ended.history, ended.cost);
+        self.patience.earn(ended.cost, self.rolling.workers);
+        self.has_news = true;
         self.running -= 1;
         let count = &mut self.counts[ended.tenant as usize];
         count.running -= 1;
+        self.open_tenants -= u32::from(!count.is_open());
         count.done += 1;
         count.panicked += u64::from(ended.panicked);
         count.microseconds += ended.cost;
@@ -176,8 +200,10 @@ impl State {
 
     /// What is left to do after a call.
     pub(crate) fn effects(&mut self) -> Effects {
+        let wakes_patient = mem::take(&mut self.has_news) && self.patience.waiting > 0;
+        let wakes_worker = mem::take(&mut self.patience.passes_on) && self.wakes_worker();
         let (wakes_journal, over) = (mem::take(&mut self.journal_sleeps), self.released());
-        Effects { wakes_journal, over, ..Effects::default() }
+        Effects { wakes_worker, wakes_patient, wakes_journal, over, ahead: None }
     }
 
     /// The histories that are over and that no journal will read. Where a journal is too slow these are the oldest but the

@@ -58,6 +58,14 @@ pub struct Status {
     /// Virtual time of the newest of these, in steps, of which a unit has 1,048,576; it begins at 0 with each. None once the
     /// pool is closed and all is done.
     pub virtual_time: Option<u128>,
+    /// How many jobs were taken before their time, once the patience was over or where no wait was worth a sleep.
+    /// Nothing is counted where nobody looks: where patience is 0, one tenant alone has jobs in the pool, or an older
+    /// scheduler's wait.
+    pub early: u64,
+    /// How often a worker waited for another job than the one that it would have taken (see `Builder::patience`).
+    pub waits: u64,
+    /// How many microseconds these waits took together, of those that have ended.
+    pub waited: u64,
     /// The tenants by their numbers.
     pub tenants: Vec<TenantStatus>,
 }
@@ -83,6 +91,9 @@ impl Status {
             running: state.running,
             schedulers: state.rolling.opened,
             virtual_time: state.rolling.virtual_time(),
+            early: state.patience.early,
+            waits: state.patience.waits,
+            waited: state.patience.microseconds,
             tenants: Vec::new(),
         }
     }
@@ -97,11 +108,11 @@ impl Status {
     /// ```
     pub fn prometheus(&self) -> String {
         let mut text = String::new();
-        let mut add = |metric| self.add(&mut text, metric);
-        add(Metric("twodfq_workers", "gauge", "Workers that are wanted.", Values::One(self.workers.into())));
-        add(Metric("twodfq_schedulers_total", "counter", "Schedulers that were opened.", Values::One(self.schedulers)));
+        for (name, kind, help, value) in METRICS {
+            self.add(&mut text, Metric(name, kind, help, Values::One(value(self))));
+        }
         for (name, kind, help, value) in TENANT_METRICS {
-            add(Metric(name, kind, help, Values::Tenants(value)));
+            self.add(&mut text, Metric(name, kind, help, Values::Tenants(value)));
         }
         text
     }
@@ -124,7 +135,7 @@ impl Status {
 struct Metric(&'static str, &'static str, &'static str, Values);
 
 enum Values {
-    One(u64),
+    One(Value),
     Tenants(fn(&TenantStatus) -> Value),
 }
 
@@ -143,9 +154,18 @@ impl Display for Value {
     }
 }
 
-type TenantMetric = (&'static str, &'static str, &'static str, fn(&TenantStatus) -> Value);
+/// Name, type, help and value.
+type Row<T> = (&'static str, &'static str, &'static str, fn(&T) -> Value);
 
-const TENANT_METRICS: [TenantMetric; 9] = [
+const METRICS: [Row<Status>; 5] = [
+    ("twodfq_workers", "gauge", "Workers that are wanted.", |status| Value::Count(status.workers.into())),
+    ("twodfq_schedulers_total", "counter", "Schedulers that were opened.", |status| Value::Count(status.schedulers)),
+    ("twodfq_early_takes_total", "counter", "Jobs taken before their time.", |status| Value::Count(status.early)),
+    ("twodfq_waits_total", "counter", "Waits of free workers for other jobs.", |status| Value::Count(status.waits)),
+    ("twodfq_waited_seconds_total", "counter", "What these waits took.", |status| Value::Microseconds(status.waited)),
+];
+
+const TENANT_METRICS: [Row<TenantStatus>; 9] = [
     ("twodfq_weight", "gauge", "The tenant's weight.", |tenant| Value::Count(tenant.weight.into())),
     ("twodfq_jobs_waiting", "gauge", "Jobs that wait.", |tenant| Value::Count(tenant.waiting.into())),
     ("twodfq_jobs_running", "gauge", "Jobs that run.", |tenant| Value::Count(tenant.running.into())),

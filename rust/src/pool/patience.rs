@@ -1,0 +1,134 @@
+//! Patience: a free worker that would have to take a job before its time waits a little, so that it takes a cheap one
+//! that comes meanwhile.
+use super::clock::Reading;
+use super::state::{Run, State};
+
+/// How many microseconds longer a sleep lasts than it was asked to: the kernel's own slack of 50, and the waking.
+/// Nobody sleeps where less than that is left, and all others ask for that much less. By measurement 55 to 70.
+const SLEEP: u64 = 60;
+
+/// For how many microseconds of every worker's work the pool saves up what its workers may wait.
+const SAVED: f64 = 1e6;
+
+/// A worker from the moment at which it became free.
+pub(crate) struct Free {
+    worker: u32,
+    since: u64,
+    /// Whether it has waited when it asked last,
+    is_patient: bool,
+    /// and then since when, and what it may wait.
+    wait: Option<(u64, u64)>,
+}
+
+impl Free {
+    pub(crate) fn new(worker: u32, since: u64) -> Free {
+        Free { worker, since, is_patient: false, wait: None }
+    }
+}
+
+/// What a free worker does next.
+pub(crate) enum Step {
+    /// It runs a job, or ends where nothing more will come for it.
+    Leave(Option<Run>),
+    /// It waits until this moment at most, for a job whose time has come.
+    Wait(u64),
+    /// It sleeps until there is a job for it.
+    Sleep,
+}
+
+/// How patient the workers of a pool are, and what was counted of it since the opening.
+#[derive(Clone, Copy)]
+pub(crate) struct Patience {
+    /// What part of its time the pool may lose, and for what part of a job's estimate a worker waits before it takes it
+    /// early.
+    part: f64,
+    /// How long workers may still wait, in microseconds, less what those may who wait now. Each job that ends adds its
+    /// part.
+    spare: f64,
+    /// How many workers wait now.
+    pub(crate) waiting: u32,
+    /// Whether one has begun to since the last look. Its wake-up is for another one then, who may find the job due.
+    pub(crate) passes_on: bool,
+    /// How many jobs were taken before their time.
+    pub(crate) early: u64,
+    pub(crate) waits: u64,
+    /// How long workers have waited, in microseconds.
+    pub(crate) microseconds: u64,
+}
+
+impl Patience {
+    pub(crate) fn new(part: f64, workers: u32) -> Patience {
+        let spare = part * SAVED * f64::from(workers);
+        Patience { part, spare, waiting: 0, passes_on: false, early: 0, waits: 0, microseconds: 0 }
+    }
+
+    fn is_on(&self) -> bool {
+        self.part > 0.0
+    }
+
+    /// A job has ended.
+    pub(crate) fn earn(&mut self, cost: u64, workers: u32) {
+        let most = self.part * SAVED * f64::from(workers);
+        self.spare = most.min(self.spare + self.part * cost as f64);
+    }
+
+    /// How long the worker may wait from this moment on for another job than one of this estimate: none where that is
+    /// not worth a sleep. It counts from the moment at which the worker became free, whatever jobs it is told of
+    /// meanwhile.
+    fn allows(&self, moment: u64, since: u64, estimate: u64) -> Option<u64> {
+        let last = since + (self.part * estimate as f64) as u64;
+        let time = last.saturating_sub(moment).min(self.spare.max(0.0) as u64);
+        (time > SLEEP).then_some(time)
+    }
+
+    /// The worker begins to wait, or goes on.
+    fn begin(&mut self, free: &mut Free, moment: u64, time: u64) {
+        if !free.is_patient {
+            self.waits += 1;
+            self.passes_on = true;
+        }
+        self.spare -= time as f64;
+        free.is_patient = true;
+        free.wait = Some((moment, time));
+    }
+
+    /// Notes how long the worker has waited since it asked last, if it has.
+    fn settle(&mut self, free: &mut Free, moment: u64) {
+        let Some((begun, time)) = free.wait.take() else { return };
+        let waited = moment.saturating_sub(begun);
+        self.microseconds += waited;
+        self.spare += time as f64 - waited as f64;
+    }
+}
+
+impl State {
+    /// What the free worker does at this moment.
+    pub(crate) fn step(&mut self, at: Reading, free: &mut Free) -> Step {
+        self.patience.settle(free, at.moment);
+        let is_wanted = free.worker < self.rolling.workers;
+        let early = if is_wanted { self.early(at.moment, free.worker) } else { None };
+        if let Some(time) = early.and_then(|estimate| self.patience.allows(at.moment, free.since, estimate)) {
+            self.patience.begin(free, at.moment, time);
+            return Step::Wait(at.moment + time - SLEEP);
+        }
+        free.is_patient = false;
+        let run = if is_wanted { self.take(at, free.worker) } else { None };
+        self.patience.early += u64::from(early.is_some() && run.is_some());
+        if run.is_some() || self.is_over_for(free.worker) {
+            Step::Leave(run)
+        } else {
+            Step::Sleep
+        }
+    }
+
+    /// The estimate of the job that the worker would take before its time, where somebody may gain by its patience:
+    /// nobody does where one tenant alone has jobs in the pool.
+    fn early(&mut self, moment: u64, worker: u32) -> Option<u64> {
+        let may_gain = self.patience.is_on() && self.open_tenants > 1 && !self.is_closed;
+        if may_gain {
+            self.rolling.early(moment, worker)
+        } else {
+            None
+        }
+    }
+}
