@@ -1,12 +1,12 @@
 -- What is answered of a trace that was compared.
-use Rattle.std.proofs.Common.{ℕ, ◌<◌, ◌≤◌, ◌≡◌, ap, subst, refl, arith, false, true, Bool, List, length, inl, inr, ◌⊎◌, Result, Ok, Err}
+use Rattle.std.proofs.Common.{ℕ, ◌≤◌, ◌≡◌, ap, subst, refl, arith, false, true, Bool, List, length, inl, inr, ◌⊎◌, Result, Ok, Err}
 use Rattle.std.proofs.lemmas.Bool.{ltb-true}
 use Rattle.std.proofs.lemmas.Slice.Zip.{AllZip-long}
 use Rattle.fq_model.specs.declared.limits.TheConstants.{MOST_ENTRIES}
 use Rattle.program_model.specs.declared.compare.CompareOptions.{CompareOptions}
 use Rattle.program_model.specs.declared.compare.CompareRow.{CompareRow}
 use Rattle.program_model.specs.declared.ending.Stop.{Stop}
-use Rattle.program_model.specs.Answer.{Answer, Text}
+use Rattle.program_model.specs.Answer.{Text}
 use Rattle.program_model.specs.Compare.{all_pairs, IsCompared}
 use Rattle.program_model.specs.CompareCommand.{AreAllRows, IsFirstLong, IsRowsAnswer, IsLongAnswer, IsComparisonAnswer}
 use Rattle.program_model.specs.HistoryAnswer.{has_many_entries, entries_answer, cells_answer}

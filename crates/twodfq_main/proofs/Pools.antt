@@ -1,5 +1,5 @@
 -- What is answered of a history of a pool, which leaves no request undone.
-use Rattle.std.proofs.Common.{ℕ, ◌≡◌, ◌∙◌, sym, ap, subst, refl, arith, List, ◌++◌, length, true, false, None}
+use Rattle.std.proofs.Common.{ℕ, ◌≡◌, ◌∙◌, sym, ap, subst, refl, arith, List, ◌++◌, length, false, None}
 use Rattle.std.specs.String.{string_bytes}
 use Rattle.std.proofs.lemmas.Bool.{ltb-false}
 use Rattle.fq_model.specs.declared.config.Config.{Config}

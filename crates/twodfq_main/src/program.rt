@@ -39,11 +39,11 @@ pub fn twodfq<T: Wait + Threads + Sync, R: Source, W: Sink, E: Sink, K: Clock + 
     ensures sink_room { W.room sink.new ≡ W.room sink.old }
 {
     let ask = command(words);
-    if is_to_wait(ask) {
+    if is_to_wait(&ask) {
         let end = live_end(rt, alloc, ask, source, sink, clock);
         return told(errs, end);
     }
-    if is_to_compare(ask) {
+    if is_to_compare(&ask) {
         let end = compare_end(rt, alloc, ask, source, sink);
         return told(errs, end);
     }
@@ -52,15 +52,15 @@ pub fn twodfq<T: Wait + Threads + Sync, R: Source, W: Sink, E: Sink, K: Clock + 
 }
 
 // Whether a command is asked for that waits for threads.
-fn is_to_wait(ask: Option<Command>) -> bool
-    ensures { result ≡ is_some (if_served is_live ask) }
+fn is_to_wait(ask: &Option<Command>) -> bool
+    ensures { result ≡ is_some (if_served is_live ask.now) }
 {
     matches!(ask, Some(Command::Live { .. }))
 }
 
 // Whether a comparison is asked for.
-fn is_to_compare(ask: Option<Command>) -> bool
-    ensures { result ≡ is_some (if_served is_compare ask) }
+fn is_to_compare(ask: &Option<Command>) -> bool
+    ensures { result ≡ is_some (if_served is_compare ask.now) }
 {
     matches!(ask, Some(Command::Compare { .. }))
 }
@@ -201,7 +201,7 @@ fn plain_end<R: Source, W: Sink>(
 {
     match ask {
         Some(Command::Plain(command)) => {
-            let input = read_input(alloc, reads_input(command), source)?;
+            let input = read_input(alloc, reads_input(&command), source)?;
             let output = plain::answer(alloc, command, input);
             written(sink, output)
         }

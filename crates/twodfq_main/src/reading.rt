@@ -14,8 +14,8 @@ use std::alloc::Global;
 pub const GREATEST_INPUT: u64 = 67108864;
 
 /// Whether the command reads an input.
-pub fn reads_input(command: PlainCommand) -> bool
-    ensures { result ≡ reads_input (Plain command) }
+pub fn reads_input(command: &PlainCommand) -> bool
+    ensures { result ≡ reads_input (Plain command.now) }
 {
     !matches!(command, PlainCommand::Gen { .. })
 }
