@@ -39,22 +39,25 @@ class Block:
         """Whether all are entries, but for digits in their words, and moments don't go back. Where not, some line has a
         fault."""
         alike = text.translate(ALIKE)
-        if b"  " in alike or LEADING_ZERO.search(text) or b"0" * 20 in alike and self.has_too_great():
+        if b"  " in alike or LEADING_ZERO.search(text):
             return False
         if not SHAPES.issuperset(text[:-1].translate(None, b"0123456789").split(b"\n")):
+            return False
+        if b"0" * 20 in alike and self.has_too_great():
             return False
         self.read_moments()
         return self.moments[0] >= now and self.moments == sorted(self.moments)
 
     def has_too_great(self):
-        return any(len(it) >= 20 and int(it) > GREATEST for fields in self.fields for it in fields[1:])
+        greatest = b"%d" % GREATEST
+        return any((len(it), it) > (20, greatest) for fields in self.fields for it in fields[1:] if len(it) >= 20)
 
 
 class Lines:
     """The lines of a file as lists of words. `number` is that of the line that was read last."""
 
     def __init__(self, file, name):
-        self.file, self.name, self.number = file.buffer, name, 0
+        self.file, self.name, self.number = file, name, 0
         self.progress = Progress(file, name)
         self.text, self.at = b"", 0
         self.fill()
@@ -64,9 +67,9 @@ class Lines:
     def fill(self):
         """Reads on to the end of a line, where all lines so far were asked for."""
         if self.at == len(self.text):
-            self.text, self.at = self.file.read(SIZE), 0
+            self.text, self.at = self.file.buffer.read(SIZE), 0
             if not self.text.endswith(b"\n"):
-                self.text += self.file.readline()
+                self.text += self.file.buffer.readline()
             self.progress.add(len(self.text))
 
     def fault(self, what):
