@@ -31,8 +31,8 @@ class Journal:
     a fault, but whether its decisions were right is not asked.
 
     What the entries so far say of requests stands in columns, by number: tenant, kind, submitted, taken, worker, done;
-    and label and cost as digits. What is not known yet is None. And there are `waiting` (the requests of each tenant, of
-    which the first waits), `since` (when a tenant last began to wait), `running` (the digits of requests, by those of
+    and label and cost as digits. What is not known yet is None. And there are `waiting` (the requests of each tenant,
+    of which the first waits), `since` (when a tenant last began to wait), `running` (the digits of requests, by those of
     workers), `withdrawn`, `pool` (the number of workers), `changes`, and `now`, the moment of the last entry."""
 
     def __init__(self, file, name):

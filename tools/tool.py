@@ -22,7 +22,7 @@ class Progress:
     def __init__(self, file, name):
         self.name, self.read, self.next = name, 0, time.monotonic() + PATIENCE
         try:
-            self.size = os.fstat(file.fileno()).st_size
+            self.size = os.fstat(file.fileno()).st_size if file else 0
         except OSError:
             self.size = 0
 
