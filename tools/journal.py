@@ -5,6 +5,7 @@ passed over, and a lag report after it is left for who reads on. docs/FORMATS.md
 """
 
 import collections
+import copy
 import gc
 import re
 
@@ -15,6 +16,9 @@ POLICIES = ("wfq", "wf2q", "msf2q", "2dfq", "2dfq+")
 ESTIMATORS = ("declared", "recent", "pessimistic")
 REPLIES = ("request", "run", "ok", "retired", "idle", "drained", "refused", "withdrawn")
 VERSIONS = (["journal", "1"], ["journal", "2"], ["journal", "3"])
+# What of a journal its entries make, but for what waits.
+STATE = "tenant kind submitted label taken worker done cost since running numbers".split()
+STATE += "withdrawn pool changes now is_closed".split()
 WORKERS = {b"%d" % worker: worker for worker in range(64)}
 
 # A tenant's weight is set, or where the tenant is None the number of workers.
@@ -97,18 +101,28 @@ class Journal:
     def steps(self):
         """Reads the entries. After each take it stops with the request and its block of lines, and after a block's last
         entry with None and the block."""
-        while True:
-            block, fault = self.lines.block(self.now)
-            if block is None:
-                break
-            for number in self.added(block):
-                yield number, block
-            if fault:
-                raise fault
-            yield None, block
-            self.now = block.moments[-1]
+        text = self.lines.text_ahead()
+        while text:
+            yield from self.steps_of(text)
+            text = self.lines.text_ahead()
         # the line after the last entry, the first of a report
         self.ahead = self.lines.words()
+
+    def steps_of(self, text):
+        """The same of lines that come next."""
+        block, fault = self.lines.block(text, self.now)
+        for number in self.added(block):
+            yield number, block
+        if fault:
+            raise fault
+        yield None, block
+        self.now = block.moments[-1]
+
+    def follow(self, other):
+        """Lets this journal stand where another does, whose entries so far are the same."""
+        for it in STATE:
+            setattr(self, it, copy.copy(getattr(other, it)))
+        self.waiting = [numbers.copy() for numbers in other.waiting]
 
     def added(self, block):
         """Adds the entries of a block, and stops after each take. Most of the time goes by here, so what most entries

@@ -17,7 +17,7 @@ ENTRIES = {"submit": 7, "take": 5, "report": 5, "done": 5, "close": 2, "weight":
 # What is left of a line without its digits.
 SHAPES = {f"{word}{' ' * count}".encode() for word, count in ENTRIES.items()}
 # How many bytes are read at once.
-SIZE = 1 << 16
+SIZE = 1 << 15
 REPORT = b"report 1\n"
 LEADING_ZERO = re.compile(rb" 0[0-9]")
 # Digits are alike, and ends of lines are spaces.
@@ -127,24 +127,25 @@ class Lines:
         self.expect(moment >= now, "the moment goes back")
         return moment
 
-    def next_text(self):
+    def text_ahead(self):
         """The lines up to a lag report, as far as they were read already; none after the last."""
         self.fill()
         text = self.text[self.at :] if self.at else self.text
         end = 0 if text.startswith(REPORT) else text.find(b"\n" + REPORT) + 1 or len(text)
-        self.at += end
-        return text[:end]
+        return text if end == len(text) else text[:end]
 
-    def block(self, now):
-        """The entries that come next, up to a fault or a lag report, and then the fault; None after the last."""
-        text, before = self.next_text(), self.number
-        if not text:
-            return None, None
-        block = Block(before, text[:-1].split(b"\n"))
-        self.number += len(block.lines)
+    def pass_over(self, text):
+        """Lets these lines, which come next, be read."""
+        self.at += len(text)
+        self.number += text.count(b"\n")
+
+    def block(self, text, now):
+        """Lines that come next as entries, up to a fault, and then the fault."""
+        block = Block(self.number, text[:-1].split(b"\n"))
+        self.pass_over(text)
         if text.endswith(b"\n") and block.is_plain(text, now):
             return block, None
-        return self.up_to_fault(before, text, now)
+        return self.up_to_fault(block.before, text, now)
 
     def up_to_fault(self, before, text, now):
         """The entries before the first line with a fault, and it."""
