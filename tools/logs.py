@@ -17,6 +17,7 @@ ACCESS = re.compile(
     r"(?P<address>\S+) (?P<identity>\S+) (?P<user>.+?) \[(?P<time>[^\]]+)\] "
     r'"(?P<method>\S+) (?P<path>\S+)(?: [^" ]*)?" (?P<status>\d{3}) (?P<size>\d+|-)(?P<more>(?: .*)?)'
 )
+AGENT = re.compile(r' "((?:[^"\\]|\\.)*)" "((?:[^"\\]|\\.)*)"')
 # A word behind, which may be quoted and have a name, as rt=0.125.
 WORD = re.compile(r'(?:(?P<name>[A-Za-z_]\w*)=)?(?:"(?P<quoted>(?:[^"\\]|\\.)*)"|(?P<bare>\S+))')
 # nginx writes `-` where it asked no other server, and a list where it asked several.
@@ -30,8 +31,8 @@ ENVOY = re.compile(
 PART = re.compile(r"part([1-9][0-9]?)")
 # The columns of an access log that not every line has.
 BEHIND = re.compile(r"word[1-9][0-9]?|=[A-Za-z_]\w*|duration|referer|agent")
-# So much of a line is shown.
-MOST_SHOWN = 160
+# So much of a line is shown, and after so many letters it is asked whether to tell how far a file is read.
+MOST_SHOWN, MOST_UNTOLD = 160, 100_000
 
 
 class Unread(Exception):
@@ -44,15 +45,16 @@ def access(line):
     if not found:
         return None
     columns = found.groupdict()
-    words = list(WORD.finditer(columns.pop("more")))
-    if len(words) >= 2 and all(it["quoted"] is not None and not it["name"] for it in words[:2]):
-        columns["referer"], columns["agent"] = (it["quoted"] for it in words[:2])
-        words = words[2:]
-    for number, word in enumerate(words, 1):
-        text = word["bare"] if word["quoted"] is None else word["quoted"]
-        columns[f"word{number}"] = columns["duration"] = text
-        if word["name"]:
-            columns["=" + word["name"]] = text
+    more = columns.pop("more")
+    agent = AGENT.match(more)
+    if agent:
+        columns["referer"], columns["agent"] = agent.groups()
+        more = more[agent.end() :]
+    for number, word in enumerate(WORD.finditer(more), 1):
+        name, quoted, bare = word.groups()
+        columns[f"word{number}"] = columns["duration"] = bare if quoted is None else quoted
+        if name:
+            columns["=" + name] = columns["duration"]
     return columns
 
 
@@ -146,8 +148,9 @@ def member(columns, name):
 
 def value(columns, name, path):
     """The text of a column, or of a part of the path."""
-    found, part = member(columns, name), PART.fullmatch(name)
-    if found is None and part:
+    found = member(columns, name)
+    part = PART.fullmatch(name) if found is None else None
+    if part:
         parts = parts_of(value(columns, path, path))
         found = parts[int(part[1]) - 1] if int(part[1]) <= len(parts) else None
     if not isinstance(found, str):
@@ -171,8 +174,13 @@ def opened_log(name):
 
 
 def told_lines(file, progress):
+    """The lines of a file; now and then it is told how far it is read."""
+    count = 0
     for line in file:
-        progress.add(len(line))
+        count += len(line)
+        if count > MOST_UNTOLD:
+            progress.add(count)
+            count = 0
         yield line
 
 
