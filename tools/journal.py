@@ -1,104 +1,58 @@
-"""Reads journals for the tools beside this file, and has what these share: their faults, tables, percentiles and
-`main`.
+"""Reads journals for the tools beside this file.
 
 What is read is what `script`, `run` and `live` write with `--print journal` or `both`: replies before a journal are
 passed over, and a lag report after it is left for who reads on. docs/FORMATS.md has the formats.
 """
 
-import argparse
 import collections
-import contextlib
-import os
+import copy
+import gc
 import re
-import sys
 
-NUMBER = re.compile(r"0|[1-9][0-9]{0,19}")
+from lines import Lines
+
 NAME = re.compile(r"[A-Za-z0-9_.-]{1,64}")
-GREATEST = 2**64 - 1
 POLICIES = ("wfq", "wf2q", "msf2q", "2dfq", "2dfq+")
 ESTIMATORS = ("declared", "recent", "pessimistic")
-REPLIES = ("request", "run", "ok", "retired", "idle", "drained", "refused")
-# How many numbers follow each word.
-ENTRIES = {"submit": 7, "take": 5, "report": 5, "done": 5, "close": 2, "weight": 4, "workers": 3}
+REPLIES = ("request", "run", "ok", "retired", "idle", "drained", "refused", "withdrawn")
+VERSIONS = (["journal", "1"], ["journal", "2"], ["journal", "3"])
+# What of a journal its entries make, but for what waits.
+STATE = "tenant kind submitted label taken worker done cost since running numbers".split()
+STATE += "withdrawn pool changes now is_closed".split()
+WORKERS = {b"%d" % worker: worker for worker in range(64)}
 
-Entry = collections.namedtuple("Entry", "line word numbers")
 # A tenant's weight is set, or where the tenant is None the number of workers.
 Change = collections.namedtuple("Change", "moment tenant value")
 
 
-class Fault(Exception):
-    """What is wrong with an input, and where."""
-
-
-class Lines:
-    """The lines of a file as lists of words. `number` is that of the line that was read last."""
-
-    def __init__(self, file, name):
-        self.file, self.name, self.number = file, name, 0
-
-    def fault(self, what):
-        return Fault(f"{self.name}: line {self.number}: {what}")
-
-    def expect(self, holds, what):
-        if not holds:
-            raise self.fault(what)
-
-    def words(self):
-        """The words of the next line, or None after the last line."""
-        line = self.file.readline()
-        self.number += 1
-        if not line:
-            return None
-        self.expect(line.endswith("\n"), "the line is cut off")
-        self.expect(not line.endswith("\r\n"), "the line ends with CR and LF, and not with LF alone")
-        return line[:-1].split(" ")
-
-    def fields(self, words, count):
-        if len(words) != count:
-            raise self.fault(f"{len(words)} fields")
-
-    def numbers(self, words, first=1):
-        """The numbers that stand in a line's words from this place on, counted from 0."""
-        found = words[first:]
-        if all(map(NUMBER.fullmatch, found)):
-            found = [int(word) for word in found]
-            if max(found, default=0) <= GREATEST:
-                return found
-        is_number = lambda word: NUMBER.fullmatch(str(word)) and int(word) <= GREATEST
-        place = next(place for place, word in enumerate(found, first + 1) if not is_number(word))
-        raise self.fault(f"field {place} is not a number")
-
-    def number_within(self, words, place, low, high):
-        number, *_ = self.numbers(words[: place + 1], place)
-        self.expect(low <= number <= high, f"field {place + 1} is out of range")
-        return number
-
-
-class Request:
-    """A request as far as its entries tell: what is not known yet is None."""
-
-    __slots__ = "number tenant kind declared label submitted worker taken estimate done cost".split()
-
-    def __init__(self, number, tenant, kind, declared, label, submitted):
-        self.number, self.tenant, self.kind = number, tenant, kind
-        self.declared, self.label, self.submitted = declared, label, submitted
-        self.worker = self.taken = self.estimate = self.done = self.cost = None
+def numbered(names):
+    """The number of each name, by its digits."""
+    return {b"%d" % number: number for number in range(len(names))}
 
 
 class Journal:
-    """A journal. Its head is read at once, and its entries by iteration: an entry that no scheduler could have written is
-    a fault, but whether its decisions were right is not asked. What the entries so far say stands in `requests` (by
-    number), `waiting` (the numbers of requests, by tenant), `running` (by worker), `pool` (the number of workers),
-    `changes` and `now`, the moment of the last."""
+    """A journal. Its head is read at once, and its entries by `steps`: an entry that no scheduler could have written is
+    a fault, but whether its decisions were right is not asked.
+
+    What the entries so far say of requests stands in columns, by number: tenant, kind, submitted, taken, worker, done;
+    and label and cost as digits. What is not known yet is None. And there are `waiting` (the requests of each tenant,
+    of which the first waits), `since` (when a tenant last began to wait), `running` (the digits of requests, by those of
+    workers), `withdrawn`, `pool` (the number of workers), `changes`, and `now`, the moment of the last entry."""
 
     def __init__(self, file, name):
+        # (nothing that is kept here refers to itself)
+        gc.disable()
         self.lines, self.name = Lines(file, name), name
         self.expect = self.lines.expect
-        self.requests, self.running, self.changes = [], {}, []
+        self.read_head()
+        self.tenant_of, self.kind_of = numbered(self.tenants), numbered(self.kinds)
+        self.tenant, self.kind, self.submitted, self.label = [], [], [], []
+        self.taken, self.worker, self.done, self.cost = [], [], [], []
+        self.waiting, self.since = [collections.deque() for _ in self.tenants], [0] * len(self.tenants)
+        # (`numbers` has what runs on each worker, or did last)
+        self.running, self.numbers, self.withdrawn = {}, {}, set()
+        self.pool, self.changes = self.workers, []
         self.now, self.is_closed = 0, False
-        self.ahead = self.read_head()
-        self.pool = self.workers
-        self.waiting = [collections.deque() for _ in self.tenants]
 
     def next_of_head(self):
         words = self.lines.words()
@@ -106,11 +60,11 @@ class Journal:
         return words
 
     def read_head(self):
-        """Reads all above the entries, and gives the line after that."""
+        """Reads all above the entries."""
         words = self.next_of_head()
         while words[0] in REPLIES:
             words = self.next_of_head()
-        self.expect(words in (["journal", "1"], ["journal", "2"]), "not a journal")
+        self.expect(words in VERSIONS, "not a journal")
         self.version = int(words[1])
         self.read_config(self.next_of_head())
         self.tenants, self.weights, self.kinds = [], [], []
@@ -126,7 +80,7 @@ class Journal:
             self.lines.fields(words, 2)
             self.kinds.append(self.named(words[1], names))
             words = self.lines.words()
-        return words
+        self.lines.back(words)
 
     def read_config(self, words):
         self.expect(words[0] == "config", "not a config line")
@@ -144,133 +98,173 @@ class Journal:
         others.add(name)
         return name
 
-    def __iter__(self):
-        while self.ahead and self.ahead != ["report", "1"]:
-            words, lines = self.ahead, self.lines
-            if words[0] not in ENTRIES:
-                raise lines.fault(f"{words[0] or 'an empty line'} is no entry")
-            lines.fields(words, 1 + ENTRIES[words[0]])
-            numbers = lines.numbers(words)
-            self.expect(numbers[1] >= self.now, "the moment goes back")
-            self.now = numbers[1]
-            self.add[words[0]](self, *numbers[1:])
-            yield Entry(lines.number, words[0], numbers)
-            self.ahead = lines.words()
+    def steps(self):
+        """Reads the entries. After each take it stops with the request and its block of lines, and after a block's last
+        entry with None and the block."""
+        text = self.lines.text_ahead()
+        while text:
+            yield from self.steps_of(text)
+            text = self.lines.text_ahead()
+        # the line after the last entry, the first of a report
+        self.ahead = self.lines.words()
 
-    def whole(self):
-        """This journal, after its last entry."""
-        collections.deque(self, maxlen=0)
-        return self
+    def steps_of(self, text):
+        """The same of lines that come next."""
+        block, fault = self.lines.block(text, self.now)
+        for number in self.added(block):
+            yield number, block
+        if fault:
+            raise fault
+        yield None, block
+        self.now = block.moments[-1]
 
-    def add_submit(self, moment, number, tenant, kind, declared, label):
-        self.expect(not self.is_closed, "a submit after the close")
-        self.expect(number == len(self.requests), f"request {number} where {len(self.requests)} comes next")
-        self.expect(tenant < len(self.tenants), f"there is no tenant {tenant}")
-        self.expect(kind < len(self.kinds), f"there is no kind {kind}")
-        self.requests.append(Request(number, tenant, kind, declared, label, moment))
-        self.waiting[tenant].append(number)
+    def follow(self, other):
+        """Lets this journal stand where another does, whose entries so far are the same."""
+        for it in STATE:
+            setattr(self, it, copy.copy(getattr(other, it)))
+        self.waiting = [numbers.copy() for numbers in other.waiting]
 
-    def add_take(self, moment, worker, number, estimate):
-        self.expect(worker < self.pool, f"worker {worker} is not among the workers")
-        self.expect(worker not in self.running, f"worker {worker} runs a request already")
-        self.expect(number < len(self.requests), f"request {number} was not submitted")
-        request = self.requests[number]
-        waiting = self.waiting[request.tenant]
-        self.expect(waiting and waiting[0] == number, f"request {number} is not the one that waits first of its tenant")
-        waiting.popleft()
-        self.running[worker] = number
-        request.worker, request.taken, request.estimate = worker, moment, estimate
+    def added(self, block):
+        """Adds the entries of a block, and stops after each take. Most of the time goes by here, so what most entries
+        need is done in place."""
+        running, numbers, taken, worker_of, done, cost = self.columns(block)
+        for fields, moment in zip(block.fields, block.moments):
+            word = fields[0]
+            if word == b"report":
+                if running.get(fields[3]) != fields[4]:
+                    self.refuse(block, fields, self.why_not_used(fields))
+            elif word == b"take":
+                _, _, _, worker, digits, _ = fields
+                number = int(digits)
+                if WORKERS.get(worker, 64) >= self.pool or worker in running or not self.is_first(number):
+                    self.refuse(block, fields, self.why_not_taken(fields))
+                running[worker], numbers[worker] = digits, number
+                taken[number], worker_of[number] = moment, WORKERS[worker]
+                yield number
+            elif word == b"done":
+                worker = fields[3]
+                if running.pop(worker, None) != fields[4]:
+                    self.refuse(block, fields, self.why_not_used(fields))
+                number = numbers[worker]
+                done[number], cost[number] = moment, fields[5]
+            elif word == b"submit":
+                if self.is_closed or not self.add_submit(moment, fields):
+                    self.refuse(block, fields, self.why_not_submitted(fields))
+            else:
+                self.add_other(block, fields, moment)
 
-    def add_report(self, moment, worker, number, used):
-        self.expect(self.running.get(worker) == number, f"worker {worker} does not run request {number}")
+    def columns(self, block):
+        """What is written of running requests, with room for the requests of a block."""
+        count = sum(fields[0] == b"submit" for fields in block.fields)
+        columns = self.taken, self.worker, self.done, self.cost
+        for column in columns:
+            column += [None] * count
+        return self.running, self.numbers, *columns
 
-    def add_done(self, moment, worker, number, cost):
-        self.expect(self.running.get(worker) == number, f"worker {worker} does not run request {number}")
-        del self.running[worker]
-        self.requests[number].done, self.requests[number].cost = moment, cost
+    def refuse(self, block, fields, why):
+        """Tells why no scheduler could have written this line of a block."""
+        place = next(place for place, it in enumerate(block.fields) if it is fields)
+        self.lines.number = block.before + place + 1
+        raise self.lines.fault(why)
+
+    def add_submit(self, moment, fields):
+        """Whether it could be written; if not, nothing is added."""
+        _, _, _, number, tenant, kind, _, label = fields
+        count, tenant, kind = len(self.submitted), self.tenant_of.get(tenant), self.kind_of.get(kind)
+        if int(number) != count or tenant is None or kind is None:
+            return False
+        waiting = self.waiting[tenant]
+        if not waiting:
+            self.since[tenant] = moment
+        waiting.append(count)
+        self.submitted.append(moment)
+        self.tenant.append(tenant)
+        self.kind.append(kind)
+        self.label.append(label)
+        return True
+
+    def why_not_submitted(self, fields):
+        _, _, _, number, tenant, kind, _, _ = (it.decode() for it in fields)
+        if self.is_closed:
+            return "a submit after the close"
+        if int(number) != len(self.submitted):
+            return f"request {number} where {len(self.submitted)} comes next"
+        return f"there is no kind {kind}" if fields[4] in self.tenant_of else f"there is no tenant {tenant}"
+
+    def is_first(self, number):
+        """Whether a request waits and is the first of its tenant; it does not wait from here on."""
+        if number >= len(self.submitted):
+            return False
+        waiting = self.waiting[self.tenant[number]]
+        if not waiting or waiting.popleft() != number:
+            return False
+        if self.withdrawn:
+            self.pass_over(waiting)
+        return True
+
+    def pass_over(self, waiting):
+        """Lets the first of a tenant's requests be one that waits."""
+        while waiting and waiting[0] in self.withdrawn:
+            waiting.popleft()
+
+    def why_not_taken(self, fields):
+        _, _, _, worker, number, _ = (it.decode() for it in fields)
+        if int(worker) >= self.pool:
+            return f"worker {worker} is not among the workers"
+        if fields[3] in self.running:
+            return f"worker {worker} runs a request already"
+        if int(number) >= len(self.submitted):
+            return f"request {number} was not submitted"
+        return f"request {number} is not the one that waits first of its tenant"
+
+    def why_not_used(self, fields):
+        return f"worker {fields[3].decode()} does not run request {fields[4].decode()}"
+
+    def add_other(self, block, fields, moment):
+        word = fields[0].decode()
+        add = self.others.get(word)
+        why = add(self, moment, *fields[3:]) if add else f"{word} is no entry"
+        if why:
+            self.refuse(block, fields, why)
+
+    # These tell why not, or nothing.
 
     def add_close(self, moment):
-        self.expect(not self.is_closed, "a second close")
+        if self.is_closed:
+            return "a second close"
         self.is_closed = True
 
     def add_weight(self, moment, tenant, weight):
-        self.expect(self.version == 2, "a weight entry below journal 1")
-        self.expect(tenant < len(self.tenants), f"there is no tenant {tenant}")
-        self.expect(1 <= weight <= 1000, "field 5 is out of range")
-        self.changes.append(Change(moment, tenant, weight))
+        if self.version < 2:
+            return "a weight entry below journal 1"
+        if tenant not in self.tenant_of:
+            return f"there is no tenant {tenant.decode()}"
+        if not 1 <= int(weight) <= 1000:
+            return "field 5 is out of range"
+        self.changes.append(Change(moment, self.tenant_of[tenant], int(weight)))
 
     def add_workers(self, moment, count):
-        self.expect(self.version == 2, "a workers entry below journal 1")
-        self.expect(1 <= count <= self.workers, "field 4 is out of range")
-        self.pool = count
-        self.changes.append(Change(moment, None, count))
+        if self.version < 2:
+            return "a workers entry below journal 1"
+        if not 1 <= int(count) <= self.workers:
+            return "field 4 is out of range"
+        self.pool = int(count)
+        self.changes.append(Change(moment, None, self.pool))
 
-    add = {
-        "submit": add_submit,
-        "take": add_take,
-        "report": add_report,
-        "done": add_done,
-        "close": add_close,
-        "weight": add_weight,
-        "workers": add_workers,
-    }
+    def add_withdraw(self, moment, digits):
+        number = int(digits)
+        if self.version < 3:
+            return f"a withdraw entry below journal {self.version}"
+        if number >= len(self.submitted):
+            return f"request {number} was not submitted"
+        if number in self.withdrawn or self.taken[number] is not None:
+            return f"request {number} does not wait"
+        self.withdrawn.add(number)
+        self.pass_over(self.waiting[self.tenant[number]])
 
+    others = {"close": add_close, "weight": add_weight, "workers": add_workers, "withdraw": add_withdraw}
 
-def percentile(ranked, percent):
-    """The one at rank percent/100 of their number, rounded up, as lag reports have it. They stand in order."""
-    return ranked[max(1, -(-percent * len(ranked) // 100)) - 1]
-
-
-def table(rows, names=1):
-    """Rows of cells as text: the first columns to the left, the others, which are numbers, to the right."""
-    rows = [[str(cell) for cell in row] for row in rows]
-    widths = [max(map(len, column)) for column in zip(*rows)]
-    aligned = lambda place, cell: cell.ljust(widths[place]) if place < names else cell.rjust(widths[place])
-    return "".join("  ".join(aligned(*it) for it in enumerate(row)).rstrip() + "\n" for row in rows)
-
-
-@contextlib.contextmanager
-def opened(name):
-    """A file as it is, or standard input for `-`, and what it is called in messages."""
-    how = {"encoding": "utf-8-sig", "errors": "surrogateescape", "newline": "\n"}
-    if name == "-":
-        sys.stdin.reconfigure(**how)
-        yield sys.stdin, "standard input"
-    else:
-        with open(name, **how) as file:
-            yield file, name
-
-
-def words_by(text):
-    """What reads a tool's words; its page is the text at the top of the tool."""
-    about, _, more = text.partition("\n\n")
-    return argparse.ArgumentParser(
-        description=about, epilog=more, formatter_class=argparse.RawDescriptionHelpFormatter, allow_abbrev=False
-    )
-
-
-def within(low, high):
-    """What reads a number of these from a tool's words."""
-
-    def number(word):
-        if not NUMBER.fullmatch(word) or not low <= int(word) <= high:
-            raise argparse.ArgumentTypeError(f"{word!r} is not a number from {low} to {high}")
-        return int(word)
-
-    return number
-
-
-def run(main):
-    """Runs a tool: `main` gives the whole text that it writes, and the status. A fault is told, with status 1."""
-    name = os.path.basename(sys.argv[0])
-    try:
-        text, status = main()
-        sys.stdout.write(text)
-        sys.stdout.flush()
-    except Fault as fault:
-        sys.exit(f"{name}: {fault}")
-    except OSError as error:
-        # (what could not be written is not tried again at the end)
-        os.dup2(os.open(os.devnull, os.O_WRONLY), sys.stdout.fileno())
-        sys.exit(f"{name}: {error.filename + ': ' if error.filename else ''}{error.strerror}")
-    sys.exit(status)
+    def whole(self):
+        """This journal, after its last entry."""
+        collections.deque(self.steps(), maxlen=0)
+        return self

@@ -1,0 +1,98 @@
+"""What the tools beside this file share: their faults, tables, percentiles, words, files, and `run`."""
+
+import argparse
+import contextlib
+import os
+import re
+import sys
+import time
+
+NUMBER = re.compile(r"0|[1-9][0-9]{0,19}")
+# After how many seconds what is read takes long, and how often it is told from then on.
+PATIENCE, TELLING = 3, 2
+
+
+class Fault(Exception):
+    """What is wrong with an input, and where."""
+
+
+class Progress:
+    """How far a file is read: told on standard error where it takes long, and again every few seconds."""
+
+    def __init__(self, file, name):
+        self.name, self.read, self.next = name, 0, time.monotonic() + PATIENCE
+        try:
+            self.size = os.fstat(file.fileno()).st_size if file else 0
+        except OSError:
+            self.size = 0
+
+    def add(self, count):
+        """So many bytes more are read."""
+        self.read += count
+        if time.monotonic() > self.next:
+            self.next = time.monotonic() + TELLING
+            of = f" of {self.size / 1e6:.0f}" if self.size else ""
+            print(f"{tool_name()}: {self.name}: {self.read / 1e6:.0f}{of} MB read", file=sys.stderr, flush=True)
+
+
+def tool_name():
+    return os.path.basename(sys.argv[0])
+
+
+def percentile(ranked, percent):
+    """The one at rank percent/100 of their number, rounded up, as lag reports have it. They stand in order."""
+    return ranked[max(1, -(-percent * len(ranked) // 100)) - 1]
+
+
+def table(rows, names=1):
+    """Rows of cells as text: the first columns to the left, the others, which are numbers, to the right."""
+    rows = [[str(cell) for cell in row] for row in rows]
+    widths = [max(map(len, column)) for column in zip(*rows)]
+    aligned = lambda place, cell: cell.ljust(widths[place]) if place < names else cell.rjust(widths[place])
+    return "".join("  ".join(aligned(*it) for it in enumerate(row)).rstrip() + "\n" for row in rows)
+
+
+@contextlib.contextmanager
+def opened(name):
+    """A file as it is, or standard input for `-`, and what it is called in messages."""
+    how = {"encoding": "utf-8-sig", "errors": "surrogateescape", "newline": "\n"}
+    if name == "-":
+        sys.stdin.reconfigure(**how)
+        yield sys.stdin, "standard input"
+    else:
+        with open(name, **how) as file:
+            yield file, name
+
+
+def words_by(text):
+    """What reads a tool's words; its page is the text at the top of the tool."""
+    about, _, more = text.partition("\n\n")
+    return argparse.ArgumentParser(
+        description=about, epilog=more, formatter_class=argparse.RawDescriptionHelpFormatter, allow_abbrev=False
+    )
+
+
+def within(low, high):
+    """What reads a number of these from a tool's words."""
+
+    def number(word):
+        if not NUMBER.fullmatch(word) or not low <= int(word) <= high:
+            raise argparse.ArgumentTypeError(f"{word!r} is not a number from {low} to {high}")
+        return int(word)
+
+    return number
+
+
+def run(main):
+    """Runs a tool: `main` gives the whole text that it writes, and the status. A fault is told, with status 1."""
+    try:
+        text, status = main()
+        sys.stdout.write(text)
+        sys.stdout.flush()
+    except Fault as fault:
+        sys.exit(f"{tool_name()}: {fault}")
+    except OSError as error:
+        # (what could not be written is not tried again at the end)
+        os.dup2(os.open(os.devnull, os.O_WRONLY), sys.stdout.fileno())
+        sys.exit(f"{tool_name()}: {error.filename + ': ' if error.filename else ''}{error.strerror}")
+    sys.exit(status)
