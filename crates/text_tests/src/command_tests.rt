@@ -62,17 +62,17 @@ fn expect_no_command<R: Abort>(rt: &R) {
 
 #[test]
 fn script_is_read(rt: HostRuntime) {
-    let replies = Some(script(ScriptPrint::Replies));
-    let journal = Some(script(ScriptPrint::Journal));
-    let both = Some(script(ScriptPrint::Both));
+    let replies = ScriptPrint::Replies;
+    let journal = ScriptPrint::Journal;
+    let both = ScriptPrint::Both;
     let rows = [
-        ("script", replies),
-        ("script --print replies", replies),
-        ("script --print journal", journal),
-        ("script --print both", both),
-        ("script --print=both --", both),
-        ("script --print journal --", journal),
-        ("script --", replies),
+        ("script", written(replies)),
+        ("script --print replies", written(replies)),
+        ("script --print journal", written(journal)),
+        ("script --print both", written(both)),
+        ("script --print=both --", written(both)),
+        ("script --print journal --", written(journal)),
+        ("script --", written(replies)),
         ("", None),
         ("--", None),
         ("help", None),
@@ -95,8 +95,8 @@ fn script_is_read(rt: HostRuntime) {
     expect_no_command(&rt);
 }
 
-fn script(print: ScriptPrint) -> Command {
-    Command::Plain(PlainCommand::Script { print })
+fn written(print: ScriptPrint) -> Option<Command> {
+    Some(Command::Plain(PlainCommand::Script { print }))
 }
 
 fn run(options: RunOptions, slot: u64, print: HistoryPrint) -> Command {
