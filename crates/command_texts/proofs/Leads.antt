@@ -13,7 +13,7 @@ use Rattle.fq_model.specs.History.{History}
 use Rattle.fq_model.specs.Lead.{measured_gap}
 use Rattle.fq_model.specs.Names.{number_among}
 use Rattle.program_model.specs.LeadCommand.{lead_text, measured_text}
-use Rattle.tag_gap.specs.Gaps.{told}
+use Rattle.tag_difference.specs.Pairs.{told}
 use Rattle.tag_lead.specs.declared.leads.Lead.{Lead}
 use Rattle.tag_lead.specs.Leads.{IsLead}
 use Rattle.tenant_table.specs.Names.{names_of, AreTenants}

@@ -1,7 +1,7 @@
 -- The line of what was measured.
 use Rattle.std.specs.Prelude.{ℕ, ◌≡◌, List, Option, Some, None}
 use Rattle.program_model.specs.LeadCommand.{lead_text}
-use Rattle.tag_gap.specs.Gaps.{told}
+use Rattle.tag_difference.specs.Pairs.{told}
 use Rattle.tag_lead.specs.declared.leads.Lead.{Lead}
 
 -- this is the line of the lead, or that of two who never waited together

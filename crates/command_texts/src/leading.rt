@@ -6,7 +6,7 @@ ghost use Rattle.fq_model.specs.Rules.{IsLegal};
 ghost use Rattle.program_model.specs.declared.verdict.Verdict.TheVariants.{Legal};
 ghost use Rattle.program_model.specs.Document.{config_of};
 ghost use Rattle.program_model.specs.LeadCommand.{lead_text, measured_text, unknown_answer, same_answer, lead_answer, IsLeadTold, IsLeadAnswer};
-ghost use Rattle.tag_gap.specs.Gaps.{told};
+ghost use Rattle.tag_difference.specs.Pairs.{told};
 ghost use Rattle.tag_lead.specs.Leads.{IsLead};
 ghost use Rattle.tenant_table.specs.Names.{names_of};
 ghost use Rattle.command_texts.specs.Leading.{IsLineOf};
@@ -21,9 +21,8 @@ use program_model::ending::{Output, Stop};
 use program_model::name::Name;
 use program_model::verdict::Verdict;
 use std::alloc::{AllocError, Global};
-use tag_gap::fault::GapFault;
-use tag_gap::gap::Gap;
-use tag_lead::leads::{Lead, tag_lead};
+use tag_difference::gap::Gap;
+use tag_lead::leads::{Lead, lead_of};
 use tenant_table::tenants::Tenants;
 
 /// What `lead` answers to its input, which is given up before the journal is judged.
@@ -103,23 +102,20 @@ fn measured_text(
     ensures { IfOk result (λ text. text.items ≡
         measured_text of.now over.now (config_of journal.now) (history_of journal.now.body) f g) }
 {
-    let lead = lead_of(alloc, journal, f, g)?;
+    let lead = lead_in(alloc, journal, f, g)?;
     lead_text(alloc, of, over, lead)
 }
 
 // How far one tenant of a legal journal got ahead of another, and what bounds that.
-fn lead_of(alloc: Global, journal: &Journal, f: u32, g: u32) -> Result<Option<Lead>, AllocError>
+fn lead_in(alloc: Global, journal: &Journal, f: u32, g: u32) -> Result<Option<Lead>, AllocError>
     requires legal { IsLegal (config_of journal.now) (history_of journal.now.body) }
     requires f { f < length journal.now.weights }
     requires g { g < length journal.now.weights }
     requires apart { f ≢ g }
     ensures { IfOk result (IsLead (config_of journal.now) (history_of journal.now.body) f g) }
 {
-    match tag_lead::<ProgramChooser>(alloc, journal.body(), journal.config(), f, g) {
-        Ok(lead) => Ok(lead),
-        Err(GapFault::NoMemory) => Err(AllocError),
-        Err(_) => unreachable!(),
-    }
+    let lead = lead_of::<ProgramChooser>(alloc, journal.body(), journal.config(), f, g)?;
+    Ok(lead)
 }
 
 // The line of what was measured, in steps.

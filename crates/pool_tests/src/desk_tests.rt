@@ -6,13 +6,14 @@ use crate::histories::{are_callers, are_jobs, are_moments};
 use crate::samples::{configured, ended, ended_for_two, opened, opened_for_two};
 use desk::{Desk, DoneRefusal, LiveRefusal, Running, Submitter, Took, Worker};
 use eligible_index::index::IndexChooser;
-use fq_model::event::{Cause, Entry};
+use fq_model::event::{Cause, Due, Entry};
 use sched_state::{AlreadyClosed, Refused};
 use std::alloc::Global;
 use std::process::Abort;
 use std::sync::Wait;
 use std::thread::{Threads, join_mut};
 use tag_rules::chooser::Chooser;
+use tag_rules::foresees::Foresees;
 
 // Submits a job that is declared to cost 5.
 fn submit<X: Chooser, R: Wait>(
@@ -189,6 +190,36 @@ fn one_withdrawn<X: Chooser + Drop, R: Wait + Abort>(rt: &R, alloc: Global) -> V
 fn a_job_that_is_withdrawn(rt: HostRuntime) {
     let past = one_withdrawn::<IndexChooser, HostRuntime>(&rt, rt.alloc());
     assert!(rt; are_callers(past.as_slice(), &[0, 0, 0, 1, 1]));
+}
+
+// A desk's entries after a worker asked what it would find: where nothing waits, where two requests do, and once the
+// first has ended, a microsecond before the second is eligible and then.
+fn questions<X: Foresees + Drop, R: Wait + Abort>(rt: &R, alloc: Global) -> Vec<Entry> {
+    let (desk, mut who, mut worker) = small::<X, R>(rt, alloc);
+    assert!(rt; matches!(desk.due(rt, &mut worker, 50), Due::Nothing));
+    assert_eq!(rt; submit(rt, &desk, &mut who, 50, 7), Ok(0));
+    assert_eq!(rt; submit(rt, &desk, &mut who, 50, 8), Ok(1));
+    assert!(rt; matches!(desk.due(rt, &mut worker, 50), Due::Eligible));
+    let (running, _job) = taken_now(rt, &desk, worker, 50);
+    let mut worker = done(rt, &desk, running, 50, 5);
+    let early = desk.due(rt, &mut worker, 54);
+    assert!(rt;
+        matches!(
+            early,
+            Due::Early {
+                request: 1,
+                estimate: 5
+            }
+        )
+    );
+    assert!(rt; matches!(desk.due(rt, &mut worker, 55), Due::Eligible));
+    ended(rt, alloc, desk, who, worker)
+}
+
+#[test]
+fn a_worker_that_asks_what_it_would_find(rt: HostRuntime) {
+    let past = questions::<IndexChooser, HostRuntime>(&rt, rt.alloc());
+    assert!(rt; are_callers(past.as_slice(), &[0, 0, 1, 1]));
 }
 
 // A desk's entries after calls at 50, at an earlier moment, at the last one that can be named, and at 0.

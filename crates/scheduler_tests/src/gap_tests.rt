@@ -8,8 +8,8 @@ use fq_model::config::{Checked, Config, Estimator, Policy};
 use fq_model::event::{Act, Entry};
 use std::alloc::Global;
 use std::process::Abort;
-use tag_gap::fault::GapFault;
-use tag_gap::gap::Gap;
+use tag_difference::fault::GapFault;
+use tag_difference::gap::Gap;
 use tag_gap::gaps::tag_gap;
 use test_samples::sample_config;
 

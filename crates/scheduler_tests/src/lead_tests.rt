@@ -9,7 +9,7 @@ use fq_model::config::{Estimator, Policy};
 use fq_model::event::Entry;
 use std::alloc::Global;
 use std::process::Abort;
-use tag_gap::gap::Gap;
+use tag_difference::gap::Gap;
 use tag_lead::leads::{Lead, tag_lead};
 
 // What is told of a history with two tenants of weight 1, where costs are not what was declared: the lead of the first

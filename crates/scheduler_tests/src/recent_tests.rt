@@ -1,5 +1,5 @@
 use fq_model::config::Checked;
-use fq_model::event::{Call, Reply};
+use fq_model::event::{Call, Cause, Due, Reply};
 use recent_history::Recent;
 use rival_policies::plain::PlainChooser;
 use sched_state::Scheduler;
@@ -165,4 +165,33 @@ fn more_are_kept_than_come(rt: HostRuntime) {
 #[test]
 fn one_is_withdrawn_where_two_are_kept(rt: HostRuntime) {
     expect_last(&rt, rt.alloc(), 2, &withdrawals(), 6);
+}
+
+// The second of two requests is eligible once its tenant's charge of 4 has passed in virtual time, from the moment 1 on.
+#[test]
+fn a_worker_that_asks_what_it_would_find(rt: HostRuntime) {
+    let recent = Recent::<u64, PlainChooser>::open(rt.alloc(), short_history(&rt, rt.alloc()), 1);
+    let Ok(mut recent) = recent else {
+        panic!(rt; "no memory for a scheduler")
+    };
+    assert!(rt; matches!(recent.due(1, 0), Due::Nothing));
+    for call in [submit(1, 0), submit(1, 0), take(1), done(2)] {
+        recent_history::answer(&mut recent, call);
+    }
+    for moment in [0, 4] {
+        let early = recent.due(moment, 0);
+        assert!(rt;
+            matches!(
+                early,
+                Due::Early {
+                    request: 1,
+                    estimate: 5
+                }
+            )
+        );
+    }
+    assert!(rt; matches!(recent.due(5, 0), Due::Eligible));
+    assert!(rt; matches!(recent.due(5, 1), Due::Refused(Cause::Worker(1))));
+    assert_eq!(rt; recent.len(), 4);
+    drop(recent);
 }

@@ -12,7 +12,7 @@ use Rattle.fq_model.specs.History.{History, Request, request_at, request_in, sub
 use Rattle.fq_model.specs.Rules.{IsLegal, Fits}
 use Rattle.fq_laws.proofs.History.Requests.{asked_stays}
 use Rattle.tag_gap.specs.declared.asked.Asked.{Asked}
-use Rattle.tag_gap.proofs.Prefixes.{first_entries, split_at}
+use Rattle.tag_difference.proofs.Prefixes.{first_entries, split_at}
 use Rattle.tag_gap.specs.Asked.{submitted, asked_of, AreAsked}
 
 -- ---- a list with one item more at its end

@@ -29,7 +29,8 @@ use Rattle.tag_gap.specs.declared.asked.Asked.{Asked}
 use Rattle.tag_gap.specs.declared.reading.Reading.{Reading}
 use Rattle.tag_gap.specs.Asked.{asked_of}
 use Rattle.tag_gap.proofs.ReadingLemmas.{no_first, some_first}
-use Rattle.tag_gap.specs.Reading.{Keeps, Takes, Withdraws, MayCome, AwaitsEntry, FollowsEntry, difference_at}
+use Rattle.tag_difference.specs.Pairs.{difference_at}
+use Rattle.tag_gap.specs.Reading.{Keeps, Takes, Withdraws, MayCome, AwaitsEntry, FollowsEntry}
 
 -- ---- the other acts
 

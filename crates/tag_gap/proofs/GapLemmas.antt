@@ -13,16 +13,17 @@ use Rattle.gap_laws.specs.Words.{HasDeclaredCosts}
 use Rattle.gap_laws.proofs.Declared.{KeepsTo, all_are_declared, declared_prefix, legal_prefix}
 use Rattle.gap_laws.proofs.Bounds.{largest_bounded}
 use Rattle.tag_gap.specs.declared.asked.Asked.{Asked}
-use Rattle.tag_gap.specs.declared.gap.Gap.{Gap}
-use Rattle.tag_gap.specs.declared.found.Found.{Found}
+use Rattle.tag_difference.specs.declared.gap.Gap.{Gap}
+use Rattle.tag_difference.specs.declared.found.Found.{Found}
 use Rattle.tag_gap.specs.declared.reading.Reading.{Reading}
 use Rattle.tag_gap.specs.Asked.{AreAsked}
-use Rattle.tag_gap.specs.Reading.{Keeps, MayCome, AwaitsEntry, FollowsEntry, difference_at}
-use Rattle.tag_gap.specs.Found.{FoundIn, with_difference}
-use Rattle.tag_gap.specs.Gaps.{told}
-use Rattle.tag_gap.proofs.Prefixes.{first_entries, next_entry, one_on, split_at, all_entries}
+use Rattle.tag_difference.specs.Pairs.{difference_at}
+use Rattle.tag_gap.specs.Reading.{Keeps, MayCome, AwaitsEntry, FollowsEntry}
+use Rattle.tag_difference.specs.Found.{FoundIn, with_difference}
+use Rattle.tag_difference.specs.Pairs.{told}
+use Rattle.tag_difference.proofs.Prefixes.{first_entries, next_entry, one_on, split_at, all_entries}
 use Rattle.tag_gap.proofs.AskedLemmas.{known_first}
-use Rattle.tag_gap.proofs.FoundLemmas.{found_next}
+use Rattle.tag_difference.proofs.FoundLemmas.{found_next}
 
 -- ---- a shorter history
 

@@ -18,7 +18,7 @@ use Rattle.fq_model.specs.Rules.{IsLegal, Fits}
 use Rattle.fq_laws.proofs.History.Weights.{weight_low, weight_high, weight_step}
 use Rattle.tag_gap.specs.declared.lengths.Extremes.{Extremes}
 use Rattle.tag_gap.specs.Lengths.{extremes_with}
-use Rattle.tag_gap.proofs.Prefixes.{first_entries, next_entry, one_on, legal_next, all_entries}
+use Rattle.tag_difference.proofs.Prefixes.{first_entries, next_entry, one_on, legal_next, all_entries}
 
 -- ---- the greatest
 

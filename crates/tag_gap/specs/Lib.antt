@@ -2,5 +2,4 @@ pub mod Asked
 pub mod Strays
 pub mod Lengths
 pub mod Reading
-pub mod Found
 pub mod Gaps

@@ -1,12 +1,11 @@
 -- What is kept of a history while its entries are read.
-use Rattle.std.specs.Prelude.{ℕ, ℤ, ◌<◌, ◌≡◌, ◌==◌, ◌∷◌, if◌then◌else◌, List, Option, Some, None, length, slice_get, slice_index}
+use Rattle.std.specs.Prelude.{ℕ, ℤ, ◌<◌, ◌≡◌, ◌==◌, ◌∷◌, if◌then◌else◌, List, Some, length, slice_get, slice_index}
 use Rattle.fq_model.specs.declared.config.Config.{Config}
 use Rattle.fq_model.specs.declared.event.Act.TheVariants.{Take, Withdraw}
 use Rattle.fq_model.specs.declared.event.Entry.{Entry}
 use Rattle.fq_model.specs.Limits.{InLimits}
 use Rattle.fq_model.specs.History.{History, Request, request_at, queue}
 use Rattle.fq_model.specs.Rules.{IsLegal}
-use Rattle.fq_model.specs.Gap.{is_shared, start_difference}
 use Rattle.gap_laws.specs.Words.{HasDeclaredCosts}
 use Rattle.tag_rules.specs.Accounts.{AccountsView, AccountsAre, raised}
 use Rattle.virtual_clock.specs.Histories.{TimesAre}
@@ -70,7 +69,3 @@ FollowsEntry asked e before after =
 -- the accounts with the tag of the tenant raised to v, where none of its requests waits
 abbrev pub raised_first : ℕ → AccountsView → ℕ → ℤ → AccountsView
 raised_first waiting a tenant v = if waiting == 0 then raised a tenant v else a
-
--- how far the start of f is above that of g, where both wait
-abbrev pub difference_at : Config → History → ℕ → ℕ → Option ℤ
-difference_at C P f g = if is_shared P f g then Some (start_difference C P f g) else None

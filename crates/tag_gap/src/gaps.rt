@@ -2,24 +2,25 @@
 ghost use Rattle.std.specs.Prelude.{◌≡◌, ◌<◌, ◌⊎◌, length, IfOk, IfErr, IfSome, Err, None, Some, option_map, ◌≤ℤ◌};
 ghost use Rattle.fq_model.specs.History.{history_of};
 ghost use Rattle.fq_model.specs.Gap.{tag_gap};
-ghost use Rattle.fq_model.specs.Limits.{InLimits};
 ghost use Rattle.fq_model.specs.Rules.{IsLegal};
 ghost use Rattle.gap_laws.specs.Words.{HasDeclaredCosts};
 ghost use Rattle.tag_gap.specs.Asked.{AreAsked};
-ghost use Rattle.tag_gap.specs.Gaps.{told, tenant_fault, gap_fault};
-ghost use Rattle.tag_gap.specs.declared.fault.GapFault.{GapFault};
-ghost use Rattle.tag_gap.specs.declared.fault.GapFault.TheVariants as faults;
+ghost use Rattle.tag_difference.specs.Pairs.{told, tenant_fault};
+ghost use Rattle.tag_gap.specs.Gaps.{gap_fault};
+ghost use Rattle.tag_difference.specs.declared.fault.GapFault.{GapFault};
+ghost use Rattle.tag_difference.specs.declared.fault.GapFault.TheVariants as faults;
 
 use crate::asked::{Asked, asked_in};
-use crate::fault::GapFault;
-use crate::found::Found;
-use crate::gap::Gap;
 use crate::lengths::least_bound;
 use crate::reading::Reading;
 use crate::strays::not_declared;
 use fq_model::config::Checked;
 use fq_model::event::Entry;
 use std::alloc::Global;
+use tag_difference::fault::GapFault;
+use tag_difference::found::Found;
+use tag_difference::gap::Gap;
+use tag_difference::pair::tenant_fault;
 
 /// How far the start of tenant f was above that of tenant g at most, at the prefixes of a past in which both wait, and
 /// what bounds that; none where they never wait both. Fair queuing bounds such a difference of two backlogged flows by
@@ -49,23 +50,6 @@ pub fn tag_gap(
         return Err(GapFault::NotDeclared(request));
     }
     gap_of(alloc, past, config, asked.as_slice(), f, g)
-}
-
-/// Why these two tenants have no gap, in whatever history, if they have none.
-pub fn tenant_fault(config: &Checked, f: u32, g: u32) -> Option<GapFault>
-    ensures fault { result ≡ tenant_fault config.now f g }
-    ensures limits { InLimits config.now }
-{
-    let tenants = config.tenants();
-    if f >= tenants {
-        Some(GapFault::UnknownTenant(f))
-    } else if g >= tenants {
-        Some(GapFault::UnknownTenant(g))
-    } else if f == g {
-        Some(GapFault::SameTenant)
-    } else {
-        None
-    }
 }
 
 // The gap of two tenants, where all requests are as declared.

@@ -2,9 +2,6 @@
 #![tactic(auto)]
 
 pub mod asked;
-pub mod fault;
-pub mod found;
-pub mod gap;
 pub mod gaps;
 pub mod lengths;
 pub mod reading;

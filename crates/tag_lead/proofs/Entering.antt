@@ -7,7 +7,7 @@ use Rattle.fq_model.specs.Limits.{InLimits}
 use Rattle.fq_model.specs.History.{History, history_of}
 use Rattle.fq_model.specs.Rules.{IsLegal}
 use Rattle.charge_book.specs.declared.row.RunRow.{RunRow}
-use Rattle.tag_gap.proofs.Prefixes.{first_entries, next_entry, one_on, split_at, legal_next}
+use Rattle.tag_difference.proofs.Prefixes.{first_entries, next_entry, one_on, split_at, legal_next}
 use Rattle.tag_lead.specs.declared.spans.Told.{Told}
 use Rattle.tag_lead.specs.Spans.{CanTell, HasWorker, told_by, row_of_act}
 use Rattle.tag_lead.proofs.Rows.{has_worker}

@@ -23,16 +23,15 @@ use Rattle.fq_laws.proofs.History.Asked.{is_of_asked}
 use Rattle.fq_laws.proofs.Keys.Choices.{KeysOf, keys_of, head_has_keys}
 use Rattle.fq_laws.proofs.Rules.Takes.{heads, take_head}
 use Rattle.gap_laws.proofs.Measured.{measured_bounded}
-use Rattle.tag_gap.specs.declared.gap.Gap.{Gap}
-use Rattle.tag_gap.specs.Found.{at_least, with_difference, FoundIn}
-use Rattle.tag_gap.specs.Gaps.{told}
-use Rattle.tag_gap.specs.Reading.{difference_at}
-use Rattle.tag_gap.proofs.FoundLemmas.{at_least_is, gap_is, found_nil, found_next}
-use Rattle.tag_gap.proofs.Prefixes.{first_entries, next_entry, one_on, all_entries}
-use Rattle.tag_lead.specs.declared.found.Ahead.{Ahead}
+use Rattle.tag_difference.specs.declared.gap.Gap.{Gap}
+use Rattle.tag_difference.specs.Found.{at_least}
+use Rattle.tag_difference.specs.Pairs.{told}
+use Rattle.tag_difference.specs.Pairs.{difference_at}
+use Rattle.tag_difference.proofs.FoundLemmas.{at_least_is, gap_is, found_nil, found_next}
+use Rattle.tag_difference.proofs.Prefixes.{first_entries, next_entry, one_on, all_entries}
 use Rattle.tag_lead.specs.declared.found.Leads.{Leads}
-use Rattle.tag_lead.specs.Found.{no_leads, difference_of, first_with, longest_with, doubt_with, leads_with, heads_in_bound, lead_from, LeadsIn}
-use Rattle.tag_lead.specs.Leads.{ahead_by, ahead_at, taken_by, taken_at}
+use Rattle.tag_lead.specs.Found.{no_leads, asks_doubt, first_with, longest_with, doubt_with, leads_with, heads_in_bound, lead_from, LeadsIn}
+use Rattle.tag_lead.specs.Leads.{difference_by, taken_by, taken_at}
 
 -- ---- keys of heads
 
@@ -62,7 +61,7 @@ headless C P t h = go (head P t) refl
     go None is = refl
     go (Some r) is = let x = head_has_keys C P (last_moment P) t r is in let same : None ≡ Some x.0 = sym h ∙ x.1 in absurd (cc)
 
--- ---- how far ahead, and what a Take tells
+-- ---- what the keys of two heads tell
 
 neither : (b : Bool) → (b && false) ≡ false
 neither true = refl
@@ -91,23 +90,15 @@ apart_is : (C : Config) (P : History) (f g : ℕ) (x y : ℤ) → x ≡ pos (sta
 unfolding start_difference
 apart_is C P f g x y e h = rw (e, h) refl
 
-abbrev record_of : (difference lead : ℤ) → Ahead
-record_of difference lead = record { difference = difference; lead = lead }
-
--- the keys tell how far ahead
-pub ahead_is : (C : Config) (P : History) (f g d : ℕ) (k l : Option HeadKeys) → InLimits C → IsLegal C P → f < length C.weights → g < length C.weights → k ≡ keys_at C P (last_moment P) f → l ≡ keys_at C P (last_moment P) g → ahead_by k l d ≡ ahead_at C P f g d
-ahead_is C P f g d None l lim legal f_known g_known is_k is_l = none_if (is_shared P f g) _ (unshared_first P f g (headless C P f (sym is_k)))
-ahead_is C P f g d (Some i) None lim legal f_known g_known is_k is_l = none_if (is_shared P f g) _ (unshared_second P f g (headless C P g (sym is_l)))
-ahead_is C P f g d (Some i) (Some j) lim legal f_known g_known is_k is_l =
+-- how far the start of the first is above that of the second
+pub difference_is : (C : Config) (P : History) (f g : ℕ) (k l : Option HeadKeys) → InLimits C → IsLegal C P → f < length C.weights → g < length C.weights → k ≡ keys_at C P (last_moment P) f → l ≡ keys_at C P (last_moment P) g → difference_by k l ≡ difference_at C P f g
+difference_is C P f g None l lim legal f_known g_known is_k is_l = none_if (is_shared P f g) _ (unshared_first P f g (headless C P f (sym is_k)))
+difference_is C P f g (Some i) None lim legal f_known g_known is_k is_l = none_if (is_shared P f g) _ (unshared_second P f g (headless C P g (sym is_l)))
+difference_is C P f g (Some i) (Some j) lim legal f_known g_known is_k is_l =
     let x : HeadIs C P f i = head_is C P f i lim legal f_known (sym is_k) in
     let y : HeadIs C P g j = head_is C P g j lim legal g_known (sym is_l) in
     let apart : (i.start -ℤ j.start) ≡ start_difference C P f g = apart_is C P f g i.start j.start x.start_is y.start_is in
-    some_if (is_shared P f g) _ _ (both_shared P f g i.request j.request x.is_head y.is_head)
-    (ap (λ (z : ℤ). record_of z (z +ℤ pos d)) apart)
-
--- what is told of two keys
-pub told_ahead : (first second : Option HeadKeys) (k l : HeadKeys) (d : ℕ) (x y : ℤ) → first ≡ Some k → second ≡ Some l → x ≡ (k.start -ℤ l.start) → y ≡ ((k.start -ℤ l.start) +ℤ pos d) → Some (record_of x y) ≡ ahead_by first second d
-told_ahead first second k l d x y is_first is_second apart lead = rw (is_first, is_second, apart, lead) refl
+    some_if (is_shared P f g) _ _ (both_shared P f g i.request j.request x.is_head y.is_head) apart
 
 no_take_unshared : (P : History) (a : Act) (f g : ℕ) → is_shared P f g ≡ false → is_lead_take P a f g ≡ false
 no_take_unshared P a f g h = rw h refl
@@ -177,20 +168,21 @@ lead_parts C H P f g = parts (start_now C P f) (start_now C P g) (may_rise (long
     parts : (a b u v : ℕ) → ((pos a -ℤ pos b) +ℤ pos (u + v)) ≡ (pos (a + u) -ℤ (pos b -ℤ pos v))
     parts a b u v = omega (arith, ints)
 
-module _ (C : Config) (H P : History) (e : Entry) (f g : ℕ) (leads : Leads) (is : LeadsIn C H P f g leads) (d : ℕ) (d_is : d ≡ doubt (longest_of C H f) (shortest_of C H g) C (e ∷ P) f g) where
-  differences : difference_of (ahead_at C (e ∷ P) f g d) ≡ difference_at C (e ∷ P) f g
-  differences = elim (cases_Bool (is_shared (e ∷ P) f g)) [ inl now ↦ rw now refl | inr now ↦ rw now refl ]
+module _ (C : Config) (H P : History) (e : Entry) (f g : ℕ) (leads : Leads) (is : LeadsIn C H P f g leads) (d : ℕ) (d_is : asks_doubt leads (difference_at C (e ∷ P) f g) (taken_at C P e.act f g) ≡ true → d ≡ doubt (longest_of C H f) (shortest_of C H g) C (e ∷ P) f g) where
+  -- where both begin to wait the doubt counts
+  begins : is_shared (e ∷ P) f g ≡ true → is_shared P f g ≡ false → d ≡ doubt (longest_of C H f) (shortest_of C H g) C (e ∷ P) f g
+  begins now before = d_is (rw (now, is.starts_in.shared_is, before) refl)
 
-  led : start_difference C (e ∷ P) f g +ℤ pos d ≡ measured_lead C H (e ∷ P) f g
-  led = ap (λ (n : ℕ). start_difference C (e ∷ P) f g +ℤ pos n) d_is ∙ lead_parts C H (e ∷ P) f g
+  led : is_shared (e ∷ P) f g ≡ true → is_shared P f g ≡ false → start_difference C (e ∷ P) f g +ℤ pos d ≡ measured_lead C H (e ∷ P) f g
+  led now before = ap (λ (n : ℕ). start_difference C (e ∷ P) f g +ℤ pos n) (begins now before) ∙ lead_parts C H (e ∷ P) f g
 
-  firsts : first_with leads (ahead_at C (e ∷ P) f g d) ≡ greatest_of (first_leads C H (e ∷ P) f g)
+  firsts : first_with leads (difference_at C (e ∷ P) f g) d ≡ greatest_of (first_leads C H (e ∷ P) f g)
   unfolding first_leads
   firsts = elim (cases_Bool (is_shared (e ∷ P) f g)) [
     | inr now ↦ rw now is.first_is
     | inl now ↦ elim (cases_Bool (is_shared P f g)) [
       | inl before ↦ rw (now, is.starts_in.shared_is, before) is.first_is
-      | inr before ↦ rw (now, is.starts_in.shared_is, before) (ap Some (ap (λ (z : ℤ). at_least z leads.first) led ∙ ap (at_least (measured_lead C H (e ∷ P) f g)) is.first_is ∙ at_least_is (measured_lead C H (e ∷ P) f g) (first_leads C H P f g)))
+      | inr before ↦ rw (now, is.starts_in.shared_is, before) (ap Some (ap (λ (z : ℤ). at_least z leads.first) (led now before) ∙ ap (at_least (measured_lead C H (e ∷ P) f g)) is.first_is ∙ at_least_is (measured_lead C H (e ∷ P) f g) (first_leads C H P f g)))
     ]
   ]
 
@@ -204,7 +196,9 @@ module _ (C : Config) (H P : History) (e : Entry) (f g : ℕ) (leads : Leads) (i
   doubts : doubt_with leads.doubt (taken_at C P e.act f g) d ≡ greatest (take_doubts C H (e ∷ P) f g)
   unfolding take_doubts
   doubts = elim (cases_Bool (is_lead_take P e.act f g)) [
-    | inl now ↦ rw now (omega (arith, is.doubt_is, d_is))
+    | inl now ↦ (
+        let counts : d ≡ doubt (longest_of C H f) (shortest_of C H g) C (e ∷ P) f g = d_is (rw now refl) in
+        rw now (omega (arith, is.doubt_is, counts)))
     | inr now ↦ rw now is.doubt_is
   ]
 
@@ -217,9 +211,9 @@ module _ (C : Config) (H P : History) (e : Entry) (f g : ℕ) (leads : Leads) (i
   doubt_stays_low (Some x) low = omega (arith, is.doubt_low, low)
 
   -- one entry on
-  pub leads_next : IfSome (taken_at C P e.act f g) (λ x. x ≤ 1048576000000000) → d ≤ 2361183241434822606720 → LeadsIn C H (e ∷ P) f g (leads_with leads (ahead_at C (e ∷ P) f g d) (taken_at C P e.act f g) d)
+  pub leads_next : IfSome (taken_at C P e.act f g) (λ x. x ≤ 1048576000000000) → d ≤ 2361183241434822606720 → LeadsIn C H (e ∷ P) f g (leads_with leads (difference_at C (e ∷ P) f g) (taken_at C P e.act f g) d)
   leads_next short few = record {
-    starts_in = subst (λ (o : Option ℤ). FoundIn C (e ∷ P) f g (with_difference leads.starts o)) (sym differences) (found_next C P e f g leads.starts is.starts_in);
+    starts_in = found_next C P e f g leads.starts is.starts_in;
     first_is = firsts;
     longest_is = lengths;
     doubt_is = doubts;
@@ -242,18 +236,19 @@ lead_bounded C H f g (Some x) ne lim l is = measured_bounded C H f g (told x) ne
 
 -- ---- over the entries of a past
 
-pub leads_on : (C : Config) (past : List Entry) (i f g d : ℕ) (leads n : Leads) (ahead : Option Ahead) (taken : Option ℕ) → i < length past
+pub leads_on : (C : Config) (past : List Entry) (i f g d : ℕ) (leads n : Leads) (difference : Option ℤ) (taken : Option ℕ) → i < length past
     → LeadsIn C (history_of past) (first_entries past i) f g leads
-    → d ≡ doubt (longest_of C (history_of past) f) (shortest_of C (history_of past) g) C (next_entry past i ∷ first_entries past i) f g → d ≤ 2361183241434822606720
+    → (asks_doubt leads difference taken ≡ true → d ≡ doubt (longest_of C (history_of past) f) (shortest_of C (history_of past) g) C (next_entry past i ∷ first_entries past i) f g) → d ≤ 2361183241434822606720
     → taken ≡ taken_at C (first_entries past i) (next_entry past i).act f g → IfSome taken (λ x. x ≤ 1048576000000000)
-    → ahead ≡ ahead_at C (next_entry past i ∷ first_entries past i) f g d → n ≡ leads_with leads ahead taken d
+    → difference ≡ difference_at C (next_entry past i ∷ first_entries past i) f g → n ≡ leads_with leads difference taken d
     → LeadsIn C (history_of past) (first_entries past (i + 1)) f g n
-leads_on C past i f g d leads n ahead taken b is d_is few taken_is short ahead_is n_is =
+leads_on C past i f g d leads n difference taken b is d_is few taken_is short difference_is n_is =
     let e = next_entry past i in
     let P = first_entries past i in
     let low = subst (λ (o : Option ℕ). IfSome o (λ x. x ≤ 1048576000000000)) taken_is short in
-    let next = leads_next C (history_of past) P e f g leads is d d_is low few in
-    rw (n_is, ahead_is, taken_is) (subst (λ (Q : History). LeadsIn C (history_of past) Q f g (leads_with leads (ahead_at C (e ∷ P) f g d) (taken_at C P e.act f g) d)) (sym (one_on past i b)) next)
+    let counts = λ (h : asks_doubt leads (difference_at C (e ∷ P) f g) (taken_at C P e.act f g) ≡ true). d_is (rw (difference_is, taken_is) h) in
+    let next = leads_next C (history_of past) P e f g leads is d counts low few in
+    rw (n_is, difference_is, taken_is) (subst (λ (Q : History). LeadsIn C (history_of past) Q f g (leads_with leads (difference_at C (e ∷ P) f g) (taken_at C P e.act f g) d)) (sym (one_on past i b)) next)
 
 pub leads_all : (C : Config) (past : List Entry) (i f g : ℕ) (leads : Leads) → length past ≤ i → LeadsIn C (history_of past) (first_entries past i) f g leads → LeadsIn C (history_of past) (history_of past) f g leads
 leads_all C past i f g leads b is = subst (λ (Q : History). LeadsIn C (history_of past) Q f g leads) (all_entries past i b) is

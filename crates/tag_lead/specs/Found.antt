@@ -1,28 +1,27 @@
 -- What the leads of one tenant over another come to.
-use Rattle.std.specs.Prelude.{ℕ, ℤ, ◌+◌, ◌*◌, ◌≤◌, ◌≡◌, max, if◌then◌else◌, Option, Some, None, option_map, pos}
+use Rattle.std.specs.Prelude.{ℕ, ℤ, ◌+◌, ◌*◌, ◌≤◌, ◌≡◌, max, Bool, not, ◌&&◌, ◌||◌, if◌then◌else◌, Option, Some, None, is_some, option_map, pos, ◌+ℤ◌}
 use Rattle.fq_model.specs.declared.config.Config.{Config}
 use Rattle.fq_model.specs.declared.config.Policy.{Policy}
 use Rattle.fq_model.specs.Charge.{greatest}
 use Rattle.fq_model.specs.History.{History}
 use Rattle.fq_model.specs.Gap.{greatest_of, lengths_in_bound}
 use Rattle.fq_model.specs.Lead.{first_leads, take_lengths, take_doubts}
-use Rattle.tag_gap.specs.declared.gap.Gap.{Gap}
-use Rattle.tag_gap.specs.Found.{nothing, at_least, with_difference, FoundIn}
-use Rattle.tag_lead.specs.declared.found.Ahead.{Ahead}
+use Rattle.tag_difference.specs.declared.gap.Gap.{Gap}
+use Rattle.tag_difference.specs.Found.{nothing, at_least, with_difference, FoundIn}
 use Rattle.tag_lead.specs.declared.found.Leads.{Leads}
 
 -- no prefix yet
 abbrev pub no_leads : Leads
 no_leads = record { starts = nothing; first = None; longest = 0; doubt = 0 }
 
-abbrev pub difference_of : Option Ahead → Option ℤ
-difference_of None = None
-difference_of (Some ahead) = Some ahead.difference
+-- whether the doubt after one prefix more counts: where both begin to wait, and after a Take that counts
+abbrev pub asks_doubt : Leads → Option ℤ → Option ℕ → Bool
+asks_doubt leads difference taken = is_some taken || (is_some difference && not leads.starts.shared)
 
 -- the greatest lead with which both begin to wait, with one prefix more
-abbrev pub first_with : Leads → Option Ahead → Option ℤ
-first_with leads None = leads.first
-first_with leads (Some ahead) = if leads.starts.shared then leads.first else Some (at_least ahead.lead leads.first)
+abbrev pub first_with : Leads → Option ℤ → ℕ → Option ℤ
+first_with leads None doubt = leads.first
+first_with leads (Some d) doubt = if leads.starts.shared then leads.first else Some (at_least (d +ℤ pos doubt) leads.first)
 
 -- the greatest length with that of a Take, if there is one
 abbrev pub longest_with : ℕ → Option ℕ → ℕ
@@ -35,10 +34,10 @@ doubt_with greatest None doubt = greatest
 doubt_with greatest (Some length) doubt = max greatest doubt
 
 -- all of these with one entry more
-abbrev pub leads_with : Leads → Option Ahead → Option ℕ → ℕ → Leads
-leads_with leads ahead taken doubt = record {
-  starts = with_difference leads.starts (difference_of ahead);
-  first = first_with leads ahead;
+abbrev pub leads_with : Leads → Option ℤ → Option ℕ → ℕ → Leads
+leads_with leads difference taken doubt = record {
+  starts = with_difference leads.starts difference;
+  first = first_with leads difference doubt;
   longest = longest_with leads.longest taken;
   doubt = doubt_with leads.doubt taken doubt;
 }

@@ -1,29 +1,19 @@
--- How far one tenant is ahead of another at a prefix, and what a Take tells.
-use Rattle.std.specs.Prelude.{ℕ, ◌≡◌, ◌==◌, max, if◌then◌else◌, Option, Some, None, option_map, IfSome, pos, unsigned_abs, ◌+ℤ◌, ◌-ℤ◌}
+-- What the keys of two heads tell, and the lead of one tenant over another.
+use Rattle.std.specs.Prelude.{ℕ, ℤ, ◌≡◌, ◌==◌, max, if◌then◌else◌, Option, Some, None, option_map, IfSome, unsigned_abs, ◌-ℤ◌}
 use Rattle.fq_model.specs.declared.config.Config.{Config}
 use Rattle.fq_model.specs.declared.event.Act.{Act}
 use Rattle.fq_model.specs.declared.event.Act.TheVariants.{Take}
 use Rattle.fq_model.specs.History.{History}
 use Rattle.fq_model.specs.Keys.{HeadKeys}
-use Rattle.fq_model.specs.Gap.{is_shared, start_difference}
 use Rattle.fq_model.specs.Ever.{measured_ever_bound}
 use Rattle.fq_model.specs.Lead.{head_length, is_lead_take, measured_gap}
-use Rattle.tag_gap.specs.Gaps.{told}
-use Rattle.tag_lead.specs.declared.found.Ahead.{Ahead}
+use Rattle.tag_difference.specs.Pairs.{told}
 use Rattle.tag_lead.specs.declared.leads.Lead.{Lead}
 
--- how far f is ahead of g, where both wait and so much is in doubt
-abbrev pub ahead_at : Config → History → ℕ → ℕ → ℕ → Option Ahead
-ahead_at C P f g doubt =
-    if is_shared P f g
-    then Some (record { difference = start_difference C P f g; lead = start_difference C P f g +ℤ pos doubt })
-    else None
-
--- the same by the keys of their heads
-abbrev pub ahead_by : Option HeadKeys → Option HeadKeys → ℕ → Option Ahead
-ahead_by (Some k) (Some l) doubt =
-    Some (record { difference = k.start -ℤ l.start; lead = (k.start -ℤ l.start) +ℤ pos doubt })
-ahead_by _ _ doubt = None
+-- how far the start of the first is above that of the second
+abbrev pub difference_by : Option HeadKeys → Option HeadKeys → Option ℤ
+difference_by (Some k) (Some l) = Some (k.start -ℤ l.start)
+difference_by _ _ = None
 
 -- the greater length of their heads, where this act after P takes a request of f while both wait
 abbrev pub taken_at : Config → History → Act → ℕ → ℕ → Option ℕ

@@ -1,19 +1,12 @@
 //! What the leads of one tenant over another come to.
-ghost use Rattle.std.specs.Prelude.{◌≡◌, ◌≤◌};
-ghost use Rattle.tag_lead.specs.Found.{no_leads, difference_of, first_with, longest_with, doubt_with, leads_with, heads_in_bound, lead_from};
+ghost use Rattle.std.specs.Prelude.{◌≡◌, ◌≤◌, ◌≤ℤ◌, IfSome};
+ghost use Rattle.tag_lead.specs.Found.{no_leads, asks_doubt, first_with, longest_with, doubt_with, leads_with, heads_in_bound};
+ghost use Rattle.tag_lead.specs.Found.{lead_from};
 
 use fq_model::config::Policy;
-use tag_gap::found::{Found, at_least};
-use tag_gap::gap::Gap;
-
-/// How far one tenant is ahead of another at a prefix in which both wait, in steps.
-#[derive(Clone, Copy, Debug, PartialEq, Eq)]
-pub struct Ahead {
-    /// How far its start is above the other's.
-    pub difference: i128,
-    /// The same if all that runs turns out as it did: its lead.
-    pub lead: i128,
-}
+use fq_model::limits::GREATEST_START;
+use tag_difference::found::{Found, at_least};
+use tag_difference::gap::Gap;
 
 /// What the prefixes of a history come to, in steps. A Take counts where it takes a request of the first tenant while
 /// both wait.
@@ -42,25 +35,36 @@ impl Leads {
         }
     }
 
-    /// With one entry more: how far the first is ahead after it, where both wait; the greater length of their heads
-    /// before it, where it is a Take that counts; and the doubt after it.
-    pub fn with(&self, ahead: Option<Ahead>, taken: Option<u128>, doubt: u128) -> Leads
-        ensures { result ≡ leads_with self.now ahead taken doubt }
+    /// Whether the doubt after one entry more counts: where both begin to wait, and after a Take that counts.
+    pub fn asks_doubt(&self, difference: Option<i128>, taken: Option<u128>) -> bool
+        ensures { result ≡ asks_doubt self.now difference taken }
+    {
+        taken.is_some() || difference.is_some() && !self.starts.shared
+    }
+
+    /// With one entry more: how far the start of the first is above the other's after it, where both wait; the greater
+    /// length of their heads before it, where it is a Take that counts; and the doubt after it.
+    pub fn with(&self, difference: Option<i128>, taken: Option<u128>, doubt: u128) -> Leads
+        requires difference { IfSome difference (λ d. d ≤ℤ GREATEST_START) }
+        requires doubt { doubt ≤ 2361183241434822606720 }
+        ensures { result ≡ leads_with self.now difference taken doubt }
     {
         Leads {
-            starts: self.starts.with(difference_of(ahead)),
-            first: self.first_with(ahead),
+            starts: self.starts.with(difference),
+            first: self.first_with(difference, doubt),
             longest: longest_with(self.longest, taken),
             doubt: doubt_with(self.doubt, taken, doubt),
         }
     }
 
-    // The greatest lead with which both begin to wait.
-    fn first_with(&self, ahead: Option<Ahead>) -> Option<i128>
-        ensures { result ≡ first_with self.now ahead }
+    // The greatest lead with which both begin to wait: the difference of the starts and what is in doubt.
+    fn first_with(&self, difference: Option<i128>, doubt: u128) -> Option<i128>
+        requires difference { IfSome difference (λ d. d ≤ℤ GREATEST_START) }
+        requires doubt { doubt ≤ 2361183241434822606720 }
+        ensures { result ≡ first_with self.now difference doubt }
     {
-        match ahead {
-            Some(ahead) if !self.starts.shared => Some(at_least(ahead.lead, self.first)),
+        match difference {
+            Some(d) if !self.starts.shared => Some(at_least(d + doubt as i128, self.first)),
             _ => self.first,
         }
     }
@@ -75,15 +79,6 @@ impl Leads {
         let takes = heads_in_bound(policy, self.longest) + self.doubt;
         let bound = at_least(takes as i128, self.first);
         Some(Gap { largest, bound })
-    }
-}
-
-fn difference_of(ahead: Option<Ahead>) -> Option<i128>
-    ensures { result ≡ difference_of ahead }
-{
-    match ahead {
-        Some(ahead) => Some(ahead.difference),
-        None => None,
     }
 }
 

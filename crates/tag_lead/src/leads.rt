@@ -1,28 +1,31 @@
 //! How far one tenant got ahead of another while both waited.
-ghost use Rattle.std.specs.Prelude.{◌≡◌, ◌≢◌, ◌<◌, ◌≤◌, ◌⊎◌, ◌∷◌, [], length, IfOk, IfErr, IfSome, Err, Some, None, ◌≤ℤ◌};
+ghost use Rattle.std.specs.Prelude.{◌≡◌, ◌≢◌, ◌<◌, ◌≤◌, ◌⊎◌, ◌∷◌, [], length, slice_index, IsTrue, IfOk, IfErr, IfSome, Err};
+ghost use Rattle.std.specs.Prelude.{Some, None, ◌≤ℤ◌};
 ghost use Rattle.fq_model.specs.History.{history_of};
+ghost use Rattle.fq_model.specs.Lead.{doubt};
 ghost use Rattle.fq_model.specs.Limits.{InLimits};
 ghost use Rattle.fq_model.specs.Rules.{IsLegal};
-ghost use Rattle.tag_gap.specs.Gaps.{tenant_fault};
-ghost use Rattle.tag_gap.specs.declared.fault.GapFault.{GapFault};
-ghost use Rattle.tag_gap.specs.declared.fault.GapFault.TheVariants as faults;
+ghost use Rattle.tag_difference.specs.Pairs.{difference_at, tenant_fault};
+ghost use Rattle.tag_difference.specs.declared.fault.GapFault.{GapFault};
+ghost use Rattle.tag_difference.specs.declared.fault.GapFault.TheVariants as faults;
 ghost use Rattle.tag_lead.specs.Found.{LeadsIn};
-ghost use Rattle.tag_lead.specs.Leads.{ahead_by, ahead_at, taken_by, taken_at, IsLead};
+ghost use Rattle.tag_lead.specs.Leads.{difference_by, taken_by, taken_at, IsLead};
 ghost use Rattle.tag_lead.specs.Spans.{LongestAre, ShortestAre};
 
 use crate::doubts::doubt;
-use crate::found::{Ahead, Leads};
+use crate::found::Leads;
 use crate::greatest::ever_bound;
 use crate::measuring::{Measured, measure};
 use crate::spans::Spans;
 use fq_model::config::Checked;
 use fq_model::event::{Act, Entry};
+use fq_model::limits::GREATEST_START;
 use journal_check::checking::{copy_of, enter};
 use sched_state::Scheduler;
 use std::alloc::{AllocError, Global};
-use tag_gap::fault::GapFault;
-use tag_gap::gap::Gap;
-use tag_gap::gaps::tenant_fault;
+use tag_difference::fault::GapFault;
+use tag_difference::gap::Gap;
+use tag_difference::pair::tenant_fault;
 use tag_rules::chooser::Chooser;
 use tag_rules::parts::Keys;
 
@@ -63,8 +66,8 @@ pub fn tag_lead<X: Chooser + Drop>(
     Ok(lead)
 }
 
-// The lead of one tenant over another.
-fn lead_of<X: Chooser + Drop>(
+/// The same of two tenants that are known, and are two.
+pub fn lead_of<X: Chooser + Drop>(
     alloc: Global,
     past: &[Entry],
     config: &Checked,
@@ -134,35 +137,55 @@ fn leads_in<X: Chooser>(
     for entry in past {
         let taken = taken(scheduler, *entry, f, g);
         enter(scheduler, *entry);
-        let doubt = doubt(scheduler, spans, f, g);
-        leads = leads.with(ahead(scheduler, f, g, doubt), taken, doubt);
+        let difference = difference(scheduler, f, g);
+        let doubt = doubt_where(leads.asks_doubt(difference, taken), scheduler, spans, f, g);
+        leads = leads.with(difference, taken, doubt);
     }
     leads
 }
 
-// How far f is ahead of g now, where both wait and so much is in doubt.
-fn ahead<X: Chooser>(scheduler: &Scheduler<u64, X>, f: u32, g: u32, doubt: u128) -> Option<Ahead>
+// What can still come of what runs, where that is asked for: each worker is looked at.
+fn doubt_where<X: Chooser>(
+    asked: bool,
+    scheduler: &Scheduler<u64, X>,
+    spans: &Spans,
+    f: u32,
+    g: u32,
+) -> u128
+    requires limits { InLimits scheduler.now.config }
+    requires legal { IsLegal scheduler.now.config (history_of scheduler.now.past) }
+    requires longest { length scheduler.now.past ≤ length spans.now.longest.items }
+    requires shortest { length scheduler.now.past ≤ length spans.now.shortest.items }
+    ensures value { IsTrue asked → result ≡ doubt (slice_index spans.now.longest.items)
+        (slice_index spans.now.shortest.items) scheduler.now.config (history_of scheduler.now.past) f g }
+    ensures low { result ≤ 2361183241434822606720 }
+{
+    if asked {
+        doubt(scheduler, spans, f, g)
+    } else {
+        0
+    }
+}
+
+// How far the start of f is above that of g now, where both wait.
+fn difference<X: Chooser>(scheduler: &Scheduler<u64, X>, f: u32, g: u32) -> Option<i128>
     requires limits { InLimits scheduler.now.config }
     requires legal { IsLegal scheduler.now.config (history_of scheduler.now.past) }
     requires f_known { f < length scheduler.now.config.weights }
     requires g_known { g < length scheduler.now.config.weights }
-    requires doubt { doubt ≤ 2361183241434822606720 }
-    ensures { result ≡ ahead_at scheduler.now.config (history_of scheduler.now.past) f g doubt }
+    ensures value { result ≡ difference_at scheduler.now.config (history_of scheduler.now.past) f g }
+    ensures high { IfSome result (λ d. d ≤ℤ GREATEST_START) }
 {
-    ahead_by(scheduler.keys(f), scheduler.keys(g), doubt)
+    difference_by(scheduler.keys(f), scheduler.keys(g))
 }
 
 // The same by the keys of their heads.
-fn ahead_by(first: Option<Keys>, second: Option<Keys>, doubt: u128) -> Option<Ahead>
-    requires { doubt ≤ 2361183241434822606720 }
-    ensures { result ≡ ahead_by first second doubt }
+fn difference_by(first: Option<Keys>, second: Option<Keys>) -> Option<i128>
+    ensures value { result ≡ difference_by first second }
+    ensures high { IfSome result (λ d. d ≤ℤ GREATEST_START) }
 {
     match (first, second) {
-        (Some(first), Some(second)) => {
-            let difference = first.start - second.start;
-            let lead = difference + doubt as i128;
-            Some(Ahead { difference, lead })
-        }
+        (Some(first), Some(second)) => Some(first.start - second.start),
         _ => None,
     }
 }

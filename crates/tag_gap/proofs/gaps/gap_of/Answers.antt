@@ -1,8 +1,8 @@
 use Rattle.std.proofs.Common.{◌+◌, arith}
 use Rattle.std.proofs.lemmas.Int.{ints}
 use Rattle.fq_model.specs.History.{history_of}
-use Rattle.tag_gap.proofs.Prefixes.{first_entries}
-use Rattle.tag_gap.proofs.FoundLemmas.{found_nil, found_gap}
+use Rattle.tag_difference.proofs.Prefixes.{first_entries}
+use Rattle.tag_difference.proofs.FoundLemmas.{found_nil, found_gap}
 use Rattle.tag_gap.proofs.GapLemmas.{awaits_next, keeps_next, found_on, found_all, bounded}
 use Rattle.tag_gap.proofs.gaps.gap_of.Goals as goal
 

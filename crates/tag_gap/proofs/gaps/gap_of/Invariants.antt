@@ -1,6 +1,6 @@
 use Rattle.tag_gap.specs.Reading.{Keeps}
-use Rattle.tag_gap.specs.Found.{FoundIn}
-use Rattle.tag_gap.proofs.Prefixes.{first_entries}
+use Rattle.tag_difference.specs.Found.{FoundIn}
+use Rattle.tag_difference.proofs.Prefixes.{first_entries}
 use Rattle.tag_gap.proofs.gaps.gap_of.Given as goal
 
 abbrev pub invariant-loop-entry : goal.invariant-loop-entry

@@ -1,4 +1,4 @@
-use Rattle.tag_gap.proofs.Prefixes.{first_entries}
+use Rattle.tag_difference.proofs.Prefixes.{first_entries}
 use Rattle.tag_gap.proofs.LengthLemmas.{ExtremesAre}
 use Rattle.tag_gap.proofs.lengths.longest.Given as goal
 

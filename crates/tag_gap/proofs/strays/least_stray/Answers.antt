@@ -1,7 +1,7 @@
 use Rattle.std.proofs.Common.{◌∙◌, ap, ap₂, sym}
 use Rattle.fq_model.specs.Gap.{not_declared}
 use Rattle.tag_gap.specs.Strays.{lesser}
-use Rattle.tag_gap.proofs.Prefixes.{first_entries, next_entry, one_on, legal_next, all_entries}
+use Rattle.tag_difference.proofs.Prefixes.{first_entries, next_entry, one_on, legal_next, all_entries}
 use Rattle.tag_gap.proofs.AskedLemmas.{known_first}
 use Rattle.tag_gap.proofs.StrayLemmas.{stray_nil, stray_known, stray_next}
 use Rattle.tag_gap.proofs.strays.least_stray.Goals as goal

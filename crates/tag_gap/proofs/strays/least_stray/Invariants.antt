@@ -1,6 +1,6 @@
 use Rattle.std.proofs.Common.{◌≡◌}
 use Rattle.fq_model.specs.Gap.{not_declared}
-use Rattle.tag_gap.proofs.Prefixes.{first_entries}
+use Rattle.tag_difference.proofs.Prefixes.{first_entries}
 use Rattle.tag_gap.proofs.strays.least_stray.Given as goal
 
 abbrev pub invariant-loop-entry : goal.invariant-loop-entry

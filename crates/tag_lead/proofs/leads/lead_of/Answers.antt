@@ -3,7 +3,7 @@ use Rattle.std.specs.Prelude.{option_map}
 use Rattle.fq_model.specs.Ever.{under_plus, ever_bound, measured_ever_bound}
 use Rattle.fq_model.specs.History.{history_of}
 use Rattle.fq_model.specs.Lead.{measured_gap}
-use Rattle.tag_gap.specs.Gaps.{told}
+use Rattle.tag_difference.specs.Pairs.{told}
 use Rattle.tag_lead.proofs.LeadLemmas.{leads_told, lead_bounded}
 use Rattle.tag_lead.proofs.leads.lead_of.Goals as goal
 

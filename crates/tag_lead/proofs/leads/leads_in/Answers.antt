@@ -1,11 +1,13 @@
-use Rattle.std.proofs.Common.{◌+◌, ◌≤◌, ◌≡◌, ◌∙◌, ◌∷◌, arith, refl, sym, ap, ap₂, length}
+use Rattle.std.proofs.Common.{◌+◌, ◌≤◌, ◌≡◌, ◌∙◌, ◌∷◌, true, arith, refl, sym, ap, ap₂, length}
 use Rattle.std.specs.Prelude.{slice_index}
 use Rattle.std.proofs.lemmas.List.{length-reverse}
 use Rattle.fq_model.specs.declared.config.Config.{Config}
 use Rattle.fq_model.specs.History.{History, history_of}
 use Rattle.fq_model.specs.Lead.{doubt, longest_of, shortest_of}
-use Rattle.tag_gap.proofs.Prefixes.{first_entries, next_entry, one_on}
-use Rattle.tag_lead.specs.Leads.{ahead_at, taken_at}
+use Rattle.tag_difference.proofs.Prefixes.{first_entries, next_entry, one_on}
+use Rattle.tag_difference.specs.Pairs.{difference_at}
+use Rattle.tag_lead.specs.Found.{asks_doubt}
+use Rattle.tag_lead.specs.Leads.{taken_at}
 use Rattle.tag_lead.proofs.Entering.{first_short, no_entries, may_enter, limits_still, came, legal_now}
 use Rattle.tag_lead.proofs.DoubtLemmas.{doubt_same}
 use Rattle.tag_lead.proofs.LeadLemmas.{leads_nil, leads_on, leads_all}
@@ -36,38 +38,35 @@ enter-requires-clause-limits g c = limits_still c.args.scheduler.now.config c.lo
 pub enter-requires-clause-legal : goal.enter-requires-clause-legal
 enter-requires-clause-legal g c = may_enter c.args.scheduler.now.config c.loop-entry.scheduler.config c.args.past.now c.loop-entry.entry-index (history_of c.loop-entry.scheduler.past) c.loop-entry-test.true c.requires.limits c.requires.legal c.loop-entry.invariant.config_is c.loop-entry.invariant.past_is
 
-pub doubt-doubt-requires-clause-limits : goal.doubt-doubt-requires-clause-limits
-doubt-doubt-requires-clause-limits g c = rw (c.enter.ensures.config, c.loop-entry.invariant.config_is) c.requires.limits
+pub doubt_where-doubt-requires-clause-limits : goal.doubt_where-doubt-requires-clause-limits
+doubt_where-doubt-requires-clause-limits g c = rw (c.enter.ensures.config, c.loop-entry.invariant.config_is) c.requires.limits
 
-pub doubt-doubt-requires-clause-legal : goal.doubt-doubt-requires-clause-legal
-doubt-doubt-requires-clause-legal g c = legal_now c.args.scheduler.now.config c.loop-entry.scheduler.config c.args.past.now c.loop-entry.entry-index (history_of c.loop-entry.scheduler.past) c.loop-entry-test.true c.requires.limits c.requires.legal c.loop-entry.invariant.config_is c.loop-entry.invariant.past_is
+pub doubt_where-doubt-requires-clause-legal : goal.doubt_where-doubt-requires-clause-legal
+doubt_where-doubt-requires-clause-legal g c = legal_now c.args.scheduler.now.config c.loop-entry.scheduler.config c.args.past.now c.loop-entry.entry-index (history_of c.loop-entry.scheduler.past) c.loop-entry-test.true c.requires.limits c.requires.legal c.loop-entry.invariant.config_is c.loop-entry.invariant.past_is
     c.enter.new.scheduler.config (history_of c.enter.new.scheduler.past) c.enter.ensures.config c.enter.ensures.past
 
-pub doubt-doubt-requires-clause-longest : goal.doubt-doubt-requires-clause-longest
-doubt-doubt-requires-clause-longest g c =
+pub doubt_where-doubt-requires-clause-longest : goal.doubt_where-doubt-requires-clause-longest
+doubt_where-doubt-requires-clause-longest g c =
     let came_now = came c.args.scheduler.now.config c.loop-entry.scheduler.config c.args.past.now c.loop-entry.entry-index (history_of c.loop-entry.scheduler.past) c.loop-entry-test.true c.requires.limits c.requires.legal c.loop-entry.invariant.config_is c.loop-entry.invariant.past_is (history_of c.enter.new.scheduler.past) c.enter.ensures.past in
     omega (arith, ap (λ (P : History). length P) came_now, first_short c.args.past.now (c.loop-entry.entry-index + 1), length-reverse c.enter.new.scheduler.past, c.requires.longest.sized)
 
-pub doubt-doubt-requires-clause-shortest : goal.doubt-doubt-requires-clause-shortest
-doubt-doubt-requires-clause-shortest g c =
+pub doubt_where-doubt-requires-clause-shortest : goal.doubt_where-doubt-requires-clause-shortest
+doubt_where-doubt-requires-clause-shortest g c =
     let came_now = came c.args.scheduler.now.config c.loop-entry.scheduler.config c.args.past.now c.loop-entry.entry-index (history_of c.loop-entry.scheduler.past) c.loop-entry-test.true c.requires.limits c.requires.legal c.loop-entry.invariant.config_is c.loop-entry.invariant.past_is (history_of c.enter.new.scheduler.past) c.enter.ensures.past in
     omega (arith, ap (λ (P : History). length P) came_now, first_short c.args.past.now (c.loop-entry.entry-index + 1), length-reverse c.enter.new.scheduler.past, c.requires.shortest.sized)
 
-pub ahead-requires-clause-limits : goal.ahead-requires-clause-limits
-ahead-requires-clause-limits g c = rw (c.enter.ensures.config, c.loop-entry.invariant.config_is) c.requires.limits
+pub difference-difference-requires-clause-limits : goal.difference-difference-requires-clause-limits
+difference-difference-requires-clause-limits g c = rw (c.enter.ensures.config, c.loop-entry.invariant.config_is) c.requires.limits
 
-pub ahead-requires-clause-legal : goal.ahead-requires-clause-legal
-ahead-requires-clause-legal g c = legal_now c.args.scheduler.now.config c.loop-entry.scheduler.config c.args.past.now c.loop-entry.entry-index (history_of c.loop-entry.scheduler.past) c.loop-entry-test.true c.requires.limits c.requires.legal c.loop-entry.invariant.config_is c.loop-entry.invariant.past_is
+pub difference-difference-requires-clause-legal : goal.difference-difference-requires-clause-legal
+difference-difference-requires-clause-legal g c = legal_now c.args.scheduler.now.config c.loop-entry.scheduler.config c.args.past.now c.loop-entry.entry-index (history_of c.loop-entry.scheduler.past) c.loop-entry-test.true c.requires.limits c.requires.legal c.loop-entry.invariant.config_is c.loop-entry.invariant.past_is
     c.enter.new.scheduler.config (history_of c.enter.new.scheduler.past) c.enter.ensures.config c.enter.ensures.past
 
-pub ahead-requires-clause-f_known : goal.ahead-requires-clause-f_known
-ahead-requires-clause-f_known g c = rw (c.enter.ensures.config, c.loop-entry.invariant.config_is) c.requires.f_known
+pub difference-difference-requires-clause-f_known : goal.difference-difference-requires-clause-f_known
+difference-difference-requires-clause-f_known g c = rw (c.enter.ensures.config, c.loop-entry.invariant.config_is) c.requires.f_known
 
-pub ahead-requires-clause-g_known : goal.ahead-requires-clause-g_known
-ahead-requires-clause-g_known g c = rw (c.enter.ensures.config, c.loop-entry.invariant.config_is) c.requires.g_known
-
-pub ahead-requires-clause-doubt : goal.ahead-requires-clause-doubt
-ahead-requires-clause-doubt g c = c.doubt-doubt.ensures.low
+pub difference-difference-requires-clause-g_known : goal.difference-difference-requires-clause-g_known
+difference-difference-requires-clause-g_known g c = rw (c.enter.ensures.config, c.loop-entry.invariant.config_is) c.requires.g_known
 
 pub loop-entry-preserved : goal.loop-entry-preserved
 loop-entry-preserved g c =
@@ -85,16 +84,15 @@ loop-entry-preserved g c =
     let past_now = c.enter.ensures.past ∙ ap (λ (Q : History). e ∷ Q) inv.past_is in
     let legal = legal_now C c.loop-entry.scheduler.config past i (history_of c.loop-entry.scheduler.past) c.loop-entry-test.true c.requires.limits c.requires.legal inv.config_is inv.past_is C (e ∷ P) (sym inv.config_is) (ap (λ (Q : History). e ∷ Q) (sym inv.past_is)) in
     let few : length (e ∷ P) ≤ length past = omega (arith, first_short past (i + 1), ap (λ (Q : History). length Q) (one_on past i c.loop-entry-test.true)) in
-    let doubted : c.doubt-doubt.result ≡ doubt (longest_of C (history_of past) f) (shortest_of C (history_of past) h) C (e ∷ P) f h =
-    c.doubt-doubt.ensures.value
+    let doubted = λ (asked : asks_doubt c.loop-entry.leads c.difference-difference.result c.taken-taken.result ≡ true). c.doubt_where-doubt.ensures.value (c.asks_doubt.ensures ∙ asked)
     ∙ ap₂ (λ (B : Config) (Q : History). doubt (slice_index spans.longest.items) (slice_index spans.shortest.items) B Q f h) config_now past_now
     ∙ doubt_same C (e ∷ P) spans.longest.items spans.shortest.items (longest_of C (history_of past) f) (shortest_of C (history_of past) h) f h (length past) legal few c.requires.longest.each c.requires.shortest.each in
     let took : c.taken-taken.result ≡ taken_at C P e.act f h = c.taken-taken.ensures.value ∙ ap₂ (λ (B : Config) (Q : History). taken_at B Q e.act f h) inv.config_is inv.past_is in
-    let apart = c.ahead.ensures ∙ ap₂ (λ (B : Config) (Q : History). ahead_at B Q f h c.doubt-doubt.result) config_now past_now in
+    let apart = c.difference-difference.ensures.value ∙ ap₂ (λ (B : Config) (Q : History). difference_at B Q f h) config_now past_now in
     record {
       config_is = config_now;
       past_is = past_now ∙ sym (one_on past i c.loop-entry-test.true);
-      found = leads_on C past i f h c.doubt-doubt.result c.loop-entry.leads c.with-leads.result c.ahead.result c.taken-taken.result c.loop-entry-test.true inv.found doubted c.doubt-doubt.ensures.low took c.taken-taken.ensures.low apart c.with-leads.ensures;
+      found = leads_on C past i f h c.doubt_where-doubt.result c.loop-entry.leads c.with-leads.result c.difference-difference.result c.taken-taken.result c.loop-entry-test.true inv.found doubted c.doubt_where-doubt.ensures.low took c.taken-taken.ensures.low apart c.with-leads.ensures;
     }
 
 pub returns : goal.returns

@@ -1,6 +1,6 @@
 use Rattle.std.proofs.Common.{◌≡◌}
 use Rattle.fq_model.specs.History.{history_of}
-use Rattle.tag_gap.proofs.Prefixes.{first_entries}
+use Rattle.tag_difference.proofs.Prefixes.{first_entries}
 use Rattle.tag_lead.specs.Found.{LeadsIn}
 use Rattle.tag_lead.proofs.leads.leads_in.Given as goal
 

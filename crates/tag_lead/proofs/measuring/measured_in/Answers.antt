@@ -3,7 +3,7 @@ use Rattle.fq_model.specs.declared.config.Config.{Config}
 use Rattle.fq_model.specs.Ever.{longest_of_all}
 use Rattle.fq_model.specs.History.{History, history_of}
 use Rattle.fq_laws.proofs.History.Counts.{submits_le_length}
-use Rattle.tag_gap.proofs.Prefixes.{first_entries, next_entry, one_on, all_entries, legal_next}
+use Rattle.tag_difference.proofs.Prefixes.{first_entries, next_entry, one_on, all_entries, legal_next}
 use Rattle.tag_lead.specs.Greatest.{tenant_of_act, told_length, head_length_if}
 use Rattle.tag_lead.specs.Spans.{LongestAre, ShortestAre}
 use Rattle.tag_lead.proofs.Entering.{first_short, no_entries, may_enter, limits_still, worker_still, came, legal_now, told_now, can_now}

@@ -2,7 +2,7 @@ use Rattle.std.proofs.Common.{◌≡◌, ◌≤◌, length}
 use Rattle.std.specs.Prelude.{vec_capacity}
 use Rattle.fq_model.specs.Ever.{longest_of_all}
 use Rattle.fq_model.specs.History.{history_of}
-use Rattle.tag_gap.proofs.Prefixes.{first_entries}
+use Rattle.tag_difference.proofs.Prefixes.{first_entries}
 use Rattle.tag_lead.specs.Greatest.{TenantsAre}
 use Rattle.tag_lead.specs.Spans.{LongestAre, ShortestAre}
 use Rattle.tag_lead.proofs.measuring.measured_in.Given as goal

@@ -1,6 +1,6 @@
 //! Why there is no gap.
 ghost use Rattle.std.specs.Prelude.{◌≡◌};
-ghost use Rattle.tag_gap.specs.declared.fault.GapFault.TheVariants as faults;
+ghost use Rattle.tag_difference.specs.declared.fault.GapFault.TheVariants as faults;
 
 use std::alloc::AllocError;
 

@@ -9,10 +9,10 @@ use Rattle.fq_model.specs.declared.event.Entry.{Entry}
 use Rattle.fq_model.specs.History.{History}
 use Rattle.fq_model.specs.Gap.{is_shared, shared_differences, first_differences, greatest_of, greatest_with, lengths_in_bound, longest_length, largest_difference, difference_bound, tag_gap}
 use Rattle.gap_laws.proofs.Runs.{nil_unshared}
-use Rattle.tag_gap.specs.declared.found.Found.{Found}
-use Rattle.tag_gap.specs.Reading.{difference_at}
-use Rattle.tag_gap.specs.Found.{nothing, at_least, with_difference, gap_from, FoundIn}
-use Rattle.tag_gap.specs.Gaps.{told}
+use Rattle.tag_difference.specs.declared.found.Found.{Found}
+use Rattle.tag_difference.specs.Pairs.{difference_at}
+use Rattle.tag_difference.specs.Found.{nothing, at_least, with_difference, gap_from, FoundIn}
+use Rattle.tag_difference.specs.Pairs.{told}
 
 -- the greatest may be taken in any order
 greatest_swapped : (x y : ℤ) (zs : List ℤ) → int_max (greatest_with y zs) x ≡ int_max y (greatest_with x zs)

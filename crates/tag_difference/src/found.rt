@@ -1,6 +1,6 @@
 //! What the differences of two starts come to.
 ghost use Rattle.std.specs.Prelude.{◌≡◌};
-ghost use Rattle.tag_gap.specs.Found.{nothing, with_difference, at_least, gap_from};
+ghost use Rattle.tag_difference.specs.Found.{nothing, with_difference, at_least, gap_from};
 
 use crate::gap::Gap;
 

@@ -4,8 +4,8 @@ use Rattle.std.specs.Int.{int_max}
 use Rattle.fq_model.specs.declared.config.Config.{Config}
 use Rattle.fq_model.specs.History.{History}
 use Rattle.fq_model.specs.Gap.{is_shared, shared_differences, first_differences, greatest_of}
-use Rattle.tag_gap.specs.declared.found.Found.{Found}
-use Rattle.tag_gap.specs.declared.gap.Gap.{Gap}
+use Rattle.tag_difference.specs.declared.found.Found.{Found}
+use Rattle.tag_difference.specs.declared.gap.Gap.{Gap}
 
 -- no prefix yet
 abbrev pub nothing : Found

@@ -1,0 +1,7 @@
+//! What the differences of two tenants' starts come to, at the prefixes of a past in which both wait.
+#![tactic(auto)]
+
+pub mod fault;
+pub mod found;
+pub mod gap;
+pub mod pair;
