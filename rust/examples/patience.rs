@@ -21,7 +21,7 @@ use std::thread;
 use std::time::{Duration, Instant};
 
 use fifo::Fifo;
-use twodfq::{Policy, Pool};
+use twodfq::{KindId, Policy, Pool, TenantId};
 
 const CHEAP: Duration = Duration::from_micros(300);
 const COSTLY: Duration = Duration::from_millis(100);
@@ -119,7 +119,7 @@ impl Service {
 
     fn submit(&self, tenant: u32, job: impl FnOnce() + Send + 'static) {
         match self {
-            Service::Fair(pool) => drop(pool.submit(tenant, 0, job)),
+            Service::Fair(pool) => drop(pool.submit(TenantId::new(tenant), KindId::FIRST, job)),
             Service::Fifo(fifo) => fifo.submit(job),
         }
     }

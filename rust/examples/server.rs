@@ -1,30 +1,34 @@
-//! A server that many tenants share. It answers lines over TCP on the loopback address: `KEY cheap` and `KEY costly` do some
-//! work for the tenant with this key and are answered `done`, all else `refused`. A client may send many lines at once; an
-//! answer comes when its work is done, with the line's number before it.
+//! A server that many tenants share. It answers lines over TCP on the loopback address: `NAME cheap` and `NAME costly` do
+//! some work for the tenant of this name, which may be new, and are answered `done`; `metrics` is answered by what the pool
+//! counts, for Prometheus; all else is `refused`. A client may send many lines at once; an answer comes when its work is
+//! done, with the line's number before it. What waits for a client that is gone is cancelled.
 //!
 //!     cargo run --release --example server -- 2dfq      # or wfq, wf2q, msf2q, 2dfq+; or fifo: one queue for all
+//!     cargo run --release --example server -- limited   # 2dfq+, and at most two costly requests of a tenant at once
 //!
 //! It prints its port, and serves until its standard input ends. `crowd` drives it.
 mod fifo;
 
 use std::env;
-use std::hint;
 use std::io::{self, BufRead, BufReader, Write};
 use std::net::{TcpListener, TcpStream};
 use std::process;
+use std::sync::atomic::{AtomicBool, Ordering};
 use std::sync::{Arc, Mutex};
 use std::thread;
+use std::time::Duration;
 
 use fifo::Fifo;
-use twodfq::{tick, Policy, Pool};
+use twodfq::{tick, Handle, KindId, Policy, Pool};
 
-const WORKERS: u32 = 3;
+const WORKERS: u32 = 16;
 
-/// The tenants' keys and names.
-const TENANTS: [(&str, &str); 4] = [("k0", "flood"), ("k1", "acme"), ("k2", "globex"), ("k3", "hooli")];
+/// How many tenants may have requests at once.
+const TENANTS: u32 = 64;
 
-/// What a request asks for, and how many rounds of work that is: about 0.1 and 10 milliseconds.
-const KINDS: [(&str, u64); 2] = [("cheap", 40_000), ("costly", 4_000_000)];
+/// What a request asks for, and how many steps of work that is, and how long each: it waits for a disk, say.
+const KINDS: [(&str, u32, Duration); 2] =
+    [("cheap", 1, Duration::from_micros(200)), ("costly", 10, Duration::from_millis(5))];
 
 enum Service {
     Fair(Pool),
@@ -39,65 +43,99 @@ impl Service {
             "wf2q" => Policy::Wf2q,
             "msf2q" => Policy::Msf2q,
             "2dfq" => Policy::TwoDfq,
-            "2dfq+" => Policy::TwoDfqPlus,
+            "2dfq+" | "limited" => Policy::TwoDfqPlus,
             _ => return None,
         };
-        let builder = Pool::builder().workers(WORKERS).policy(policy);
-        let builder = TENANTS.iter().fold(builder, |builder, (_, name)| builder.tenant(name, 1));
-        let builder = KINDS.iter().fold(builder, |builder, (name, _)| builder.kind(name));
-        Some(Service::Fair(builder.open().expect("a pool of four tenants opens")))
+        let builder = Pool::builder().workers(WORKERS).policy(policy).most_tenants(TENANTS);
+        let builder = KINDS.iter().fold(builder, |builder, (name, ..)| builder.kind(name));
+        let builder = if mode == "limited" { builder.kind_most_running("costly", 2) } else { builder };
+        Some(Service::Fair(builder.open().expect("a pool of two kinds opens")))
     }
 
-    /// Whether the job will be run.
-    fn submit(&self, tenant: u32, kind: u32, job: impl FnOnce() + Send + 'static) -> bool {
+    /// Hands the job in, if it is taken. Only one of a fair pool has a handle.
+    fn submit(&self, tenant: &str, kind: usize, job: impl FnOnce() + Send + 'static) -> Option<Option<Handle<()>>> {
         match self {
-            Service::Fair(pool) => pool.submit(tenant, kind, job).is_ok(),
+            Service::Fair(pool) => pool.submit(tenant, KindId::new(kind as u32), job).ok().map(Some),
             Service::Fifo(fifo) => {
                 fifo.submit(job);
-                true
+                Some(None)
             }
+        }
+    }
+
+    fn metrics(&self) -> Option<String> {
+        match self {
+            Service::Fair(pool) => Some(pool.status().prometheus()),
+            Service::Fifo(_) => None,
         }
     }
 }
 
-/// Work of so many rounds, of which each takes the same time.
-fn compute(rounds: u64) {
-    let mut number = 1_u64;
-    for round in 0..rounds {
-        number = hint::black_box(number.wrapping_mul(6_364_136_223_846_793_005).wrapping_add(round));
-        if round % 100_000 == 0 {
-            tick();
-        }
+/// Does the work of a kind, and tells the pool on the way what it has used.
+fn work(kind: usize) {
+    let (_, steps, time) = KINDS[kind];
+    for _ in 0..steps {
+        thread::sleep(time);
+        tick();
     }
 }
 
 /// The tenant and the kind of a line.
-fn request(line: &str) -> Option<(u32, u32)> {
-    let (key, kind) = line.split_once(' ')?;
-    let tenant = TENANTS.iter().position(|tenant| tenant.0 == key)?;
-    let kind = KINDS.iter().position(|other| other.0 == kind)?;
-    Some((tenant as u32, kind as u32))
+fn request(line: &str) -> Option<(&str, usize)> {
+    let (tenant, kind) = line.split_once(' ')?;
+    Some((tenant, KINDS.iter().position(|(name, ..)| *name == kind)?))
+}
+
+/// Where a client's answers go.
+struct Client {
+    stream: Mutex<TcpStream>,
+    is_gone: AtomicBool,
+}
+
+impl Client {
+    fn answer(&self, number: usize, text: &str) {
+        if writeln!(self.stream.lock().unwrap(), "{number} {text}").is_err() {
+            self.is_gone.store(true, Ordering::Relaxed);
+        }
+    }
+}
+
+/// Answers a line; the handle of what then waits, if it has one.
+fn respond(service: &Service, client: &Arc<Client>, number: usize, line: &str) -> Option<Handle<()>> {
+    if let Some(text) = service.metrics().filter(|_| line == "metrics") {
+        client.answer(number, &text);
+        return None;
+    }
+    let submitted = request(line).and_then(|(tenant, kind)| {
+        let client = client.clone();
+        service.submit(tenant, kind, move || {
+            work(kind);
+            client.answer(number, "done");
+        })
+    });
+    if submitted.is_none() {
+        client.answer(number, "refused");
+    }
+    submitted.flatten()
 }
 
 fn serve(service: &Service, stream: TcpStream) -> io::Result<()> {
     stream.set_nodelay(true)?;
-    let answers = Arc::new(Mutex::new(stream.try_clone()?));
+    let client = Arc::new(Client { stream: Mutex::new(stream.try_clone()?), is_gone: AtomicBool::new(false) });
+    let mut handles: Vec<Handle<()>> = Vec::new();
     for (number, line) in BufReader::new(stream).lines().enumerate() {
-        let answer = |text: &'static str| {
-            let answers = answers.clone();
-            // a client that is gone wants no answer
-            move || drop(writeln!(answers.lock().unwrap(), "{number} {text}"))
+        let Ok(line) = line else {
+            client.is_gone.store(true, Ordering::Relaxed);
+            break;
         };
-        let is_taken = request(&line?).is_some_and(|(tenant, kind)| {
-            let done = answer("done");
-            let rounds = KINDS[kind as usize].1;
-            service.submit(tenant, kind, move || {
-                compute(rounds);
-                done();
-            })
-        });
-        if !is_taken {
-            answer("refused")();
+        handles.retain(|handle| !handle.is_done());
+        handles.extend(respond(service, &client, number, &line));
+    }
+    for handle in handles {
+        if client.is_gone.load(Ordering::Relaxed) {
+            handle.cancel();
+        } else {
+            let _ = handle.join();
         }
     }
     Ok(())
@@ -105,7 +143,7 @@ fn serve(service: &Service, stream: TcpStream) -> io::Result<()> {
 
 fn main() -> io::Result<()> {
     let Some(service) = env::args().nth(1).and_then(|mode| Service::open(&mode)) else {
-        eprintln!("server: say fifo, wfq, wf2q, msf2q, 2dfq or 2dfq+");
+        eprintln!("server: say fifo, wfq, wf2q, msf2q, 2dfq, 2dfq+ or limited");
         process::exit(2);
     };
     let service = Arc::new(service);

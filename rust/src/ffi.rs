@@ -7,6 +7,7 @@ use std::panic::{self, AssertUnwindSafe};
 use std::sync::{Arc, Condvar, Mutex, PoisonError};
 
 use crate::pool::Job;
+use crate::service::withdraw::Withdrawn;
 use crate::{Act, Due, Entry, Refusal, Taken};
 
 #[repr(C)]
@@ -228,6 +229,14 @@ impl Job for LentJob {
         let panicked = job.is_none_or(|job| job.run());
         drop(guard);
         panicked
+    }
+
+    fn withdraw(self: Box<Self>, why: Withdrawn) {
+        let LentJob { job, guard } = *self;
+        if let Some(job) = job {
+            job.withdraw(why);
+        }
+        drop(guard);
     }
 }
 

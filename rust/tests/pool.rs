@@ -1,41 +1,36 @@
 //! The pool: results in each way, refusals, panics, changes, and that each job is run once.
-use std::future::Future;
 use std::panic;
-use std::pin::pin;
 use std::sync::atomic::{AtomicU32, AtomicUsize, Ordering};
 use std::sync::{mpsc, Arc, Barrier};
-use std::task::{Context, Poll, Wake, Waker};
-use std::thread::{self, Thread};
+use std::thread;
 use std::time::Duration;
 
-use twodfq::{BuildFault, Builder, Cause, Measure, OpenFault, Pool};
+use twodfq::{BuildFault, Builder, Cause, JoinError, KindId, Measure, OpenFault, Pool, TenantId, Terms};
+
+mod executor;
+mod held;
+
+use executor::block_on;
+use held::held;
 
 fn builder() -> Builder {
     Pool::builder().workers(4).tenant("acme", 1).tenant("globex", 2).tenant("hooli", 3).kind("get").kind("scan")
 }
 
+fn panicked(message: &str) -> JoinError {
+    JoinError::Panicked(message.to_string())
+}
+
 /// None, the usual one, and the greatest.
 const PATIENCE: [f64; 3] = [0.0, 0.02, 1.0];
-
-/// A pool of one worker which waits until the sender is used or dropped.
-fn held(builder: Builder) -> (Pool, mpsc::Sender<()>) {
-    let pool = builder.workers(1).open().unwrap();
-    let (sender, receiver) = mpsc::channel::<()>();
-    let (begins, begun) = mpsc::channel();
-    let job = move || {
-        begins.send(()).unwrap();
-        let _ = receiver.recv();
-    };
-    pool.submit(0, 0, job).unwrap();
-    begun.recv().unwrap();
-    (pool, sender)
-}
 
 #[test]
 fn join_gives_the_result() {
     for patience in PATIENCE {
         let pool = builder().patience(patience).open().unwrap();
-        let handles: Vec<_> = (0..100_u32).map(|i| pool.submit(i % 3, i % 2, move || i * i).unwrap()).collect();
+        let handles: Vec<_> = (0..100_u32)
+            .map(|i| pool.submit(TenantId::new(i % 3), KindId::new(i % 2), move || i * i).unwrap())
+            .collect();
         let squares: Vec<u32> = handles.into_iter().map(|handle| handle.join().unwrap()).collect();
         assert_eq!(squares, (0..100).map(|i| i * i).collect::<Vec<_>>());
     }
@@ -44,7 +39,7 @@ fn join_gives_the_result() {
 #[test]
 fn try_join_gives_the_handle_again_while_the_job_waits() {
     let (pool, sender) = held(builder());
-    let handle = pool.submit(1, 0, || 42).unwrap();
+    let handle = pool.submit("globex", KindId::FIRST, || 42).unwrap();
     assert!(!handle.is_done());
     let handle = handle.try_join().unwrap_err();
     sender.send(()).unwrap();
@@ -57,46 +52,26 @@ fn a_callback_gets_the_result_before_and_after_the_end() {
     let (pool, sender) = held(builder());
     let (results, received) = mpsc::channel();
     let (early, late) = (results.clone(), results);
-    let waits = pool.submit(1, 0, || 1).unwrap();
+    let waits = pool.submit("globex", KindId::FIRST, || 1).unwrap();
     waits.then(move |result| early.send((thread::current().name().map(String::from), result.unwrap())).unwrap());
     sender.send(()).unwrap();
     assert_eq!(received.recv().unwrap(), (Some("twodfq-0".to_string()), 1));
-    let done = pool.submit(1, 0, || 2).unwrap();
+    let done = pool.submit("globex", KindId::FIRST, || 2).unwrap();
     pool.join();
     let here = thread::current().name().map(String::from);
     done.then(move |result| late.send((thread::current().name().map(String::from), result.unwrap())).unwrap());
     assert_eq!(received.recv().unwrap(), (here, 2));
 }
 
-struct Unpark(Thread);
-
-impl Wake for Unpark {
-    fn wake(self: Arc<Self>) {
-        self.0.unpark();
-    }
-}
-
-/// A runtime of one future.
-fn block_on<F: Future>(future: F) -> F::Output {
-    let waker = Waker::from(Arc::new(Unpark(thread::current())));
-    let mut future = pin!(future);
-    loop {
-        match future.as_mut().poll(&mut Context::from_waker(&waker)) {
-            Poll::Ready(output) => return output,
-            Poll::Pending => thread::park(),
-        }
-    }
-}
-
 #[test]
 fn a_handle_is_a_future() {
     let pool = Arc::new(builder().open().unwrap());
-    let slow = pool.submit(0, 1, || thread::sleep(Duration::from_millis(20))).unwrap();
+    let slow = pool.submit("acme", KindId::new(1), || thread::sleep(Duration::from_millis(20))).unwrap();
     let other = pool.clone();
     let sum = block_on(async move {
         slow.await.unwrap();
-        let first = other.submit(1, 0, || 40).unwrap().await.unwrap();
-        first + other.submit(2, 0, || 2).unwrap().await.unwrap()
+        let first = other.submit("globex", KindId::FIRST, || 40).unwrap().await.unwrap();
+        first + other.submit("hooli", KindId::FIRST, || 2).unwrap().await.unwrap()
     });
     assert_eq!(sum, 42);
 }
@@ -104,10 +79,12 @@ fn a_handle_is_a_future() {
 #[test]
 fn each_cause_gives_the_job_back() {
     let (pool, _sender) = held(builder().room(2));
-    let cause = |tenant, kind, cost| pool.submit_declared(tenant, kind, cost, || 7).map(drop);
+    let cause = |tenant, kind, cost| {
+        pool.submit_with(TenantId::new(tenant), KindId::new(kind), Terms::default().declared(cost), || 7).map(drop)
+    };
     for (tenant, kind, cost, wanted) in [
-        (3, 0, 5, Cause::Tenant(3)),
-        (0, 2, 5, Cause::Kind(2)),
+        (3, 0, 5, Cause::NoTenant),
+        (0, 2, 5, Cause::Kind(KindId::new(2))),
         (0, 0, 0, Cause::Cost(0)),
         (0, 0, 1_000_000_001, Cause::Cost(1_000_000_001)),
     ] {
@@ -116,13 +93,13 @@ fn each_cause_gives_the_job_back() {
     }
     assert!(cause(0, 0, 5).is_ok() && cause(1, 0, 5).is_ok());
     assert_eq!(cause(2, 0, 5).unwrap_err().cause, Cause::TooManyWait(2));
-    assert_eq!(pool.weight(0, 1001), Err(Cause::Weight(1001)));
-    assert_eq!(pool.weight(3, 1), Err(Cause::Tenant(3)));
+    assert_eq!(pool.weight("acme", 1001), Err(Cause::Weight(1001)));
+    assert_eq!(pool.weight(TenantId::new(3), 1), Err(Cause::NoTenant));
     assert_eq!(pool.workers(0), Err(Cause::Workers(0)));
     assert_eq!(pool.workers(2), Err(Cause::Workers(2)));
     pool.close();
     assert_eq!(cause(3, 0, 5).unwrap_err().cause, Cause::Closed);
-    assert_eq!(pool.weight(0, 1), Err(Cause::Closed));
+    assert_eq!(pool.weight("acme", 1), Err(Cause::Closed));
     assert_eq!(pool.workers(1), Err(Cause::Closed));
 }
 
@@ -146,23 +123,23 @@ fn a_job_that_panics_is_done_and_its_worker_goes_on() {
     for patience in PATIENCE {
         let pool = builder().patience(patience).workers(1).open().unwrap();
         let fails = pool
-            .submit(0, 0, || {
+            .submit("acme", KindId::FIRST, || {
                 if true {
                     panic!("by {}", "number")
                 }
             })
             .unwrap();
         let odd = pool
-            .submit(0, 0, || {
+            .submit("acme", KindId::FIRST, || {
                 if true {
                     panic::panic_any(5_u8)
                 }
             })
             .unwrap();
-        pool.submit(0, 0, || ()).unwrap().then(|_| panic!("a callback"));
-        assert_eq!(fails.join().unwrap_err().message(), "by number");
-        assert_eq!(odd.join().unwrap_err().message(), "no message");
-        assert_eq!(pool.submit(1, 0, || 42).unwrap().join().unwrap(), 42);
+        pool.submit("acme", KindId::FIRST, || ()).unwrap().then(|_| panic!("a callback"));
+        assert_eq!(fails.join(), Err(panicked("by number")));
+        assert_eq!(odd.join(), Err(panicked("no message")));
+        assert_eq!(pool.submit("globex", KindId::FIRST, || 42).unwrap().join().unwrap(), 42);
     }
 }
 
@@ -178,10 +155,10 @@ fn a_job_is_dropped_once_it_has_run() {
     let drops = Arc::new(AtomicUsize::new(0));
     let pool = builder().workers(1).open().unwrap();
     let counted = Counted(drops.clone());
-    pool.submit(0, 0, move || drop(counted)).unwrap();
+    pool.submit("acme", KindId::FIRST, move || drop(counted)).unwrap();
     let counted = Counted(drops.clone());
-    drop(pool.submit(0, 0, move || counted).unwrap()); // its result is nobody's
-    assert_eq!(pool.submit(1, 0, || 42).unwrap().join().unwrap(), 42);
+    drop(pool.submit("acme", KindId::FIRST, move || counted).unwrap()); // its result is nobody's
+    assert_eq!(pool.submit("globex", KindId::FIRST, || 42).unwrap().join().unwrap(), 42);
     pool.join();
     assert_eq!(drops.load(Ordering::SeqCst), 2);
 }
@@ -199,15 +176,15 @@ impl Drop for PanicsWhenDropped {
 fn a_payload_that_panics_does_no_harm() {
     let pool = builder().workers(1).open().unwrap();
     let fails = pool
-        .submit(0, 0, || {
+        .submit("acme", KindId::FIRST, || {
             if true {
                 panic::panic_any(PanicsWhenDropped)
             }
         })
         .unwrap();
-    assert_eq!(fails.join().unwrap_err().message(), "no message");
-    pool.submit(0, 0, || ()).unwrap().then(|_| panic::panic_any(PanicsWhenDropped));
-    assert_eq!(pool.submit(1, 0, || 42).unwrap().join().unwrap(), 42);
+    assert_eq!(fails.join(), Err(panicked("no message")));
+    pool.submit("acme", KindId::FIRST, || ()).unwrap().then(|_| panic::panic_any(PanicsWhenDropped));
+    assert_eq!(pool.submit("globex", KindId::FIRST, || 42).unwrap().join().unwrap(), 42);
 }
 
 #[test]
@@ -225,8 +202,10 @@ fn every_wanted_worker_runs_at_once_and_no_other() {
                     now.fetch_sub(1, Ordering::SeqCst);
                 }
             };
-            let jobs =
-                (0..4 * count).map(|i| pool.submit(i % 3, 0, job(barrier.clone(), now.clone(), most.clone())).unwrap());
+            let jobs = (0..4 * count).map(|i| {
+                pool.submit(TenantId::new(i % 3), KindId::FIRST, job(barrier.clone(), now.clone(), most.clone()))
+                    .unwrap()
+            });
             for handle in jobs.collect::<Vec<_>>() {
                 handle.join().unwrap();
             }
@@ -239,7 +218,8 @@ fn every_wanted_worker_runs_at_once_and_no_other() {
 fn both_measures_serve() {
     for measure in [Measure::Wall, Measure::Processor] {
         let pool = builder().measure(measure).refresh(Duration::ZERO).open().unwrap();
-        let sum = pool.submit(0, 1, || (0..1000_u64).inspect(|_| twodfq::tick()).sum::<u64>()).unwrap();
+        let sum =
+            pool.submit("acme", KindId::new(1), || (0..1000_u64).inspect(|_| twodfq::tick()).sum::<u64>()).unwrap();
         assert_eq!(sum.join().unwrap(), 499_500);
     }
 }

@@ -6,11 +6,11 @@ use std::sync::{Arc, Barrier, Mutex, PoisonError};
 use std::thread;
 use std::time::{Duration, Instant};
 
-use twodfq::{Measure, Policy, Pool};
+use twodfq::{KindId, Measure, Policy, Pool, TenantId};
 
 const WORKERS: u32 = 4;
-const FLOOD: u32 = 0;
-const VISITOR: u32 = 1;
+const FLOOD: TenantId = TenantId::new(0);
+const VISITOR: TenantId = TenantId::new(1);
 
 fn nothing() {}
 
@@ -51,7 +51,7 @@ impl Flood {
         let barrier = Arc::new(Barrier::new(WORKERS as usize + 1));
         for _ in 0..WORKERS {
             let barrier = barrier.clone();
-            pool.submit(FLOOD, 0, move || _ = barrier.wait()).unwrap();
+            pool.submit(FLOOD, KindId::FIRST, move || _ = barrier.wait()).unwrap();
         }
         let progress = Arc::<Progress>::default();
         for _ in 0..self.jobs {
@@ -62,7 +62,7 @@ impl Flood {
                 }
                 progress.ran.fetch_add(1, Ordering::SeqCst);
             };
-            pool.submit(FLOOD, 0, counted).unwrap();
+            pool.submit(FLOOD, KindId::FIRST, counted).unwrap();
         }
         barrier.wait();
         progress
@@ -73,7 +73,12 @@ impl Flood {
     fn waits(&self, patience: f64) -> usize {
         static TURN: Mutex<()> = Mutex::new(()); // one flood at a time
         let _turn = TURN.lock().unwrap_or_else(PoisonError::into_inner);
-        let builder = Pool::builder().workers(WORKERS).tenant("flood", 1).tenant("visitor", 1).room(262_144);
+        let builder = Pool::builder()
+            .workers(WORKERS)
+            .tenant("flood", 1)
+            .tenant("visitor", 1)
+            .room(262_144)
+            .room_per_tenant(262_144);
         let builder = builder.policy(Policy::default()).measure(self.measure);
         let pool = builder.patience(patience).open().unwrap();
         let progress = self.begin(&pool);
@@ -82,7 +87,7 @@ impl Flood {
         }
         let visit = |_| {
             let seen = progress.clone();
-            let handle = pool.submit(VISITOR, 0, move || seen.ran()).unwrap();
+            let handle = pool.submit(VISITOR, KindId::FIRST, move || seen.ran()).unwrap();
             let before = progress.ran();
             handle.join().unwrap().saturating_sub(before)
         };

@@ -9,7 +9,7 @@ use std::task::{Context, Poll, Wake, Waker};
 use std::thread;
 use std::time::Duration;
 
-use twodfq::{Builder, Handle, Pool};
+use twodfq::{Builder, Handle, KindId, Pool};
 
 /// How long a call may take that ends at once where its processor is its own.
 const LIMIT: Duration = Duration::from_secs(60);
@@ -30,8 +30,8 @@ fn a_job_may_drop_its_pool_while_a_journal_is_written() {
     let pool = Arc::new(builder().open().unwrap());
     let journal = pool.journal(io::sink()).unwrap();
     let (sender, receiver) = mpsc::channel::<Arc<Pool>>();
-    let handle = pool.submit(0, 0, move || drop(receiver.recv().unwrap())).unwrap();
-    let later = pool.submit(0, 0, || 42).unwrap();
+    let handle = pool.submit("acme", KindId::FIRST, move || drop(receiver.recv().unwrap())).unwrap();
+    let later = pool.submit("acme", KindId::FIRST, || 42).unwrap();
     sender.send(pool).unwrap();
     ends(|| handle.join()).unwrap().unwrap();
     assert_eq!(ends(|| later.join()).unwrap(), Ok(42));
@@ -45,7 +45,7 @@ fn a_callback_may_drop_its_pool_while_a_journal_is_written() {
     let (sender, receiver) = mpsc::channel::<Arc<Pool>>();
     let (ended, end) = mpsc::channel();
     let (begin, begins) = mpsc::channel::<()>();
-    pool.submit(0, 0, move || begins.recv().is_ok()).unwrap().then(move |_| {
+    pool.submit("acme", KindId::FIRST, move || begins.recv().is_ok()).unwrap().then(move |_| {
         drop(receiver.recv().unwrap());
         ended.send(()).unwrap();
     });
@@ -73,7 +73,7 @@ fn poll<T>(handle: &mut Handle<T>, waker: &Arc<Counts>) -> bool {
 /// A handle whose result a poll gave.
 fn polled() -> Handle<u32> {
     let pool = builder().open().unwrap();
-    let mut handle = pool.submit(0, 0, || 42).unwrap();
+    let mut handle = pool.submit("acme", KindId::FIRST, || 42).unwrap();
     pool.join();
     assert!(poll(&mut handle, &Arc::default()));
     handle
@@ -92,7 +92,7 @@ fn a_result_is_given_once() {
 fn a_dropped_handle_lets_its_waker_go() {
     let pool = builder().open().unwrap();
     let (sender, receiver) = mpsc::channel::<()>();
-    let mut handle = pool.submit(0, 0, move || receiver.recv().is_ok()).unwrap();
+    let mut handle = pool.submit("acme", KindId::FIRST, move || receiver.recv().is_ok()).unwrap();
     let waker = Arc::<Counts>::default();
     assert!(!poll(&mut handle, &waker));
     assert_eq!(Arc::strong_count(&waker), 2);
@@ -115,7 +115,7 @@ impl Drop for PanicsWhenDropped {
 #[test]
 fn a_callback_on_a_finished_job_panics_alone() {
     let pool = builder().open().unwrap();
-    let [first, second] = [(); 2].map(|()| pool.submit(0, 0, || 42).unwrap());
+    let [first, second] = [(); 2].map(|()| pool.submit("acme", KindId::FIRST, || 42).unwrap());
     pool.join();
     first.then(|_| panic!("a callback"));
     second.then(|_| panic::panic_any(PanicsWhenDropped));

@@ -1,9 +1,13 @@
-//! An idle pool sleeps. The test measures its process, so it is the only one here.
+//! An idle pool sleeps, and so does the timekeeper of permits. The test measures its process, so it is the only one here.
 use std::fs;
 use std::thread;
 use std::time::{Duration, Instant};
 
-use twodfq::Pool;
+use twodfq::{KindId, Permits, Pool};
+
+mod executor;
+
+use executor::poll;
 
 /// The processor time that all threads of this process have used, in nanoseconds.
 fn processor_time() -> u64 {
@@ -19,7 +23,11 @@ fn processor_time() -> u64 {
 fn an_idle_pool_uses_less_than_a_thousandth() {
     let pool = Pool::builder().workers(4).most_workers(8).tenant("acme", 1).open().unwrap();
     let journal = pool.journal(Vec::new()).unwrap();
-    pool.submit(0, 0, || ()).unwrap().join().unwrap();
+    pool.submit("acme", KindId::FIRST, || ()).unwrap().join().unwrap();
+    let permits = Permits::builder().workers(1).tenant("acme", 1).open_permits().unwrap();
+    let _held = permits.try_acquire("acme", KindId::FIRST).unwrap();
+    let mut waits = permits.acquire_by("acme", KindId::FIRST, Instant::now() + Duration::from_secs(600));
+    assert!(poll(&mut waits).is_pending());
     thread::sleep(Duration::from_millis(100)); // until all sleep
     let (used, begun) = (processor_time(), Instant::now());
     thread::sleep(Duration::from_secs(2));

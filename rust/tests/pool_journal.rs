@@ -1,59 +1,24 @@
 //! The journals that a pool writes, and its counts.
 use std::collections::VecDeque;
-use std::env;
 use std::io::{self, Write};
-use std::process::{Command, Stdio};
-use std::sync::{mpsc, Arc, Mutex};
+use std::sync::mpsc;
 use std::thread;
 use std::time::{Duration, Instant};
 
-use twodfq::{Builder, Estimator, Policy, Pool, Written};
+use twodfq::{Builder, Estimator, KindId, Policy, Pool, TenantId, Terms, Written};
+
+mod journals;
+
+use journals::{judge, Text};
 
 fn builder() -> Builder {
     Pool::builder().workers(3).most_workers(4).tenant("acme", 1).tenant("globex", 2).kind("get").kind("scan")
-}
-
-/// A writer whose text others may read.
-#[derive(Clone, Default)]
-struct Text(Arc<Mutex<Vec<u8>>>);
-
-impl Write for Text {
-    fn write(&mut self, bytes: &[u8]) -> io::Result<usize> {
-        self.0.lock().unwrap().write(bytes)
-    }
-
-    fn flush(&mut self) -> io::Result<()> {
-        Ok(())
-    }
-}
-
-impl Text {
-    /// The journals, each with its head.
-    fn journals(&self) -> Vec<String> {
-        let text = String::from_utf8(self.0.lock().unwrap().clone()).unwrap();
-        text.split("journal 2\n").skip(1).map(|rest| format!("journal 2\n{rest}")).collect()
-    }
 }
 
 /// The numbers of the lines that begin with this word, line by line.
 fn lines(journal: &str, word: &str) -> Vec<Vec<u64>> {
     let rows = journal.lines().filter_map(|line| line.strip_prefix(word)?.strip_prefix(' '));
     rows.map(|row| row.split(' ').map(|number| number.parse().unwrap()).collect()).collect()
-}
-
-/// What the proved program says of a journal, where `TWODFQ_PROGRAM` names it.
-fn judge(journal: &str) {
-    let Some(program) = env::var_os("TWODFQ_PROGRAM") else { return };
-    let mut child = Command::new(program).arg("check").stdin(Stdio::piped()).stdout(Stdio::piped()).spawn().unwrap();
-    child.stdin.take().unwrap().write_all(journal.as_bytes()).unwrap();
-    let verdict = String::from_utf8(child.wait_with_output().unwrap().stdout).unwrap();
-    let head = journal.lines().filter(|line| !line.starts_with("journal") && !line.starts_with("config")).count();
-    let names = lines_of_the_head(journal);
-    assert_eq!(verdict, format!("legal entries {}\n", head - names));
-}
-
-fn lines_of_the_head(journal: &str) -> usize {
-    journal.lines().filter(|line| line.starts_with("tenant ") || line.starts_with("kind ")).count()
 }
 
 /// What the jobs of a pool that rolls over leave in its journals under a policy, an estimator and a patience.
@@ -67,9 +32,15 @@ fn each_job_in_a_journal(policy: Policy, estimator: Estimator, patience: f64) {
             twodfq::tick();
             thread::sleep(Duration::from_micros(u64::from(i % 4) * 20));
         };
-        pool.submit_declared(i % 2, i / 2 % 2, 1 + u64::from(i % 4) * 20, job).unwrap();
+        pool.submit_with(
+            TenantId::new(i % 2),
+            KindId::new(i / 2 % 2),
+            Terms::default().declared(1 + u64::from(i % 4) * 20),
+            job,
+        )
+        .unwrap();
         if i % 100 == 0 {
-            pool.weight(i % 2, 1 + i).unwrap();
+            pool.weight(TenantId::new(i % 2), 1 + i).unwrap();
             pool.workers(1 + i / 100 % 4).unwrap();
         }
         if i % 250 == 0 {
@@ -122,13 +93,13 @@ fn the_journal_comes_while_the_pool_runs() {
     let pool = builder().open().unwrap();
     let _dropped = pool.journal(text.clone()).unwrap();
     assert_eq!(pool.journal(io::sink()).err().unwrap().kind(), io::ErrorKind::AlreadyExists);
-    pool.submit(1, 1, || ()).unwrap().join().unwrap();
+    pool.submit("globex", KindId::new(1), || ()).unwrap().join().unwrap();
     let begun = Instant::now();
     while text.journals().first().is_none_or(|journal| lines(journal, "done").len() != 1) {
         assert!(begun.elapsed() < Duration::from_secs(10));
         thread::sleep(Duration::from_millis(1));
     }
-    let head = "journal 2\nconfig 4 2dfq+ pessimistic 1000 4194304 10000\ntenant acme 1\ntenant globex 2\nkind get\n\
+    let head = "journal 3\nconfig 4 2dfq+ pessimistic 1000 1048576 10000\ntenant acme 1\ntenant globex 2\nkind get\n\
                 kind scan\nworkers 64 0 3\nsubmit 64 ";
     assert!(text.journals()[0].starts_with(head), "{}", text.journals()[0]);
 }
@@ -153,7 +124,7 @@ fn a_slow_journal_holds_nobody_up_and_leaves_out_whole_histories() {
     let pool = builder().entries(30).open().unwrap();
     let journal = pool.journal(Slow(text.clone())).unwrap();
     for i in 0..2000_u32 {
-        pool.submit(i % 2, 0, || ()).unwrap();
+        pool.submit(TenantId::new(i % 2), KindId::FIRST, || ()).unwrap();
     }
     let status = pool.join();
     let Written { journals, cut, missed } = journal.join().unwrap();
@@ -171,7 +142,7 @@ fn a_slow_journal_of_few_kept_entries_ends_early_and_the_next_begins() {
     let pool = builder().workers(1).entries(1000).keep(64).open().unwrap();
     let journal = pool.journal(Slow(text.clone())).unwrap();
     for i in 0..2000_u32 {
-        pool.submit(i % 2, 0, || ()).unwrap();
+        pool.submit(TenantId::new(i % 2), KindId::FIRST, || ()).unwrap();
         if i % 100 == 99 {
             while pool.status().waiting > 0 {
                 thread::yield_now();
@@ -197,7 +168,7 @@ fn a_journal_that_keeps_up_has_all_though_few_entries_are_kept() {
     let pool = builder().entries(100_000).keep(1000).open().unwrap();
     let journal = pool.journal(text.clone()).unwrap();
     for i in 0..5000_u32 {
-        pool.submit(i % 2, 0, || ()).unwrap();
+        pool.submit(TenantId::new(i % 2), KindId::FIRST, || ()).unwrap();
         if i % 100 == 99 {
             let written = || text.journals().first().map_or(0, |journal| lines(journal, "submit").len());
             while written() <= i as usize {
@@ -217,7 +188,7 @@ fn hand_in_without_rest(pool: &Pool, jobs: usize) {
     let mut held = VecDeque::new();
     for _ in 0..jobs {
         let (sender, receiver) = mpsc::channel::<()>();
-        held.push_back((sender, pool.submit(0, 0, move || receiver.recv().is_ok()).unwrap()));
+        held.push_back((sender, pool.submit("acme", KindId::FIRST, move || receiver.recv().is_ok()).unwrap()));
         if held.len() > 3 {
             let (sender, oldest) = held.pop_front().unwrap();
             drop(sender);
@@ -236,7 +207,7 @@ fn a_journal_of_a_long_history_ends_where_no_more_is_judged_and_the_next_begins_
         while pool.status().waiting > 0 {
             thread::yield_now();
         }
-        pool.submit(number % 2, 0, || ()).unwrap();
+        pool.submit(TenantId::new(number % 2), KindId::FIRST, || ()).unwrap();
     }
     let status = pool.join();
     let Written { journals, cut, missed } = journal.join().unwrap();
@@ -265,7 +236,7 @@ fn a_writer_that_fails_ends_the_journal_alone() {
     let journal = pool.journal(Fails).unwrap();
     assert_eq!(journal.join().unwrap_err().kind(), io::ErrorKind::StorageFull);
     for _ in 0..100 {
-        pool.submit(0, 0, || ()).unwrap().join().unwrap();
+        pool.submit("acme", KindId::FIRST, || ()).unwrap().join().unwrap();
     }
     assert!(pool.journal(io::sink()).is_ok()); // there may be another
     assert_eq!(pool.join().tenants[0].done, 100);
@@ -273,7 +244,7 @@ fn a_writer_that_fails_ends_the_journal_alone() {
 
 #[test]
 fn the_status_counts_everything() {
-    let pool = builder().workers(1).room(2).refresh(Duration::ZERO).open().unwrap();
+    let pool = builder().workers(1).room(2).room_per_tenant(2).refresh(Duration::ZERO).open().unwrap();
     let (sender, receiver) = mpsc::channel::<()>();
     let (begins, begun) = mpsc::channel();
     let job = move || {
@@ -283,12 +254,12 @@ fn the_status_counts_everything() {
         thread::sleep(Duration::from_millis(2));
         panic!("on purpose");
     };
-    pool.submit(0, 0, job).unwrap();
+    pool.submit("acme", KindId::FIRST, job).unwrap();
     begun.recv().unwrap();
-    pool.submit(1, 0, || ()).unwrap();
-    pool.submit(1, 1, || ()).unwrap();
-    assert!(pool.submit(0, 0, || ()).is_err());
-    pool.weight(1, 7).unwrap();
+    pool.submit("globex", KindId::FIRST, || ()).unwrap();
+    pool.submit("globex", KindId::new(1), || ()).unwrap();
+    assert!(pool.submit("acme", KindId::FIRST, || ()).is_err());
+    pool.weight("globex", 7).unwrap();
     let status = pool.status();
     assert_eq!((status.workers, status.waiting, status.running), (1, 2, 1));
     let [acme, globex] = &status.tenants[..] else { panic!("two tenants") };
@@ -306,7 +277,7 @@ fn the_status_counts_everything() {
         "# TYPE twodfq_jobs_waiting gauge",
         "twodfq_workers 1",
         "twodfq_weight{tenant=\"globex\"} 7",
-        "twodfq_jobs_refused_total{tenant=\"acme\"} 1",
+        "twodfq_jobs_refused_total{tenant=\"acme\",cause=\"too_many_wait\"} 1",
         "twodfq_jobs_panicked_total{tenant=\"acme\"} 1",
         "twodfq_jobs_done_total{tenant=\"globex\"} 2",
         "twodfq_reports_total{tenant=\"acme\"} 1",

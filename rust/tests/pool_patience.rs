@@ -4,11 +4,11 @@ use std::sync::{Arc, Barrier, Mutex};
 use std::thread;
 use std::time::{Duration, Instant};
 
-use twodfq::{BuildFault, Builder, Estimator, Handle, Policy, Pool};
+use twodfq::{BuildFault, Builder, Estimator, Handle, KindId, Policy, Pool, TenantId, Terms};
 
-const ACME: u32 = 0;
-const GLOBEX: u32 = 1;
-const HOOLI: u32 = 2;
+const ACME: TenantId = TenantId::new(0);
+const GLOBEX: TenantId = TenantId::new(1);
+const HOOLI: TenantId = TenantId::new(2);
 
 /// The greatest cost that may be declared.
 const GREATEST: u64 = 1_000_000_000;
@@ -35,26 +35,26 @@ impl Scene {
         scene
     }
 
-    fn hold(&mut self, tenant: u32, cost: u64) {
+    fn hold(&mut self, tenant: TenantId, cost: u64) {
         let (begins, begun) = mpsc::channel();
         let (hold, held) = mpsc::channel();
         let job = move || {
             begins.send(()).unwrap();
             let _ = held.recv();
         };
-        self.pool.submit_declared(tenant, 0, cost, job).unwrap();
+        self.pool.submit_with(tenant, KindId::FIRST, declared(cost), job).unwrap();
         begun.recv().unwrap();
         self.holds.push(hold);
     }
 
     /// A costly job that is not due.
     fn costly(&self, cost: u64) -> Handle<Instant> {
-        self.pool.submit_declared(ACME, 0, cost, Instant::now).unwrap()
+        self.pool.submit_with(ACME, KindId::FIRST, declared(cost), Instant::now).unwrap()
     }
 
     /// A cheap job that is due at once.
     fn cheap(&self) -> Handle<Instant> {
-        self.pool.submit_declared(HOOLI, 0, 1, Instant::now).unwrap()
+        self.pool.submit_with(HOOLI, KindId::FIRST, declared(1), Instant::now).unwrap()
     }
 
     /// Has each of so many free workers run something, so that all have just become free.
@@ -62,7 +62,7 @@ impl Scene {
         let barrier = Arc::new(Barrier::new(free as usize));
         let meet = |_| {
             let barrier = barrier.clone();
-            self.pool.submit_declared(HOOLI, 0, 1, move || _ = barrier.wait()).unwrap()
+            self.pool.submit_with(HOOLI, KindId::FIRST, declared(1), move || _ = barrier.wait()).unwrap()
         };
         let handles: Vec<_> = (0..free).map(meet).collect();
         handles.into_iter().for_each(|handle| handle.join().unwrap());
@@ -76,6 +76,10 @@ impl Scene {
             thread::sleep(Duration::from_micros(200));
         }
     }
+}
+
+fn declared(cost: u64) -> Terms {
+    Terms::default().declared(cost)
 }
 
 fn seconds(count: u64) -> u64 {
@@ -162,16 +166,18 @@ fn all_waits_together_have_a_bound() {
 #[test]
 fn one_tenant_alone_never_waits() {
     let pool = builder().workers(4).patience(1.0).open().unwrap();
-    let handles: Vec<_> = (0..200).map(|_| pool.submit_declared(ACME, 0, seconds(1), || ()).unwrap()).collect();
+    let handles: Vec<_> =
+        (0..200).map(|_| pool.submit_with(ACME, KindId::FIRST, declared(seconds(1)), || ()).unwrap()).collect();
     handles.into_iter().for_each(|handle| handle.join().unwrap());
     assert_eq!((pool.status().early, pool.status().waits), (0, 0));
     // another tenant's job that has ended keeps nobody waiting
-    pool.submit(GLOBEX, 0, || ()).unwrap().join().unwrap();
+    pool.submit(GLOBEX, KindId::FIRST, || ()).unwrap().join().unwrap();
     while pool.status().running > 0 {
         thread::yield_now();
     }
     let before = pool.status().waits;
-    let handles: Vec<_> = (0..200).map(|_| pool.submit_declared(ACME, 0, seconds(1), || ()).unwrap()).collect();
+    let handles: Vec<_> =
+        (0..200).map(|_| pool.submit_with(ACME, KindId::FIRST, declared(seconds(1)), || ()).unwrap()).collect();
     handles.into_iter().for_each(|handle| handle.join().unwrap());
     assert_eq!(pool.join().waits, before);
 }
@@ -284,7 +290,7 @@ fn a_pool_is_dropped_while_workers_wait() {
     let ran = Arc::new(Mutex::new(0));
     for _ in 0..4 {
         let ran = ran.clone();
-        pool.submit_declared(ACME, 0, seconds(8), move || *ran.lock().unwrap() += 1).unwrap();
+        pool.submit_with(ACME, KindId::FIRST, declared(seconds(8)), move || *ran.lock().unwrap() += 1).unwrap();
     }
     let begun = Instant::now();
     drop(holds);

@@ -5,7 +5,7 @@ use std::sync::mpsc;
 use std::thread;
 use std::time::Duration;
 
-use twodfq::{Builder, Cause, Pool};
+use twodfq::{Builder, Cause, JoinError, KindId, Pool, TenantId};
 
 fn builder() -> Builder {
     Pool::builder().workers(3).tenant("acme", 1).tenant("globex", 2)
@@ -18,7 +18,8 @@ fn jobs_write_what_they_borrow() {
     for round in 1..=20 {
         pool.scope(|scope| {
             for (tenant, row) in table.iter_mut().enumerate() {
-                scope.submit(tenant as u32 % 2, 0, move || row.iter_mut().for_each(|cell| *cell += round)).unwrap();
+                let job = move || row.iter_mut().for_each(|cell| *cell += round);
+                scope.submit(TenantId::new(tenant as u32 % 2), KindId::FIRST, job).unwrap();
             }
         });
     }
@@ -30,8 +31,8 @@ fn results_may_borrow_and_handles_may_be_dropped() {
     let pool = builder().open().unwrap();
     let text = String::from("one two three");
     let longest = pool.scope(|scope| {
-        drop(scope.submit(0, 0, || text.split(' ').collect::<Vec<_>>()).unwrap());
-        let words = scope.submit(1, 0, || text.split(' ').max_by_key(|word| word.len())).unwrap();
+        drop(scope.submit("acme", KindId::FIRST, || text.split(' ').collect::<Vec<_>>()).unwrap());
+        let words = scope.submit("globex", KindId::FIRST, || text.split(' ').max_by_key(|word| word.len())).unwrap();
         words.join().unwrap()
     });
     assert_eq!(longest, Some("three"));
@@ -45,11 +46,11 @@ fn the_scope_waits_for_all_that_it_handed_in() {
         thread::sleep(Duration::from_millis(5));
         ended.fetch_add(1, Ordering::SeqCst);
     };
-    pool.scope(|scope| (0..10).for_each(|i| drop(scope.submit(0, 0, move || slow(i)).unwrap())));
+    pool.scope(|scope| (0..10).for_each(|i| drop(scope.submit("acme", KindId::FIRST, move || slow(i)).unwrap())));
     assert_eq!(ended.load(Ordering::SeqCst), 10);
     let fails = AssertUnwindSafe(|| {
         pool.scope(|scope| {
-            (0..10).for_each(|i| drop(scope.submit(1, 0, move || slow(i)).unwrap()));
+            (0..10).for_each(|i| drop(scope.submit("globex", KindId::FIRST, move || slow(i)).unwrap()));
             panic!("in the body");
         })
     });
@@ -63,9 +64,9 @@ fn a_job_that_panics_ends_its_scope_like_any_other() {
     let pool = builder().open().unwrap();
     let after = AtomicBool::new(false);
     pool.scope(|scope| {
-        let fails = scope.submit(0, 0, || assert!(after.load(Ordering::SeqCst), "not yet")).unwrap();
-        assert_eq!(fails.join().unwrap_err().message(), "not yet");
-        scope.submit(0, 0, || after.store(true, Ordering::SeqCst)).unwrap();
+        let fails = scope.submit("acme", KindId::FIRST, || assert!(after.load(Ordering::SeqCst), "not yet")).unwrap();
+        assert_eq!(fails.join(), Err(JoinError::Panicked("not yet".to_string())));
+        scope.submit("acme", KindId::FIRST, || after.store(true, Ordering::SeqCst)).unwrap();
     });
     assert!(after.into_inner());
 }
@@ -84,7 +85,8 @@ fn what_a_job_borrows_is_dropped_before_the_scope_ends() {
     pool.scope(|scope| {
         for _ in 0..20 {
             let (inside, result) = (Marks(&dropped), Marks(&dropped));
-            scope.submit(0, 0, move || (drop(inside), result)).unwrap(); // the result is nobody's
+            let job = move || (drop(inside), result); // the result is nobody's
+            scope.submit("acme", KindId::FIRST, job).unwrap();
         }
     });
     assert_eq!(dropped.load(Ordering::SeqCst), 40);
@@ -97,10 +99,10 @@ fn a_refused_job_comes_back_with_what_it_borrows() {
     pool.scope(|scope| {
         let (sender, receiver) = mpsc::channel::<()>();
         let (begins, begun) = mpsc::channel();
-        scope.submit(0, 0, move || (begins.send(()).unwrap(), receiver.recv().unwrap())).unwrap();
+        scope.submit("acme", KindId::FIRST, move || (begins.send(()).unwrap(), receiver.recv().unwrap())).unwrap();
         begun.recv().unwrap();
-        scope.submit(0, 0, || ()).unwrap();
-        let rejected = scope.submit(0, 0, || number += 1).unwrap_err();
+        scope.submit("acme", KindId::FIRST, || ()).unwrap();
+        let rejected = scope.submit("acme", KindId::FIRST, || number += 1).unwrap_err();
         assert_eq!(rejected.cause, Cause::TooManyWait(1));
         (rejected.job)();
         sender.send(()).unwrap();

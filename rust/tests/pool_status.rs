@@ -6,7 +6,7 @@ use std::sync::atomic::{AtomicBool, AtomicUsize, Ordering};
 use std::thread;
 use std::time::{Duration, Instant};
 
-use twodfq::Pool;
+use twodfq::{KindId, Pool, TenantId};
 
 const TENANTS: u32 = 4096;
 
@@ -70,7 +70,7 @@ fn answer(pool: &Pool, is_over: &AtomicBool) {
     while !is_over.load(Ordering::SeqCst) {
         let asked = ASKED.load(Ordering::SeqCst);
         if ANSWERED.load(Ordering::SeqCst) < asked {
-            assert!(pool.submit(TENANTS, 0, || ()).is_err()); // it takes the lock
+            assert!(pool.submit(TenantId::new(TENANTS), KindId::FIRST, || ()).is_err()); // it takes the lock
             ANSWERED.store(asked, Ordering::SeqCst);
         }
         thread::yield_now();
@@ -104,7 +104,7 @@ fn a_name_is_soon_found() {
     let last = name(TENANTS - 1);
     let begun = processor_time();
     for _ in 0..10_000 {
-        assert_eq!(pool.tenant(&last), Some(TENANTS - 1));
+        assert_eq!(pool.tenant(&last), Some(TenantId::new(TENANTS - 1)));
     }
     let used = processor_time() - begun;
     assert!(used < Duration::from_millis(300), "{used:?}");

@@ -4,7 +4,7 @@ use std::sync::{mpsc, Arc, Barrier};
 use std::thread;
 use std::time::Duration;
 
-use twodfq::{Builder, Cause, Handle, Pool};
+use twodfq::{Builder, Cause, Handle, KindId, Pool, TenantId};
 
 fn builder() -> Builder {
     Pool::builder().tenant("acme", 1).tenant("globex", 2).tenant("hooli", 3).kind("get").kind("scan")
@@ -37,10 +37,10 @@ impl Runs {
 /// Hands a job in until there is room for it.
 fn insist(pool: &Pool, tenant: u32, kind: u32, mut job: impl FnOnce() + Send + 'static) {
     loop {
-        match pool.submit(tenant, kind, job) {
+        match pool.submit(TenantId::new(tenant), KindId::new(kind), job) {
             Ok(_) => return,
             Err(rejected) => {
-                assert_eq!(rejected.cause, Cause::TooManyWait(500));
+                assert!(matches!(rejected.cause, Cause::TooManyWait(500) | Cause::TenantFull(_)), "{}", rejected.cause);
                 job = rejected.job;
                 thread::sleep(Duration::from_millis(1));
             }
@@ -61,7 +61,7 @@ fn each_job_once_while_sixteen_submit_and_the_pool_changes() {
             scope.spawn(move || {
                 for count in (1..=8).cycle().take_while(|_| goes_on.load(Ordering::SeqCst)) {
                     pool.workers(count).unwrap();
-                    pool.weight(count % 3, 1 + 100 * count).unwrap();
+                    pool.weight(TenantId::new(count % 3), 1 + 100 * count).unwrap();
                     thread::sleep(Duration::from_micros(300));
                 }
             });
@@ -101,7 +101,7 @@ fn a_thousand_rollings_lose_nothing() {
 #[test]
 fn one_scheduler_has_room_for_more_than_a_million_entries() {
     let pool = builder().refresh(Duration::ZERO).open().unwrap();
-    pool.submit(0, 0, || (0..1_100_000).for_each(|_| twodfq::tick())).unwrap();
+    pool.submit("acme", KindId::FIRST, || (0..1_100_000).for_each(|_| twodfq::tick())).unwrap();
     let status = pool.join();
     assert_eq!((status.schedulers, status.tenants[0].reports), (1, 1_100_000));
 }
@@ -110,7 +110,7 @@ fn one_scheduler_has_room_for_more_than_a_million_entries() {
 fn changes_alone_roll_over_too() {
     let pool = builder().workers(1).most_workers(2).entries(16).open().unwrap();
     for i in 0..500_u32 {
-        pool.weight(i % 3, 1 + i).unwrap();
+        pool.weight(TenantId::new(i % 3), 1 + i).unwrap();
         pool.workers(1 + i % 2).unwrap();
     }
     let status = pool.status();
@@ -126,10 +126,10 @@ fn changes_alone_roll_over_too() {
 fn a_long_job_of_an_old_scheduler_runs_on() {
     let pool = builder().workers(2).entries(16).open().unwrap();
     let (sender, receiver) = mpsc::channel::<()>();
-    let long = pool.submit(0, 0, move || receiver.recv().is_ok()).unwrap();
+    let long = pool.submit("acme", KindId::FIRST, move || receiver.recv().is_ok()).unwrap();
     let runs = Runs::new(300);
     for i in 0..300 {
-        pool.submit(1, 0, runs.job(i)).unwrap().join().unwrap();
+        pool.submit("globex", KindId::FIRST, runs.job(i)).unwrap().join().unwrap();
     }
     assert!(runs.each_once() && !long.is_done());
     sender.send(()).unwrap();
@@ -141,7 +141,7 @@ fn hand_in_jobs_that_meet(pool: &Pool, meeting: usize, jobs: usize) -> Vec<Handl
     let barrier = Arc::new(Barrier::new(meeting));
     let meet = |i: usize| {
         let barrier = barrier.clone();
-        pool.submit((i % 3) as u32, 0, move || _ = barrier.wait()).unwrap()
+        pool.submit(TenantId::new((i % 3) as u32), KindId::FIRST, move || _ = barrier.wait()).unwrap()
     };
     (0..jobs).map(meet).collect()
 }
@@ -183,7 +183,7 @@ fn dropped_while_it_runs_it_does_what_it_has() {
                 thread::sleep(Duration::from_micros(50));
                 job();
             };
-            pool.submit((i % 3) as u32, 1, slow).unwrap();
+            pool.submit(TenantId::new((i % 3) as u32), KindId::new(1), slow).unwrap();
         }
         drop(pool);
         assert!(runs.each_once());
@@ -194,7 +194,7 @@ fn dropped_while_it_runs_it_does_what_it_has() {
 fn a_job_may_drop_its_pool() {
     let pool = builder().workers(2).open().unwrap();
     let (sender, receiver) = mpsc::channel::<Pool>();
-    let handle = pool.submit(0, 0, move || drop(receiver.recv().unwrap())).unwrap();
+    let handle = pool.submit("acme", KindId::FIRST, move || drop(receiver.recv().unwrap())).unwrap();
     sender.send(pool).unwrap();
     handle.join().unwrap();
 }
@@ -205,7 +205,7 @@ fn jobs_that_find_the_workers_asleep() {
         let pool = builder().patience(patience).workers(4).open().unwrap();
         for i in 0..200_u64 {
             thread::sleep(Duration::from_micros(i % 50 * 20));
-            assert_eq!(pool.submit(0, 0, move || i).unwrap().join(), Ok(i));
+            assert_eq!(pool.submit("acme", KindId::FIRST, move || i).unwrap().join(), Ok(i));
         }
     }
 }

@@ -5,7 +5,7 @@ use std::sync::Arc;
 use std::thread;
 use std::time::{Duration, Instant};
 
-use twodfq::{Builder, Pool};
+use twodfq::{Builder, KindId, Pool, TenantId};
 
 const BATCH: usize = 5000;
 const TENANTS: u32 = 16;
@@ -20,7 +20,7 @@ pub fn builder(workers: u32) -> Builder {
 
 /// Hands a job in for a tenant of such a pool.
 pub fn submit(pool: &Pool, number: u32, job: Box<dyn FnOnce() + Send>) {
-    drop(pool.submit(number % TENANTS, 0, job));
+    drop(pool.submit(TenantId::new(number % TENANTS), KindId::FIRST, job));
 }
 
 fn work(time: Duration) {

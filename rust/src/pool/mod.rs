@@ -1,17 +1,7 @@
 //! A pool of threads that runs the jobs of many tenants, each in its turn.
-mod builder;
-mod cause;
-mod clock;
 mod handle;
 mod jobs;
-mod journal;
-mod names;
-mod patience;
-mod rolling;
 mod scope;
-mod shared;
-mod state;
-mod status;
 mod worker;
 
 use std::fmt;
@@ -20,22 +10,21 @@ use std::mem;
 use std::sync::{Arc, Mutex, PoisonError};
 use std::thread::{self, JoinHandle};
 
-pub use builder::Builder;
-pub use cause::{BuildFault, Cause, Rejected};
-pub use clock::Measure;
-pub use handle::{Handle, Panicked};
-pub use journal::{Journal, Written};
+pub use handle::{Handle, JoinError};
 pub use scope::Scope;
-pub use status::{Status, TenantStatus};
 pub use worker::tick;
 
-use handle::Place;
-pub(crate) use jobs::Job;
-use jobs::{caught, Work};
-use journal::Reader;
-use rolling::Settings;
-use shared::Shared;
-use state::Request;
+pub(crate) use jobs::{BoxedJob, Job};
+pub(crate) use worker::{Signals, Sleeping};
+
+use crate::service::builder::Builder;
+use crate::service::cause::{Cause, Rejected};
+use crate::service::ids::{KindId, Tenant, TenantId, Terms};
+use crate::service::journal::Journal;
+use crate::service::place::Place;
+use crate::service::shared::Shared;
+use crate::service::status::Status;
+use jobs::Work;
 
 /// A thread pool that shares its workers fairly among tenants: who waits is served in its turn, however many jobs others
 /// hand in and however long these take. Which job a worker takes next is decided by a [`Scheduler`](crate::Scheduler).
@@ -66,8 +55,7 @@ use state::Request;
 /// # }
 /// ```
 pub struct Pool {
-    shared: Arc<Shared>,
-    settings: Arc<Settings>,
+    shared: Arc<Shared<BoxedJob>>,
     threads: Mutex<Vec<JoinHandle<()>>>,
 }
 
@@ -81,9 +69,9 @@ impl Pool {
         Builder::new()
     }
 
-    pub(crate) fn start(shared: Arc<Shared>, settings: Arc<Settings>) -> io::Result<Pool> {
-        let pool = Pool { shared, settings, threads: Mutex::default() };
-        for worker in 0..pool.settings.most_workers {
+    pub(crate) fn start(shared: Arc<Shared<BoxedJob>>) -> io::Result<Pool> {
+        let pool = Pool { shared, threads: Mutex::default() };
+        for worker in 0..pool.shared.settings.most_workers {
             let shared = pool.shared.clone();
             let name = format!("twodfq-{worker}");
             let thread = thread::Builder::new().name(name).spawn(move || worker::work(shared, worker))?;
@@ -100,61 +88,98 @@ impl Pool {
     /// Hands in a job for a tenant, of a kind. What it declares to cost is the initial estimate.
     ///
     /// ```
-    /// use twodfq::{Cause, Pool};
+    /// use twodfq::{Cause, KindId, Pool};
     ///
     /// let pool = Pool::builder().tenant("acme", 1).open().unwrap();
-    /// let handle = pool.submit(0, 0, || "hello".len()).unwrap();
+    /// let handle = pool.submit("acme", KindId::FIRST, || "hello".len()).unwrap();
     /// assert_eq!(handle.join().unwrap(), 5);
-    /// let rejected = pool.submit(7, 0, || 42).unwrap_err();
-    /// assert_eq!(rejected.cause, Cause::Tenant(7));
+    /// let rejected = pool.submit("globex", KindId::FIRST, || 42).unwrap_err();
+    /// assert_eq!(rejected.cause, Cause::NoTenant);
     /// assert_eq!((rejected.job)(), 42);
     /// ```
-    pub fn submit<T, F>(&self, tenant: u32, kind: u32, job: F) -> Result<Handle<T>, Rejected<F>>
+    pub fn submit<'a, T, F>(
+        &self,
+        tenant: impl Into<Tenant<'a>>,
+        kind: KindId,
+        job: F,
+    ) -> Result<Handle<T>, Rejected<F>>
     where
         T: Send + 'static,
         F: FnOnce() -> T + Send + 'static,
     {
-        self.submit_declared(tenant, kind, self.settings.initial, job)
+        self.submit_with(tenant, kind, Terms::default(), job)
     }
 
-    /// Hands in a job that declares its cost in microseconds, 1 to 1,000,000,000. It counts under
-    /// [`Estimator::Declared`](crate::Estimator::Declared).
+    /// Hands in a job with a declared cost or a deadline.
     ///
     /// ```
-    /// use twodfq::{Estimator, Pool};
+    /// use twodfq::{Estimator, KindId, Pool, Terms};
     ///
     /// let pool = Pool::builder().tenant("acme", 1).estimator(Estimator::Declared).open().unwrap();
-    /// let handle = pool.submit_declared(0, 0, 250, || 42).unwrap();
+    /// let handle = pool.submit_with("acme", KindId::FIRST, Terms::default().declared(250), || 42).unwrap();
     /// assert_eq!(handle.join().unwrap(), 42);
     /// ```
-    pub fn submit_declared<T, F>(&self, tenant: u32, kind: u32, cost: u64, job: F) -> Result<Handle<T>, Rejected<F>>
+    pub fn submit_with<'a, T, F>(
+        &self,
+        tenant: impl Into<Tenant<'a>>,
+        kind: KindId,
+        terms: Terms,
+        job: F,
+    ) -> Result<Handle<T>, Rejected<F>>
     where
         T: Send + 'static,
         F: FnOnce() -> T + Send + 'static,
     {
-        let request = Request { tenant, kind, declared: cost };
-        hand_in(&self.shared, request, job, |work| work as Box<dyn Job>)
+        self.hand_in((tenant.into(), kind, terms), job, |work| work as BoxedJob)
+    }
+
+    /// Hands in a job, boxed by `boxed` once it is accepted.
+    fn hand_in<T, F, B>(
+        &self,
+        (tenant, kind, terms): (Tenant, KindId, Terms),
+        closure: F,
+        boxed: B,
+    ) -> Result<Handle<T>, Rejected<F>>
+    where
+        T: Send,
+        F: FnOnce() -> T + Send,
+        B: Fn(Box<Work<T, F>>) -> BoxedJob,
+    {
+        let place = Arc::new(Place::new());
+        let mut work = Some(Box::new(Work { closure, place: place.clone() }));
+        let mut job = || boxed(work.take().expect("a job is asked for once"));
+        let request = self.shared.request(tenant, kind, terms);
+        let is_kept = request.deadline.is_none() || self.shared.start_timer().is_ok();
+        let mut admit = || self.shared.call(|state, moment| state.admit(moment, &request, &mut job));
+        match if is_kept { admit() } else { Err(Cause::NoThread) } {
+            Ok(ticket) => Ok(Handle::new(place, Arc::downgrade(&self.shared), ticket)),
+            Err(cause) => Err(Rejected { job: work.expect("a refused job was not asked for").closure, cause }),
+        }
     }
 
     /// The number of the tenant of this name.
     ///
     /// ```
-    /// let pool = twodfq::Pool::builder().tenant("acme", 1).tenant("globex", 2).open().unwrap();
-    /// assert_eq!(pool.tenant("globex"), Some(1));
+    /// use twodfq::{Pool, TenantId};
+    ///
+    /// let pool = Pool::builder().tenant("acme", 1).tenant("globex", 2).open().unwrap();
+    /// assert_eq!(pool.tenant("globex"), Some(TenantId::new(1)));
     /// assert_eq!(pool.tenant("initech"), None);
     /// ```
-    pub fn tenant(&self, name: &str) -> Option<u32> {
-        self.settings.tenants.number(name)
+    pub fn tenant(&self, name: &str) -> Option<TenantId> {
+        self.shared.tenant(name)
     }
 
     /// The number of the kind of this name.
     ///
     /// ```
-    /// let pool = twodfq::Pool::builder().tenant("acme", 1).kind("get").kind("scan").open().unwrap();
-    /// assert_eq!(pool.kind("scan"), Some(1));
+    /// use twodfq::{KindId, Pool};
+    ///
+    /// let pool = Pool::builder().tenant("acme", 1).kind("get").kind("scan").open().unwrap();
+    /// assert_eq!(pool.kind("scan"), Some(KindId::new(1)));
     /// ```
-    pub fn kind(&self, name: &str) -> Option<u32> {
-        self.settings.kinds.number(name)
+    pub fn kind(&self, name: &str) -> Option<KindId> {
+        self.shared.kind(name)
     }
 
     /// The tenant has this weight from now on, 1 to 1,000. A scheduler that drains keeps the weights it has where it has no
@@ -162,11 +187,11 @@ impl Pool {
     ///
     /// ```
     /// let pool = twodfq::Pool::builder().tenant("acme", 1).open().unwrap();
-    /// pool.weight(0, 5).unwrap();
-    /// assert_eq!(pool.weight(3, 5), Err(twodfq::Cause::Tenant(3)));
+    /// pool.weight("acme", 5).unwrap();
+    /// assert_eq!(pool.weight("globex", 5), Err(twodfq::Cause::NoTenant));
     /// ```
-    pub fn weight(&self, tenant: u32, weight: u32) -> Result<(), Cause> {
-        self.shared.change(|state, moment| state.rolling.weight(moment, tenant, weight).map_err(Cause::of))
+    pub fn weight<'a>(&self, tenant: impl Into<Tenant<'a>>, weight: u32) -> Result<(), Cause> {
+        self.shared.weight(tenant.into(), weight)
     }
 
     /// There are so many workers from now on: 1 to as many as the builder said. A worker that is no longer wanted ends what
@@ -178,76 +203,74 @@ impl Pool {
     /// assert_eq!(pool.workers(9), Err(twodfq::Cause::Workers(9)));
     /// ```
     pub fn workers(&self, count: u32) -> Result<(), Cause> {
-        self.shared.change(|state, moment| state.rolling.workers(moment, count).map_err(Cause::of))
+        self.shared.workers(count)
     }
 
     /// No more jobs are taken. Those that were are run.
     ///
     /// ```
-    /// let pool = twodfq::Pool::builder().tenant("acme", 1).open().unwrap();
-    /// let handle = pool.submit(0, 0, || 42).unwrap();
+    /// use twodfq::{Cause, KindId, Pool};
+    ///
+    /// let pool = Pool::builder().tenant("acme", 1).open().unwrap();
+    /// let handle = pool.submit("acme", KindId::FIRST, || 42).unwrap();
     /// pool.close();
-    /// assert_eq!(pool.submit(0, 0, || 43).unwrap_err().cause, twodfq::Cause::Closed);
+    /// assert_eq!(pool.submit("acme", KindId::FIRST, || 43).unwrap_err().cause, Cause::Closed);
     /// assert_eq!(handle.join().unwrap(), 42);
     /// ```
     pub fn close(&self) {
-        // closed already, it has nothing to change
-        let _ = self.shared.change(|state, moment| {
-            state.is_closed = true;
-            state.rolling.close(moment);
-            Ok(())
-        });
+        self.shared.close();
     }
 
     /// What waits and runs now, and what was counted since the opening.
     ///
     /// ```
-    /// let pool = twodfq::Pool::builder().tenant("acme", 1).open().unwrap();
-    /// pool.submit(0, 0, || ()).unwrap();
+    /// use twodfq::{KindId, Pool};
+    ///
+    /// let pool = Pool::builder().tenant("acme", 1).open().unwrap();
+    /// pool.submit("acme", KindId::FIRST, || ()).unwrap();
     /// assert_eq!(pool.status().tenants[0].submitted, 1);
     /// ```
     pub fn status(&self) -> Status {
-        Status::of(&self.shared, &self.settings)
+        Status::of(&self.shared)
     }
 
     /// Has the journals of the pool's schedulers written while it runs, in the format of `docs/FORMATS.md`: one after
-    /// another, each from its line `journal 2` on, and each to be judged by `twodfq check`. It begins with the scheduler
+    /// another, each from its line `journal 3` on, and each to be judged by `twodfq check`. It begins with the scheduler
     /// that serves now, or where the first entries of that are kept no longer, with its head alone and then the next; it ends
     /// with the pool. The writer has a thread of its own, and no worker ever waits for it.
     ///
-    /// A journal has at most the 4,194,304 entries that `check` reads, less what the jobs that wait may need. A little before
-    /// that, at the first submit at which nothing waits, the next scheduler takes over, and has the next journal. Where
-    /// something always waits the journal ends early, and the next begins at the first submit at which nothing does. It ends
-    /// early too where its writer is so slow that an entry is kept no longer when it comes to it (see [`Builder::keep`]).
-    /// Where five schedulers are over before it has come to them, the oldest of these is left out.
+    /// A journal has at most 1,048,576 entries, so that `check` can read it, less what the jobs that wait may need. A little
+    /// before that, at the first submit at which nothing waits, the next scheduler takes over, and has the next journal.
+    /// Where something always waits the journal ends early, and the next begins at the first submit at which nothing does.
+    /// It ends early too where its writer is so slow that an entry is kept no longer when it comes to it (see
+    /// [`Builder::keep`]). Where five schedulers are over before it has come to them, the oldest of these is left out.
     ///
     /// Fails where a journal is being written already, or its thread does not start.
     ///
     /// ```no_run
     /// use std::fs::File;
+    /// use twodfq::{KindId, Pool};
     ///
-    /// let pool = twodfq::Pool::builder().tenant("acme", 1).open().unwrap();
+    /// let pool = Pool::builder().tenant("acme", 1).open().unwrap();
     /// let journal = pool.journal(File::create("acme.journal").unwrap()).unwrap();
-    /// pool.submit(0, 0, || ()).unwrap();
+    /// pool.submit("acme", KindId::FIRST, || ()).unwrap();
     /// pool.join();
     /// assert_eq!(journal.join().unwrap().missed, 0);
     /// ```
     pub fn journal(&self, to: impl Write + Send + 'static) -> io::Result<Journal> {
-        let there_is_one = || io::Error::new(io::ErrorKind::AlreadyExists, "a journal is being written already");
-        let reader = Reader::new(&self.shared).ok_or_else(there_is_one)?;
-        let place = Arc::new(Place::new());
-        let work = Box::new(Work { closure: move || reader.write(to), place: place.clone() });
-        let thread = thread::Builder::new().name("twodfq-journal".to_string());
-        self.keep(thread.spawn(move || _ = caught(|| work.run()))?);
-        Ok(Journal::new(place))
+        let (journal, thread) = Journal::start(&self.shared, to)?;
+        self.keep(thread);
+        Ok(journal)
     }
 
     /// Closes, waits until all accepted jobs are done, and tells what was counted. Dropping the pool waits too. In a job of
     /// the pool's own neither waits.
     ///
     /// ```
-    /// let pool = twodfq::Pool::builder().tenant("acme", 1).open().unwrap();
-    /// let handle = pool.submit(0, 0, || 42).unwrap();
+    /// use twodfq::{KindId, Pool};
+    ///
+    /// let pool = Pool::builder().tenant("acme", 1).open().unwrap();
+    /// let handle = pool.submit("acme", KindId::FIRST, || 42).unwrap();
     /// let status = pool.join();
     /// assert_eq!((status.waiting, status.tenants[0].done), (0, 1));
     /// assert_eq!(handle.join().unwrap(), 42);
@@ -276,22 +299,6 @@ impl Drop for Pool {
 
 impl fmt::Debug for Pool {
     fn fmt(&self, f: &mut fmt::Formatter<'_>) -> fmt::Result {
-        f.debug_struct("Pool").field("settings", &self.settings).finish_non_exhaustive()
-    }
-}
-
-/// Hands in a job, boxed by `boxed` once it is accepted.
-fn hand_in<T, F, B>(shared: &Shared, request: Request, closure: F, boxed: B) -> Result<Handle<T>, Rejected<F>>
-where
-    T: Send,
-    F: FnOnce() -> T + Send,
-    B: Fn(Box<Work<T, F>>) -> Box<dyn Job>,
-{
-    let place = Arc::new(Place::new());
-    let mut work = Some(Box::new(Work { closure, place: place.clone() }));
-    let mut job = || boxed(work.take().expect("a job is asked for once"));
-    match shared.admit(request, &mut job) {
-        Ok(()) => Ok(Handle::new(place)),
-        Err(cause) => Err(Rejected { job: work.expect("a refused job was not asked for").closure, cause }),
+        f.debug_struct("Pool").field("settings", &self.shared.settings).finish_non_exhaustive()
     }
 }

@@ -2,17 +2,20 @@
 use std::fmt;
 
 use super::jobs::{Job, Work};
-use super::state::Request;
-use super::{hand_in, Handle, Pool, Rejected};
+use super::{Handle, Pool};
 use crate::ffi::{self, Lender};
+use crate::service::cause::Rejected;
+use crate::service::ids::{KindId, Tenant, Terms};
 
 /// Where jobs that borrow are handed in: all of them have ended when [`Pool::scope`] returns.
 ///
 /// ```
-/// let pool = twodfq::Pool::builder().tenant("acme", 1).open().unwrap();
+/// use twodfq::{KindId, Pool};
+///
+/// let pool = Pool::builder().tenant("acme", 1).open().unwrap();
 /// let words = vec!["two", "three", "four"];
 /// let total: usize = pool.scope(|scope: twodfq::Scope| {
-///     let lengths: Vec<_> = words.iter().map(|word| scope.submit(0, 0, move || word.len()).unwrap()).collect();
+///     let lengths: Vec<_> = words.iter().map(|word| scope.submit("acme", KindId::FIRST, move || word.len()).unwrap()).collect();
 ///     lengths.into_iter().map(|length| length.join().unwrap()).sum()
 /// });
 /// assert_eq!(total, 12);
@@ -21,10 +24,12 @@ use crate::ffi::{self, Lender};
 /// What a job borrows has to outlive the scope:
 ///
 /// ```compile_fail
-/// let pool = twodfq::Pool::builder().tenant("acme", 1).open().unwrap();
+/// use twodfq::{KindId, Pool};
+///
+/// let pool = Pool::builder().tenant("acme", 1).open().unwrap();
 /// pool.scope(|scope| {
 ///     let inner = 42;
-///     scope.submit(0, 0, || inner + 1).unwrap();
+///     scope.submit("acme", KindId::FIRST, || inner + 1).unwrap();
 /// });
 /// ```
 #[derive(Clone, Copy)]
@@ -46,11 +51,13 @@ impl Pool {
     /// A job of the pool that waits here for others holds its worker. Where every worker does, none is left for them.
     ///
     /// ```
-    /// let pool = twodfq::Pool::builder().tenant("acme", 1).open().unwrap();
+    /// use twodfq::{KindId, Pool};
+    ///
+    /// let pool = Pool::builder().tenant("acme", 1).open().unwrap();
     /// let mut numbers = [1, 2, 3, 4];
     /// pool.scope(|scope| {
     ///     for number in &mut numbers {
-    ///         scope.submit(0, 0, || *number *= 10).unwrap();
+    ///         scope.submit("acme", KindId::FIRST, || *number *= 10).unwrap();
     ///     }
     /// });
     /// assert_eq!(numbers, [10, 20, 30, 40]);
@@ -64,34 +71,50 @@ impl<'scope> Scope<'scope, '_> {
     /// Hands in a job that may borrow, as [`Pool::submit`] does.
     ///
     /// ```
-    /// let pool = twodfq::Pool::builder().tenant("acme", 1).open().unwrap();
+    /// use twodfq::{KindId, Pool};
+    ///
+    /// let pool = Pool::builder().tenant("acme", 1).open().unwrap();
     /// let text = String::from("borrowed");
-    /// let first = pool.scope(|scope| scope.submit(0, 0, || &text[..1]).unwrap().join().unwrap());
+    /// let first = pool.scope(|scope| scope.submit("acme", KindId::FIRST, || &text[..1]).unwrap().join().unwrap());
     /// assert_eq!(first, "b");
     /// ```
-    pub fn submit<T, F>(&self, tenant: u32, kind: u32, job: F) -> Result<Handle<T>, Rejected<F>>
+    pub fn submit<'a, T, F>(
+        &self,
+        tenant: impl Into<Tenant<'a>>,
+        kind: KindId,
+        job: F,
+    ) -> Result<Handle<T>, Rejected<F>>
     where
         T: Send + 'scope,
         F: FnOnce() -> T + Send + 'scope,
     {
-        self.submit_declared(tenant, kind, self.pool.settings.initial, job)
+        self.submit_with(tenant, kind, Terms::default(), job)
     }
 
-    /// Hands in a job that may borrow and declares its cost, as [`Pool::submit_declared`] does.
+    /// Hands in a job that may borrow, with a declared cost or a deadline, as [`Pool::submit_with`] does.
     ///
     /// ```
-    /// let pool = twodfq::Pool::builder().tenant("acme", 1).open().unwrap();
-    /// let text = String::from("borrowed");
-    /// let length = pool.scope(|scope| scope.submit_declared(0, 0, 5, || text.len()).unwrap().join().unwrap());
+    /// use twodfq::{KindId, Pool, Terms};
+    ///
+    /// let pool = Pool::builder().tenant("acme", 1).open().unwrap();
+    /// let (text, terms) = (String::from("borrowed"), Terms::default().declared(5));
+    /// let length = pool.scope(|scope| {
+    ///     scope.submit_with("acme", KindId::FIRST, terms, || text.len()).unwrap().join().unwrap()
+    /// });
     /// assert_eq!(length, 8);
     /// ```
-    pub fn submit_declared<T, F>(&self, tenant: u32, kind: u32, cost: u64, job: F) -> Result<Handle<T>, Rejected<F>>
+    pub fn submit_with<'a, T, F>(
+        &self,
+        tenant: impl Into<Tenant<'a>>,
+        kind: KindId,
+        terms: Terms,
+        job: F,
+    ) -> Result<Handle<T>, Rejected<F>>
     where
         T: Send + 'scope,
         F: FnOnce() -> T + Send + 'scope,
     {
-        let request = Request { tenant, kind, declared: cost };
         let lend = |work: Box<Work<T, F>>| self.lender.lend(work as Box<dyn Job + 'scope>);
-        hand_in(&self.pool.shared, request, job, lend)
+        self.pool.hand_in((tenant.into(), kind, terms), job, lend)
     }
 }

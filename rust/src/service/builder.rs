@@ -1,33 +1,34 @@
-//! How a pool is opened.
+//! What a pool and permits are opened with.
 use std::sync::Arc;
-use std::time::{Duration, Instant};
+use std::time::Duration;
 
-use super::cause::BuildFault;
-use super::clock::{Clock, Measure};
+use super::clock::Measure;
 use super::names::Names;
-use super::rolling::{Rolling, Settings};
-use super::shared::Shared;
-use super::state::State;
-use super::Pool;
+use super::settings::Settings;
+use super::trace::{Hook, Hooked};
 use crate::{Estimator, Policy};
 
-/// The least room that a scheduler of a pool has: what its opening and one job take is surely less.
-const LEAST_ENTRIES: u32 = 16;
-
 /// The most entries that a history may have.
-const MOST_ENTRIES: u32 = 4_000_000_000;
+pub(crate) const MOST_ENTRIES: u32 = 4_000_000_000;
 
 /// The most entries of a history whose journal `twodfq check` reads.
-const MOST_JUDGED: u32 = 4_194_304;
+const MOST_JUDGED: u32 = 1_048_576;
 
-/// How many entries a history has that is kept whole, unless the caller says otherwise: 48 megabytes of them.
-const WHOLE_ENTRIES: u32 = 1_000_000;
+/// The bytes that `twodfq check` reads at most, of a journal with the longest head and the longest lines.
+const _: () = {
+    const READ: usize = 64 << 20;
+    const ENTRY: usize = "submit 64 1000000000000000 1048576 4095 63 1000000000 262143\n".len();
+    const TENANT: usize = "tenant  1000\n".len() + 64;
+    const KIND: usize = "kind \n".len() + 64;
+    const FIRST: usize = 100;
+    assert!(FIRST + 4096 * TENANT + 64 * KIND + MOST_JUDGED as usize * ENTRY <= READ);
+};
 
 /// What a pool is opened with. All but the tenants have a default.
 ///
 /// ```
 /// use std::time::Duration;
-/// use twodfq::{Estimator, Measure, Policy, Pool};
+/// use twodfq::{Estimator, KindId, Measure, Policy, Pool, TenantId};
 ///
 /// let pool = Pool::builder()
 ///     .workers(4)
@@ -47,17 +48,20 @@ const WHOLE_ENTRIES: u32 = 1_000_000;
 ///     .keep(100_000)
 ///     .open()
 ///     .unwrap();
-/// assert_eq!(pool.tenant("globex"), Some(1));
-/// assert_eq!(pool.kind("scan"), Some(1));
+/// assert_eq!(pool.tenant("globex"), Some(TenantId::new(1)));
+/// assert_eq!(pool.kind("scan"), Some(KindId::new(1)));
 /// ```
 #[derive(Clone, Debug)]
 pub struct Builder {
-    workers: u32,
-    weights: Vec<u32>,
-    entries: Option<u32>,
-    settings: Settings,
-    measure: Measure,
-    refresh: Duration,
+    pub(crate) workers: u32,
+    pub(crate) weights: Vec<u32>,
+    pub(crate) entries: Option<u32>,
+    pub(crate) settings: Settings,
+    /// How many requests of some kinds of a tenant may run at once.
+    pub(crate) limits: Vec<(String, u32)>,
+    pub(crate) most_tenants: Option<u32>,
+    pub(crate) measure: Measure,
+    pub(crate) refresh: Duration,
 }
 
 impl Builder {
@@ -65,21 +69,36 @@ impl Builder {
         let settings = Settings {
             most_workers: 0,
             tenants: Names::default(),
+            named: 0,
+            default_weight: 1,
             kinds: Names::default(),
             entries: MOST_ENTRIES,
             keep: 65_536,
             judged: MOST_JUDGED,
             room: 10_000,
+            room_per_tenant: None,
+            most_running: None,
+            kinds_running: Vec::new(),
             policy: Policy::default(),
             estimator: Estimator::Pessimistic,
             initial: 1000,
             patience: 0.02,
+            hook: Hooked::default(),
         };
         let refresh = Duration::from_millis(10);
-        Builder { workers: 4, weights: Vec::new(), entries: None, settings, measure: Measure::Wall, refresh }
+        Builder {
+            workers: 4,
+            weights: Vec::new(),
+            entries: None,
+            settings,
+            limits: Vec::new(),
+            most_tenants: None,
+            measure: Measure::Wall,
+            refresh,
+        }
     }
 
-    /// How many workers run jobs at first: 1 to 64, by default 4.
+    /// How many workers run jobs at first, or how many permits there are: 1 to 64, by default 4.
     ///
     /// ```
     /// let pool = twodfq::Pool::builder().tenant("acme", 1).workers(8).open().unwrap();
@@ -90,7 +109,8 @@ impl Builder {
         self
     }
 
-    /// How many workers there may ever be, each of which has a thread from the opening on; by default as many as at first.
+    /// How many workers or permits there may ever be; by default as many as at first. Each worker of a pool has a thread from
+    /// the opening on.
     ///
     /// ```
     /// let pool = twodfq::Pool::builder().tenant("acme", 1).workers(1).most_workers(8).open().unwrap();
@@ -105,8 +125,10 @@ impl Builder {
     /// ASCII letters, digits, `_`, `-` and `.`.
     ///
     /// ```
-    /// let pool = twodfq::Pool::builder().tenant("acme", 1).tenant("globex", 7).open().unwrap();
-    /// assert_eq!(pool.tenant("globex"), Some(1));
+    /// use twodfq::{Pool, TenantId};
+    ///
+    /// let pool = Pool::builder().tenant("acme", 1).tenant("globex", 7).open().unwrap();
+    /// assert_eq!(pool.tenant("globex"), Some(TenantId::new(1)));
     /// ```
     pub fn tenant(mut self, name: &str, weight: u32) -> Builder {
         self.settings.tenants.push(name);
@@ -114,12 +136,56 @@ impl Builder {
         self
     }
 
+    /// How many tenants there may be at once, 1 to 4,096, with those named at the opening; by default these alone.
+    ///
+    /// Further tenants come by name, any text of 1 to 256 bytes. A new tenant gets a free slot, or the slot of the tenant
+    /// that has been idle longest. Where every slot's tenant has a request that waits or runs, the call is refused with
+    /// [`Cause::NoSlot`](crate::Cause::NoSlot). So memory stays flat over any number of names.
+    ///
+    /// A new tenant inherits the slot's estimates of costs and its place in virtual time. Under the default policy that
+    /// place is close to where a new tenant would begin. The counts of a tenant that left go to
+    /// [`Status::others`](crate::Status::others). Journals name such a slot by its number, `slot.17`.
+    ///
+    /// ```
+    /// use twodfq::{KindId, Permits};
+    ///
+    /// let permits = Permits::builder().most_tenants(100).open_permits().unwrap();
+    /// for number in 0..1000 {
+    ///     permits.try_acquire(&format!("tenant {number}"), KindId::FIRST).unwrap();
+    /// }
+    /// assert!(permits.tenant("tenant 900").is_some() && permits.tenant("tenant 899").is_none());
+    /// ```
+    pub fn most_tenants(mut self, tenants: u32) -> Builder {
+        self.most_tenants = Some(tenants);
+        self
+    }
+
+    /// The weight of tenants that come by name, 1 to 1,000; by default 1. A weight set later, by `weight`, is kept for the
+    /// tenant's return.
+    ///
+    /// ```
+    /// use twodfq::{KindId, Permits};
+    ///
+    /// let permits = Permits::builder().most_tenants(1).default_weight(10).open_permits().unwrap();
+    /// permits.weight("acme", 50).unwrap();
+    /// for (name, weight) in [("acme", 50), ("globex", 10), ("acme", 50)] {
+    ///     permits.try_acquire(name, KindId::FIRST).unwrap();
+    ///     assert_eq!(permits.status().tenants[0].weight, weight);
+    /// }
+    /// ```
+    pub fn default_weight(mut self, weight: u32) -> Builder {
+        self.settings.default_weight = weight;
+        self
+    }
+
     /// One more kind of jobs, numbered from 0; by default there is one, `-`. At most 64, and 65,536 pairs of a tenant and
     /// a kind. Costs are estimated for each tenant and kind.
     ///
     /// ```
-    /// let pool = twodfq::Pool::builder().tenant("acme", 1).kind("get").kind("scan").open().unwrap();
-    /// assert_eq!(pool.kind("scan"), Some(1));
+    /// use twodfq::{KindId, Pool};
+    ///
+    /// let pool = Pool::builder().tenant("acme", 1).kind("get").kind("scan").open().unwrap();
+    /// assert_eq!(pool.kind("scan"), Some(KindId::new(1)));
     /// ```
     pub fn kind(mut self, name: &str) -> Builder {
         self.settings.kinds.push(name);
@@ -129,8 +195,10 @@ impl Builder {
     /// Which waiting job a worker takes; by default `Policy::default()`.
     ///
     /// ```
-    /// let pool = twodfq::Pool::builder().tenant("acme", 1).policy(twodfq::Policy::Wf2q).open().unwrap();
-    /// pool.submit(0, 0, || ()).unwrap();
+    /// use twodfq::{KindId, Pool};
+    ///
+    /// let pool = Pool::builder().tenant("acme", 1).policy(twodfq::Policy::Wf2q).open().unwrap();
+    /// pool.submit("acme", KindId::FIRST, || ()).unwrap();
     /// ```
     pub fn policy(mut self, policy: Policy) -> Builder {
         self.settings.policy = policy;
@@ -140,8 +208,10 @@ impl Builder {
     /// What a job is thought to cost before it is done; by default [`Estimator::Pessimistic`].
     ///
     /// ```
-    /// let pool = twodfq::Pool::builder().tenant("acme", 1).estimator(twodfq::Estimator::Recent).open().unwrap();
-    /// pool.submit(0, 0, || ()).unwrap();
+    /// use twodfq::{KindId, Pool};
+    ///
+    /// let pool = Pool::builder().tenant("acme", 1).estimator(twodfq::Estimator::Recent).open().unwrap();
+    /// pool.submit("acme", KindId::FIRST, || ()).unwrap();
     /// ```
     pub fn estimator(mut self, estimator: Estimator) -> Builder {
         self.settings.estimator = estimator;
@@ -151,8 +221,10 @@ impl Builder {
     /// The estimate before any completion, and what `submit` declares: 1 to 1,000,000,000 microseconds, by default 1000.
     ///
     /// ```
-    /// let pool = twodfq::Pool::builder().tenant("acme", 1).initial(20_000).open().unwrap();
-    /// pool.submit(0, 0, || ()).unwrap();
+    /// use twodfq::{KindId, Pool};
+    ///
+    /// let pool = Pool::builder().tenant("acme", 1).initial(20_000).open().unwrap();
+    /// pool.submit("acme", KindId::FIRST, || ()).unwrap();
     /// ```
     pub fn initial(mut self, microseconds: u64) -> Builder {
         self.settings.initial = microseconds;
@@ -177,10 +249,10 @@ impl Builder {
     /// closed.
     ///
     /// ```
-    /// use twodfq::{BuildFault, Pool};
+    /// use twodfq::{BuildFault, KindId, Pool};
     ///
     /// let pool = Pool::builder().tenant("acme", 1).tenant("globex", 1).patience(0.05).open().unwrap();
-    /// pool.submit(0, 0, || ()).unwrap();
+    /// pool.submit("acme", KindId::FIRST, || ()).unwrap();
     /// assert!(matches!(Pool::builder().tenant("acme", 1).patience(1.5).open(), Err(BuildFault::Patience(1.5))));
     /// ```
     pub fn patience(mut self, part: f64) -> Builder {
@@ -188,40 +260,32 @@ impl Builder {
         self
     }
 
-    /// By which clock costs are measured; by default [`Measure::Wall`].
+    /// By which clock costs are measured; by default [`Measure::Wall`], which is the only one for permits.
     ///
     /// ```
-    /// let pool = twodfq::Pool::builder().tenant("acme", 1).measure(twodfq::Measure::Processor).open().unwrap();
-    /// pool.submit(0, 0, || ()).unwrap();
+    /// use twodfq::{KindId, Pool};
+    ///
+    /// let pool = Pool::builder().tenant("acme", 1).measure(twodfq::Measure::Processor).open().unwrap();
+    /// pool.submit("acme", KindId::FIRST, || ()).unwrap();
     /// ```
     pub fn measure(mut self, measure: Measure) -> Builder {
         self.measure = measure;
         self
     }
 
-    /// After what time a running job reports once more where it calls [`tick`](crate::tick); by default 10 milliseconds.
+    /// After what time a running job reports once more where it calls [`tick`](crate::tick), and a held permit before the
+    /// next grant; by default 10 milliseconds.
     ///
     /// ```
     /// use std::time::Duration;
+    /// use twodfq::{KindId, Pool};
     ///
-    /// let pool = twodfq::Pool::builder().tenant("acme", 1).refresh(Duration::ZERO).open().unwrap();
-    /// pool.submit(0, 0, twodfq::tick).unwrap();
+    /// let pool = Pool::builder().tenant("acme", 1).refresh(Duration::ZERO).open().unwrap();
+    /// pool.submit("acme", KindId::FIRST, twodfq::tick).unwrap();
     /// assert_eq!(pool.join().tenants[0].reports, 1);
     /// ```
     pub fn refresh(mut self, time: Duration) -> Builder {
         self.refresh = time;
-        self
-    }
-
-    /// How many jobs may wait at once: 1 to 262,144, by default 10,000.
-    ///
-    /// ```
-    /// let pool = twodfq::Pool::builder().tenant("acme", 1).workers(1).room(1).open().unwrap();
-    /// let accepted = (0..1000).filter(|_| pool.submit(0, 0, || ()).is_ok()).count();
-    /// assert_eq!(pool.join().tenants[0].refused, 1000 - accepted as u64);
-    /// ```
-    pub fn room(mut self, jobs: u32) -> Builder {
-        self.settings.room = jobs;
         self
     }
 
@@ -230,9 +294,11 @@ impl Builder {
     /// that is not kept takes no memory. What comes when the next scheduler takes over waits for all that waits then.
     ///
     /// ```
-    /// let pool = twodfq::Pool::builder().tenant("acme", 1).entries(16).open().unwrap();
+    /// use twodfq::{KindId, Pool};
+    ///
+    /// let pool = Pool::builder().tenant("acme", 1).entries(16).open().unwrap();
     /// for _ in 0..100 {
-    ///     pool.submit(0, 0, || ()).unwrap();
+    ///     pool.submit("acme", KindId::FIRST, || ()).unwrap();
     /// }
     /// assert!(pool.join().schedulers > 10);
     /// ```
@@ -245,11 +311,27 @@ impl Builder {
     /// any number above `entries`, keeps all, so that a journal of a scheduler is whole however slow its writer is.
     ///
     /// ```
-    /// let pool = twodfq::Pool::builder().tenant("acme", 1).keep(1024).open().unwrap();
-    /// pool.submit(0, 0, || ()).unwrap();
+    /// use twodfq::{KindId, Pool};
+    ///
+    /// let pool = Pool::builder().tenant("acme", 1).keep(1024).open().unwrap();
+    /// pool.submit("acme", KindId::FIRST, || ()).unwrap();
     /// ```
     pub fn keep(mut self, entries: u32) -> Builder {
         self.settings.keep = entries;
+        self
+    }
+
+    /// A hook that hears of each request; by default there is none.
+    ///
+    /// ```
+    /// use twodfq::{Hook, Pool};
+    ///
+    /// struct Nothing;
+    /// impl Hook for Nothing {}
+    /// let pool = Pool::builder().tenant("acme", 1).hook(Nothing).open().unwrap();
+    /// ```
+    pub fn hook(mut self, hook: impl Hook + 'static) -> Builder {
+        self.settings.hook = Hooked(Some(Arc::new(hook)));
         self
     }
 
@@ -258,42 +340,5 @@ impl Builder {
     pub fn judged(mut self, entries: u32) -> Builder {
         self.settings.judged = entries;
         self
-    }
-
-    /// Fills in what the caller left out.
-    fn complete(&mut self) -> Result<(), BuildFault> {
-        let settings = &mut self.settings;
-        if settings.most_workers == 0 {
-            settings.most_workers = self.workers;
-        }
-        if settings.kinds.len() == 0 {
-            settings.kinds.push("-");
-        }
-        settings.entries = self.entries.unwrap_or(if settings.keep == 0 { WHOLE_ENTRIES } else { MOST_ENTRIES });
-        settings.tenants.sort()?;
-        settings.kinds.sort()?;
-        if settings.entries < LEAST_ENTRIES {
-            return Err(BuildFault::Entries(settings.entries));
-        }
-        if !(0.0..=1.0).contains(&settings.patience) {
-            return Err(BuildFault::Patience(settings.patience));
-        }
-        let may_be = 1..=settings.most_workers;
-        may_be.contains(&self.workers).then_some(()).ok_or(BuildFault::Workers(self.workers))
-    }
-
-    /// Opens the pool and starts its threads.
-    ///
-    /// ```
-    /// let pool = twodfq::Pool::builder().tenant("acme", 1).open().unwrap();
-    /// assert!(twodfq::Pool::builder().open().is_err()); // there is no tenant
-    /// ```
-    pub fn open(mut self) -> Result<Pool, BuildFault> {
-        self.complete()?;
-        let settings = Arc::new(self.settings);
-        let rolling = Rolling::open(settings.clone(), self.weights, self.workers).map_err(BuildFault::Scheduler)?;
-        let clock = Clock { start: Instant::now(), measure: self.measure };
-        let shared = Arc::new(Shared::new(State::new(rolling), clock, self.refresh));
-        Pool::start(shared, settings).map_err(BuildFault::Thread)
     }
 }

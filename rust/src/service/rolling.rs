@@ -1,61 +1,14 @@
 //! Schedulers one after another: before the room of one ends the next is opened, and takes what comes. Workers take from the
 //! older ones until these are drained.
+use std::mem;
 use std::sync::Arc;
 
-use super::names::Names;
-use crate::{Config, Due, Estimator, OpenFault, Policy, Refusal, Scheduler, Submit, Taken};
+use super::requests::Submitted;
+use super::settings::{Settings, ONE_REQUEST_AND_CLOSE};
+use crate::{Due, OpenFault, Refusal, Scheduler, Submit, Taken};
 
 /// The caller whom entries name that no worker made.
 const CALLER: u32 = 64;
-
-/// The entries of one job more, and of the close.
-const ONE_JOB_AND_CLOSE: u64 = 4;
-
-/// What all schedulers of a pool are opened with, but for the weights.
-#[derive(Clone, Debug)]
-pub(crate) struct Settings {
-    pub(crate) most_workers: u32,
-    pub(crate) tenants: Names,
-    pub(crate) kinds: Names,
-    pub(crate) entries: u32,
-    pub(crate) keep: u32,
-    /// How many entries a history has at most whose journal is judged.
-    pub(crate) judged: u32,
-    pub(crate) room: u32,
-    pub(crate) policy: Policy,
-    pub(crate) estimator: Estimator,
-    pub(crate) initial: u64,
-    pub(crate) patience: f64,
-}
-
-impl Settings {
-    /// How many entries the head of a journal says that its history may have.
-    pub(crate) fn journal_entries(&self) -> u32 {
-        self.entries.min(self.judged)
-    }
-
-    /// How many entries a journal has at most. Up to here a history of `journal_entries` has room for any call, so that the
-    /// first entries of a longer one are legal by that head.
-    pub(crate) fn journal_room(&self) -> u64 {
-        let needed = 2 * u64::from(self.room) + u64::from(self.most_workers) + ONE_JOB_AND_CLOSE;
-        let is_long = self.entries > self.judged;
-        u64::from(self.journal_entries()) - if is_long { needed } else { 0 }
-    }
-
-    pub(crate) fn open(&self, weights: &[u32]) -> Result<Scheduler, OpenFault> {
-        Scheduler::open(&Config {
-            workers: self.most_workers,
-            weights,
-            kinds: self.kinds.len() as u32,
-            entries: self.entries,
-            requests: self.room,
-            policy: self.policy,
-            estimate: self.estimator,
-            initial: self.initial,
-            keep: self.keep,
-        })
-    }
-}
 
 /// A scheduler that was opened ahead, and the weights that it has.
 pub(crate) struct Spare {
@@ -121,6 +74,7 @@ pub(crate) struct Rolling {
     pub(crate) is_cut: bool,
     /// Those that are over and that nobody has yet.
     pub(crate) over: Vec<History>,
+    pub(crate) is_closed: bool,
 }
 
 impl Rolling {
@@ -136,6 +90,7 @@ impl Rolling {
             is_opening: false,
             is_cut: false,
             over: Vec::new(),
+            is_closed: false,
         };
         rolling.open_next(0)?;
         Ok(rolling)
@@ -195,7 +150,7 @@ impl Rolling {
     fn is_time_to_roll(&self) -> bool {
         let Some(newest) = self.histories.last() else { return false };
         let entries = u64::from(self.settings.entries);
-        let to_come = 2 * u64::from(newest.waiting) + u64::from(newest.running) + ONE_JOB_AND_CLOSE;
+        let to_come = 2 * u64::from(newest.waiting) + u64::from(newest.running) + ONE_REQUEST_AND_CLOSE;
         let is_due = self.is_cut || newest.entries * 8 >= self.room() * 7;
         let is_at_rest = is_due && newest.waiting == 0 && self.spare.is_some();
         is_at_rest || newest.entries + to_come + entries / 16 > entries
@@ -220,13 +175,25 @@ impl Rolling {
         newest.counted(reply)
     }
 
-    pub(crate) fn submit(&mut self, moment: u64, request: Submit) -> Result<(), Refusal> {
+    pub(crate) fn submit(&mut self, moment: u64, request: Submit) -> Result<Submitted, Refusal> {
         if self.is_time_to_roll() {
             let _ = self.roll(moment); // without memory it is tried once more when there is no room
         }
-        self.call(moment, |scheduler| scheduler.submit(CALLER, moment, request))?;
-        self.newest().waiting += 1;
-        Ok(())
+        let request = self.call(moment, |scheduler| scheduler.submit(CALLER, moment, request))?;
+        let newest = self.newest();
+        newest.waiting += 1;
+        Ok(Submitted { history: newest.number, request })
+    }
+
+    /// A request that waits is withdrawn. Every history has room for that.
+    pub(crate) fn withdraw(&mut self, moment: u64, submitted: Submitted) {
+        let Some(place) = self.place(submitted.history) else { return };
+        let history = &mut self.histories[place];
+        let reply = history.scheduler.withdraw(CALLER, moment, submitted.request);
+        let reply = history.counted(reply);
+        debug_assert!(reply.is_ok(), "{reply:?}");
+        history.waiting -= 1;
+        self.clear(place);
     }
 
     /// What the worker runs next, by the oldest scheduler that has something for it.
@@ -240,6 +207,17 @@ impl Rolling {
             }
         }
         None
+    }
+
+    /// Whether something waits in any of them.
+    pub(crate) fn has_waiting(&self) -> bool {
+        self.histories.iter().any(|history| history.waiting > 0)
+    }
+
+    /// Whether something is eligible for the worker in the scheduler that it would take from.
+    pub(crate) fn is_eligible(&mut self, moment: u64, worker: u32) -> bool {
+        let oldest = self.histories.iter_mut().find(|history| history.waiting > 0);
+        oldest.is_some_and(|history| matches!(history.scheduler.due(moment, worker), Ok(Due::Eligible)))
     }
 
     /// The estimate of the job that the worker would take before its time. None while an older scheduler has jobs that wait:
@@ -303,8 +281,11 @@ impl Rolling {
         }
     }
 
-    /// Nothing more comes.
+    /// Nothing more comes. A second close has nothing to change.
     pub(crate) fn close(&mut self, moment: u64) {
+        if mem::replace(&mut self.is_closed, true) {
+            return;
+        }
         self.newest().close(moment);
         self.clear(self.histories.len() - 1);
         self.spare = None;

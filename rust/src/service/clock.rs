@@ -1,5 +1,5 @@
 //! What time a job has used.
-use std::time::Instant;
+use std::time::{Duration, Instant};
 
 use crate::ffi;
 
@@ -7,10 +7,10 @@ use crate::ffi;
 /// most 1,000 seconds.
 ///
 /// ```
-/// use twodfq::{Measure, Pool};
+/// use twodfq::{KindId, Measure, Pool};
 ///
 /// let pool = Pool::builder().tenant("acme", 1).measure(Measure::Processor).open().unwrap();
-/// pool.submit(0, 0, || ()).unwrap().join().unwrap();
+/// pool.submit("acme", KindId::FIRST, || ()).unwrap().join().unwrap();
 /// ```
 #[derive(Clone, Copy, Debug, PartialEq, Eq)]
 pub enum Measure {
@@ -21,7 +21,7 @@ pub enum Measure {
 }
 
 /// The greatest cost that the scheduler takes, in microseconds.
-const GREATEST_COST: u64 = 1_000_000_000;
+pub(crate) const GREATEST_COST: u64 = 1_000_000_000;
 
 /// A clock that began with its pool.
 #[derive(Clone, Copy, Debug)]
@@ -34,6 +34,16 @@ impl Clock {
     /// The moment of a call, in microseconds since the pool was opened.
     pub(crate) fn moment(&self, now: Instant) -> u64 {
         now.duration_since(self.start).as_micros() as u64
+    }
+
+    /// The last moment by a deadline; none where no clock comes there.
+    pub(crate) fn deadline(&self, by: Instant) -> Option<u64> {
+        u64::try_from(by.duration_since(self.start).as_micros()).ok().filter(|moment| *moment < u64::MAX)
+    }
+
+    /// When a moment is, where the system's clock has it.
+    pub(crate) fn instant(&self, moment: u64) -> Option<Instant> {
+        self.start.checked_add(Duration::from_micros(moment))
     }
 
     pub(crate) fn reading(&self, now: Instant) -> Reading {
@@ -53,6 +63,11 @@ pub(crate) struct Reading {
 }
 
 impl Reading {
+    /// Of who is charged the time that passes.
+    pub(crate) fn wall(moment: u64) -> Reading {
+        Reading { moment, used: moment * 1000 }
+    }
+
     /// What was used since an earlier reading of the same thread, in microseconds: at least one, since a tenant whose work
     /// costs nothing would keep all others waiting.
     pub(crate) fn since(&self, begun: &Reading) -> u64 {

@@ -18,6 +18,10 @@ impl Names {
         self.names.len()
     }
 
+    pub(crate) fn get(&self, number: u32) -> Option<&str> {
+        self.names.get(number as usize).map(String::as_str)
+    }
+
     pub(crate) fn iter(&self) -> impl Iterator<Item = &String> {
         self.names.iter()
     }

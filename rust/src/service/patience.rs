@@ -1,6 +1,7 @@
 //! Patience: a free worker that would have to take a job before its time waits a little, so that it takes a cheap one
 //! that comes meanwhile.
 use super::clock::Reading;
+use super::shared::Payload;
 use super::state::{Run, State};
 
 /// How many microseconds longer a sleep lasts than it was asked to: the kernel's own slack of 50, and the waking.
@@ -27,9 +28,9 @@ impl Free {
 }
 
 /// What a free worker does next.
-pub(crate) enum Step {
+pub(crate) enum Step<P> {
     /// It runs a job, or ends where nothing more will come for it.
-    Leave(Option<Run>),
+    Leave(Option<Run<P>>),
     /// It waits until this moment at most, for a job whose time has come.
     Wait(u64),
     /// It sleeps until there is a job for it.
@@ -81,6 +82,16 @@ impl Patience {
         (time > SLEEP).then_some(time)
     }
 
+    /// Until when the worker waits, where it would take a job of this estimate early, and may.
+    pub(crate) fn wait(&mut self, free: &mut Free, moment: u64, early: Option<u64>) -> Option<u64> {
+        let time = early.and_then(|estimate| self.allows(moment, free.since, estimate));
+        match time {
+            Some(time) => self.begin(free, moment, time),
+            None => free.is_patient = false,
+        }
+        time.map(|time| moment + time - SLEEP)
+    }
+
     /// The worker begins to wait, or goes on.
     fn begin(&mut self, free: &mut Free, moment: u64, time: u64) {
         if !free.is_patient {
@@ -93,7 +104,7 @@ impl Patience {
     }
 
     /// Notes how long the worker has waited since it asked last, if it has.
-    fn settle(&mut self, free: &mut Free, moment: u64) {
+    pub(crate) fn settle(&mut self, free: &mut Free, moment: u64) {
         let Some((begun, time)) = free.wait.take() else { return };
         let waited = moment.saturating_sub(begun);
         self.microseconds += waited;
@@ -101,20 +112,20 @@ impl Patience {
     }
 }
 
-impl State {
+impl<P: Payload> State<P> {
     /// What the free worker does at this moment.
-    pub(crate) fn step(&mut self, at: Reading, free: &mut Free) -> Step {
+    pub(crate) fn step(&mut self, at: Reading, free: &mut Free) -> Step<P> {
+        self.expire();
         self.patience.settle(free, at.moment);
         let is_wanted = free.worker < self.rolling.workers;
         let early = if is_wanted { self.early(at.moment, free.worker) } else { None };
-        if let Some(time) = early.and_then(|estimate| self.patience.allows(at.moment, free.since, estimate)) {
-            self.patience.begin(free, at.moment, time);
-            return Step::Wait(at.moment + time - SLEEP);
+        if let Some(until) = self.patience.wait(free, at.moment, early) {
+            return Step::Wait(until);
         }
-        free.is_patient = false;
         let run = if is_wanted { self.take(at, free.worker) } else { None };
         self.patience.early += u64::from(early.is_some() && run.is_some());
-        if run.is_some() || self.is_over_for(free.worker) {
+        let is_over = self.is_closed && (self.waiting == 0 || !is_wanted);
+        if run.is_some() || is_over {
             Step::Leave(run)
         } else {
             Step::Sleep
@@ -123,7 +134,7 @@ impl State {
 
     /// The estimate of the job that the worker would take before its time, where somebody may gain by its patience:
     /// nobody does where one tenant alone has jobs in the pool.
-    fn early(&mut self, moment: u64, worker: u32) -> Option<u64> {
+    pub(crate) fn early(&mut self, moment: u64, worker: u32) -> Option<u64> {
         let may_gain = self.patience.is_on() && self.open_tenants > 1 && !self.is_closed;
         if may_gain {
             self.rolling.early(moment, worker)

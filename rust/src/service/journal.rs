@@ -2,13 +2,16 @@
 use std::fmt::{self, Write as _};
 use std::io::{self, Write};
 use std::mem;
+use std::panic::{self, AssertUnwindSafe};
 use std::sync::{Arc, PoisonError};
-use std::thread;
+use std::thread::{self, JoinHandle};
 use std::time::Duration;
 
-use super::handle::Place;
-use super::rolling::{History, Settings};
-use super::shared::Shared;
+use super::panics::{caught, panic_message};
+use super::place::Place;
+use super::rolling::History;
+use super::settings::Settings;
+use super::shared::{Payload, Shared};
 use super::state::State;
 use crate::{Act, Entry, Estimator, Policy};
 
@@ -57,29 +60,47 @@ impl fmt::Debug for Journal {
 }
 
 impl Journal {
-    pub(crate) fn new(place: Arc<Place<io::Result<Written>>>) -> Journal {
-        Journal { place }
+    /// Starts the thread that writes it. Fails where one is being written already, or the thread does not start.
+    pub(crate) fn start<P: Payload>(
+        shared: &Arc<Shared<P>>,
+        to: impl Write + Send + 'static,
+    ) -> io::Result<(Journal, JoinHandle<()>)> {
+        let there_is_one = || io::Error::new(io::ErrorKind::AlreadyExists, "a journal is being written already");
+        let reader = Reader::new(shared).ok_or_else(there_is_one)?;
+        let place = Arc::new(Place::new());
+        let result = place.clone();
+        let thread = thread::Builder::new().name("twodfq-journal".to_string());
+        let thread = thread.spawn(move || match panic::catch_unwind(AssertUnwindSafe(|| reader.write(to))) {
+            Ok(written) => result.put(written),
+            Err(payload) => {
+                result.put(Err(io::Error::other(panic_message(&*payload))));
+                caught(|| drop(payload));
+            }
+        })?;
+        Ok((Journal { place }, thread))
     }
 
     /// Waits for the pool's end and the journal's, and tells what was written. The first fault of the writer ends the
     /// journal, and not the pool.
     ///
     /// ```
-    /// let pool = twodfq::Pool::builder().tenant("acme", 1).open().unwrap();
+    /// use twodfq::{KindId, Pool};
+    ///
+    /// let pool = Pool::builder().tenant("acme", 1).open().unwrap();
     /// let no_room: &mut [u8] = Box::leak(Box::new([0; 10]));
     /// let journal = pool.journal(no_room).unwrap();
-    /// pool.submit(0, 0, || ()).unwrap().join().unwrap();
+    /// pool.submit("acme", KindId::FIRST, || ()).unwrap().join().unwrap();
     /// pool.join();
     /// assert_eq!(journal.join().unwrap_err().kind(), std::io::ErrorKind::WriteZero);
     /// ```
     pub fn join(self) -> io::Result<Written> {
-        self.place.wait().unwrap_or_else(|panicked| Err(io::Error::other(panicked.message().to_string())))
+        self.place.wait()
     }
 }
 
 /// Where the journal is. While it is kept, so are histories for it.
-pub(crate) struct Reader {
-    shared: Arc<Shared>,
+pub(crate) struct Reader<P: Payload> {
+    shared: Arc<Shared<P>>,
     /// The history that is read, or the least that may be read next.
     next: u64,
     is_begun: bool,
@@ -87,7 +108,7 @@ pub(crate) struct Reader {
     written: Written,
 }
 
-impl Drop for Reader {
+impl<P: Payload> Drop for Reader<P> {
     fn drop(&mut self) {
         let mut state = self.shared.lock();
         state.rolling.journal = None;
@@ -108,9 +129,9 @@ enum Piece {
     End,
 }
 
-impl Reader {
+impl<P: Payload> Reader<P> {
     /// Begins with the oldest scheduler that is not over; none where there is a journal already.
-    pub(crate) fn new(shared: &Arc<Shared>) -> Option<Reader> {
+    pub(crate) fn new(shared: &Arc<Shared<P>>) -> Option<Reader<P>> {
         let mut state = shared.lock();
         if state.rolling.journal.is_some() {
             return None;
@@ -142,7 +163,7 @@ impl Reader {
         }
     }
 
-    fn piece(&mut self, state: &mut State) -> Piece {
+    fn piece(&mut self, state: &mut State<P>) -> Piece {
         if !self.is_begun {
             return self.begin(state);
         }
@@ -169,7 +190,7 @@ impl Reader {
     }
 
     /// Ends the journal, so that the next begins.
-    fn end(&mut self, state: &mut State) -> Piece {
+    fn end(&mut self, state: &mut State<P>) -> Piece {
         let over = &mut state.rolling.over;
         let place = over.iter().position(|history| history.number == self.next);
         let history = place.map(|place| over.remove(place));
@@ -180,11 +201,11 @@ impl Reader {
     }
 
     /// Begins with the next history that there is.
-    fn begin(&mut self, state: &mut State) -> Piece {
+    fn begin(&mut self, state: &mut State<P>) -> Piece {
         let rolling = &state.rolling;
         let histories = rolling.histories.iter().chain(&rolling.over).filter(|history| history.number >= self.next);
         let Some(history) = histories.min_by_key(|history| history.number) else {
-            return if state.is_closed { Piece::End } else { Piece::Nothing };
+            return if state.rolling.is_closed { Piece::End } else { Piece::Nothing };
         };
         self.written.missed += history.number - self.next;
         self.next = history.number;
@@ -205,7 +226,7 @@ impl Reader {
         while state.journal_sleeps {
             state = self.shared.written.wait(state).unwrap_or_else(PoisonError::into_inner);
         }
-        let is_closed = state.is_closed;
+        let is_closed = state.rolling.is_closed;
         drop(state);
         if !is_closed {
             thread::sleep(REST);
@@ -213,9 +234,9 @@ impl Reader {
     }
 
     /// Whether something came since the last look.
-    fn is_behind(&self, state: &State) -> bool {
+    fn is_behind(&self, state: &State<P>) -> bool {
         if self.next >= state.rolling.opened {
-            return state.is_closed; // the next is not opened yet, or will not be
+            return state.rolling.is_closed; // the next is not opened yet, or will not be
         }
         let mut live = state.rolling.histories.iter();
         let at = live.find(|history| history.number == self.next);
@@ -226,8 +247,8 @@ impl Reader {
 fn add_head(settings: &Settings, weights: &[u32], text: &mut String) {
     let Settings { most_workers, tenants, kinds, room, policy, estimator, initial, .. } = settings;
     let (policy, estimator, entries) = (policy_name(*policy), estimator_name(*estimator), settings.journal_entries());
-    // of the second version: weights and workers may change, and a pool withdraws nothing
-    add(text, format_args!("journal 2\nconfig {most_workers} {policy} {estimator} {initial} {entries} {room}\n"));
+    // of the third version: requests may be withdrawn later
+    add(text, format_args!("journal 3\nconfig {most_workers} {policy} {estimator} {initial} {entries} {room}\n"));
     for (tenant, weight) in tenants.iter().zip(weights) {
         add(text, format_args!("tenant {tenant} {weight}\n"));
     }

@@ -3,18 +3,19 @@ use std::error::Error;
 use std::fmt;
 use std::io;
 
+use super::ids::KindId;
 use crate::{OpenFault, Refusal};
 
 /// Why a job is not taken, or a change not made. Nothing has changed then.
 ///
 /// ```
-/// use twodfq::{Cause, Pool};
+/// use twodfq::{Cause, KindId, Pool};
 ///
 /// let pool = Pool::builder().tenant("acme", 1).open().unwrap();
-/// assert_eq!(pool.submit(1, 0, || ()).unwrap_err().cause, Cause::Tenant(1));
-/// assert_eq!(pool.weight(0, 0), Err(Cause::Weight(0)));
+/// assert_eq!(pool.submit("globex", KindId::FIRST, || ()).unwrap_err().cause, Cause::NoTenant);
+/// assert_eq!(pool.weight("acme", 0), Err(Cause::Weight(0)));
 /// pool.close();
-/// let cause = pool.submit(0, 0, || ()).unwrap_err().cause;
+/// let cause = pool.submit("acme", KindId::FIRST, || ()).unwrap_err().cause;
 /// assert_eq!(cause.to_string(), "the pool is closed");
 /// ```
 #[derive(Clone, Copy, Debug, PartialEq, Eq)]
@@ -22,29 +23,80 @@ use crate::{OpenFault, Refusal};
 pub enum Cause {
     /// The pool is closed.
     Closed,
-    /// As many jobs wait as may, which is this number.
+    /// As many requests wait as may, which is this number.
     TooManyWait(u32),
-    /// No tenant has this number.
-    Tenant(u32),
-    /// No kind has this number.
-    Kind(u32),
+    /// So many requests of the tenant wait, and no more of it may (see [`Builder::room`](crate::Builder::room)).
+    TenantFull(u32),
+    /// There is no tenant of this name or number, or its slot has gone to another.
+    NoTenant,
+    /// All slots are in use, by tenants that have requests (see [`Builder::most_tenants`](crate::Builder::most_tenants)).
+    NoSlot,
+    /// A name that is not 1 to 256 bytes long.
+    Name,
+    /// There is no kind of this number.
+    Kind(KindId),
     /// A declared cost that is not 1 to 1,000,000,000.
     Cost(u64),
     /// A weight that is not 1 to 1,000.
     Weight(u32),
     /// A number of workers that is 0, or more than the pool may have.
     Workers(u32),
+    /// The deadline has passed.
+    Late,
+    /// No permit is free for the request.
+    NoneFree,
     /// There is no memory for the next scheduler.
     NoMemory,
+    /// The thread that keeps deadlines was not started.
+    NoThread,
 }
 
+/// What the causes of refused requests are called where they are counted.
+pub(crate) const LABELS: [&str; 11] = [
+    "closed",
+    "too_many_wait",
+    "tenant_full",
+    "no_tenant",
+    "no_slot",
+    "name",
+    "kind",
+    "cost",
+    "late",
+    "none_free",
+    "no_memory",
+];
+
 impl Cause {
+    /// What the cause is called in the text for Prometheus, as the value of the label `cause`.
+    ///
+    /// ```
+    /// assert_eq!(twodfq::Cause::TenantFull(20).label(), "tenant_full");
+    /// ```
+    pub fn label(&self) -> &'static str {
+        match self {
+            Cause::Closed => "closed",
+            Cause::TooManyWait(_) => "too_many_wait",
+            Cause::TenantFull(_) => "tenant_full",
+            Cause::NoTenant => "no_tenant",
+            Cause::NoSlot => "no_slot",
+            Cause::Name => "name",
+            Cause::Kind(_) => "kind",
+            Cause::Cost(_) => "cost",
+            Cause::Late => "late",
+            Cause::NoneFree => "none_free",
+            Cause::NoMemory => "no_memory",
+            Cause::Weight(_) => "weight",
+            Cause::Workers(_) => "workers",
+            Cause::NoThread => "no_thread",
+        }
+    }
+
     /// The cause that a refusal of the library is. The pool asks in its own range, and keeps room for what it asks.
     pub(crate) fn of(refusal: Refusal) -> Cause {
         match refusal {
             Refusal::Closed => Cause::Closed,
-            Refusal::Tenant(tenant) => Cause::Tenant(tenant),
-            Refusal::Kind(kind) => Cause::Kind(kind),
+            Refusal::Tenant(_) => Cause::NoTenant,
+            Refusal::Kind(kind) => Cause::Kind(KindId(kind)),
             Refusal::Cost(cost) => Cause::Cost(cost),
             Refusal::Slots(slots) => Cause::TooManyWait(slots),
             Refusal::Weight(weight) => Cause::Weight(weight),
@@ -59,13 +111,19 @@ impl fmt::Display for Cause {
     fn fmt(&self, f: &mut fmt::Formatter<'_>) -> fmt::Result {
         match self {
             Cause::Closed => write!(f, "the pool is closed"),
-            Cause::TooManyWait(room) => write!(f, "{room} jobs wait, and no more may"),
-            Cause::Tenant(tenant) => write!(f, "no tenant has the number {tenant}"),
-            Cause::Kind(kind) => write!(f, "no kind has the number {kind}"),
+            Cause::TooManyWait(room) => write!(f, "{room} requests wait, and no more may"),
+            Cause::TenantFull(waiting) => write!(f, "{waiting} requests of the tenant wait, and no more of it may"),
+            Cause::NoTenant => write!(f, "there is no such tenant"),
+            Cause::NoSlot => write!(f, "as many tenants have requests as may"),
+            Cause::Name => write!(f, "a name has 1 to 256 bytes"),
+            Cause::Kind(KindId(kind)) => write!(f, "no kind has the number {kind}"),
             Cause::Cost(cost) => write!(f, "a declared cost of {cost} microseconds is out of its range"),
             Cause::Weight(weight) => write!(f, "a weight of {weight}, and it may be 1 to 1000"),
             Cause::Workers(count) => write!(f, "{count} workers, and there may be 1 to as many as at the opening"),
+            Cause::Late => write!(f, "the deadline has passed"),
+            Cause::NoneFree => write!(f, "no permit is free"),
             Cause::NoMemory => write!(f, "no memory for the next scheduler"),
+            Cause::NoThread => write!(f, "the thread that keeps deadlines was not started"),
         }
     }
 }
@@ -75,9 +133,11 @@ impl Error for Cause {}
 /// A job that was not taken, and why.
 ///
 /// ```
-/// let pool = twodfq::Pool::builder().tenant("acme", 1).open().unwrap();
+/// use twodfq::{KindId, Pool};
+///
+/// let pool = Pool::builder().tenant("acme", 1).open().unwrap();
 /// pool.close();
-/// let rejected = pool.submit(0, 0, || 42).unwrap_err();
+/// let rejected = pool.submit("acme", KindId::FIRST, || 42).unwrap_err();
 /// assert_eq!(rejected.to_string(), "the pool is closed");
 /// assert_eq!((rejected.job)(), 42); // the job is the caller's again
 /// ```
@@ -123,10 +183,18 @@ pub enum BuildFault {
     Entries(u32),
     /// More workers than there may be at most.
     Workers(u32),
+    /// More tenants are named than there may be, which is this number.
+    MostTenants(u32),
+    /// A limit of 0, which would let no request through.
+    Limit,
+    /// A limit for a kind that is not named.
+    NoKind(String),
     /// A patience that is not 0 to 1.
     Patience(f64),
     /// The first scheduler was not opened.
     Scheduler(OpenFault),
+    /// Permits by the processor time of a thread: they measure the time that passes.
+    Measure,
     /// A thread was not started.
     Thread(io::Error),
 }
@@ -138,7 +206,11 @@ impl fmt::Display for BuildFault {
             BuildFault::Twice(name) => write!(f, "`{name}` is named twice"),
             BuildFault::Entries(entries) => write!(f, "{entries} entries, and a pool asks for 16 at least"),
             BuildFault::Workers(count) => write!(f, "{count} workers, and it may not have as many"),
+            BuildFault::MostTenants(most) => write!(f, "more tenants are named than {most}, and no more may be"),
+            BuildFault::NoKind(name) => write!(f, "a limit for `{name}`, and no kind has this name"),
+            BuildFault::Limit => write!(f, "a limit of 0, which lets no request through"),
             BuildFault::Patience(part) => write!(f, "a patience of {part}, and it may be 0 to 1"),
+            BuildFault::Measure => write!(f, "permits measure the time that passes, and no processor time"),
             BuildFault::Scheduler(fault) => fault.fmt(f),
             BuildFault::Thread(fault) => write!(f, "a thread was not started: {fault}"),
         }

@@ -1,0 +1,120 @@
+//! What calls on a scheduler say, and what is answered.
+
+/// A request that comes.
+///
+/// ```
+/// use twodfq::{Config, Scheduler, Submit};
+///
+/// let mut scheduler = Scheduler::open(&Config { weights: &[1, 2], ..Config::default() }).unwrap();
+/// assert_eq!(scheduler.submit(0, 0, Submit { tenant: 1, kind: 0, declared: 5, label: 42 }), Ok(0));
+/// ```
+#[derive(Clone, Copy, Debug, PartialEq, Eq)]
+pub struct Submit {
+    pub tenant: u32,
+    pub kind: u32,
+    /// The cost that its submitter names.
+    pub declared: u64,
+    /// Any number, which comes back with [`Taken::Run`], and from [`Scheduler::withdraw`](crate::Scheduler::withdraw).
+    pub label: u64,
+}
+
+/// What a worker that asks for work is given.
+///
+/// ```
+/// use twodfq::{Config, Scheduler, Taken};
+///
+/// let mut scheduler = Scheduler::open(&Config { weights: &[1, 2], ..Config::default() }).unwrap();
+/// assert_eq!(scheduler.take(1, 0, 0), Ok(Taken::Idle));
+/// ```
+#[derive(Clone, Copy, Debug, PartialEq, Eq)]
+pub enum Taken {
+    /// The worker runs this request from now on.
+    Run { request: u32, estimate: u64, label: u64 },
+    /// Nothing waits; more may come.
+    Idle,
+    /// Nothing waits, and nothing more will come.
+    Drained,
+    /// There are only so many workers now; this one may ask again.
+    Retired { workers: u32 },
+}
+
+/// What a worker would find that asked for work.
+///
+/// ```
+/// use twodfq::{Config, Due, Scheduler};
+///
+/// let mut scheduler = Scheduler::open(&Config { weights: &[1, 2], ..Config::default() }).unwrap();
+/// assert_eq!(scheduler.due(0, 0), Ok(Due::Nothing));
+/// ```
+#[derive(Clone, Copy, Debug, PartialEq, Eq)]
+pub enum Due {
+    /// Nothing waits, whether or not more may come.
+    Nothing,
+    /// Some tenant's head is eligible for the worker.
+    Eligible,
+    /// Requests wait, and no head is eligible for the worker: it would get this one before its time, charged this estimate.
+    Early { request: u32, estimate: u64 },
+    /// There are only so many workers now.
+    Retired { workers: u32 },
+}
+
+/// What an accepted call did.
+///
+/// ```
+/// use twodfq::{Config, Scheduler, Act};
+///
+/// let mut scheduler = Scheduler::open(&Config { weights: &[1, 2], ..Config::default() }).unwrap();
+/// scheduler.weight(0, 0, 1, 7).unwrap();
+/// assert_eq!(scheduler.entry(0).unwrap().act, Act::Weight { tenant: 1, weight: 7 });
+/// ```
+#[derive(Clone, Copy, Debug, PartialEq, Eq)]
+pub enum Act {
+    Submit { request: u32, tenant: u32, kind: u32, declared: u64, label: u64 },
+    Take { worker: u32, request: u32, estimate: u64 },
+    Report { worker: u32, request: u32, used: u64 },
+    Done { worker: u32, request: u32, cost: u64 },
+    Close,
+    Weight { tenant: u32, weight: u32 },
+    Workers { count: u32 },
+    Withdraw { request: u32 },
+}
+
+/// An entry of the history: who made the call, when it took effect, and what it did.
+///
+/// ```
+/// use twodfq::{Config, Scheduler, Act, Entry};
+///
+/// let mut scheduler = Scheduler::open(&Config { weights: &[1, 2], ..Config::default() }).unwrap();
+/// scheduler.close(9, 5).unwrap();
+/// assert_eq!(scheduler.entry(0), Some(Entry { who: 9, moment: 5, act: Act::Close }));
+/// ```
+#[derive(Clone, Copy, Debug, PartialEq, Eq)]
+pub struct Entry {
+    pub who: u32,
+    pub moment: u64,
+    pub act: Act,
+}
+
+/// How a scheduler stands after its last entry.
+///
+/// ```
+/// use twodfq::{Config, Scheduler, Standing};
+///
+/// let mut scheduler = Scheduler::open(&Config { weights: &[1, 2], ..Config::default() }).unwrap();
+/// scheduler.close(0, 7).unwrap();
+/// let standing = Standing { entries: 1, moment: 7, virtual_time: 0, waiting: 0, running: 0 };
+/// assert_eq!(scheduler.status(), standing);
+/// ```
+#[derive(Clone, Copy, Debug, PartialEq, Eq)]
+pub struct Standing {
+    /// How many entries the history has.
+    pub entries: u64,
+    /// The moment of the last one, or 0.
+    pub moment: u64,
+    /// Virtual time at that moment, in steps, of which a unit has 1,048,576.
+    pub virtual_time: u128,
+    /// How many requests wait.
+    pub waiting: u32,
+    /// How many requests run.
+    pub running: u32,
+}

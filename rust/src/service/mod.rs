@@ -1,0 +1,28 @@
+//! What a pool and permits have in common: one state over the schedulers, and what is told and written of it.
+pub(crate) mod admission;
+mod bounds;
+pub(crate) mod builder;
+pub(crate) mod cause;
+pub(crate) mod clock;
+pub(crate) mod count;
+pub(crate) mod histogram;
+pub(crate) mod ids;
+pub(crate) mod journal;
+mod limits;
+mod names;
+mod opening;
+pub(crate) mod panics;
+pub(crate) mod patience;
+pub(crate) mod place;
+mod prometheus;
+pub(crate) mod requests;
+pub(crate) mod rolling;
+mod room;
+pub(crate) mod settings;
+pub(crate) mod shared;
+mod slots;
+pub(crate) mod state;
+pub(crate) mod status;
+pub(crate) mod timer;
+pub(crate) mod trace;
+pub(crate) mod withdraw;
