@@ -1,7 +1,7 @@
 /* A request scheduler that shares workers fairly among tenants (Two-Dimensional Fair Queuing, Mace and others, 2016).
 
-   Every function is proved to keep its promise, told at each, for all numbers that it may be given. What no proof can see
-   is the caller's to keep:
+   Every function is proved to keep its promise, told at each, for all numbers that it may be given; version and messages
+   alone are not. What no proof can see is the caller's to keep:
    - a handle begins as TWODFQ_NONE, nobody else writes its fields, and of a handle that is copied one is used alone;
    - pointers are valid: to a handle, an opening, and as many weights as are said (with none, to anything but null);
    - one call at a time is made on a handle: where threads share it, each call is made under one lock, the caller's own. A
@@ -21,6 +21,14 @@
 #ifdef __cplusplus
 extern "C" {
 #endif
+
+/* The version of this header. Below 1.0 another minor version may change any name, number or struct. */
+#define TWODFQ_VERSION_MAJOR 0
+#define TWODFQ_VERSION_MINOR 13
+#define TWODFQ_VERSION "0.13"
+
+/* The version of the library that the program runs with, written as TWODFQ_VERSION is. */
+const char *twodfq_version(void);
 
 /* A scheduler, or none. */
 typedef struct {
@@ -184,6 +192,12 @@ twodfq_standing twodfq_status(twodfq *handle);
 
 /* Gives the scheduler's memory back. The handle holds none from here on; once more does nothing. */
 void twodfq_free(twodfq *handle);
+
+/* An English text for a status of an opening, or for a kind of a reply. It is never null: a number without a name has a
+   text, too. Texts are for people, and another version may word them otherwise. There are two functions since statuses and
+   kinds share numbers: 16 is TWODFQ_OPEN_WORKERS among the first, and TWODFQ_REFUSED_CLOSED among the second. */
+const char *twodfq_open_message(uint32_t status);
+const char *twodfq_reply_message(uint32_t kind);
 
 #ifdef __cplusplus
 }

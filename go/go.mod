@@ -1,3 +1,3 @@
-module twodfq
+module twodfq.example/go
 
 go 1.19

@@ -1,91 +1,136 @@
 package twodfq
 
-import (
-	"errors"
-	"time"
-)
+import "time"
 
-// For which part of an estimate a worker waits at most where Config says nothing.
+// The default of Options.Patience.
 const defaultPatience = 0.02
 
-// How much longer a sleep with an end may be than it should. On Linux the runtime sleeps in whole milliseconds where
-// nothing else runs: of waits from 0.02 to 5.5 milliseconds nine in ten ended at most 1.08 milliseconds late. A worker
-// that would wait for less takes at once, and one that waits ends its sleep so much earlier, so that it isn't late.
+// How late a timer may be. On Linux the runtime sleeps in whole milliseconds where nothing else runs: of waits from
+// 0.02 to 5.5 milliseconds nine in ten ended at most 1.08 milliseconds late. A wait ends this much early, so that it is
+// not late, and shorter waits are left out.
 const oversleep = 1100 * time.Microsecond
 
-// PatienceFault is why there is no pool: Config.Patience is above 1, or not a number.
-var PatienceFault = errors.New("no pool has this patience: it is above 1, or not a number")
+// The budget that a pool saves up is that of this time of each worker.
+const savedTime = time.Second
 
-// The part of an estimate that the field of Config stands for; 0 where no worker waits.
-func patiencePart(field float64) (float64, error) {
-	switch {
-	case field == 0:
-		return defaultPatience, nil
-	case field < 0:
-		return 0, nil
-	case field <= 1:
-		return field, nil
-	default:
-		return 0, PatienceFault
+// Patience. Where no waiting request is eligible for a free worker, the worker waits a little before it takes one
+// before its time, so that a cheap request that comes meanwhile finds it free. A wait ends at the latest once a part of
+// the estimate has passed since the worker became free. All waits together have a budget: this part of the costs of
+// requests, and of one second of each worker.
+type patience struct {
+	part    float64                    // of an estimate, and of all costs
+	spare   time.Duration              // the budget of further waits
+	most    time.Duration              // the limit of the budget
+	waiting workerSet                  // the workers that wait
+	settled time.Duration              // the moment up to which waits are counted
+	timer   *time.Timer                // of the end of the wait
+	since   [workerLimit]time.Duration // by worker, when it became free
+	early   uint64                     // the requests taken before their time
+	waits   uint64                     // the number of waits
+	waited  time.Duration              // the time of all waits
+}
+
+func newPatience(part float64, workers int) patience {
+	if part < 0 {
+		part = 0
+	}
+	most := savedFor(part, workers)
+	return patience{part: part, spare: most, most: most}
+}
+
+func savedFor(part float64, workers int) time.Duration {
+	return scaled(part, savedTime*time.Duration(workers))
+}
+
+func scaled(part float64, whole time.Duration) time.Duration {
+	return time.Duration(part * float64(whole))
+}
+
+// A request has ended at this cost.
+func (p *patience) earn(cost time.Duration) {
+	if p.spare += scaled(p.part, cost); p.spare > p.most {
+		p.spare = p.most
 	}
 }
 
-// For how long a worker sleeps at most before it takes a request of this estimate before its time.
-func (p *Pool) longestSleep(estimate uint64) time.Duration {
-	return time.Duration(p.part*float64(estimate)*float64(time.Microsecond)) - oversleep
-}
-
-// For how long the worker, which became free at the moment since, still sleeps before it takes what waits: not at all
-// where that isn't above 0. No worker waits where one tenant alone has jobs, while an older scheduler is in use, nor
-// once the pool is closed.
-func (p *Pool) stillSleeps(worker uint32, since, now time.Duration) time.Duration {
-	if p.longestSleep(p.greatest) <= 0 || p.tenants < 2 || len(p.histories) > 1 || p.closed {
-		return 0 // and the question, which takes a tenth of what a job costs, isn't asked
-	}
-	due, err := p.newest().scheduler.Due(moment(now), worker)
-	if err != nil || due.Kind != DueEarly {
-		return 0
-	}
-	return since + p.longestSleep(due.Estimate) - now
-}
-
-// Waits for news, and for so long at most, without the lock. The wake-up that made this worker ask may be of use to
-// another one, for which the request is eligible, so it is passed on to one that sleeps because nothing waits.
-func (p *Pool) awaitNews(longest time.Duration) {
-	news := p.news
-	p.patient = true
-	p.sleepers.Signal()
-	p.lock.Unlock()
-	defer p.lock.Lock()
-	timer := time.NewTimer(longest)
-	defer timer.Stop()
-	select {
-	case <-news:
-	case <-timer.C:
+// The number of workers has changed.
+func (p *patience) setWorkers(workers int) {
+	if p.most = savedFor(p.part, workers); p.spare > p.most {
+		p.spare = p.most
 	}
 }
 
-// Has all workers that wait for news ask again.
-func (p *Pool) tell() {
-	if p.patient {
-		close(p.news)
-		p.news, p.patient = make(chan struct{}), false
+// Counts the waits up to this moment.
+func (p *patience) settle(now time.Duration) {
+	if now <= p.settled {
+		return
+	}
+	passed := time.Duration(p.waiting.len()) * (now - p.settled)
+	p.waited += passed
+	p.spare -= passed
+	p.settled = now
+}
+
+// How long these free workers may still wait, where a request of this estimate would be taken before its time. There is
+// no wait where the result is not above 0. The time since the first of them became free counts.
+func (p *patience) allows(free workerSet, requests int, estimate uint64, now time.Duration) time.Duration {
+	allowed := p.since[p.first(free)] + scaled(p.part, time.Duration(estimate)*time.Microsecond) - now
+	if each := p.spare / time.Duration(waiters(free, requests).len()); allowed > each {
+		allowed = each
+	}
+	return allowed - oversleep
+}
+
+// The worker that became free first.
+func (p *patience) first(free workerSet) uint32 {
+	first := free.lowest()
+	for ; free != 0; free &= free - 1 {
+		if worker := free.lowest(); p.since[worker] < p.since[first] {
+			first = worker
+		}
+	}
+	return first
+}
+
+// The free workers that lose time by waiting: no more than there are waiting requests, the highest.
+func waiters(free workerSet, requests int) workerSet {
+	for free.len() > requests {
+		free &= free - 1
+	}
+	return free
+}
+
+// The workers wait, at most this long.
+func (p *patience) begin(free workerSet, requests int, longest time.Duration, ends func()) {
+	waiting := waiters(free, requests)
+	p.waits += uint64((waiting &^ p.waiting).len())
+	p.waiting = waiting
+	if p.timer == nil {
+		p.timer = time.AfterFunc(longest, ends)
+	} else {
+		p.timer.Reset(longest)
 	}
 }
 
-// The tenant has one more job that waits or runs.
-func (p *Pool) begins(tenant uint32) {
-	if p.unfinished[tenant]++; p.unfinished[tenant] == 1 {
-		p.tenants++
+// No worker waits.
+func (p *patience) rest() {
+	if p.waiting != 0 {
+		p.waiting = 0
+		p.timer.Stop()
 	}
 }
 
-// A job of the tenant's has ended, at this cost.
-func (p *Pool) ends(tenant uint32, cost uint64) {
-	if p.unfinished[tenant]--; p.unfinished[tenant] == 0 {
-		p.tenants--
-	}
-	if cost > p.greatest {
-		p.greatest = cost
-	}
+// The highest worker takes a request before its time, as the wait of the worker that became free first is over. The two
+// exchange their waits, so that no wait counts twice.
+func (p *patience) takesEarly(free workerSet) {
+	first, high := p.first(free), free.highest()
+	p.since[first], p.since[high] = p.since[high], p.since[first]
+	p.early++
+}
+
+// The timer of a wait has fired.
+func (p *Pool) patienceEnds() {
+	p.lock.Lock()
+	defer p.unlock()
+	p.dispatch(p.now())
 }

@@ -1,8 +1,8 @@
 package twodfq
 
 import (
+	"context"
 	"errors"
-	"fmt"
 	"math"
 	"sync"
 	"sync/atomic"
@@ -10,79 +10,44 @@ import (
 	"time"
 )
 
-// What each request is thought to cost here, in microseconds, and as a time.
-const (
-	estimate = greatestCost
-	thought  = estimate * time.Microsecond
-)
-
-// Runs the test with no patience, with the default's, and with the greatest.
-func withPatience(t *testing.T, test func(t *testing.T, patience float64)) {
-	for _, patience := range []float64{-1, 0, 1} {
-		t.Run(fmt.Sprint("patience ", patience), func(t *testing.T) { test(t, patience) })
-	}
-}
+// What each request is thought to cost here.
+const thought = greatestCost
 
 // Eight tenants, so many workers, and each request thought to cost so much, whatever it costs.
-func patientConfig(workers uint32, patience float64) Config {
-	config := Default(1, 1, 1, 1, 1, 1, 1, 1)
-	config.Workers, config.Patience, config.Estimate, config.Initial = workers, patience, Declared, estimate
-	return config
+func patientOptions(workers int, patience float64) Options {
+	return Options{Workers: workers, Tenants: tenantsOf(1, 1, 1, 1, 1, 1, 1, 1), Patience: patience, Estimate: Declared,
+		Initial: thought}
 }
 
-// What is long done where no wake-up is lost.
-func soon(t *testing.T, what string, happens <-chan struct{}) {
+// A pool in which the bound of all waits together is far.
+func openPatient(t *testing.T, options Options) *Pool {
 	t.Helper()
-	select {
-	case <-happens:
-	case <-time.After(60 * time.Second):
-		t.Fatalf("%s: not within a minute", what)
-	}
+	pool := open(t, options)
+	pool.patience.spare, pool.patience.most = 24*time.Hour, 24*time.Hour
+	return pool
 }
 
-func submit(t *testing.T, pool *Pool, tenant uint32, job func()) {
-	t.Helper()
-	if err := pool.Submit(tenant, job); err != nil {
-		t.Error(err)
-	}
-}
-
-// A job of the tenant that runs until its end is let come. It runs on the return.
-func hold(t *testing.T, pool *Pool, tenant uint32) (end func()) {
-	t.Helper()
-	begun, over := make(chan struct{}), make(chan struct{})
-	submit(t, pool, tenant, func() { close(begun); <-over })
-	soon(t, "a worker takes what is eligible", begun)
-	return func() { close(over) }
-}
-
-// A pool in which tenants 0 and 1 run a request each, and in which another of tenant 0, which closes ran, waits for its
-// time: for minutes it is eligible for none of the other workers.
+// A pool in which worker 0 runs a request of tenant 0, and worker 1 one of tenant 1, and in which another of tenant 0,
+// which closes ran, waits for its time. By these weights virtual time goes at 2 units a microsecond. The request starts
+// at one length, so worker 2 of 4 may take it after a quarter of the time that it is thought to take, and worker 3
+// after an eighth: after minutes.
 type patientPool struct {
 	*Pool
-	ends [2]func()
-	ran  chan struct{}
+	permits [2]*Permit
+	ran     chan struct{}
 }
 
-func openPatient(t *testing.T, workers uint32, patience float64) *patientPool {
+func openWaiting(t *testing.T, options Options) *patientPool {
 	t.Helper()
-	pool, err := NewPool(patientConfig(workers, patience))
-	if err != nil {
-		t.Fatal(err)
-	}
-	p := &patientPool{Pool: pool, ran: make(chan struct{})}
-	p.ends[1], p.ends[0] = hold(t, pool, 1), hold(t, pool, 0)
-	submit(t, pool, 0, func() { close(p.ran) })
-	return p
+	return waitingIn(t, openPatient(t, options))
 }
 
-func (p *patientPool) hasRun() bool {
-	select {
-	case <-p.ran:
-		return true
-	default:
-		return false
-	}
+func waitingIn(t *testing.T, pool *Pool) *patientPool {
+	t.Helper()
+	p := &patientPool{Pool: pool, ran: make(chan struct{})}
+	p.permits = [2]*Permit{acquire(t, p.Pool, "0"), acquire(t, p.Pool, "1")}
+	hand(t, p.Pool, "0", func() { close(p.ran) })
+	return p
 }
 
 // Closes the pool while two requests run on: what waits is run all the same.
@@ -91,191 +56,155 @@ func (p *patientPool) end(t *testing.T) {
 	closed := make(chan struct{})
 	go func() { p.Close(); close(closed) }()
 	soon(t, "who waits for its time is run where the pool is closed", p.ran)
-	p.ends[0]()
-	p.ends[1]()
+	p.permits[0].Release()
+	p.permits[1].Release()
 	soon(t, "the pool ends", closed)
 }
 
 func TestPatienceOutOfRange(t *testing.T) {
 	for _, patience := range []float64{math.Nextafter(1, 2), math.Inf(1), math.NaN()} {
-		config := Default(1)
-		config.Patience = patience
-		if pool, err := NewPool(config); pool != nil || !errors.Is(err, PatienceFault) {
+		if pool, err := NewPool(Options{Tenants: tenantsOf(1), Patience: patience}); pool != nil || !errors.Is(err, ErrOptions) {
 			t.Errorf("patience %v: error %v", patience, err)
 		}
 	}
-	for field, part := range map[float64]float64{0: 0.02, 1: 1, 0.5: 0.5, -0.5: 0, math.Inf(-1): 0} {
-		if given, err := patiencePart(field); given != part || err != nil {
-			t.Errorf("patience %v stands for %v, error %v", field, given, err)
+	for given, part := range map[float64]float64{0: 0.02, 1: 1, 0.5: 0.5, -0.5: 0, math.Inf(-1): 0} {
+		pool := open(t, Options{Tenants: tenantsOf(1), Patience: given})
+		if pool.patience.part != part {
+			t.Errorf("patience %v stands for %v", given, pool.patience.part)
 		}
+		pool.Close()
 	}
 }
 
-// A pool whose workers are the test's own. Worker 0 runs a request of tenant 0, and worker 1 one of tenant 1. By these
-// weights virtual time goes at 2 units a microsecond. The next request of tenant 0 starts at one length, so worker 2 of
-// 4 may take it after a quarter of the time that it is thought to take, and worker 3 after an eighth.
-func openBare(t *testing.T, config Config) (pool *Pool, runs [2]*run) {
-	t.Helper()
-	pool, err := newPool(config)
-	if err != nil {
-		t.Fatal(err)
-	}
-	for tenant := range runs {
-		submit(t, pool, uint32(tenant), func() {})
-		runs[tenant] = pool.follow(uint32(tenant), nil)
-	}
-	return pool, runs
+// What the free workers do at a moment where they have been free since these: for how long they wait at most, or who
+// takes.
+func (p *patientPool) chosen(since2, since3, now time.Duration) (worker uint32, longest time.Duration) {
+	p.lock.Lock()
+	defer p.lock.Unlock()
+	p.patience.since[2], p.patience.since[3] = since2, since3
+	return p.choose(p.rolling.newest(), now)
 }
 
-func TestHowLongAWorkerSleeps(t *testing.T) {
-	pool, _ := openBare(t, patientConfig(4, 0.1))
-	submit(t, pool, 0, func() {})
-	sleeps := func(since, now, wanted time.Duration) {
+func TestHowLongAFreeWorkerWaits(t *testing.T) {
+	p := openWaiting(t, patientOptions(4, 0.1))
+	waits := func(since2, since3, now, wanted time.Duration) {
 		t.Helper()
-		if still := pool.stillSleeps(2, since, now); still != wanted {
-			t.Errorf("free since %v, at %v: %v in place of %v", since, now, still, wanted)
+		if worker, longest := p.chosen(since2, since3, now); worker != 3 || longest != wanted {
+			t.Errorf("free since %v and %v, at %v: worker %d, %v in place of %v", since2, since3, now, worker, longest, wanted)
 		}
 	}
-	sleeps(5*time.Second, 5*time.Second, thought/10-oversleep)
-	sleeps(5*time.Second, 12*time.Second, thought/10-oversleep-7*time.Second)
-	sleeps(0, thought/10, -oversleep)
-	sleeps(thought/2, thought/2, 0) // it is eligible
-	pool.part = 0.000_001           // a millisecond, which is too short for a sleep
-	sleeps(5*time.Second, 5*time.Second, 0)
-	pool.part = 0
-	sleeps(5*time.Second, 5*time.Second, 0)
-	pool.part = 1
-	sleeps(0, 0, thought-oversleep)
-	pool.closed = true
-	sleeps(0, 0, 0)
-	pool.Close()
-}
-
-// No worker waits where one tenant alone has requests, nor while an older scheduler is in use.
-func TestWhereNoWorkerSleeps(t *testing.T) {
-	pool, runs := openBare(t, patientConfig(4, 1))
-	submit(t, pool, 0, func() {})
-	sleeps := func(wanted bool) {
-		t.Helper()
-		if still := pool.stillSleeps(2, 0, 0); still > 0 != wanted {
-			t.Errorf("still %v", still)
-		}
+	const s = time.Second
+	waits(5*s, 5*s, 5*s, thought/10-oversleep)
+	waits(5*s, 5*s, 12*s, thought/10-oversleep-7*s)
+	waits(9*s, 5*s, 12*s, thought/10-oversleep-7*s) // it counts from when the first became free
+	waits(5*s, 9*s, 12*s, thought/10-oversleep-7*s)
+	waits(0, 0, thought/10, -oversleep)
+	waits(thought*3/16, thought*3/16, thought*3/16, 0) // it is eligible for worker 3
+	if worker, longest := p.chosen(thought/3, thought/3, thought/3); worker != 2 || longest != 0 {
+		t.Errorf("worker %d, %v, where it is eligible for worker 2", worker, longest)
 	}
-	sleeps(true)
-	pool.done(1, runs[1], 0)
-	sleeps(false)
-	submit(t, pool, 1, func() {})
-	pool.take(1, 0)
-	sleeps(true)
-	taken := pool.take(2, 0)
-	if err := pool.open(); err != nil {
-		t.Fatal(err)
+	p.patience.part = 0.000_001 // a millisecond, which is too short for a sleep
+	waits(5*s, 5*s, 5*s, time.Millisecond-oversleep)
+	p.patience.part = 0
+	waits(5*s, 5*s, 5*s, 0)
+	p.end(t)
+}
+
+// The wait that is over is that of who became free first. The highest takes, and the other one waits on for as long as
+// that might have.
+func TestAWaitIsSpentOnce(t *testing.T) {
+	p := openWaiting(t, patientOptions(4, 0.1))
+	const later = 30 * time.Second
+	if worker, longest := p.chosen(0, later, thought/10); worker != 3 || longest > 0 {
+		t.Errorf("worker %d, %v", worker, longest)
 	}
-	submit(t, pool, 0, func() {})
-	pool.take(3, 0)
-	submit(t, pool, 0, func() {}) // in the new one it is eligible for no other worker
-	sleeps(false)
-	pool.done(2, taken, 0)
-	sleeps(false)
-	pool.Close()
-}
-
-// What is thought of a request may be more than at first.
-func TestEstimatesMayGrow(t *testing.T) {
-	config := patientConfig(4, 1)
-	config.Initial, config.Estimate = 10, Pessimistic
-	pool, runs := openBare(t, config)
-	pool.done(0, runs[0], 100*time.Second)
-	submit(t, pool, 0, func() {})
-	pool.take(0, 100*time.Second)
-	submit(t, pool, 0, func() {})
-	if still := pool.stillSleeps(2, 100*time.Second, 100*time.Second); still < 90*time.Second {
-		t.Errorf("still %v", still)
-	}
-	pool.Close()
-}
-
-// The request isn't eligible for the worker that is woken, but for the other one that sleeps.
-func TestAWakeUpIsPassedOn(t *testing.T) {
-	pool, _ := openBare(t, patientConfig(4, 1))
-	pool.begun = pool.begun.Add(-thought * 3 / 16)
-	followSoon(pool, 2) // it sleeps first, and is woken first
-	taken := followSoon(pool, 3)
-	submit(t, pool, 0, func() {})
-	soon(t, "worker 3 takes it", taken)
-	pool.Close()
-}
-
-// Has the worker ask for work, and most times wait, before this returns. What it gives is closed when it has taken
-// something.
-func followSoon(pool *Pool, worker uint32) <-chan struct{} {
-	taken := make(chan struct{})
-	go func() {
-		if pool.follow(worker, nil) != nil {
-			close(taken)
-		}
-	}()
-	time.Sleep(50 * time.Millisecond)
-	return taken
-}
-
-// A request that is taken before its time lifts virtual time, and makes another one eligible for a worker that is
-// patient.
-func TestATakeIsNews(t *testing.T) {
-	pool, _ := openBare(t, patientConfig(4, 1))
-	submit(t, pool, 0, func() {})
-	submit(t, pool, 1, func() {})
-	taken := followSoon(pool, 3)
-	pool.lock.Lock()
-	pool.take(2, pool.now())
-	pool.lock.Unlock()
-	soon(t, "the other one is taken", taken)
-	pool.Close()
-}
-
-// What is done costs less than was thought, so that the next request of its tenant is eligible for worker 3, but not
-// for the one that has done it. By these weights virtual time goes at 4 elevenths of a unit a microsecond.
-func TestADoneIsNews(t *testing.T) {
-	config := patientConfig(4, 1)
-	config.Weights = []uint32{1, 10}
-	pool, runs := openBare(t, config)
-	submit(t, pool, 0, func() {})
-	taken := followSoon(pool, 3)
-	pool.lock.Lock()
-	pool.done(0, runs[0], thought/10)
-	if pool.stillSleeps(0, thought/10, thought/10) <= 0 {
-		t.Error("it is eligible for worker 0")
-	}
-	pool.lock.Unlock()
-	soon(t, "it is taken", taken)
-	pool.Close()
-}
-
-// Who comes while workers are patient is served before the request for which they are, one after another.
-func TestPatientWorkersTakeWhatComes(t *testing.T) {
-	p := openPatient(t, 4, 1)
-	for i := 0; i < 300; i++ {
-		hold(t, p.Pool, 2)()
-	}
-	if p.hasRun() {
-		t.Error("the request has been run before its time")
+	if since := p.patience.since; since[2] != later || since[3] != 0 || p.patience.early != 1 {
+		t.Errorf("%v and %v, %d were early", since[2], since[3], p.patience.early)
 	}
 	p.end(t)
 }
 
-// Requests come just before, while and just after workers begin to wait, from several sides, and each is served.
+// No worker waits where one tenant alone has requests, while an older scheduler's wait, nor once the pool is closed.
+func TestWhereNoWorkerWaits(t *testing.T) {
+	p := openWaiting(t, patientOptions(4, 1))
+	waits := func(wanted bool) {
+		t.Helper()
+		if _, longest := p.chosen(0, 0, 0); longest > 0 != wanted {
+			t.Errorf("%v", longest)
+		}
+	}
+	waits(true)
+	p.closed = true
+	waits(false)
+	p.closed = false
+	p.lock.Lock()
+	wants(t, p.rolling.open(0), nil)
+	older := p.rolling.histories[0]
+	if p.mayGain(older) || !p.mayGain(p.rolling.newest()) {
+		t.Error("patience goes by the newest scheduler")
+	}
+	p.lock.Unlock()
+	hand(t, p.Pool, "2", func() {}) // what happens has the older one served
+	soon(t, "the older scheduler's is run", p.ran)
+	p.end(t)
+}
+
+func TestOneTenantAloneIsServedAtOnce(t *testing.T) {
+	p := openWaiting(t, patientOptions(4, 1))
+	time.Sleep(10 * time.Millisecond)
+	if hasHappened(p.ran) {
+		t.Error("the request has been run before its time")
+	}
+	p.permits[1].Release()
+	soon(t, "nobody else is there", p.ran)
+	another := make(chan struct{})
+	hand(t, p.Pool, "0", func() { close(another) })
+	soon(t, "nobody else was there", another)
+	p.end(t)
+}
+
+// What is done costs less than was thought, so that the next request of its tenant is eligible. By these weights
+// virtual time goes at 4 elevenths of a unit a microsecond.
+func TestADoneIsNews(t *testing.T) {
+	options := patientOptions(4, 1)
+	options.Tenants = tenantsOf(1, 10)
+	p := openWaiting(t, options)
+	time.Sleep(5 * time.Millisecond)
+	if hasHappened(p.ran) {
+		t.Error("the request has been run before its time")
+	}
+	p.permits[0].ReleaseCost(time.Second)
+	soon(t, "its tenant's next request is eligible", p.ran)
+	p.end(t)
+}
+
+// Who comes while workers are patient is served before the request for which they are, one after another.
+func TestPatientWorkersTakeWhatComes(t *testing.T) {
+	p := openWaiting(t, patientOptions(4, 1))
+	for i := 0; i < 300; i++ {
+		acquire(t, p.Pool, "2").ReleaseCost(time.Microsecond)
+	}
+	if hasHappened(p.ran) {
+		t.Error("the request has been run before its time")
+	}
+	status := p.Status()
+	if status.Early != 0 || status.Waits != 1 || status.Waited <= 0 { // worker 3 waits on and on, and worker 2 serves
+		t.Errorf("%d early, %d waits of %v", status.Early, status.Waits, status.Waited)
+	}
+	p.end(t)
+}
+
+// Requests come from several sides while workers wait, and each is served.
 func TestNoWakeUpIsLost(t *testing.T) {
-	for _, workers := range []uint32{4, 8} {
-		p := openPatient(t, workers, 1)
+	for _, workers := range []int{4, 8} {
+		p := openWaiting(t, patientOptions(workers, 1))
 		var submitters sync.WaitGroup
-		for tenant := uint32(2); tenant < 6; tenant++ {
+		for _, tenant := range []string{"2", "3", "4", "5"} {
 			submitters.Add(1)
-			go func(tenant uint32) {
+			go func(tenant string) {
 				defer submitters.Done()
 				for i := 0; i < 500; i++ {
-					served := make(chan struct{})
-					submit(t, p.Pool, tenant, func() { close(served) })
-					<-served
+					acquire(t, p.Pool, tenant).ReleaseCost(time.Microsecond)
 					for began := time.Now(); time.Since(began) < time.Duration(i%50)*time.Microsecond; {
 					}
 				}
@@ -284,56 +213,93 @@ func TestNoWakeUpIsLost(t *testing.T) {
 		served := make(chan struct{})
 		go func() { submitters.Wait(); close(served) }()
 		soon(t, "all who came are served", served)
-		if p.hasRun() {
+		if hasHappened(p.ran) {
 			t.Error("the request has been run before its time")
 		}
 		p.end(t)
 	}
 }
 
-// The request is run when the part of its estimate has passed, and not before.
+// The request is run when the part of its estimate has passed, and not before, and one wait is counted, of one worker:
+// there is but one request for which they wait.
 func TestPatienceEnds(t *testing.T) {
 	const part = 0.000_3
 	before := time.Now()
-	p := openPatient(t, 4, part)
+	p := openWaiting(t, patientOptions(4, part))
 	soon(t, "patience ends", p.ran)
-	least := thought*3/10_000 - oversleep
-	if waited := time.Since(before); waited < least {
+	waited, least := time.Since(before), thought*3/10_000-oversleep
+	if waited < least {
 		t.Errorf("it was waited %v in place of %v", waited, least)
+	}
+	status := p.Status()
+	if status.Early != 1 || status.Waits != 1 || status.Waited < least-50*time.Millisecond || status.Waited > waited {
+		t.Errorf("%d early, %d waits of %v", status.Early, status.Waits, status.Waited)
 	}
 	p.end(t)
 }
 
-// Where one tenant alone has requests no worker waits, and none waits on where all others' have ended.
-func TestOneTenantAloneIsServedAtOnce(t *testing.T) {
-	p := openPatient(t, 4, 1)
-	time.Sleep(10 * time.Millisecond)
-	if p.hasRun() {
-		t.Error("the request has been run before its time")
+// All waits together have their bound, however much is thought of what waits: a part of a second of each worker, and of
+// what requests cost.
+func TestAllWaitsHaveTheirBound(t *testing.T) {
+	const part, bound = 0.05, 200 * time.Millisecond
+	before := time.Now()
+	p := waitingIn(t, open(t, patientOptions(4, part)))
+	soon(t, "what is saved up has been spent", p.ran)
+	if waited := p.Status().Waited; waited < bound-oversleep || waited > time.Since(before) {
+		t.Errorf("%v were waited in %v", waited, time.Since(before))
 	}
-	p.ends[1]()
-	soon(t, "nobody else is there", p.ran)
-	another := make(chan struct{})
-	submit(t, p.Pool, 0, func() { close(another) })
-	soon(t, "nobody else was there", another)
-	p.ends[1] = func() {}
 	p.end(t)
+	saved := newPatience(part, 4)
+	if saved.spare != bound || saved.most != bound {
+		t.Errorf("%v of %v are saved up", saved.spare, saved.most)
+	}
+	saved.spare = 0
+	if saved.earn(2 * time.Second); saved.spare != bound/2 {
+		t.Errorf("%v are saved up", saved.spare)
+	}
+	if saved.earn(time.Hour); saved.spare != bound {
+		t.Errorf("%v are saved up, which is too much", saved.spare)
+	}
+	if saved.setWorkers(1); saved.spare != bound/4 {
+		t.Errorf("%v are saved up for one worker", saved.spare)
+	}
+}
+
+// Where as many requests wait as workers are free each of these waits.
+func TestWaitersAreWhoLoseTime(t *testing.T) {
+	for _, example := range []struct {
+		free     workerSet
+		requests int
+		wanted   workerSet
+	}{{0b1100, 1, 0b1000}, {0b1100, 2, 0b1100}, {0b1100, 7, 0b1100}, {0b101011, 3, 0b101010}} {
+		if waiting := waiters(example.free, example.requests); waiting != example.wanted {
+			t.Errorf("%b of %b in place of %b", waiting, example.free, example.wanted)
+		}
+	}
+	p := newPatience(1, 4)
+	allows := func(requests int) time.Duration { return p.allows(0b1100, requests, 1_000_000_000, 0) }
+	if one, two := allows(1), allows(2); one != 4*time.Second-oversleep || two != 2*time.Second-oversleep {
+		t.Errorf("%v and %v", one, two)
+	}
+	p.waiting = 0b1100
+	p.settle(time.Second)
+	if p.waited != 2*time.Second || p.spare != 2*time.Second {
+		t.Errorf("%v were waited, and %v are left", p.waited, p.spare)
+	}
 }
 
 // Each job is run once where patience comes and goes, also where schedulers follow one another.
 func TestEachJobRunsOnceWithPatience(t *testing.T) {
 	const jobs = 4000
 	for _, entries := range []uint32{0, 64, 1000} {
-		config := patientConfig(4, 1)
-		config.Initial, config.Entries, config.Requests = 5000, entries, jobs
-		pool, err := NewPool(config)
-		if err != nil {
-			t.Fatal(err)
-		}
+		options := patientOptions(4, 1)
+		options.Initial, options.Entries, options.Room, options.RoomPerTenant = 5*time.Millisecond, entries, jobs, jobs
+		pool := open(t, options)
 		runs := make([]int32, jobs)
 		for i := range runs {
 			i := i
-			submit(t, pool, uint32(i*i%8), func() { atomic.AddInt32(&runs[i], 1) })
+			tenant := string(rune('0' + i*i%8))
+			wants(t, pool.Go(background, tenant, "", func(context.Context) { atomic.AddInt32(&runs[i], 1) }), nil)
 			if i%200 == 0 {
 				time.Sleep(time.Millisecond) // so that workers run out of work, too
 			}

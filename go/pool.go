@@ -1,286 +1,236 @@
 package twodfq
 
 import (
-	"errors"
-	"log"
-	"runtime/debug"
+	"context"
 	"sync"
 	"time"
 )
 
-// The greatest cost that a call takes, in microseconds.
-const greatestCost = 1_000_000_000
-
-// RefusedNoJob is what Submit gives where the job is nil.
-var RefusedNoJob = errors.New("refused: the job is nil")
-
-// Pool runs functions of many tenants on a fixed number of goroutines, each in its tenant's turn. A function is charged
-// the time that passes from the moment at which its worker takes it until it ends, and at least one microsecond. One that
-// panics ends alone: package log writes what it said, and its stack. One that calls runtime.Goexit ends like any other.
+// Pool shares a number of workers fairly among tenants. A Scheduler decides whose request runs next. A worker is not a
+// goroutine but a slot to run in: Acquire returns a Permit, which occupies a worker until it is released; Submit, Do
+// and Go run jobs that hold such a permit.
 //
-// Where the turn of no waiting job has come a free worker takes one before its time, and what another tenant submits
-// next may have to wait until that ends. So it waits first, for the part Config.Patience of the job's estimate at most,
-// from the moment at which it became free, and takes at once a job whose turn it is. A worker that nothing comes to
-// meanwhile keeps at least 1/(1 + Patience) of its time, where jobs cost what they are thought to. Each job that it
-// takes meanwhile begins a new wait. So where short jobs keep coming a worker may stay with them, and lose more, until
-// the turn of the long one has come. It doesn't wait where one tenant alone has jobs that wait or run, where the wait
-// would be about a millisecond or less, as long as a sleep may be late, while two schedulers are in use, nor once the
-// pool is closed.
+// A request is charged the time for which it runs, or the cost given to ReleaseCost. Each tenant gets a share of the
+// workers in proportion to its weight, and a part of the room for waiting requests (Options.RoomPerTenant). Where a
+// free worker has no eligible request, the pool waits a little for a cheap one before it dispatches a costly one before
+// its time (Options.Patience).
 //
-// The pool has no end: where the room of its scheduler ends it opens the next, and workers take from the old one until
-// nothing waits there.
+// A pool has no end: once the history of its scheduler is full (Options.Entries) it opens the next one, and workers
+// take from the old one until nothing waits there. All methods may be called from any goroutine.
 type Pool struct {
-	config  Config
+	options Options
+	kinds   map[string]uint32
 	begun   time.Time
-	part    float64 // of an estimate, for which a worker waits at most
-	workers sync.WaitGroup
 
-	lock       sync.Mutex    // it guards what follows
-	sleepers   *sync.Cond    // something waits, or nothing more comes
-	news       chan struct{} // it is closed where something has changed, and another follows
-	patient    bool          // whether a worker may wait for news
-	histories  []*history    // the oldest first; the last takes what comes
-	jobs       map[uint64]job
-	next       uint64 // the label of the next job
-	waiting    uint32
-	unfinished []uint32 // by tenant, how many jobs wait or run
-	tenants    int      // how many tenants have such jobs
-	greatest   uint64   // no estimate is above it
+	lock       sync.Mutex // of the fields below
+	rolling    *rolling
+	tenants    *tenants
+	room       room
+	patience   patience
+	deadlines  deadlines
+	requests   map[uint64]*request  // the waiting requests in the schedulers, by label
+	next       uint64               // the label of the next request
+	free       workerSet            // the workers that run nothing
+	permits    [workerLimit]*Permit // the held permits by worker
+	running    int
+	refresh    time.Duration // the next moment at which a permit is due to report
+	unfinished int           // the number of accepted requests and jobs that have not ended
+	tracing    int           // the number of goroutines that call functions of Trace
 	closed     bool
+	drained    chan struct{} // closed at the end of the pool
+	starts     []start       // the dispatched jobs, to start without the lock
+	events     []func()      // the events to trace without the lock
 }
 
-// A scheduler, and what of it is in use.
-type history struct {
-	scheduler        *Scheduler
-	waiting, running uint32
-}
-
-// A function that waits, and whose it is.
-type job struct {
-	tenant uint32
-	call   func()
-}
-
-// A job that a worker has been given.
-type run struct {
-	job
-	history *history
-	begun   time.Duration // since the pool's begin
-}
-
-// NewPool opens a pool of config.Workers goroutines. It has one kind of request and keeps one entry, whatever config says
-// of both, so where Entries is 0 there is room for 4,000,000,000. The weights are copied.
-func NewPool(config Config) (*Pool, error) {
-	pool, err := newPool(config)
+// NewPool opens a pool. Its error wraps ErrOptions, or is an OpenFault.
+func NewPool(options Options) (*Pool, error) {
+	options, err := options.complete()
 	if err != nil {
 		return nil, err
 	}
-	for worker := uint32(0); worker < config.Workers; worker++ {
-		pool.workers.Add(1)
-		go pool.work(worker, nil)
+	p := &Pool{options: options, begun: time.Now(), kinds: make(map[string]uint32), tenants: newTenants(&options),
+		room: newRoom(options.Room, options.MostTenants, options.RoomPerTenant), requests: make(map[uint64]*request),
+		patience: newPatience(options.Patience, options.Workers), free: workersBelow(options.MostWorkers),
+		drained: make(chan struct{})}
+	for number, kind := range options.Kinds {
+		p.kinds[kind.Name] = uint32(number)
 	}
-	return pool, nil
-}
-
-// A pool whose workers have not begun.
-func newPool(config Config) (*Pool, error) {
-	part, err := patiencePart(config.Patience)
+	p.rolling, err = newRolling(&options, p.tenants.slotWeights())
 	if err != nil {
 		return nil, err
 	}
-	config.Kinds, config.Keep = 1, 1
-	config.Weights = append([]uint32(nil), config.Weights...)
-	pool := &Pool{config: config, begun: time.Now(), part: part, jobs: make(map[uint64]job), news: make(chan struct{}),
-		unfinished: make([]uint32, len(config.Weights)), greatest: config.Initial}
-	pool.sleepers = sync.NewCond(&pool.lock)
-	return pool, pool.open()
+	return p, nil
 }
 
-// Submit has call run in the tenant's turn. It is refused with RefusedNoJob, RefusedClosed, RefusedTenant, or RefusedSlots
-// where as many wait as may; RefusedFull comes only where there is no memory for the next scheduler.
-func (p *Pool) Submit(tenant uint32, call func()) error {
-	if call == nil {
-		return RefusedNoJob
+// Gives the lock back, starts the dispatched jobs, and traces the events. Ends a closed pool once all is done.
+func (p *Pool) unlock() {
+	events, starts := p.events, p.starts
+	p.events, p.starts = nil, nil
+	if len(events) > 0 {
+		p.tracing++
+	}
+	p.endIfDone()
+	p.lock.Unlock()
+	for _, start := range starts {
+		go start.follow()
+	}
+	if len(events) > 0 {
+		p.trace(events)
+	}
+}
+
+// Calls the functions of Trace. The pool does not end before they have returned.
+func (p *Pool) trace(events []func()) {
+	defer func() {
+		p.lock.Lock()
+		defer p.lock.Unlock()
+		p.tracing--
+		p.endIfDone()
+	}()
+	for _, tell := range events {
+		tell()
+	}
+}
+
+// Ends the pool if it is closed and nothing is left to do.
+func (p *Pool) endIfDone() {
+	if p.closed && p.unfinished == 0 && p.tracing == 0 && p.rolling.histories != nil {
+		p.patience.rest()
+		p.rolling.end()
+		close(p.drained)
+	}
+}
+
+// The time since the opening of the pool.
+func (p *Pool) now() time.Duration { return time.Since(p.begun) }
+
+// Tenant returns the number of a tenant, for AcquireID and SubmitID, which look up no name. A new tenant takes a slot
+// (Options.MostTenants), and keeps it while it has requests. The refusals are ErrName, ErrUnknownTenant, ErrNoSlot,
+// ErrNoMemory and ErrClosed.
+func (p *Pool) Tenant(name string) (TenantID, error) {
+	p.lock.Lock()
+	defer p.unlock()
+	if p.closed {
+		return TenantID{}, ErrClosed
+	}
+	s, err := p.slotOf(name, p.now())
+	if err != nil {
+		return TenantID{}, err
+	}
+	if s.idle != nil && !s.isOpen() {
+		p.tenants.idle.MoveToBack(s.idle)
+	}
+	return TenantID{s.number, s.generation}, nil
+}
+
+// Kind returns the number of a kind, or ErrUnknownKind.
+func (p *Pool) Kind(name string) (KindID, error) {
+	number, ok := p.kinds[name]
+	if !ok {
+		return KindID{}, ErrUnknownKind
+	}
+	return KindID{number + 1}, nil
+}
+
+// The slot of the tenant. A new tenant takes one.
+func (p *Pool) slotOf(name string, now time.Duration) (*slot, error) {
+	if s, ok := p.tenants.byName[name]; ok {
+		return s, nil
+	}
+	s, err := p.tenants.vacant(name)
+	if err != nil {
+		return nil, err
+	}
+	weight := p.tenants.weightOf(name)
+	if weight != s.weight {
+		if err := p.rolling.setWeight(now, s.number, weight); err != nil {
+			return nil, err
+		}
+	}
+	p.tenants.give(s, name, weight)
+	return s, nil
+}
+
+// Notes the end of the last request of the tenant.
+func (p *Pool) closesIfIdle(s *slot) {
+	if !s.isOpen() {
+		p.tenants.closes(s)
+	}
+}
+
+// SetWeight sets the weight of a tenant, 1 to 1,000. The name of a tenant without a slot keeps it for the time when it
+// comes. The refusals are ErrWeight, ErrName, ErrUnknownTenant, ErrClosed and ErrNoMemory. An older scheduler whose
+// history is full keeps its weights until it is drained.
+func (p *Pool) SetWeight(tenant string, weight int) error {
+	if weight < 1 || weight > 1000 {
+		return ErrWeight
 	}
 	p.lock.Lock()
-	defer p.lock.Unlock()
-	if p.closed {
-		return RefusedClosed
+	defer p.unlock()
+	s, ok := p.tenants.byName[tenant]
+	switch {
+	case p.closed:
+		return ErrClosed
+	case ok:
+		if err := p.reweigh(s, uint32(weight)); err != nil {
+			return err
+		}
+	case !isName(tenant):
+		return ErrName
+	case !p.tenants.isDynamic():
+		return ErrUnknownTenant
 	}
-	if p.waiting >= p.config.Requests {
-		return RefusedSlots
-	}
-	if err := p.admit(Request{Tenant: tenant, Declared: p.config.Initial, Label: p.next}); err != nil {
-		return err
-	}
-	p.jobs[p.next] = job{tenant, call}
-	p.next++
-	p.waiting++
-	p.begins(tenant)
-	p.sleepers.Signal()
-	p.tell()
+	p.tenants.keepWeight(tenant, uint32(weight))
 	return nil
 }
 
-// Close takes no more jobs, and waits until all that were taken are done. Once more it only waits. A job must not call it.
-func (p *Pool) Close() {
-	p.lock.Lock()
-	p.closed = true
-	p.sleepers.Broadcast()
-	p.tell()
-	p.lock.Unlock()
-	p.workers.Wait()
-	p.lock.Lock()
-	defer p.lock.Unlock()
-	for _, history := range p.histories {
-		history.scheduler.Free()
-	}
-	p.histories = nil
-}
-
-// The time since the pool's begin.
-func (p *Pool) now() time.Duration { return time.Since(p.begun) }
-
-// A moment as the scheduler has it.
-func moment(now time.Duration) uint64 { return uint64(now.Microseconds()) }
-
-// Opens the next scheduler, which takes what comes from here on.
-func (p *Pool) open() error {
-	scheduler, err := Open(p.config)
-	if err == nil {
-		p.histories = append(p.histories, &history{scheduler: scheduler})
-	}
-	return err
-}
-
-// Submits a request to the newest scheduler, or to the next where that has no room.
-func (p *Pool) admit(request Request) error {
-	err := p.newest().submit(moment(p.now()), request)
-	if err != RefusedFull || p.open() != nil {
+func (p *Pool) reweigh(s *slot, weight uint32) error {
+	now := p.now()
+	if err := p.rolling.setWeight(now, s.number, weight); err != nil {
 		return err
 	}
-	p.free()
-	return p.newest().submit(moment(p.now()), request)
+	s.weight = weight
+	p.dispatch(now)
+	return nil
 }
 
-func (p *Pool) newest() *history { return p.histories[len(p.histories)-1] }
-
-// Who the entries of submits name.
-const submitter = 64
-
-func (h *history) submit(moment uint64, request Request) error {
-	_, err := h.scheduler.Submit(submitter, moment, request)
-	if err == nil {
-		h.waiting++
+// SetWorkers sets the number of requests that may run at once, 1 to Options.MostWorkers. Requests that run go on. The
+// refusals are ErrWorkers, ErrClosed and ErrNoMemory.
+func (p *Pool) SetWorkers(count int) error {
+	if count < 1 || count > p.options.MostWorkers {
+		return ErrWorkers
 	}
-	return err
-}
-
-// Frees the older schedulers of which nothing is in use.
-func (p *Pool) free() {
-	newest := p.newest()
-	kept := p.histories[:0]
-	for _, history := range p.histories {
-		if history == newest || history.waiting+history.running > 0 {
-			kept = append(kept, history)
-		} else {
-			history.scheduler.Free()
-		}
-	}
-	p.histories = kept
-}
-
-// The life of a worker, from the end of the job given, if one is. A job that calls runtime.Goexit ends the goroutine, and
-// the worker goes on in another.
-func (p *Pool) work(worker uint32, last *run) {
-	over := false
-	defer func() {
-		if over {
-			p.workers.Done()
-		} else {
-			go p.work(worker, last)
-		}
-	}()
-	for last = p.follow(worker, last); last != nil; last = p.follow(worker, last) {
-		last.perform()
-	}
-	over = true
-}
-
-// Calls the function. A panic goes no further.
-func (j job) perform() {
-	defer func() {
-		if value := recover(); value != nil {
-			log.Printf("twodfq: a job of tenant %d panicked: %v\n%s", j.tenant, value, debug.Stack())
-		}
-	}()
-	j.call()
-}
-
-// Notes the job that the worker has ended, and gives it the next one. Where the worker doesn't wait that is taken where
-// the last has ended: what passes between two jobs is charged. None where nothing more comes.
-func (p *Pool) follow(worker uint32, ended *run) *run {
-	now := p.now()
 	p.lock.Lock()
-	defer p.lock.Unlock()
-	if ended != nil {
-		p.done(worker, ended, now)
+	defer p.unlock()
+	if p.closed {
+		return ErrClosed
 	}
-	for since := now; ; now = p.now() {
-		if p.waiting == 0 {
-			if p.closed {
-				return nil
-			}
-			p.sleepers.Wait()
-		} else if longest := p.stillSleeps(worker, since, now); longest > 0 {
-			p.awaitNews(longest)
-		} else {
-			return p.take(worker, now)
-		}
+	now := p.now()
+	if err := p.rolling.setWorkers(now, count); err != nil {
+		return err
 	}
+	p.patience.setWorkers(count)
+	p.dispatch(now)
+	return nil
 }
 
-// What the worker runs next, by the oldest scheduler that has something for it.
-func (p *Pool) take(worker uint32, now time.Duration) *run {
-	for _, history := range p.histories {
-		if history.waiting == 0 {
-			continue
-		}
-		taken, err := history.scheduler.Take(worker, moment(now), worker)
-		if err != nil || taken.Kind != Run {
-			panic("twodfq: a request waits, and an idle worker is given none")
-		}
-		history.waiting--
-		history.running++
-		p.waiting--
-		job := p.jobs[taken.Label]
-		delete(p.jobs, taken.Label)
-		p.tell()
-		return &run{job, history, now}
-	}
-	panic("twodfq: a request waits in no scheduler")
-}
+// Close refuses new requests from here on, and waits until all accepted ones have ended: jobs are run, and waiting
+// callers of Acquire get their permits. Then it frees the memory of the scheduler. A second call only waits. A job must
+// not call it.
+func (p *Pool) Close() { _ = p.Shutdown(context.Background()) }
 
-// The worker's job has ended.
-func (p *Pool) done(worker uint32, ended *run, now time.Duration) {
-	cost := cost(now - ended.begun)
-	if err := ended.history.scheduler.Done(worker, moment(now), worker, cost); err != nil {
-		panic("twodfq: a running request can't end: " + err.Error())
+// Shutdown is Close with an end: once the context ends it returns the context's error, and the accepted requests go on.
+func (p *Pool) Shutdown(ctx context.Context) error {
+	p.lock.Lock()
+	if !p.closed {
+		p.closed = true
+		p.dispatch(p.now())
 	}
-	ended.history.running--
-	p.ends(ended.tenant, cost)
-	p.tell()
-	p.free()
-}
-
-// Microseconds, of which a part counts as one: a tenant whose work costs nothing would keep all others waiting.
-func cost(took time.Duration) uint64 {
-	switch microseconds := (took + time.Microsecond - 1) / time.Microsecond; {
-	case microseconds < 1:
-		return 1
-	case microseconds > greatestCost:
-		return greatestCost
-	default:
-		return uint64(microseconds)
+	p.unlock()
+	select {
+	case <-p.drained:
+		return nil
+	case <-ctx.Done():
+		return ctx.Err()
 	}
 }

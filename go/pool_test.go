@@ -2,6 +2,7 @@ package twodfq
 
 import (
 	"bytes"
+	"context"
 	"errors"
 	"log"
 	"os"
@@ -18,59 +19,46 @@ func TestEachJobRunsOnce(t *testing.T) { withPatience(t, eachJobRunsOnce) }
 
 func eachJobRunsOnce(t *testing.T, patience float64) {
 	const submitters, each = 8, 2000
-	config := Default(1, 2, 3)
-	config.Entries, config.Requests = 1000, submitters*each
-	config.Patience = patience
-	pool, err := NewPool(config)
-	if err != nil {
-		t.Fatal(err)
-	}
-	runs := make([]int32, submitters*each)
-	var done sync.WaitGroup
-	for submitter := 0; submitter < submitters; submitter++ {
-		done.Add(1)
-		go func(first int) {
-			defer done.Done()
-			for i := first; i < first+each; i++ {
-				i := i
-				if err := pool.Submit(uint32(i%3), func() { atomic.AddInt32(&runs[i], 1) }); err != nil {
-					t.Error(err)
+	leavesNoGoroutine(t, func() {
+		pool := open(t, Options{Tenants: tenantsOf(1, 2, 3), Entries: 1000, Room: submitters * each,
+			RoomPerTenant: submitters * each, Patience: patience})
+		runs := make([]int32, submitters*each)
+		var done sync.WaitGroup
+		for submitter := 0; submitter < submitters; submitter++ {
+			done.Add(1)
+			go func(first int) {
+				defer done.Done()
+				for i := first; i < first+each; i++ {
+					i := i
+					hand(t, pool, string(rune('0'+i%3)), func() { atomic.AddInt32(&runs[i], 1) })
 				}
-			}
-		}(submitter * each)
-	}
-	done.Wait()
-	pool.Close()
-	for i, count := range runs {
-		if count != 1 {
-			t.Fatalf("job %d ran %d times", i, count)
+			}(submitter * each)
 		}
-	}
+		done.Wait()
+		pool.Close()
+		for i, count := range runs {
+			if count != 1 {
+				t.Fatalf("job %d ran %d times", i, count)
+			}
+		}
+		if schedulers := pool.Status().Schedulers; schedulers < 3*submitters*each/1000 {
+			t.Errorf("%d schedulers have followed one another", schedulers)
+		}
+	})
 }
 
 // A job beside a queue of another tenant's, whose jobs cost more, is served before that queue.
 func TestATenantIsServedInItsTurn(t *testing.T) { withPatience(t, aTenantIsServedInItsTurn) }
 
 func aTenantIsServedInItsTurn(t *testing.T, patience float64) {
-	config := Default(1, 1)
-	config.Workers = 1
-	config.Patience = patience
-	pool, err := NewPool(config)
-	if err != nil {
-		t.Fatal(err)
-	}
+	pool := open(t, Options{Workers: 1, Tenants: tenantsOf(1, 1), Patience: patience})
 	var order []string // by the one worker
 	begin := make(chan struct{})
-	submit := func(tenant uint32, job func()) {
-		if err := pool.Submit(tenant, job); err != nil {
-			t.Error(err)
-		}
-	}
-	submit(0, func() { <-begin })
+	hand(t, pool, "0", func() { <-begin })
 	for i := 0; i < 10; i++ {
-		submit(0, func() { time.Sleep(2 * time.Millisecond); order = append(order, "flood") })
+		hand(t, pool, "0", func() { time.Sleep(2 * time.Millisecond); order = append(order, "flood") })
 	}
-	submit(1, func() { order = append(order, "other") })
+	hand(t, pool, "1", func() { order = append(order, "other") })
 	close(begin)
 	pool.Close()
 	if len(order) != 11 || (order[0] != "other" && order[1] != "other") {
@@ -78,144 +66,121 @@ func aTenantIsServedInItsTurn(t *testing.T, patience float64) {
 	}
 }
 
-func TestRefusals(t *testing.T) { withPatience(t, refusals) }
+func TestRefusals(t *testing.T) { withPatience(t, refusalsOf) }
 
-func refusals(t *testing.T, patience float64) {
-	config := Default(1)
-	config.Workers, config.Requests = 1, 2
-	config.Patience = patience
-	pool, err := NewPool(config)
-	if err != nil {
-		t.Fatal(err)
+func refusalsOf(t *testing.T, patience float64) {
+	pool := open(t, Options{Workers: 1, Tenants: tenantsOf(1), Room: 2, Kinds: []Kind{{Name: "get"}}, Patience: patience})
+	var none context.Context = background
+	submit := func(tenant, kind string, options ...RequestOption) error {
+		return pool.Go(none, tenant, kind, func(context.Context) {}, options...)
 	}
-	begin, begun := make(chan struct{}), make(chan struct{})
-	refused := func(tenant uint32, cause error) {
-		if err := pool.Submit(tenant, func() {}); !errors.Is(err, cause) {
-			t.Errorf("%v in place of %v", err, cause)
-		}
+	wants(t, submit("1", "get"), ErrUnknownTenant)
+	wants(t, submit("0", "scan"), ErrUnknownKind)
+	wants(t, submit("0", "get", Declare(0)), ErrCost)
+	wants(t, submit("0", "get", Declare(1000*time.Second+1)), ErrCost)
+	wants(t, pool.Go(none, "0", "get", nil), ErrNoJob)
+	_, err := Submit[int](none, pool, "0", "get", nil)
+	wants(t, err, ErrNoJob)
+	_, err = Do[int](none, pool, "0", "get", nil)
+	wants(t, err, ErrNoJob)
+	var refusal *RefusalError
+	if err := submit("none", "get"); !errors.As(err, &refusal) || refusal.Tenant != "none" || refusal.Kind != "get" {
+		t.Errorf("%v", err)
 	}
-	refused(1, RefusedTenant)
-	refused(0, nil)
-	if err := pool.Submit(0, nil); !errors.Is(err, RefusedNoJob) {
-		t.Errorf("%v for no job", err)
-	}
-	if err := pool.Submit(0, func() { close(begun); <-begin }); err != nil {
-		t.Fatal(err)
-	}
-	<-begun
-	refused(0, nil)
-	refused(0, nil)
-	refused(0, RefusedSlots)
-	close(begin)
+	permit, err := pool.Acquire(none, "0", "get")
+	wants(t, err, nil)
+	wants(t, submit("0", "get"), nil)
+	wants(t, submit("0", "get"), nil)
+	wants(t, submit("0", "get"), ErrTooManyWait)
+	permit.Release()
 	pool.Close()
-	refused(0, RefusedClosed)
+	wants(t, submit("0", "get"), ErrClosed)
+	wants(t, pool.SetWeight("0", 1), ErrClosed)
+	wants(t, pool.SetWorkers(1), ErrClosed)
+	refused := statusOf(t, pool, "0").Refused
+	if refused["too_many_wait"] != 1 || pool.Status().Gone.Refused["unknown_tenant"] != 2 {
+		t.Errorf("refused are counted as %v, %v", refused, pool.Status().Gone.Refused)
+	}
 }
 
-// A job may end its goroutine, and may panic: its worker goes on, and all that waits is run.
+// A job may end its goroutine, and may panic: all that waits is run, and who asks is told.
 func TestJobsThatDoNotReturn(t *testing.T) { withPatience(t, jobsThatDoNotReturn) }
 
 func jobsThatDoNotReturn(t *testing.T, patience float64) {
 	var told bytes.Buffer
 	log.SetOutput(&told)
 	defer log.SetOutput(os.Stderr)
-	config := Default(1)
-	config.Workers = 2
-	config.Patience = patience
-	pool, err := NewPool(config)
-	if err != nil {
-		t.Fatal(err)
-	}
+	pool := open(t, Options{Workers: 2, Tenants: tenantsOf(1), Patience: patience})
 	var ran int32
 	for i := 0; i < 30; i++ {
-		for _, job := range []func(){runtime.Goexit, func() { panic("on purpose") }, func() { atomic.AddInt32(&ran, 1) }} {
-			if err := pool.Submit(0, job); err != nil {
-				t.Fatal(err)
-			}
-		}
+		hand(t, pool, "0", runtime.Goexit)
+		hand(t, pool, "0", func() { panic("on purpose") })
+		hand(t, pool, "0", func() { atomic.AddInt32(&ran, 1) })
 	}
 	pool.Close()
 	if ran != 30 {
 		t.Errorf("%d of 30 jobs ran", ran)
 	}
-	if count := strings.Count(told.String(), "a job of tenant 0 panicked: on purpose\n"); count != 30 {
+	if count := strings.Count(told.String(), `a job of tenant "0" panicked: on purpose`+"\n"); count != 30 {
 		t.Errorf("%d of 30 panics are told in %s", count, told.String())
+	}
+	if status := statusOf(t, pool, "0"); status.Done != 90 || status.Panicked != 30 {
+		t.Errorf("%d are done, and %d have panicked", status.Done, status.Panicked)
 	}
 }
 
 // The pool opens its schedulers with the weights that there were at its opening.
-func TestWeightsAreCopied(t *testing.T) {
-	config := Default(1, 1)
-	config.Entries = 16
-	pool, err := NewPool(config)
-	if err != nil {
-		t.Fatal(err)
-	}
-	config.Weights[0] = 0 // no tenant may have this
+func TestOptionsAreCopied(t *testing.T) {
+	options := Options{Tenants: tenantsOf(1, 1), Kinds: []Kind{{Name: ""}}, Entries: 16}
+	pool := open(t, options)
+	options.Tenants[0].Weight = 0 // no tenant may have this
+	options.Kinds[0].MostRunning = -1
 	for i := 0; i < 100; i++ {
-		if err := pool.Submit(uint32(i%2), func() {}); err != nil {
-			t.Fatal(err)
-		}
+		hand(t, pool, string(rune('0'+i%2)), func() {})
 	}
 	pool.Close()
 }
 
 // One scheduler has room for more than a million entries, of which a job makes three.
 func TestOneSchedulerServes(t *testing.T) {
-	config := Default(1)
-	config.Requests = 1000
-	pool, err := NewPool(config)
-	if err != nil {
-		t.Fatal(err)
-	}
-	first := pool.newest()
+	pool := open(t, Options{Tenants: tenantsOf(1), Room: 1000})
 	for jobs := 0; jobs < 350_000; {
-		switch err := pool.Submit(0, func() {}); err {
-		case nil:
+		switch err := pool.Go(background, "0", "", func(context.Context) {}); {
+		case err == nil:
 			jobs++
-		case RefusedSlots:
+		case errors.Is(err, ErrTenantFull):
 			time.Sleep(time.Microsecond)
 		default:
 			t.Fatal(err)
 		}
 	}
-	if pool.newest() != first {
-		t.Error("another scheduler has followed the first")
-	}
 	pool.Close()
+	if schedulers := pool.Status().Schedulers; schedulers != 1 {
+		t.Errorf("%d schedulers", schedulers)
+	}
 }
 
-// Of so many jobs of one tenant all wait at first, and half have been run when another tenant comes. How many more of them
-// are run before ten requests of the other one, which follow one another.
+// Of so many jobs of one tenant all wait at first, and half have been run when another tenant comes. How many more of
+// them are run before ten requests of the other one, which follow one another.
 func jobsBeforeAVisitor(t *testing.T, jobs int32) int32 {
-	config := Default(1, 1)
-	config.Workers, config.Requests, config.Initial = 2, uint32(jobs)+10, 10
-	pool, err := NewPool(config)
-	if err != nil {
-		t.Fatal(err)
-	}
-	submit := func(tenant uint32, job func()) {
-		if err := pool.Submit(tenant, job); err != nil {
-			t.Error(err)
-		}
-	}
-	begin, half := make(chan struct{}), make(chan struct{})
-	for worker := uint32(0); worker < config.Workers; worker++ {
-		submit(0, func() { <-begin })
-	}
+	pool := open(t, Options{Workers: 2, Tenants: tenantsOf(1, 1), Room: int(jobs) + 10, RoomPerTenant: int(jobs),
+		Initial: 10 * time.Microsecond, Refresh: -1})
+	first, second, half := acquire(t, pool, "0"), acquire(t, pool, "0"), make(chan struct{})
 	var ran int32
 	for i := int32(0); i < jobs; i++ {
-		submit(0, func() {
+		hand(t, pool, "0", func() {
 			if atomic.AddInt32(&ran, 1) == jobs/2 {
 				close(half)
 			}
 		})
 	}
-	close(begin)
+	first.ReleaseCost(10 * time.Microsecond) // nobody is thought to be costly because of what came before
+	second.ReleaseCost(10 * time.Microsecond)
 	<-half
 	waited := int32(0)
 	for i := 0; i < 10; i++ {
 		served := make(chan int32, 1)
-		submit(1, func() { served <- atomic.LoadInt32(&ran) })
+		hand(t, pool, "1", func() { served <- atomic.LoadInt32(&ran) })
 		before := atomic.LoadInt32(&ran)
 		if at := <-served; at > before {
 			waited += at - before
@@ -225,8 +190,8 @@ func jobsBeforeAVisitor(t *testing.T, jobs int32) int32 {
 	return waited
 }
 
-// All the time of a tenant's workers is charged, so whoever comes doesn't wait for all that the tenant has. A worker that
-// loses its processor in the midst of a job may spoil an attempt.
+// All the time of a tenant's workers is charged, so whoever comes doesn't wait for all that the tenant has. A goroutine
+// that loses its processor in the midst of a job may spoil an attempt.
 func TestAVisitorIsSoonServed(t *testing.T) {
 	for attempt := 0; attempt < 5; attempt++ {
 		if jobsBeforeAVisitor(t, 100_000) < 10_000 {
@@ -236,71 +201,45 @@ func TestAVisitorIsSoonServed(t *testing.T) {
 	t.Error("ten requests waited for more than 10,000 jobs of another tenant, each time")
 }
 
-func TestNumbersOutOfRange(t *testing.T) {
-	for _, change := range []func(*Config){
-		func(c *Config) { c.Workers = 65 },
-		func(c *Config) { c.Weights = nil },
-		func(c *Config) { c.Entries = 3 },
+func TestOptionsOutOfRange(t *testing.T) {
+	for name, change := range map[string]func(*Options){
+		"MostWorkers is 65":            func(o *Options) { o.Workers = 65 },
+		"MostWorkers is 66":            func(o *Options) { o.MostWorkers = 66 },
+		"Workers is 5":                 func(o *Options) { o.MostWorkers, o.Workers = 4, 5 },
+		"MostTenants is 0":             func(o *Options) { o.Tenants = nil },
+		"MostTenants is 4097":          func(o *Options) { o.MostTenants = 4097 },
+		"len(Tenants) is 2":            func(o *Options) { o.MostTenants = 1 },
+		"MostTenants * len(Kinds)":     func(o *Options) { o.MostTenants, o.Kinds = 4096, kindsOf(17) },
+		"len(Kinds)":                   func(o *Options) { o.Kinds = kindsOf(65) },
+		"Kinds[1].Name":                func(o *Options) { o.Kinds = []Kind{{Name: "a"}, {Name: "a"}} },
+		"Kinds[0].MostRunning":         func(o *Options) { o.Kinds = []Kind{{MostRunning: -1}} },
+		"Tenants[1].Weight is 1001":    func(o *Options) { o.Tenants[1].Weight = 1001 },
+		"Tenants[0].Weight is -1":      func(o *Options) { o.Tenants[0].Weight = -1 },
+		"Tenants[1].Name is \"0\"":     func(o *Options) { o.Tenants[1].Name = "0" },
+		"Tenants[1].Name is \"\"":      func(o *Options) { o.Tenants[1].Name = "" },
+		"Tenants[0].Name is \"\\xff\"": func(o *Options) { o.Tenants[0].Name = "\xff" },
+		"DefaultWeight":                func(o *Options) { o.DefaultWeight = 1001 },
+		"Room":                         func(o *Options) { o.Room = 262_145 },
+		"RoomPerTenant":                func(o *Options) { o.RoomPerTenant = -1 },
+		"MostRunning":                  func(o *Options) { o.MostRunning = -1 },
+		"Initial":                      func(o *Options) { o.Initial = 1000*time.Second + 1 },
+		"Entries":                      func(o *Options) { o.Entries = 15 },
+		"Policy is 6":                  func(o *Options) { o.Policy = TwoDFQPlus + 1 },
+		"Estimate is 4":                func(o *Options) { o.Estimate = Pessimistic + 1 },
 	} {
-		config := Default(1)
-		change(&config)
-		if pool, err := NewPool(config); pool != nil || err == nil {
-			t.Errorf("a pool of %v", config)
+		options := Options{Tenants: tenantsOf(1, 1)}
+		change(&options)
+		pool, err := NewPool(options)
+		if pool != nil || !errors.Is(err, ErrOptions) || !strings.Contains(err.Error(), ": "+name) {
+			t.Errorf("%s: %v", name, err)
 		}
 	}
 }
 
-func TestStatus(t *testing.T) {
-	scheduler, err := Open(Default(1))
-	if err != nil {
-		t.Fatal(err)
+func kindsOf(count int) []Kind {
+	kinds := make([]Kind, count)
+	for i := range kinds {
+		kinds[i].Name = string(rune('a' + i))
 	}
-	if _, err := scheduler.Submit(0, 7, Request{Declared: 5}); err != nil {
-		t.Fatal(err)
-	}
-	standing, err := scheduler.Status()
-	if want := (Standing{Waiting: 1, Entries: 1, Moment: 7}); standing != want || err != nil {
-		t.Errorf("%v in place of %v, %v", standing, want, err)
-	}
-	scheduler.Free()
-	if _, err := scheduler.Status(); !errors.Is(err, NoScheduler) {
-		t.Errorf("%v of a scheduler that was given back", err)
-	}
-}
-
-// The last two entries are kept, and told with their numbers.
-func TestEntries(t *testing.T) {
-	config := Default(1, 2)
-	config.Keep, config.Estimate = 2, Declared
-	s, err := Open(config)
-	if err != nil {
-		t.Fatal(err)
-	}
-	defer s.Free()
-	if _, err := s.Submit(7, 5, Request{Tenant: 1, Declared: 30, Label: 42}); err != nil {
-		t.Fatal(err)
-	}
-	want := []Entry{{Act: Submitted, Who: 7, Moment: 5, Tenant: 1, Amount: 30, Label: 42},
-		{Act: Dispatched, Who: 9, Moment: 6, Worker: 3, Amount: 30}, {Act: Completed, Who: 9, Moment: 8, Worker: 3, Amount: 20}}
-	if entry, is := s.Entry(0); !is || entry != want[0] {
-		t.Errorf("entry 0 is %v", entry)
-	}
-	if _, err := s.Take(9, 6, 3); err != nil {
-		t.Fatal(err)
-	}
-	if err := s.Done(9, 8, 3, 20); err != nil {
-		t.Fatal(err)
-	}
-	if first := s.FirstKept(); first != 1 {
-		t.Errorf("the first kept is %d", first)
-	}
-	for index, entry := range want {
-		told, is := s.Entry(uint64(index))
-		if is != (index > 0) || is && told != entry {
-			t.Errorf("entry %d is %v", index, told)
-		}
-	}
-	if _, is := s.Entry(3); is {
-		t.Error("there is an entry 3")
-	}
+	return kinds
 }

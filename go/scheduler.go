@@ -1,14 +1,6 @@
-// Package twodfq shares the workers of a service fairly among its tenants (Two-Dimensional Fair Queuing, Mace and others,
-// 2016), over the library for C, whose contracts are proved. What is here is not proved.
-//
-// A service that wants a pool of goroutines takes a Pool. One that has goroutines of its own makes the calls of a
-// Scheduler, under a lock.
-//
-// Moments and costs are in microseconds. Tenants, kinds, workers and requests are numbered from 0.
 package twodfq
 
-// #cgo CFLAGS: -I${SRCDIR}/../c/out
-// #cgo LDFLAGS: -L${SRCDIR}/../c/out -ltwodfq
+// #cgo LDFLAGS: -L${SRCDIR}/../c/out/lib -ltwodfq
 // #include "twodfq.h"
 import "C"
 
@@ -17,25 +9,39 @@ import (
 	"math"
 )
 
-// Policy says which waiting request a worker takes.
+// Policy says which waiting request a worker takes. Its zero value stands for TwoDFQPlus.
 type Policy uint32
 
 const (
-	WFQ        Policy = C.TWODFQ_WFQ       // the least finish tag
-	WF2Q       Policy = C.TWODFQ_WF2Q      // the least finish tag of those that have started in virtual time
-	MSF2Q      Policy = C.TWODFQ_MSF2Q     // as WF2Q, with starts by the virtual time that passed while a tenant was idle
-	TwoDFQ     Policy = C.TWODFQ_2DFQ      // as WF2Q, with starts that differ from worker to worker
-	TwoDFQPlus Policy = C.TWODFQ_2DFQ_PLUS // as TwoDFQ, with a virtual time that stays near what was served
+	WFQ        Policy = C.TWODFQ_WFQ + 1       // the least finish tag
+	WF2Q       Policy = C.TWODFQ_WF2Q + 1      // the least finish tag of those that have started in virtual time
+	MSF2Q      Policy = C.TWODFQ_MSF2Q + 1     // as WF2Q, with starts by the virtual time that passed while a tenant was idle
+	TwoDFQ     Policy = C.TWODFQ_2DFQ + 1      // as WF2Q, with starts that differ from worker to worker
+	TwoDFQPlus Policy = C.TWODFQ_2DFQ_PLUS + 1 // as TwoDFQ, with a virtual time that stays near what was served
 )
 
-// Estimator says what a request is thought to cost before it is done.
+func (p Policy) number() C.uint32_t {
+	if p == 0 {
+		p = TwoDFQPlus
+	}
+	return C.uint32_t(p - 1)
+}
+
+// Estimator says what a request is thought to cost before it is done. Its zero value stands for Pessimistic.
 type Estimator uint32
 
 const (
-	Declared    Estimator = C.TWODFQ_DECLARED    // what its submit names
-	Recent      Estimator = C.TWODFQ_RECENT      // the mean of the last eight costs of its tenant and kind
-	Pessimistic Estimator = C.TWODFQ_PESSIMISTIC // the greatest of the costs of its tenant and kind, which decay
+	Declared    Estimator = C.TWODFQ_DECLARED + 1    // what its submit names
+	Recent      Estimator = C.TWODFQ_RECENT + 1      // the mean of the last eight costs of its tenant and kind
+	Pessimistic Estimator = C.TWODFQ_PESSIMISTIC + 1 // the greatest of the costs of its tenant and kind, which decay
 )
+
+func (e Estimator) number() C.uint32_t {
+	if e == 0 {
+		e = Pessimistic
+	}
+	return C.uint32_t(e - 1)
+}
 
 // Config is what a scheduler is opened with. Entries is 4 to 4,194,304, and up to 4,000,000,000 where Keep is not 0. An
 // Entries of 0 stands for 1,000,000, and for 4,000,000,000 where Keep is not 0.
@@ -47,13 +53,11 @@ type Config struct {
 	Requests uint32   // how many requests may wait at once: 1 to 262,144
 	Policy   Policy
 	Estimate Estimator
-	Initial  uint64  // the estimate before any completion: 1 to 1,000,000,000
-	Keep     uint32  // for how many of the last entries memory is taken; 0, and any number above Entries, is all of them
-	Patience float64 // for a Pool: the part of an estimate for which a worker waits; 0: 0.02, below 0: none, at most 1
+	Initial  uint64 // the estimate before any completion: 1 to 1,000,000,000
+	Keep     uint32 // for how many of the last entries memory is taken; 0, and any number above Entries, is all of them
 }
 
-// Default gives four workers, 0 for Entries, Keep and Patience, 10,000 requests, TwoDFQPlus, Pessimistic and 1,000
-// microseconds.
+// Default gives four workers, 0 for Entries and Keep, 10,000 requests, TwoDFQPlus, Pessimistic and 1,000 microseconds.
 func Default(weights ...uint32) Config {
 	return Config{Workers: 4, Weights: weights, Kinds: 1, Requests: 10_000, Policy: TwoDFQPlus, Estimate: Pessimistic,
 		Initial: 1000}
@@ -101,7 +105,7 @@ const (
 	NoScheduler       Refusal = C.TWODFQ_NO_SCHEDULER
 )
 
-var causes = map[Refusal]string{
+var refusals = map[Refusal]string{
 	RefusedClosed: "closed", RefusedTenant: "no such tenant", RefusedKind: "no such kind", RefusedCost: "no such cost",
 	RefusedSlots: "as many requests wait as may", RefusedFull: "the history has no room", RefusedWorker: "no such worker",
 	RefusedBusy: "the worker runs a request", RefusedIdle: "the worker runs nothing", RefusedFalling: "less than was reported",
@@ -109,7 +113,7 @@ var causes = map[Refusal]string{
 	RefusedNotWaiting: "the request does not wait", NoScheduler: "no scheduler is open",
 }
 
-func (r Refusal) Error() string { return "refused: " + causes[r] }
+func (r Refusal) Error() string { return "refused: " + refusals[r] }
 
 // Taken is what a worker that asks for work is given.
 type Taken struct {
@@ -163,8 +167,8 @@ type Scheduler struct {
 func Open(config Config) (*Scheduler, error) {
 	weights := append(make([]uint32, 0, len(config.Weights)+1), config.Weights...)
 	opening := C.twodfq_opening{workers: C.uint32_t(config.Workers), kinds: C.uint32_t(config.Kinds),
-		entries: C.uint32_t(config.entries()), requests: C.uint32_t(config.Requests), policy: C.uint32_t(config.Policy),
-		estimate: C.uint32_t(config.Estimate), initial: C.uint64_t(config.Initial), keep: C.uint32_t(config.Keep)}
+		entries: C.uint32_t(config.entries()), requests: C.uint32_t(config.Requests), policy: config.Policy.number(),
+		estimate: config.Estimate.number(), initial: C.uint64_t(config.Initial), keep: C.uint32_t(config.Keep)}
 	s := new(Scheduler)
 	first := (*C.uint32_t)(&weights[:1][0]) // there is one more than are said, so that none still have an address
 	status := C.twodfq_open(&s.handle, &opening, first, C.size_t(len(weights)))
@@ -223,8 +227,8 @@ func (s *Scheduler) SetWorkers(who uint32, moment uint64, count uint32) error {
 	return refusal(C.twodfq_workers(&s.handle, C.uint32_t(who), C.uint64_t(moment), C.uint32_t(count)))
 }
 
-// Withdraw takes back a request that waits: it is never taken, and costs nothing. Its label comes back. It may come after a
-// close, too.
+// Withdraw takes back a request that waits: it is never taken, and costs nothing. Its label comes back. It may come
+// after a close, too.
 func (s *Scheduler) Withdraw(who uint32, moment uint64, request uint32) (uint64, error) {
 	reply := C.twodfq_withdraw(&s.handle, C.uint32_t(who), C.uint64_t(moment), C.uint32_t(request))
 	if err := refusal(reply); err != nil {
@@ -233,8 +237,8 @@ func (s *Scheduler) Withdraw(who uint32, moment uint64, request uint32) (uint64,
 	return uint64(reply.second), nil
 }
 
-// Due says what a worker would find that asked for work at this moment. It changes nothing, and calls after it may be at
-// earlier moments. Refused as a Take would be.
+// Due says what a worker would find that asked for work at this moment. It changes nothing, and calls after it may be
+// at earlier moments. Refused as a Take would be.
 func (s *Scheduler) Due(moment uint64, worker uint32) (Due, error) {
 	reply := C.twodfq_due(&s.handle, C.uint64_t(moment), C.uint32_t(worker))
 	if err := refusal(reply); err != nil {
@@ -270,7 +274,8 @@ type Entry struct {
 	Amount, Label                 uint64
 }
 
-// Entry gives the entry of the history with this index, in order of time, the first with 0, if there is one and it is kept.
+// Entry gives the entry of the history with this index, in order of time, the first with 0, if there is one and it is
+// kept.
 func (s *Scheduler) Entry(index uint64) (Entry, bool) {
 	line := C.twodfq_entry(&s.handle, C.uint64_t(index))
 	if line.kind == C.TWODFQ_ENTRY_NONE {

@@ -1,6 +1,9 @@
 package twodfq
 
-import "testing"
+import (
+	"errors"
+	"testing"
+)
 
 func TestWithdraw(t *testing.T) {
 	scheduler, err := Open(Default(1))
@@ -26,8 +29,8 @@ func TestWithdraw(t *testing.T) {
 	}
 }
 
-// Virtual time goes at 2 units a microsecond; the second request starts at 10 and has the length 10, so worker 1 of 2 may take
-// it from 5 on.
+// Virtual time goes at 2 units a microsecond; the second request starts at 10 and has the length 10, so worker 1 of 2
+// may take it from 5 on.
 func TestDue(t *testing.T) {
 	config := Default(1)
 	config.Workers, config.Policy, config.Estimate = 2, TwoDFQ, Declared
@@ -61,4 +64,89 @@ func TestDue(t *testing.T) {
 		t.Fatal(err)
 	}
 	finds(0, 1, Due{Kind: DueRetired})
+}
+
+func TestStatus(t *testing.T) {
+	scheduler, err := Open(Default(1))
+	if err != nil {
+		t.Fatal(err)
+	}
+	if _, err := scheduler.Submit(0, 7, Request{Declared: 5}); err != nil {
+		t.Fatal(err)
+	}
+	standing, err := scheduler.Status()
+	if want := (Standing{Waiting: 1, Entries: 1, Moment: 7}); standing != want || err != nil {
+		t.Errorf("%v in place of %v, %v", standing, want, err)
+	}
+	scheduler.Free()
+	if _, err := scheduler.Status(); !errors.Is(err, NoScheduler) {
+		t.Errorf("%v of a scheduler that was given back", err)
+	}
+}
+
+// The last two entries are kept, and told with their numbers.
+func TestEntries(t *testing.T) {
+	config := Default(1, 2)
+	config.Keep, config.Estimate = 2, Declared
+	s, err := Open(config)
+	if err != nil {
+		t.Fatal(err)
+	}
+	defer s.Free()
+	if _, err := s.Submit(7, 5, Request{Tenant: 1, Declared: 30, Label: 42}); err != nil {
+		t.Fatal(err)
+	}
+	want := []Entry{{Act: Submitted, Who: 7, Moment: 5, Tenant: 1, Amount: 30, Label: 42},
+		{Act: Dispatched, Who: 9, Moment: 6, Worker: 3, Amount: 30}, {Act: Completed, Who: 9, Moment: 8, Worker: 3, Amount: 20}}
+	if entry, ok := s.Entry(0); !ok || entry != want[0] {
+		t.Errorf("entry 0 is %v", entry)
+	}
+	if _, err := s.Take(9, 6, 3); err != nil {
+		t.Fatal(err)
+	}
+	if err := s.Done(9, 8, 3, 20); err != nil {
+		t.Fatal(err)
+	}
+	if first := s.FirstKept(); first != 1 {
+		t.Errorf("the first kept is %d", first)
+	}
+	for index, entry := range want {
+		told, ok := s.Entry(uint64(index))
+		if ok != (index > 0) || ok && told != entry {
+			t.Errorf("entry %d is %v", index, told)
+		}
+	}
+	if _, ok := s.Entry(3); ok {
+		t.Error("there is an entry 3")
+	}
+}
+
+// A field that is left out stands for the policy and the estimator of Default. Under WFQ nothing is ever before its
+// time; under TwoDFQPlus the second request of a tenant is, for worker 0.
+func TestZeroPolicy(t *testing.T) {
+	for policy, wanted := range map[Policy]DueKind{0: DueEarly, TwoDFQPlus: DueEarly, WFQ: DueEligible} {
+		config := Default(1)
+		config.Policy, config.Estimate = policy, 0
+		s, err := Open(config)
+		if err != nil {
+			t.Fatal(err)
+		}
+		for label := uint64(0); label < 2; label++ {
+			if _, err := s.Submit(0, 0, Request{Declared: 10, Label: label}); err != nil {
+				t.Fatal(err)
+			}
+		}
+		if taken, err := s.Take(1, 0, 1); err != nil || taken.Estimate != config.Initial {
+			t.Errorf("an estimate of %d, error %v", taken.Estimate, err)
+		}
+		if due, err := s.Due(0, 0); err != nil || due.Kind != wanted {
+			t.Errorf("policy %d: %v, error %v", policy, due, err)
+		}
+		s.Free()
+	}
+	config := Default(1)
+	config.Policy = TwoDFQPlus + 1
+	if _, err := Open(config); err == nil {
+		t.Error("a policy beyond the last")
+	}
 }

@@ -6,7 +6,7 @@ import (
 	"fmt"
 	"os"
 
-	"twodfq"
+	twodfq "twodfq.example/go"
 )
 
 func submit(s *twodfq.Scheduler, who uint32, moment uint64, tenant uint32, label uint64) {

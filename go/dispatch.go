@@ -1,0 +1,132 @@
+package twodfq
+
+import (
+	"math/bits"
+	"sort"
+	"time"
+)
+
+// A set of workers, one bit for each.
+type workerSet uint64
+
+func workersBelow(count int) workerSet { return 1<<count - 1 }
+
+func (w workerSet) len() int        { return bits.OnesCount64(uint64(w)) }
+func (w workerSet) lowest() uint32  { return uint32(bits.TrailingZeros64(uint64(w))) }
+func (w workerSet) highest() uint32 { return uint32(bits.Len64(uint64(w)) - 1) }
+
+// The members of the set, the lowest first.
+func (w workerSet) members() []uint32 {
+	members := make([]uint32, 0, w.len())
+	for ; w != 0; w &= w - 1 {
+		members = append(members, w.lowest())
+	}
+	return members
+}
+
+// Dispatches waiting requests to free workers, as long as there are both and the workers are not patient. Each change
+// of the waiting or running requests is followed by a call of it.
+func (p *Pool) dispatch(now time.Duration) {
+	p.dropLate()
+	p.patience.settle(now)
+	for {
+		history := p.nextHistory()
+		if history == nil {
+			p.patience.rest()
+			return
+		}
+		worker, longest := p.choose(history, now)
+		if longest > 0 {
+			p.patience.begin(p.freeFor(history), history.waiting, longest, p.patienceEnds)
+			return
+		}
+		p.take(history, worker, now)
+	}
+}
+
+// The oldest scheduler with a waiting request and a free worker.
+func (p *Pool) nextHistory() *history {
+	for _, history := range p.rolling.histories {
+		if history.waiting > 0 && p.freeFor(history) != 0 {
+			return history
+		}
+	}
+	return nil
+}
+
+// The free workers that may take from the scheduler.
+func (p *Pool) freeFor(h *history) workerSet {
+	return p.free & workersBelow(p.rolling.workers) & workersBelow(h.workers)
+}
+
+// Chooses the worker of the next dispatch, or how long to wait for a better request. The lowest worker with an eligible
+// request is chosen, so that cheap requests stay on low workers and costly ones on high workers. Where no request is
+// eligible for the highest worker either, that one takes a request before its time, unless it is patient.
+func (p *Pool) choose(h *history, now time.Duration) (worker uint32, longest time.Duration) {
+	free := p.freeFor(h)
+	low, high := free.lowest(), free.highest()
+	gains := p.mayGain(h)
+	if low == high && !gains {
+		return low, 0
+	}
+	due := h.due(now, low)
+	if due.Kind == DueEligible {
+		return low, 0
+	}
+	if low != high {
+		if due = h.due(now, high); due.Kind == DueEligible {
+			return h.lowestEligible(free, now), 0
+		}
+	}
+	if !gains {
+		return high, 0
+	}
+	longest = p.patience.allows(free, h.waiting, due.Estimate, now)
+	if longest <= 0 {
+		p.patience.takesEarly(free)
+	}
+	return high, longest
+}
+
+// Whether patience may be of use: not where a single tenant has requests, where an older scheduler has waiting ones, or
+// once the pool is closed.
+func (p *Pool) mayGain(h *history) bool {
+	return p.patience.part > 0 && p.tenants.open > 1 && h == p.rolling.newest() && !p.closed
+}
+
+func (h *history) due(now time.Duration, worker uint32) Due {
+	due, err := h.scheduler.Due(moment(now), worker)
+	if err != nil {
+		panic("twodfq: a free worker may not ask: " + err.Error())
+	}
+	return due
+}
+
+// The lowest of these workers with an eligible request. The highest has one, and a request that is eligible for a
+// worker is eligible for all above it.
+func (h *history) lowestEligible(free workerSet, now time.Duration) uint32 {
+	workers := free.members()
+	return workers[sort.Search(len(workers)-1, func(i int) bool { return h.due(now, workers[i]).Kind == DueEligible })]
+}
+
+// The worker takes a request, which begins.
+func (p *Pool) take(h *history, worker uint32, now time.Duration) {
+	p.reportHeld(now)
+	taken, err := h.scheduler.Take(worker, moment(now), worker)
+	if err != nil || taken.Kind != Run {
+		panic("twodfq: a request waits, and a free worker is given none")
+	}
+	r := p.requests[taken.Label]
+	delete(p.requests, taken.Label)
+	h.waiting--
+	h.running++
+	p.leaveRoom(r)
+	r.slot.running++
+	p.running++
+	p.free &^= 1 << worker
+	permit := &Permit{pool: p, request: r, worker: worker, begun: now, reported: now}
+	p.permits[worker] = permit
+	r.slot.counts.Waited.add(r.waited(now))
+	p.traceBegun(r, now)
+	p.resolve(r, permit, nil)
+}

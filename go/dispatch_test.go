@@ -1,0 +1,37 @@
+package twodfq
+
+import "testing"
+
+// The first request of a tenant is eligible for every worker, and the lowest one takes it. The next one starts a length
+// later, so that it would begin before its time on each: the highest worker takes it. The first of another tenant is
+// again one for the lowest that is free.
+func TestWhichWorkerTakes(t *testing.T) {
+	pool := open(t, Options{Workers: 4, Tenants: tenantsOf(1, 1), Patience: -1})
+	for i, step := range []struct {
+		tenant string
+		worker uint32
+	}{{"0", 0}, {"0", 3}, {"1", 1}, {"0", 2}} {
+		if permit := acquire(t, pool, step.tenant); permit.worker != step.worker {
+			t.Errorf("step %d: worker %d in place of %d", i, permit.worker, step.worker)
+		}
+	}
+	for _, permit := range pool.permits {
+		if permit != nil {
+			permit.Release()
+		}
+	}
+	pool.Close()
+}
+
+func TestWorkerSets(t *testing.T) {
+	for _, count := range []int{1, 5, 64} {
+		set := workersBelow(count)
+		if set.len() != count || set.lowest() != 0 || set.highest() != uint32(count-1) {
+			t.Errorf("below %d: %b", count, set)
+		}
+	}
+	members := workerSet(0b101001).members()
+	if len(members) != 3 || members[0] != 0 || members[1] != 3 || members[2] != 5 {
+		t.Errorf("%v", members)
+	}
+}
