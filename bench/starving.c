@@ -1,6 +1,7 @@
 // A simulated service of 16 workers and 4,096 tenants in which one tenant gets far ahead of another. Takes a story and a policy by
 // number, and writes the journal; on standard error the longest time in which one of the two waits and is not taken, in
-// milliseconds. `bench/starving` runs it under each policy, and has `twodfq lead` measure the journal.
+// milliseconds. `bench/starving` runs it under each policy, and has `twodfq lead` measure the journal. A third number is the seconds
+// before the second tenant comes, where not 40; the service then runs for as long again, and no journal is written.
 #include <inttypes.h>
 #include <stdbool.h>
 #include <stdio.h>
@@ -9,14 +10,15 @@
 
 #include "twodfq.h"
 
-enum { WORKERS = 16, TENANTS = 4096, TICK = 1000, REQUEST = 10000, VISIT = 40000, TICKS = 60000 };
-enum { SPARE, LITTLE, FLOODS, JUMP, OVERESTIMATE, STORIES };
+enum { WORKERS = 16, TENANTS = 4096, TICK = 1000, REQUEST = 10000, VISIT = 40000, TICKS = 60000, SECOND = 1000 };
+enum { SPARE, LITTLE, FLOODS, JUMP, OVERESTIMATE, ALONE, STORIES };
 enum { BUSY, VISITOR, THIRD, OTHERS }; // the tenants that the stories tell of, and the first of the others
 
 static twodfq scheduler = TWODFQ_NONE;
 static uint64_t ends[WORKERS], charged[WORKERS]; // when the request of a worker ends, and at what cost
 static uint32_t runs[WORKERS], waits[TENANTS], running[TENANTS];
 static bool is_free[WORKERS];
+static uint64_t visit = VISIT, ticks = TICKS; // when the second tenant comes, and the end
 static uint64_t state = 7, last_take[TENANTS], longest[TENANTS];
 
 // A number below n, by a linear congruence.
@@ -37,8 +39,8 @@ static void keep_waiting(uint64_t moment, uint32_t tenant, uint32_t count) {
 
 // What is asked for at this moment.
 static void come(int story, uint64_t tick, uint64_t moment) {
-    bool is_visit = tick >= VISIT;
-    for (int i = 0; i < 2; i++) // the others want a worker, more or less
+    bool is_visit = tick >= visit;
+    for (int i = 0; i < 2 && story != ALONE; i++) // the others want a worker, more or less
         if (draw(20) == 0) submit(moment, OTHERS + draw(TENANTS - OTHERS), REQUEST);
     if (story == FLOODS) { // 64 tenants flood by turns, a quarter of them at once
         for (uint32_t i = 0; i < 64; i++)
@@ -48,13 +50,13 @@ static void come(int story, uint64_t tick, uint64_t moment) {
         keep_waiting(moment, BUSY, 2 * WORKERS);
     }
     if (story == SPARE && waits[THIRD] + running[THIRD] < 4) submit(moment, THIRD, REQUEST); // four at a time
-    if (story == OVERESTIMATE && tick == VISIT / 2) submit(moment, THIRD, 1000000000);
+    if (story == OVERESTIMATE && tick == visit / 2) submit(moment, THIRD, 1000000000);
     if (is_visit) keep_waiting(moment, VISITOR, 2 * WORKERS);
 }
 
 // What a request of this tenant costs, of the time that it takes.
 static uint64_t cost_of(int story, uint32_t tenant) {
-    bool is_little = story == LITTLE || story == OVERESTIMATE;
+    bool is_little = story == LITTLE || story == OVERESTIMATE || story == ALONE;
     return is_little && tenant == BUSY ? REQUEST / 10 : REQUEST;
 }
 
@@ -105,19 +107,21 @@ static void write_journal(const twodfq_opening *opening) {
 
 int main(int count, char **arguments) {
     static uint32_t weights[TENANTS];
-    int story = count == 3 ? atoi(arguments[1]) : STORIES, policy = count == 3 ? atoi(arguments[2]) : 0;
+    bool has_seconds = count == 4;
+    int story = count >= 3 ? atoi(arguments[1]) : STORIES, policy = count >= 3 ? atoi(arguments[2]) : 0;
     if (story >= STORIES) return 1;
+    if (has_seconds) ticks = 2 * (visit = SECOND * strtoull(arguments[3], NULL, 10));
     for (int tenant = 0; tenant < TENANTS; tenant++) weights[tenant] = 1;
     for (int worker = 0; worker < WORKERS; worker++) is_free[worker] = true;
     twodfq_opening opening = {
         .workers = WORKERS, .kinds = 1, .entries = 4000000, .requests = 262144, .policy = (uint32_t)policy,
-        .estimate = story == LITTLE ? TWODFQ_RECENT : TWODFQ_DECLARED, .initial = REQUEST,
+        .estimate = story == LITTLE || story == ALONE ? TWODFQ_RECENT : TWODFQ_DECLARED, .initial = REQUEST,
     };
     if (twodfq_open(&scheduler, &opening, weights, TENANTS) != TWODFQ_OPENED) return 1;
     uint64_t moment = 0;
-    for (uint64_t tick = 0; tick < TICKS; tick++, moment += TICK) {
-        if (story == JUMP && tick == VISIT) moment += 1000000000; // the clock is set on by a thousand seconds
-        if (story == JUMP && tick == VISIT) last_take[BUSY] = last_take[VISITOR] = moment;
+    for (uint64_t tick = 0; tick < ticks; tick++, moment += TICK) {
+        if (story == JUMP && tick == visit) moment += 1000000000; // the clock is set on by a thousand seconds
+        if (story == JUMP && tick == visit) last_take[BUSY] = last_take[VISITOR] = moment;
         end_those_due(moment);
         come(story, tick, moment);
         take(story, moment);
@@ -126,5 +130,5 @@ int main(int count, char **arguments) {
         if (waits[tenant] && moment - last_take[tenant] > longest[tenant]) longest[tenant] = moment - last_take[tenant];
     uint64_t pause = longest[BUSY] > longest[VISITOR] ? longest[BUSY] : longest[VISITOR];
     fprintf(stderr, "%" PRIu64 "\n", pause / 1000);
-    write_journal(&opening);
+    if (!has_seconds) write_journal(&opening);
 }
