@@ -34,10 +34,11 @@ class Journal:
     """A journal. Its head is read at once, and its entries by `steps`: an entry that no scheduler could have written is
     a fault, but whether its decisions were right is not asked.
 
-    What the entries so far say of requests stands in columns, by number: tenant, kind, submitted, taken, worker, done;
-    and label and cost as digits. What is not known yet is None. And there are `waiting` (the requests of each tenant,
-    of which the first waits), `since` (when a tenant last began to wait), `running` (the digits of requests, by those of
-    workers), `withdrawn`, `pool` (the number of workers), `changes`, and `now`, the moment of the last entry."""
+    What the entries so far say of requests stands in columns, by number: tenant, kind, submitted, taken, worker, done,
+    cost; and label as digits. What is not known yet is None. And there are `waiting` (the requests of each tenant,
+    of which the first waits), `since` (when a tenant last began to wait), `running` (the digits of requests, by those
+    of workers), `withdrawn` (when each was), `pool` (the number of workers), `changes`, and `now`, the moment of the
+    last entry."""
 
     def __init__(self, file, name):
         # (nothing that is kept here refers to itself)
@@ -50,7 +51,7 @@ class Journal:
         self.taken, self.worker, self.done, self.cost = [], [], [], []
         self.waiting, self.since = [collections.deque() for _ in self.tenants], [0] * len(self.tenants)
         # (`numbers` has what runs on each worker, or did last)
-        self.running, self.numbers, self.withdrawn = {}, {}, set()
+        self.running, self.numbers, self.withdrawn = {}, {}, {}
         self.pool, self.changes = self.workers, []
         self.now, self.is_closed = 0, False
 
@@ -146,7 +147,7 @@ class Journal:
                 if running.pop(worker, None) != fields[4]:
                     self.refuse(block, fields, self.why_not_used(fields))
                 number = numbers[worker]
-                done[number], cost[number] = moment, fields[5]
+                done[number], cost[number] = moment, int(fields[5])
             elif word == b"submit":
                 if self.is_closed or not self.add_submit(moment, fields):
                     self.refuse(block, fields, self.why_not_submitted(fields))
@@ -240,14 +241,14 @@ class Journal:
         if tenant not in self.tenant_of:
             return f"there is no tenant {tenant.decode()}"
         if not 1 <= int(weight) <= 1000:
-            return "field 5 is out of range"
+            return f"field 5 is {int(weight)}, and not from 1 to 1000"
         self.changes.append(Change(moment, self.tenant_of[tenant], int(weight)))
 
     def add_workers(self, moment, count):
         if self.version < 2:
             return "a workers entry below journal 1"
         if not 1 <= int(count) <= self.workers:
-            return "field 4 is out of range"
+            return f"field 4 is {int(count)}, and not from 1 to {self.workers}"
         self.pool = int(count)
         self.changes.append(Change(moment, None, self.pool))
 
@@ -259,7 +260,7 @@ class Journal:
             return f"request {number} was not submitted"
         if number in self.withdrawn or self.taken[number] is not None:
             return f"request {number} does not wait"
-        self.withdrawn.add(number)
+        self.withdrawn[number] = moment
         self.pass_over(self.waiting[self.tenant[number]])
 
     others = {"close": add_close, "weight": add_weight, "workers": add_workers, "withdraw": add_withdraw}

@@ -30,7 +30,8 @@ class Block:
 
     def __init__(self, before, lines):
         self.before, self.lines = before, lines
-        self.fields = [line.split(b" ") for line in lines]
+        # (sooner than at single spaces, and in lines that are plain the same)
+        self.fields = [line.split() for line in lines]
 
     def read_moments(self):
         self.moments = list(map(int, map(operator.itemgetter(2), self.fields)))
@@ -115,7 +116,7 @@ class Lines:
 
     def number_within(self, words, place, low, high):
         number, *_ = self.numbers(words[: place + 1], place)
-        self.expect(low <= number <= high, f"field {place + 1} is out of range")
+        self.expect(low <= number <= high, f"field {place + 1} is {number}, and not from {low} to {high}")
         return number
 
     def moment_of(self, line, now):

@@ -3,9 +3,10 @@
 import colorsys
 import html
 
-# Colors that most people tell apart (Okabe and Ito, 2008).
-COLORS = ("#0072b2", "#e69f00", "#009e73", "#d55e00", "#cc79a7", "#56b4e9", "#f0e442", "#7f7f7f")
-GRID, INK = "#dddddd", "#333333"
+# Colors that most people tell apart (Okabe and Ito, 2008), and what all others are drawn in.
+COLORS = ("#0072b2", "#e69f00", "#009e73", "#d55e00", "#cc79a7", "#56b4e9", "#000000", "#f0e442")
+OTHERS = "#b3b3b3"
+GRID, ZERO, INK = "#dddddd", "#999999", "#333333"
 # The height of a line of a legend, and how many names it has at most.
 LINE, MOST_NAMES = 16, 20
 # Microseconds, and what so many are called.
@@ -20,16 +21,28 @@ def colors(count):
     return ["#" + "".join(f"{round(255 * part):02x}" for part in color) for color in hues]
 
 
+class ColorByName(dict):
+    """Colors for these names, and one for all others."""
+
+    def __init__(self, names):
+        super().__init__(zip(names, colors(len(names))))
+
+    def __missing__(self, name):
+        return OTHERS
+
+
 def number(value):
     """A number with at most two places after the point."""
     return f"{value:.2f}".rstrip("0").rstrip(".")
 
 
-def element(name, text=None, **attributes):
-    """An element of SVG; its attributes are written with _ for -."""
+def element(name, text=None, title=None, **attributes):
+    """An element of SVG. Its title is shown where the mouse is on it; its attributes are written with _ for -."""
     attributes = {key.replace("_", "-"): it if isinstance(it, str) else number(it) for key, it in attributes.items()}
     told = "".join(f' {key}="{html.escape(it)}"' for key, it in attributes.items())
-    return f"<{name}{told}/>" if text is None else f"<{name}{told}>{html.escape(text, quote=False)}</{name}>"
+    inner = "" if title is None else f"<title>{html.escape(title, quote=False)}</title>"
+    inner += "" if text is None else html.escape(text, quote=False)
+    return f"<{name}{told}>{inner}</{name}>" if inner else f"<{name}{told}/>"
 
 
 def label(x, y, text, anchor="start"):
@@ -42,6 +55,11 @@ def ticks(low, high, most):
     while (high - low) / step > most:
         step = step * 5 // 2 if str(step)[0] == "2" else step * 2
     return range(-(-low // step) * step, high + 1, step)
+
+
+def unit_of(low, high):
+    """The unit of times in which an axis has two digits and more before the point, and its name."""
+    return next(it for it in UNITS if high - low >= 10 * it[0] or it[0] == 1)
 
 
 class Panel:
@@ -62,7 +80,7 @@ class Panel:
     def time_axis(self, is_told=True):
         """Lines at round moments, and below them what they are."""
         low, high = self.moments
-        unit, name = next(it for it in UNITS if high - low >= 10 * it[0] or it[0] == 1)
+        unit, name = unit_of(low, high)
         for moment in ticks(low, high, 10):
             yield element("line", x1=self.x(moment), y1=self.top, x2=self.x(moment), y2=self.bottom, stroke=GRID)
             if is_told:
@@ -70,11 +88,12 @@ class Panel:
         if is_told:
             yield label((self.left + self.right) / 2, self.bottom + 32, name, "middle")
 
-    def number_axis(self):
-        """Lines at round numbers, and beside them what they are."""
+    def number_axis(self, unit=1):
+        """Lines at round numbers, and beside them how many of a unit they are; that of 0 is darker."""
         for value in ticks(*self.numbers, 5):
-            yield element("line", x1=self.left, y1=self.y(value), x2=self.right, y2=self.y(value), stroke=GRID)
-            yield label(self.left - 6, self.y(value) + 4, str(value), "end")
+            place = {"x1": self.left, "y1": self.y(value), "x2": self.right, "y2": self.y(value)}
+            yield element("line", **place, stroke=GRID if value else ZERO)
+            yield label(self.left - 6, self.y(value) + 4, number(value / unit), "end")
 
     def frame(self):
         size = {"width": self.right - self.left, "height": self.bottom - self.top}

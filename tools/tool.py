@@ -1,9 +1,10 @@
-"""What the tools beside this file share: their faults, tables, percentiles, words, files, and `run`."""
+"""What the tools beside this file share: their faults, percentiles, words, files, and `run`."""
 
 import argparse
 import contextlib
 import os
 import re
+import signal
 import sys
 import time
 
@@ -44,14 +45,6 @@ def percentile(ranked, percent):
     return ranked[max(1, -(-percent * len(ranked) // 100)) - 1]
 
 
-def table(rows, names=1):
-    """Rows of cells as text: the first columns to the left, the others, which are numbers, to the right."""
-    rows = [[str(cell) for cell in row] for row in rows]
-    widths = [max(map(len, column)) for column in zip(*rows)]
-    aligned = lambda place, cell: cell.ljust(widths[place]) if place < names else cell.rjust(widths[place])
-    return "".join("  ".join(aligned(*it) for it in enumerate(row)).rstrip() + "\n" for row in rows)
-
-
 @contextlib.contextmanager
 def opened(name):
     """A file as it is, or standard input for `-`, and what it is called in messages."""
@@ -62,6 +55,10 @@ def opened(name):
     else:
         with open(name, **how) as file:
             yield file, name
+
+
+def processors():
+    return len(os.sched_getaffinity(0))
 
 
 def words_by(text):
@@ -84,13 +81,18 @@ def within(low, high):
 
 
 def run(main):
-    """Runs a tool: `main` gives the whole text that it writes, and the status. A fault is told, with status 1."""
+    """Runs a tool: `main` gives the whole text that it writes, and the status. A fault is told, with status 1. Where
+    nobody reads on, as behind `| head`, and where it is interrupted, it ends by the signal, without a word."""
     try:
         text, status = main()
+        signal.signal(signal.SIGPIPE, signal.SIG_DFL)
         sys.stdout.write(text)
         sys.stdout.flush()
     except Fault as fault:
         sys.exit(f"{tool_name()}: {fault}")
+    except KeyboardInterrupt:
+        signal.signal(signal.SIGINT, signal.SIG_DFL)
+        os.kill(os.getpid(), signal.SIGINT)
     except OSError as error:
         # (what could not be written is not tried again at the end)
         os.dup2(os.open(os.devnull, os.O_WRONLY), sys.stdout.fileno())

@@ -49,6 +49,7 @@ _twodfq() {
         lead) words='--of --over' ;;
         shape) words='--rate --burst' ;;
         compare) words='--workers --initial --refresh --slot' ;;
+        help) words='script run live gen check lead shape compare' ;;
         *) words= ;;
         esac
         for option in "${COMP_WORDS[@]:2:COMP_CWORD - 2}"; do words=" $words " words=${words/ $option / }; done
@@ -56,4 +57,5 @@ _twodfq() {
     esac
     mapfile -t COMPREPLY < <(compgen -W "$words" -- "$current")
 }
-complete -F _twodfq twodfq ./twodfq
+# (where nothing else fits, a file)
+complete -o default -F _twodfq twodfq ./twodfq
