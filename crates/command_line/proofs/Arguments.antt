@@ -1,4 +1,4 @@
--- What is given for options, while the words are gone through, and what the definitions say of it as a whole.
+-- The values given for options while the words are gone through, against the definitions, which take all words at once.
 use Rattle.std.proofs.Common.{ℕ, zero, suc, ◌<◌, ◌≡◌, Bool, true, false, not, ◌&&◌, ◌||◌, if◌then◌else◌, List, [], ◌∷◌, length, get_or, Option, Some, None, option_map, bytes_eq, position, refl, sym, ap, ◌∙◌, arith}
 use Rattle.std.specs.List.{list_any}
 use Rattle.std.specs.Option.{option_and_then, is_some}
@@ -34,7 +34,7 @@ values_with (row ∷ rows) [] given = Some []
 values_with (row ∷ rows) (v ∷ args) given =
     with_value (value_with row v (texts_for row.name given)) (values_with rows args given)
 
--- the values of options by what is given for them
+-- the values of options by the values that are given for them
 abbrev pub with_absent : List OptionRow → List Value → Option (List Value)
 with_absent [] args = Some []
 with_absent (row ∷ rows) [] = Some []
@@ -152,7 +152,7 @@ after_start rows n words count = go (options_of words)
     go None = refl
     go (Some g) = ap (λ vs. if are_known rows g then vs else None) (sym (values_start rows n g count))
 
--- what is asked of options that begin with g
+-- the values by given options that begin with g, if all of them are known
 abbrev first_known : List OptionRow → List Value → Given → List Given → Option (List Value)
 first_known rows args g more = if list_any (has_name g.name) rows && are_known rows more then values_with rows args (g ∷ more) else None
 

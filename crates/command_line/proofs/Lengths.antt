@@ -1,4 +1,4 @@
--- There are as many values as options, and each is what it is whatever stands for one that is not there.
+-- There are as many values as options, and a value that is there does not depend on the default of a look-up.
 use Rattle.std.proofs.Common.{ℕ, suc, ◌<◌, ◌≡◌, Bool, true, false, if◌then◌else◌, List, [], ◌∷◌, length, get_or, Option, Some, None, option_map, refl, sym, ap, arith}
 use Rattle.std.specs.Option.{option_and_then}
 use Rattle.std.proofs.lemmas.List.{get_or_default}

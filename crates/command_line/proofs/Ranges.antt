@@ -1,4 +1,4 @@
--- What is read of options lies in their ranges.
+-- The values that are read of options lie in their ranges.
 use Rattle.std.proofs.Common.{ℕ, ◌≤◌, ◌≡◌, ◌&&◌, nat_lt, Bool, true, false, ◌||◌, if◌then◌else◌, List, [], ◌∷◌, Option, Some, None, option_map, position, bytes_eq, refl, subst, arith}
 use Rattle.std.specs.Option.{option_and_then}
 use Rattle.std.proofs.lemmas.Bool.{ltb-false}
@@ -29,7 +29,7 @@ where_value : (b : Bool) (found : Option Argument) (a : Argument) → (if b then
 where_value true found a e = e
 where_value false found a e = absurd (cc)
 
--- a number that is found is what is given
+-- a number that is found lies in its range
 number_range : (low high : ℕ) (number : Option ℕ) (a : Argument) → option_map (λ n. Number n) (option_and_then (within low high) number) ≡ Some a → IsWithin (Within low high) a
 number_range low high number a e = go (option_and_then (within low high) number) refl e
   where
@@ -61,7 +61,7 @@ argument_range (Among words) text a e = place_range words (position (λ w. bytes
 argument_range (Within low high) text a e = number_range low high (number_of text) a (where_value (is_value text) (argument_among (Within low high) text) a e)
 argument_range Named text a e = name_range (is_name text) text a (where_value (is_value text) (argument_among Named text) a e)
 
--- what is found is the value
+-- the value that is found is one that the option may have
 found_range : (row : OptionRow) (found : Option Argument) (v : Value) → GivesWithin row.values found → option_map (λ a. Some a) found ≡ Some v → IsValueOf row v
 found_range row None v range e = absurd (cc)
 found_range row (Some a) v range e =

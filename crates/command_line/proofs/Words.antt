@@ -1,4 +1,4 @@
--- Words that are read option by option, and what the definitions say of them as a whole.
+-- Words that are read option by option, against the definitions, which take all words at once.
 use Rattle.std.proofs.Common.{ℕ, suc, ◌<◌, ◌≡◌, Bool, true, false, if◌then◌else◌, List, [], ◌∷◌, map, length, Option, Some, None, option_map, unwrap_or, bytes_eq, codes, position, Bor, refl, sym, ap, ◌∙◌, arith}
 use Rattle.std.specs.List.{list_any}
 use Rattle.std.specs.Option.{option_and_then}
@@ -71,7 +71,7 @@ rest_shorter [] g rest e = absurd (cc)
 rest_shorter (word ∷ []) g rest e = shorter_one (list_any is_equals word) (given_by word) g rest e
 rest_shorter (word ∷ next ∷ words) g rest e = shorter_two (list_any is_equals word) (given_by word) (record { name = word; text = next }) next words g rest e
 
--- ---- what a value stands for
+-- ---- the value that a text spells
 
 pub place_among_words : (words : List (Bor (List ℕ))) (text : List ℕ) (place : Option ℕ) → is_value text ≡ true → place ≡ position (λ w. bytes_eq w.now text) words → argument_for (Among (map (λ w. w.now) words)) text ≡ option_map (λ n. Number n) place
 unfolding argument_for

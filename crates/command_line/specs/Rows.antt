@@ -1,4 +1,4 @@
--- What the options of a command are in the definitions.
+-- The options of a command, as the definitions see them.
 use Rattle.std.specs.Prelude.{ℕ, ◌≤◌, ◌≡◌, Bool, true, ◌&&◌, not, List, [], ◌∷◌, map, Option, Some, None, bytes_eq}
 use Rattle.std.specs.List.{list_any}
 use Rattle.command_line.specs.declared.options.Values as code_values
@@ -10,13 +10,13 @@ use Rattle.program_model.specs.declared.argument.Argument.{Argument}
 use Rattle.program_model.specs.declared.argument.Argument.TheVariants.{Number, Name}
 use Rattle.program_model.specs.Options.{Values, Within, Among, Named, Absent, Required, Nothing, Default, OptionRow, Value, absent_value}
 
--- what may be written as a value
+-- the texts that may be written as a value
 abbrev pub seen_values : code_values.Values → Values
 seen_values (values.Within low high) = Within low high
 seen_values (values.Among words) = Among (map (λ w. w.now) words.now)
 seen_values values.Named = Named
 
--- what it means that an option is not given
+-- the meaning of an option that is not given
 abbrev pub seen_absent : code_absent.Absent → Absent
 seen_absent absent.Required = Required
 seen_absent absent.Nothing = Nothing
@@ -35,7 +35,7 @@ abbrev pub are_distinct : List OptionRow → Bool
 are_distinct [] = true
 are_distinct (row ∷ rows) = not (list_any (has_name row.name) rows) && are_distinct rows
 
--- the value of an option that is given, or the one that it has where it is not
+-- the value that is given for an option, or else its value where it is absent
 abbrev pub or_absent : OptionRow → Value → Option Value
 or_absent row (Some a) = Some (Some a)
 or_absent row None = absent_value row.values row.absent

@@ -103,7 +103,7 @@ fn live_command(words: &[String]) -> Option<Command>
     Some(Command::Live { options })
 }
 
-// With what a trace is run, by the values of these options.
+// The options of a run of a trace, by these values.
 fn run_options(
     workers: Value,
     policy: Value,
@@ -200,7 +200,7 @@ fn compare_command(words: &[String]) -> Option<Command>
     Some(Command::Compare { options })
 }
 
-// What a value stands for that is a place among these.
+// The item at the place that a value gives, or the default past the end.
 fn choice<T: Copy>(all: &[T], place: Value, default: T) -> T
     ensures { result ≡ slice_index_or all.now (unwrap_or (number_given place) 0) default }
 {

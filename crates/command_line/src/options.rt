@@ -1,4 +1,4 @@
-//! The options of a command, and what words say of them.
+//! The options of a command, and their values by words.
 ghost use Rattle.std.specs.Prelude.{◌≡◌, IsTrue, IfSome, if◌then◌else◌, length, map, option_and_then, position, bytes_eq, Some, None};
 ghost use Rattle.std.specs.String.{string_bytes};
 ghost use Rattle.fq_model.specs.Spelling.{is_name};
@@ -11,7 +11,7 @@ use program_model::argument::Argument;
 use program_model::name::Name;
 use program_model::numbers::number;
 
-/// What may be written as the value of an option. It is never empty, and never begins with `-`.
+/// The texts that may be written as the value of an option. None of them is empty, or begins with `-`.
 pub enum Values {
     /// A number from `low` to `high`.
     Within { low: u64, high: u64 },
@@ -21,13 +21,13 @@ pub enum Values {
     Named,
 }
 
-/// What it means that an option is not given.
+/// The meaning of an option that is not given.
 pub enum Absent {
     /// The words are no command line.
     Required,
     /// The option has no value.
     Nothing,
-    /// The same as this text.
+    /// The option has the value that this text spells.
     Default(&'static str),
 }
 
@@ -79,7 +79,7 @@ fn place_of(rows: &[OptionRow], name: &str) -> Option<usize>
 }
 
 impl OptionRow {
-    // The value that is given for the option, or the one that it has where none is.
+    // The value that is given for the option, or else its value where it is absent.
     fn or_absent(&self, given: Value) -> Option<Value>
         ensures { result ≡ or_absent (seen_row self.now) given }
     {
@@ -102,7 +102,7 @@ impl OptionRow {
 }
 
 impl Values {
-    // What a text stands for, if it may be a value and is one of these.
+    // The value that a text spells, if it may be a value and is one of these.
     fn argument_for(&self, text: &str) -> Option<Argument>
         ensures { result ≡ argument_for (seen_values self.now) text.now }
     {

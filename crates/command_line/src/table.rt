@@ -1,4 +1,4 @@
-//! The options of the commands, and what the words that they list stand for.
+//! The options of the commands, and the meanings of the words that they list.
 
 use crate::options::{Absent, OptionRow, Values};
 use fq_model::config::{Estimator, Policy};
@@ -17,21 +17,21 @@ pub const POLICIES: [Policy; 5] = [
     Policy::TwoDfqPlus,
 ];
 
-/// The same for the estimators.
+/// The estimators, in the order of the words for them.
 pub const ESTIMATORS: [Estimator; 3] = [
     Estimator::Declared,
     Estimator::Recent,
     Estimator::Pessimistic,
 ];
 
-/// What `script` may write, in the order of the words for it.
+/// The outputs of `script`, in the order of the words for them.
 pub const SCRIPT_PRINTS: [ScriptPrint; 3] = [
     ScriptPrint::Replies,
     ScriptPrint::Journal,
     ScriptPrint::Both,
 ];
 
-/// The same for `run` and `live`.
+/// The outputs of `run` and `live`, in the order of the words for them.
 pub const HISTORY_PRINTS: [HistoryPrint; 4] = [
     HistoryPrint::Journal,
     HistoryPrint::Report,
@@ -39,7 +39,7 @@ pub const HISTORY_PRINTS: [HistoryPrint; 4] = [
     HistoryPrint::Summary,
 ];
 
-/// The same for `gen`.
+/// The outputs of `gen`, in the order of the words for them.
 pub const GEN_PRINTS: [GenPrint; 2] = [GenPrint::Trace, GenPrint::Summary];
 
 /// The options of `script`.
@@ -160,7 +160,7 @@ pub const SHAPE_OPTIONS: [OptionRow; 2] = [
 /// The options of `compare`, as in `run`.
 pub const COMPARE_OPTIONS: [OptionRow; 4] = [WORKERS, INITIAL, REFRESH, SLOT];
 
-// What several commands ask alike.
+// Options that several commands share.
 
 // How many workers there are.
 const WORKERS: OptionRow = OptionRow {

@@ -1,4 +1,4 @@
--- A name that is looked for among those of the tenants, one after another, and the line of what was measured.
+-- A name that is looked for among those of the tenants, one after another, and the line of a measured lead.
 use Rattle.std.proofs.Common.{ℕ, ℤ, ◌+◌, ◌++◌, append_assoc, ◌<◌, ◌≤◌, ◌≡◌, true, false, List, [], length, get_or, Option, Some, None, refl, bytes_eq, sym, ap, subst, ◌∙◌, inl, inr, arith}
 use Rattle.std.specs.Prelude.{slice_get, codes}
 use Rattle.std.specs.Fmt.{signed_decimal}
@@ -53,12 +53,12 @@ pub none_at_all : (tenants : List (List ℕ × ℕ)) (name : List ℕ) (t : ℕ)
 none_at_all tenants name t past before =
     sym (none_found (bytes_eq name) (names_of tenants) [] (λ k below. before k (omega (arith, past, below, length_names tenants))))
 
--- ---- what was measured
+-- ---- the measured lead
 
 line_of : (of over : List ℕ) (ever measured_ever : Option ℤ) (gap measured : Option TagGap) → ever ≡ measured_ever → gap ≡ measured → lead_text of over ever gap ≡ lead_text of over measured_ever measured
 line_of of over ever measured_ever gap measured e f = rw (e, f) refl
 
--- the line of a lead is that of what it is
+-- the line of a lead is the text of the measured numbers
 pub line_told : (of over : List ℕ) (C : Config) (H : History) (f g : ℕ) (lead : Option Lead) (text : List ℕ) → IsLead C H f g lead → IsLineOf of over lead text → text ≡ measured_text of over C H f g
 line_told of over C H f g None text is line = line ∙ line_of of over _ _ None (measured_gap C H f g) refl is.gap_is
 line_told of over C H f g (Some lead) text is line = line ∙ line_of of over lead.ever (measured_ever_bound C H) (Some (told lead.gap)) (measured_gap C H f g) is.ever_is is.gap_is

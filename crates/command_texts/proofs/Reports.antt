@@ -1,4 +1,4 @@
--- What is answered of histories, and of simulated ones.
+-- The answers from histories, and from simulated histories.
 use Rattle.std.proofs.Common.{ℕ, ◌<◌, ◌≤◌, ◌≡◌, ◌∙◌, sym, ap, subst, refl, arith, Bool, true, false, ◌&&◌, List, length, Result, Ok, Err}
 use Rattle.std.proofs.lemmas.Bool.{false≢true, ltb-true, ltb-false, lt-ltb}
 use Rattle.fluid_reference.proofs.Lists.{list_length}
@@ -49,13 +49,13 @@ both_true : (a b : Bool) → a ≡ true → b ≡ true → (a && b) ≡ true
 both_true true b made is = is
 both_true false b made is = absurd (false≢true made)
 
--- what has few cells is answered by its text
+-- the answer from a history with few cells is its text
 pub few_answer : (print : HistoryPrint) (slot : ℕ) (C : Config) (tenants kinds : List (List ℕ)) (past : List Entry) (text : List ℕ) → has_many_cells slot C (history_of past) ≡ false
     → text ≡ history_output print C tenants kinds past slot → Text 0 text ≡ history_answer print slot C tenants kinds past
 few_answer print slot C tenants kinds past text few is =
     rw (both_false (makes_report print) (has_many_cells slot C (history_of past)) few) (ap (Text 0) is)
 
--- and what has many, where a report is made, by their number
+-- and the answer from one with many cells, where a report is made, is their number
 many_answer : (print : HistoryPrint) (slot : ℕ) (C : Config) (tenants kinds : List (List ℕ)) (past : List Entry) (answer : Answer) → makes_report print ≡ true
     → IsManyCells slot C (history_of past) answer → answer ≡ history_answer print slot C tenants kinds past
 many_answer print slot C tenants kinds past answer made x =
@@ -66,7 +66,7 @@ pub many_stop : (print : HistoryPrint) (slot : ℕ) (C : Config) (tenants kinds 
 many_stop print slot C tenants kinds past stop made x =
     stop_as (IsManyCells slot C (history_of past)) (λ answer. answer ≡ history_answer print slot C tenants kinds past) stop (λ answer y. many_answer print slot C tenants kinds past answer made y) x
 
--- what ended, and would have failed with too many entries, has few enough
+-- a run that ended, and would have failed with too many entries, has few enough
 pub few_entries : {A F : Type 0} (needed : ℕ) (s : A) (fault : F) → (MOST_ENTRIES < needed → Ok s ≡ Err fault) → has_many_entries needed ≡ false
 few_entries needed s fault over = go (has_many_entries needed) refl
   where
@@ -78,7 +78,7 @@ few_entries needed s fault over = go (has_many_entries needed) refl
 pub short_run : (T : Trace) (O : RunOptions) (C : Config) → C ≡ run_config T O → has_many_entries (needed_entries T.rows O.refresh) ≡ false → HasShortHistory C
 short_run T O C same few = subst HasShortHistory (sym same) (omega (arith, ltb-false MOST_ENTRIES (needed_entries T.rows O.refresh) few))
 
--- what is answered of a history is answered of the one that was asked for
+-- an answer from a history is an answer from the history that was asked for
 pub of_history : (IsOne : History → Type 0) (needed : ℕ) (print : HistoryPrint) (slot : ℕ) (C D : Config) (tenants kinds : List (List ℕ)) (past : List Entry) (made : Result Output Stop)
     → has_many_entries needed ≡ false → C ≡ D → IsOne (history_of past) → Makes (λ answer. answer ≡ history_answer print slot C tenants kinds past) made
     → Makes (IsAnswerUnless (has_many_entries needed) (entries_answer needed) (IsHistoryAnswer IsOne print slot D tenants kinds)) made
@@ -87,7 +87,7 @@ of_history IsOne needed print slot C D tenants kinds past made few config one x 
     (λ answer y. else_answers (has_many_entries needed) (entries_answer needed) answer (IsHistoryAnswer IsOne print slot D tenants kinds) few
     (record { past = past; is_one = one; answer_is = subst (λ E. answer ≡ history_answer print slot E tenants kinds past) config y })) x
 
--- one that would have too many entries is told of
+-- the answer where a history would have too many entries
 pub of_entries : (Else : Answer → Type 0) (needed entries : ℕ) (stop : Stop) → MOST_ENTRIES < needed → entries ≡ needed → IsStop (λ answer. answer ≡ entries_answer entries) stop
     → IsStop (IsAnswerUnless (has_many_entries needed) (entries_answer needed) Else) stop
 of_entries Else needed entries stop many same x =

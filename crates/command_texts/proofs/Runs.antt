@@ -1,4 +1,4 @@
--- What each end of the program says of its status.
+-- The meaning of the status of each end of the program.
 use Rattle.std.proofs.Common.{ℕ, ◌<◌, ◌≤◌, ◌≡◌, ◌∙◌, sym, ap, subst, refl, arith, nat_lt, ◌==◌, Bool, true, false, ◌&&◌, if◌then◌else◌, List, [], ◌++◌, length, Option, Some, None, Result, Ok, Err, ◌⊎◌, inl, inr}
 use Rattle.std.specs.Prelude.{IfSome, IsSomeAnd}
 use Rattle.std.specs.String.{string_bytes}
@@ -73,7 +73,7 @@ unless_sound : (b : Bool) (so answer : Answer) (Else : Answer → Type 0) → Is
 unless_sound true so answer Else some other x = sound_as answer so x some
 unless_sound false so answer Else some other x = other x
 
--- what is answered of what an input says, or its first fault
+-- the answer to the contents of an input, or its first fault
 read_sound : {A F : Type 0} (fault_text : F → List ℕ) (IsOf : A → Answer → Type 0) (read : Result A (ℕ × F)) (answer : Answer) → ((said : A) → IsOf said answer → IsSound answer) → IsReadAnswer fault_text IsOf read answer → IsSound answer
 read_sound fault_text IsOf (Ok said) answer other x = other said x
 read_sound fault_text IsOf (Err (line, fault)) answer other x = sound_as answer _ x refl
@@ -114,7 +114,7 @@ generated_sound gen.Trace T answer x = sound_as answer _ x refl
 generated_sound gen.Summary T answer x =
     history_sound (IsSimulated T default_run_options) history.Summary 0 (run_config T default_run_options) T.tenants T.kinds answer x
 
--- what is answered of one of these histories, or that it would have too many entries
+-- the answer from one of these histories, or that it would have too many entries
 counted_sound : (IsOne : History → Type 0) (needed : ℕ) (print : HistoryPrint) (slot : ℕ) (C : Config) (tenants kinds : List (List ℕ)) (answer : Answer)
     → IsAnswerUnless (has_many_entries needed) (entries_answer needed) (IsHistoryAnswer IsOne print slot C tenants kinds) answer → IsSound answer
 counted_sound IsOne needed print slot C tenants kinds answer x =
@@ -163,12 +163,12 @@ gave_told None left2 input read = tt
 gave_told (Some xs) None input read = absurd read
 gave_told (Some xs) (Some ys) input read = sym read.0
 
--- what was read is the input, where that is known
+-- the bytes that were read are the input, where they are known
 told : (reads : Bool) (source : Move) (input : List ℕ) → ReadsInput reads source input → IfSome (if reads then source.before.bytes else Some []) (λ xs. xs ≡ input)
 told true source input read = gave_told source.before.bytes source.after.bytes input read
 told false source input read = sym read.1
 
--- so what is so of the one is so of the other
+-- so a property of the input is one of the bytes, and the other way round
 known : (So : List ℕ → Type 0) (o : Option (List ℕ)) (input : List ℕ) → IfSome o (λ xs. xs ≡ input) → So input → IfSome o So
 known So None input t q = tt
 known So (Some xs) input t q = subst So (sym t) q
@@ -190,7 +190,7 @@ is_said Told command input answer within x = else_answers (nat_lt greatest_input
     go true e = absurd (omega (arith, within, ltb-true greatest_input (length input) e))
     go false e = e
 
--- what is said of one that is
+-- the answer to an input that is too long
 abbrev too_long : Answer
 too_long = Message 3 (failure_message TooLong)
 
@@ -211,7 +211,7 @@ fails_reading : (reads : Bool) (source : Move) → FailsReading reads source →
 fails_reading true source x = x.0
 fails_reading false source x = absurd x
 
--- ---- what the status of each end says, where a command is asked for
+-- ---- the meaning of the status of each end, where a command is asked for
 
 module _ (Told : ℕ → Type 0) (command : Command) (source sink : Move) where
   record Means (status : ℕ) : Type 0 where
@@ -275,7 +275,7 @@ module _ (Told : ℕ → Type 0) (command : Command) (source sink : Move) where
       text_no_message : (s : ℕ) → (message : List ℕ) × (Text status text ≡ Message s message) → ⊥
       text_no_message s m = let clash = m.1 in absurd (cc)
 
-  -- a message was told
+  -- the answer is a message
   means_told : (status : ℕ) (message : List ℕ) → IsAnswered Told command source (Message status message) → Means status
   means_told status message x =
       let fine = answer_sound (Message status message) x in
@@ -336,7 +336,7 @@ module _ (Told : ℕ → Type 0) (command : Command) (source sink : Move) where
   means (Err (Stopped (stops.Message status message))) x = means_told status (string_bytes message) x.0
   means (Err (Stopped stops.NoMemory)) x = means_no_memory
 
--- the same by what is asked
+-- the meaning of the status of each end, by the command that is asked for, if any
 ends_mean : (Told : ℕ → Type 0) (ask : Option Command) (source sink : Move) (end : Result ℕ Failure) → Ends Told ask source sink end → StatusMeans Told ask source sink (status_of end)
 ends_mean Told None source sink end x = rw x.0 (record {
   line = (λ _ some. false≢true some, λ _. refl);
@@ -357,7 +357,7 @@ ends_mean Told (Some command) source sink end x =
       says = m.says;
     }
 
--- what was found to be asked ended so, and that was told
+-- a run of the program, by the command that was found, its end and the message of that end
 pub run_is : {Told : ℕ → Type 0} {found ask : Option Command} {source sink errs : Move} {status : ℕ} (serves : Command → Bool) (end : Result ℕ Failure) → found ≡ ask → Ends Told (if_served serves found) source sink end
     → status ≡ status_of end → TellsEnd errs end → Later source → Later sink → Later errs → IsRun Told (if_served serves ask) source sink errs status
 run_is {Told} {found} {ask} {source} {sink} serves end is ends status says source_later sink_later errs_later = record {

@@ -31,11 +31,11 @@ use Rattle.command_texts.specs.Making.{Makes, IsStop, TellsDocumentFault}
 use Rattle.command_texts.specs.Serving.{tells_replies, tells_journal, told_text, AreAnswered, IsBodyAnswered, OpensAs, IsCallsAnswer, IsBodyAnswer}
 use Rattle.command_texts.proofs.Making.{stop_as, makes_as, document_stop}
 
--- what a body says, or its first fault
+-- the calls of a body, or its first fault
 abbrev pub Said : Type 0
 Said = Result (List Call) (ℕ × ScriptKind)
 
--- of what a body said, these calls were answered, and this is left
+-- the first calls of a body were answered, and the rest is left
 pub record IsPartAnswered (C : Config) (tells : Bool) (said left : Said) (text : List ℕ) (past : List Entry) : Type 0 where
   pub calls : List Call
   pub means : said ≡ with_more calls left
@@ -69,7 +69,7 @@ nothing_answered C tells said text past t p = record {
   answered = record { replies = []; outcome = ap history_of p; told = t ∙ nothing_told tells };
 }
 
--- the line of a reply is added where replies are told
+-- the line of a reply is added where replies are asked for
 pub line_is_told : {F : Type 0} (tells : Bool) (added : Result (Unit {0}) F) (text text2 line : List ℕ) → tells ≡ true → is_err added ≡ false → OnOk added (text2 ≡ text ++ line) → text2 ≡ text ++ (if tells then line else [])
 line_is_told tells (Ok done) text text2 line tell ok more = rw (tell) more
 line_is_told tells (Err fault) text text2 line tell ok more = absurd (false≢true (sym ok))
@@ -99,13 +99,13 @@ all_answered C tells said left text past p none = record {
   answered = p.answered;
 }
 
--- what is told of replies and then of the journal is what is asked for
+-- the text of the replies and then that of the journal are the output that is asked for
 output_is : (what : ScriptPrint) (replies journal : List ℕ) → (if tells_replies what then replies else []) ++ (if tells_journal what then journal else []) ≡ script_output_text what replies journal
 output_is Replies replies journal = append-nil replies
 output_is Journal replies journal = refl
 output_is Both replies journal = refl
 
--- what is answered to calls is what is left of the script that has them
+-- the answer to calls is the answer to the script that has them
 served_is : (what : ScriptPrint) (head : Script) (calls : List Call) (C : Config) (names kinds : List (List ℕ)) (answer : Answer)
     → C ≡ config_of head → names ≡ head.tenants → kinds ≡ head.kinds → IsCallsAnswer what C names kinds calls answer → AreCallsMade what (record head { body = calls }) answer
 served_is what head calls C names kinds answer c n k x =
@@ -124,7 +124,7 @@ served_is what head calls C names kinds answer c n k x =
           ∙ output_is what (replies_text answered.replies) (journal_text (config_of head) head.tenants head.kinds x.past)));
     }
 
--- what is answered by what a body says is answered by what the script says
+-- an answer by the contents of a body is an answer by the contents of the script
 body_is : (what : ScriptPrint) (head : Script) (C : Config) (names kinds : List (List ℕ)) (said : Said) (answer : Answer)
     → C ≡ config_of head → names ≡ head.tenants → kinds ≡ head.kinds → IsBodyAnswer what C names kinds said answer → IsReadAnswer script_fault_text (AreCallsMade what) (with_body_lines head said) answer
 body_is what head C names kinds (Ok calls) answer c n k x = served_is what head calls C names kinds answer c n k x
@@ -138,7 +138,7 @@ opened_is what head below C names kinds made c n k x input opened =
     makes_as (IsBodyAnswer what C names kinds (said_below call_of_words below)) (IsScriptAnswer what input) made
     (λ answer y. subst (λ read. IsReadAnswer script_fault_text (AreCallsMade what) read answer) (sym (opened.means call_of_words)) (body_is what head C names kinds (said_below call_of_words below) answer c n k y)) x
 
--- what is told of the first fault of a body, or of a script
+-- the answer and the stop that name the first fault of a body, or of a script
 body_fault : (what : ScriptPrint) (C : Config) (names kinds : List (List ℕ)) (fault : ScriptFault) (said : Said) (answer : Answer) → IsFirstFault fault said → TellsDocumentFault (codes "script") fault answer → IsBodyAnswer what C names kinds said answer
 body_fault what C names kinds (faults.At line kind) said answer first x = subst (λ s. IsBodyAnswer what C names kinds s answer) (sym first) x
 body_fault what C names kinds faults.NoMemory said answer first x = absurd x

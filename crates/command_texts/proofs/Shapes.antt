@@ -1,4 +1,4 @@
--- What is answered of a trace that is to be shaped.
+-- The answer from a trace that is to be shaped.
 use Rattle.std.proofs.Common.{ℕ, ◌<◌, ◌≡◌, ◌∙◌, sym, ap, subst, nat_lt, List, length, Option, Some, None}
 use Rattle.std.proofs.lemmas.List.Quantifiers.{position-Some}
 use Rattle.program_model.specs.declared.ending.Stop.{Stop}
@@ -21,14 +21,14 @@ big_within T burst r big = (position-Some (λ (row : TraceRow). nat_lt burst row
     any_row : TraceRow
     any_row = record { moment = 0; submitter = 0; tenant = 0; kind = 0; declared = 0; cost = 0 }
 
--- what tells of it answers
+-- the answer and the stop where a row declares more than a bucket holds
 big_answer : (rate burst : ℕ) (T : Trace) (r : ℕ) (answer : Answer) → too_big T burst ≡ Some r → IsBigAnswer T burst r answer → IsShapedAnswer rate burst T answer
 big_answer rate burst T r answer big x = subst (λ first. IsSizedAnswer rate burst T first answer) (sym big) x
 
 pub big_stop : (rate burst : ℕ) (T : Trace) (r : ℕ) (stop : Stop) → too_big T burst ≡ Some r → IsStop (IsBigAnswer T burst r) stop → IsStop (IsShapedAnswer rate burst T) stop
 big_stop rate burst T r stop big x = stop_as (IsBigAnswer T burst r) (IsShapedAnswer rate burst T) stop (λ answer y. big_answer rate burst T r answer big y) x
 
--- where there are least moments, what is answered goes by the first that is too late
+-- where there are least moments, the answer goes by the first that is too late
 of_moments : (rate burst : ℕ) (T : Trace) (moments : List ℕ) (late : Option ℕ) (answer : Answer) → IsLeastConforming T rate burst moments → too_late moments ≡ late → answer ≡ moments_answer T moments late → IsShapedAnswer rate burst T answer
 of_moments rate burst T moments late answer least is x =
     subst (λ first. IsSizedAnswer rate burst T first answer) (sym (none_too_big T rate burst moments least.conforms))

@@ -17,7 +17,7 @@ pub record IsReportText (slot : ℕ) (C : Config) (H : History) (tenants : List 
   pub few : has_many_cells slot C H ≡ false
   pub text_is : text ≡ report_text C H tenants (slot_for C H slot)
 
--- it would have too many cells, and the answer tells how many
+-- the report would have too many cells, and the answer has their number
 pub record IsManyCells (slot : ℕ) (C : Config) (H : History) (answer : Answer) : Type 0 where
   pub many : has_many_cells slot C H ≡ true
   pub answer_is : answer ≡ cells_answer (cells_of C H slot)

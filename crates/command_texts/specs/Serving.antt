@@ -1,4 +1,4 @@
--- What is left of a script whose calls are answered as they are read.
+-- The answer to a script whose calls are made as they are read.
 use Rattle.std.specs.Prelude.{ℕ, ◌≡◌, Bool, true, false, if◌then◌else◌, codes, List, [], ◌++◌, Result, Ok, Err}
 use Rattle.program_model.specs.declared.command.ScriptPrint.{ScriptPrint}
 use Rattle.program_model.specs.declared.command.ScriptPrint.TheVariants.{Replies, Journal}
@@ -29,7 +29,7 @@ tells_journal _ = true
 abbrev pub OpensAs : List ℕ → Document Call → Below → Type 0
 OpensAs input head body = IsOpened (λ reader. document_of (codes "script") reader input) head body
 
--- what is kept of replies: a line for each, if they are told
+-- the kept text of replies: a line for each, if they are asked for
 abbrev pub told_text : Bool → List Reply → List ℕ
 told_text tells replies = if tells then replies_text replies else []
 
@@ -40,7 +40,7 @@ pub record AreAnswered (C : Config) (tells : Bool) (calls : List Call) (text : L
   pub outcome : Outcome C calls replies (history_of past)
   pub told : text ≡ told_text tells replies
 
--- the answer is what is asked for of calls that were answered so, with these tenants and kinds
+-- the answer has the output that is asked for of calls that were answered so, with these tenants and kinds
 pub record IsCallsAnswer (what : ScriptPrint) (C : Config) (tenants kinds : List (List ℕ)) (calls : List Call) (answer : Answer) : Type 0 where
   pub told : List ℕ
   pub past : List Entry
@@ -53,7 +53,7 @@ pub record IsBodyAnswered (C : Config) (said : Result (List Call) (ℕ × Script
   pub read : said ≡ Ok calls
   pub answered : AreAnswered C tells calls text past
 
--- what is answered to a script with this configuration and with these tenants and kinds, by what its body says
+-- the answer to a script with this configuration and with these tenants and kinds, by the contents of its body
 abbrev pub IsBodyAnswer : ScriptPrint → Config → (tenants kinds : List (List ℕ)) → Result (List Call) (ℕ × ScriptKind)
     → Answer → Type 0
 IsBodyAnswer what C tenants kinds (Ok calls) answer = IsCallsAnswer what C tenants kinds calls answer

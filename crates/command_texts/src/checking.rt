@@ -16,7 +16,7 @@ use program_model::ending::{Output, Stop};
 use program_model::verdict::Verdict;
 use std::alloc::{AllocError, Global};
 
-/// What `check` answers to its input, which is given up before the journal is judged.
+/// The answer of `check` to its input, which is given up before the journal is judged.
 pub fn answer(alloc: Global, asked: Option<u32>, input: Vec<u8>) -> Result<Output, Stop>
     ensures { Makes (IsCheckAnswer asked input.items) result }
 {
@@ -32,7 +32,7 @@ pub fn answer(alloc: Global, asked: Option<u32>, input: Vec<u8>) -> Result<Outpu
     }
 }
 
-// What is answered of a journal.
+// The answer from a journal.
 fn judged(alloc: Global, asked: Option<u32>, journal: &Journal) -> Result<Output, Stop>
     ensures { Makes (IsJudged asked journal.now) result }
 {

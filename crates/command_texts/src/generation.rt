@@ -23,8 +23,8 @@ const DEFAULT_OPTIONS: RunOptions = RunOptions {
     refresh: 10000,
 };
 
-/// What `gen` answers: the trace of a seed as a text, or the summary of its simulated history under the default options
-/// and the automatic slot.
+/// The answer of `gen`: the trace of a seed as a text, or the summary of its simulated history under the default
+/// options and the automatic slot.
 pub fn answer(
     alloc: Global,
     seed: u64,

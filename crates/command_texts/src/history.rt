@@ -1,4 +1,4 @@
-//! What is asked for of a history whose requests are all done: its journal, its lag report, both, or its summary.
+//! The answer from a history whose requests are all done: its journal, its lag report, both, or its summary.
 ghost use Rattle.std.specs.Prelude.{◌≡◌, ◌≤◌, None, length, string_bytes, MatchResult, IfOk};
 ghost use Rattle.fq_model.specs.declared.limits.TheConstants.{GREATEST_SLOT};
 ghost use Rattle.fq_model.specs.History.{history_of};
@@ -25,8 +25,8 @@ use std::alloc::{AllocError, Global};
 use tenant_table::kinds::Kinds;
 use tenant_table::tenants::Tenants;
 
-/// What is answered of a history that nobody needs afterwards: it is given up once its journal is printed, or its
-/// entries are read for a report. Slot 0 asks for the automatic slot.
+/// The answer from a history that nobody needs afterwards: it is given up once its journal is printed, or its entries
+/// are read for a report. Slot 0 asks for the automatic slot.
 pub fn last_history(
     alloc: Global,
     what: HistoryPrint,
@@ -120,7 +120,7 @@ fn made_report(alloc: Global, slot: u64, history: History) -> Result<Report, Sto
     }
 }
 
-/// Where a report would have more cells than it may, a message that tells how many.
+/// Where a report would have more cells than it may, a message with the number of cells.
 pub fn too_many_cells(alloc: Global, cells: u128) -> Stop
     ensures { IsStop (λ answer. answer ≡ cells_answer cells) result }
 {

@@ -1,6 +1,7 @@
-//! What a command makes of its input: one module a command. Nothing here reads or writes, or starts a thread.
+//! The answers of commands to their inputs: one module a command. Nothing here reads or writes, or starts a thread.
 //!
-//! Large values are let go by `drop`: what that does is then proved once, and not anew on each path of each function.
+//! Large values are dropped by a call of `drop`: the drop is then proved once, and not anew on each path of each
+//! function.
 #![tactic(auto)]
 
 pub mod checking;

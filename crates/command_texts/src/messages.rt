@@ -8,7 +8,7 @@ use journal_text::messages::placed_fault;
 use program_model::ending::Stop;
 use std::alloc::{AllocError, Global};
 
-/// A stop that tells this text as a line, at this status; or that memory ran out.
+/// A stop with this text as a line, at this status; or that memory ran out.
 pub fn told(alloc: Global, status: u8, text: Result<String, AllocError>) -> Stop
     ensures { IsStop (λ answer. IsOkAnd text (λ t. answer ≡ Message status (message_line (string_bytes t)))) result }
 {
@@ -27,7 +27,7 @@ fn line(alloc: Global, text: Result<String, AllocError>) -> Result<String, Alloc
     Ok(line)
 }
 
-/// Where an input is no script or no journal, which is its title, a message that tells of its first fault.
+/// Where an input is no script or no journal, which is its title, a message that names its first fault.
 pub fn document_stop(alloc: Global, title: &str, fault: ScriptFault) -> Stop
     ensures { IsStop (TellsDocumentFault title.now fault) result }
 {

@@ -1,4 +1,4 @@
-//! Commands that wait for nobody: what each makes of its input.
+//! Commands that wait for nobody: the answer of each to its input.
 ghost use Rattle.program_model.specs.CommandLimits.{IsPlainInRange};
 ghost use Rattle.program_model.specs.Commands.{IsPlainAnswer};
 ghost use Rattle.command_texts.specs.Making.{Makes};
@@ -9,7 +9,7 @@ use program_model::command::PlainCommand;
 use program_model::ending::{Output, Stop};
 use std::alloc::Global;
 
-/// What the command answers to its input. One that reads none is to be given an empty one, and looks at no input.
+/// The answer of the command to its input. A command that reads no input is to be given an empty one, which it ignores.
 pub fn answer(alloc: Global, command: PlainCommand, input: Vec<u8>) -> Result<Output, Stop>
     requires { IsPlainInRange command }
     ensures { Makes (IsPlainAnswer command input.items) result }

@@ -1,4 +1,4 @@
-//! `run`: what is asked for of the simulated history of a trace.
+//! `run`: the answer from the simulated history of a trace.
 ghost use Rattle.std.specs.Prelude.{◌≡◌, ◌≤◌, IfOk, string_bytes};
 ghost use Rattle.fq_model.specs.declared.limits.TheConstants.{GREATEST_SLOT};
 ghost use Rattle.program_model.specs.HistoryAnswer.{entries_answer, entries_text};
@@ -19,7 +19,7 @@ use trace_reader::trace::Trace;
 use trace_runner::fault::SimFault;
 use trace_runner::runner::simulate;
 
-/// What `run` answers to its input, which is given up before the trace is simulated.
+/// The answer of `run` to its input, which is given up before the trace is simulated.
 pub fn answer(
     alloc: Global,
     options: RunOptions,
@@ -35,7 +35,7 @@ pub fn answer(
     simulated(alloc, trace, options, slot, what)
 }
 
-/// What is answered of the simulated history of a trace, whose requests are given up once there is a history.
+/// The answer from the simulated history of a trace, whose requests are given up once there is a history.
 pub fn simulated(
     alloc: Global,
     trace: Trace,
@@ -57,7 +57,7 @@ pub fn simulated(
     }
 }
 
-/// Where a history would have more entries than there may be, a message that tells how many.
+/// Where a history would have more entries than there may be, a message with the number of entries.
 pub fn too_many_entries(alloc: Global, needed: u64) -> Stop
     ensures { IsStop (λ answer. answer ≡ entries_answer needed) result }
 {

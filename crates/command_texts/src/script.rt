@@ -1,4 +1,4 @@
-//! `script`: the calls of a script, and what is printed of them.
+//! `script`: the calls of a script, and the answer to them.
 ghost use Rattle.std.specs.Prelude.{ℕ, ◌≡◌, List, ◌++◌, [], if◌then◌else◌, IfOk, OnOk};
 ghost use Rattle.program_model.specs.JournalText.{journal_text};
 ghost use Rattle.program_model.specs.Script.{call_of_words};
@@ -24,8 +24,8 @@ use tag_rules::chooser::Chooser;
 use tenant_table::kinds::Kinds;
 use tenant_table::tenants::Tenants;
 
-/// What `script` answers to its input: the replies to its calls, the journal that they leave, or both. The scheduler is
-/// over any chooser.
+/// The answer of `script` to its input: the replies to its calls, the journal that they leave, or both. The scheduler
+/// is over any chooser.
 pub fn answer<X: Chooser + Drop>(
     alloc: Global,
     what: ScriptPrint,
@@ -39,7 +39,7 @@ pub fn answer<X: Chooser + Drop>(
     }
 }
 
-// The same of a script whose head is read, whatever the input was.
+// The answer to a script whose head is read, whatever the input was.
 fn opened<X: Chooser + Drop>(
     alloc: Global,
     what: ScriptPrint,
@@ -56,7 +56,7 @@ fn opened<X: Chooser + Drop>(
     output
 }
 
-// The same of a script with this configuration, and with these tenants and kinds.
+// The answer to a script with this configuration, and with these tenants and kinds.
 fn served<'a, X: Chooser + Drop>(
     alloc: Global,
     what: ScriptPrint,
@@ -74,7 +74,7 @@ fn served<'a, X: Chooser + Drop>(
     }
 }
 
-// What was kept of the replies, and the journal if it is asked for.
+// The kept text of the replies, and the journal if it is asked for.
 fn told_text(
     alloc: Global,
     what: ScriptPrint,

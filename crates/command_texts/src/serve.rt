@@ -22,8 +22,8 @@ pub struct Served {
     pub history: History,
 }
 
-/// Opens a scheduler, and makes the calls of a script's body on it as they are read. Their replies are kept as text
-/// if they are told. Where a line is no call, nothing is left of the calls before it. An answer that memory ran out
+/// Opens a scheduler, and makes the calls of a script's body on it as they are read. Their replies are kept as text if
+/// they are asked for. Where a line is no call, nothing is left of the calls before it. An answer that memory ran out
 /// says nothing of the text.
 pub fn serve<'a, X: Chooser + Drop>(
     alloc: Global,
@@ -40,7 +40,7 @@ pub fn serve<'a, X: Chooser + Drop>(
     serve_by::<X>(alloc, scheduler, body, tells)
 }
 
-// The same, on a scheduler that was just opened.
+// Makes the calls of a script's body on a scheduler that was just opened, as they are read.
 fn serve_by<'a, X: Chooser + Drop>(
     alloc: Global,
     mut scheduler: Scheduler<u64, X>,
@@ -66,7 +66,7 @@ fn serve_by<'a, X: Chooser + Drop>(
     }
 }
 
-// Makes the calls of a body, and keeps their replies as text if they are told.
+// Makes the calls of a body, and keeps their replies as text if they are asked for.
 fn answer_all<'a, X: Chooser>(
     mut body: Body<'a, Call>,
     tells: bool,

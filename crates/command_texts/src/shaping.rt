@@ -17,7 +17,7 @@ use trace_reader::trace::Trace;
 use trace_shape::fault::ShapeFault;
 use trace_shape::shaping::shape;
 
-/// What `shape` answers to its input, which is given up before the trace is shaped.
+/// The answer of `shape` to its input, which is given up before the trace is shaped.
 pub fn answer(alloc: Global, rate: u64, burst: u64, input: Vec<u8>) -> Result<Output, Stop>
     requires rate { IsWithin 1 GREATEST_RATE rate }
     requires burst { IsWithin 1 GREATEST_BURST burst }
@@ -29,7 +29,7 @@ pub fn answer(alloc: Global, rate: u64, burst: u64, input: Vec<u8>) -> Result<Ou
     output
 }
 
-// What is answered of a trace.
+// The answer from a trace.
 fn shaped(alloc: Global, trace: &Trace, rate: u64, burst: u64) -> Result<Output, Stop>
     requires lawful { IsLawfulTrace trace.now }
     requires rate { IsWithin 1 GREATEST_RATE rate }
@@ -48,7 +48,7 @@ fn shaped(alloc: Global, trace: &Trace, rate: u64, burst: u64) -> Result<Output,
     }
 }
 
-// Of the first row that declares more than a bucket holds, a message that tells how much.
+// A message with the size of the first row that declares more than a bucket holds.
 fn too_big(alloc: Global, trace: &Trace, burst: u64, r: u32) -> Stop
     requires { too_big trace.now burst ≡ Some r }
     ensures { IsStop (IsBigAnswer trace.now burst r) result }

@@ -24,7 +24,7 @@ use Rattle.compare_all.specs.Rows.{AreFirstRows, ComesAt, IsMade, IsFaultAt}
 take_one : {X : Type 0} (xs : List X) (k : ℕ) (x : X) → slice_get xs k ≡ Some x → take (k + 1) xs ≡ take k xs ++ x ∷ []
 take_one xs k x at = take_more xs k x (slice_get_within xs k x at) ∙ ap (λ y. take k xs ++ y ∷ []) (get_or_from_slice_get xs k x x at)
 
--- what is true of each two at one place is true at this
+-- a relation of the elements at each place holds at this place
 pub at_place : {A B : Type 0} (R : A → B → Type 0) (xs : List A) (ys : List B) (k : ℕ) (d : A) (e : B) → AllZip R xs ys → k < length ys → R (get_or xs k d) (get_or ys k e)
 at_place R [] [] k d e h l = absurd (omega (arith, l))
 at_place R [] (y ∷ ys) k d e h l = absurd h
@@ -57,7 +57,7 @@ module _ (T : Trace) (o : CompareOptions) where
     long = subst (λ x. IsSomeAnd x (IsLong T o cells)) (sym at) long;
   }
 
-  -- what is made of the next pair is one row more, or the reason why there are no more
+  -- the result for the next pair is one row more, or the reason why there are no more
   pub next_rows : (rows more : List CompareRow) (pair : Policy × Estimator) (made : Result CompareRow RowFault) → slice_get all_pairs (length rows) ≡ Some pair → IsMade T o pair made → IsOkAnd made (λ row. more ≡ rows ++ row ∷ []) → AreFirstRows T o rows → AreFirstRows T o more
   next_rows rows more pair (Ok row) at x added first = subst (AreFirstRows T o) (sym added) (one_more rows pair row at x.0 x.1 first)
   next_rows rows more pair (Err fault) at x added first = absurd added

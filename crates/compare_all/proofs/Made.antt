@@ -1,4 +1,4 @@
--- What is made of a simulated history.
+-- The result for a pair, by its simulated history.
 use Rattle.std.proofs.Common.{ℕ, ◌+◌, ◌≤◌, ◌≡◌, subst, sym, arith, Bool, true, false, not, [], ◌∷◌, length, None, Some, is_some, unwrap_or, Result, Ok, Err}
 use Rattle.std.proofs.Math.Nat.{div-le_self}
 use Rattle.fq_model.specs.declared.config.Config.{Config}

@@ -21,7 +21,7 @@ use trace_runner::needed::needed;
 /// How many pairs of a policy and an estimator are compared.
 const PAIRS: usize = 12;
 
-/// What each pair comes to on a trace: twelve rows, by policy `wfq`, `wf2q`, `msf2q`, `2dfq`, and in
+/// The rows of all pairs on a trace: twelve rows, by policy `wfq`, `wf2q`, `msf2q`, `2dfq`, and in
 /// each by estimator `declared`, `recent`, `pessimistic`. The rows are the same for any number of threads. The policies
 /// go one after another and the estimators of each side by side, so no more than three histories and reports stand in
 /// memory at once. The first row without a history or a report decides; no row after those of its policy is begun.
@@ -48,7 +48,7 @@ pub fn compare<R: Threads + Sync>(
     Ok(rows)
 }
 
-// Adds the rows of the next policy, up to the first that there is none of.
+// Adds the rows of the next policy, up to the first pair without a row.
 fn add_rows<R: Threads + Sync>(
     rt: &R,
     alloc: Global,
@@ -72,7 +72,7 @@ fn add_rows<R: Threads + Sync>(
     Ok(())
 }
 
-// Adds a row, or tells why there is none.
+// Adds a row, or gives the fault where there is none.
 fn add_row(
     made: Result<CompareRow, RowFault>,
     rows: &mut Vec<CompareRow>,

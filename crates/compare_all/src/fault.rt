@@ -10,7 +10,7 @@ use thiserror::Error;
 /// Why the policies and estimators are not compared on a trace: the first reason, in the order of these variants.
 #[derive(Clone, Copy, PartialEq, Eq, Error)]
 pub enum CompareFault {
-    /// Each history would have so many entries; there may be 4,194,304.
+    /// Each history would have this number of entries; there may be 4,194,304.
     #[error("each history would have {0} entries, and there may be {MOST_ENTRIES}")]
     TooManyEntries(u64),
     /// The first row whose report would have too many cells, counted from 0, and how many; there may be 4,000,000.

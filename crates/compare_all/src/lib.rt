@@ -1,4 +1,4 @@
-//! A trace under the published policies and all estimators: what each comes to, and the best of them.
+//! A trace under the published policies and all estimators: the row of each pair, and the best row.
 #![tactic(auto)]
 
 pub mod best;

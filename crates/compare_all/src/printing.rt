@@ -50,7 +50,7 @@ fn end_text(alloc: Global, row: CompareRow) -> Result<String, AllocError>
     format!(in alloc; "policy {policy} estimate {estimate} end {end} entries {entries}")
 }
 
-// Between what numbers all lags are.
+// The least and the greatest lag, and the end of the line.
 fn lag_text(alloc: Global, row: CompareRow) -> Result<String, AllocError>
     ensures { IfOk result (λ text. string_bytes text ≡ lag_text row) }
 {

@@ -1,4 +1,4 @@
-//! What one policy and estimator come to on a trace.
+//! The row of a policy and an estimator on a trace.
 ghost use Rattle.std.specs.Prelude.{◌≡◌, ◌≤◌, ◌+◌, ◌*◌, length, None, IfOk};
 ghost use Rattle.std.specs.List.{AllZip};
 ghost use Rattle.fq_model.specs.History.{history_of};
@@ -31,7 +31,7 @@ use trace_runner::runner::simulate;
 /// Why there is no row.
 #[derive(Clone, Copy)]
 pub enum RowFault {
-    /// Its report would have so many cells, and may not.
+    /// Its report would have this number of cells, which is too many.
     TooLong(u64),
     /// Memory ran out.
     NoMemory,
@@ -134,7 +134,7 @@ fn row_of_history(
     }
 }
 
-// How many cells so many slots have for the tenants of a configuration.
+// The number of cells of this number of slots, for the tenants of a configuration.
 fn cells(slots: u64, config: &Checked) -> u64
     requires { slots ≤ GREATEST_MOMENT + 1 }
     ensures { result ≡ slots * length config.now.weights }

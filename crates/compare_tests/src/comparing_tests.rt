@@ -1,4 +1,4 @@
-//! Traces written by hand, with what each policy and estimator come to on them.
+//! Traces written by hand, with the rows of each policy and estimator for them.
 ghost use Rattle.std.specs.Prelude.{◌≡◌};
 ghost use Rattle.program_model.specs.RunLimits.{CanCompare};
 ghost use Rattle.program_model.specs.TraceText.{IsLawfulTrace};
@@ -26,8 +26,8 @@ const APART: &str = "tenant,a,1\nrequest,0,0,a,get,1,1\nrequest,5000000,0,a,get,
 /// A request of 5 seconds.
 const LONG: &str = "tenant,a,1\nrequest,0,0,a,get,1,5000000\n";
 
-/// Two requests that declare much and cost little, and one that declares little and costs much. By what is declared the
-/// long one goes first; by the initial value, which is the same for all, the two of the greater weight do.
+/// Two requests that declare much and cost little, and a long one that declares little and costs much. By declared
+/// costs the long one goes first; by the initial value, which is the same for all, the two of the greater weight do.
 const MISDECLARED: &str = "tenant,a,3\ntenant,b,1\nrequest,0,0,a,get,100,666667\n\
     request,0,0,a,get,100,666667\nrequest,0,1,b,scan,1,1333334\n";
 
@@ -42,7 +42,7 @@ fn trace_in<R: Abort>(rt: &R, alloc: Global, text: &str) -> Trace
     trace
 }
 
-// What a trace is compared with, where the initial value is the usual one.
+// The options of a comparison with the usual initial value.
 fn options(workers: u32, refresh: u64, slot: u64) -> CompareOptions
     ensures { result ≡ record { workers = workers; initial = 1000; refresh = refresh; slot = slot } }
 {
@@ -54,7 +54,7 @@ fn options(workers: u32, refresh: u64, slot: u64) -> CompareOptions
     }
 }
 
-// What is printed of the comparison of a trace.
+// The comparison of a trace is printed so.
 fn expect_text<R: Abort + Threads + Sync>(
     rt: &R,
     alloc: Global,
@@ -150,8 +150,8 @@ fn a_report_of_too_many_cells(rt: HostRuntime) {
     expect_fault(&rt, rt.alloc(), APART, options(4, 10000, 1), first);
 }
 
-// By what is declared the long request begins at 0, and all end at 1,333,334, for which two tenants have 2,666,670
-// cells. In the next row it begins when the two others end.
+// By declared costs the long request begins at 0, and all end at 1,333,334, for which two tenants have 2,666,670 cells.
+// In the next row it begins when the two others end.
 #[test]
 fn the_first_report_of_too_many_cells_is_not_the_first(rt: HostRuntime) {
     let second = CompareFault::TooLong {

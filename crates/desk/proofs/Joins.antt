@@ -1,4 +1,4 @@
--- What is joined one by one, and what the past then has.
+-- Passes that are joined one by one, and the entries that the past then has.
 use Rattle.std.proofs.Common.{◌≡◌, ℕ, ◌<◌, ◌⊎◌, List, [], ◌∷◌, ◌++◌, length, get_or, take, drop, sym, ap, ◌∙◌, subst, refl, inl, inr, arith, append_assoc, append-nil}
 use mathlib.Core.Option.{some}
 use lib.ListN.{get_elem?}
@@ -57,7 +57,7 @@ module _ {A : Type 0} where
       );
     }
 
-    -- what one pass had taken in, it still has after it took in others
+    -- the passes that a pass had taken in are still taken in after it took in others
     pub still_taken : {B : Type 0} (of_other : B → PassView Crew) (v w : PassView Crew) (ys : List B) (xs : List A) → HasJoined lock of_other v ys w → HoldsOfEach (λ t. IsTaken v (pass_of t)) xs → HoldsOfEach (λ t. IsTaken w (pass_of t)) xs
     still_taken of_other v w ys xs j h = each_so (λ t. IsTaken v (pass_of t)) (λ t. IsTaken w (pass_of t)) (λ t k. taken_on v w (pass_of t) j.more j.seen j.ended k) xs h
 

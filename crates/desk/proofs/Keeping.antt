@@ -52,7 +52,7 @@ staffed_on label crew P who (ask.Weight moment tenant weight) reply Q may st x =
 staffed_on label crew P who (ask.Workers moment count) reply Q may st x = staffed_more crew.submitters who moment _ _ P _ reply Q may st x
 staffed_on label crew P who (ask.Withdraw moment request) reply Q may st x = staffed_more crew.submitters who moment _ _ P _ reply Q may st x
 
--- what a call on a floor that is seen so leaves keeps what a floor keeps
+-- a call keeps the invariant of a floor with this view
 pub kept : {J : Type 0} (label : J → ℕ) (before after : SchedulerView J) (s : ℕ) (b : Option BoardView) (seen : FloorView J) (who : ℕ) (asked : Ask J) (reply : Reply) → record { scheduler = before; submitters = s; board = b } ≡ seen → MayAsk (crew_of seen) who asked
     → AnswersCall before (call_of label who asked) reply after → KeepsFloor before s → KeepsFloor after s
 kept {J = J} label before after s b seen who asked reply view may a k =
@@ -63,7 +63,7 @@ kept {J = J} label before after s b seen who asked reply view may a k =
       staffed = staffed_on label crew (history_of before.past) who asked reply (history_of after.past) by k.staffed a.answers;
     }
 
--- and answers what is asked so
+-- and answers the call so
 pub answers_so : {J : Type 0} (label : J → ℕ) (before after : SchedulerView J) (s : ℕ) (b : Option BoardView) (seen : FloorView J) (who : ℕ) (asked : Ask J) (reply : Told J) → record { scheduler = before; submitters = s; board = b } ≡ seen
     → AnswersCall before (call_of label who asked) (reply_of label reply) after → Suits asked reply → KeepsFloor before s → AnswersAsk label (crew_of seen) seen.scheduler.past who asked reply after.past
 answers_so {J = J} label before after s b seen who asked reply view a suits k =
@@ -75,7 +75,7 @@ pub suits_submit : {J : Type 0} (moment tenant kind declared : ℕ) (job : J) (r
 suits_submit moment tenant kind declared job (Ok request) back = tt
 suits_submit moment tenant kind declared job (Err refused) back = back
 
--- what is told to what was found to be asked is told to what is asked
+-- the answer to a call is the answer to an equal call
 pub told_so : {J : Type 0} (label : J → ℕ) (before after : SchedulerView J) (who : ℕ) (given asked : Ask J) (reply : Told J) → given ≡ asked → AnswersCall before (call_of label who asked) (reply_of label reply) after → AnswersCall before (call_of label who given) (reply_of label reply) after
 told_so {J = J} label before after who given asked reply is a = subst (λ (x : Ask J). AnswersCall before (call_of label who x) (reply_of label reply) after) (sym is) a
 
@@ -86,7 +86,7 @@ suits_so {J = J} given asked reply is a = subst (λ (x : Ask J). Suits x reply) 
 pub crew_stays : {J : Type 0} (before after : SchedulerView J) (s : ℕ) (b b2 : Option BoardView) (seen : FloorView J) → record { scheduler = before; submitters = s; board = b } ≡ seen → after.config ≡ before.config → b2 ≡ b → crew_for after.config s b2 ≡ crew_of seen
 crew_stays {J = J} before after s b b2 seen view same board = (λ i. crew_for (same i) s (board i)) ∙ ap (λ (f : FloorView J). crew_of f) view
 
--- the past goes on, so what was shown is a front part of it
+-- the past goes on, so the past that was shown is a prefix of it
 pub shows_part : {J : Type 0} (label : J → ℕ) (before after : SchedulerView J) (s : ℕ) (who : ℕ) (asked : Ask J) (reply : Told J) (shown : Option ShownView)
     → AnswersCall before (call_of label who asked) (reply_of label reply) after → Suits asked reply → KeepsFloor before s → Shows before.config before.past shown → ShowsPart after.config after.past shown
 shows_part label before after s who asked reply None a suits k shows = tt
@@ -95,7 +95,7 @@ shows_part label before after s who asked reply (Some v) a suits k shows =
     let more : IsPrefix before.past after.past = starts_more who before.past after.past before.past (answers_grow label (crew_for before.config s None) before.past who asked reply after.past told) ([], sym (append-nil before.past)) in
     (shows.0 ∙ sym a.config_is, subst (λ P. IsPrefix P after.past) (sym shows.1) more)
 
--- what a floor keeps, a desk gives back
+-- where a floor keeps its invariant, its scheduler is as a desk gives it back
 pub given_back : {J : Type 0} (crew : Crew) (floor : FloorView J) (scheduler : SchedulerView J) → crew_of floor ≡ crew → scheduler ≡ floor.scheduler → KeepsFloor scheduler floor.submitters → IsGivenBack crew scheduler
 given_back crew floor scheduler is same k =
     let config : floor.scheduler.config ≡ crew.config = ap (λ (c : Crew). c.config) is in
@@ -105,7 +105,7 @@ given_back crew floor scheduler is same k =
       staffed = subst (λ n. IsStaffed n (history_of scheduler.past)) (ap (λ (c : Crew). c.submitters) is) k.staffed;
     }
 
--- and so is what shows its past
+-- and so is the board that shows its past
 pub shown_back : {J : Type 0} (crew : Crew) (floor : FloorView J) (scheduler : SchedulerView J) (shown : Option ShownView) → crew_of floor ≡ crew → scheduler ≡ floor.scheduler → board_of shown ≡ floor.board → Shows scheduler.config scheduler.past shown
     → Shows crew.config scheduler.past shown × (board_of shown ≡ crew.board)
 shown_back crew floor scheduler shown is same board shows = (
@@ -113,13 +113,13 @@ shown_back crew floor scheduler shown is same board shows = (
   board ∙ ap (λ (c : Crew). c.board) is,
 )
 
--- what the readers of a board have seen is of the past that is shown there
+-- the readers of a board have seen prefixes of the past that is shown there
 pub all_seen : (C : Config) (P : List Entry) (shown : Option ShownView) (board : Option BoardView) (readers : List ReaderView) → Shows C P shown → board_of shown ≡ board → AreReadersOf board readers → IfSome shown (λ s. HaveSeen s.past readers)
     → HaveSeen P readers
 all_seen C P (Some v) board readers shows is own seen = subst (λ (l : List Entry). HaveSeen l readers) shows.1 seen
 all_seen C P None board readers shows is own seen = absurd (subst (λ (b : Option BoardView). AreReadersOf b readers) (sym is) own)
 
--- a floor that was just opened keeps what a floor keeps
+-- a floor that was just opened keeps its invariant
 pub opens_keeping : {J : Type 0} (config : Config) (submitters : ℕ) (scheduler : SchedulerView J) (shown : Option ShownView) → scheduler ≡ (opened config submitters None).scheduler → InLimits config → Shows config [] shown
     → KeepsFloor scheduler submitters × Shows scheduler.config scheduler.past shown
 opens_keeping {J = J} config submitters scheduler shown is limits shows =

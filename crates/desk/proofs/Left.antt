@@ -1,4 +1,4 @@
--- What a Take, a Report and a Done of a worker leave it running.
+-- The request that a worker runs after its Take, its Report and its Done.
 use Rattle.std.proofs.Common.{◌≡◌, ℕ, ◌<◌, ◌==◌, Bool, true, false, cond, Option, Some, None, [], ◌∷◌, sym, ap, ◌∙◌, refl, subst, arith, eq-eqb}
 use Rattle.std.specs.Prelude.{MatchBool, nat_le, is_some, is_none}
 use Rattle.std.proofs.lemmas.Bool.Decides.{nat_tests}
@@ -55,7 +55,7 @@ took_left C P who moment i reply Q known none x =
 
 -- ---- a Report and a Done
 
--- what holds of a refusal and of an accepted call holds
+-- a property of a refusal and of an accepted call is one of the answer
 refused_or : (o : Option Cause) (P : History) (reply : Reply) (Q : History) (X : Type 0) (Holds : History → Reply → Type 0) → ((c : Cause) → o ≡ Some c → Holds P (answer.Refused c)) → (X → Holds Q reply) → RefusedOrElse o P reply Q X → Holds Q reply
 refused_or None P reply Q X Holds back on x = on x
 refused_or (Some c) P reply Q X Holds back on x = subst (λ H. Holds H reply) (sym x.1) (subst (Holds P) (sym x.0) (back c refl))
@@ -105,7 +105,7 @@ reported_runs i r H answer.Drained x = absurd x
 reported_runs i r H (answer.Retired workers) x = absurd x
 reported_runs i r H (answer.Withdrawn label) x = absurd x
 
--- where K runs on the worker what H runs, the same is left
+-- these hold at K where they hold at H and the worker runs the same request at both
 pub took_same : (i : ℕ) (H K : History) (reply : Reply) → running_on K i ≡ running_on H i → TookLeft i H reply → TookLeft i K reply
 took_same i H K (answer.Run request estimate label) same x = same ∙ x
 took_same i H K answer.Idle same x = same ∙ x

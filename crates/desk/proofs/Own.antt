@@ -1,4 +1,4 @@
--- A worker's own entries tell what it runs, since in a staffed history all Takes and Dones of a worker are its
+-- A worker's own entries name its running request, since in a staffed history all Takes and Dones of a worker are its
 -- caller's.
 use Rattle.std.proofs.Common.{◌≡◌, ℕ, ◌+◌, ◌==◌, eqb, cond, Bool, true, false, Option, Some, None, List, [], ◌∷◌, ◌++◌, sym, ap, ◌∙◌, refl, inl, inr, eq-eqb}
 use Rattle.std.proofs.lemmas.Bool.{eqb-false, eqb-true}
@@ -33,12 +33,12 @@ pub running_own : (s i : ℕ) (P : History) → IsStaffed s P → running_on (ow
 running_own s i [] st = refl
 running_own s i (e ∷ P) st = own_more s i e (own_entries P (s + i)) (running_on P i) (eqb e.who (s + i)) st.0 refl (running_own s i P st.1)
 
--- the same of entries in order of time
+-- for entries in order of time
 pub runs_by_own : (s i who : ℕ) (P mine : List Entry) → who ≡ s + i → own_entries P who ≡ mine → IsStaffed s (history_of P) → running_on (history_of mine) i ≡ running_on (history_of P) i
 runs_by_own s i who P mine by own st =
     ap (λ l. running_on (history_of l) i) (sym own) ∙ (ap (λ l. running_on l i) (sym (own_turned P who)) ∙ (ap (λ n. running_on (own_entries (history_of P) n) i) by ∙ running_own s i (history_of P) st))
 
--- what has gained the entry is still all of the caller's own
+-- own entries that have gained the new entry are still all of the caller's
 pub own_gained : (who : ℕ) (P P2 mine mine2 : List Entry) → own_entries P who ≡ mine → Gains who P P2 mine mine2 → own_entries P2 who ≡ mine2
 own_gained who P P2 mine mine2 own (inl same) = ap (λ l. own_entries l who) same.0 ∙ (own ∙ sym same.1)
 own_gained who P P2 mine mine2 own (inr (e, more, mine_more, by)) =

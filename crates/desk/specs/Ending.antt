@@ -1,4 +1,4 @@
--- What an ending asks and says.
+-- The tokens that an ending needs, and its results.
 use Rattle.std.specs.Prelude.{ℕ, ◌<◌, ◌≤◌, ◌≡◌, ◌⊎◌, List, [], ◌∷◌, ◌++◌}
 use mathlib.Core.Option.{some}
 use lib.ListN.{get_elem?}
@@ -30,7 +30,7 @@ abbrev pub IsFirst : List Submitter → Type 0
 IsFirst [] = ⊥
 IsFirst (token ∷ tokens) = token.pass.number ≡ 0
 
--- the tokens are of this lock, and the first submitter is the one of number 0
+-- the tokens are of this lock, and the first submitter has number 0
 pub record AreOf (lock : LockView Crew) (submitters : List Submitter) (workers : List Worker) : Type 0 where
   pub submitters_own : HoldsOfEach (λ t. IsOf lock t.pass) submitters
   pub workers_own : HoldsOfEach (λ t. IsOf lock t.pass) workers
@@ -40,7 +40,7 @@ pub record AreOf (lock : LockView Crew) (submitters : List Submitter) (workers :
 abbrev pub IsIn : List Entry → PassView Crew → Type 0
 IsIn past pass = IsPrefix pass.seen past × (own_entries past pass.number ≡ pass.mine)
 
--- the same of all that are handed in
+-- the past is so for each token that is handed in
 pub record HasAll (past : List Entry) (submitters : List Submitter) (workers : List Worker) : Type 0 where
   pub of_submitters : HoldsOfEach (λ t. IsIn past t.pass) submitters
   pub of_workers : HoldsOfEach (λ t. IsIn past t.pass) workers
@@ -85,8 +85,7 @@ HasTakenIn lock (token ∷ tokens) workers pass = (between : PassView Crew)
     × HasJoined lock (λ (t : Worker). t.pass) between workers pass
 
 -- The last moment of a desk's lock, when no call is under way: the pass that took in all that were handed in is one of
--- its
--- views, and so many turns were drawn and so many served, modulo 2^64. J is what contracts see of a job
+-- its views, and these are the numbers of turns drawn and served, modulo 2^64. J is the view of a job
 pub record LastMoment (J : Type 0) (lock : LockView Crew) (submitters : List Submitter) (workers : List Worker)
     (drawn served : ℕ) : Type 0 where
   pub pass : PassView Crew

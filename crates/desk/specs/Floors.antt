@@ -1,4 +1,4 @@
--- What contracts see of a floor, and what it keeps.
+-- The view of a floor, and its invariant.
 use Rattle.std.specs.Prelude.{ℕ, refl, [], Option}
 use Rattle.std.specs.Coded.{Coded, code_by, coded×, coded_option, coded_ℕ}
 use Rattle.std.specs.FinMap as map
@@ -24,11 +24,11 @@ floor_code {J} c =
     code_by (SchedulerView J × (ℕ × Option BoardView)) (coded× (scheduler_code c) (coded× coded_ℕ (coded_option board_code)))
     (λ f. (f.scheduler, (f.submitters, f.board))) (λ p. record { scheduler = p.0; submitters = p.1.0; board = p.1.1 }) (λ _. refl)
 
--- what a desk is opened for, and the board that shows its past, if there is one
+-- the crew that a desk is opened for: its configuration, its submitters, and the board that shows its past, if any
 abbrev pub crew_for : Config → ℕ → Option BoardView → Crew
 crew_for config submitters board = record { config = config; submitters = submitters; board = board }
 
--- what no call changes
+-- the crew of a floor, which no call changes
 abbrev pub crew_of : {J : Type 0} → FloorView J → Crew
 crew_of f = crew_for f.scheduler.config f.submitters f.board
 

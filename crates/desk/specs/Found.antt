@@ -1,4 +1,4 @@
--- What is found at a desk that is asked what a worker would find.
+-- The take that a desk foresees for a worker.
 use Rattle.std.specs.Prelude.{ℕ, ◌≡◌, List}
 use Rattle.fq_model.specs.declared.event.Due.{Due}
 use Rattle.fq_model.specs.declared.event.Entry.{Entry}

@@ -22,7 +22,7 @@ caller_is label who (ask.Weight moment tenant weight) = refl
 caller_is label who (ask.Workers moment count) = refl
 caller_is label who (ask.Withdraw moment request) = refl
 
--- the same entries in order of time
+-- no new entry in order of time
 turned_same : (P Q : List Entry) → history_of Q ≡ history_of P → Q ≡ P
 turned_same P Q e = sym (reverse-reverse Q) ∙ (ap reverse e ∙ reverse-reverse P)
 

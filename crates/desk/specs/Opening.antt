@@ -19,7 +19,7 @@ pub record IsNew (lock : LockView Crew) (number : ℕ) (pass : PassView Crew) : 
   pub seen : pass.seen ≡ []
   pub mine : pass.mine ≡ []
 
--- the first pass, after so many were split off
+-- the first pass, after this number of passes were split off
 pub record IsSplit (lock : LockView Crew) (made : ℕ) (pass : PassView Crew) : Type 0 where
   pub new : IsNew lock 0 pass
   pub made_is : pass.made ≡ made

@@ -77,7 +77,7 @@ abbrev pub done_pass : Result Worker (Running × DoneRefusal) → PassView Crew
 done_pass (Ok worker) = worker.pass
 done_pass (Err back) = back.0.pass
 
--- the same worker runs the same request at the same estimate
+-- worker, request and estimate are as before
 pub record SameRun (old new : Running) : Type 0 where
   pub worker : new.worker ≡ old.worker
   pub request : new.request ≡ old.request

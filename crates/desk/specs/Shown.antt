@@ -1,4 +1,4 @@
--- What is shown of a past, and where.
+-- The board of a past, and its readers.
 use Rattle.std.specs.Prelude.{◌≡◌, refl, List, [], ◌∷◌, Option, Some, None, option_map}
 use Rattle.std.specs.Coded.{Coded, code_by, coded×, coded_list}
 use Rattle.atomic_table.specs.Seated.{TableId, table_id_coded}
@@ -26,7 +26,7 @@ shown_code =
 abbrev pub board_of : Option ShownView → Option BoardView
 board_of shown = option_map (λ s. s.board) shown
 
--- a board, if there is one, is for this configuration, and shows a front part of this past
+-- a board, if there is one, is for this configuration, and shows a prefix of this past
 abbrev pub ShowsPart : Config → List Entry → Option ShownView → Type 0
 ShowsPart C P None = Unit {0}
 ShowsPart C P (Some s) = (s.board.config ≡ C) × IsPrefix s.past P
@@ -46,7 +46,7 @@ abbrev pub AreReadersOf : Option BoardView → List ReaderView → Type 0
 AreReadersOf None readers = ⊥
 AreReadersOf (Some board) readers = AreReaders board readers
 
--- what each reader has seen is a front part of this past
+-- each reader has seen a prefix of this past
 abbrev pub HaveSeen : List Entry → List ReaderView → Type 0
 HaveSeen past [] = Unit {0}
 HaveSeen past (reader ∷ readers) = IsPrefix reader.seen past × HaveSeen past readers

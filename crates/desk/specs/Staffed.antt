@@ -19,7 +19,7 @@ abbrev pub IsStaffed : ℕ → History → Type 0
 IsStaffed s [] = Unit {0}
 IsStaffed s (e ∷ P) = IsMadeBy s e.who e.act × IsStaffed s P
 
--- the same of what is asked: a caller asks as the worker that it is, or as a submitter
+-- a caller calls as the worker that it is, or as a submitter
 abbrev pub MayAsk : {J : Type 0} → Crew → ℕ → Ask J → Type 0
 MayAsk crew who (ask.Take moment worker) = who ≡ crew.submitters + worker
 MayAsk crew who (ask.Report moment worker used) = who ≡ crew.submitters + worker

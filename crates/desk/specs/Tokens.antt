@@ -1,4 +1,4 @@
--- What tokens keep, and what calls say of them.
+-- The invariants of tokens, and the results of their calls.
 use Rattle.std.specs.Prelude.{ℕ, ◌+◌, ◌<◌, ◌≡◌, List, Option, Some, None}
 use Rattle.fq_model.specs.declared.event.Call.{Call}
 use Rattle.fq_model.specs.declared.event.Reply.{Reply}
@@ -21,21 +21,21 @@ abbrev pub workers_of : Option Crew → ℕ
 workers_of None = 0
 workers_of (Some crew) = crew.config.workers
 
--- it is the pass of this worker of its desk, and what it has as its own are its own entries
+-- it is the pass of this worker of its desk, and its own entries are those in the history that it has seen
 pub record IsOfWorker (pass : PassView Crew) (worker : ℕ) : Type 0 where
   pub own : pass.mine ≡ own_entries pass.seen pass.number
   pub numbered : pass.number ≡ submitters_of pass.frame + worker
   pub known : worker < workers_of pass.frame
 
--- it is the pass of the same caller of this lock, and what it has made and ended stays
+-- it is the pass of the same caller of this lock, and the passes that it has made and ended stay
 pub record Stays (lock : LockView Crew) (old new : PassView Crew) : Type 0 where
   pub own : IsOf lock new
   pub number : new.number ≡ old.number
   pub made : new.made ≡ old.made
   pub ended : new.ended ≡ old.ended
 
--- The call is answered so at one history P, which begins with all that the pass had seen; it has then seen what follows
--- P, and its own entries have gained the new one, if there is one
+-- The call is answered so at one history P, which begins with all that the pass had seen; the pass has then seen the
+-- history after the call, and its own entries have gained the new entry, if there is one
 pub record IsAnswered (crew : Crew) (old : PassView Crew) (c : Call) (reply : Reply) (new : PassView Crew) : Type 0 where
   pub P : List Entry
   pub begins : IsPrefix old.seen P

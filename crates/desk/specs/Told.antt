@@ -1,4 +1,4 @@
--- What is told to what is asked.
+-- The answer to a call at a caller's turn.
 use Rattle.std.specs.Prelude.{ℕ, ◌≡◌, List, Ok, Err}
 use Rattle.fq_model.specs.declared.event.Call.{Call}
 use Rattle.fq_model.specs.declared.event.Call.TheVariants as call
@@ -25,7 +25,7 @@ call_of label who (ask.Weight moment tenant weight) = call.Weight who moment ten
 call_of label who (ask.Workers moment count) = call.Workers who moment count
 call_of label who (ask.Withdraw moment request) = call.Withdraw who moment request
 
--- the reply that is told
+-- the reply in an answer
 abbrev pub reply_of : {J : Type 0} → (J → ℕ) → Told J → Reply
 reply_of label (told.Submitted result) = submit_reply result
 reply_of label (told.Took taken) = take_reply label taken
@@ -35,7 +35,7 @@ reply_of label (told.Closed result) = close_reply result
 reply_of label (told.Changed result) = change_reply result
 reply_of label (told.Withdrawn result) = withdraw_reply label result
 
--- what is told is of the kind that was asked, and a refused Submit gives the job back that was handed in
+-- the answer is of the call's kind, and a refused Submit gives its job back
 abbrev pub Suits : {J : Type 0} → Ask J → Told J → Type 0
 Suits (ask.Submit moment tenant kind declared job) (told.Submitted (Ok request)) = Unit {0}
 Suits (ask.Submit moment tenant kind declared job) (told.Submitted (Err refused)) = refused.job ≡ job
@@ -48,7 +48,7 @@ Suits (ask.Workers moment count) (told.Changed result) = Unit {0}
 Suits (ask.Withdraw moment request) (told.Withdrawn result) = Unit {0}
 Suits _ _ = ⊥
 
--- At P, which is legal and staffed, this is asked by this caller, and this is told; the history is then P2
+-- At P, which is legal and staffed, this caller makes this call, with this answer; the history is then P2
 pub record AnswersAsk {J : Type 0} (label : J → ℕ) (crew : Crew) (P : List Entry) (who : ℕ) (asked : Ask J) (reply : Told J) (P2 : List Entry) : Type 0 where
   pub legal : IsLegal crew.config (history_of P)
   pub staffed : IsStaffed crew.submitters (history_of P)

@@ -1,4 +1,4 @@
-//! What a scheduler answers to what it is asked.
+//! A scheduler's answer to a call.
 ghost use Rattle.sched_state.specs.Replies.{AnswersCall};
 ghost use Rattle.desk.specs.Told.{call_of, reply_of, Suits};
 

@@ -1,4 +1,4 @@
-//! What wakes the workers that sleep since nothing waits.
+//! The bell that wakes the workers that sleep since nothing waits.
 use std::sync::Wait;
 use std::sync::atomic::{AtomicU64, Ordering};
 

@@ -21,7 +21,7 @@ use sched_state::{AlreadyClosed, Refused, Taken};
 use std::sync::Wait;
 use tag_rules::chooser::Chooser;
 
-// What a worker that asked for work is given, by what it was told.
+// The result of a worker's take, by the scheduler's answer.
 fn took<J: Job + Drop>(pass: Pass<Crew>, worker: u32, taken: Taken<J>) -> Took<J>
     requires token { IsOfWorker pass worker }
     requires left { TookLeft worker (history_of pass.mine) (take_reply J.label_of taken) }
@@ -135,7 +135,7 @@ impl<J: Job + Drop, X: Chooser> DeskOf<Floor<J, X>> {
         }
     }
 
-    /// There are so many workers from here on. Refused as Workers or Full.
+    /// The pool has this number of workers from here on. Refused as Workers or Full.
     pub fn workers<R: Wait>(
         &self,
         rt: &R,
@@ -181,15 +181,15 @@ impl<J: Job + Drop, X: Chooser> DeskOf<Floor<J, X>> {
         }
     }
 
-    /// What a worker notes before it asks for work, so that it misses nothing that comes after.
+    /// The news so far. A worker notes it before it takes, so that it misses nothing that comes after.
     pub fn heard(&self) -> Heard {
         self.bell.heard()
     }
 
     /// Returns at once where there was news after this was noted, and sleeps until there is some where not. News is an
-    /// accepted submission, which wakes one sleeper, and an accepted close or number of workers, which wake all. It is
-    /// for a worker that was told Idle since it noted it, and that asks again once it is awake; one that was told
-    /// Retired would keep a wake-up from those that may take.
+    /// accepted submit, which wakes one sleeper, and an accepted close or number of workers, which wake all. It is for
+    /// a worker whose take since then was answered Idle, and that takes again once it is awake; a worker that was
+    /// answered Retired would keep a wake-up from those that may take.
     pub fn await_news<R: Wait>(&self, rt: &R, heard: Heard) {
         self.bell.wait(rt, heard);
     }

@@ -1,4 +1,4 @@
-//! What may cross threads.
+//! The types that may cross threads.
 
 use crate::desk::DeskOf;
 use crate::tokens::{Running, Submitter, Worker};

@@ -22,7 +22,7 @@ pub struct DeskOf<M: Machine> {
 pub type Desk<J, X> = DeskOf<Floor<J, X>>;
 
 impl<M: Machine> DeskOf<M> {
-    /// The board that shows what the desk's calls come to, for readers that wait for nobody. There is one where the
+    /// The board that shows the status of the desk's past, for readers that wait for nobody. There is one where the
     /// desk was opened by `open_shown`.
     pub fn board(&self) -> Option<&Board>
         ensures { option_copied result ≡ option_map arc_value self.now.board }

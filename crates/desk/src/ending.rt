@@ -48,7 +48,7 @@ fn join_workers<J: Job + Drop, X: Chooser>(
     tokens.destroy_empty();
 }
 
-// Takes in all tokens, closes the lock, and gives what it was round where every turn that was drawn was served.
+// Takes in all tokens, closes the lock, and gives the parts of its floor where every turn that was drawn was served.
 fn closed<J: Job + Drop, X: Chooser + Drop>(
     lock: HistoryLock<Floor<J, X>>,
     mut submitters: Vec<Submitter>,
@@ -74,8 +74,8 @@ fn closed<J: Job + Drop, X: Chooser + Drop>(
 
 impl<J: Job + Drop, X: Chooser + Drop> DeskOf<Floor<J, X>> {
     /// Ends the desk, and gives its scheduler where every turn that was drawn was served; else the scheduler is given
-    /// up. So it is given where all tokens of the desk are handed in. The first submitter is the one of number 0. Both
-    /// counts are those of the lock's last moment, modulo 2^64.
+    /// up. So it is given where all tokens of the desk are handed in. The first submitter has number 0. Both counts are
+    /// those of the lock's last moment, modulo 2^64.
     pub fn finish(
         self,
         submitters: Vec<Submitter>,
@@ -100,8 +100,7 @@ impl<J: Job + Drop, X: Chooser + Drop> DeskOf<Floor<J, X>> {
         Ok(scheduler)
     }
 
-    /// Ends a desk that shows its past, as `finish` does, and its readers. What each reader has seen is a front part of
-    /// the past.
+    /// Ends a desk that shows its past, as `finish` does, and its readers. Each reader has seen a prefix of the past.
     pub fn finish_shown(
         self,
         submitters: Vec<Submitter>,

@@ -18,16 +18,16 @@ use std::marker::Model;
 use tag_rules::chooser::Chooser;
 use tag_rules::foresees::Foresees;
 
-/// What no call changes: what the scheduler was opened with, how many submitters there are, and the board that shows
-/// the past, if there is one. No value of it is ever made: it stands in contracts alone.
+/// The parts that no call changes: the scheduler's configuration, the number of submitters, and the board that shows
+/// the past, if there is one. No value of it is ever made: contracts alone use it.
 pub struct Crew {
     pub config: Checked,
     pub submitters: u32,
     pub board: Option<Board>,
 }
 
-/// A scheduler, the number of its submitters, and what shows its past, if it is shown. Submitters come before workers
-/// in the numbers of callers: with s submitters these are the callers 0 to s - 1, and worker i is the caller s + i.
+/// A scheduler, the number of its submitters, and its board's writer, if it has one. Submitters come before workers in
+/// the numbers of callers: with s submitters these are the callers 0 to s - 1, and worker i is the caller s + i.
 #[derive(Drop)]
 pub struct Floor<J: Job, X: Chooser> {
     scheduler: Scheduler<J, X>,
@@ -50,7 +50,7 @@ impl<J: Job, X: Chooser> Model for Floor<J, X> {
 }
 
 impl<J: Job + Drop, X: Chooser> Floor<J, X> {
-    /// A floor with no past. All its memory is taken here, but for that of what shows its past.
+    /// A floor with no past. All its memory is taken here, but for that of its board.
     pub(crate) fn open(
         alloc: Global,
         config: Checked,
@@ -71,7 +71,7 @@ impl<J: Job + Drop, X: Chooser> Floor<J, X> {
 }
 
 impl<J: Job, X: Chooser> Floor<J, X> {
-    /// The scheduler, and what shows its past.
+    /// The scheduler, and the board and writer that show its past, if it is shown.
     pub(crate) fn into_parts(self) -> (Scheduler<J, X>, Option<Shown>)
         ensures same { (result.0 ≡ self.scheduler) × (board_of result.1 ≡ self.board) }
         ensures kept { KeepsFloor result.0 self.submitters }

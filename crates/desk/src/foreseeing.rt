@@ -1,4 +1,4 @@
-//! What a worker would find, asked at a desk.
+//! A worker's take, foreseen at a desk.
 ghost use Rattle.std.specs.Prelude.{◌≡◌};
 ghost use Rattle.history_lock.specs.Passes.{IsOf};
 ghost use Rattle.desk.specs.Tokens.{Stays};
@@ -14,7 +14,7 @@ use std::sync::Wait;
 use tag_rules::foresees::Foresees;
 
 impl<J: Job + Drop, X: Foresees> DeskOf<Floor<J, X>> {
-    /// What the worker would find if it asked for work at this moment. It waits for its turn, takes no memory, and
+    /// Foresees a take by this worker at this moment, in microseconds. It waits for its turn, takes no memory, and
     /// changes nothing.
     pub fn due<R: Wait>(&self, rt: &R, worker: &mut Worker, moment: u64) -> Due
         requires { IsOf self.now.lock worker.old.pass }

@@ -21,7 +21,7 @@ use status_board::Reader;
 use std::alloc::Global;
 use tag_rules::chooser::Chooser;
 
-// Whether a desk may have so many submitters.
+// Whether a desk may have this number of submitters.
 fn check_submitters(submitters: u32) -> Result<(), OpenFault>
     ensures range { IfOk result (λ _. IsWithin 1 MOST_SUBMITTERS submitters) }
     ensures within { IfOk result (λ _. is_outside 1 MOST_SUBMITTERS submitters ≡ false) }
@@ -160,8 +160,8 @@ impl<J: Job + Drop, X: Chooser + Drop> DeskOf<Floor<J, X>> {
         Ok((desk, first, second))
     }
 
-    /// The same, where each call that adds to the past shows on a board what the past then comes to. It also gives a
-    /// first reader of that board, for whom `board` gives the desk's; `finish_shown` ends such a desk.
+    /// A desk as `open` makes it, with a board that shows the status of the past after each call that adds to it. It
+    /// also gives a first reader, which reads at the desk's `board`; `finish_shown` ends such a desk.
     pub fn open_shown(
         alloc: Global,
         config: Checked,

@@ -10,7 +10,7 @@ use std::fmt;
 /// Why a desk is not opened.
 #[derive(Clone, Copy, thiserror::Error)]
 pub enum OpenFault {
-    /// So many submitters; there may be 1 to `MOST_SUBMITTERS`.
+    /// The number of submitters, which may be 1 to `MOST_SUBMITTERS`.
     #[error("{0} submitters, and there may be 1 to {MOST_SUBMITTERS}")]
     Submitters(u32),
     #[error("out of memory")]
@@ -33,7 +33,7 @@ pub enum LiveRefusal {
     /// A use below the greatest one reported so far.
     #[error("a use of {given} microseconds, after a use of {last} was reported")]
     Falling { last: u64, given: u64 },
-    /// The entries that are left, of this many, are needed for what was submitted.
+    /// Of this number of entries, those that are left are needed for the requests that were submitted.
     #[error("the history may have {0} entries, and lacks room for a report")]
     Full(u32),
 }

@@ -1,4 +1,4 @@
-//! What a floor shows of its past, and to whom.
+//! The board of a floor's past, its writer and its readers.
 ghost use Rattle.std.specs.Prelude.{◌≡◌, [], IfSome};
 ghost use Rattle.std.specs.Arc.{arc_value};
 ghost use Rattle.fq_model.specs.History.{history_of};
@@ -48,8 +48,8 @@ fn shared(alloc: Global, board: Board) -> Option<(Arc<Board>, Arc<Board>)>
     Some((first, second))
 }
 
-/// A board that shows the empty past, for this configuration: what a desk shares, what shows more, and a reader that
-/// has seen nothing.
+/// A board that shows the empty past, for this configuration: the desk's share of it, the floor's share with the
+/// writer, and a reader that has seen nothing.
 pub(crate) fn show_nothing(alloc: Global, config: &Checked) -> Option<(Arc<Board>, Shown, Reader)>
     ensures board { IfSome result (λ r. (arc_value r.0 ≡ r.1.board) × (r.1.board.config ≡ config.now)) }
     ensures past { IfSome result (λ r. r.1.past ≡ []) }
@@ -84,7 +84,7 @@ pub(crate) fn show_past<J: Job + Drop, X: Chooser>(
 }
 
 impl Shown {
-    // Shows a past that goes on from the one that is shown.
+    // Shows a past of which the past shown so far is a prefix.
     fn show(&mut self, past: &[Entry], status: Status)
         requires past { IsPrefix self.old.past past.now }
         requires status { status ≡ status_of self.old.board.config (history_of past.now) }
@@ -104,7 +104,7 @@ impl Shown {
     }
 }
 
-// The writer takes in what each reader has seen.
+// The writer takes in each reader, with the past that it has seen.
 fn join_readers(board: &Board, writer: &mut Writer, mut readers: Vec<Reader>)
     requires own { IsWriterOf board.now writer.old }
     requires readers { AreReaders board.now readers.items }
@@ -117,7 +117,7 @@ fn join_readers(board: &Board, writer: &mut Writer, mut readers: Vec<Reader>)
     readers.destroy_empty();
 }
 
-/// Takes in all readers of what is shown, and ends its writer.
+/// Takes in all readers of the board, and ends its writer.
 pub(crate) fn end_shown(shown: Option<Shown>, readers: Vec<Reader>)
     requires { AreReadersOf (board_of shown) readers.items }
     ensures { IfSome shown (λ s. HaveSeen s.past readers.items) }

@@ -1,4 +1,4 @@
-//! What the callers of a desk hold. Each token must be spent, and stands for one caller.
+//! The tokens of a desk's callers. Each token must be spent, and stands for one caller.
 ghost use Rattle.std.specs.Prelude.{◌≡◌, ◌<◌, ◌+◌, None, Some};
 ghost use Rattle.fq_model.specs.History.{history_of, running_on};
 ghost use Rattle.fq_model.specs.Outcome.{own_entries};
@@ -53,7 +53,7 @@ impl Running {
         self.request
     }
 
-    /// What the request was charged when it was taken, in microseconds.
+    /// The request's estimate at its take, which was then its charge, in microseconds.
     pub fn estimate(&self) -> u64
         ensures { result ≡ self.now.estimate }
     {
@@ -68,13 +68,13 @@ impl Running {
     }
 }
 
-/// What a worker that asks for work is given. The job is that of the request.
+/// The answer to a worker's take. The job is that of the request.
 pub enum Took<J> {
     Run(Running, J),
     /// Nothing waits now; more may come.
     Idle(Worker),
     /// Nothing waits, and nothing more will come.
     Drained(Worker),
-    /// There are so many workers now, and this one is not among them; it may take again later.
+    /// The pool has this number of workers now, and this one is not among them; it may take again later.
     Retired(Worker, u32),
 }

@@ -1,8 +1,8 @@
-//! What the scheduler is asked at its turn, and what it tells.
+//! The calls that a scheduler answers at a caller's turn, and its answers.
 use fq_model::event::Cause;
 use sched_state::{AlreadyClosed, Refused, Taken};
 
-/// What a caller asks at its turn. Who asks is told by the lock. Moments, uses and costs are microseconds.
+/// A call that a caller makes at its turn. The lock adds the caller's number. Moments, uses and costs are microseconds.
 pub enum Ask<J> {
     /// A request comes, with its job.
     Submit {
@@ -17,13 +17,13 @@ pub enum Ask<J> {
         moment: u64,
         worker: u32,
     },
-    /// A worker says what its request has used so far.
+    /// A worker names the use of its request so far.
     Report {
         moment: u64,
         worker: u32,
         used: u64,
     },
-    /// A worker says what its request cost, now that it has ended.
+    /// A worker names the cost of its request, now that it has ended.
     Done {
         moment: u64,
         worker: u32,
@@ -39,7 +39,7 @@ pub enum Ask<J> {
         tenant: u32,
         weight: u32,
     },
-    /// There are to be so many workers from now on.
+    /// The pool is to have this number of workers from now on.
     Workers {
         moment: u64,
         count: u32,
@@ -51,7 +51,7 @@ pub enum Ask<J> {
     },
 }
 
-/// What is told to each kind of question, as the scheduler answers it.
+/// The scheduler's answer to each kind of call.
 #[derive(Drop)]
 pub enum Told<J> {
     Submitted(Result<u32, Refused<J>>),
@@ -64,7 +64,7 @@ pub enum Told<J> {
     Withdrawn(Result<J, Cause>),
 }
 
-/// Asks what a worker would find that asked for work at this moment, in microseconds.
+/// Asks to foresee a take by this worker at this moment, in microseconds.
 #[derive(Clone, Copy)]
 pub struct AskDue {
     pub moment: u64,

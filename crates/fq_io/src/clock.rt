@@ -1,7 +1,7 @@
-//! What tells the moment.
+//! Clocks.
 ghost use Rattle.std.specs.Prelude.{ℕ};
 
-/// What tells the moment. Its answers may fall.
+/// A clock that answers the moment. Its answers may fall.
 pub trait Clock {
     /// Whether the clock may answer this number.
     ghost tells: { Self → ℕ → Type 0 };

@@ -1,9 +1,9 @@
-//! What a call that fails answers.
+//! The answer of a call that fails.
 
 use std::io;
 use thiserror::Error;
 
-/// A read or a write failed. Why is not told: the object counts it.
+/// A read or a write failed. It gives no cause: the object counts it.
 #[derive(Clone, Copy, Debug, PartialEq, Eq, Error)]
 #[error("a read or a write failed")]
 pub struct Failed;

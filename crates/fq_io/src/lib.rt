@@ -1,4 +1,4 @@
-//! Sources of bytes, sinks of bytes and clocks, each behind a trait that counts what fails.
+//! Sources and sinks of bytes, whose traits count the calls that fail, and clocks.
 #![tactic(auto)]
 
 mod clock;

@@ -11,7 +11,7 @@ use thiserror::Error;
 /// How many bytes one call asks for at most.
 const PIECE: usize = 65536;
 
-/// Why a source was not read to its end. What was read is given up.
+/// Why a source was not read to its end. The bytes that were read are given up.
 #[derive(Clone, Copy, Debug, PartialEq, Eq, Error)]
 pub enum ReadAllFault {
     /// A read failed.

@@ -1,4 +1,4 @@
-//! What takes bytes.
+//! Sinks of bytes.
 ghost use Rattle.std.specs.Prelude.{◌≡◌, ℕ, List, Option};
 ghost use Rattle.std.specs.Io.KnownBytes.{WriteAppends};
 ghost use Rattle.fq_io.specs.Faults.{HasCause};
@@ -6,7 +6,7 @@ ghost use Rattle.fq_io.specs.Sinks.{TakesSome};
 
 use crate::fault::Failed;
 
-/// What takes bytes.
+/// A sink takes bytes.
 pub trait Sink {
     /// The bytes that were taken so far, where the sink tells them.
     ghost written: { Self → Option (List ℕ) };

@@ -1,4 +1,4 @@
-//! What gives bytes.
+//! Sources of bytes.
 ghost use Rattle.std.specs.Prelude.{ℕ, List, Option};
 ghost use Rattle.std.specs.Io.{ReadsAtMost};
 ghost use Rattle.fq_io.specs.Faults.{HasCause};
@@ -6,7 +6,7 @@ ghost use Rattle.fq_io.specs.Sources.{Reads};
 
 use crate::fault::Failed;
 
-/// What gives bytes, until it has none left.
+/// A source gives bytes, until it has none left.
 pub trait Source {
     /// The bytes still to come, where the source tells them.
     ghost left: { Self → Option (List ℕ) };

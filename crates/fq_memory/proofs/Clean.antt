@@ -8,7 +8,7 @@ use Rattle.fq_io.specs.Faults.{Rose}
 pub stays_zero : ¬ Rose 0 0
 stays_zero rose = omega (arith, rose)
 
--- a clean sink with more room than a text has bytes has no fault after a front part of the text
+-- a clean sink with more room than a text has bytes has no fault after a prefix of the text
 pub never_full : (room n faults : ℕ) (text written : List ℕ) →
     IsClean room written faults → length text < room → written ≡ take n text → ¬ Rose 0 faults
 never_full room n faults text written clean enough front rose =

@@ -8,13 +8,13 @@ pub record CleanMemory : Type 0 where
   pub room : ℕ
   pub faults : ℕ
 
--- what such a sink keeps: no more is written than fits, and there is no fault while less is
+-- the invariant of such a sink: no more is written than fits, and there is no fault while less is
 pub record IsClean (room : ℕ) (written : List ℕ) (faults : ℕ) : Type 0 where
   pub within : length written ≤ room
   pub unfailed : length written < room → faults ≡ 0
 
--- exactly what a write does: it takes as many bytes as it can, and it fails where the sink is full and the piece isn't
--- empty
+-- the exact effect of a write: it takes as many bytes as it can, and it fails where the sink is full and the piece
+-- isn't empty
 abbrev pub Fills : {E : Type 0} → CleanMemory → CleanMemory → List ℕ → Result ℕ E → Type 0
 Fills old new piece (Ok n) =
     (n ≡ min (old.room - length old.written) (length piece))

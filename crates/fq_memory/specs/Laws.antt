@@ -1,4 +1,4 @@
--- What follows for whoever reads a clean source, or writes a text to a clean sink.
+-- Laws for a caller that reads a clean source, or writes a text to a clean sink.
 use Rattle.std.specs.Prelude.{ℕ, ◌<◌, ◌≡◌, List, length, take}
 use Rattle.fq_memory.specs.Clean.{IsClean}
 use Rattle.fq_io.specs.Faults.{Rose}
@@ -7,9 +7,8 @@ use Rattle.fq_io.specs.Faults.{Rose}
 abbrev pub CleanSourceNeverFails : Type 0
 CleanSourceNeverFails = ¬ Rose 0 0
 
--- where a front part of a text, or all of it, stands written in a clean sink that has more room than the text has
--- bytes,
--- its faults did not rise above the 0 of a fresh one
+-- where a prefix of a text, or all of it, is written in a clean sink that has more room than the text has bytes, its
+-- faults did not rise above the 0 of a fresh one
 abbrev pub CleanSinkNeverFails : Type 0
 CleanSinkNeverFails =
     (room n faults : ℕ) (text written : List ℕ) → IsClean room written faults → length text < room

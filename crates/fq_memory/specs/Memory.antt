@@ -1,4 +1,4 @@
--- The source and the sink over memory, and exactly what one call of each does.
+-- The source and the sink over memory, and the exact effect of one call of each.
 use Rattle.std.specs.Prelude.{ℕ, ◌-◌, Bool, ◌||◌, ◌&&◌, nat_eq, nat_lt, nat_le, min, if◌then◌else◌, List, ◌++◌, length, take, drop}
 use Rattle.std.specs.List.{list_any}
 use Rattle.fq_io.specs.Faults.{next_count}
@@ -27,7 +27,7 @@ after_read s room =
     then record s { calls = next_count s.calls; faults = next_count s.faults }
     else record s { calls = next_count s.calls; left = drop (read_count s room) s.left }
 
--- what a read leaves in the buffer
+-- the buffer after a read
 abbrev pub buffer_after_read : MemorySource → List ℕ → List ℕ
 buffer_after_read s before =
     if fails_at s.fails s.calls

@@ -10,7 +10,7 @@ use std::alloc::{AllocError, Global};
 use std::marker::Model;
 
 /// Room for bytes in memory, for tools and tests that want a whole text: a status that comes only where writing failed
-/// can't come over it, if it has more room than the text has bytes. `MemSink` is the one that fails when it is told to.
+/// can't come over it, if it has more room than the text has bytes. `MemSink` fails at chosen calls.
 #[derive(Drop)]
 pub struct CleanSink {
     bytes: Vec<u8>,

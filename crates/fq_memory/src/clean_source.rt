@@ -8,7 +8,7 @@ use fq_io::{Failed, Source};
 use std::marker::Model;
 
 /// Bytes in memory, for tools and tests that read a text which they already have: a status that comes only where
-/// reading failed can't come over it. `MemSource` is the one that fails when it is told to.
+/// reading failed can't come over it. `MemSource` fails at chosen calls.
 #[derive(Drop)]
 pub struct CleanSource {
     bytes: Vec<u8>,

@@ -87,7 +87,7 @@ impl Sink for MemSink {
         ensures cause { HasCause self.old.faults self.new.faults result }
         ensures fixed { Some self.new.room ≡ Some self.old.room }
 
-        // Exactly what a call does.
+        // The exact effect of a call.
         ensures failed { IsErr result ↔ IsTrue (refuses self.old (length piece.now)) }
         ensures count { IfOk result (λ n. n ≡ write_count self.old (length piece.now)) }
         ensures state { self.new ≡ after_write self.old piece.now }

@@ -68,7 +68,7 @@ impl Source for MemSource {
         ensures bytes { Reads (Some self.old.left) (Some self.new.left) result buf.old buf.new }
         ensures cause { HasCause self.old.faults self.new.faults result }
 
-        // Exactly what a call does.
+        // The exact effect of a call.
         ensures failed { IsErr result ↔ IsTrue (fails_at self.old.fails self.old.calls) }
         ensures count { IfOk result (λ n. n ≡ read_count self.old (length buf.old)) }
         ensures state { self.new ≡ after_read self.old (length buf.old) }

@@ -1,4 +1,4 @@
--- What a gate is asked for a job.
+-- The slices of a job that a gate is asked for.
 use Rattle.std.specs.Prelude.{◌≡◌, ℕ, suc, List, [], ◌∷◌, length}
 use Rattle.fq_model.specs.declared.limits.TheConstants.{MOST_SLICES}
 use Rattle.gate_rules.specs.declared.counters.Counters.{Counters}

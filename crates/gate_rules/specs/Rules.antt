@@ -1,4 +1,4 @@
--- What a rule of costs and a rule of kinds keep.
+-- The conditions on a rule of costs and on a rule of kinds.
 use Rattle.std.specs.Prelude.{ℕ, ◌≤◌, ◌<◌, min}
 use Rattle.vt_fixed.specs.declared.limits.TheConstants.{GREATEST_COST}
 use Rattle.gate_rules.specs.declared.counters.Counters.{Counters}
@@ -21,6 +21,6 @@ pub record KindsOf (F : Type 0) : Type 0 where
   pub function : F
   pub kinds : ℕ
 
--- each job's kind is one of so many
+-- each job's kind is below this number
 abbrev pub AnswersBelow : {J : Type 0} → (J → ℕ) → ℕ → Type 0
 AnswersBelow kind_of kinds = (job : _) → kind_of job < kinds

@@ -40,8 +40,8 @@ abbrev pub IsWithin : Counters → Slice → Type 0
 IsWithin most (More counters) = IsAtMost counters most
 IsWithin most (End counters) = counters ≡ most
 
--- What slice k may answer after counters of `before`, where this is the course: the course's own slice if `before` is
--- the course's too; at most the total, and an End where no further slice may come, if `before` is at most the total.
+-- Possible answers of slice k after counters of `before`, where this is the course: the course's own slice if `before`
+-- is the course's too; at most the total, and an End where no slice may follow, if `before` is at most the total.
 pub record Follows (course : List Counters) (k : ℕ) (before : Counters) (answer : Slice) : Type 0 where
   pub is_course : IsCourse course
   pub slice : k < length course → before ≡ counters_before course k → answer ≡ slice_at course k
@@ -52,8 +52,8 @@ abbrev pub FollowsIfTold : Option (List Counters) → ℕ → Counters → Slice
 FollowsIfTold None k before answer = Unit {0}
 FollowsIfTold (Some course) k before answer = Follows course k before answer
 
--- what an answer of slice k means for whoever has followed the course so far: there is a further slice, and these are
--- the counters before it, or the course has ended, and they are its total
+-- the meaning of an answer of slice k for a caller that has followed the course so far: there is a further slice, and
+-- these are the counters before it, or the course has ended, and they are its total
 abbrev pub GoesOn : List Counters → ℕ → Slice → Type 0
 GoesOn course k (More counters) = (suc k < length course) × (counters ≡ counters_before course (suc k))
 GoesOn course k (End counters) = (suc k ≡ length course) × (counters ≡ total course)

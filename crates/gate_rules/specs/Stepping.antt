@@ -8,7 +8,7 @@ use Rattle.program_model.specs.PoolHistory.{step_of}
 use Rattle.gate_rules.specs.declared.counters.Counters.{Counters}
 use Rattle.gate_rules.specs.Slices.{counters_after, total, IsCourse}
 
--- so much work and nothing else
+-- this work and nothing else
 abbrev pub work_only : ℕ → Counters
 work_only work = record { work = work; items = 0; bytes = 0 }
 
@@ -27,7 +27,7 @@ pub record IsStepping (step cost : ℕ) : Type 0 where
   pub small : step ≤ GREATEST_COST
   pub few : cost ≤ MOST_SLICES * step
 
--- a cost is counted up: each use that is reported is so many steps, and what the course comes to is the cost
+-- a cost is counted up: each use that is reported is a number of steps, and the total of the course is the cost
 pub record CountsUp (step cost : ℕ) : Type 0 where
   pub is_course : IsCourse (step_course step cost)
   pub length_is : length (step_course step cost) ≡ reports_below step cost + 1

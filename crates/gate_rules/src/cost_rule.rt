@@ -11,7 +11,7 @@ use std::marker::Model;
 pub trait Cost {
     ghost cost_of: { Self → Counters → ℕ };
 
-    /// What so much use costs, in microseconds.
+    /// The cost of these counters, in microseconds.
     fn cost(&self, counters: Counters) -> u64
         ensures { result ≡ cost_of self.now counters };
 }
@@ -42,7 +42,7 @@ impl<F: Cost> CostRule<F> {
         CostRule { function }
     }
 
-    /// What so much use costs, in microseconds.
+    /// The cost of these counters, in microseconds.
     pub fn cost(&self, counters: Counters) -> u64
         ensures answer { result ≡ F.cost_of self.now counters }
         ensures limit { result ≤ GREATEST_COST }

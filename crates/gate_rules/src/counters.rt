@@ -1,8 +1,8 @@
-//! What is counted while a job runs.
+//! The counters of a job that runs.
 ghost use Rattle.std.specs.Prelude.{◌≡◌, ◌↔◌, IsTrue};
 ghost use Rattle.gate_rules.specs.Counting.{IsAtMost, greater_of};
 
-/// What a job has used so far. The units are those of the gate that counts; it may leave a part at 0.
+/// The work, items and bytes of a job so far. The units are those of the gate that counts; it may leave a part at 0.
 #[derive(Clone, Copy, Debug, PartialEq, Eq)]
 pub struct Counters {
     /// Work done, such as microseconds of a processor.

@@ -32,7 +32,7 @@ impl<J, F: Kind<J>> Model for KindRule<J, F> {
 }
 
 impl<J, F: Kind<J>> KindRule<J, F> {
-    /// Keeps the function, for so many kinds.
+    /// Keeps the function, for this number of kinds.
     pub fn new(function: F, kinds: u32) -> KindRule<J, F>
         requires { AnswersBelow (F.kind_of function) kinds }
         ensures { result ≡ record { function = function; kinds = kinds } }
@@ -52,7 +52,7 @@ impl<J, F: Kind<J>> KindRule<J, F> {
         self.function.kind(job)
     }
 
-    /// That each kind is one of so many: a fact for proofs, which does nothing when it runs.
+    /// That each kind is below the number of kinds: a fact for proofs, which does nothing when it runs.
     pub fn answers_below(&self)
         ensures { AnswersBelow (F.kind_of self.now.function) self.now.kinds }
     {

@@ -1,5 +1,5 @@
-//! What runs a job slice by slice and counts its use, the rules that costs and kinds come from, and what a submitter
-//! hands in.
+//! The gate, which runs a job slice by slice and counts its use, the rules that costs and kinds come from, and the rows
+//! that a submitter hands in.
 #![tactic(auto)]
 
 pub mod cost_rule;

@@ -10,7 +10,7 @@ use fq_model::job::Job;
 use std::marker::Model;
 use std::snapshot::Snapshot;
 
-/// A slice that a gate was asked for, and what it answered.
+/// A slice that a gate was asked for, and its answer.
 #[derive(Clone, Copy)]
 pub struct Asked {
     /// The job's label.
@@ -29,8 +29,8 @@ enum Asks {
     Next(Snapshot<Asked>, Snapshot<Asks>),
 }
 
-/// What one caller has asked a gate of type G and was answered. It is for contracts, which see a list, the newest slice
-/// first; when it runs it holds nothing. It comes from the gate itself, and grows by the gate's answers alone.
+/// The slices that one caller has asked a gate of type G for, and the answers. It is for contracts, which see a list,
+/// the newest first; when it runs it holds nothing. It comes from the gate itself, and grows by its answers alone.
 #[derive(Drop)]
 pub struct SliceLog<G> {
     asks: Asks,

@@ -1,4 +1,4 @@
-//! What a submitter hands in.
+//! The rows that a submitter hands in.
 use fq_model::event::Cause;
 use std::collections::VecDeque;
 

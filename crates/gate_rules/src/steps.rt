@@ -52,7 +52,7 @@ impl Steps {
         ((self.cost - 1) / self.step) as u32 + 1
     }
 
-    /// What slice `k` comes to, after counters of `last`.
+    /// The answer of slice `k`, after counters of `last`.
     pub fn slice(&self, k: u32, last: Counters) -> Slice
         ensures rises { IsAtMost last (counters_of result) }
         ensures follows { FollowsIfTold (Some self.now) k last result }

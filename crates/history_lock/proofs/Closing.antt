@@ -1,4 +1,4 @@
--- What the rule says of the machine at the end.
+-- The machine at the lock's last moment, by the rule.
 use Rattle.std.proofs.Common.{◌≡◌, ℕ, ◌%◌, List, [], ◌∷◌, refl, sym, ap, ◌∙◌, subst, inl, inr, arith, Option, Some}
 use mathlib.Core.Logic.{dite}
 use mathlib.Core.Option.{some, some-injective}
@@ -33,7 +33,7 @@ module _ {M F : Type 0} (past : M → List Entry) (frame : M → F) (like : F) w
   last_words table id v ws xs d w (s, (r, at), is, wide, keeps_home) first second = let p = words_of s r ws d w is first second in
       (s, r, r.words ∙ (ap (λ (n : ℕ). n ∷ r.marks.served % 18446744073709551616 ∷ []) p.0 ∙ ap (λ (n : ℕ). d ∷ n ∷ []) p.1), (id, v, at, refl))
 
-  -- what is then true of the machine, by the pass that closes
+  -- the facts about the machine then, by the pass that closes
   abbrev pub Ends : PassView F → M → Type 0
   Ends h m = (frame m ≡ like) × IsPrefix h.seen (past m) × (own_entries (past m) h.number ≡ h.mine) × HasEnded (past m) h.ended × HasNoneAbove (past m) h.made
 

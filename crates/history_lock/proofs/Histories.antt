@@ -1,4 +1,4 @@
--- Front parts of histories, and the entries of one caller.
+-- Prefixes of histories, and the entries of one caller.
 use Rattle.std.proofs.Common.{◌≡◌, ◌≢◌, ℕ, ◌+◌, ◌-◌, ◌≤◌, Bool, true, false, List, [], ◌∷◌, ◌++◌, length, sym, refl, ap, ◌∙◌, inl, inr, arith, length-append, append_assoc, append-nil, ne_eqb, eqb, filter}
 use Rattle.std.proofs.lemmas.List.Elements.{filter-append}
 use Rattle.fq_model.specs.declared.event.Entry.{Entry}
@@ -39,7 +39,7 @@ module _ {A : Type 0} where
       let t = begins (tail_of log) xs ys r q (ap tail_of e) (ap tail_of f) (omega arith) in
       (t.0, λ i. ap (head_or x) (sym f ∙ e) i ∷ t.1 i)
 
--- a front part of a front part
+-- a prefix of a prefix
 pub prefix_through : (a b c : List Entry) → IsPrefix a b → IsPrefix b c → IsPrefix a c
 prefix_through a b c s t = (s.0 ++ t.0, t.1 ∙ (ap (λ (l : List Entry). l ++ t.0) s.1 ∙ append_assoc a s.0 t.0))
 

@@ -1,4 +1,4 @@
--- Stages: how many turns they hold, and what stays true of them.
+-- Stages: the number of turns that they hold, and the facts about them that stay true.
 use Rattle.std.proofs.Common.{◌≡◌, ◌≢◌, ℕ, ◌+◌, ◌≤◌, true, List, [], ◌∷◌, length, sym, refl, ap, ◌∙◌, arith}
 use Rattle.fq_model.specs.declared.event.Entry.{Entry}
 use Rattle.history_lock.specs.declared.table.View.{View}

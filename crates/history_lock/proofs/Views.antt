@@ -1,4 +1,4 @@
--- What is known of views while others step, and the slot.
+-- The facts about views that stay true while others step, and the slot.
 use Rattle.std.proofs.Common.{◌≡◌, ◌≢◌, ℕ, ◌<◌, List, [], ◌∷◌, get_or, set, sym, ap, ◌∙◌, subst, inl, inr, Option}
 use mathlib.Core.Option.{some}
 use mathlib.Core.Option as maybe

@@ -1,11 +1,11 @@
--- What the echo answers.
+-- The answers of the echo.
 use Rattle.std.specs.Prelude.{◌≡◌, ◌⊎◌, ℕ, ◌<◌, ◌≤◌, List, [], ◌∷◌, ◌++◌, length}
 use Rattle.std.proofs.Common.{inl, inr, refl}
 use Rattle.fq_model.specs.declared.event.Entry.{Entry}
 use Rattle.fq_model.specs.declared.event.Act.TheVariants.{Close}
 use Rattle.history_lock.specs.Histories.{Grows}
 
--- what an echo keeps, and how many entries it takes
+-- an echo's entries, and their greatest number
 pub record EchoView : Type 0 where
   pub past : List Entry
   pub room : ℕ

@@ -1,4 +1,4 @@
--- What contracts see of a lock and of a pass.
+-- The views of a lock and of a pass.
 use Rattle.std.specs.Prelude.{◌≡◌, ℕ, ◌<◌, ◌≤◌, true, List, [], ◌∷◌, Option, Some}
 use mathlib.Core.Option.{some}
 use lib.ListN.{get_elem?}
@@ -16,7 +16,7 @@ pub record LockView (F : Type 0) : Type 0 where
   pub frame : F
 
 -- A pass: which lock it is of, by table and frame, its number, the history that it has seen and its own entries there
--- For number 0: how many more passes were made, and the numbers that were joined, each with what was its own
+-- For number 0: the number of further passes made, and the numbers that were joined, each with its own entries
 pub record PassView (F : Type 0) : Type 0 where
   pub table : TableId
   pub frame : Option F
@@ -49,7 +49,7 @@ module _ {F : Type 0} where
     pub mine : new.mine ≡ old.mine
     pub mine_is : new.mine ≡ own_entries new.seen new.number
 
-  -- between two calls a pass holds no turn, and its own entries are those of its number in what it has seen
+  -- between two calls a pass holds no turn, and its own entries are those of its number in the history that it has seen
   pub record IsAtRest (number made : ℕ) (views : List (View F)) : Type 0 where
     pub whole : views ≡ view_of views ∷ []
     pub idle : is_idle (view_of views).stage ≡ true
@@ -57,7 +57,7 @@ module _ {F : Type 0} where
     pub made_is : (view_of views).made ≡ made
     pub own : (view_of views).mine ≡ own_entries (view_of views).seen number
 
--- of each number that was joined the past has just what was its own
+-- of each number that was joined the past has just its own entries
 abbrev pub HasEnded : List Entry → List (ℕ × List Entry) → Type 0
 HasEnded past ended = (j : ℕ) (e : ℕ × List Entry) → get_elem? ended j ≡ some e → own_entries past e.0 ≡ e.1
 

@@ -1,4 +1,4 @@
--- What each step on the table tells the one that makes it.
+-- The fact that each step on the table gives its maker.
 use Rattle.std.specs.Prelude.{◌≡◌, ◌≢◌, ℕ, ◌%◌, ◌^◌, List, [], ◌∷◌, Option, Some, None}
 use Rattle.atomic_table.specs.Table.{Me, Step}
 use Rattle.fq_model.specs.declared.event.Entry.{Entry}
@@ -46,11 +46,11 @@ module _ {M F : Type 0} where
       (turn : ℕ) → me.0.stage ≡ Waits turn
       → (found ≡ turn % 2 ^ 64 → (m : M) × TookIt past frame me turn me2 m) × (found ≢ turn % 2 ^ 64 → me2 ≡ me)
 
-  -- the machine is given back, and its past is what the pass has now seen
+  -- the machine is given back, and its past is the history that the pass has now seen
   abbrev pub gave : (M → List Entry) → At M → Holding M F → ℕ → Holding M F → Type 0
   gave past at me found me2 = (m : M) → me.1 ≡ (0, Some m) ∷ [] → me2 ≡ (learned me.0 (past m), [])
 
-  -- what was seen has this number's own entries, and both that were seen before the last join are front parts of it
+  -- the seen history has this number's own entries, and both histories seen before the last join are prefixes of it
   abbrev pub noted : At M → Holding M F → ℕ → Holding M F → Type 0
   noted at me found me2 = (me2 ≡ me) × (own_entries me.0.seen me.0.number ≡ me.0.mine)
       × (me.0.seen ≡ longer me.0.seen_before me.0.seen_by_other → IsPrefix me.0.seen_before me.0.seen × IsPrefix me.0.seen_by_other me.0.seen)

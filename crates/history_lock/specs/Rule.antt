@@ -1,4 +1,4 @@
--- The rule of the lock: what is true of the words, the slot and the views between any two steps.
+-- The rule of the lock: the invariant of the words, the slot and the views between any two steps.
 use Rattle.std.specs.Prelude.{◌≡◌, ◌⊎◌, ℕ, ◌+◌, ◌%◌, ◌^◌, ◌<◌, ◌≤◌, List, [], ◌∷◌, length, Option, Some}
 use mathlib.Core.Option.{some, none}
 use mathlib.Core.Option as maybe
@@ -20,8 +20,8 @@ abbrev pub total : {A : Type 0} → (A → ℕ) → List A → ℕ
 total count [] = 0
 total count (x ∷ xs) = count x + total count xs
 
--- What the rule says there is. `drawn` and `served` count all turns ever, `made` is the greatest number given to a
--- pass, and `history` is the one history: the past of the machine, or what it was when the turn began that is under way
+-- The marks of the rule. `drawn` and `served` count all turns ever, `made` is the greatest number given to a pass, and
+-- `history` is the past of the machine, or its past at the beginning of the turn that is under way
 -- `holder` names for each turn the seat that drew it, `owner` for each number the seat of its view, and `closed` is 1
 -- at each number whose pass was joined
 pub record Marks : Type 0 where
@@ -33,8 +33,7 @@ pub record Marks : Type 0 where
   pub owner : ℕ → ℕ
   pub closed : ℕ → ℕ
 
--- a turn that is held is one of those drawn and not served, and its holder's alone; the turn under way is the one that
--- is served
+-- a turn that is held is one of those drawn and not served, and its holder's alone; the turn under way is `served`
 module _ (k : Marks) (seat : ℕ) where
   abbrev pub Staged : Stage → Type 0
   Staged Spent = Unit {0}
@@ -42,16 +41,16 @@ module _ (k : Marks) (seat : ℕ) where
   Staged (Waits turn) = (k.served ≤ turn) × (turn < k.drawn) × (k.holder turn ≡ seat)
   Staged (Served turn P) = (turn ≡ k.served) × (turn < k.drawn) × (k.holder turn ≡ seat) × (P ≡ k.history)
 
--- what is known of a view that is not spent
+-- a fact about a view that is not spent
 abbrev pub Unless : Type 0 → Stage → Type 0
 Unless Known Spent = Unit {0}
 Unless Known _ = Known
 
 module _ {F : Type 0} (like : F) (k : Marks) (seat : ℕ) where
-  -- A view has the machine's frame. What it has seen is a front part of the history, and its own entries are all that
-  -- the history has of its number
-  -- Its number is no other view's, and none that was joined. Number 0 knows how many were made, and what each joined
-  -- number has in the history
+  -- A view has the machine's frame. It has seen a prefix of the history, and its own entries are all that the history
+  -- has of its number
+  -- Its number is no other view's, and none that was joined. Number 0 knows the number of passes made, and the entries
+  -- that each joined number has in the history
   pub record Fits (v : View F) : Type 0 where
     pub framed : v.frame ≡ Some like
     pub sees : IsPrefix v.seen k.history

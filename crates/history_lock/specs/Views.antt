@@ -1,4 +1,4 @@
--- What a view says, and what becomes of views.
+-- The parts of a view, and its changes.
 use Rattle.std.specs.Prelude.{ℕ, ◌+◌, Bool, true, false, List, [], ◌∷◌, ◌++◌, Some, None}
 use Rattle.fq_model.specs.declared.event.Entry.{Entry}
 use Rattle.fq_model.specs.Outcome.{own_entries}
@@ -32,7 +32,7 @@ module _ {F : Type 0} where
   spent_view =
       record { number = 0; frame = None; seen = []; mine = []; stage = Spent; made = 0; seen_before = []; seen_by_other = []; ended = [] }
 
-  -- the one view of a badge
+  -- the view of a badge, which has no other
   abbrev pub view_of : List (View F) → View F
   view_of [] = spent_view
   view_of (v ∷ vs) = v

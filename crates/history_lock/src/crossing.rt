@@ -1,4 +1,4 @@
-//! What may cross threads.
+//! The types that may cross threads.
 
 use crate::lock::HistoryLock;
 use crate::machine::Machine;

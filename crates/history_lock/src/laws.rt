@@ -9,8 +9,7 @@ pub fn own_turns_round()
     ensures { OwnTurnsRound }
 {}
 
-/// A front part in order of time is what is left of the history with its newest entry first once newer ones are
-/// dropped.
+/// A prefix in order of time is, with the newest entry first, the history without its newer entries.
 pub fn prefix_turns_round()
     ensures { PrefixTurnsRound }
 {}

@@ -1,5 +1,5 @@
-//! One history for all threads: a ticket lock round a machine, whose callers each know what they have seen and what is
-//! their own.
+//! One history for all threads: a ticket lock round a machine, whose callers each know the history that they have seen
+//! and their own entries.
 //!
 //! Turns are served in the order in which they were drawn (a ticket lock: Mellor-Crummey and Scott, Algorithms for
 //! Scalable Synchronization on Shared-Memory Multiprocessors, 1991). A caller draws one once it finds nobody in line,

@@ -97,7 +97,7 @@ impl<M: Machine> HistoryLock<M> {
         }
     }
 
-    /// Takes in another pass, which is spent. What either has seen, number 0 has then seen.
+    /// Takes in another pass, which is spent. Number 0 has then seen all that either had seen.
     pub fn join(&self, pass: &mut Pass<M::Frame>, other: Pass<M::Frame>)
         requires own { IsOf self.now pass.old }
         requires other_own { IsOf self.now other }
@@ -126,7 +126,7 @@ impl<M: Machine> HistoryLock<M> {
 }
 
 impl<M: Inspect> HistoryLock<M> {
-    /// Waits for a turn as `turn` does, and asks the machine. The history is what the pass has then seen.
+    /// Waits for a turn as `turn` does, and asks the machine about the history that the pass has then seen.
     pub fn inspect<R: Wait>(
         &self,
         rt: &R,
@@ -146,7 +146,7 @@ impl<M: Inspect> HistoryLock<M> {
     }
 }
 
-// The one slot of a table, with the machine.
+// The only slot of a table, with the machine.
 fn slot_with<M: Drop>(alloc: Global, machine: M) -> Result<Vec<Option<M>>, AllocError>
     ensures { IfOk result (λ v. v.items ≡ Some machine ∷ []) }
 {

@@ -1,19 +1,19 @@
-//! What a lock goes round.
+//! The machine that a lock goes round.
 ghost use Rattle.std.specs.Prelude.{◌≡◌, ℕ, List};
 ghost use Rattle.fq_model.specs.declared.event.Entry.{Entry};
 ghost use Rattle.history_lock.specs.Histories.{Grows};
 
-/// Something that keeps a history of its calls. `past` is that history, in order of time, and `frame` is what no step
-/// changes. `allowed` says which calls may be made. `answers` says of a history, a caller, a call and a reply which
-/// history follows: the same, or one entry more, which is the caller's.
+/// A machine keeps a history of its calls. `past` is that history, in order of time, and `frame` is the part that no
+/// step changes. `allowed` says which calls may be made. `answers` says of a history, a caller, a call and a reply
+/// which history follows: this history, or one entry more, which is the caller's.
 pub trait Machine {
-    /// What is asked.
+    /// A call.
     type Call;
 
-    /// What is answered.
+    /// The reply to a call.
     type Reply;
 
-    /// What no step changes, as plain data.
+    /// The part that no step changes, as plain data.
     type Frame;
 
     ghost past: { Self → List Entry };
@@ -34,13 +34,12 @@ pub trait Machine {
         (P2 : List Entry) → answers like P who call reply P2 → Grows who P P2 };
 }
 
-/// A machine that may be asked what is so of its history: a question changes nothing. `finds` says which answer is
-/// right.
+/// A machine that answers questions about its history: a question changes nothing. `finds` says which answer is right.
 pub trait Inspect: Machine {
-    /// What is asked.
+    /// A question about the history.
     type Question;
 
-    /// What is found.
+    /// The answer to a question.
     type Finding;
 
     ghost finds: { Self.Frame → List Entry → Self.Question → Self.Finding → Type 0 };

@@ -1,4 +1,4 @@
-//! What each step on the table tells.
+//! The fact that each step on the table gives its maker.
 ghost use Rattle.history_lock.specs.Plays.{drew, looked, gave, noted};
 ghost use Rattle.history_lock.specs.Views.{parent, child, joined, spent_view};
 
@@ -27,7 +27,7 @@ impl<M: Machine> Play<Option<M>, View<M::Frame>> for Give {
     ghost then = { gave M.past };
 }
 
-/// A pass that holds no turn learns what the rule says of it.
+/// A pass that holds no turn learns the facts that the rule has about it.
 pub(crate) struct Note;
 
 impl<M: Machine> Play<Option<M>, View<M::Frame>> for Note {

@@ -17,7 +17,7 @@ pub enum Stage {
     Served(u64, LinkedList<Entry>),
 }
 
-/// What a pass knows. No value of it is ever made: it stands in proofs alone.
+/// The view of a pass. No value of it is ever made: proofs alone use it.
 pub struct View<F> {
     pub number: u64,
     pub frame: Option<F>,
@@ -25,14 +25,14 @@ pub struct View<F> {
     pub mine: LinkedList<Entry>,
     pub stage: Stage,
     pub made: u64,
-    /// What this pass had seen before its last join.
+    /// The history that this pass had seen before its last join.
     pub seen_before: LinkedList<Entry>,
-    /// What the pass had seen that it took in then.
+    /// The history that the joined pass had seen then.
     pub seen_by_other: LinkedList<Entry>,
     pub ended: LinkedList<(u64, LinkedList<Entry>)>,
 }
 
-/// What the words, the slot and the views keep between them.
+/// The invariant of the words, the slot and the views.
 pub struct LockRule<M> {
     machine: PhantomData<M>,
 }

@@ -1,4 +1,4 @@
--- The courses of a legal history are what it says of each request.
+-- The list of courses of a legal history has the course of each request.
 use Rattle.std.proofs.Common.{ℕ, ◌<◌, ◌≡◌, ◌≢◌, Bool, true, false, nat_eq, List, [], ◌∷◌, ◌++◌, Option, Some, None, unwrap_or, length, slice_set, arith, refl, ap, ap₂, sym, ◌∙◌, subst, inl, inr, length-append, length-set, ◌||◌, get_or-set_same, get_or-set_other}
 use Rattle.std.proofs.lemmas.Bool.{cases_eq, cases_Bool, cond-true, cond-false, eq-eqb, ne_eqb, or_parts, false≢true}
 use Rattle.std.proofs.Math.ListN.{get_or-append}
@@ -23,7 +23,7 @@ abbrev pub tenant_in : Option Request → ℕ
 tenant_in None = 0
 tenant_in (Some q) = q.tenant
 
--- what a history says of request r
+-- the course of request r in a history
 abbrev pub course_of : History → ℕ → Course
 course_of H r = record {
   tenant = tenant_in (request_at H r);
@@ -45,7 +45,7 @@ pub no_moment : (test : Act → Bool) (P : History) → has_act test P ≡ false
 no_moment test [] h = refl
 no_moment test (e ∷ P) h = let p = or_parts (test e.act) (has_act test P) h in cond-false (test e.act) _ _ p.0 ∙ no_moment test P p.1
 
--- of a request that is not submitted nothing is said but what its Submit says
+-- the course of a request that was just submitted
 fresh_course : (C : Config) (P : History) (who m tenant kind declared label : ℕ) → IsLegal C P → course_of (record { who = who; moment = m; act = Submit (submits P) tenant kind declared label } ∷ P) (submits P) ≡ submitted tenant m
 unfolding is_done is_taken is_ended is_submitted
 fresh_course C P who m tenant kind declared label l =
@@ -80,7 +80,7 @@ other_withdraw : (P : History) (who m q r : ℕ) → q ≢ r → course_of (reco
 unfolding is_ended
 other_withdraw P who m q r ne = rw (ne_eqb q r ne) refl
 
--- what an act names is known
+-- the request that an act names was submitted
 pub names_known : (C : Config) (P : History) (m : ℕ) (a : Act) → IsLegal C P → Fits C P m a → NamesOneOf (submits P) a
 names_known C P m (Take worker request estimate) l f = submitted_below C P request l (waits_submitted P request (take_waits C P m worker request estimate f))
 names_known C P m (Done worker request cost) l f = submitted_below C P request l (taken_submitted C P request l (use_taken P worker request cost f))
@@ -135,7 +135,7 @@ pub courses_are : (C : Config) (H : History) → IsLegal C H → CoursesAre H (c
 courses_are C [] l = record { counted = refl; each = λ r b. absurd (omega (arith, b)) }
 courses_are C (e ∷ P) l = step_at C P e.who e.moment e.act (courses_of P) l.0 l.3 (courses_are C P l.0)
 
--- what is taken, done or withdrawn was submitted
+-- a request that is taken, done or withdrawn was submitted
 pub names_submitted : (C : Config) (H : History) → IsLegal C H → NamesSubmitted H
 names_submitted C [] l = tt
 names_submitted C (e ∷ P) l = (names_submitted C P l.0, subst (λ n. NamesOneOf n e.act) (sym (courses_are C P l.0).counted) (names_known C P e.moment e.act l.0 l.3))

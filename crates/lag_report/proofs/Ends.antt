@@ -35,7 +35,7 @@ moment_low C (e ∷ P) test l = elim (cases_Bool (test e.act)) [
   | inr is ↦ omega (arith, ap (λ o. unwrap_or o 0) (cond-false (test e.act) (Some e.moment) (moment_of test P) is), moment_low C P test l.0, l.1)
 ]
 
--- what is done was taken before
+-- a request that is done was taken before
 ends_at : (C : Config) (P : History) (m r : ℕ) (a : Act) → IsLegal C P → last_moment P ≤ m → Fits C P m a → (is_done P r ≡ true → take_moment P r ≤ done_moment P r) → is_done (record { who = 0; moment = m; act = a } ∷ P) r ≡ true →
     take_moment (record { who = 0; moment = m; act = a } ∷ P) r ≤ done_moment (record { who = 0; moment = m; act = a } ∷ P) r
 unfolding is_done
@@ -69,7 +69,7 @@ cost_low C (e ∷ P) r l = cost_at C P e.moment r e.act l.3 (cost_low C P r l.0)
 
 -- ---- courses
 
--- what is withdrawn was never taken
+-- a request that is withdrawn was never taken
 never_taken : (C : Config) (H : History) (r : ℕ) → IsLegal C H → is_withdrawn H r ≡ true → take_moment H r ≡ 0
 unfolding is_taken
 never_taken C H r l withdrawn = ap (λ o. unwrap_or o 0) (no_moment (is_take_of r) H (withdrawn_untaken C H r l withdrawn))

@@ -36,7 +36,7 @@ low taken ended cost m = elim (cases_Bool (nat_le ended m)) [
   ]
 ]
 
--- what is divided is more, and so is the quotient
+-- a greater dividend has no smaller quotient
 pub quotients : (a b d : ℕ) → 0 < d → a ≤ b → a / d ≤ b / d
 quotients a b d some h = le-div (a / d) b d some (omega (arith, div-mul-le_self a d))
 
@@ -89,7 +89,7 @@ sum_after gains i j v h l =
     let inside : i < length (take j gains) = omega (arith, h, l, length-take-le j gains l) in
     omega (arith, ap sum (take-set-lt j gains i v h), sum_by-set (λ x. x) (take j gains) i v 0 inside, get_or-take j gains i 0 h)
 
--- where the gains up to slot i are those before it and what one request gained, and slot i gains the rest
+-- the work of one request in the first i slots was added to the gains, and its work in slot i is added now
 pub gained_more : (gains old : List ℕ) (i j before after : ℕ) (work : ℕ → ℕ) → length gains ≡ length old → i < length old → before ≡ work i → after ≡ work (suc i) → before ≤ after →
     ((k : ℕ) → k ≤ length old → sum (take k gains) ≡ sum (take k old) + work (min k i)) →
     j ≤ length old → sum (take j (slice_set gains i (get_or gains i 0 + (after - before)))) ≡ sum (take j old) + work (min j (i + 1))
@@ -124,6 +124,6 @@ gains_low Q courses gains few are =
     let each : sum_by (work_in Q (length gains)) courses ≤ sum_by (λ c. c.cost) courses = sum_by-le-sum_by (work_in Q (length gains)) (λ (c : Course). c.cost) courses (in_low Q (length gains)) in
     omega (arith, all, each, are (length gains) (omega arith), few)
 
--- the lags by what was gained are those by the work
+-- the lags by the gains are those by the work
 pub lags_are : (Q : ℕ) (served gains : List ℕ) (courses : List Course) → length gains ≡ length served → GainsAre Q courses gains → samples_from served (λ k. sum (take k gains)) ≡ lags_from served courses Q
 lags_are Q served gains courses same are = list_same _ _ (length served) (λ k l. ap (λ n. pos (number_at served k) -ℤ pos n) (are (suc k) (omega (arith, l, same))))

@@ -9,7 +9,7 @@ use Rattle.lag_report.specs.Courses.{own}
 abbrev pub is_own : ℕ → Course → Bool
 is_own t c = nat_eq c.tenant t
 
--- sums over what stands of one tenant
+-- sums over the courses of one tenant
 pub own_sum : (t : ℕ) (f : Course → ℕ) (cs : List Course) → sum_by f (filter (is_own t) cs) ≡ sum_by (own t f) cs
 own_sum t f [] = refl
 own_sum t f (c ∷ cs) = elim (cases_Bool (is_own t c)) [

@@ -1,4 +1,4 @@
--- What stands at a rank.
+-- The sample at a rank.
 use Rattle.std.proofs.Common.{ℕ, suc, ◌+◌, ◌<◌, ◌≤◌, ◌≡◌, Bool, true, false, not, cond, List, [], ◌∷◌, ◌++◌, Some, length, get_or, take, arith, refl, ap, append_assoc, length-append, sym, ◌∙◌, subst, inl, inr, ℤ, pos, int_lt, int_le, nat_le, nat_lt, unwrap_or, ◌≢◌, All, Contains}
 use Rattle.std.specs.Prelude.{◌<ℤ◌, ◌≤ℤ◌}
 use Rattle.std.specs.Int.{int_min}
@@ -39,7 +39,7 @@ at_most_itself x = omega (arith, ints)
 in_turn : (x y z : ℤ) → x ≤ℤ y → y ≤ℤ z → x ≤ℤ z
 in_turn x y z h k = omega (arith, ints, h, k)
 
--- what is at most x is less than a greater y
+-- a sample that is at most x is less than a greater y
 less_than_more : (x y z : ℤ) → x <ℤ y → cond (int_le z x) 1 0 ≤ cond (int_lt z y) 1 0
 less_than_more x y z h = grind (arith, ints)
 
@@ -53,7 +53,7 @@ cond_ℕ b = cond b 1 0
 other_counts : (x z : ℤ) → z ≢ x → int_le z x ≡ int_lt z x
 other_counts x z h = grind (arith, ints)
 
--- what stands at a rank is a sample
+-- the number at a rank is a sample
 found : (x : ℤ) (test : ℤ → Bool) (samples : List ℤ) → test x ≡ true → count_less x samples < count_up_to x samples → (y : ℤ) × (find test samples ≡ Some y) × (test y ≡ true)
 found x test [] is more = absurd (omega arith)
 found x test (z ∷ zs) is more = elim (cases_Bool (test z)) [
@@ -67,7 +67,7 @@ found x test (z ∷ zs) is more = elim (cases_Bool (test z)) [
       (rest.0, cond-false (test z) _ _ e ∙ rest.1, rest.2)
 ]
 
--- at least `rank` samples are at most what stands there, and fewer are less
+-- at least `rank` samples are at most the sample at that rank, and fewer are less
 enough : (rank : ℕ) (samples : List ℤ) (x : ℤ) → is_at_rank rank samples x ≡ true → rank ≤ count_up_to x samples
 enough rank samples x at = leb-true rank (count_up_to x samples) (and_parts (nat_le rank (count_up_to x samples)) (nat_lt (count_less x samples) rank) at).0
 
@@ -107,15 +107,15 @@ at_cut samples before after x moved low high =
     let less : count_less x samples < length before + 1 = omega (arith, whole (λ y. cond_ℕ (int_lt y x)), back, itself, count_by-le-length (λ y. int_lt y x) before) in
     sym (one_at_rank (length before + 1) samples x (and_from _ _ (le-leb _ _ up_to) (lt-ltb _ _ less)))
 
--- what stands at a place, counted from 0, has the rank that is one more
+-- the sample at a place, counted from 0, has the rank that is one more
 pub rank_of : (samples after : List ℤ) (at rank : ℕ) (x : ℤ) → StandsAt samples at x after → at + 1 ≡ rank → x ≡ at_rank rank samples
 rank_of samples after at rank x stands next = at_cut samples stands.before after x stands.same stands.low stands.high ∙ ap (λ n. at_rank n samples) (ap (λ n. n + 1) stands.place ∙ next)
 
--- what is not greater, and not less, by std's order
+-- a number that is not less by std's order is at least the other
 not_after : (x y : ℤ) → is_lt (int_cmp y x) ≡ false → x ≤ℤ y
 not_after x y h = grind (arith, ints)
 
--- what a selection leaves
+-- the sample at a place, by a selection
 pub selected : (samples before after : List ℤ) (at : ℕ) (x z : ℤ) → IsPermutation samples (before ++ x ∷ after) → length before ≡ at → IsSplitAround int_cmp before x after → z ≡ x → StandsAt samples at z after
 selected samples before after at x z moved place split is = subst (λ y. StandsAt samples at y after) (sym is) (record {
   before = before;
@@ -125,7 +125,7 @@ selected samples before after at x z moved place split is = subst (λ y. StandsA
   high = λ k d l. not_after x (get_or after k d) (split.1 k d l);
 })
 
--- what holds of samples holds of the one that stands there
+-- a property of all samples holds of the sample at a place
 holds_there : (P : ℤ → Type 0) (samples after : List ℤ) (at : ℕ) (x : ℤ) → StandsAt samples at x after → All P samples → P x
 holds_there P samples after at x stands all = All-contains P samples x all (Contains-permutation (stands.before ++ x ∷ after) samples x (IsPermutation-sym samples (stands.before ++ x ∷ after) stands.same) (Contains-append_right stands.before (x ∷ after) x (0, omega arith, refl)))
 
@@ -143,11 +143,11 @@ one_more samples after at next first x least stands is = record {
   high = stands.high;
 }
 
--- what stands among samples is no less than their least
+-- the sample at a place is no less than the least sample
 none_less : (x y : ℤ) (rest after : List ℤ) (at : ℕ) → All (λ z. x ≤ℤ z) rest → StandsAt (x ∷ rest) at y after → x ≤ℤ y
 none_less x y rest after at least stands = holds_there (λ z. x ≤ℤ z) (x ∷ rest) after at y stands (All-cons (λ z. x ≤ℤ z) x rest (at_most_itself x) least)
 
--- what stands at a place of those from another on
+-- the place of a sample, by its place among the samples from another on
 pub further : (samples rest after : List ℤ) (from at next : ℕ) (x y z : ℤ) → StandsAt samples from x rest → StandsAt (x ∷ rest) at y after → from + at ≡ next → z ≡ y → StandsAt samples next z after
 further samples rest after from at next x y z first second place is = subst (λ w. StandsAt samples next w after) (sym is) (record {
   before = first.before ++ second.before;

@@ -34,7 +34,7 @@ for_many C H Q is more = for_cells C H Q is ∙ ap (λ b. first_true ((not b, To
 pub for_none : (C : Config) (H : History) (Q : ℕ) → unfinished H ≡ None → cells_of C H Q ≤ 4000000 → report_refusal C H Q ≡ None
 for_none C H Q is few = for_cells C H Q is ∙ ap (λ b. first_true ((not b, TooLong (slots_of H Q) (length C.weights)) ∷ [])) (le-leb (cells_of C H Q) 4000000 few)
 
--- what the fluid service answers is a reason
+-- a fault of the fluid service is a reason
 pub for_fluid : (C : Config) (H : History) (Q n : ℕ) (f : FluidFault) → unfinished H ≡ None → n ≡ slots_of H Q → (f ≡ fluid.NoMemory) ⊎ ((f ≡ too_long C n) × IsTooLong C n) → IsReason (fault_from f) (report_refusal C H Q)
 for_fluid C H Q n f is same (inl e) = subst (λ g. IsReason (fault_from g) (report_refusal C H Q)) (sym e) tt
 for_fluid C H Q n f is same (inr p) = subst (λ g. IsReason (fault_from g) (report_refusal C H Q)) (sym (p.0 ∙ ap (too_long C) same)) (for_many C H Q is (subst (λ k. 4000000 < k * length C.weights) same p.1))

@@ -49,7 +49,7 @@ is_table C rows H Q n some few in_range count =
       low = λ k t l m. omega (arith, cell_is C rows H Q n k t (omega (arith, l, long)) m, served_low C (length C.weights) rows H Q t (suc k) in_range count);
     }
 
--- the table of what a history says of its requests and changes is that of its fluid service
+-- the table by a history's completed requests and changes is that of its fluid service
 pub table_is : (C : Config) (H : History) (Q n : ℕ) (rows : List FluidRow) (changes : List Change) (table : List (List ℕ)) → IsLegal C H → n ≡ slots_of H Q → rows ≡ rows_of H → changes ≡ changes_of H →
     table ≡ table_of_changes C rows changes Q n → table ≡ fluid_table C (fluid_rows_of H) H Q (slots_of H Q)
 table_is C H Q n rows changes table l count all in_time is =

@@ -26,7 +26,7 @@ longer old x y now next is then = then ∙ ap (λ l. l ++ y) is ∙ append_assoc
 pub longer_by_two : (old x y z now next : List ℕ) → now ≡ old ++ x → next ≡ now ++ y ++ z → next ≡ old ++ (x ++ y ++ z)
 longer_by_two old x y z now next is then = longer old (x ++ y) z (now ++ y) next (longer old x y now (now ++ y) is refl) then
 
--- what is left of the lines begins with the next
+-- the lines from tenant t on begin with its line
 line_at : (names : List (List ℕ)) (rows : List TenantLag) (t : ℕ) (name : List ℕ) (d : TenantLag) → t < length rows → slice_get names t ≡ Some name → tenant_lag_lines (drop t names) (drop t rows) ≡ tenant_lag_line name (get_or rows t d) ++ tenant_lag_lines (drop (suc t) names) (drop (suc t) rows)
 line_at [] rows t name d below named = absurd (cc)
 line_at (other ∷ names) [] t name d below named = absurd (omega arith)

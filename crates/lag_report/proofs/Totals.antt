@@ -1,4 +1,4 @@
--- What a report tells of a tenant, by the courses of its requests.
+-- A tenant's line of a report, by the courses of its requests.
 use Rattle.std.proofs.Common.{ℕ, zero, suc, ◌+◌, ◌<◌, ◌≤◌, ◌≡◌, ◌^◌, Bool, true, false, not, cond, nat_eq, List, [], ◌∷◌, Some, None, unwrap_or, length, take, arith, refl, ap, sym, ◌∙◌, subst, inl, inr, add-one, sum_by, nat_lt}
 use Rattle.std.specs.List.{position, position_or_len}
 use Rattle.std.proofs.lemmas.Bool.{cases_eq, cases_Bool, cond-true, cond-false, eq-eqb, ne_eqb, false≢true, and_from, and_left, and_right, true_from_ne_false, ltb-true, ltb-false}
@@ -82,7 +82,7 @@ work_is C H t m lim l = over_courses C H (own t (worked m)) (work_done_for H t m
 
 -- ---- charges
 
--- what is done has a cost
+-- a request that is done has a cost
 final_at : (r : ℕ) (a : Act) (P : History) → (is_done P r ≡ true → final_cost P r ≡ Some (measured_cost P r)) → is_done (record { who = 0; moment = 0; act = a } ∷ P) r ≡ true → cost_in r a (final_cost P r) ≡ Some (unwrap_or (cost_in r a (final_cost P r)) 0)
 unfolding is_done
 final_at r (Done worker request cost) P ih h = elim (cases_eq request r) [
@@ -96,7 +96,7 @@ unfolding is_done
 final_is [] r h = absurd (false≢true h)
 final_is (e ∷ P) r h = final_at r e.act P (final_is P r) h
 
--- what is done is charged its cost
+-- a request that is done is charged its cost
 net_done : (C : Config) (H : History) (t r : ℕ) → IsLegal C H → r < submits H → is_done H r ≡ true → net_charged H t r ≡ own t (λ c. c.cost) (course_of H r)
 net_done C H t r l b done =
     let q = known C H r l b in
@@ -104,7 +104,7 @@ net_done C H t r l b done =
     ∙ ap (λ n. cond (is_of_tenant t (request_at H r)) n 0) (charge_final C H r (measured_cost H r) l (final_is H r done))
     ∙ ap (λ o. cond (is_of_tenant t o) (measured_cost H r) 0) q.1 ∙ sym (ap (λ o. cond (nat_eq (tenant_in o) t) (measured_cost H r) 0) q.1)
 
--- what was never taken is charged nothing, and costs nothing
+-- a request that was never taken is charged nothing, and has the cost 0
 net_untaken : (C : Config) (H : History) (t r : ℕ) → IsLegal C H → is_taken H r ≡ false → net_charged H t r ≡ own t (λ c. c.cost) (course_of H r)
 net_untaken C H t r l untaken = net_charged_untaken H t r untaken ∙ sym (nothing (nat_eq (tenant_in (request_at H r)) t) (measured_cost H r) (ap (λ o. unwrap_or o 0) (cost_none H r (untaken_undone C H r l untaken))))
   where
@@ -151,7 +151,7 @@ pub all_submits : (C : Config) (H : History) → IsLegal C H → sum_below (subm
 all_submits C [] l = sum_zero (submits_for []) (length C.weights) (λ r. refl)
 all_submits C (e ∷ P) l = all_at C P e.moment e.act l.3 (all_submits C P l.0)
 
--- ---- what is neither done nor withdrawn
+-- ---- requests that are neither done nor withdrawn
 
 pub all_ended : (C : Config) (H : History) → IsLegal C H → InLimits C → unfinished H ≡ None → (r : ℕ) → r < submits H → is_ended H r ≡ true
 unfolding unfinished request_bound

@@ -1,4 +1,4 @@
--- What a history says of the courses of its requests.
+-- The courses of the requests of a history, and its completed requests.
 use Rattle.std.specs.Prelude.{ℕ, ◌<◌, ◌==◌, true, false, if◌then◌else◌, List, [], ◌∷◌, ◌++◌, length, slice_index_or, slice_set}
 use Rattle.fq_model.specs.declared.event.Act.{Act}
 use Rattle.fq_model.specs.declared.event.Act.TheVariants.{Submit, Take, Done, Withdraw}
@@ -48,7 +48,7 @@ NamesOneOf n (Done worker request cost) = request < n
 NamesOneOf n (Withdraw request) = request < n
 NamesOneOf n _ = Unit {0}
 
--- what is taken, done or withdrawn was submitted before
+-- each request that is taken, done or withdrawn was submitted before
 abbrev pub NamesSubmitted : History → Type 0
 NamesSubmitted [] = Unit {0}
 NamesSubmitted (e ∷ P) = NamesSubmitted P × NamesOneOf (length (courses_of P)) e.act

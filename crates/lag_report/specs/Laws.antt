@@ -1,4 +1,4 @@
--- What follows from the definitions of reports.
+-- Consequences of the definitions of reports.
 use Rattle.std.specs.Prelude.{ℕ, ◌≡◌}
 use Rattle.fq_model.specs.declared.config.Config.{Config}
 use Rattle.fq_model.specs.Limits.{InLimits}

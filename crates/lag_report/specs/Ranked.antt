@@ -1,4 +1,4 @@
--- Where samples stand in order, and what a report asks of samples.
+-- The place of a sample where samples stand in order, and the samples at the ranks that a report names.
 use Rattle.std.specs.Prelude.{ℕ, ◌≡◌, List, ◌∷◌, ◌++◌, length, ℤ, ◌≤ℤ◌, All}
 use Rattle.std.specs.List.Sorted.{IsPermutation}
 use Rattle.fq_model.specs.Ranks.{least_sample, percentile, greatest_sample}

@@ -1,4 +1,4 @@
--- Parts of the texts of reports and summaries, behind what a text has already.
+-- Parts of the texts of reports and summaries, each behind a text.
 use Rattle.std.specs.Prelude.{List, ◌++◌, ℕ, codes}
 use Rattle.std.specs.Fmt.{decimal, signed_decimal}
 use Rattle.fq_model.specs.declared.lag.TenantLag.{TenantLag}

@@ -1,4 +1,4 @@
--- Work by slots, and what a report says of a tenant by the courses of its requests.
+-- Work by slots, and a tenant's line of a report by the courses of its requests.
 use Rattle.std.specs.Prelude.{ℕ, zero, suc, ◌-◌, ◌*◌, ◌/◌, ◌<◌, ◌≤◌, ◌≡◌, List, length, take, sum, sum_by, slice_index, ℤ, pos, ◌-ℤ◌}
 use Rattle.vt_fixed.specs.declared.limits.TheConstants.{GREATEST_COST, GREATEST_MOMENT}
 use Rattle.fq_model.specs.declared.limits.TheConstants.{MOST_CELLS, GREATEST_BACKLOG}
@@ -29,7 +29,7 @@ pub record EndsWithin (Q slots : ℕ) (c : Course) : Type 0 where
 abbrev pub GainsAre : ℕ → List Course → List ℕ → Type 0
 GainsAre Q courses gains = (k : ℕ) → k ≤ length gains → sum (take k gains) ≡ sum_by (work_in Q k) courses
 
--- the lag after slot k, where so much was served up to the end of each slot, and so much work gained in each
+-- the lag after slot k: the service up to its end, less the work up to then
 abbrev pub sample_at : List ℕ → (ℕ → ℕ) → ℕ → ℤ
 sample_at served work k = pos (number_at served k) -ℤ pos (work (suc k))
 
@@ -41,8 +41,8 @@ samples_from served work = list_below (sample_at served work) (length served)
 abbrev pub lags_from : List ℕ → List Course → ℕ → List ℤ
 lags_from served courses Q = samples_from served (λ k. sum_by (work_in Q k) courses)
 
--- what a report says of a tenant of this weight, which was served so much up to the end of each slot of length Q, and
--- whose requests have these courses
+-- a report's line of a tenant with this weight, this service up to the end of each slot of length Q, and requests
+-- with these courses
 abbrev pub line_of : ℕ → List ℕ → List Course → ℕ → TenantLag
 line_of weight served courses Q = record {
   weight = weight;
@@ -58,14 +58,15 @@ line_of weight served courses Q = record {
 
 -- ---- all tenants
 
--- a table of some slots, and no more cells than there may be, for so many tenants, with no number above the limit
+-- a table by slots for this number of tenants: it has a slot, no more slots than there may be cells, and no number
+-- above the limit
 pub record IsTable (tenants : ℕ) (table : List (List ℕ)) : Type 0 where
   pub some : 1 ≤ length table
   pub few : length table ≤ MOST_CELLS
   pub tenants_are : (k : ℕ) → k < length table → length (slot_at table k) ≡ tenants
   pub low : (k t : ℕ) → k < length table → t < tenants → number_at (slot_at table k) t ≤ GREATEST_BACKLOG
 
--- what a report says of tenant t, of these weights, of requests with these courses and by this table
+-- a report's line of tenant t, by these weights, the courses of all requests and this table
 abbrev pub line_for : List ℕ → List Course → List (List ℕ) → ℕ → ℕ → TenantLag
 line_for weights courses table Q t =
     line_of (slice_index weights t) (column_of table t) (owned_by (λ c. c.tenant) t courses) Q

@@ -38,8 +38,8 @@ pub fn last_moment(past: &[Entry]) -> u64
     }
 }
 
-/// Whether a report has no more cells than it may: slots up to the one that holds the moment `end`, for so many
-/// tenants.
+/// Whether a report for this number of tenants has no more cells than it may, where its last slot holds the moment
+/// `end`.
 pub fn are_few(end: u64, slot: u64, tenants: u32) -> bool
     requires { 1 ≤ slot }
     ensures { result ≡ nat_le ((end / slot + 1) * tenants) MOST_CELLS }

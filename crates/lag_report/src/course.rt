@@ -5,7 +5,7 @@ use fluid_reference::owned::Owned;
 /// When a request came, was taken and was done, in microseconds. One that is withdrawn is never taken or done.
 #[derive(Clone, Copy)]
 pub struct Course {
-    /// Whose it is.
+    /// The number of its tenant.
     pub tenant: u32,
     /// When it was submitted.
     pub submit: u64,

@@ -1,4 +1,4 @@
-//! Between what numbers all lags of a report are.
+//! The least and the greatest lag of a report.
 ghost use Rattle.std.specs.Prelude.{◌≡◌};
 ghost use Rattle.fq_model.specs.Report.{least_lag, greatest_lag};
 
@@ -20,7 +20,7 @@ pub fn least_lag(rows: &[TenantLag]) -> i64
     rows[place].least
 }
 
-/// The greatest.
+/// The greatest lag of all tenants, after any slot, in microseconds of work; 0 where there are no tenants.
 pub fn greatest_lag(rows: &[TenantLag]) -> i64
     ensures { result ≡ greatest_lag rows.now }
 {

@@ -15,7 +15,7 @@ pub enum ReportFault {
     /// This request, the least of its kind, waits or runs, so that its cost is not known.
     #[error("request {0} is not done")]
     Unfinished(u32),
-    /// So many slots for so many tenants; there may be 4,000,000 cells.
+    /// Too many cells, by this number of slots and this number of tenants; there may be 4,000,000.
     #[error("{slots} slots for {tenants} tenants, and there may be {MOST_CELLS} cells")]
     TooLong { slots: u64, tenants: u32 },
     /// Memory ran out.

@@ -1,4 +1,4 @@
-//! What a report says of a tenant.
+//! The lines of a report, one for each tenant.
 ghost use Rattle.std.specs.Prelude.{◌≡◌, ◌≤◌, length, IfOk, All, sum_by};
 ghost use Rattle.fq_model.specs.Sums.{list_below};
 ghost use Rattle.std.specs.List.Sorted.{IsNonDecreasingBy};
@@ -13,8 +13,8 @@ use fq_model::lag::TenantLag;
 use fq_model::limits::{GREATEST_BACKLOG, GREATEST_SLOT, MOST_CELLS, MOST_ENTRIES, MOST_TENANTS};
 use std::alloc::{AllocError, Global};
 
-/// What a report says of each tenant, by number: of requests in the order of their tenants, where tenants are served
-/// so.
+/// The report's line of each tenant, by number. The courses are in the order of their tenants, and `fluid` has the
+/// service of each tenant by slot.
 pub fn lines(
     alloc: Global,
     courses: &[Course],
@@ -43,8 +43,7 @@ pub fn lines(
     Ok(lines)
 }
 
-// What a report says of a tenant of this weight, whose requests have these courses, and which was served so much up to
-// the end of each slot.
+// The line of a tenant with this weight, requests with these courses, and this service up to the end of each slot.
 fn line(
     alloc: Global,
     weight: u32,
@@ -78,7 +77,7 @@ fn line(
     })
 }
 
-// What requests were charged that are done or withdrawn.
+// The net charge of requests that are done or withdrawn.
 fn charged(courses: &[Course]) -> u64
     requires { sum_by (λ c. c.cost) courses.now ≤ GREATEST_BACKLOG }
     ensures { result ≡ sum_by (λ c. c.cost) courses.now }

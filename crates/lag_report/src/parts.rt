@@ -29,8 +29,8 @@ impl Model for Report {
 }
 
 impl Report {
-    /// The report of these numbers: the length of a slot, how many slots there are, what is said of each tenant, by
-    /// number, the moment of the last entry, and the number of entries. Takes no memory.
+    /// The report of these values: the length of a slot, the number of slots, the line of each tenant, by number, the
+    /// moment of the last entry, and the number of entries. Takes no memory.
     pub fn new(slot: u64, slots: u64, rows: Vec<TenantLag>, end: u64, entries: u64) -> Report
         requires { length rows.items ≤ MOST_TENANTS }
         ensures { result ≡ record { slot = slot; slots = slots; rows = rows.items; end = end; entries = entries } }
@@ -58,7 +58,7 @@ impl Report {
         self.slots
     }
 
-    /// What is said of each tenant, by number.
+    /// The line of each tenant, by number.
     pub fn rows(&self) -> &[TenantLag]
         ensures value { result.now ≡ self.now.rows }
         ensures few { length result.now ≤ MOST_TENANTS }

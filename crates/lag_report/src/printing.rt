@@ -26,8 +26,8 @@ pub fn print(alloc: Global, report: &Report, tenants: &Tenants) -> Result<Vec<u8
     Ok(text)
 }
 
-/// The summary of a report as a text: how many requests and entries there were, when the last entry came, and between
-/// what numbers all lags are.
+/// The summary of a report as a text: the number of requests and of entries, the moment of the last entry, and the
+/// least and the greatest lag.
 pub fn summary(alloc: Global, report: &Report) -> Result<Vec<u8>, AllocError>
     ensures { IfOk result (λ text. text.items ≡ lag_summary_text (requests_of report.now.rows) report.now) }
 {
@@ -47,7 +47,7 @@ fn add_totals(report: &Report, text: &mut Vec<u8>) -> Result<(), AllocError>
     Ok(())
 }
 
-// Appends between what numbers all lags are.
+// Appends the least and the greatest lag.
 fn add_range(rows: &[TenantLag], text: &mut Vec<u8>) -> Result<(), AllocError>
     ensures { OnOk result (text.new.items ≡ with_range text.old.items rows.now) }
 {
@@ -113,7 +113,7 @@ fn add_tenant(name: &str, row: TenantLag, text: &mut Vec<u8>) -> Result<(), Allo
     Ok(())
 }
 
-// Appends a tenant's weight, its requests, and what it was charged and the fluid server served it.
+// Appends a tenant's weight, the number of its requests, its net charge and its fluid service.
 fn add_counts(row: TenantLag, text: &mut Vec<u8>) -> Result<(), AllocError>
     ensures { OnOk result (text.new.items ≡ with_counts text.old.items row) }
 {
@@ -146,7 +146,7 @@ fn add_count(word: &[u8], count: u64, text: &mut Vec<u8>) -> Result<(), AllocErr
     Ok(())
 }
 
-// The same with a number that may be below 0.
+// Appends a word and a lag, which may be below 0.
 fn add_lag(word: &[u8], lag: i64, text: &mut Vec<u8>) -> Result<(), AllocError>
     ensures { OnOk result (text.new.items ≡ text.old.items ++ word.now ++ signed_decimal lag) }
 {

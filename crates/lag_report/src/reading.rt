@@ -1,4 +1,4 @@
-//! What a history says of its requests and of its changes.
+//! The courses, the completed requests and the changes of a history.
 ghost use Rattle.std.specs.Prelude.{◌≡◌, ◌<◌, ◌++◌, ◌∷◌, [], length, IfOk, OnOk, not, position};
 ghost use Rattle.fq_model.specs.History.{history_of};
 ghost use Rattle.fq_model.specs.Fluid.{changes_of, with_change};
@@ -10,7 +10,7 @@ use fq_model::fluid::{Change, FluidRow, What};
 use ghost_list::GhostList;
 use std::alloc::{AllocError, Global};
 
-/// What a history says of its requests, and of weights and the number of workers that change.
+/// The courses and the completed requests of a history, and the changes of weights and of the number of workers.
 #[derive(Drop)]
 pub struct Contents {
     /// The entries, which proofs alone know here.
@@ -81,7 +81,7 @@ fn submitted(tenant: u32, submit: u64) -> Course
     }
 }
 
-/// What the entries, in order of time, say.
+/// The contents of the entries, which are in order of time.
 pub fn read(alloc: Global, past: &[Entry]) -> Result<Contents, AllocError>
     requires { NamesSubmitted (history_of past.now) }
     ensures past { IfOk result (λ r. r.past.items ≡ past.now) }
@@ -108,7 +108,7 @@ pub fn unfinished(courses: &[Course]) -> Option<usize>
     courses.iter().position(|course| !course.is_ended)
 }
 
-// Adds what the entry changes, if it is a change.
+// Adds the entry's change, if it changes a weight or the number of workers.
 fn add_change(entry: Entry, changes: &mut Vec<Change>) -> Result<(), AllocError>
     ensures { OnOk result (changes.new.items ≡ with_change entry.moment entry.act changes.old.items) }
 {

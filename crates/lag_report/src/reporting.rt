@@ -22,8 +22,8 @@ use fq_model::limits::GREATEST_SLOT;
 use std::alloc::Global;
 use std::mem;
 
-/// What each tenant of a history was served against its fluid service, in slots of so many microseconds from moment 0
-/// on, the last of which holds the last entry's moment.
+/// The lag report of a history, in slots of this length in microseconds from moment 0 on. The last slot holds the last
+/// entry's moment.
 pub fn report(
     alloc: Global,
     past: &[Entry],
@@ -45,8 +45,8 @@ pub fn report(
     report
 }
 
-/// The same of entries that nobody needs afterwards. They are given up once they are read, before what a report needs
-/// by slot is made.
+/// The lag report of entries that nobody needs afterwards. They are given up once they are read, before the report's
+/// tables by slot are made.
 pub fn last_report(
     alloc: Global,
     past: Vec<Entry>,
@@ -69,8 +69,8 @@ pub fn last_report(
     report
 }
 
-// The same of the entries that say this, of which so many are, up to this moment. Takes the courses and the completed
-// requests.
+// The lag report of a history with these contents, this last moment and this number of entries. Takes the courses and
+// the completed requests.
 fn report_of(
     alloc: Global,
     contents: &mut Contents,

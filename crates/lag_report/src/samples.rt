@@ -1,4 +1,4 @@
-//! Lags after each slot, and what stands at their ranks.
+//! The lags after each slot, and the samples at ranks.
 ghost use Rattle.std.specs.Prelude.{◌≡◌, ◌≤◌, ◌<◌, ◌≤ℤ◌, ◌+◌, ◌*◌, ◌∷◌, length, take, sum, IfOk, All};
 ghost use Rattle.vt_fixed.specs.Rounding.{ceil_div};
 ghost use Rattle.fq_model.specs.Ranks.{least_sample};
@@ -8,7 +8,7 @@ ghost use Rattle.lag_report.specs.Ranked.{ranked, StandsAt};
 use fq_model::limits::{GREATEST_BACKLOG, MOST_CELLS};
 use std::alloc::{AllocError, Global};
 
-/// The lags after each slot: what was served up to its end, less the work gained in it and before.
+/// The lags after each slot: the service up to its end, less the work gained in it and before.
 pub fn samples(alloc: Global, served: &[u64], gains: &[u64]) -> Result<Vec<i64>, AllocError>
     requires same { length gains.now ≡ length served.now }
     requires served { All (λ s. s ≤ GREATEST_BACKLOG) served.now }
@@ -34,7 +34,7 @@ pub struct Ranked {
     pub greatest: i64,
 }
 
-/// What stands at the ranks of samples that a report asks for. Leaves the samples in any order.
+/// The samples at the ranks that a report names. Leaves the samples in any order.
 pub fn rank(samples: &mut [i64]) -> Ranked
     requires some { 1 ≤ length samples.old }
     requires few { length samples.old ≤ MOST_CELLS }
@@ -69,7 +69,7 @@ fn least(samples: &[i64]) -> i64
     least
 }
 
-// What stands at a place, counted from 0, of a sample and the rest, none of which is less; and those after it.
+// The sample at a place, counted from 0, of a sample and the rest, none of which is less; and the samples after it.
 fn select(first: i64, rest: &mut [i64], at: usize) -> (i64, &mut [i64])
     requires least { All (λ y. first ≤ℤ y) rest.old }
     requires inside { at ≤ length rest.old }
@@ -82,7 +82,7 @@ fn select(first: i64, rest: &mut [i64], at: usize) -> (i64, &mut [i64])
     (*sample, after)
 }
 
-// The place of a percentile, where so many samples stand in order.
+// The place of a percentile among this number of samples in order.
 fn place(p: usize, count: usize) -> usize
     requires low { 1 ≤ p }
     requires high { p ≤ 100 }

@@ -28,7 +28,7 @@ pub fn gains(
     Ok(gains)
 }
 
-// Adds what a request gains in each slot.
+// Adds the work on a request in each slot to the gains.
 fn spread(gains: &mut [u64], course: Course, slot: u64)
     requires positive { 1 ≤ slot }
     requires short { slot ≤ GREATEST_SLOT }
@@ -65,8 +65,8 @@ fn worked(course: Course, moment: u64) -> u64
     }
 }
 
-// The part of a cost that so much of its time is, in microseconds, rounded down. What was worked on all the time is not
-// divided, and most else fits 64 bits, which a processor divides faster than 128.
+// The part of a cost that was gained in `gone` of its `time` microseconds, rounded down. A cost that equals its time is
+// not divided, and most other products fit 64 bits, which a processor divides faster than 128.
 fn part(cost: u64, gone: u64, time: u64) -> u64
     requires cost { cost ≤ GREATEST_COST }
     requires gone { gone < time }

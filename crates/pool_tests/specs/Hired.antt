@@ -1,4 +1,4 @@
--- What three hands hold.
+-- The tokens of three hands.
 use Rattle.std.specs.Prelude.{◌≡◌, ℕ, List, [], ◌∷◌, Some}
 use Rattle.history_lock.specs.Passes.{LockView, IsOf}
 use Rattle.desk.specs.declared.floor.Crew.{Crew}

@@ -91,7 +91,7 @@ fn ticks<O: Files + Alloc>(os: &O) -> Option<u64> {
     user.checked_add(system)
 }
 
-// What the submitter does while a worker serves.
+// The submitter's part while a worker serves.
 #[derive(Clone, Copy)]
 enum Part {
     // Submits one job, and leaves the worker idle for a second once that has run.
@@ -102,8 +102,8 @@ enum Part {
     Ring,
 }
 
-// What it saw: whether all came in time, which is each job, or the next take; and how often the clock was asked and how
-// many ticks of the processor were used in the second of rest, or the greatest number where the system doesn't tell.
+// The submitter's record: whether all came in time, which is each job, or the next take; and how often the clock was
+// asked and how many ticks of the processor were used in the second of rest, or the greatest number where unknown.
 #[derive(Clone, Copy)]
 struct Seen {
     in_time: bool,
@@ -284,7 +284,7 @@ fn beside<'a, X: Chooser + Send, R: Threads + Wait + Sync + Abort, O: time::Cloc
     seen
 }
 
-// What the submitter of a desk of one worker saw.
+// The record of the submitter at a desk of one worker.
 fn watched<
     X: Chooser + Drop + Send,
     R: Threads + Wait + Sync + Abort,
@@ -323,7 +323,7 @@ fn jobs_that_find_the_worker_idle(rt: HostRuntime) {
     assert!(rt; seen.in_time);
 }
 
-// The worker is told that nothing waits, and asks again at once, since there was news.
+// The worker's take is answered Idle, and it takes again at once, since there was news.
 #[test]
 fn no_ring_is_lost(rt: HostRuntime) {
     let seen = watched::<IndexChooser, HostRuntime, HostRuntime>(&rt, &rt, rt.alloc(), Part::Ring);

@@ -61,7 +61,7 @@ fn ended<X: Chooser + Drop, R: Abort>(
     assert!(rt; ended.is_ok());
 }
 
-// What a reader answers.
+// A reader's answer.
 fn read<X: Chooser, R: Abort>(rt: &R, desk: &Desk<u64, X>, reader: &mut Reader) -> Status
     requires { IsReaderAt desk.now.lock (option_map arc_value desk.now.board) reader.old }
     ensures { IsReaderAt desk.now.lock (option_map arc_value desk.now.board) reader.new }
@@ -162,7 +162,7 @@ fn submits<X: Chooser, R: Wait>(rt: &R, desk: &Desk<u64, X>, who: &mut Submitter
     true
 }
 
-// Looks until all requests have come. Whether no look told of fewer than the one before, or of two moments at once.
+// Reads until all requests have come. Whether no status has fewer entries than that before it, or is of two moments.
 fn watches(board: &Board, reader: &mut Reader) -> bool
     requires { IsReaderOf board.now reader.old }
     ensures { IsReaderOf board.now reader.new }

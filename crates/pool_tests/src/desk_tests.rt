@@ -154,7 +154,7 @@ fn one_job<X: Chooser, R: Wait + Abort>(
     done_after_falling(rt, desk, running)
 }
 
-// A desk's entries after one job and a close; a worker asks for work before the close and after it.
+// A desk's entries after one job and a close; a worker takes before the close and after it.
 fn job_and_close<X: Chooser + Drop, R: Wait + Abort>(rt: &R, alloc: Global) -> Vec<Entry> {
     let (desk, mut who, worker) = small::<X, R>(rt, alloc);
     let worker = one_job(rt, &desk, &mut who, worker);
@@ -192,8 +192,8 @@ fn a_job_that_is_withdrawn(rt: HostRuntime) {
     assert!(rt; are_callers(past.as_slice(), &[0, 0, 0, 1, 1]));
 }
 
-// A desk's entries after a worker asked what it would find: where nothing waits, where two requests do, and once the
-// first has ended, a microsecond before the second is eligible and then.
+// A desk's entries after a worker's take was foreseen: where nothing waits, where two requests do, and once the first
+// has ended, a microsecond before the second is eligible and then.
 fn questions<X: Foresees + Drop, R: Wait + Abort>(rt: &R, alloc: Global) -> Vec<Entry> {
     let (desk, mut who, mut worker) = small::<X, R>(rt, alloc);
     assert!(rt; matches!(desk.due(rt, &mut worker, 50), Due::Nothing));
@@ -239,7 +239,7 @@ fn moments_below_the_last_and_above_the_greatest(rt: HostRuntime) {
     assert!(rt; are_moments(past.as_slice(), &wanted));
 }
 
-// A worker asks until it is told something else than Idle, and sleeps between.
+// A worker takes until its take isn't answered Idle, and sleeps between.
 fn taken<X: Chooser, R: Wait>(
     rt: &R,
     desk: &Desk<u64, X>,
@@ -262,7 +262,7 @@ fn taken<X: Chooser, R: Wait>(
     unreachable!()
 }
 
-// What a worker is told that sleeps until this thread submits a request.
+// The answer to the take of a worker that sleeps until this thread submits a request.
 fn woken<X: Chooser + Send, R: Threads + Wait + Sync + Abort>(
     rt: &R,
     desk: &Desk<u64, X>,
@@ -288,7 +288,7 @@ fn woken<X: Chooser + Send, R: Threads + Wait + Sync + Abort>(
     took
 }
 
-// A desk's entries after a worker slept, took what came and ended it.
+// A desk's entries after a worker slept, took the request that came and ended it.
 fn slept<X: Chooser + Drop + Send, R: Threads + Wait + Sync + Abort>(
     rt: &R,
     alloc: Global,
@@ -309,8 +309,8 @@ fn a_worker_that_sleeps_until_a_request_comes(rt: HostRuntime) {
     assert!(rt; are_callers(past.as_slice(), &[0, 1, 1]));
 }
 
-// Submits 50 jobs, with numbers from 1,000 times the caller's own on, and notes in its bits which requests below 100 it
-// is told.
+// Submits 50 jobs, with numbers from 1,000 times the caller's own on, and notes in its bits which of the request
+// numbers below 100 they get.
 fn fifty<X: Chooser, R: Wait>(rt: &R, desk: &Desk<u64, X>, who: &mut Submitter) -> u128
     requires { IsOf desk.now.lock who.old.pass }
     ensures own { IsOf desk.now.lock who.new.pass }

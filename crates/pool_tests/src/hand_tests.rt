@@ -83,7 +83,7 @@ fn rows_of<R: Abort>(rt: &R, alloc: Global, jobs: Range<u64>) -> VecDeque<Row<u6
     rows
 }
 
-/// What submitter 1 does while those of the pool do their parts.
+/// The part of submitter 1, beside the hands of the pool.
 #[derive(Clone, Copy)]
 pub enum Aside {
     Nothing,
@@ -312,8 +312,8 @@ fn one_worker_from_then_on(rt: HostRuntime) {
     expect_one_serves(&rt, end.past.as_slice());
 }
 
-// Whether the jobs of submitter 0 are these: first those that it submitted, then the one that was refused, then those
-// that are left.
+// Whether the jobs of submitter 0 are these: first those that it submitted, then the refused job, then those that are
+// left.
 fn are_handed_in(end: &End, mut wanted: Range<u64>) -> bool {
     if !are_next_jobs(end.past.as_slice(), Some(0), &mut wanted) {
         return false;
@@ -339,7 +339,7 @@ fn is_stopped_by_close(end: &End) -> bool {
     }
 }
 
-// What was submitted before the close was served.
+// The requests that were submitted before the close were served.
 fn expect_close<R: Abort>(rt: &R, past: &[Entry]) {
     assert!(rt; makes_only(past, 0, 's'));
     assert!(rt; are_letters(past, 1, "ssssssssssc"));

@@ -1,4 +1,4 @@
-//! What a history shows.
+//! Questions about a history.
 use fq_model::event::{Act, Entry};
 use std::ops::Range;
 
@@ -43,7 +43,7 @@ fn is_of(e: &Entry, who: Option<u32>) -> bool {
     }
 }
 
-// The job of a submission.
+// The job's label in a Submit.
 fn submitted(act: Act) -> Option<u64> {
     match act {
         Act::Submit { label, .. } => Some(label),

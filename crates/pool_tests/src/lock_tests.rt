@@ -11,7 +11,7 @@ use std::process::Abort;
 use std::sync::Wait;
 use std::thread::{Threads, join_mut};
 
-// A lock round an echo with room for so many entries, and its first pass.
+// A lock round an echo with room for this number of entries, and its first pass.
 fn opened<R: Abort>(rt: &R, alloc: Global, room: u32) -> (HistoryLock<Echo>, Pass<u32>)
     ensures own { IsOf result.0 result.1 }
     ensures first { (result.1.number ≡ 0) × (result.1.made ≡ 0) }
@@ -72,7 +72,7 @@ fn are_moments_of(past: &[Entry], who: u32, mut wanted: Range<u64>) -> bool {
     wanted.is_empty()
 }
 
-// What an echo has after two passes took their turns, of which it had no room for the last.
+// The echo after two passes took their turns, of which it had no room for the last.
 fn four_turns<R: Wait + Abort>(rt: &R, alloc: Global) -> Echo {
     let (lock, mut zero) = opened(rt, alloc, 3);
     assert_eq!(rt; turn(rt, &lock, &mut zero, 9), 0);
@@ -91,7 +91,7 @@ fn two_passes_of_one_thread(rt: HostRuntime) {
     assert!(rt; are_callers(echo.past(), &[0, 1, 0]));
 }
 
-// What an echo has after two passes took 100 turns each, in a thread of its own.
+// The echo after two passes took 100 turns, each in a thread of its own.
 fn hundred_each<R: Threads + Wait + Sync + Abort>(rt: &R, alloc: Global) -> Echo {
     let (lock, mut zero) = opened(rt, alloc, 200);
     let mut one = lock.split(&mut zero);

@@ -12,7 +12,7 @@ fn work(work: u64) -> Counters {
     }
 }
 
-// Job 0 is worked on by steps; of the others nothing is told, and they never end.
+// Job 0 is worked on by steps; the other jobs have no known course, and never end.
 #[derive(Drop)]
 struct FirstBySteps {
     steps: Steps,

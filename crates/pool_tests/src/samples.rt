@@ -34,7 +34,7 @@ pub fn configured<R: Abort>(
     config.check().expect(rt, "numbers in their limits")
 }
 
-/// The one token of a vector.
+/// The only token of a vector.
 pub fn only<T, R: Abort>(rt: &R, mut tokens: Vec<T>) -> T
     ensures { tokens.items ≡ result ∷ [] }
 {

@@ -1,4 +1,4 @@
-//! What a gate is asked by the workers of a pool.
+//! The slices that the workers of a pool ask a gate for.
 ghost use Rattle.std.specs.Prelude.{None};
 
 use crate::hand_tests::{Aside, served};
@@ -9,8 +9,8 @@ use std::process::Abort;
 use std::sync::atomic::{AtomicU64, Ordering};
 use worker_gate::{Counters, Gate, LoggedGate, Slice};
 
-// Writes down what it is asked for: of job j, number j has in its byte k how often slice k was asked. Job j ends with
-// slice j % 4.
+// Counts the slices that it is asked for: of job j, number j has in its byte k how often slice k was asked for. Job j
+// ends with slice j % 4.
 #[derive(Drop)]
 struct NotingGate {
     asked: Vec<AtomicU64>,

@@ -56,7 +56,7 @@ fn serves<X: Chooser, R: Wait>(rt: &R, desk: &Desk<u64, X>, worker: Worker) -> (
     (worker, clock.asked.load(Ordering::SeqCst))
 }
 
-// Two jobs of a Take and a Done each, and the take that is told Drained.
+// Two jobs of a Take and a Done each, and the take that is answered Drained.
 fn drained_once<X: Chooser + Drop, R: Wait + Abort>(rt: &R, alloc: Global) {
     let config = configured(rt, alloc, 1, 1, 20, 10);
     let (desk, mut who, worker) = opened::<X, R>(rt, alloc, config);
@@ -74,7 +74,7 @@ fn a_drained_worker_asks_no_more(rt: HostRuntime) {
     drained_once::<IndexChooser, HostRuntime>(&rt, rt.alloc());
 }
 
-// A job waits, but the second worker has no place: the take that is told Retired.
+// A job waits, but the second worker is not in the pool: its take is answered Retired.
 fn retired_once<X: Chooser + Drop, R: Wait + Abort>(rt: &R, alloc: Global) {
     let config = configured(rt, alloc, 2, 1, 20, 10);
     let (desk, mut zero, one, workers) = opened_for_two::<X, R>(rt, alloc, config);

@@ -31,7 +31,7 @@ impl Gate<u64> for Unasked {
     }
 }
 
-// What a pool of one hand reads in so many times, spread over so many entries.
+// The statuses that a pool of one hand reads: `times` of them, spread over `expected` entries.
 fn watched<X: Chooser + Send, R: Threads + Wait + Sync + Abort>(
     rt: &R,
     alloc: Global,
@@ -88,7 +88,7 @@ fn ended<X: Chooser + Drop, R: Abort>(
     assert!(rt; ended.is_ok());
 }
 
-// So many were read, and each tells of so many requests that wait.
+// This number of statuses was read, and each has this number of waiting requests.
 fn expect_waiting<R: Abort>(rt: &R, seen: &[Status], times: usize, requests: u32) {
     assert_eq!(rt; seen.len(), times);
     let moment = if requests == 0 { 0 } else { 5 };

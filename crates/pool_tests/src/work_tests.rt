@@ -112,7 +112,7 @@ fn is_act(entry: Option<&Entry>, wanted: Act) -> bool {
     }
 }
 
-// The entries: so many reports of 1, 2 and so on, and the cost.
+// The entries: this number of reports of 1, 2 and so on, and the cost.
 fn reported<R: Abort>(rt: &R, past: &[Entry], reports: u64, cost: u64) {
     let mut entries = past.iter();
     let begun = [
@@ -150,7 +150,7 @@ fn reported<R: Abort>(rt: &R, past: &[Entry], reports: u64, cost: u64) {
     assert!(rt; entries.next().is_none());
 }
 
-// The same by a clock that stands still.
+// The entries of a job that is served by a clock that stands still.
 fn served_at_once<G: Gate<u64> + Drop, R: Wait + Abort>(
     rt: &R,
     alloc: Global,

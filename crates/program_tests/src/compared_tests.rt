@@ -10,7 +10,7 @@ use twodfq_main::program::{compare, live, twodfq};
 /// The words by which the trace of the samples is compared.
 const COMPARE: &str = "compare --workers 2 --refresh 0 --slot 5";
 
-/// What they write: under `wfq` with declared costs the long request waits for the two short ones.
+/// Their output: under `wfq` with declared costs the long request waits for the two short requests.
 const ROWS: &str = "compare 1\n\
     policy wfq estimate declared end 10 entries 10 lag 0 3\n\
     policy wfq estimate recent end 8 entries 10 lag 0 1\n\
@@ -37,7 +37,7 @@ fn wide_sink<R: Abort>(rt: &R, alloc: Global) -> MemSink {
     sink_with_room(rt, alloc, 2000, 4096, NEVER)
 }
 
-// Runs `compare` on these words and this input, and compares what it leaves with what is wanted.
+// Runs `compare` on these words and this input, and checks its status, its output and its message.
 fn expect<T: Abort + Threads + Sync>(
     rt: &T,
     alloc: Global,

@@ -6,8 +6,8 @@ use fq_memory::MemSource;
 use std::alloc::Global;
 use std::process::Abort;
 
-// What is told of the front parts of the script, the empty one first: each line says it of those that are longer than
-// the line before it says, up to its own number of bytes.
+// Results for the prefixes of the script, the empty one first. The result of a line is that of the prefixes longer than
+// the number of bytes in the line before, up to its own number of bytes.
 const FRONTS_OF_SCRIPT: &str = "\
 7 line 1: not a script
 9 line 2: the script ends in its head
@@ -84,7 +84,7 @@ const FRONTS_OF_SCRIPT: &str = "\
 169 accepted
 ";
 
-// The same of the trace. Without a request a trace is one too.
+// Results for the prefixes of the trace. A trace without a request is a trace too.
 const FRONTS_OF_TRACE: &str = "\
 0 line 1: no tenants
 5 line 1: unknown word or name
@@ -126,7 +126,7 @@ const FRONTS_OF_TRACE: &str = "\
 89 accepted
 ";
 
-// Of this input it is told that it is accepted, or else this fault, and then nothing is written.
+// The input is accepted, or this is its fault, and then nothing is written.
 fn check<R: Abort>(rt: &R, alloc: Global, words: &str, input: &str, wanted: &str) {
     let left = run_failing(rt, alloc, words, input, NEVER, NEVER);
     let length = input.len() as u64;
@@ -139,7 +139,7 @@ fn check<R: Abort>(rt: &R, alloc: Global, words: &str, input: &str, wanted: &str
     expect_stop(rt, &left, 3, message.as_str(), length);
 }
 
-// So it is told of the front parts of the input from `next` to `last` bytes.
+// The prefixes of the input from `next` to `last` bytes have this result.
 fn check_fronts<R: Abort>(
     rt: &R,
     alloc: Global,
@@ -157,7 +157,7 @@ fn check_fronts<R: Abort>(
     }
 }
 
-// A row of a table: up to how many bytes it says so, and what it says.
+// A row of a table: the length of its longest prefix, and the result.
 fn row_of<'a, R: Abort>(rt: &R, row: &'a str) -> (usize, &'a str) {
     let Some((last, wanted)) = row.split_once(' ') else {
         panic!(rt; "a row of one word")
@@ -169,7 +169,7 @@ fn row_of<'a, R: Abort>(rt: &R, row: &'a str) -> (usize, &'a str) {
     (last, wanted)
 }
 
-// Each front part of the input, the empty one and the whole among them, is told of as the table says.
+// Each prefix of the input, the empty one and the whole among them, has the result that the table gives.
 fn cut<R: Abort>(rt: &R, alloc: Global, words: &str, input: &str, table: &str) {
     let mut next: usize = 0;
     for row in table.lines() {
@@ -186,7 +186,7 @@ fn inputs_are_cut_off(rt: HostRuntime) {
     cut(&rt, rt.alloc(), RUN, TRACE, FRONTS_OF_TRACE);
 }
 
-// A script of so many spaces is refused, and this is told.
+// A script of this number of spaces is refused, with this message.
 fn refuses_spaces<R: Abort>(rt: &R, alloc: Global, count: usize, message: &str) {
     let bytes = vec![in alloc; b' '; count];
     let Ok(bytes) = bytes else {

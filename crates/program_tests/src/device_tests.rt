@@ -14,7 +14,7 @@ const SIMULATED: &str =
     report 1\nslot 5 slots 2\ntenant a weight 1 requests 1 charged 8 fluid 8 lag 0 0 1 1 1\n\
     tenant b weight 1 requests 2 charged 4 fluid 4 lag 0 0 0 0 0\nend 8 entries 10\n";
 
-// The output takes so many writes of 4 bytes. Where one of them fails, what the earlier ones took stays written.
+// The output takes this number of writes of 4 bytes. Where a write fails, the bytes of the earlier writes stay written.
 fn writes_fail<R: Abort>(
     rt: &R,
     alloc: Global,
@@ -41,7 +41,7 @@ fn each_write_fails(rt: HostRuntime) {
     writes_fail(&rt, rt.alloc(), words, BURST, SPREAD, 21);
 }
 
-// The input takes so many reads of 16 bytes, the last of which finds its end.
+// The input takes this number of reads of 16 bytes, the last of which finds its end.
 fn reads_fail<R: Abort>(rt: &R, alloc: Global, words: &str, input: &str, reads: u32) {
     for call in 0..reads {
         let left = run_failing(rt, alloc, words, input, call as u64, NEVER);
@@ -58,7 +58,7 @@ fn each_read_fails(rt: HostRuntime) {
     reads_fail(&rt, rt.alloc(), "shape --rate 2 --burst 4", BURST, 6);
 }
 
-// A run of a trace whose last row comes too early, where nothing can be told.
+// A run of a trace whose last row comes too early, where no message can be written.
 fn run_untold<R: Abort>(rt: &R, alloc: Global) -> Left {
     let trace = "tenant,a,1\ntenant,b,2\nrequest,10,0,a,get,5,5\nrequest,30,0,b,get,5,5\n\
         request,20,0,a,get,5,5\n";
@@ -74,7 +74,7 @@ fn run_untold<R: Abort>(rt: &R, alloc: Global) -> Left {
     )
 }
 
-// Where the message can't be told, the status stays that of the fault that it names.
+// Where the message can't be written, the status stays that of the fault that it names.
 #[test]
 fn telling_fails(rt: HostRuntime) {
     let left = run_untold(&rt, rt.alloc());

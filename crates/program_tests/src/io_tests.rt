@@ -55,7 +55,7 @@ fn reading_in_pieces(rt: HostRuntime) {
     read_in_pieces(&rt, rt.alloc());
 }
 
-// Of these bytes so many are written in pieces of 4 to a sink with this room, where the call of this number fails.
+// Seven bytes are written in pieces of 4 to a sink with this room that fails at this call: the result, and its bytes.
 fn expect_written<R: Abort>(
     rt: &R,
     alloc: Global,

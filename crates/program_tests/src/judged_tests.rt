@@ -22,7 +22,7 @@ const STAGGER: &str =
     done 10 3 0 4 1\ntake 10 3 0 5 1\ndone 10 4 0 5 1\ntake 10 4 0 6 1\ndone 10 5 0 6 1\n\
     take 10 5 0 7 1\ndone 11 5 1 0 8\ntake 11 5 1 1 8\n";
 
-// These words write this for the input, at this status, and tell nothing.
+// These words write this for the input, at this status, without a message.
 fn expect_answer<R: Abort>(
     rt: &R,
     alloc: Global,
@@ -100,7 +100,7 @@ fn entries_that_are_not_legal(rt: HostRuntime) {
     );
 }
 
-// The input is no journal: this is told, and nothing is written.
+// The input is no journal: this is the message, and nothing is written.
 fn expect_fault<R: Abort>(rt: &R, alloc: Global, input: &str, told: &str) {
     let mut source = sound_source(rt, alloc, input);
     let mut sink = sound_sink(rt, alloc);
@@ -149,7 +149,7 @@ fn verdict_is_cut_off(rt: HostRuntime) {
     check(&rt, alloc, &["check"], &mut source, &mut short, wanted);
 }
 
-// What a pool has written of its history is legal.
+// The history that a pool has written is legal.
 fn expect_pool_is_legal<T: Abort + Wait + Threads + Sync>(rt: &T, alloc: Global) {
     let words = words_of(rt, alloc, "live --workers 2 --refresh 0 --print journal");
     let mut source = sound_source(rt, alloc, TRACE);

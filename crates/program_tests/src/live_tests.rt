@@ -34,7 +34,7 @@ fn serve<T: Abort + Wait + Threads + Sync>(
     }
 }
 
-// The trace takes so many reads of 16 bytes, the last of which finds its end.
+// The trace takes this number of reads of 16 bytes, the last of which finds its end.
 fn reads_fail<T: Abort + Wait + Threads + Sync>(rt: &T, alloc: Global, reads: u32) {
     for call in 0..reads {
         let left = serve(rt, alloc, call as u64, NEVER);
@@ -47,7 +47,7 @@ fn each_read_fails(rt: HostRuntime) {
     reads_fail(&rt, rt.alloc(), 7);
 }
 
-// The journal takes so many writes of 4 bytes, whatever the threads do.
+// The journal takes this number of writes of 4 bytes, whatever the threads do.
 fn writes_fail<T: Abort + Wait + Threads + Sync>(rt: &T, alloc: Global, writes: u32) {
     for call in 0..writes {
         let left = serve(rt, alloc, NEVER, call as u64);

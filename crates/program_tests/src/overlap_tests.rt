@@ -15,8 +15,8 @@ use twodfq_main::program::twodfq;
 const HEAD: &str =
     "journal 1\nconfig 2 2dfq pessimistic 1000 11 3\ntenant a 1\ntenant b 1\nkind scan\nkind get\n";
 
-// A clock that stands at 7. Whoever asks it first is answered once another asks too, or after so many turns, which
-// leaves a mark; so the mark stays unset where two threads make calls at once.
+// A clock that stands at 7. Its first caller is answered once another calls too, or after many yields, which leaves a
+// mark; so the mark stays unset where two threads make calls at once.
 #[derive(Drop)]
 struct MeetingClock {
     asked: AtomicU64,
@@ -52,7 +52,7 @@ fn told(line: &str) -> (Option<&str>, Option<&str>) {
     (moment, cost)
 }
 
-// What a pool of two threads writes where it serves the trace under a clock that sees whether two calls met.
+// The output of a pool of two threads that serves the trace under a clock that sees whether two calls met.
 fn serve<T: Abort + Wait + Threads + Sync>(rt: &T, alloc: Global) -> MemSink {
     let words = words_of(rt, alloc, "live --workers 2 --refresh 0 --print journal");
     let mut source = sound_source(rt, alloc, TRACE);

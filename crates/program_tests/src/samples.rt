@@ -1,4 +1,4 @@
-//! A script, a trace, and runs of the program over memory that fails where it is told to.
+//! A script, a trace, and runs of the program over memory that fails at chosen calls.
 ghost use Rattle.std.specs.Prelude.{◌≤◌};
 
 use fq_memory::{MemSink, MemSource};
@@ -24,7 +24,7 @@ pub const RUN: &str = "run --workers 2 --estimate declared --refresh 0 --slot 5"
 /// The number of no call.
 pub const NEVER: u64 = 18446744073709551615;
 
-/// What a run of the program leaves: its status, what was written and what was told.
+/// The end of a run of the program: its status, its output and its message.
 #[derive(Drop)]
 pub struct Left {
     pub status: u8,
@@ -90,7 +90,7 @@ fn number<R: Abort>(rt: &R, alloc: Global, number: u64) -> Vec<u64> {
     numbers
 }
 
-/// A source that gives so many bytes in a call, and fails the call of this number.
+/// A source that gives `piece` bytes in a call, and fails the call of this number.
 pub fn source_of<R: Abort>(rt: &R, alloc: Global, input: &str, piece: usize, call: u64) -> MemSource
     requires { 1 ≤ piece }
 {
@@ -102,7 +102,7 @@ pub fn source_failing<R: Abort>(rt: &R, alloc: Global, input: &str, call: u64) -
     source_of(rt, alloc, input, 16, call)
 }
 
-/// A sink with so much room that takes so many bytes in a call, and fails the call of this number.
+/// A sink with room for `room` bytes that takes `piece` bytes in a call, and fails the call of this number.
 pub fn sink_with_room<R: Abort>(
     rt: &R,
     alloc: Global,
@@ -119,7 +119,7 @@ pub fn sink_with_room<R: Abort>(
     sink
 }
 
-/// One with room for 1000 bytes.
+/// A sink with room for 1000 bytes.
 pub fn sink_of<R: Abort>(rt: &R, alloc: Global, piece: usize, call: u64) -> MemSink
     requires { 1 ≤ piece }
 {
@@ -155,7 +155,7 @@ pub fn run_telling<R: Abort>(
     }
 }
 
-/// The same where all can be told.
+/// Runs `plain` where each message can be written.
 pub fn run<R: Abort>(
     rt: &R,
     alloc: Global,
@@ -187,7 +187,7 @@ pub fn expect_stop<R: Abort>(rt: &R, left: &Left, status: u8, message: &str, pla
     assert_eq!(rt; left.told.bytes(), message.as_bytes(), "at {place}");
 }
 
-/// The run wrote so many bytes of the output, and then a write failed.
+/// The run wrote this number of bytes of the output, and then a write failed.
 pub fn expect_part<R: Abort>(rt: &R, left: &Left, output: &str, bytes: u64) {
     assert_eq!(rt; left.status, 5, "after {bytes} bytes");
     assert_eq!(rt; left.written.bytes().len() as u64, bytes);
@@ -195,7 +195,7 @@ pub fn expect_part<R: Abort>(rt: &R, left: &Left, output: &str, bytes: u64) {
     assert_eq!(rt; left.told.bytes(), b"twodfq: writing failed\n".as_slice());
 }
 
-/// The run wrote this, and told nothing.
+/// The run wrote this, without a message.
 pub fn expect_written<R: Abort>(rt: &R, left: &Left, output: &str) {
     assert_eq!(rt; left.status, 0);
     assert_eq!(rt; left.written.bytes(), output.as_bytes());

@@ -91,7 +91,7 @@ fn serves_nothing_a_tie_and_few_slots(rt: HostRuntime) {
     );
 }
 
-// Two workers: the second starts late, and where no request is eligible the one that is next so is taken.
+// Two workers: the second may take a head early, and where no head is eligible the first by eligible key is taken.
 #[test]
 fn staggers_workers_and_falls_back(rt: HostRuntime) {
     let start = "script 1\nconfig 2 2dfq declared 1000 100 10\ntenant a 1\ntenant b 1\nkind get\n\
@@ -262,7 +262,7 @@ fn changes_weights(rt: HostRuntime) {
     );
 }
 
-// A worker whose number is not below that of the workers ends what it runs, and is given nothing more.
+// A worker whose number is not below the number of workers ends its request, and takes no other.
 #[test]
 fn changes_workers(rt: HostRuntime) {
     let input = "script 2\nconfig 2 2dfq declared 1000 100 10\ntenant a 1\ntenant b 1\nkind get\n\
@@ -287,7 +287,7 @@ const WITH_CHANGES: &str = "declared 1000 100 10\ntenant a 2\ntenant b 1\nkind g
     submit 0 6 0 0 8 101\nsubmit 0 6 0 0 10 102\ntake 10 6 0\ndone 11 6 1 1\n\
     submit 1 7 1 0 1 201\ntake 11 8 1\nsubmit 0 10 0 0 1 103\ndone 11 11 1 8\ntake 11 11 1\n";
 
-// It is served so under this policy: what runs from 6, from 8 and from 11 on.
+// Under this policy these requests run from 6, from 8 and from 11 on.
 fn changes<R: Abort>(rt: &R, alloc: Global, policy: &str, at_6: &str, at_8: &str, at_11: &str) {
     let input = joined(
         rt,

@@ -7,7 +7,7 @@ use std::process::Abort;
 pub const BURST: &str =
     "tenant,a,1\nrequest,0,0,a,get,3,3\nrequest,0,0,a,get,3,3\nrequest,1000,0,a,get,2,2\n";
 
-/// The same where a bucket holds 4 tokens and gains 2 in 1000 microseconds. 83 bytes.
+/// `BURST`, shaped by a bucket that holds 4 tokens and gains 2 in 1000 microseconds. 83 bytes.
 pub const SPREAD: &str =
     "tenant,a,1\nrequest,0,0,a,get,3,3\nrequest,1000,0,a,get,3,3\nrequest,2000,0,a,get,2,2\n";
 
@@ -28,7 +28,7 @@ fn expect_shaped<R: Abort>(rt: &R, alloc: Global, words: &[&str], trace: &str, s
     expect(rt, alloc, words, trace, wanted);
 }
 
-// Nothing is written, and this is told at this status.
+// Nothing is written, and this is the message, at this status.
 fn expect_told<R: Abort>(
     rt: &R,
     alloc: Global,
@@ -64,7 +64,7 @@ fn a_request_that_no_bucket_holds_is_told(rt: HostRuntime) {
     expect_told(&rt, rt.alloc(), &words, BURST, 7, told);
 }
 
-// The second request would come too late. That is told only where none is too big.
+// The second request would come too late. That is the message only where no request is too big.
 #[test]
 fn a_request_that_comes_too_late_is_told(rt: HostRuntime) {
     let late =

@@ -3,7 +3,7 @@ use program_model::ending::{Failure, Stop};
 use std::alloc::Global;
 use std::process::Abort;
 
-// Each is told so.
+// Each failure has this text.
 fn expect<R: Abort>(rt: &R, alloc: Global, failures: &[(Failure, &str)]) {
     for (failure, wanted) in failures {
         let Ok(text) = format!(in alloc; "{failure}") else {

@@ -9,7 +9,7 @@ use std::sync::Wait;
 use std::thread::Threads;
 use twodfq_main::program::live;
 
-// What is written where a trace is served at the moment 7 by these words.
+// The output where these words serve a trace at the moment 7.
 fn served<T: Abort + Wait + Threads + Sync>(
     rt: &T,
     alloc: Global,
@@ -46,8 +46,8 @@ fn number<R: Abort>(rt: &R, next: Option<&str>) -> u64 {
     number
 }
 
-// A line of the status, after one with so many entries: all stand at the moment 7, before which nobody was active. Its
-// entries.
+// The entries in a line of the status, after a line with `before` entries: all are at the moment 7, before which no
+// tenant was active.
 fn expect_status<R: Abort>(rt: &R, line: &str, before: u64) -> u64 {
     let mut words = line.split(' ');
     assert_eq!(rt; words.next(), Some("status"));
@@ -62,7 +62,7 @@ fn expect_status<R: Abort>(rt: &R, line: &str, before: u64) -> u64 {
     entries
 }
 
-// The lines of the status, and what follows them.
+// Reads the lines of the status, and gives the text after them.
 fn after_lines<'a, R: Abort>(rt: &R, text: &'a str) -> &'a str {
     let mut rest = text;
     let mut entries = 0;
@@ -76,7 +76,7 @@ fn after_lines<'a, R: Abort>(rt: &R, text: &'a str) -> &'a str {
     rest
 }
 
-// So many lines come first, and a legal journal of all requests follows.
+// Three lines come first, and a legal journal of all requests follows.
 fn lines_and_journal<T: Abort + Wait + Threads + Sync>(rt: &T, alloc: Global) {
     let words = "live --workers 2 --refresh 0 --watch 3 --print journal";
     let written = served(rt, alloc, words, TRACE);
@@ -110,7 +110,7 @@ fn long_trace<R: Abort>(rt: &R, alloc: Global) -> String {
     text
 }
 
-// How many of the first fifty lines tell of more entries than the one before.
+// How many of the first fifty lines have more entries than the line before.
 fn moments_in<R: Abort>(rt: &R, text: &str) -> u32 {
     let mut rest = text;
     let mut entries = 0;
@@ -131,8 +131,8 @@ fn moments_in<R: Abort>(rt: &R, text: &str) -> u32 {
     moments
 }
 
-// One run of twenty tells of many moments. Which of them does nobody can say: the thread that watches may be held up
-// while the others serve.
+// One run of twenty has many moments. Which run it is nobody can say: the thread that watches may be held up while the
+// others serve.
 fn many_moments<T: Abort + Wait + Threads + Sync>(rt: &T, alloc: Global) {
     let words = "live --workers 2 --refresh 0 --watch 50 --print journal";
     let trace = long_trace(rt, alloc);

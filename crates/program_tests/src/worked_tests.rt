@@ -8,7 +8,7 @@ use std::sync::Wait;
 use std::thread::Threads;
 use twodfq_main::program::{plain, twodfq};
 
-/// What a call is to leave.
+/// The wanted status, output and message of a run.
 #[derive(Clone, Copy)]
 pub struct Wanted<'a> {
     pub status: u8,
@@ -26,7 +26,7 @@ pub fn sound_sink<R: Abort>(rt: &R, alloc: Global) -> MemSink {
     sink_of(rt, alloc, 1000, NEVER)
 }
 
-/// Runs `plain`, and compares its status, what was written and what was told with what is wanted.
+/// Runs `plain`, and checks its status, its output and its message.
 pub fn check<R: Abort>(
     rt: &R,
     alloc: Global,
@@ -43,7 +43,7 @@ pub fn check<R: Abort>(
     assert_eq!(rt; errs.bytes(), wanted.told.as_bytes());
 }
 
-// So much of the source is left.
+// This part of the source is left.
 fn expect_left<R: Abort>(rt: &R, alloc: Global, source: &mut MemSource, wanted: &str) {
     let rest = read_all(alloc, source, 1000);
     let Ok(rest) = rest else {
@@ -52,7 +52,7 @@ fn expect_left<R: Abort>(rt: &R, alloc: Global, source: &mut MemSource, wanted: 
     assert_eq!(rt; rest.as_slice(), wanted.as_bytes());
 }
 
-// The input is no script: this is told, nothing is written, and all was read.
+// The input is no script: this is the message, nothing is written, and all was read.
 fn expect_fault<R: Abort>(rt: &R, alloc: Global, input: &str, told: &str) {
     let mut source = sound_source(rt, alloc, input);
     let mut sink = sound_sink(rt, alloc);
@@ -98,7 +98,7 @@ fn expect_no_command<R: Abort>(rt: &R, alloc: Global, words: &[&str]) {
     expect_left(rt, alloc, &mut source, SCRIPT);
 }
 
-// As do those for `live` and for `compare`, where only what waits for nobody is served.
+// Nor do the words of `live` and `compare` read it, since `plain` serves only commands that wait for nobody.
 #[test]
 fn words_of_no_command_leave_the_input(rt: HostRuntime) {
     expect_no_command(&rt, rt.alloc(), &[]);

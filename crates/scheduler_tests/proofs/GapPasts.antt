@@ -24,7 +24,7 @@ take moment worker request estimate = at moment (Take worker request estimate)
 abbrev pub done : ℕ → ℕ → ℕ → ℕ → Entry
 done moment worker request cost = at moment (Done worker request cost)
 
--- what is legal is legal under an equal name
+-- a legal history is legal under an equal name
 pub named : (C : Config) (past entries : List Entry) → past ≡ entries → IsLegal C (history_of entries) → IsLegal C (history_of past)
 named C past entries same l = subst (λ (x : List Entry). IsLegal C (history_of x)) (sym same) l
 

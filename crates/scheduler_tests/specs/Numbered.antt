@@ -3,7 +3,7 @@ use Rattle.std.specs.Prelude.{ℕ, ◌+◌, ◌-◌, ◌<◌, ◌≤◌, List, p
 use Rattle.std.specs.List.{Contains}
 use Rattle.shared_order.specs.Heads.{HeadView}
 
--- of two the one with the lesser number finishes first and is longer
+-- of two such heads the lesser number finishes first and is longer
 abbrev pub numbered : ℕ → HeadView
 numbered k = record { tenant = k; finish = pos (1000 + k); len = pos (100 - k); request = k }
 

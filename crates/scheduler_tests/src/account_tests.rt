@@ -3,8 +3,8 @@ use std::alloc::Global;
 use std::process::Abort;
 use tag_rules::accounts::Accounts;
 
-// What the accounts of two tenants tell while the first is charged and raised: twice its credit and its tag, twice its
-// tag, and then the tag of the second.
+// The accounts of two tenants while the first is charged and raised: twice its credit and its tag, twice its tag, and
+// then the tag of the second.
 fn told<R: Abort>(rt: &R, alloc: Global) -> [i128; 7] {
     let accounts = Accounts::open(alloc, 2);
     let Ok(mut accounts) = accounts else {

@@ -28,7 +28,7 @@ const FALLING: BookRefusal = BookRefusal::Falling {
     given: 11,
 };
 
-// The uses that are reported of the first worker's request, and a cost that is out of range, with what is told.
+// Reports of the first worker's request and a cost that is out of range, with the answers of the book.
 fn expect_uses<R: Abort>(rt: &R, book: &mut Book)
     requires { length book.old.rows ≡ 2 }
     ensures rows { length book.new.rows ≡ 2 }
@@ -79,7 +79,7 @@ fn charges_follow_uses(rt: HostRuntime) {
     one_request(&rt, rt.alloc());
 }
 
-// What runs on both workers is charged so much more, and then the second tenant so much in all.
+// The changes of the virtual charge while both workers run requests, and then the net charge of the second tenant.
 fn two_requests<R: Abort>(rt: &R, alloc: Global) {
     let mut book = opened(rt, alloc);
     let first = book.begin(0, 7, 1, 0, 1, 8);

@@ -1,4 +1,4 @@
-//! What every chooser does.
+//! Tests for every chooser.
 ghost use Rattle.std.specs.Prelude.{◌≡◌, ◌≢◌, ◌≤◌, pos, replicate, None};
 ghost use Rattle.scheduler_tests.specs.ByTenant.{IsByTenant};
 
@@ -61,9 +61,9 @@ pub fn with_heads<X: Chooser, R: Abort>(
     chooser
 }
 
-/// The stagger goes by the number of workers that was told last. Of four the second begins a quarter of a length early:
-/// the first tenant's head is eligible from 6 units on, the second's from 5.25 units. Of two it begins half a length
-/// early: from 4 units on, and from 5.
+/// The stagger goes by the present number of workers. Of four the second begins a quarter of a length early: the first
+/// tenant's head is eligible from 6 units on, the second's from 5.25 units. Of two it begins half a length early: from
+/// 4 units on, and from 5.
 pub fn expect_resized<X: Chooser + Drop + Send, R: Abort>(rt: &R, alloc: Global) {
     let long = keys(8388608, 8, 1, 0);
     let short = keys(5767168, 1, 1, 1);

@@ -26,7 +26,7 @@ impl Draw {
     }
 }
 
-// What was found so often.
+// How often each answer was found.
 #[derive(Clone, Copy)]
 struct Tally {
     nothing: u32,
@@ -43,12 +43,12 @@ fn shared_workers<R: Abort>(rt: &R, alloc: Global, policy: Policy) -> Checked {
     config.check().expect(rt, "numbers in their limits")
 }
 
-// What this request is declared to cost.
+// The declared cost of this request.
 fn cost_of(request: u32) -> u64 {
     (request % 7) as u64 * 12 + 1
 }
 
-// Some call at this moment, where so many requests were submitted.
+// Some call at this moment, after this number of submits.
 fn drawn(draw: &mut Draw, moment: u64, submits: u32) -> Call {
     match draw.below(9) {
         0 | 1 | 2 => Call::Submit {
@@ -83,7 +83,7 @@ fn drawn(draw: &mut Draw, moment: u64, submits: u32) -> Call {
     }
 }
 
-// What a worker would find, by the definitions: the virtual time at the moment, and the keys of each head.
+// A worker's take, foreseen by the definitions: by the virtual time at the moment, and the keys of each head.
 fn found_by_keys<X: Foresees>(scheduler: &Scheduler<u64, X>, moment: u64, worker: u32) -> Due {
     let config = scheduler.config();
     if worker >= config.workers() {
@@ -162,7 +162,7 @@ fn agrees(due: Due, reply: Reply) -> bool {
     }
 }
 
-// With what was found once more.
+// The tally with one answer more.
 fn counted(tally: Tally, due: Due) -> Tally {
     match due {
         Due::Nothing => Tally {

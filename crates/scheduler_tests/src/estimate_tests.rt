@@ -39,7 +39,7 @@ fn opened<E: Estimate, R: Abort>(rt: &R, alloc: Global, estimate: Estimator) -> 
     estimator
 }
 
-// What it says of a request that is declared to cost 7 is this.
+// The estimate of a request whose declared cost is 7 is this.
 fn expect_now<E: Estimate, R: Abort>(rt: &R, estimator: &E, tenant: u32, kind: u32, wanted: u64)
     requires tenant { tenant < E.tenants estimator.now }
     requires kind { kind < E.kinds estimator.now }
@@ -110,7 +110,7 @@ fn declared_costs_are_taken(rt: HostRuntime) {
     expect_estimates::<DeclaredCost, HostRuntime>(&rt, rt.alloc(), named, 7, &[(500, 7)]);
 }
 
-// What is chosen by the configuration says these two things.
+// The estimator of the configuration has the first estimate, and after a cost of 500 the second.
 fn expect_named<R: Abort>(rt: &R, alloc: Global, named: Estimator, first: u64, second: u64) {
     expect_estimates::<AnyCost, R>(rt, alloc, named, first, &[(500, second)]);
 }

@@ -7,7 +7,7 @@ use fq_model::limits::MOST_WORKERS;
 use std::alloc::Global;
 use std::process::Abort;
 
-// Whether the program's chooser has trees where there are so many workers and tenants.
+// Whether the program's chooser has trees for this number of workers and of tenants.
 fn has_trees<R: Abort>(rt: &R, alloc: Global, workers: u32, tenants: u32) -> bool
     requires low { 1 ≤ workers }
     requires high { workers ≤ MOST_WORKERS }

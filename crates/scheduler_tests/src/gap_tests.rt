@@ -36,7 +36,7 @@ pub(crate) fn two_tenants<R: Abort>(
     config.check().expect(rt, "numbers in their limits")
 }
 
-// What is told of a history: the gap of one tenant above another.
+// The gap of one tenant above another in a history, or its fault.
 fn expect_told<R: Abort>(
     rt: &R,
     alloc: Global,
@@ -52,7 +52,7 @@ fn expect_told<R: Abort>(
     }
 }
 
-// What is told of one with those tenants.
+// The gaps in a history with those tenants.
 fn expect_gaps<R: Abort>(
     rt: &R,
     alloc: Global,

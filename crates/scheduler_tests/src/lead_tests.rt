@@ -12,8 +12,8 @@ use std::process::Abort;
 use tag_difference::gap::Gap;
 use tag_lead::leads::{Lead, tag_lead};
 
-// What is told of a history with two tenants of weight 1, where costs are not what was declared: the lead of the first
-// over the second, and of the second over the first.
+// The leads in a history with two tenants of weight 1, where costs are not as declared: that of the first over the
+// second, and that of the second over the first.
 fn expect_leads<R: Abort>(
     rt: &R,
     alloc: Global,
@@ -32,7 +32,7 @@ fn expect_leads<R: Abort>(
     assert_eq!(rt; told, Ok(second), "of the second");
 }
 
-// A lead of so many units of virtual time, below a bound of so many.
+// A lead of this number of units of virtual time, and its bound in units.
 fn lead(largest: i64, bound: i64) -> Option<Lead> {
     let gap = Gap {
         largest: largest as i128 * 1048576,
@@ -120,7 +120,7 @@ fn requests_are_free(rt: HostRuntime) {
     );
 }
 
-// What runs when both begin to wait turns out to be 100 long: that it may is part of the lead with which they begin.
+// The request that runs when both begin to wait is 100 long: the doubt about it is part of their first lead.
 #[test]
 fn a_request_runs_at_the_begin(rt: HostRuntime) {
     let past = [

@@ -45,7 +45,7 @@ fn take_out(order: &mut Order, from: u32, to: u32)
     }
 }
 
-// Whether a block has so many heads, the greatest of this length, and first this tenant.
+// Whether a block has this number of heads, this greatest length and this first tenant.
 fn is_block(block: &Block, heads: usize, longest: i128, first: u32) -> bool {
     let Some(head) = block.first() else {
         return false;
@@ -53,7 +53,7 @@ fn is_block(block: &Block, heads: usize, longest: i128, first: u32) -> bool {
     block.heads().len() == heads && block.longest() == longest && head.tenant == first
 }
 
-// The blocks are these, of which each is told by its heads, their greatest length and its first tenant.
+// The blocks are these, each by the number of its heads, their greatest length and its first tenant.
 fn expect_blocks<R: Abort>(rt: &R, blocks: &[Block], wanted: &[(usize, i128, u32)]) {
     assert_eq!(rt; blocks.len(), wanted.len());
     let mut rest = blocks.iter();

@@ -104,8 +104,8 @@ fn is_same(a: Reply, b: Reply) -> bool {
     }
 }
 
-// Each call is answered as by a scheduler that keeps all, the last entries are told as it has them, and there are this
-// many entries in all.
+// Each call is answered as by a scheduler that keeps all, its last entries can be read, and there are this many entries
+// in all.
 fn expect_last<R: Abort>(rt: &R, alloc: Global, keep: u32, calls: &[Call], entries: u32) {
     let whole = Scheduler::<u64, PlainChooser>::open(alloc, short_history(rt, alloc));
     let recent = Recent::<u64, PlainChooser>::open(alloc, short_history(rt, alloc), keep);
@@ -122,7 +122,7 @@ fn expect_last<R: Abort>(rt: &R, alloc: Global, keep: u32, calls: &[Call], entri
     drop(whole);
 }
 
-// Of these histories the last entries are told alike, and no others.
+// The last entries of the whole history can be read in the recent one, and no others.
 fn expect_kept<R: Abort>(
     rt: &R,
     whole: &Scheduler<u64, PlainChooser>,

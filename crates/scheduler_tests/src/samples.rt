@@ -1,4 +1,4 @@
-//! What the tests share.
+//! A check and a configuration that the tests share.
 ghost use Rattle.std.specs.Prelude.{◌≡◌, ◌≤◌, length};
 
 use fq_model::config::{Checked, Config, Policy};
@@ -8,10 +8,10 @@ use std::marker::Send;
 use std::process::Abort;
 use test_samples::sample_config;
 
-/// Only what may go to another thread can be passed here.
+/// Only values that may go to another thread can be passed here.
 pub fn send_away<T: Send + Drop>(_sent: T) {}
 
-/// So many tenants of weight 1, and costs as declared.
+/// This number of tenants of weight 1, and costs as declared.
 pub fn configured<R: Abort>(
     rt: &R,
     alloc: Global,

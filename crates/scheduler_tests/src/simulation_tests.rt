@@ -89,12 +89,12 @@ fn served<X: Chooser + Drop, R: Abort>(
     history
 }
 
-// A history was kept under a configuration with room for so many entries and requests.
+// A history was kept under a configuration with room for this number of entries and of requests.
 fn expect_room<R: Abort>(rt: &R, config: &Checked, entries: u32, requests: u32) {
     assert_eq!(rt; (config.entries(), config.requests()), (entries, requests));
 }
 
-// Two workers have served a trace of three requests, as these entries tell.
+// Two workers have served a trace of three requests, with these entries.
 fn expect_entries<X: Chooser + Drop, R: Abort>(
     rt: &R,
     alloc: Global,
@@ -191,7 +191,7 @@ fn expect_taken<R: Abort>(rt: &R, past: &[Entry], worker: u32, request: u32)
     );
 }
 
-// Three workers took requests at first, and there are so many reports.
+// Three workers took requests at first, and there is this number of reports.
 fn expect_reports<R: Abort>(rt: &R, past: &[Entry], reports: u64) {
     expect_taken(rt, past, 0, 0);
     expect_taken(rt, past, 1, 2);
@@ -199,7 +199,7 @@ fn expect_reports<R: Abort>(rt: &R, past: &[Entry], reports: u64) {
     assert_eq!(rt; count_of_reports(past), reports);
 }
 
-// A trace needs so many entries, of which so many are reports.
+// A trace needs this number of entries, and this number of them are reports.
 fn expect_needed<X: Chooser + Drop, R: Abort>(
     rt: &R,
     alloc: Global,

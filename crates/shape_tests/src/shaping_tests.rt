@@ -118,7 +118,7 @@ fn each_tenant_has_a_bucket(rt: HostRuntime) {
     expect_shaped(&rt, rt.alloc(), text, 1, 4, text);
 }
 
-// Both wait for what is left over, rounded up to a whole microsecond.
+// Both wait for the tokens that their bucket lacks, rounded up to a whole microsecond.
 #[test]
 fn later_requests_of_others_go_ahead(rt: HostRuntime) {
     expect_shaped(
@@ -170,7 +170,7 @@ fn the_last_moment_of_a_trace_is_in_time(rt: HostRuntime) {
     );
 }
 
-// A row that is too big is told before one that comes too late, wherever they stand.
+// A row that is too big is answered before one that comes too late, wherever they stand.
 #[test]
 fn too_big_is_told_first(rt: HostRuntime) {
     expect_fault(

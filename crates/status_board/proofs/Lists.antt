@@ -1,4 +1,4 @@
--- Front parts of histories, and lists of five words.
+-- Prefixes of histories, and lists of five words.
 use Rattle.std.proofs.Common.{◌≡◌, ℕ, ◌+◌, ◌≤◌, List, [], ◌∷◌, ◌++◌, length, set, sym, refl, ap, ◌∙◌, arith, append-nil, length-append, Option, Some, None}
 use Rattle.std.proofs.lemmas.List.{nil_from_length}
 use Rattle.fq_model.specs.declared.config.Config.{Config}
@@ -13,7 +13,7 @@ prefix_of_itself P = ([], sym (append-nil P))
 pub prefix_length : (front P : List Entry) → IsPrefix front P → length front ≤ length P
 prefix_length front P s = let n : length P ≡ length front + length s.0 = ap length s.1 ∙ length-append front s.0 in omega arith
 
--- a front part that is no shorter is the whole
+-- a prefix that is no shorter is the whole
 pub prefix_whole : (front P : List Entry) → IsPrefix front P → length P ≤ length front → P ≡ front
 prefix_whole front P s le = let n : length P ≡ length front + length s.0 = ap length s.1 ∙ length-append front s.0 in
     s.1 ∙ (ap (λ (l : List Entry). front ++ l) (nil_from_length s.0 (omega arith)) ∙ append-nil front)

@@ -80,7 +80,7 @@ module _ (C : Config) where
       let long = prefix_length me.0.seen r.marks.shown live.1 in
       (me.0, keeps, tt, loaded C s r 0 id me.0 (r.each_seat id me.0 at), (refl, omega (arith, is, long)))
 
--- what a look at one word tells, said of the place as it was when the first was looked at
+-- the fact of a look at one word, for the place as it was at the look at the first word
 pub then_peeked : (slots i : ℕ) (me0 me me2 : Holding) (version found : ℕ) → me ≡ (record me0.0 { version = version }, me0.1) → peeked (step slots i 0 0 none) me found me2
     → (later : ℕ) × (me2 ≡ (record me0.0 { version = later }, me0.1)) × (version ≤ later) × (later ≤ 2 * length me0.0.noted → found ≡ get_or (words_in me0.0.config me0.0.noted) (i - 1) 0)
 then_peeked slots i me0 me me2 version found is told = subst (λ (m : Holding). peeked (step slots i 0 0 none) m found me2) is told

@@ -16,7 +16,7 @@ use Rattle.status_board.specs.Views.{same_view, new_reader, with_joined, spent_v
 use Rattle.status_board.proofs.Stages.{known, loaded}
 
 module _ (C : Config) where
-  -- a reader more, that has seen what a view has seen
+  -- a reader more, that has seen the history that a view has seen
   adds : (s : State (Unit {0}) View) (r : Kept C s) (id : ℕ) (v : View) → get_elem? s.views id ≡ some v → IsLive C r.marks id v
       → Kept C record { words = s.words; homes = s.homes; views = set s.views id v ++ new_reader v ∷ [] }
   adds s r id v at live = subst (λ (vs : List View). Kept C record { words = s.words; homes = s.homes; views = vs ++ new_reader v ∷ [] }) (sym (set_again s.views id v at)) record {

@@ -1,4 +1,4 @@
--- What is known of views, and what stays known of the others at a step.
+-- The facts about views, and those about the others that stay true at a step.
 use Rattle.std.proofs.Common.{◌≡◌, ◌≢◌, ℕ, ◌+◌, ◌*◌, ◌≤◌, true, List, length, get_or, set, sym, refl, subst, arith}
 use Rattle.std.proofs.Math.Seq.{set-get_or}
 use mathlib.Core.Option.{some}
@@ -29,11 +29,11 @@ rests_is Reading e = cc
 rests_is Writes e = cc
 
 module _ (C : Config) where
-  -- what is known of a view at a stage that was found out
+  -- the facts about a view at a stage that was found out
   pub known : (s : State (Unit {0}) View) (r : Kept C s) (id : ℕ) (v : View) (x : Stage) → get_elem? s.views id ≡ some v → v.stage ≡ x → Staged C r.marks id v x
   known s r id v x at is = subst (Staged C r.marks id v) is (r.each_seat id v at)
 
-  -- what is known of a view that is not the writer's stays known where the writer steps on
+  -- the facts about a view that is not the writer's stay true where the writer steps on
   pub others_know : (k k2 : Marks) (seat : ℕ) (v : View) → k2.writer ≡ k.writer → seat ≢ k.writer → IsPrefix k.shown k2.shown → 2 * length k.shown + k.busy ≤ 2 * length k2.shown + k2.busy
       → Knows C k seat v → Knows C k2 seat v
   others_know k k2 seat v same other more later = go v.stage

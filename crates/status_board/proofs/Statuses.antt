@@ -53,7 +53,7 @@ status_back C P n m l h w r v count words halved =
     let e : r ≡ running (history_of P) = ap (at 4) words in
     λ i. record { entries = a i; moment = b i; vtime = c i; waiting = d i; running = e i }
 
--- the same where the configuration is known
+-- so it is where the configuration is known
 pub told_back : (c : Option Config) (C : Config) (P : List Entry) (n m l h w r : ℕ) (v : ℤ) → c ≡ Some C → n ≡ length P → m ∷ l ∷ h ∷ w ∷ r ∷ [] ≡ words_in c P → v ≡ pos (h * 18446744073709551616 + l)
     → status_in c P ≡ Some (record { entries = n; moment = m; vtime = v; waiting = w; running = r })
 told_back (Some D) C P n m l h w r v is count words halved = sym (ap (λ (s : Status). Some s) (status_back D P n m l h w r v count words halved))

@@ -1,4 +1,4 @@
--- What contracts see of a board, of its writer and of a reader.
+-- The views of a board, of its writer and of a reader.
 use Rattle.std.specs.Prelude.{◌≡◌, true, List, [], ◌∷◌, ◌++◌, Option, Some}
 use Rattle.atomic_table.specs.Seated.{TableId}
 use Rattle.fq_model.specs.declared.config.Config.{Config}
@@ -51,13 +51,13 @@ IsReaderOf board reader = (reader.table ≡ board.table) × (reader.config ≡ S
 abbrev pub IsPlaceAt : TableId → TableId → Type 0
 IsPlaceAt place table = (place ≡ table) × (table.words ≡ word_count)
 
--- between two calls a writer keeps the status of what it has shown
+-- between two calls a writer keeps the status of the history that it has shown
 pub record WriterRests (status : Status) (me : Holding) : Type 0 where
   pub bare : me.1 ≡ []
   pub rests : is_resting me.0.stage ≡ true
   pub told : status_in me.0.config me.0.seen ≡ Some status
 
--- between two calls a reader keeps the status of what it has seen
+-- between two calls a reader keeps the status of the history that it has seen
 pub record ReaderRests (status : Status) (me : Holding) : Type 0 where
   pub bare : me.1 ≡ []
   pub idle : is_idle me.0.stage ≡ true

@@ -1,4 +1,4 @@
--- The rule of a board: what is true of the words and the views between any two steps.
+-- The rule of a board: the invariant of the words and the views between any two steps.
 use Rattle.std.specs.Prelude.{◌≡◌, ℕ, ◌+◌, ◌*◌, ◌≤◌, List, ◌∷◌, length, Some}
 use mathlib.Core.Option.{some}
 use lib.ListN.{get_elem?}
@@ -11,8 +11,8 @@ use Rattle.status_board.specs.declared.table.Stage.{Stage}
 use Rattle.status_board.specs.declared.table.Stage.TheVariants.{Spent, Idle, Reading, Rests, Writes}
 use Rattle.status_board.specs.Words.{words_of, FitStatus}
 
--- What the rule says there is: the history that is shown, 1 while the words of the next one are written and else 0, the
--- words but for the version, and which seat writes
+-- The marks of the rule: the history that is shown, 1 while the words of the next one are written and else 0, the words
+-- but for the version, and which seat writes
 pub record Marks : Type 0 where
   pub shown : List Entry
   pub busy : ℕ
@@ -20,11 +20,11 @@ pub record Marks : Type 0 where
   pub writer : ℕ
 
 module _ (C : Config) (k : Marks) (seat : ℕ) (v : View) where
-  -- what a view has seen is a front part of what is shown, and so is what a reader had seen that it took in
+  -- a view has seen a prefix of the shown history, and so had a reader that it took in
   abbrev pub IsLive : Type 0
   IsLive = (v.config ≡ Some C) × IsPrefix v.seen k.shown × IsPrefix v.joined k.shown
 
-  -- The one writer knows all that is shown, and while it writes the words too
+  -- The writer knows the whole shown history, and while it writes the words too
   -- While a reader reads, the version that it found was that of a history that it noted, and no version since is less
   abbrev pub Staged : Stage → Type 0
   Staged Spent = Unit {0}

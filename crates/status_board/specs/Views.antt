@@ -1,4 +1,4 @@
--- What a view says, and what becomes of views.
+-- The parts of a view, and its changes.
 use Rattle.std.specs.Prelude.{Bool, true, false, [], Some, None}
 use Rattle.fq_model.specs.declared.config.Config.{Config}
 use Rattle.status_board.specs.declared.table.View.{View}
@@ -29,6 +29,6 @@ same_view v = v
 abbrev pub new_reader : View → View
 new_reader v = record v { stage = Idle }
 
--- the writer keeps what the reader had seen that it takes in
+-- the writer keeps the history that a reader had seen which it takes in
 abbrev pub with_joined : View → View → View
 with_joined v w = record v { joined = w.seen }

@@ -1,4 +1,4 @@
--- What the words of a board say of a history, which is here in order of time.
+-- The words of a board for a history, which is here in order of time.
 use Rattle.std.specs.Prelude.{ℕ, ◌/◌, ◌%◌, ◌^◌, ◌<◌, List, [], ◌∷◌, Option, Some, None, slice_index}
 use Rattle.fq_model.specs.declared.config.Config.{Config}
 use Rattle.fq_model.specs.declared.event.Entry.{Entry}
@@ -8,7 +8,7 @@ use Rattle.fq_model.specs.Status.{status_of}
 use Rattle.fq_model.specs.Time.{last_moment}
 use Rattle.fq_model.specs.Pace.{virtual_time}
 
--- the version, and those that say what a status has beside the number of entries
+-- the version, and the words for the other numbers of a status
 abbrev pub word_count : ℕ
 word_count = 6
 
@@ -26,7 +26,7 @@ abbrev pub words_of : Config → List Entry → List ℕ
 words_of C P =
     last_moment (history_of P) ∷ virtual_now C P % 2 ^ 64 ∷ virtual_now C P / 2 ^ 64 ∷ waiting (history_of P) ∷ running (history_of P) ∷ []
 
--- the same where the configuration is known
+-- these words where the configuration is known
 abbrev pub words_in : Option Config → List Entry → List ℕ
 words_in None P = []
 words_in (Some C) P = words_of C P

@@ -1,4 +1,4 @@
-//! What a reader has answered.
+//! The answers of a reader.
 use fq_model::parts::Status;
 use std::snapshot::Snapshot;
 

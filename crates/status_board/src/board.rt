@@ -15,7 +15,7 @@ use std::alloc::{AllocError, Global};
 use std::marker::Model;
 use std::snapshot::Snapshot;
 
-/// What one writer shows, and any number of readers see, while none waits for another.
+/// A status that one writer shows, and any number of readers see, while none waits for another.
 #[derive(Drop)]
 pub struct Board {
     pub(crate) table: BoardTable,

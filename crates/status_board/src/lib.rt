@@ -1,7 +1,7 @@
-//! How a scheduler stands, shown by one writer to readers that never wait.
+//! A scheduler's status, shown by one writer to readers that never wait.
 //!
 //! A sequence lock of one writer (Boehm, Can Seqlocks Get Along with Programming Language Memory Models?, 2012), by
-//! sequentially consistent steps. A reader tries once. Where the writer is at work it keeps to what it knew, so
+//! sequentially consistent steps. A reader tries once. Where the writer is at work it keeps to its last answer, so
 //! neither side ever waits.
 #![tactic(auto)]
 

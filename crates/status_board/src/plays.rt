@@ -1,4 +1,4 @@
-//! What each step on the table tells.
+//! The fact that each step on the table gives its maker.
 ghost use Rattle.std.specs.Prelude.{List, []};
 ghost use Rattle.fq_model.specs.declared.event.Entry.{Entry};
 ghost use Rattle.status_board.specs.Plays.{looked, peeked, checked, glanced, began, wrote, published, confirmed};
@@ -50,7 +50,7 @@ impl Play<(), View> for Put {
     ghost then = { wrote };
 }
 
-/// Which history is shown next. It stands in proofs alone, and each call of `publish` picks it.
+/// Which history is shown next. Proofs alone use it, and each call of `publish` picks it.
 pub(crate) trait Next {
     ghost next: { List Entry };
 }
@@ -68,7 +68,7 @@ impl<B: Next> Play<(), View> for Publish<B> {
     ghost then = { published B.next };
 }
 
-/// The writer learns what the rule says of the reader that it took in.
+/// The writer learns the facts that the rule has about the reader that it took in.
 pub(crate) struct Confirm;
 
 impl Play<(), View> for Confirm {

@@ -17,8 +17,8 @@ use fq_model::parts::Status;
 use std::marker::Model;
 use std::snapshot::Snapshot;
 
-/// A right to read one board. It is no copy of another, and must be spent: by `Board::join`, which ties what it has
-/// seen to what the writer has shown, or by `end`. Contracts see all that it has answered, which holds nothing when it
+/// A right to read one board. It is no copy of another, and must be spent: by `Board::join`, which ties the history
+/// that it has seen to the writer's, or by `end`. Contracts see all its answers, a list that holds nothing when it
 /// runs.
 pub struct Reader {
     pub(crate) place: Place,
@@ -99,8 +99,8 @@ fn try_read(table: &BoardTable, place: &mut Place) -> Option<Status>
 }
 
 impl Reader {
-    /// How things stand in the history that it has then seen. It waits for nobody: where the writer is at work it
-    /// answers what it answered before.
+    /// The status of the history that it has then seen. It waits for nobody: where the writer is at work it repeats its
+    /// last answer.
     pub fn read(&mut self, board: &Board) -> Status
         requires own { IsReaderOf board.now self.old }
         ensures own { IsReaderOf board.now self.new }

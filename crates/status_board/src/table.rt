@@ -1,5 +1,5 @@
 //! The table that the writer and all readers share. Word 0 is the version: twice the number of entries that are shown,
-//! and 1 more while the words of the next history are written. The others are what a status has beside.
+//! and 1 more while the words of the next history are written. The others are the other numbers of a status.
 use atomic_table::{Seat, Table, TableRule};
 use fq_model::config::Checked;
 use fq_model::event::Entry;
@@ -29,12 +29,12 @@ pub enum Stage {
     Writes,
 }
 
-/// What a reader or the writer knows. No value of it is ever made: it stands in proofs alone.
+/// The view of a reader or the writer. No value of it is ever made: proofs alone use it.
 pub struct View {
     pub config: Option<Checked>,
-    /// For the writer this is what it has shown.
+    /// For the writer this is the history that it has shown.
     pub seen: LinkedList<Entry>,
-    /// For the writer: what the reader had seen that was joined last.
+    /// For the writer: the history that the reader joined last had seen.
     pub joined: LinkedList<Entry>,
     pub stage: Stage,
     /// The history whose version a look found.
@@ -45,7 +45,7 @@ pub struct View {
     pub words: LinkedList<u64>,
 }
 
-/// What the words and the views keep between them.
+/// The invariant of the words and the views.
 pub struct BoardRule;
 
 impl TableRule<(), View, Snapshot<Checked>> for BoardRule {

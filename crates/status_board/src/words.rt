@@ -13,7 +13,7 @@ pub(crate) fn halves(vtime: i128) -> (u64, u64)
     ((whole % WHOLE) as u64, (whole / WHOLE) as u64)
 }
 
-/// What the halves are of.
+/// The number that has these halves.
 pub(crate) fn joined(low: u64, high: u64) -> i128
     requires { high < 2 ^ 63 }
     ensures { result ≡ pos (high * 2 ^ 64 + low) }

@@ -20,7 +20,7 @@ use std::marker::{Brand, Model};
 #[derive(Drop)]
 pub struct Writer {
     pub(crate) place: Place,
-    /// What is shown.
+    /// The status that is shown.
     pub(crate) status: Status,
 }
 
@@ -34,7 +34,7 @@ impl Model for Writer {
     ghost invariant = { λ w. WriterRests w.status w.place.me };
 }
 
-// Writes a word, where another stands there. (A write takes several times as long as a look at what is known.)
+// Writes a word that differs from the word there. (A write takes several times as long as this comparison.)
 fn put(table: &BoardTable, place: &mut Place, word: usize, stands: u64, next: u64)
     requires own { IsPlaceAt place.old.table_id table.now.shared.table_id }
     requires writes { place.old.me.0.stage ≡ Writes }
@@ -95,8 +95,8 @@ fn publish<B: Next>(
 }
 
 impl Writer {
-    /// Shows how things stand in a history that goes on from the one that it has shown. `past` is in order of time,
-    /// and only its length is looked at.
+    /// Shows the status of a history of which the history shown so far is a prefix. `past` is in order of time, and
+    /// only its length is looked at.
     pub fn show(&mut self, board: &Board, past: &[Entry], status: Status)
         requires own { IsWriterOf board.now self.old }
         requires past { IsPrefix self.old.shown past.now }
@@ -111,7 +111,7 @@ impl Writer {
         self.status = status;
     }
 
-    /// Lets the writer go: what is shown stays.
+    /// Ends the writer: the board still shows its status.
     pub fn end(self) {
         drop(self);
     }

@@ -13,7 +13,7 @@ use Rattle.fq_model.specs.Spelling.{is_name}
 use Rattle.tenant_table.specs.Names.{names_of, weights_of, number_among, AreNames, AreTenants}
 use Rattle.tenant_table.specs.Rows.{tenants_of, kinds_of}
 
--- ---- what a table shows
+-- ---- the names and weights that a table shows
 
 pub names_of_rows : (rows : List (String Global × ℕ)) → names_of (tenants_of rows) ≡ kinds_of (keys_of rows)
 names_of_rows [] = refl

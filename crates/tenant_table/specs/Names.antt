@@ -44,7 +44,7 @@ abbrev pub IsReason : NameFault → Option NameFault → Type 0
 IsReason NoMemory refusal = refusal ≡ None
 IsReason fault refusal = refusal ≡ Some fault
 
--- what adding a name answers: its number, where nothing speaks against it, and else the reason
+-- the answer to adding a name: its number, where nothing speaks against it, and else the reason
 abbrev pub IsAnswer : Result ℕ NameFault → ℕ → Option NameFault → Type 0
 IsAnswer (Ok n) number refusal = (n ≡ number) × (refusal ≡ None)
 IsAnswer (Err fault) number refusal = IsReason fault refusal

@@ -1,4 +1,4 @@
--- What is seen of the rows of a table with text keys.
+-- The view of the rows of a table with text keys.
 use Rattle.std.specs.Prelude.{ℕ, List, map, string_bytes}
 use Rattle.std.proofs.Common.{String, Global}
 

@@ -1,4 +1,4 @@
-//! What tests of several crates begin with.
+//! The configuration that tests of several crates begin with.
 #![tactic(auto)]
 
 ghost use Rattle.std.specs.Prelude.{◌≡◌};

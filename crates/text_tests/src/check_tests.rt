@@ -15,7 +15,7 @@ use std::process::Abort;
 const HEAD: &str =
     "journal 1\nconfig 1 2dfq declared 1000 100 10\ntenant a 1\ntenant b 1\nkind get\n";
 
-// The journal of these entries is read, and the verdict on it is told so.
+// The journal of these entries is read, and the verdict on it is printed so.
 fn expect_verdict<R: Abort>(rt: &R, alloc: Global, head: &str, entries: &str, wanted: &str) {
     let text = [head, entries]
         .concat(alloc)
@@ -53,7 +53,7 @@ fn no_entry_is_wanted(rt: HostRuntime) {
     expect_verdict(&rt, rt.alloc(), HEAD, "done 9 0 0 0 5\n", wanted);
 }
 
-// What stands below the entry is read, and not judged.
+// The entries after that one are read, and not judged.
 #[test]
 fn the_first_that_is_not_legal(rt: HostRuntime) {
     let head = "journal 2\nconfig 2 msf2q declared 1000000000 20 10\ntenant z 3\nkind A\nkind d\n";
@@ -63,7 +63,7 @@ fn the_first_that_is_not_legal(rt: HostRuntime) {
     expect_verdict(&rt, rt.alloc(), head, entries, wanted);
 }
 
-// What explains the request in a legal journal is told so.
+// The explanation of the request in a legal journal is printed so.
 fn expect_explained<R: Abort>(
     rt: &R,
     alloc: Global,

@@ -1,4 +1,4 @@
-//! Command lines, and what they ask for.
+//! Command lines, and their commands.
 use command_line::command::command;
 use command_line::options::{Absent, OptionRow, Value, Values, values_in};
 use fq_model::config::{Estimator, Policy};

@@ -7,10 +7,10 @@ use tenant_table::kinds_builder::KindsBuilder;
 use tenant_table::tenants::Tenants;
 use tenant_table::tenants_builder::TenantsBuilder;
 
-// Only what may go to another thread can be passed here.
+// Only values that may go to another thread can be passed here.
 fn send_away<T: Send + Drop>(_sent: T) {}
 
-// Tenants to which these names and weights were given, with what was told.
+// Tenants to which these names and weights were given, with these answers.
 fn tenants_of<R: Abort>(
     rt: &R,
     alloc: Global,
@@ -69,7 +69,7 @@ fn tenants_are_numbered_in_order(rt: HostRuntime) {
     expect_numbers(&rt, rt.alloc(), &added, &found);
 }
 
-// Kinds with the names of one letter that stand in a text.
+// Kinds whose names are the letters of a text.
 fn kinds_of<R: Abort>(rt: &R, alloc: Global, letters: &str) -> KindsBuilder {
     let mut kinds = KindsBuilder::new(alloc);
     let mut number = 0u32;

@@ -1,6 +1,6 @@
 //! Scripts under 2DFQ+ that were worked by hand. Virtual time rises with the clock, but not above the greatest finish
 //! at which a request was taken (the cap); and a take whose request is not eligible lifts it to that request's eligible
-//! key. Starts, finishes, keys and virtual time are told in units.
+//! key. Starts, finishes, keys and virtual time are in units.
 use crate::rows::{expect_each, told};
 
 // Two workers that serve two tenants of weight 1: virtual time rises by 2 units a microsecond while one tenant is

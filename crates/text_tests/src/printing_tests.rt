@@ -1,4 +1,4 @@
-//! Texts written by hand, and what they say.
+//! Texts written by hand, and their contents.
 use crate::samples::expect_text;
 use fq_model::event::{Act, Cause, Entry, Reply};
 use journal_text::calls::{Script, read_script};
@@ -174,7 +174,7 @@ fn prints_an_entry(rt: HostRuntime) {
     expect_line(&rt, rt.alloc(), entry(Act::Close), b"close 7 20\n");
 }
 
-// Each fault at line 3 is told so.
+// Each fault at line 3 is printed so.
 fn expect_told<R: Abort>(rt: &R, alloc: Global, rows: &[(&str, ScriptKind, &str)]) {
     for (title, kind, wanted) in rows {
         let text = placed_fault(alloc, title, 3, *kind);

@@ -19,7 +19,7 @@ use tag_rules::chooser::Chooser;
 // Below the policy and the estimator: two workers, and six requests that may wait.
 const HEAD: &str = " 20 4000 6\ntenant a 1\ntenant b 3\ntenant c 2\nkind get\nkind scan\n";
 
-// A call at this moment that four random numbers say. Of eight calls three submit, two take, two end what runs, and one
+// A call at this moment, by four random numbers. Of eight calls three submit, two take, two end a request, and one
 // withdraws one of the last eight requests.
 fn call_of(moment: u64, newest: u32, numbers: [u32; 4]) -> Call {
     let [kind, first, second, cost] = numbers;

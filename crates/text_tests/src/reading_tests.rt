@@ -1,4 +1,4 @@
-//! Scripts written by hand, with what the grammar says of them.
+//! Scripts written by hand, with their contents or their faults by the grammar.
 use fq_model::config::{Checked, Estimator, Policy};
 use fq_model::event::Call;
 use journal_text::calls::{open_script, read_script};

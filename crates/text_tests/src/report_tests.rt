@@ -55,7 +55,7 @@ fn expect_printed<R: Abort>(rt: &R, alloc: Global, told: &Report, wanted: &[u8])
     expect_text(rt, print(alloc, told, &names), wanted);
 }
 
-// The report of a history is printed so, and has this summary, if one is told.
+// The report of a history is printed so, and has this summary, if one is given.
 pub(crate) fn expect_report<R: Abort>(
     rt: &R,
     alloc: Global,
@@ -86,7 +86,7 @@ fn expect_no_report<R: Abort>(rt: &R, alloc: Global, past: &[Entry], slot: u64, 
     assert_eq!(rt; report(alloc, past, &config, slot).err(), Some(fault));
 }
 
-// The slots of a history with one worker are so long, if no length is told.
+// The slots of a history with one worker are this long, if no length is given.
 fn expect_slot<R: Abort>(rt: &R, alloc: Global, past: &[Entry], wanted: u64) {
     let config = two_tenants(rt, alloc, 1);
     assert_eq!(rt; auto_slot(past, &config), wanted);

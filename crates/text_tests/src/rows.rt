@@ -1,4 +1,4 @@
-//! Scripts that were worked by hand: what each call is answered, and virtual time then.
+//! Scripts that were worked by hand: the reply to each call, and virtual time then.
 use eligible_index::index::IndexChooser;
 use fq_model::event::{Call, Reply};
 use journal_text::calls::read_script;
@@ -10,7 +10,7 @@ use std::alloc::Global;
 use std::process::Abort;
 use tag_rules::chooser::Chooser;
 
-/// A line of a script, what the call is answered, and virtual time then, in units.
+/// A line of a script, the reply to its call, and virtual time then, in units.
 #[derive(Clone, Copy)]
 pub struct Row<'a> {
     call: &'a str,

@@ -1,4 +1,4 @@
-//! What the tests share.
+//! A configuration and a check that the tests share.
 ghost use Rattle.std.specs.Prelude.{◌≡◌};
 ghost use Rattle.text_tests.specs.Worked.{worked_config};
 
@@ -7,7 +7,7 @@ use std::alloc::Global;
 use std::process::Abort;
 use test_samples::sample_config;
 
-/// So many workers, and two tenants of weight 1.
+/// This number of workers, and two tenants of weight 1.
 pub fn two_tenants<R: Abort>(rt: &R, alloc: Global, workers: u32) -> Checked
     ensures { result ≡ worked_config workers }
 {

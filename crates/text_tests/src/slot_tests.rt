@@ -45,7 +45,7 @@ fn workers_set(moment: u64, count: u32) -> Change
     Change { moment, what }
 }
 
-// From one slot on these are what the tenant is served; both tenants are wanted, slot by slot.
+// From one slot on these are the services of the tenant; `wanted` has those of both tenants, slot by slot.
 fn expect_services<R: Abort>(
     rt: &R,
     alloc: Global,
@@ -74,7 +74,7 @@ fn expect_services<R: Abort>(
     }
 }
 
-// With so many workers and two tenants of weight 1 these slots of 10 microseconds are told, from one slot on.
+// With this number of workers, two tenants of weight 1 have these services in slots of 10 microseconds, from one on.
 fn expect_served<R: Abort>(
     rt: &R,
     alloc: Global,
@@ -132,7 +132,7 @@ fn a_request_joins_at_a_slots_start(rt: HostRuntime) {
     expect_served(&rt, rt.alloc(), 1, &rows, &[], 0, &wanted);
 }
 
-// So many slots of two tenants are too many.
+// This number of slots of two tenants is too great.
 fn expect_too_long<R: Abort>(rt: &R, alloc: Global, count: u64) {
     let config = two_tenants(rt, alloc, 1);
     let table = slots(alloc, &[], &[], &config, 1000, count);

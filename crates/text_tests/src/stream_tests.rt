@@ -45,7 +45,7 @@ fn expect_added<R: Abort>(rt: &R, added: Result<(), AllocError>) {
     assert!(rt; added.is_ok());
 }
 
-// The calls are made, and a log comes by after every so many of them.
+// The calls are made, and a log comes by after each `every` of them.
 fn streamed<R: Abort>(rt: &R, recent: &mut Kept, calls: &[Call], every: usize, text: &mut Vec<u8>)
     requires { 0 < every }
 {
@@ -58,7 +58,7 @@ fn streamed<R: Abort>(rt: &R, recent: &mut Kept, calls: &[Call], every: usize, t
     }
 }
 
-// What a log writes that comes by so often is this journal, and is legal.
+// A log that comes by after each `every` calls writes this journal, which is legal.
 fn expect_streamed<R: Abort>(rt: &R, alloc: Global, every: usize)
     requires { 0 < every }
 {
@@ -98,7 +98,7 @@ fn a_log_that_comes_by_in_time(rt: HostRuntime) {
     expect_streamed(&rt, rt.alloc(), 3);
 }
 
-// It is told from where on it can still read, and reads these.
+// The log asks for the first entry that it can still read, and reads from there on.
 #[test]
 fn a_log_that_comes_too_late(rt: HostRuntime) {
     let Ok(script) = read_script(rt.alloc(), SCRIPT.as_bytes()) else {

@@ -1,4 +1,4 @@
-//! Traces written by hand, with what the grammar says of them.
+//! Traces written by hand, with their contents or their faults by the grammar.
 ghost use Rattle.program_model.specs.TraceText.{IsLawfulTrace};
 
 use crate::samples::expect_text;
@@ -230,7 +230,7 @@ fn add_numbered<R: Abort>(
     };
 }
 
-// This many tenants, and a request of each of so many kinds.
+// This number of tenants, and a request of each kind, of which there is this number.
 fn trace_of<R: Abort>(rt: &R, alloc: Global, tenants: u32, kinds: u32) -> String {
     let mut text = String::new(alloc);
     for t in 0..tenants {
@@ -242,13 +242,13 @@ fn trace_of<R: Abort>(rt: &R, alloc: Global, tenants: u32, kinds: u32) -> String
     text
 }
 
-// So many tenants or kinds are too many, as this line shows.
+// This number of tenants or of kinds is too great, as this line shows.
 fn expect_too_many<R: Abort>(rt: &R, alloc: Global, tenants: u32, kinds: u32, line: u64) {
     let text = trace_of(rt, alloc, tenants, kinds);
     expect_fault(rt, alloc, text.as_bytes(), line, TraceKind::TooMany);
 }
 
-// So many are few enough.
+// These numbers of tenants and kinds are small enough.
 fn expect_few<R: Abort>(rt: &R, alloc: Global, tenants: u32, kinds: u32) {
     let text = trace_of(rt, alloc, tenants, kinds);
     assert_eq!(rt; read(alloc, text.as_bytes()).err(), None);
@@ -306,7 +306,7 @@ fn generates_a_trace_without_requests(rt: HostRuntime) {
     expect_empty(&rt, rt.alloc(), "tenant,t0,1\ntenant,t1,2\n");
 }
 
-// Of seed 7 so many tenants and requests are not generated.
+// For seed 7 a trace with these numbers of tenants and requests is not generated.
 fn expect_refused<R: Abort>(rt: &R, alloc: Global, tenants: u32, requests: u32, fault: GenFault) {
     let answer = generate(alloc, 7, tenants, requests).err();
     assert_eq!(rt; answer, Some(fault));

@@ -2,7 +2,7 @@
 use crate::rows::{expect_each, told};
 
 // The only request of a tenant. The history has four entries of room: the submit asks for all, and the withdraw takes
-// what was kept for the take.
+// the room that was kept for the take.
 #[test]
 fn the_only_request_after_the_close(rt: HostRuntime) {
     let head = "script 3\nconfig 1 2dfq declared 1000 4 10\ntenant a 1\nkind get\n";
@@ -62,7 +62,7 @@ fn one_whose_tenant_runs_another(rt: HostRuntime) {
     expect_each(&rt, rt.alloc(), head, &rows);
 }
 
-// Under 2DFQ+ virtual time goes on to the moment of the withdraw, and what is submitted then starts there.
+// Under 2DFQ+ virtual time goes on to the moment of the withdraw, and a request that is submitted then starts there.
 #[test]
 fn virtual_time_goes_on(rt: HostRuntime) {
     let head = "script 3\nconfig 1 2dfq+ declared 1000 100 10\ntenant a 1\ntenant b 1\nkind get\n";

@@ -38,7 +38,7 @@ use Rattle.trace_reader.proofs.ReadBack.{reads_back}
 abbrev all_kinds : List (List ℕ)
 all_kinds = codes "get" ∷ codes "mix" ∷ codes "scan" ∷ []
 
--- what holds of each of the three kinds holds of a tenant's kind
+-- a property of all three kinds holds of a tenant's kind
 by_kind : (P : List ℕ → Type 0) (i : ℕ) → P (codes "get") → P (codes "mix") → P (codes "scan") → P (generated_kind i)
 by_kind P i get mix scan = go (i % 4 == 2) (i % 4 == 3)
   where
@@ -163,7 +163,7 @@ last-push : {A : Type 0} (o : Option A) (xs : List A) (x : A) → last_or o (xs 
 last-push o [] x = refl
 last-push o (y ∷ ys) x = last-push (Some y) ys x
 
--- what holds of a trace of n tenants that has j requests
+-- the properties of a generated trace of n tenants that has j requests
 record IsGenerated (n j : ℕ) (t : Trace) : Type 0 where
   kept : IsKept t
   among : AreAmong t.kinds
@@ -230,7 +230,7 @@ is_generated seed n (suc j) some few room =
     one_generated n j (generated_requests seed n j) (draw seed (3 * j)) (draw seed (3 * j + 1)) (draw seed (3 * j + 2)) some few (omega arith)
     (is_generated seed n j some few (omega arith))
 
--- ---- what follows
+-- ---- consequences
 
 pub has_room : (seed n j : ℕ) (t : Trace) → t ≡ generated_requests seed n j → 1 ≤ n → n ≤ MOST_TENANTS → j ≤ MOST_ROWS → HasRoomForOne t
 has_room seed n j t same some few room = subst HasRoomForOne (sym same) (go (is_generated seed n j some few room))

@@ -15,7 +15,7 @@ use Rattle.tenant_table.specs.Names.{names_of, weights_of}
 use Rattle.trace_reader.proofs.Plain.{decimal-plain}
 use Rattle.trace_reader.proofs.ReadBack.{none_among}
 
--- the names of so many tenants
+-- the names of the first n tenants
 abbrev pub first_names : ℕ → List (List ℕ)
 first_names n = map generated_name (range_with_len 0 n)
 

@@ -97,7 +97,7 @@ tenant-below names fields k t h =
 
 -- ---- one record more
 
--- what holds of a trace that is being read
+-- the properties of a trace that is being read
 pub record IsKept (t : Trace) : Type 0 where
   pub tenants : AreNames MOST_TENANTS t.tenants
   pub kinds : AreNames MOST_KINDS t.kinds

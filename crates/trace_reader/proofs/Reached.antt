@@ -1,4 +1,4 @@
--- Reading a text record by record: what is left of it, and what the records so far say.
+-- Reading a text record by record: the rest of the text, and the trace of the records so far.
 use Rattle.std.proofs.Common.{ℕ, zero, suc, ◌+◌, ◌<◌, ◌≤◌, ◌≡◌, ◌⊎◌, Bool, true, false, if◌then◌else◌, List, [], ◌∷◌, ◌++◌, length, Option, Some, None, Ok, Err, inl, inr, refl, ◌∙◌, ap, subst, arith}
 use Rattle.csv.specs.Machine.{Read, next_record, step, is_end, ends_at_end, fields_after, field_after}
 use Rattle.csv.proofs.ReadFacts.{rows-more}
@@ -14,14 +14,14 @@ use Rattle.trace_reader.specs.declared.fault.RecordError.{RecordError}
 use Rattle.trace_reader.specs.declared.fault.RecordError.TheVariants as errors
 use Rattle.trace_reader.specs.Reading.{Fails, IsFirstFault, fault_at}
 
--- ---- what is left of a text
+-- ---- the rest of a text
 
 either_rest : (b : Bool) (x : Read) (o : Option Read) (p : Read) (n : ℕ) → length x.2 ≤ n → ((q : Read) → o ≡ Some q → length q.2 ≤ n)
     → (if b then Some x else o) ≡ Some p → length p.2 ≤ n
 either_rest true x o p n some other e = let same : x ≡ p = cc in subst (λ q. length q.2 ≤ n) same some
 either_rest false x o p n some other e = other p e
 
--- what is left after a record is no longer than the text
+-- the rest after a record is no longer than the text
 rest_at_most : (cfg : Config) (s : State) (fields : List (List ℕ)) (field xs : List ℕ) (p : Read)
     → next_record cfg s fields field xs ≡ Some p → length p.2 ≤ length xs
 unfolding next_record
@@ -50,11 +50,11 @@ nothing_left : (cfg : Config) → next_record cfg st.StartRecord [] [] [] ≡ No
 unfolding next_record
 nothing_left cfg = refl
 
--- so many records are all that are left
+-- no more than n records are left
 abbrev pub Enough : ℕ → State → List ℕ → Type 0
 Enough n s xs = (next_record default_config s [] [] xs ≡ None) ⊎ (length xs < n)
 
--- a record, and what is left after it
+-- a record, and the rest after it
 record Next (n : ℕ) (s s2 : State) (xs ys : List ℕ) (fields : Record) : Type 0 where
   left : ℕ
   one_less : n ≡ suc left
@@ -92,7 +92,7 @@ pub one_read : {R : Type 0} (rem : R → Option (List ℕ)) (a b : Reader R) (fi
 unfolding Reached
 one_read rem a b fields xs config source read = rows-more rem a b fields default_config a.state xs xs [] config source (refl, refl) read
 
--- ---- what the records so far say
+-- ---- the trace of the records so far
 
 -- the trace t of the records before `place` is that of the text so far, of which xs is left
 pub record IsAt (text : List ℕ) (t : Trace) (place : ℕ) (s : State) (xs : List ℕ) : Type 0 where

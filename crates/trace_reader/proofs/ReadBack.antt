@@ -89,7 +89,7 @@ none_among names name other =
     (λ b. absurd (omega arith)) in
     rw (place, not_above (length names) (length names) (omega arith)) refl
 
--- the first so many names
+-- the first n names
 first_names : (limit n : ℕ) (names : List (List ℕ)) → n ≤ length names → AreNames limit names → AreNames limit (take n names)
 first_names limit n names le are =
     let size : length (take n names) ≡ n = length-take-le n names le in

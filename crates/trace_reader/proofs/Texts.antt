@@ -15,7 +15,7 @@ tenant_fields name weight = codes "tenant" ∷ name ∷ decimal weight ∷ []
 abbrev pub request_fields : List (List ℕ) → List (List ℕ) → TraceRow → Record
 request_fields tenants kinds row = codes "request" ∷ decimal row.moment ∷ decimal row.submitter ∷ get_or tenants row.tenant [] ∷ get_or kinds row.kind [] ∷ decimal row.declared ∷ decimal row.cost ∷ []
 
--- fields after the first one, with what comes after them
+-- the fields after the first field, with the text after them
 abbrev after_comma : Record → List ℕ → List ℕ
 after_comma [] tail = tail
 after_comma (field ∷ fields) tail = 44 ∷ (field_text default_writer field ++ after_comma fields tail)
@@ -82,7 +82,7 @@ tenants-text (name ∷ names) (weight ∷ weights) more plain small =
     ∙ ap (λ l. tenant_record name weight ++ l) rest
     ∙ sym (append_assoc (tenant_record name weight) (tenant_records names weights) (rows_text more))
 
--- what a request has to be so that its line is read back
+-- the conditions on a request whose line is read back
 pub record IsPrintable (tenants kinds : List (List ℕ)) (row : TraceRow) : Type 0 where
   pub tenant : IsPlain (get_or tenants row.tenant [])
   pub kind : IsPlain (get_or kinds row.kind [])

@@ -1,4 +1,4 @@
--- What the generator of traces returns, against the numbers that it is asked for.
+-- The results of the generator of traces, against the numbers that it is asked for.
 use Rattle.std.specs.Prelude.{ℕ, ◌<◌, ◌≤◌, ◌≡◌, nat_lt, [], ◌∷◌, length, Option, None, Some, Result, Ok, Err}
 use Rattle.fq_model.specs.declared.limits.TheConstants.{MOST_TENANTS, MOST_KINDS, MOST_ROWS, GREATEST_TRACE_MOMENT}
 use Rattle.fq_model.specs.Limits.{is_outside}
@@ -7,7 +7,7 @@ use Rattle.program_model.specs.Trace.{Trace, last_row_moment}
 use Rattle.trace_reader.specs.declared.fault.GenFault.{GenFault}
 use Rattle.trace_reader.specs.declared.fault.GenFault.TheVariants.{Tenants, Requests, NoMemory}
 
--- why no trace of so many tenants and requests is generated, if it is not
+-- why no trace with these numbers of tenants and requests is generated, if none is
 abbrev pub gen_refusal : ℕ → ℕ → Option GenFault
 gen_refusal tenants requests = first_true
     ((is_outside 1 MOST_TENANTS tenants, Tenants tenants)
@@ -19,7 +19,7 @@ abbrev pub IsReason : GenFault → Option GenFault → Type 0
 IsReason NoMemory refusal = refusal ≡ None
 IsReason fault refusal = refusal ≡ Some fault
 
--- where nothing speaks against a trace there is one, unless memory runs out, and else the reason is told
+-- where nothing speaks against a trace the result is a trace, unless memory runs out, and else it is the reason
 abbrev pub FaultsOnly : {A : Type 0} → Result A GenFault → Option GenFault → Type 0
 FaultsOnly (Ok trace) refusal = refusal ≡ None
 FaultsOnly (Err fault) refusal = IsReason fault refusal

@@ -1,4 +1,4 @@
--- What the reader returns, against what a trace's text says.
+-- The results of the reader, against the trace that a text spells.
 use Rattle.std.specs.Prelude.{ℕ, ◌*◌, ◌≡◌, nat_lt, Bool, ◌||◌, List, Result, Ok, Err, Some}
 use denote.Ref.{Bor}
 use Rattle.csv.specs.Reading.{ReadRecord}
@@ -29,12 +29,12 @@ abbrev pub Fails : {Y : Type 0} → RecordError → Result Y TraceKind → Type 
 Fails (errors.Fault kind) read = read ≡ Err kind
 Fails errors.NoMemory read = Unit {0}
 
--- what was returned is, seen by `view`, what reading gives
+-- the returned result is, seen by `view`, that of reading by the definitions
 abbrev pub Gives : {X Y : Type 0} → (X → Y) → Result X RecordError → Result Y TraceKind → Type 0
 Gives view (Ok x) read = read ≡ Ok (view x)
 Gives view (Err e) read = Fails e read
 
--- the same for a whole text, whose faults have a place
+-- reading a whole text has this fault at this place, unless memory ran out
 abbrev pub IsFirstFault : {Y : Type 0} → TraceFault → Result Y (ℕ × TraceKind) → Type 0
 IsFirstFault (faults.At line kind) read = read ≡ Err (line, kind)
 IsFirstFault faults.NoMemory read = Unit {0}

@@ -47,7 +47,7 @@ impl Draft {
         Draft::new(alloc, TenantsBuilder::new(alloc))
     }
 
-    // The trace of all these requests: where there are none, it has the one kind `-`.
+    // The trace of all these requests: where there are none, its only kind is `-`.
     pub(crate) fn finish(self, alloc: Global) -> Result<Trace, AllocError>
         ensures { IfOk result (λ t. t ≡ with_some_kind self) }
     {

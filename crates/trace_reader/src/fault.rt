@@ -14,7 +14,7 @@ use thiserror::Error;
 /// Why a trace was not read.
 #[derive(Clone, Copy, PartialEq, Eq, Error)]
 pub enum TraceFault {
-    /// The first fault: the number of its record, counted from 1, and what is wrong with it.
+    /// The first fault: the number of its record, counted from 1, and the kind of the fault.
     #[error("line {line}: {kind}")]
     At { line: u64, kind: TraceKind },
     /// Memory ran out.
@@ -85,7 +85,7 @@ impl fmt::Debug for RecordError {
 }
 
 impl RecordError {
-    /// The same, with the record's number.
+    /// This fault, with the number of its record.
     pub(crate) fn at(self, line: u64) -> TraceFault
         ensures { result ≡ fault_at line self }
     {

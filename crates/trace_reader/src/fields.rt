@@ -1,4 +1,4 @@
-//! What single fields say. The first field is field 0; faults count from 1.
+//! The values of single fields. The first field is field 0; faults count from 1.
 ghost use Rattle.std.specs.Prelude.{◌≡◌, ◌<◌, ◌≤◌, IsTrue, length, None, is_some, IfOk, IfSome};
 ghost use Rattle.std.specs.List.{list_all};
 ghost use Rattle.std.specs.Str.{is_utf8};

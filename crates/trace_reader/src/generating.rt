@@ -38,7 +38,7 @@ pub fn generate(alloc: Global, seed: u64, tenants: u32, requests: u32) -> Result
     Ok(generated(alloc, seed, tenants, requests)?)
 }
 
-// The same, where there may be so many.
+// The trace of a seed, where the numbers of tenants and of requests are within their limits.
 fn generated(alloc: Global, seed: u64, tenants: u32, requests: u32) -> Result<Trace, AllocError>
     requires tenants { IsWithin 1 MOST_TENANTS tenants }
     requires requests { requests ≤ MOST_ROWS }
@@ -119,7 +119,7 @@ fn kind_of(tenant: u32) -> &'static str
     }
 }
 
-// What is declared for them.
+// The declared cost of a tenant's requests.
 fn declared_of(tenant: u32) -> u64
     ensures { result ≡ generated_declared tenant }
 {
@@ -130,7 +130,7 @@ fn declared_of(tenant: u32) -> u64
     }
 }
 
-// What one of them costs, by a random number.
+// The cost of a tenant's request, by a random number.
 fn cost_of(tenant: u32, number: u32) -> u64
     ensures { result ≡ generated_cost tenant number }
 {

@@ -1,5 +1,5 @@
 //! Traces: their reader, which names the first fault of a text, their printer, the generator of traces of random
-//! numbers, and what a scheduler that serves one is opened with.
+//! numbers, and the configuration of a scheduler that serves a trace.
 #![tactic(auto)]
 
 mod draft;

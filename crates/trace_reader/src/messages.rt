@@ -1,11 +1,11 @@
-//! What is told of the faults of traces.
+//! The texts of the faults of traces.
 ghost use Rattle.std.specs.Prelude.{◌≡◌, string_bytes, IfOk};
 ghost use Rattle.program_model.specs.FaultTexts.{placed_text, trace_fault_text};
 
 use program_model::fault::TraceKind;
 use std::alloc::{AllocError, Global};
 
-/// What is told of a fault at a record of a trace. Records and fields are counted from 1.
+/// The text of a fault at a record of a trace. Records and fields are counted from 1.
 pub fn placed_fault(alloc: Global, line: u64, fault: TraceKind) -> Result<String, AllocError>
     ensures { IfOk result (λ text. string_bytes text ≡ placed_text line (trace_fault_text fault)) }
 {

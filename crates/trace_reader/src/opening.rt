@@ -1,4 +1,4 @@
-//! What the scheduler of a trace is opened with.
+//! The configuration of the scheduler of a trace.
 ghost use Rattle.std.specs.Prelude.{ℕ, ◌≡◌, ◌+◌, ◌≤◌, ◌<◌, length, IfOk};
 ghost use Rattle.fq_model.specs.declared.limits.TheConstants.{LEAST_ENTRIES, MOST_ENTRIES};
 ghost use Rattle.program_model.specs.Courses.{submitters, trace_config};
@@ -13,7 +13,7 @@ use fq_model::limits::GREATEST_SUBMITTER;
 use program_model::trace::{RunOptions, TraceRow};
 use std::alloc::{AllocError, Global};
 
-/// The configuration of a trace whose history may have so many entries: all requests may wait at once.
+/// The configuration of a trace whose history may have this number of entries. All requests may wait at once.
 pub fn config_of(
     alloc: Global,
     trace: &Trace,

@@ -165,7 +165,7 @@ fn is_read(reader: &mut Reader<&[u8]>, row: &mut ByteRecord) -> Result<bool, Tra
 }
 
 /// Reads a trace, or names its first fault. An answer that memory ran out says nothing of the text. It is also given
-/// for any other fault that `csv` tells: none can come over bytes in memory, but no clause of `csv` says so.
+/// for any other fault of `csv`: none can come over bytes in memory, but no clause of `csv` says so.
 pub fn read(alloc: Global, bytes: &[u8]) -> Result<Trace, TraceFault>
     ensures ok { IfOk result (λ t. trace_of bytes.now ≡ Ok t) }
     ensures lawful { IfOk result IsLawfulTrace }

@@ -1,4 +1,4 @@
--- What the calls of the simulation are answered.
+-- The replies to the calls of the simulation.
 use Rattle.std.proofs.Common.{ℕ, ◌+◌, ◌<◌, ◌≤◌, ◌≡◌, ◌==◌, false, List, ◌∷◌, length, Option, Some, None, arith, refl, ap, leb, ltb, nat_le}
 use Rattle.std.proofs.lemmas.Bool.{ne_eqb, le-ltb, lt-leb, MatchBool-at_false}
 use Rattle.std.proofs.lemmas.List.{length-reverse}

@@ -133,7 +133,7 @@ ends T O P a p k n =
       unchanged = k.unchanged;
     }
 
--- what the Close is answered
+-- the reply to the Close
 pub close_answered : (T : Trace) (O : RunOptions) (s t : SchedulerView ℕ) (a : Agenda) (reply : Reply) → Simulates T O s a → AnswersCall s (call.Close 0 a.moment) reply t → (reply ≡ answer.Accepted) × (history_of t.past ≡ close_entry (history_of s.past) ∷ history_of s.past)
 close_answered T O s t a reply sim h =
     let P : History = history_of s.past in

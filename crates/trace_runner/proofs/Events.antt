@@ -1,4 +1,4 @@
--- What the simulation keeps at each event.
+-- The invariant of the simulation at each event.
 use Rattle.std.proofs.Common.{ℕ, ◌+◌, ◌-◌, ◌<◌, ◌≤◌, ◌≡◌, ◌∷◌, length, Some, None, arith, refl, ap, sym, ◌∙◌, subst, set}
 use Rattle.std.specs.Prelude.{slice_get}
 use Rattle.vt_fixed.specs.declared.limits.TheConstants.{GREATEST_MOMENT, GREATEST_COST}
@@ -201,7 +201,7 @@ take_stepped T O s t a b m i who q estimate label v sim n by h vis bis =
     let work : v ≡ work_of T O P k.request = vis ∙ ap (λ x. new_work x (row_at T.rows q).cost O.refresh) now ∙ ap (λ r. new_work (last_moment P) (row_at T.rows r).cost O.refresh) same in
     stepped T O s t a b (taken_agenda T O P a i k.request) (take_entry T P i k.request k.estimate) sim h.config_is (k.grows ∙ ap (λ x. let e : Entry = record { who = x; moment = last_moment P; act = Take i k.request k.estimate } in e ∷ P) caller) (keeps_take T O P a i k.request k.estimate (at_take T O P a m i k.request k.estimate sim.plan sim.keeps n k.fits)) (bis ∙ ap (λ x. let b : Agenda = record a { staff = set a.staff i (Some x); waiting = a.waiting - 1 } in b) work)
 
--- ---- what the calls ask
+-- ---- the preconditions of the calls
 
 pub callers_few : (T : Trace) (O : RunOptions) (s : SchedulerView ℕ) (a : Agenda) → Simulates T O s a → a.first_caller ≤ 64
 callers_few T O s a sim = omega (arith, sim.keeps.caller_is, submitters_low T.rows (λ r l. (lawful_row T r (row_at T.rows r) sim.plan.lawful (row_there T.rows r l)).submitter))

@@ -1,4 +1,4 @@
--- What the simulation keeps at a Done.
+-- The invariant of the simulation at a Done.
 use Rattle.std.proofs.Common.{ℕ, ◌*◌, ◌<◌, ◌≤◌, ◌≡◌, ◌==◌, true, false, ◌∷◌, Some, None, arith, refl, ap, sym, ◌∙◌, subst, inl, inr, set, length-set}
 use Rattle.std.specs.Prelude.{slice_get}
 use Rattle.std.proofs.lemmas.Bool.{cases_eq, eq-eqb, ne_eqb, cond-true, cond-false}

@@ -1,4 +1,4 @@
--- What legal histories are, and how many entries they have.
+-- Properties of legal histories, and their numbers of entries.
 use Rattle.std.proofs.Common.{ℕ, zero, suc, ◌+◌, ◌*◌, ◌<◌, ◌≤◌, ◌≡◌, ◌==◌, ◌||◌, Bool, true, false, cond, max, [], ◌∷◌, length, arith, refl, ap, sym, ◌∙◌, subst, inl, inr}
 use Rattle.std.proofs.lemmas.Bool.{cases_eq, eq-eqb, ne_eqb, false≢true, both_ways, or_parts, or_cases, or_left, or_right, and_from, cond-true, cond-false}
 use Rattle.fq_model.specs.declared.config.Config.{Config}
@@ -51,7 +51,7 @@ taker_at P r (Take worker request estimate) h = (worker, and_from _ _ (eq-eqb wo
 taker_at P r (Close) h = absurd (false≢true h)
 taker_at P r _ h = absurd (false≢true h)
 
--- what is taken is taken by some worker
+-- a request that is taken is taken by some worker
 pub taker : (P : History) (r : ℕ) → is_taken P r ≡ true → (i : ℕ) × (has_act (is_take_by i r) P ≡ true)
 unfolding is_taken
 taker [] r h = absurd (false≢true h)
@@ -82,7 +82,7 @@ unfolding is_taken
 untouched C [] r l h = refl
 untouched C (e ∷ P) r l h = untouched_at C P e.moment r e e.act l.3 (untouched C P r l.0) h
 
--- no use is reported by what does not serve the request
+-- an act that does not serve the request reports no use of it
 pub unused : (r : ℕ) (a : Act) → serves r a ≡ false → use_in r a ≡ 0
 unused r (Report worker request used) h = cond-false (request == r) _ _ h
 unused r (Close) h = refl
@@ -159,7 +159,7 @@ serves_reports r (Report w q u) h = h
 serves_reports r (Close) h = refl
 serves_reports r _ h = refl
 
--- they stand in the request's course
+-- the Reports of a request stand in its course
 pub course_reports : (P : History) (r : ℕ) → reports_of (course P r) r ≡ reports_of P r
 course_reports [] r = refl
 course_reports (e ∷ P) r = by_test (serves r e.act) refl (course_reports P r)

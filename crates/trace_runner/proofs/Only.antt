@@ -46,7 +46,7 @@ low_rank : (c i j : ℕ) → RankBefore (3, i) (c, j) → c < 3 → ⊥
 low_rank c i j (inl l) h = omega arith
 low_rank c i j (inr s) h = omega (arith, s.0)
 
--- what may come after a Take that fits, where it does not come
+-- the next entry is not later in turn than a Take that fits
 after_take : (T : Trace) (O : RunOptions) (P : History) (m i r estimate : ℕ) (f : Entry) → r < request_bound → i < O.workers → FitsTake (run_config T O) P m i r estimate → last_moment P ≤ m → Here T O P f → ComesBefore m (3, i) f.moment (rank f.act) → ⊥
 after_take T O P m i r estimate f b known fit low h (inl l) = unsettled T O P m i r estimate b known fit (h.busy.settled (inl (omega arith)))
 after_take T O P m i r estimate f b known fit low h (inr s) = by_act f.act refl h.busy.lower_run s.1
@@ -93,7 +93,7 @@ pub served_done : (T : Trace) (refresh : ℕ) (H : History) (r : ℕ) (row : Tra
 unfolding is_done
 served_done T refresh H r row s = sym (done_in_course H r) ∙ ap (has_act (is_done_of r)) s.course_is ∙ or_left _ _ (eq-eqb r r refl)
 
--- what is done with the Close was done before it
+-- a request that is done with the Close was done before it
 pub done_before : (P : History) (r : ℕ) → is_done (close_entry P ∷ P) r ≡ true → is_done P r ≡ true
 unfolding is_done
 done_before P r h = h

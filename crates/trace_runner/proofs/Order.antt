@@ -73,7 +73,7 @@ timed_row a rows row at later = record {
   requests = λ other is. let both : Some row ≡ Some other = sym at ∙ is in let same : row ≡ other = cc in inl (ap (λ (r : TraceRow). r.moment) same, refl);
 }
 
--- what is before the first is before all
+-- a moment before the next entry of the first worker is before those of all workers
 pub all_later : (works : List (Option Work)) (i m : ℕ) (w : Work) → IsFirstWork works i w → m < work_moment w → (j : ℕ) (x : Work) → work_at works j ≡ Some x → m < work_moment x
 all_later works i m w f l j x at = elim (cases_eq j i) [
   | inl e ↦ subst (λ q. m < work_moment q) (one_work works i j w x f.serves at e) l

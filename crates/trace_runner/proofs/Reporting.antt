@@ -1,4 +1,4 @@
--- What the simulation keeps at a Report.
+-- The invariant of the simulation at a Report.
 use Rattle.std.proofs.Common.{ℕ, suc, ◌+◌, ◌*◌, ◌<◌, ◌≤◌, ◌≡◌, ◌==◌, true, min, ◌∷◌, Some, None, arith, refl, sym, ◌∙◌, subst, inl, inr, set, length-set}
 use Rattle.std.specs.Prelude.{slice_get}
 use Rattle.std.proofs.lemmas.Bool.{eq-eqb, ne_eqb, both_ways, cond-true, cond-false}

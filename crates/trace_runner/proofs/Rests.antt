@@ -1,4 +1,4 @@
--- Histories that go on from one, and what of them passes a test.
+-- Histories that go on from one history, and their entries that pass a test.
 use Rattle.std.proofs.Common.{ℕ, zero, suc, ◌+◌, ◌*◌, ◌<◌, ◌≤◌, ◌≡◌, ◌==◌, ◌⊎◌, Bool, true, false, cond, List, [], ◌∷◌, ◌++◌, length, reverse, Option, Some, None, arith, refl, ap, sym, ◌∙◌, subst, inl, inr, ◌||◌, append_assoc, filter}
 use Rattle.std.proofs.lemmas.Bool.{cases_lt, false≢true, both_ways, cond-true, or_right, or_cases, or_parts, false_from_ne_true}
 use Rattle.std.proofs.lemmas.List.{reverse-append, reverse-reverse, append_cancel_right, length-reverse}
@@ -29,7 +29,7 @@ unfolding onto
 onto_is [] P = refl
 onto_is (e ∷ es) P = onto_is es (e ∷ P) ∙ sym (ap (λ x. x ++ P) (reverse-append (e ∷ []) es) ∙ append_assoc (reverse es) (e ∷ []) P)
 
--- what is put onto a history is determined by what comes of it
+-- the entries that are put onto a history are determined by the result
 pub same_rest : (es fs : List Entry) (P : History) → onto es P ≡ onto fs P → es ≡ fs
 same_rest es fs P h =
     let r : reverse es ≡ reverse fs = append_cancel_right (reverse es) (reverse fs) P (sym (onto_is es P) ∙ h ∙ onto_is fs P) in
@@ -101,7 +101,7 @@ open_rank (Weight t w) o c = absurd (false≢true (sym c))
 open_rank (Workers n) o c = absurd (false≢true (sym c))
 open_rank (Withdraw request) o c = absurd (false≢true (sym c))
 
--- ---- what is known of an entry and the history before it
+-- ---- facts about an entry and the history before it
 
 pub record Here (T : Trace) (O : RunOptions) (P : History) (e : Entry) : Type 0 where
   pub legal : IsLegal (run_config T O) (e ∷ P)
@@ -168,7 +168,7 @@ keys_after T O f g [] P s a = absurd a
 keys_after T O f g (h ∷ hs) P s (inl e) = subst (λ x. Before f x) (sym e) (next_before T O f h P (here T O h hs (f ∷ P) s))
 keys_after T O f g (h ∷ hs) P s (inr a) = trans f h g (next_before T O f h P (here T O h hs (f ∷ P) s)) (keys_after T O h g hs (f ∷ P) s a)
 
--- what stands among the rest does not come before its first
+-- an entry among the rest does not come before the first of the rest
 pub not_skipped : (T : Trace) (O : RunOptions) (e f : Entry) (fs : List Entry) (P : History) → IsSimulated T O (onto fs (f ∷ P)) → Among e (f ∷ fs) → Before e f → ⊥
 not_skipped T O e f fs P s (inl a) b = irrefl e (subst (λ x. Before e x) (sym a) b)
 not_skipped T O e f fs P s (inr a) b = irrefl e (trans e f e b (keys_after T O f e fs P s a))
@@ -205,14 +205,14 @@ kept_first test e es h = cond-true (test e) _ _ h
 pub same_kept : (test : Entry → Bool) (es fs : List Entry) (P : History) → filter test (onto es P) ≡ filter test (onto fs P) → kept test es ≡ kept test fs
 same_kept test es fs P h = same_rest (kept test es) (kept test fs) (filter test P) (sym (kept_onto test es P) ∙ h ∙ kept_onto test fs P)
 
--- what passes and comes first in one is among the other
+-- an entry that passes and comes first in one rest is in the other
 pub comes : (test : Entry → Bool) (e : Entry) (es fs : List Entry) (P : History) → filter test (onto (e ∷ es) P) ≡ filter test (onto fs P) → test e ≡ true → Among e fs
 comes test e es fs P h v = among_kept test e fs (subst (λ l. Among e l) (sym (kept_first test e es v) ∙ same_kept test (e ∷ es) fs P h) (inl refl))
 
 pub same_first : (e f : Entry) (es fs : List Entry) → e ∷ es ≡ f ∷ fs → e ≡ f
 same_first e f es fs h = cc
 
--- what passes and comes first in both is the same
+-- two entries that pass and come first in both rests are equal
 pub agrees : (test : Entry → Bool) (e f : Entry) (es fs : List Entry) (P : History) → filter test (onto (e ∷ es) P) ≡ filter test (onto (f ∷ fs) P) → test e ≡ true → test f ≡ true → e ≡ f
 agrees test e f es fs P h v w = same_first e f (kept test es) (kept test fs) (sym (kept_first test e es v) ∙ same_kept test (e ∷ es) (f ∷ fs) P h ∙ kept_first test f fs w)
 

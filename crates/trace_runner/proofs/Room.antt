@@ -1,4 +1,4 @@
--- Room for what is still to come.
+-- Room for the entries that are still to come.
 use Rattle.std.proofs.Common.{ℕ, zero, suc, ◌+◌, ◌-◌, ◌*◌, ◌<◌, ◌≤◌, ◌≡◌, ◌==◌, Bool, true, false, [], ◌∷◌, length, Option, Some, None, arith, refl, ap, sym, ◌∙◌, subst, inl, inr}
 use Rattle.std.proofs.lemmas.Bool.{cases_eq, eq-eqb, ne_eqb, cond-true, cond-false}
 use Rattle.std.proofs.Math.Nat.{div-eq_of_lt-le}
@@ -36,7 +36,7 @@ served_reports T refresh P r row s = sym (course_reports P r) ∙ ap (λ Q. repo
 pub serving_reports : (T : Trace) (O : RunOptions) (P : History) (i : ℕ) (w : Work) → (s : Serves T O P i w) → reports_of P s.request ≡ s.reports
 serving_reports T O P i w s = sym (course_reports P s.request) ∙ ap (λ Q. reports_of Q s.request) s.course_is ∙ timed_reports (worker_caller T.rows i) w.start i s.request O.refresh s.reports s.estimate
 
--- so many Reports are all where the next would not be below the cost
+-- k Reports are all where the next would not be below the cost
 pub all_reported : (refresh cost k : ℕ) → k * refresh < cost → (refresh ≡ 0 → k ≡ 0) → (0 < refresh → cost ≤ suc k * refresh) → reports_below refresh cost ≡ k
 unfolding reports_below
 all_reported refresh cost k low none high = elim (cases_eq refresh 0) [
@@ -63,7 +63,7 @@ serving_planned T O P i w s =
     let low : s.reports ≤ reports_below O.refresh (row_at T.rows s.request).cost = subst (λ c. s.reports ≤ reports_below O.refresh c) cost (serving_low T O P i w s) in
     omega (arith, serving_reports T O P i w s, low)
 
--- what runs, a worker serves
+-- each running request is served by a worker
 pub served_by : (T : Trace) (O : RunOptions) (P : History) (a : Agenda) (r i : ℕ) → Keeps T O P a → Runs P i r → (w : Work) × (s : Serves T O P i w) × (s.request ≡ r)
 served_by T O P a r i k on = by_work (work_at a.staff i) refl
   where

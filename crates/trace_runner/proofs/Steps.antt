@@ -1,4 +1,4 @@
--- What the simulation keeps at one entry more.
+-- The invariant of the simulation at one entry more.
 use Rattle.std.proofs.Common.{ℕ, suc, ◌+◌, ◌*◌, ◌<◌, ◌≤◌, ◌≡◌, ◌≢◌, ◌==◌, ◌⊎◌, Bool, true, false, cond, min, List, [], ◌∷◌, length, Option, Some, None, arith, refl, ap, sym, ◌∙◌, subst, inl, inr, set, get_or-set_same, get_or-set_other}
 use Rattle.std.proofs.lemmas.Bool.{cases_eq, cases_lt, eq-eqb, ne_eqb, cond-true, cond-false}
 use Rattle.vt_fixed.specs.declared.limits.TheConstants.{GREATEST_MOMENT}
@@ -127,7 +127,7 @@ served_stays T refresh P e r row other s = record {
   course_is = cond-false (serves r e.act) _ _ other ∙ s.course_is;
 }
 
--- what a worker that runs a request may report of it
+-- the use that a worker may report of its request
 pub fits_use : (T : Trace) (O : RunOptions) (P : History) (a : Agenda) (i used : ℕ) (w : Work) → IsPlan T O → Keeps T O P a → (s : Serves T O P i w) → s.reports * O.refresh ≤ used → used ≤ w.cost → FitsUse P i s.request used
 fits_use T O P a i used w p k s low high = record {
   runs = running_runs (run_config T O) P i s.request k.legal s.runs;

@@ -1,4 +1,4 @@
--- What the simulation keeps at a Take.
+-- The invariant of the simulation at a Take.
 use Rattle.std.proofs.Common.{ℕ, suc, ◌+◌, ◌-◌, ◌*◌, ◌<◌, ◌≤◌, ◌≡◌, ◌==◌, true, false, cond, min, [], ◌∷◌, length, Some, None, arith, refl, ap, sym, ◌∙◌, subst, inl, inr, get_or, set, length-set}
 use Rattle.std.proofs.lemmas.Bool.{cases_eq, eq-eqb, ne_eqb, both_ways, cond-true, cond-false}
 use Rattle.fq_model.specs.declared.event.Act.TheVariants.{Take}
@@ -46,7 +46,7 @@ work_of T O P r = new_work (last_moment P) (row_at T.rows r).cost O.refresh
 abbrev pub taken_agenda : Trace → RunOptions → History → Agenda → ℕ → ℕ → Agenda
 taken_agenda T O P a i r = record a { staff = set a.staff i (Some (work_of T O P r)); waiting = a.waiting - 1 }
 
--- what is taken is a request of the trace
+-- the request that is taken is a request of the trace
 pub taken_row : (T : Trace) (O : RunOptions) (P : History) (a : Agenda) (i r estimate m : ℕ) → Keeps T O P a → FitsTake (run_config T O) P m i r estimate → r < length T.rows
 taken_row T O P a i r estimate m k f =
     let wt = take_waits (run_config T O) P m i r estimate f in

@@ -1,4 +1,4 @@
--- What the trees of the workers say of them.
+-- The first worker with a request, and the first idle worker, by the trees of the workers.
 use Rattle.std.proofs.Common.{ℕ, zero, suc, ◌<◌, ◌≤◌, ◌≡◌, arith, refl, ap, sym, ◌∙◌, subst, inl, inr, List, [], ◌∷◌, length, map, Option, Some, None, get_or, set, replicate, pos, get_or-set_same, get_or-set_other, IfSome}
 use Rattle.std.proofs.lemmas.Bool.{cases_eq, cases_lt}
 use Rattle.std.proofs.lemmas.Int.{ints}

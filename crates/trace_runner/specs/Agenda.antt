@@ -1,4 +1,4 @@
--- What a simulation does next.
+-- The next event of a simulation.
 use Rattle.std.specs.Prelude.{ℕ, ◌+◌, ◌-◌, ◌<◌, ◌≤◌, ◌≡◌, ◌⊎◌, nat_lt, nat_le, Bool, false, if◌then◌else◌, List, Option, Some, None, length, replicate, slice_get, slice_set}
 use Rattle.program_model.specs.declared.trace.TraceRow.{TraceRow}
 use Rattle.trace_runner.specs.declared.agenda.Agenda.{Agenda}
@@ -8,7 +8,7 @@ use Rattle.trace_runner.specs.declared.agenda.What.TheVariants as what
 use Rattle.trace_runner.specs.declared.staff.Work.{Work}
 use Rattle.trace_runner.specs.Staff.{work_at, work_moment, work_rank, IsSmall, IsIdle, NoneIdle, NoneWorks, ComesBefore}
 
--- so many idle workers, who are numbered on from this caller, and nothing done yet
+-- the agenda with this number of idle workers, who are numbered on from this caller, before the first entry
 abbrev pub opened_agenda : ℕ → ℕ → Agenda
 opened_agenda workers first_caller = record {
   staff = replicate workers None;
@@ -30,7 +30,7 @@ after_submit a m = record a { submitted = a.submitted + 1; waiting = a.waiting +
 abbrev pub after_take : Agenda → ℕ → Work → Agenda
 after_take a i work = record a { staff = slice_set a.staff i (Some work); waiting = a.waiting - 1 }
 
--- what worker i does next that serves this
+-- the next call of worker i, by the request that it serves
 abbrev pub next_of_work : ℕ → Work → What
 next_of_work i w = if nat_lt w.due w.cost then what.Report i w else what.Done i w
 
@@ -46,7 +46,7 @@ abbrev pub comes_by : Option Event → ℕ → Bool
 comes_by None m = false
 comes_by (Some e) m = nat_le e.moment m
 
--- the rank of what is done, where so many requests were submitted
+-- the rank of a call, where this number of requests was submitted
 abbrev pub what_rank : ℕ → What → ℕ × ℕ
 what_rank submitted (what.Report worker work) = (0, worker)
 what_rank submitted (what.Done worker work) = (1, worker)

@@ -1,4 +1,4 @@
--- What may be simulated.
+-- The traces that can be simulated.
 use Rattle.std.specs.Prelude.{ℕ, ◌<◌, ◌≤◌, List}
 use Rattle.fq_model.specs.declared.limits.TheConstants.{MOST_ENTRIES}
 use Rattle.program_model.specs.declared.trace.RunOptions.{RunOptions}

@@ -1,4 +1,4 @@
--- What a simulation keeps: its history so far, and what is still to come.
+-- The invariant of a simulation: of its history so far, and of its agenda.
 use Rattle.std.specs.Prelude.{ℕ, suc, ◌+◌, ◌*◌, ◌<◌, ◌≤◌, ◌≡◌, ◌==◌, min, true, false, if◌then◌else◌, [], ◌∷◌, length, filter, take, slice_get, Some, None}
 use Rattle.vt_fixed.specs.declared.limits.TheConstants.{GREATEST_COST}
 use Rattle.fq_model.specs.declared.limits.TheConstants.{GREATEST_TRACE_MOMENT}
@@ -26,8 +26,8 @@ FollowsLast (e ∷ P) m place = ComesBefore e.moment (rank e.act) m place
 abbrev pub InTime : History → ℕ → Type 0
 InTime P m = m + GREATEST_COST * waiting P ≤ GREATEST_TRACE_MOMENT + GREATEST_COST * submits P
 
--- worker i serves a request of the trace: it took the request at the start, so many Reports came, and the next entry is
--- a Report, or the Done where no more come
+-- worker i serves a request of the trace: it took the request at the start, a number of Reports came, and the next
+-- entry is a Report, or the Done where no more Reports come
 pub record Serves (T : Trace) (O : RunOptions) (P : History) (i : ℕ) (w : Work) : Type 0 where
   pub request : ℕ
   pub row : TraceRow
@@ -44,8 +44,8 @@ pub record Serves (T : Trace) (O : RunOptions) (P : History) (i : ℕ) (w : Work
   pub used_is : last_use P request ≡ reports * O.refresh
   pub in_time : InTime P (w.start + w.cost)
 
--- the history so far is legal and has the form of the simulated history, the agenda says what is still to come, and all
--- of that comes in turn after the last entry
+-- the history so far is legal and has the form of the simulated history, the agenda has the entries that are still to
+-- come, and all of these come in turn after the last entry
 pub record Keeps (T : Trace) (O : RunOptions) (P : History) (a : Agenda) : Type 0 where
   pub legal : IsLegal (run_config T O) P
   pub open_still : is_closed P ≡ false

@@ -1,11 +1,11 @@
--- What workers serve, and the order of their next entries.
+-- The requests that workers serve, and the order of the workers' next entries.
 use Rattle.std.specs.Prelude.{ℕ, ◌+◌, ◌<◌, ◌≤◌, ◌≡◌, ◌≢◌, ◌==◌, ◌⊎◌, min, if◌then◌else◌, List, Option, Some, None, is_none, option_map, map, length, slice_index_or, pos}
 use Rattle.vt_fixed.specs.declared.limits.TheConstants.{GREATEST_MOMENT}
 use Rattle.winner_tree.specs.declared.key.Key.{Key}
 use Rattle.trace_runner.specs.declared.staff.Work.{Work}
 use Rattle.program_model.specs.Simulated.{RankBefore}
 
--- what a worker serves that takes a request at the start: its first Report is at refresh, if that is below the cost
+-- the work of a worker that takes a request at the start: its first Report is at refresh, if that is below the cost
 abbrev pub new_work : ℕ → ℕ → ℕ → Work
 new_work start cost refresh = record {
   start = start;
@@ -13,7 +13,7 @@ new_work start cost refresh = record {
   due = if refresh == 0 then cost else min refresh cost;
 }
 
--- the same after its Report: the next is one refresh later, if that is below the cost
+-- the work after its Report: the next Report is one refresh later, if that is below the cost
 abbrev pub reported_work : Work → ℕ → Work
 reported_work w refresh = record { start = w.start; cost = w.cost; due = min (w.due + refresh) w.cost }
 
@@ -30,7 +30,7 @@ pub record IsSmall (w : Work) : Type 0 where
   pub ends : w.start + w.cost ≤ GREATEST_MOMENT
   pub due : w.due ≤ w.cost
 
--- what worker i serves, if it is not idle
+-- the work of worker i, if it is not idle
 abbrev pub work_at : List (Option Work) → ℕ → Option Work
 work_at works i = slice_index_or works i None
 
@@ -63,7 +63,7 @@ pub record IsFirstIdle (works : List (Option Work)) (i : ℕ) : Type 0 where
   pub is_idle : IsIdle works i
   pub least : (j : ℕ) → IsIdle works j → i ≤ j
 
--- What the two trees keep.
+-- The invariant of the two trees.
 
 -- the key of a worker by its next entry
 abbrev pub work_key : Work → Key

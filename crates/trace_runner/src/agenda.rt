@@ -1,4 +1,4 @@
-//! What a simulation is about to do.
+//! The events of a simulation that are still to come.
 ghost use Rattle.std.specs.Prelude.{◌≡◌, ◌+◌, ◌<◌, ◌≤◌, IfOk, IfSome, MatchOption, length};
 ghost use Rattle.trace_runner.specs.Staff.{IsSmall};
 ghost use Rattle.trace_runner.specs.Agenda.{opened_agenda, after_work, after_submit, after_take};
@@ -10,10 +10,10 @@ use fq_model::limits::{GREATEST_SUBMITTER, MOST_ROWS, MOST_WORKERS};
 use program_model::trace::TraceRow;
 use std::alloc::{AllocError, Global};
 
-/// What the simulation does at an event.
+/// The call of the simulation at an event.
 #[derive(Clone, Copy)]
 pub enum What {
-    /// The worker tells what is used of its request by now.
+    /// The worker reports the use of its request so far.
     Report { worker: u32, work: Work },
     /// The worker's request ends.
     Done { worker: u32, work: Work },
@@ -30,8 +30,8 @@ pub struct Event {
     pub what: What,
 }
 
-/// What is still to come, and how far the simulation has come. No call after `open` takes memory, and none goes over
-/// the rows or the workers.
+/// The events that are still to come, and the progress of the simulation. No call after `open` takes memory, and none
+/// goes over the rows or the workers.
 #[derive(Drop)]
 pub struct Agenda {
     pub(crate) staff: Staff,
@@ -46,7 +46,7 @@ pub struct Agenda {
 }
 
 impl Agenda {
-    /// The agenda of a simulation that begins, with so many workers.
+    /// The agenda of a simulation that begins, with this number of workers.
     pub fn open(alloc: Global, workers: u32, first_caller: u32) -> Result<Agenda, AllocError>
         requires some { 1 ≤ workers }
         requires few { workers ≤ MOST_WORKERS }
@@ -106,7 +106,7 @@ impl Agenda {
         }
     }
 
-    /// Notes that at this moment a worker's Report or Done came, and what it serves then.
+    /// Notes that at this moment a worker's Report or Done came, and the work of the worker from then on.
     pub fn worked(&mut self, moment: u64, worker: u32, next: Option<Work>)
         requires worker { worker < length self.old.staff }
         requires small { IfSome next IsSmall }

@@ -9,7 +9,7 @@ use std::fmt;
 /// Why a trace is not simulated.
 #[derive(Clone, Copy, PartialEq, Eq, thiserror::Error)]
 pub enum SimFault {
-    /// The history would have so many entries; there may be 4,194,304.
+    /// The history would have this number of entries; there may be 4,194,304.
     #[error("the history would have {0} entries, and there may be {MOST_ENTRIES}")]
     TooManyEntries(u64),
     /// There was no memory.

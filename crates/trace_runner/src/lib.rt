@@ -1,5 +1,5 @@
-//! The simulated history of a trace: its requests come when their rows say, cost what they say, and are taken by
-//! workers of which none is idle while a request waits.
+//! The simulated history of a trace: its requests come at the moments of their rows, have the costs of their rows, and
+//! are taken by workers of which none is idle while a request waits.
 #![tactic(auto)]
 
 mod agenda;

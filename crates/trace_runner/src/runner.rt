@@ -26,7 +26,7 @@ use trace_reader::trace::Trace;
 /// its cost from its Take on, and is reported after each `refresh` microseconds of that. At one moment Reports are
 /// before Dones, Dones before Submits, and Submits before Takes; these go by worker, and Submits by row. No worker is
 /// idle while a request waits. Submitters are the callers from 0 on, workers those that follow, and labels are the
-/// rows' numbers from 0. An entry costs what the scheduler's call costs, and the logarithm of the number of workers.
+/// rows' numbers from 0. An entry takes the time of the scheduler's call, and the logarithm of the number of workers.
 /// All memory is taken at the opening, and none where there would be too many entries.
 pub fn simulate<X: Chooser + Drop>(
     alloc: Global,

@@ -1,4 +1,4 @@
-//! What each worker serves, and which of them comes next.
+//! The request that each worker serves, and the worker whose next entry comes first.
 ghost use Rattle.std.specs.Prelude.{◌≡◌, ◌<◌, ◌≤◌, None, IfOk, IfSome, MatchOption, length, replicate, slice_set};
 ghost use Rattle.trace_runner.specs.Staff.{busy_key, idle_key, new_work, reported_work, work_key, work_moment, IsSmall};
 ghost use Rattle.trace_runner.specs.Staff.{NoneWorks, NoneIdle, IsFirstWork, IsFirstIdle};
@@ -8,7 +8,7 @@ use std::alloc::{AllocError, Global};
 use std::marker::Model;
 use winner_tree::{Key, Tree};
 
-/// What a worker serves, in microseconds.
+/// The request that a worker serves, in microseconds.
 #[derive(Clone, Copy)]
 pub struct Work {
     /// The moment of the Take.
@@ -19,8 +19,8 @@ pub struct Work {
 }
 
 impl Work {
-    /// What a worker serves that takes a request of this cost, which is reported after each `refresh` microseconds, or
-    /// not at all where that is 0.
+    /// The work of a worker that takes a request of this cost. Its use is reported after each `refresh` microseconds,
+    /// or not at all where that is 0.
     pub fn new(start: u64, cost: u64, refresh: u64) -> Work
         ensures { result ≡ new_work start cost refresh }
     {
@@ -32,7 +32,7 @@ impl Work {
         Work { start, cost, due }
     }
 
-    /// The same after its Report.
+    /// The work after its Report.
     pub fn after_report(&self, refresh: u64) -> Work
         requires used { self.now.due ≤ GREATEST_COST }
         requires refresh { refresh ≤ GREATEST_COST }
@@ -87,7 +87,7 @@ fn idle_key(work: Option<Work>) -> Option<Key>
     }
 }
 
-/// The workers, by number. Contracts see the list of what they serve.
+/// The workers, by number. Contracts see the list of their works.
 #[derive(Drop)]
 pub struct Staff {
     works: Vec<Option<Work>>,
@@ -109,7 +109,7 @@ impl Model for Staff {
 }
 
 impl Staff {
-    /// So many workers, all of them idle.
+    /// This number of workers, all of them idle.
     pub fn open(alloc: Global, workers: u32) -> Result<Staff, AllocError>
         requires some { 1 ≤ workers }
         requires few { workers ≤ MOST_WORKERS }

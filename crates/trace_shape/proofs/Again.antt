@@ -1,4 +1,4 @@
--- What was shaped conforms as it stands.
+-- A shaped trace conforms as it is.
 use Rattle.std.proofs.Common.{ℕ, ◌+◌, ◌*◌, ◌<◌, ◌≡◌, ◌≢◌, Bool, true, false, cond, List, [], ◌∷◌, length, get_or, map, filter, All, arith, refl, ap, sym, ◌∙◌, subst, inl, inr, eq-eqb, ne_eqb, eqb-true, option_map}
 use Rattle.std.specs.Prelude.{◌==◌}
 use Rattle.std.proofs.lemmas.Bool.{cases_eq}
@@ -135,7 +135,7 @@ own_in_order : (t : ℕ) (rows : List TraceRow) → Rises (filter (is_of t) rows
 own_in_order t rows rise = same_rows (filter (is_of t) (by_moment rows)) (filter (is_of t) rows) (IsNonDecreasingBy-filter moment_of (is_of t) (by_moment rows) (by_moment_rises rows)) rise
     (λ n. filter_twice (comes_at n) (is_of t) (by_moment rows) ∙ ap (filter (is_of t)) (by_moment_keeps n rows) ∙ filter_twice (is_of t) (comes_at n) rows)
 
--- the moments of what was shaped conform
+-- the moments of a shaped trace conform
 pub shaped_conform : (T : Trace) (rate burst : ℕ) (moments : List ℕ) → Conforms T rate burst moments → Conforms (at_moments T moments) rate burst (moments_of (by_moment (rows_at T.rows moments)))
 shaped_conform T rate burst moments h = all_conform T rate burst (by_moment (rows_at T.rows moments)) (λ t.
     let alone = own_conform T rate burst t T.rows moments h in

@@ -1,4 +1,4 @@
--- When the tokens of a request are there, and what it leaves.
+-- The moment at which the tokens of a request are there, and the bucket that the request leaves.
 use Rattle.std.proofs.Common.{ℕ, ◌+◌, ◌-◌, ◌*◌, ◌<◌, ◌≤◌, ◌≡◌, min, max, arith, refl, ap, sym, ◌∙◌, subst, inl, inr}
 use Rattle.std.specs.Int.{div_ceil}
 use Rattle.std.proofs.lemmas.Bool.{cases_lt}
@@ -8,7 +8,7 @@ use Rattle.program_model.specs.declared.trace.TraceRow.{TraceRow}
 use Rattle.trace_shape.specs.declared.bucket.Bucket.{Bucket}
 use Rattle.trace_shape.specs.Buckets.{moment_in, taken}
 
--- what is gained from a to b and from b to n is gained from a to n
+-- the gains from a to b and from b to n are together the gain from a to n
 pub gained_between : (g a b n : ℕ) → a ≤ b → b ≤ n → g * (b - a) + g * (n - b) ≡ g * (n - a)
 gained_between g a b n early late =
     let parts : (b - a) + (n - b) ≡ n - a = omega arith in
@@ -18,7 +18,7 @@ gained_between g a b n early late =
 pub gained_more : (g a b n : ℕ) → a ≤ b → g * (n - b) ≤ g * (n - a)
 gained_more g a b n early = mul-le-mul_left g (omega arith)
 
--- the least number of steps in which so many are gained
+-- the least number of steps in which the needed tokens are gained
 steps_serve : (g need : ℕ) → 0 < g → need ≤ g * div_ceil need g
 steps_serve g need some = omega (arith, (div_ceil_times need g some).0)
 
@@ -28,7 +28,7 @@ steps_least g need w some serves = elim (cases_lt w (div_ceil need g)) [
   | inr low ↦ low
 ]
 
--- what taking leaves
+-- the bucket before and after a row takes its tokens
 pub record Takes (gain capacity : ℕ) (before : Bucket) (row : TraceRow) (after : Bucket) : Type 0 where
   pub not_early : row.moment ≤ after.moment
   pub in_order : before.moment ≤ after.moment
@@ -50,7 +50,7 @@ takes gain capacity bucket row some =
       level = refl;
     }
 
--- so many are there then
+-- the tokens of the row are there at that moment
 pub enough_then : (gain capacity : ℕ) (bucket : Bucket) (row : TraceRow) (short wait moment level : ℕ) → 1 ≤ gain → 1000 * row.declared ≤ capacity → short ≡ 1000 * row.declared - bucket.level → wait ≡ div_ceil short gain
     → moment ≡ max row.moment (bucket.moment + wait) → level ≡ min (bucket.level + gain * (moment - bucket.moment)) capacity → 1000 * row.declared ≤ level
 unfolding taken

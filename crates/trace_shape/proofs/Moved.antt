@@ -18,7 +18,7 @@ use Rattle.trace_shape.proofs.Windows.{no_row}
 pub each_in_time : (moments : List ℕ) → too_late moments ≡ None → All IsInTime moments
 each_in_time moments none k d l = ltb-false _ _ (none_passes (nat_lt GREATEST_TRACE_MOMENT) moments k d none l)
 
--- what holds of a row once it comes at a moment in time holds of all moved rows
+-- a property of a row that comes at a moment in time holds of all moved rows
 all_moved : (P Q : TraceRow → Type 0) → ((row : TraceRow) (m : ℕ) → P row → IsInTime m → Q (record row { moment = m })) → (rows : List TraceRow) (moments : List ℕ) → All P rows → All IsInTime moments → All Q (rows_at rows moments)
 all_moved P Q move [] moments all early = All-nil Q
 all_moved P Q move (row ∷ rows) [] all early = All-nil Q

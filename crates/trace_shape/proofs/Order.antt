@@ -40,7 +40,7 @@ rises_from row rows rise k d l = rise 0 (suc k) d (omega arith) (omega (arith, l
 pub rises_on : (row : TraceRow) (rows : List TraceRow) → Rises (row ∷ rows) → Rises rows
 rises_on row rows rise i j d le l = rise (suc i) (suc j) d (omega (arith, le)) (omega (arith, l))
 
--- ---- what is put in order
+-- ---- rows that are put in order
 pub all_with_earlier_row : (P : TraceRow → Type 0) (row : TraceRow) (rows : List TraceRow) → P row → All P rows → All P (with_earlier_row row rows)
 all_with_earlier_row P row [] here all = All-cons P row [] here all
 all_with_earlier_row P row (next ∷ rows) here all =
@@ -139,7 +139,7 @@ same_rows (x ∷ xs) (y ∷ ys) up vp same =
 pub risen_stay : (rows : List TraceRow) → Rises rows → by_moment rows ≡ rows
 risen_stay rows rise = same_rows (by_moment rows) rows (by_moment_rises rows) rise (λ n. by_moment_keeps n rows)
 
--- what a stable sort by moment leaves
+-- the rows after a stable sort by moment
 tie_together : (x y : TraceRow) → ties (λ (a b : TraceRow). is_lt (nat_cmp a.moment b.moment)) x y ≡ comes_at x.moment y
 tie_together x y = go (cases_lt x.moment y.moment) (cases_lt y.moment x.moment)
   where

@@ -1,4 +1,4 @@
--- What is told of the moments of a trace, row by row.
+-- The moments of the rows of a trace, row by row.
 use Rattle.std.proofs.Common.{ℕ, ◌+◌, ◌*◌, ◌<◌, ◌≤◌, ◌≡◌, nat_lt, List, [], ◌∷◌, ◌++◌, length, get_or, set, drop, replicate, All, None, Some, arith, refl, ap, sym, ◌∙◌, subst, inl, inr, append_assoc, length-append, ltb-false, lt-ltb, le-ltb}
 use Rattle.std.specs.Prelude.{slice_index}
 use Rattle.std.specs.List.{position_or_len}
@@ -41,7 +41,7 @@ row_served T rate burst rows r lawful some small rows_are l =
 abbrev pub full_buckets : Trace → ℕ → List Bucket
 full_buckets T burst = replicate (length T.tenants) (full (1000 * burst))
 
--- what buckets tell that are full at first
+-- the moments that buckets give which are full at first
 abbrev pub told_moments : Trace → ℕ → ℕ → List ℕ
 told_moments T rate burst = moments_from T rate burst (full_buckets T burst) T.rows
 
@@ -85,7 +85,7 @@ first_late moments rest m early late =
 
 -- ---- row by row
 
--- the moments of the rows before r are told, and the buckets are as the first r rows left them
+-- these are the moments of the rows before r, and the buckets are as the first r rows left them
 pub record Tells (T : Trace) (rate burst : ℕ) (buckets : List Bucket) (moments : List ℕ) (r : ℕ) : Type 0 where
   pub one_each : length buckets ≡ length T.tenants
   pub in_range : All (IsBucket (1000 * burst)) buckets
@@ -145,7 +145,7 @@ told_late T rate burst buckets moments r row bucket h served late = record {
       (first_late moments _ _ h.tells.in_time late ∙ ap Some h.tells.so_far));
 }
 
--- what was taken by the weight and the bucket of the row's tenant
+-- the bucket after the row, by the weight and the bucket of the row's tenant
 pub taken_from : (T : Trace) (rate burst : ℕ) (buckets : List Bucket) (row : TraceRow) (weights : List ℕ) (weight : ℕ) (before after : Bucket) → row.tenant < length buckets → weights ≡ T.weights
     → weight ≡ slice_index weights row.tenant → before ≡ get_or buckets row.tenant before → after ≡ taken (rate * weight) (1000 * burst) before row → after ≡ taken_by T rate burst buckets row
 taken_from T rate burst buckets row weights weight before after there weights_are weight_is before_is after_is =
@@ -153,7 +153,7 @@ taken_from T rate burst buckets row weights weight before after there weights_ar
     let heavy : weight ≡ slice_index T.weights row.tenant = weight_is ∙ ap (λ ws. slice_index ws row.tenant) weights_are in
     after_is ∙ ap (λ w. taken (rate * w) (1000 * burst) before row) heavy ∙ ap (λ b. taken (gain T rate row.tenant) (1000 * burst) b row) own
 
--- where all are told they are the least
+-- the moments of all rows are those that full buckets give
 pub all_told : (T : Trace) (rate burst : ℕ) (buckets : List Bucket) (moments : List ℕ) (r : ℕ) → Tells T rate burst buckets moments r → length T.rows ≤ r → moments ≡ told_moments T rate burst
 unfolding moments_from
 all_told T rate burst buckets moments r h past =

@@ -1,4 +1,4 @@
--- The moments that buckets tell one by one are the least that conform.
+-- The moments that buckets give one by one are the least that conform.
 use Rattle.std.proofs.Common.{ℕ, zero, suc, ◌+◌, ◌-◌, ◌*◌, ◌<◌, ◌≤◌, ◌≡◌, ◌≢◌, List, [], ◌∷◌, length, get_or, set, All, Some, arith, refl, sym, subst, inl, inr}
 use Rattle.std.specs.Prelude.{slice_get}
 use Rattle.std.proofs.lemmas.Bool.{cases_eq}
@@ -31,7 +31,7 @@ moments_from T rate burst buckets [] = []
 moments_from T rate burst buckets (row ∷ rows) =
     (taken_by T rate burst buckets row).moment ∷ moments_from T rate burst (buckets_after T rate burst buckets row) rows
 
--- a row of one of so many tenants, which gains tokens and of which a bucket holds enough
+-- a row of one of the first tenants, which gains tokens and whose bucket can hold enough of them
 pub record IsAffordable (T : Trace) (rate burst tenants : ℕ) (row : TraceRow) : Type 0 where
   pub tenant : row.tenant < tenants
   pub gains : 1 ≤ gain T rate row.tenant
@@ -57,7 +57,7 @@ served_on T rate burst buckets row rows served = subst (λ n. All (IsAffordable 
 
 -- ---- they conform
 
--- what a bucket had, a row took and what is left, against what there was since an earlier moment
+-- the tokens that a row took, and those that it left, against the tokens since an earlier moment
 after_taking : (g capacity before level a : ℕ) (b : Bucket) (row : TraceRow) (after : Bucket) → Takes g capacity b row after → a ≤ b.moment → b.level + before ≤ level + g * (b.moment - a)
     → (before + 1000 * row.declared ≤ level + g * (after.moment - a)) × (after.level + (before + 1000 * row.declared) ≤ level + g * (after.moment - a))
 after_taking g capacity before level a b row after h late there =
@@ -87,7 +87,7 @@ affords T rate burst t before level a buckets (row ∷ rows) served late there =
       (subst (λ (b : Bucket). b.level + before ≤ level + gain T rate t * (b.moment - a)) (sym stays) there))
 ]
 
--- a bucket that a row took from holds, with what it took, no more than a full one
+-- a bucket after a row, with the tokens that the row took, holds no more than a full bucket
 within_full : (g capacity : ℕ) (b : Bucket) (row : TraceRow) (after : Bucket) → Takes g capacity b row after → 1000 * row.declared ≤ capacity → after.level + 1000 * row.declared ≤ capacity + g * (after.moment - after.moment)
 within_full g capacity b row after h fits = omega (arith, h.level, fits)
 
@@ -113,7 +113,7 @@ conform T rate burst buckets (row ∷ rows) served =
 
 -- ---- none that conform come earlier
 
--- what a bucket and a full one afford later rows, it affords them once a row has taken its tokens
+-- the later rows that a bucket and a full one afford with a row's tokens, the bucket affords after that row
 left_over : (g capacity t o : ℕ) (b : Bucket) (row : TraceRow) (after : Bucket) (rows : List TraceRow) (moments : List ℕ) → Takes g capacity b row after → after.moment ≤ o
     → Affords g t (1000 * row.declared) b.level b.moment rows moments → Affords g t (1000 * row.declared) capacity o rows moments → Affords g t 0 after.level after.moment rows moments
 left_over g capacity t o b row after rows moments h early from_bucket from_full = record {

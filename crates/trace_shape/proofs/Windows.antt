@@ -1,4 +1,4 @@
--- What the requests of a tenant take from one of them on.
+-- The tokens that the requests of a tenant take from one of them on.
 use Rattle.std.proofs.Common.{ℕ, zero, suc, ◌+◌, ◌-◌, ◌*◌, ◌<◌, ◌≤◌, ◌≡◌, ◌≢◌, List, [], ◌∷◌, length, take, get_or, Some, arith, refl, ap, ◌∙◌, subst}
 use Rattle.std.specs.Prelude.{slice_get}
 use Rattle.std.proofs.lemmas.Bool.{eq-eqb, ne_eqb}
@@ -22,8 +22,8 @@ pub record Comes (t : ℕ) (rows : List TraceRow) (moments : List ℕ) (k n : �
   pub moment_at : slice_get moments k ≡ Some n
   pub tenant : row.tenant ≡ t
 
--- the rows of tenant t come at moment a or later and, with `before` tokens more, take no more than there were at a and
--- what is gained from there on
+-- the rows of tenant t come at moment a or later and, with `before` tokens more, take no more than the tokens at a and
+-- the gain from there on
 pub record Affords (g t before level a : ℕ) (rows : List TraceRow) (moments : List ℕ) : Type 0 where
   pub not_before : (k n : ℕ) → Comes t rows moments k n → a ≤ n
   pub enough : (k n : ℕ) → Comes t rows moments k n → before + 1000 * declared_by t (take (suc k) rows) ≤ level + g * (n - a)
@@ -169,7 +169,7 @@ none_comes c = none-some c.row c.row_at
 pub nothing_affords : (g t before level a : ℕ) (moments : List ℕ) → Affords g t before level a [] moments
 nothing_affords g t before level a moments = record { not_before = λ k n c. absurd (none_comes c); enough = λ k n c. absurd (none_comes c) }
 
--- what the first row opens, for its tenant by any name
+-- the window that the first row opens, for its tenant by any name
 pub window_of : (T : Trace) (rate burst t : ℕ) (row : TraceRow) (rows : List TraceRow) (o : ℕ) (moments : List ℕ) → row.tenant ≡ t → Opens T rate burst row rows o moments
     → Affords (gain T rate t) t (1000 * row.declared) (1000 * burst) o rows moments
 window_of T rate burst t row rows o moments same h = subst (λ z. Affords (gain T rate z) z (1000 * row.declared) (1000 * burst) o rows moments) same h.window

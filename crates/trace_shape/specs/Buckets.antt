@@ -1,4 +1,4 @@
--- Buckets of tokens, which tell one by one how long requests wait. Tokens count in thousandths of a unit.
+-- Buckets of tokens, which give the moments of requests one by one. Tokens count in thousandths of a unit.
 use Rattle.std.specs.Prelude.{ℕ, ◌+◌, ◌-◌, ◌*◌, ◌≤◌, max, min}
 use Rattle.std.specs.Int.{div_ceil}
 use Rattle.fq_model.specs.declared.limits.TheConstants.{GREATEST_TRACE_MOMENT}

@@ -1,4 +1,4 @@
--- What follows of moments that conform.
+-- Consequences of moments that conform.
 use Rattle.std.specs.Prelude.{ℕ, ◌≤◌, ◌≡◌, List, None, Some}
 use Rattle.program_model.specs.Conforms.{Conforms, IsLeastConforming, too_big}
 use Rattle.program_model.specs.Trace.{Trace}
@@ -20,6 +20,6 @@ abbrev pub LeastIsOne : Type 0
 LeastIsOne = (T : Trace) (rate burst : ℕ) (some others : List ℕ) →
     IsLeastConforming T rate burst some → IsLeastConforming T rate burst others → some ≡ others
 
--- what was shaped stays as it is where it is shaped again with the same numbers
+-- a shaped trace stays as it is where it is shaped again with the same numbers
 abbrev pub ShapedStays : Type 0
 ShapedStays = (T S : Trace) (rate burst : ℕ) → IsShaped T rate burst S → IsShaped S rate burst S

@@ -27,7 +27,7 @@ impl Bucket {
     }
 
     /// The bucket once a request has taken its tokens, at the first moment at which they are there. The capacity is in
-    /// thousandths of a unit, and so is what the bucket gains in a microsecond.
+    /// thousandths of a unit, and so is the bucket's gain in a microsecond.
     #[tactic(auto, unfolding(crate::specs::Buckets::taken))]
     pub(crate) fn taken(self, gain: u64, capacity: u64, row: &TraceRow) -> Bucket
         requires bucket { IsBucket capacity self }

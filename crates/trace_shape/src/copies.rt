@@ -7,7 +7,7 @@ use tenant_table::kinds_builder::KindsBuilder;
 use tenant_table::tenants::Tenants;
 use tenant_table::tenants_builder::TenantsBuilder;
 
-/// The same tenants.
+/// A copy of the tenants.
 pub(crate) fn copy_of_tenants(alloc: Global, tenants: &Tenants) -> Result<Tenants, AllocError>
     ensures { IfOk result (λ copy. copy ≡ tenants.now) }
 {
@@ -18,7 +18,7 @@ pub(crate) fn copy_of_tenants(alloc: Global, tenants: &Tenants) -> Result<Tenant
     copy.finish()
 }
 
-/// The same kinds.
+/// A copy of the kinds.
 pub(crate) fn copy_of_kinds(alloc: Global, kinds: &Kinds) -> Result<Kinds, AllocError>
     ensures { IfOk result (λ copy. copy ≡ kinds.now) }
 {

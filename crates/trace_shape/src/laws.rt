@@ -1,4 +1,4 @@
-//! What follows of moments that conform.
+//! Laws of moments that conform.
 ghost use Rattle.trace_shape.specs.Laws.{NoneConformsToTooBig, LeastIsThere, LeastIsOne, ShapedStays};
 
 /// Where a row declares more than a bucket holds, no moments conform.
@@ -16,7 +16,7 @@ pub fn least_is_one()
     ensures { LeastIsOne }
 {}
 
-/// What was shaped stays as it is where it is shaped again with the same numbers.
+/// A shaped trace stays as it is where it is shaped again with the same numbers.
 pub fn shaped_stays()
     ensures { ShapedStays }
 {}

@@ -17,7 +17,7 @@ use trace_reader::trace::Trace;
 /// The least moments, in microseconds, at which the requests of a trace may come, where each takes as many tokens as it
 /// declares. A tenant's bucket holds `burst` tokens and is full at first; for each unit of its weight it gains `rate`
 /// tokens in 1000 microseconds. Each row is looked at once, against the bucket of its tenant. Where memory runs out, a
-/// row that would come too late may go untold.
+/// row that would come too late may go unnamed.
 pub fn moments(alloc: Global, trace: &Trace, rate: u64, burst: u64) -> Result<Vec<u64>, ShapeFault>
     requires lawful { IsLawfulTrace trace.now }
     requires rate { IsWithin 1 GREATEST_RATE rate }

@@ -24,7 +24,7 @@ no_option = record { name = []; values = Within 0 0; absent = Required }
 place_seen : (rows : List code.OptionRow) (name : List ℕ) (found place : Option ℕ) → found ≡ position (λ row. has_name name (seen_row row)) rows → found ≡ place → position (has_name name) (map seen_row rows) ≡ place
 place_seen rows name found place is was = position-map (has_name name) seen_row rows ∙ (sym is ∙ was)
 
--- what a text stands for at a row, as the definitions see it
+-- the value that a text spells at a row, by the definitions
 argument_seen : (rows : List code.OptionRow) (k : ℕ) (d : code.OptionRow) (text : List ℕ) (found argument : Option Argument) → found ≡ argument_for (seen_row (get_or rows k d)).values text → found ≡ argument → argument_for (get_or (map seen_row rows) k (seen_row d)).values text ≡ argument
 argument_seen rows k d text found argument is was = ap (λ row. argument_for row.values text) (get_or-map seen_row rows k d) ∙ (sym is ∙ was)
 

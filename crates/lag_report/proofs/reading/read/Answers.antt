@@ -8,7 +8,7 @@ use Rattle.lag_report.specs.Courses.{NamesOneOf, courses_of, rows_of, courses_af
 use Rattle.lag_report.proofs.Pasts.{history_more, named}
 use Rattle.lag_report.proofs.reading.read.Goals as goal
 
--- what stands past the end
+-- the entry past the end of the list
 abbrev none : Entry
 none = record { who = 0; moment = 0; act = Submit 0 0 0 0 0 }
 

@@ -42,7 +42,7 @@ none c =
     let at : position (λ (r : Course). not r.is_ended) c.as_slice.result.now ≡ unfinished (history_of c.args.contents.now.past.items) = ap (position (λ (r : Course). not r.is_ended)) (c.as_slice.ensures.value ∙ c.requires.courses) ∙ unfinished_is c.args.config.now (history_of c.args.contents.now.past.items) c.weights-weights.ensures.limits c.requires.legal in
     sym at ∙ sym c.unfinished.ensures ∙ none_from c.unfinished.result c.in_default.not-Some
 
--- what the fluid service is asked
+-- the completed requests and the changes, as the fluid service takes them
 rows_now : (c : After-as_slice-2) → c.replace-rows.result.items ≡ rows_of (history_of c.args.contents.now.past.items)
 rows_now c = ap (λ v. v.items) c.replace-rows.ensures.value ∙ c.requires.rows
 

@@ -7,7 +7,7 @@ use Rattle.lag_report.proofs.Ranks.{selected, further, those_after, rank_of}
 use Rattle.lag_report.proofs.samples.rank.Goals as goal
 use Rattle.lag_report.proofs.samples.rank.Goals.{After-select_nth_unstable-middle}
 
--- what stands in the middle, as it is read
+-- the sample in the middle, as it is read
 middle : (c : After-select_nth_unstable-middle) (z : ℤ) → z ≡ c.select_nth_unstable-middle.result.1.now → StandsAt c.args.samples.now c.place-p50_at.result z c.select_nth_unstable-middle.result.2.now
 middle c z is =
     let found = c.select_nth_unstable-middle in

@@ -13,7 +13,7 @@ overflow_add-work c = omega (arith, c.loop-k.invariant.work, sum_by_more_le (λ 
 pub loop-k-init : goal.loop-k-init
 loop-k-init c = record { work = refl; samples = c.in_ok-samples.ensures.items ∙ sym (list_none _) }
 
--- what is pushed: a difference of numbers that are in their limits
+-- the lag that is pushed: a difference of numbers that are in their limits
 lag_is : (served work : ℕ) → served ≤ 2000000000000000 → work ≤ 2000000000000000 → to_z w64 (of_z w64 (to_z w64 served -ℤ to_z w64 work)) ≡ pos served -ℤ pos work
 lag_is served work s w = omega (arith, ints)
 

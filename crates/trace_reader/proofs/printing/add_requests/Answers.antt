@@ -5,7 +5,7 @@ use Rattle.program_model.specs.TraceText.{request_record, request_records}
 use Rattle.trace_reader.proofs.Printed.{longer}
 use Rattle.trace_reader.proofs.printing.add_requests.Goals as goal
 
--- what stands past the end
+-- the row past the end of the list
 abbrev none : TraceRow
 none = record { moment = 0; submitter = 0; tenant = 0; kind = 0; declared = 0; cost = 0 }
 
