@@ -1,5 +1,5 @@
-//! Tests of virtual time, command lines, scripts, journals and verdicts on them, traces, names, the fluid reference and
-//! lag reports, as callers use them.
+//! Tests of virtual time, command lines, scripts, journals and verdicts on them, names, the fluid reference and lag
+//! reports, as callers use them.
 #![tactic(auto)]
 
 #[cfg(test)]
@@ -34,8 +34,6 @@ mod slot_tests;
 mod stream_tests;
 #[cfg(test)]
 mod time_tests;
-#[cfg(test)]
-mod trace_tests;
 #[cfg(test)]
 mod withdrawn_report_tests;
 #[cfg(test)]

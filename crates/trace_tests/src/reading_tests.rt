@@ -1,11 +1,12 @@
 //! Traces written by hand, with their contents or their faults by the grammar.
 ghost use Rattle.program_model.specs.TraceText.{IsLawfulTrace};
 
-use crate::samples::expect_text;
+use crate::samples::trace_in;
 use program_model::fault::TraceKind;
 use program_model::trace::TraceRow;
 use std::alloc::Global;
 use std::process::Abort;
+use test_samples::expect_text;
 use trace_reader::fault::{GenFault, TraceFault};
 use trace_reader::generating::generate;
 use trace_reader::printing::print;
@@ -30,17 +31,6 @@ fn expect_second_faults<R: Abort>(rt: &R, alloc: Global, rows: &[(&str, TraceKin
     for (text, kind) in rows {
         expect_fault(rt, alloc, text.as_bytes(), 2, *kind);
     }
-}
-
-// The trace that a text says.
-fn trace_in<R: Abort>(rt: &R, alloc: Global, text: &[u8]) -> Trace
-    ensures { IsLawfulTrace result }
-{
-    let trace = read(alloc, text);
-    let Ok(trace) = trace else {
-        panic!(rt; "a trace")
-    };
-    trace
 }
 
 #[test]
@@ -169,7 +159,7 @@ fn expect_first_kind<R: Abort>(rt: &R, trace: &Trace, name: &str) {
 
 // So has that of the trace that a text says.
 fn expect_first_kind_in<R: Abort>(rt: &R, alloc: Global, text: &str, name: &str) {
-    let trace = trace_in(rt, alloc, text.as_bytes());
+    let trace = trace_in(rt, alloc, text);
     expect_first_kind(rt, &trace, name);
 }
 
@@ -191,7 +181,7 @@ fn row((moment, submitter): (u64, u32), tenant: u32, (declared, cost): (u64, u64
 
 // A text that has these rows, and is printed so.
 fn expect_printed<R: Abort>(rt: &R, alloc: Global, text: &str, rows: &[TraceRow], printed: &str) {
-    let trace = trace_in(rt, alloc, text.as_bytes());
+    let trace = trace_in(rt, alloc, text);
     assert!(rt; trace.rows() == rows, "in {text:?}");
     expect_text(rt, print(alloc, &trace), printed.as_bytes());
 }

@@ -1,8 +1,8 @@
 //! Traces written by hand, with the rows of each policy and estimator for them.
 ghost use Rattle.std.specs.Prelude.{◌≡◌};
 ghost use Rattle.program_model.specs.RunLimits.{CanCompare};
-ghost use Rattle.program_model.specs.TraceText.{IsLawfulTrace};
 
+use crate::samples::trace_in;
 use compare_all::comparing::compare;
 use compare_all::fault::CompareFault;
 use compare_all::printing::print;
@@ -10,8 +10,6 @@ use program_model::compare::CompareOptions;
 use std::alloc::Global;
 use std::process::Abort;
 use std::thread::Threads;
-use trace_reader::reading::read;
-use trace_reader::trace::Trace;
 
 /// A long request and two short ones, all at once.
 const THREE: &str =
@@ -31,17 +29,6 @@ const LONG: &str = "tenant,a,1\nrequest,0,0,a,get,1,5000000\n";
 const MISDECLARED: &str = "tenant,a,3\ntenant,b,1\nrequest,0,0,a,get,100,666667\n\
     request,0,0,a,get,100,666667\nrequest,0,1,b,scan,1,1333334\n";
 
-// The trace that a text says.
-fn trace_in<R: Abort>(rt: &R, alloc: Global, text: &str) -> Trace
-    ensures { IsLawfulTrace result }
-{
-    let trace = read(alloc, text.as_bytes());
-    let Ok(trace) = trace else {
-        panic!(rt; "a trace")
-    };
-    trace
-}
-
 // The options of a comparison with the usual initial value.
 fn options(workers: u32, refresh: u64, slot: u64) -> CompareOptions
     ensures { result ≡ record { workers = workers; initial = 1000; refresh = refresh; slot = slot } }
@@ -55,7 +42,7 @@ fn options(workers: u32, refresh: u64, slot: u64) -> CompareOptions
 }
 
 // The comparison of a trace is printed so.
-fn expect_text<R: Abort + Threads + Sync>(
+fn expect_comparison<R: Abort + Threads + Sync>(
     rt: &R,
     alloc: Global,
     text: &str,
@@ -95,7 +82,7 @@ fn expect_fault<R: Abort + Threads + Sync>(
 
 #[test]
 fn one_pair_lets_the_long_request_wait(rt: HostRuntime) {
-    expect_text(
+    expect_comparison(
         &rt,
         rt.alloc(),
         THREE,
@@ -119,7 +106,7 @@ fn one_pair_lets_the_long_request_wait(rt: HostRuntime) {
 
 #[test]
 fn all_pairs_tie(rt: HostRuntime) {
-    expect_text(
+    expect_comparison(
         &rt,
         rt.alloc(),
         ONE,

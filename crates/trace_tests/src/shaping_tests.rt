@@ -1,26 +1,13 @@
 //! Traces written by hand, with the moments at which their requests may come.
 ghost use Rattle.fq_model.specs.Limits.{IsWithin};
-ghost use Rattle.program_model.specs.TraceText.{IsLawfulTrace};
 
+use crate::samples::trace_in;
 use fq_model::limits::{GREATEST_BURST, GREATEST_RATE};
 use std::alloc::Global;
 use std::process::Abort;
 use trace_reader::printing::print;
-use trace_reader::reading::read;
-use trace_reader::trace::Trace;
 use trace_shape::fault::ShapeFault;
 use trace_shape::shaping::{moments, shape};
-
-// The trace that a text says.
-fn trace_in<R: Abort>(rt: &R, alloc: Global, text: &str) -> Trace
-    ensures { IsLawfulTrace result }
-{
-    let trace = read(alloc, text.as_bytes());
-    let Ok(trace) = trace else {
-        panic!(rt; "a trace")
-    };
-    trace
-}
 
 // The least moments of the trace that a text says.
 fn expect_moments<R: Abort>(

@@ -1,7 +1,0 @@
-//! Tests of comparisons, as callers use them.
-#![tactic(auto)]
-
-#[cfg(test)]
-mod best_tests;
-#[cfg(test)]
-mod comparing_tests;
