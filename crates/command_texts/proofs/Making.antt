@@ -75,7 +75,7 @@ of_fault OfTrace (Err (line, fault)) answer x = x
 pub stop_of_fault : (OfTrace : Trace → Answer → Type 0) (input : List ℕ) (stop : Stop) → IsStop (IsTraceFault input) stop → IsStop (IsTraceAnswer OfTrace input) stop
 stop_of_fault OfTrace input stop x = stop_as (IsTraceFault input) (IsTraceAnswer OfTrace input) stop (λ answer y. of_fault OfTrace (trace_of input) answer y) x
 
--- the answer and the stop that name the first fault of a script or a journal, by its title, whatever else is answered
+-- answers that name the first fault of a script or a journal, by its title, whatever the answer to its contents
 module _ {A : Type 0} (title : List ℕ) (IsOf : A → Answer → Type 0) (read : Result A (ℕ × ScriptKind)) where
   document_fault : (fault : ScriptFault) (answer : Answer) → documents.IsFirstFault fault read → TellsDocumentFault title fault answer → IsReadAnswer (fault_text title) IsOf read answer
   document_fault (document_faults.At line kind) answer first x = subst (λ r. IsReadAnswer (fault_text title) IsOf r answer) (sym first) x

@@ -12,7 +12,7 @@ pub record IsReportBy (slot : ℕ) (C : Config) (H : History) (report : LagRepor
   pub few : has_many_cells slot C H ≡ false
   pub report_is : report ≡ lag_report C H (slot_for C H slot)
 
--- the text of it
+-- the text of the report
 pub record IsReportText (slot : ℕ) (C : Config) (H : History) (tenants : List (List ℕ)) (text : List ℕ) : Type 0 where
   pub few : has_many_cells slot C H ≡ false
   pub text_is : text ≡ report_text C H tenants (slot_for C H slot)

@@ -33,8 +33,8 @@ OpensAs input head body = IsOpened (λ reader. document_of (codes "script") read
 abbrev pub told_text : Bool → List Reply → List ℕ
 told_text tells replies = if tells then replies_text replies else []
 
--- The calls were made in order on a scheduler that was just opened. This is kept of the replies, and the scheduler's
--- entries are then these, in order of time.
+-- The calls were made in order on a scheduler that was just opened. This text is kept of the replies, and these are
+-- the scheduler's entries, in order of time.
 pub record AreAnswered (C : Config) (tells : Bool) (calls : List Call) (text : List ℕ) (past : List Entry) : Type 0 where
   pub replies : List Reply
   pub outcome : Outcome C calls replies (history_of past)

@@ -12,7 +12,7 @@ use Rattle.fq_model.specs.declared.config.Policy.TheVariants.{Wfq}
 use Rattle.program_model.specs.declared.compare.CompareRow.{CompareRow}
 use Rattle.program_model.specs.Compare.{best, has_least_spread, spread}
 
--- stands past the end
+-- the row past the end
 abbrev pub no_row : CompareRow
 no_row = record { policy = Wfq; estimate = Declared; end = 0; entries = 0; least = pos 0; greatest = pos 0 }
 

@@ -42,7 +42,7 @@ fn add_row(alloc: Global, row: CompareRow, text: &mut Vec<u8>) -> Result<(), All
     text.extend_from_slice(lag.as_bytes())
 }
 
-// A policy and an estimator, when the last entry came, and how many there are.
+// A policy and an estimator, the moment of the last entry, and the number of entries.
 fn end_text(alloc: Global, row: CompareRow) -> Result<String, AllocError>
     ensures { IfOk result (λ text. string_bytes text ≡ end_text row) }
 {

@@ -18,7 +18,7 @@ use Rattle.fq_laws.proofs.Charge.Requests.{cost_none}
 use Rattle.lag_report.specs.declared.course.Course.{Course}
 use Rattle.lag_report.specs.Courses.{submitted, course_at, courses_after, courses_of, rows_after, rows_of, NamesOneOf, NamesSubmitted}
 
--- whose a request is, or 0
+-- the tenant of a request, or 0
 abbrev pub tenant_in : Option Request → ℕ
 tenant_in None = 0
 tenant_in (Some q) = q.tenant

@@ -129,7 +129,7 @@ selected samples before after at x z moved place split is = subst (λ y. StandsA
 holds_there : (P : ℤ → Type 0) (samples after : List ℤ) (at : ℕ) (x : ℤ) → StandsAt samples at x after → All P samples → P x
 holds_there P samples after at x stands all = All-contains P samples x all (Contains-permutation (stands.before ++ x ∷ after) samples x (IsPermutation-sym samples (stands.before ++ x ∷ after) stands.same) (Contains-append_right stands.before (x ∷ after) x (0, omega arith, refl)))
 
--- how many stand after it
+-- the number of samples after the place
 pub those_after : (samples after : List ℤ) (at : ℕ) (x : ℤ) → StandsAt samples at x after → at + 1 + length after ≡ length samples
 those_after samples after at x stands = omega (arith, stands.place, length-append stands.before (x ∷ after), length_permutation samples (stands.before ++ x ∷ after) stands.same)
 

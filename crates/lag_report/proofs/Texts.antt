@@ -13,7 +13,7 @@ use Rattle.lag_report.specs.Reports.{requests_of}
 use Rattle.lag_report.specs.Texts.{with_counts, with_totals, with_range}
 use Rattle.lag_report.proofs.Ranks.{least_at, greatest_at}
 
--- stands past the end
+-- the row past the end
 abbrev pub no_row : TenantLag
 no_row = record { weight = 0; requests = 0; charged = 0; fluid = 0; least = pos 0; p50 = pos 0; p90 = pos 0; p99 = pos 0; greatest = pos 0 }
 

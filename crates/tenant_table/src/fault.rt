@@ -20,7 +20,7 @@ pub enum NameFault {
     /// The number that has the name already.
     #[error("number {0} has the name already")]
     Twice(u32),
-    /// How many names there may be, which is how many there are.
+    /// The greatest number of names, which are there already.
     #[error("there are {0} names, and there may be no more")]
     TooMany(u32),
     /// There was no memory for the name.

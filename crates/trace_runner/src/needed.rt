@@ -35,7 +35,7 @@ fn planned(rows: &[TraceRow], refresh: u64) -> u64
     sum
 }
 
-// How many a request of this cost has: there is none at the cost itself, where the Done stands.
+// The number of Reports of a request of this cost: there is none at the cost itself, where the Done stands.
 #[tactic(auto, unfolding(program_model::specs::Courses::reports_below))]
 fn reports_below(refresh: u64, cost: u64) -> u64
     requires low { 1 ≤ cost }

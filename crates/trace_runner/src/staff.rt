@@ -8,7 +8,7 @@ use std::alloc::{AllocError, Global};
 use std::marker::Model;
 use winner_tree::{Key, Tree};
 
-/// The request that a worker serves, in microseconds.
+/// The work of a worker: the start, the cost and the next use of its request, in microseconds.
 #[derive(Clone, Copy)]
 pub struct Work {
     /// The moment of the Take.

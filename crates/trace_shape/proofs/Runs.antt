@@ -41,7 +41,7 @@ row_served T rate burst rows r lawful some small rows_are l =
 abbrev pub full_buckets : Trace → ℕ → List Bucket
 full_buckets T burst = replicate (length T.tenants) (full (1000 * burst))
 
--- the moments that buckets give which are full at first
+-- the moments of the rows, from buckets that are full at first
 abbrev pub told_moments : Trace → ℕ → ℕ → List ℕ
 told_moments T rate burst = moments_from T rate burst (full_buckets T burst) T.rows
 
@@ -153,7 +153,7 @@ taken_from T rate burst buckets row weights weight before after there weights_ar
     let heavy : weight ≡ slice_index T.weights row.tenant = weight_is ∙ ap (λ ws. slice_index ws row.tenant) weights_are in
     after_is ∙ ap (λ w. taken (rate * w) (1000 * burst) before row) heavy ∙ ap (λ b. taken (gain T rate row.tenant) (1000 * burst) b row) own
 
--- the moments of all rows are those that full buckets give
+-- the moments of all rows are those from full buckets
 pub all_told : (T : Trace) (rate burst : ℕ) (buckets : List Bucket) (moments : List ℕ) (r : ℕ) → Tells T rate burst buckets moments r → length T.rows ≤ r → moments ≡ told_moments T rate burst
 unfolding moments_from
 all_told T rate burst buckets moments r h past =

@@ -13,7 +13,7 @@ middle c z is =
     let found = c.select_nth_unstable-middle in
     selected c.args.samples.now found.result.0.now found.result.2.now c.place-p50_at.result found.result.1.now z found.ensures.permutation found.ensures.front_len found.ensures.partitioned is
 
--- how many stand after it
+-- the number of samples after the place
 beyond : (c : After-select_nth_unstable-middle) → c.place-p50_at.result + 1 + length c.select_nth_unstable-middle.result.2.now ≡ length c.args.samples.now
 beyond c = those_after c.args.samples.now c.select_nth_unstable-middle.result.2.now c.place-p50_at.result c.select_nth_unstable-middle.result.1.now (middle c _ refl)
 
