@@ -4,11 +4,10 @@ ghost use Rattle.compare_all.specs.declared.fault.CompareFault.TheVariants as fa
 
 use fq_model::limits::{MOST_CELLS, MOST_ENTRIES};
 use std::alloc::{AllocError, AllocFailed};
-use std::fmt;
 use thiserror::Error;
 
 /// Why the policies and estimators are not compared on a trace: the first reason, in the order of these variants.
-#[derive(Clone, Copy, PartialEq, Eq, Error)]
+#[derive(Clone, Copy, Debug, PartialEq, Eq, Error)]
 pub enum CompareFault {
     /// Each history would have this number of entries; there may be 4,194,304.
     #[error("each history would have {0} entries, and there may be {MOST_ENTRIES}")]
@@ -19,13 +18,6 @@ pub enum CompareFault {
     /// Memory ran out.
     #[error("out of memory")]
     NoMemory,
-}
-
-// A failed `unwrap` or assertion then tells the message.
-impl fmt::Debug for CompareFault {
-    fn fmt<W: fmt::Write>(&self, f: &mut fmt::Formatter<W>) -> fmt::Result {
-        fmt::Display::fmt(self, f)
-    }
 }
 
 impl From<AllocError> for CompareFault {

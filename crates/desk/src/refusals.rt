@@ -5,10 +5,9 @@ ghost use Rattle.desk.specs.Replies.{live_cause, done_cause, IsLive, IsEnding};
 use crate::desk::MOST_SUBMITTERS;
 use fq_model::event::Cause;
 use fq_model::limits::GREATEST_COST;
-use std::fmt;
 
 /// Why a desk is not opened.
-#[derive(Clone, Copy, thiserror::Error)]
+#[derive(Clone, Copy, Debug, thiserror::Error)]
 pub enum OpenFault {
     /// The number of submitters, which may be 1 to `MOST_SUBMITTERS`.
     #[error("{0} submitters, and there may be 1 to {MOST_SUBMITTERS}")]
@@ -17,15 +16,8 @@ pub enum OpenFault {
     NoMemory,
 }
 
-// A failed `unwrap` or assertion then tells the message.
-impl fmt::Debug for OpenFault {
-    fn fmt<W: fmt::Write>(&self, f: &mut fmt::Formatter<W>) -> fmt::Result {
-        fmt::Display::fmt(self, f)
-    }
-}
-
 /// Why a report is refused. Uses are microseconds.
-#[derive(Clone, Copy, PartialEq, Eq, thiserror::Error)]
+#[derive(Clone, Copy, Debug, PartialEq, Eq, thiserror::Error)]
 pub enum LiveRefusal {
     /// A use above the greatest cost.
     #[error("a use of {0} microseconds, and it may be up to {GREATEST_COST}")]
@@ -38,15 +30,8 @@ pub enum LiveRefusal {
     Full(u32),
 }
 
-// A failed `unwrap` or assertion then tells the message.
-impl fmt::Debug for LiveRefusal {
-    fn fmt<W: fmt::Write>(&self, f: &mut fmt::Formatter<W>) -> fmt::Result {
-        fmt::Display::fmt(self, f)
-    }
-}
-
 /// Why a completion is refused. Costs are microseconds.
-#[derive(Clone, Copy, PartialEq, Eq, thiserror::Error)]
+#[derive(Clone, Copy, Debug, PartialEq, Eq, thiserror::Error)]
 pub enum DoneRefusal {
     /// A cost above the greatest one.
     #[error("a cost of {0} microseconds, and it may be up to {GREATEST_COST}")]
@@ -54,13 +39,6 @@ pub enum DoneRefusal {
     /// A cost below the greatest use reported.
     #[error("a cost of {given} microseconds, after a use of {last} was reported")]
     Falling { last: u64, given: u64 },
-}
-
-// A failed `unwrap` or assertion then tells the message.
-impl fmt::Debug for DoneRefusal {
-    fn fmt<W: fmt::Write>(&self, f: &mut fmt::Formatter<W>) -> fmt::Result {
-        fmt::Display::fmt(self, f)
-    }
 }
 
 pub(crate) fn live_refusal(cause: Cause) -> LiveRefusal

@@ -107,7 +107,7 @@ pub struct Config {
 }
 
 /// The first number of a configuration that is out of its limit, in the order of these variants.
-#[derive(Clone, Copy, PartialEq, Eq)]
+#[derive(Clone, Copy, Debug, PartialEq, Eq)]
 pub enum ConfigFault {
     /// So many workers; there may be 1 to 64.
     Workers(u32),
@@ -185,13 +185,6 @@ impl fmt::Display for ConfigFault {
 }
 
 impl Error for ConfigFault {}
-
-// A failed `unwrap` or assertion then tells the message.
-impl fmt::Debug for ConfigFault {
-    fn fmt<W: fmt::Write>(&self, f: &mut fmt::Formatter<W>) -> fmt::Result {
-        fmt::Display::fmt(self, f)
-    }
-}
 
 /// A configuration whose numbers are in their limits. Its history may be long, unless `Config::check` made it.
 #[derive(Drop)]

@@ -60,7 +60,7 @@ pub struct Entry {
 }
 
 /// Why a call is refused, with the numbers concerned.
-#[derive(Clone, Copy, PartialEq, Eq)]
+#[derive(Clone, Copy, Debug, PartialEq, Eq)]
 pub enum Cause {
     /// The history is closed.
     Closed,
@@ -142,13 +142,6 @@ impl fmt::Display for Cause {
 }
 
 impl Error for Cause {}
-
-// A failed `unwrap` or assertion then tells the message.
-impl fmt::Debug for Cause {
-    fn fmt<W: fmt::Write>(&self, f: &mut fmt::Formatter<W>) -> fmt::Result {
-        fmt::Display::fmt(self, f)
-    }
-}
 
 /// What a scheduler is asked. `who` is the caller's number, which is written down and not looked at;
 /// `moment` is the caller's clock in microseconds, and may be any number.

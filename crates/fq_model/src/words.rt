@@ -8,7 +8,7 @@ use std::fmt;
 use std::str::FromStr;
 
 /// The word names no policy, or no estimator.
-#[derive(Clone, Copy)]
+#[derive(Clone, Copy, Debug)]
 pub struct UnknownWord;
 
 impl fmt::Display for UnknownWord {
@@ -18,13 +18,6 @@ impl fmt::Display for UnknownWord {
 }
 
 impl Error for UnknownWord {}
-
-// A failed `unwrap` or assertion then tells the message.
-impl fmt::Debug for UnknownWord {
-    fn fmt<W: fmt::Write>(&self, f: &mut fmt::Formatter<W>) -> fmt::Result {
-        fmt::Display::fmt(self, f)
-    }
-}
 
 impl FromStr for Policy {
     type Err = UnknownWord;

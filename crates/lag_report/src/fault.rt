@@ -6,11 +6,10 @@ ghost use Rattle.lag_report.specs.Faults.{fault_from};
 use fluid_reference::fault::FluidFault;
 use fq_model::limits::MOST_CELLS;
 use std::alloc::AllocError;
-use std::fmt;
 use thiserror::Error;
 
 /// Why there is no report of a history.
-#[derive(Clone, Copy, PartialEq, Eq, Error)]
+#[derive(Clone, Copy, Debug, PartialEq, Eq, Error)]
 pub enum ReportFault {
     /// This request, the least of its kind, waits or runs, so that its cost is not known.
     #[error("request {0} is not done")]
@@ -21,13 +20,6 @@ pub enum ReportFault {
     /// Memory ran out.
     #[error("out of memory")]
     NoMemory,
-}
-
-// A failed `unwrap` or assertion then tells the message.
-impl fmt::Debug for ReportFault {
-    fn fmt<W: fmt::Write>(&self, f: &mut fmt::Formatter<W>) -> fmt::Result {
-        fmt::Display::fmt(self, f)
-    }
 }
 
 impl From<AllocError> for ReportFault {

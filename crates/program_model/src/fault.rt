@@ -5,7 +5,7 @@ use std::error::Error;
 use std::fmt;
 
 /// What is wrong with a line of a script or a journal.
-#[derive(Clone, Copy, PartialEq, Eq)]
+#[derive(Clone, Copy, Debug, PartialEq, Eq)]
 pub enum ScriptKind {
     /// The first line is not `script` or, for a journal, `journal`, with 1, 2 or 3 behind it.
     Header,
@@ -59,15 +59,8 @@ impl fmt::Display for ScriptKind {
 
 impl Error for ScriptKind {}
 
-// A failed `unwrap` or assertion then tells the message.
-impl fmt::Debug for ScriptKind {
-    fn fmt<W: fmt::Write>(&self, f: &mut fmt::Formatter<W>) -> fmt::Result {
-        fmt::Display::fmt(self, f)
-    }
-}
-
 /// What is wrong with a record of a trace.
-#[derive(Clone, Copy, PartialEq, Eq)]
+#[derive(Clone, Copy, Debug, PartialEq, Eq)]
 pub enum TraceKind {
     /// A field is not UTF-8.
     NotUtf8,
@@ -122,10 +115,3 @@ impl fmt::Display for TraceKind {
 }
 
 impl Error for TraceKind {}
-
-// A failed `unwrap` or assertion then tells the message.
-impl fmt::Debug for TraceKind {
-    fn fmt<W: fmt::Write>(&self, f: &mut fmt::Formatter<W>) -> fmt::Result {
-        fmt::Display::fmt(self, f)
-    }
-}

@@ -4,11 +4,10 @@ ghost use Rattle.tenant_table.specs.declared.fault.NameFault.TheVariants.{NoMemo
 
 use fq_model::limits::GREATEST_WEIGHT;
 use std::alloc::AllocError;
-use std::fmt;
 use thiserror::Error;
 
 /// The first reason, in the order of these variants, for which a name is not added.
-#[derive(Clone, Copy, PartialEq, Eq, Error)]
+#[derive(Clone, Copy, Debug, PartialEq, Eq, Error)]
 pub enum NameFault {
     /// It is not a name: it has not 1 to 64 bytes, or one of them is no ASCII letter, digit, `_`, `-`
     /// or `.`.
@@ -26,13 +25,6 @@ pub enum NameFault {
     /// There was no memory for the name.
     #[error("out of memory")]
     NoMemory,
-}
-
-// A failed `unwrap` or assertion then tells the message.
-impl fmt::Debug for NameFault {
-    fn fmt<W: fmt::Write>(&self, f: &mut fmt::Formatter<W>) -> fmt::Result {
-        fmt::Display::fmt(self, f)
-    }
 }
 
 impl From<AllocError> for NameFault {

@@ -8,11 +8,10 @@ ghost use Rattle.trace_reader.specs.Reading.{fault_at};
 use fq_model::limits::{MOST_ROWS, MOST_TENANTS};
 use program_model::fault::TraceKind;
 use std::alloc::{AllocError, AllocFailed};
-use std::fmt;
 use thiserror::Error;
 
 /// Why a trace was not read.
-#[derive(Clone, Copy, PartialEq, Eq, Error)]
+#[derive(Clone, Copy, Debug, PartialEq, Eq, Error)]
 pub enum TraceFault {
     /// The first fault: the number of its record, counted from 1, and the kind of the fault.
     #[error("line {line}: {kind}")]
@@ -20,13 +19,6 @@ pub enum TraceFault {
     /// Memory ran out.
     #[error("out of memory")]
     NoMemory,
-}
-
-// A failed `unwrap` or assertion then tells the message.
-impl fmt::Debug for TraceFault {
-    fn fmt<W: fmt::Write>(&self, f: &mut fmt::Formatter<W>) -> fmt::Result {
-        fmt::Display::fmt(self, f)
-    }
 }
 
 impl From<AllocError> for TraceFault {
@@ -38,7 +30,7 @@ impl From<AllocError> for TraceFault {
 }
 
 /// Why a trace was not generated: the first reason, in the order of these variants.
-#[derive(Clone, Copy, PartialEq, Eq, Error)]
+#[derive(Clone, Copy, Debug, PartialEq, Eq, Error)]
 pub enum GenFault {
     /// How many tenants were asked for, which is not from 1 to 4,096.
     #[error("the number of tenants {0} is not from 1 to {MOST_TENANTS}")]
@@ -51,13 +43,6 @@ pub enum GenFault {
     NoMemory,
 }
 
-// A failed `unwrap` or assertion then tells the message.
-impl fmt::Debug for GenFault {
-    fn fmt<W: fmt::Write>(&self, f: &mut fmt::Formatter<W>) -> fmt::Result {
-        fmt::Display::fmt(self, f)
-    }
-}
-
 impl From<AllocError> for GenFault {
     ghost from_gives = { λ _ fault. fault ≡ gen_faults.NoMemory };
 
@@ -67,7 +52,7 @@ impl From<AllocError> for GenFault {
 }
 
 /// Why a record was not read.
-#[derive(Clone, Copy, Error)]
+#[derive(Clone, Copy, Debug, Error)]
 pub(crate) enum RecordError {
     /// The record's first fault.
     #[error("{0}")]
@@ -75,13 +60,6 @@ pub(crate) enum RecordError {
     /// Memory ran out.
     #[error("out of memory")]
     NoMemory,
-}
-
-// A failed `unwrap` or assertion then tells the message.
-impl fmt::Debug for RecordError {
-    fn fmt<W: fmt::Write>(&self, f: &mut fmt::Formatter<W>) -> fmt::Result {
-        fmt::Display::fmt(self, f)
-    }
 }
 
 impl RecordError {

@@ -4,10 +4,9 @@ ghost use Rattle.trace_runner.specs.declared.fault.SimFault.TheVariants as fault
 
 use fq_model::limits::MOST_ENTRIES;
 use std::alloc::AllocError;
-use std::fmt;
 
 /// Why a trace is not simulated.
-#[derive(Clone, Copy, PartialEq, Eq, thiserror::Error)]
+#[derive(Clone, Copy, Debug, PartialEq, Eq, thiserror::Error)]
 pub enum SimFault {
     /// The history would have this number of entries; there may be 4,194,304.
     #[error("the history would have {0} entries, and there may be {MOST_ENTRIES}")]
@@ -15,13 +14,6 @@ pub enum SimFault {
     /// There was no memory.
     #[error("out of memory")]
     NoMemory,
-}
-
-// A failed `unwrap` or assertion then tells the message.
-impl fmt::Debug for SimFault {
-    fn fmt<W: fmt::Write>(&self, f: &mut fmt::Formatter<W>) -> fmt::Result {
-        fmt::Display::fmt(self, f)
-    }
 }
 
 impl From<AllocError> for SimFault {

@@ -4,11 +4,10 @@ ghost use Rattle.trace_shape.specs.declared.fault.ShapeFault.TheVariants as faul
 
 use fq_model::limits::GREATEST_TRACE_MOMENT;
 use std::alloc::{AllocError, AllocFailed};
-use std::fmt;
 use thiserror::Error;
 
 /// Why a trace is not shaped: the first reason, in the order of these variants.
-#[derive(Clone, Copy, PartialEq, Eq, Error)]
+#[derive(Clone, Copy, Debug, PartialEq, Eq, Error)]
 pub enum ShapeFault {
     /// The number of the first row that declares more than a full bucket holds. It could never come.
     #[error("request {0} declares more than a bucket holds")]
@@ -19,13 +18,6 @@ pub enum ShapeFault {
     /// Memory ran out.
     #[error("out of memory")]
     NoMemory,
-}
-
-// A failed `unwrap` or assertion then tells the message.
-impl fmt::Debug for ShapeFault {
-    fn fmt<W: fmt::Write>(&self, f: &mut fmt::Formatter<W>) -> fmt::Result {
-        fmt::Display::fmt(self, f)
-    }
 }
 
 impl From<AllocError> for ShapeFault {
