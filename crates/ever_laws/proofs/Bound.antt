@@ -1,4 +1,4 @@
--- What one tenant has at most is never far above the ground of another.
+-- The most of one tenant is never far above the ground of another.
 use Rattle.std.proofs.Common.{ℕ, ◌+◌, ◌*◌, ◌/◌, ◌≤◌, ◌≡◌, ◌≢◌, max, refl, sym, arith, inl, inr, [], ◌∷◌, Option, Some, None, ℤ, pos, ◌≤ℤ◌}
 use Rattle.std.specs.Prelude.{◌-ℤ◌, ◌+ℤ◌}
 use Rattle.std.proofs.lemmas.Int.{ints}
@@ -25,13 +25,13 @@ not_more most most2 ground ground2 z before less rises = omega (arith, ints, bef
 
 -- ---- a request that comes to f
 
--- (its start is virtual time, which does not pass the cap s, or what it was)
+-- (its start is virtual time, which does not pass the cap s, or its start before)
 raised : (x2 x u2 u v s k a : ℕ) (z ground ground2 : ℤ) → x2 ≡ max v x → u2 ≡ u → v ≤ s → pos (s + k) ≤ℤ (ground2 +ℤ (z +ℤ pos a)) → u2 + a ≤ k → ground ≤ℤ ground2 → (pos (x + u) -ℤ ground) ≤ℤ z → (pos (x2 + u2) -ℤ ground2) ≤ℤ z
 raised x2 x u2 u v s k a z ground ground2 starts rises capped reach less higher before = omega (arith, ints, starts, rises, capped, reach, less, higher, before)
 
 -- ---- a request of f that is taken
 
--- (starts of f and g, what f may rise by and g may fall by, and what runs of both, before it; the ground of g after)
+-- (starts, the possible rise of f and fall of g, and running lengths of both, before it; the ground of g after)
 take_waiting : (x u k y d l n M part most2 : ℕ) (ground : ℤ) → most2 ≡ x + u + M → x + 1 ≤ y + M → u ≤ k → d ≤ l → k + l + M ≤ n * M → (pos y -ℤ pos d) ≤ℤ ground → (pos most2 -ℤ ground) ≤ℤ (pos ((n + n / 2 + 1) * M + part) -ℤ pos 1)
 take_waiting x u k y d l n M part most2 ground more ahead rise fall free low = omega (arith, ints, more, ahead, rise, fall, free, low)
 

@@ -1,4 +1,4 @@
--- The cap stays near the grounds of two tenants, by what of both ran when it was reached.
+-- The cap stays near the grounds of two tenants, by the requests of both that ran when it was reached.
 use Rattle.std.proofs.Common.{ℕ, ◌+◌, ◌*◌, ◌≤◌, ◌≡◌, ◌≢◌, arith, inl, inr, [], ◌∷◌, ℤ, pos, ◌≤ℤ◌}
 use Rattle.std.specs.Prelude.{◌-ℤ◌, ◌+ℤ◌}
 use Rattle.std.proofs.lemmas.Int.{ints}
@@ -18,11 +18,11 @@ use Rattle.ever_laws.proofs.Near.{cap_nil, finish_near}
 use Rattle.ever_laws.proofs.Running.{counted, none_run}
 use Rattle.ever_laws.proofs.Takes.{Taken, cap_change, within_older}
 
--- the cap is above the ground of t by no more than one request more than so many, and a part
+-- the cap is above the ground of t by no more than k + 1 requests, and a part
 abbrev pub IsNear : Config → History → ℕ → ℕ → ℕ → Type 0
 IsNear C P t M k = pos (pace C P).reached ≤ℤ (ground M C P t +ℤ pos ((k + 1) * M + greatest_part C M))
 
--- and those of two tenants are together less than there are workers
+-- and the numbers k of two tenants are together less than there are workers
 pub record AreNear (C : Config) (P : History) (f g M : ℕ) : Type 0 where
   pub of_f : ℕ
   pub of_g : ℕ
@@ -42,7 +42,7 @@ still_near s s2 all ground ground2 low same rises = omega (arith, ints, low, sam
 reached_near : (s2 f k a M part : ℕ) (ground : ℤ) → s2 ≡ f → k ≡ a * M → pos f ≤ℤ (ground +ℤ pos (k + M + part)) → pos s2 ≤ℤ (ground +ℤ pos ((a + 1) * M + part))
 reached_near s2 f k a M part ground is counts low = omega (arith, ints, is, counts, low)
 
--- one entry on, where the cap stays and where it is raised to the finish of what is taken
+-- one entry on, where the cap stays and where it is raised to the finish of the taken request
 stay_near : (C : Config) (P : History) (e : Entry) (f g M : ℕ) → IsPacedWithin C (e ∷ P) M → (pace C (e ∷ P)).reached ≡ (pace C P).reached → AreNear C P f g M → AreNear C (e ∷ P) f g M
 stay_near C P e f g M is same near = record {
   of_f = near.of_f;

@@ -1,4 +1,4 @@
--- What is computed on a short history.
+-- The premises of the bounds, and the values in them, computed on a short history.
 use Rattle.std.proofs.Common.{ℕ, ◌+◌, ◌≤◌, ◌≡◌, true, refl, subst, arith, pos}
 use Rattle.std.specs.Prelude.{◌-ℤ◌}
 use Rattle.vt_fixed.specs.Rounding.{length_of}

@@ -1,4 +1,4 @@
--- How often a tenant is taken while the head of another waits, and what it gains while both wait.
+-- How often a tenant is taken while the head of another waits, and its gain while both wait.
 use Rattle.std.proofs.Common.{ℕ, ◌+◌, ◌*◌, ◌/◌, ◌≤◌, ◌≡◌, ◌≢◌, ◌∙◌, true, refl, sym, ap, subst, arith, inl, inr, ◌⊎◌, [], ◌∷◌, ◌++◌, Option, Some, None, ℤ, pos, ◌≤ℤ◌, append_assoc}
 use Rattle.std.specs.Prelude.{◌-ℤ◌, ◌+ℤ◌}
 use Rattle.std.specs.Int.{int_max}
@@ -27,7 +27,7 @@ use Rattle.ever_laws.proofs.Bound.{lead_bounded}
 use Rattle.ever_laws.proofs.Entries.{raises_of, stays, comes, starts_at}
 use Rattle.ever_laws.proofs.Takes.{within_older}
 
--- ---- what is known of a history is known of its prefixes
+-- ---- the premises of a history hold of its prefixes
 
 is_take_at : (t : ℕ) (P : History) (a : Act) (i : ℕ) → takes_of t P a ≡ Some i → is_take a ≡ true
 is_take_at t P (Take w q c) i some = refl
@@ -69,7 +69,7 @@ none_taken C P who m f (Take w q c) l none = elim (cases_Bool (is_of_tenant f (r
 ]
 none_taken C P who m f a l none = refl
 
--- so what it is charged, if all that runs of it turns out as long as it may, does not rise
+-- so its virtual charge, with the possible rise of its running requests, does not rise
 unraised : (v v2 b b2 x x2 u u2 : ℕ) → x ≡ v + b → x2 ≡ v2 + b2 → b ≤ b2 → x2 + u2 ≤ x + u → v2 + u2 ≤ v + u
 unraised v v2 b b2 x x2 u u2 old new bases most = omega (arith, old, new, bases, most)
 
@@ -83,7 +83,7 @@ charge_falls C P e f M is none = elim (cases_Bool (raises_of P f e.act)) [
 abbrev pub IsUncharged : Config → History → History → ℕ → ℕ → Type 0
 IsUncharged C S P f M = virtual_charge C P f + may_rise (longest M) C P f ≤ virtual_charge C S f + may_rise (longest M) C S f
 
--- of the newer entries the first ones take nothing of f, and then f waits
+-- the first of the newer entries take no request of f, and then f waits
 pub record Waits (C : Config) (newer S : History) (f M : ℕ) : Type 0 where
   pub later : History
   pub mid : History
@@ -93,7 +93,7 @@ pub record Waits (C : Config) (newer S : History) (f M : ℕ) : Type 0 where
   pub same : takes_after f newer S ≡ takes_after f later (mid ++ S)
   pub uncharged : IsUncharged C S (mid ++ S) f M
 
--- or all of them take nothing of it
+-- or all of them take no request of f
 pub record WaitsNot (C : Config) (newer S : History) (f M : ℕ) : Type 0 where
   pub none : head (newer ++ S) f ≡ None
   pub untaken : takes_after f newer S ≡ 0

@@ -1,4 +1,4 @@
--- What an entry makes of virtual time, of the cap, and of where one tenant stands, under 2dfq+.
+-- The changes of virtual time, of the cap and of one tenant at an entry, under 2dfq+.
 use Rattle.std.proofs.Common.{ℕ, ◌+◌, ◌-◌, ◌≤◌, ◌≡◌, ◌==◌, ◌&&◌, ◌∙◌, max, cond, Bool, true, false, not, ◌||◌, refl, sym, arith, [], ◌∷◌, Option, Some, None}
 use Rattle.std.specs.Prelude.{is_none}
 use Rattle.std.proofs.lemmas.Bool.{and_parts, false≢true}
@@ -47,7 +47,7 @@ pub record Stays (C : Config) (P Q : History) (t M : ℕ) : Type 0 where
 taken_less : (own : Bool) (old new M : ℕ) → own ≡ false → new ≡ old + cond own M 0 → new ≤ old
 taken_less own old new M is e = let k : new ≡ old + 0 = rw is at e in omega (arith, k)
 
--- nothing is taken of a tenant whose request it is not
+-- where an act takes no request of the tenant, its request is of another tenant
 not_own : (w : ℕ) (own : Bool) → cond own (Some w) None ≡ None → own ≡ false
 not_own w true h = absurd (cc)
 not_own w false h = refl
@@ -61,7 +61,7 @@ runs_at C P who m t M (Done w q cost) l none = omega (arith, over_finished (full
 runs_at C P who m t M (Withdraw q) l none = omega (arith, over_withdraw (full M) C P who m t q)
 runs_at C P who m t M a l none = omega (arith, over_quiet (full M) C P who m t a refl)
 
--- the act does not raise the tag of t
+-- the act raises the tag of t: it submits a request of t while none waits
 abbrev pub raises_of : History → ℕ → Act → Bool
 raises_of P t a = is_submit_for t a && is_none (head P t)
 
@@ -75,7 +75,7 @@ less_waits false gone removed h = refl
 less_waits true true removed h = refl
 less_waits true false removed h = h
 
--- where nothing waits of a tenant nothing does after a Withdraw
+-- where no request of a tenant waits, none does after a Withdraw
 none_after : (P : History) (who m t q : ℕ) → head P t ≡ None → head (one_more who m (Withdraw q) P) t ≡ None
 unfolding head waits_for is_removed
 none_after P who m t q is = least_by (waits_for (one_more who m (Withdraw q) P) t) request_bound None

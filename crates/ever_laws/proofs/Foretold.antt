@@ -1,4 +1,4 @@
--- What limits of costs and weights say of all lengths.
+-- Bounds of all lengths by limits of costs and weights.
 use Rattle.std.proofs.Common.{ℕ, ◌≤◌, ◌<◌, ◌≡◌, refl, arith, [], ◌∷◌, Option, Some, None, length}
 use Rattle.std.proofs.lemmas.Bool.{and_parts}
 use Rattle.vt_fixed.specs.Rounding.{length_of}

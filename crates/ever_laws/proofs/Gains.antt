@@ -1,4 +1,4 @@
--- What one tenant gains on another while both wait.
+-- The gain of one tenant on another while both wait.
 use Rattle.std.proofs.Common.{ℕ, ◌+◌, ◌*◌, ◌/◌, ◌≤◌, ◌≡◌, true, refl, sym, subst, arith, [], ℤ, pos, ◌≤ℤ◌}
 use Rattle.std.specs.Prelude.{◌-ℤ◌, ◌+ℤ◌}
 use Rattle.std.specs.Int.{int_max}
@@ -17,7 +17,7 @@ use Rattle.ever_laws.proofs.Counts.{no_longer, within_earlier}
 use Rattle.ever_laws.proofs.Grounds.{runs_within}
 use Rattle.ever_laws.proofs.Running.{two_run}
 
--- (starts of the two at P, what may be added to them and taken from them, what runs of them, and the accounts at P and
+-- (starts of the two at P, their possible rises and falls, their running lengths, and the accounts at P and
 -- at Q)
 gained : (sf sg rf rg lf lg kf kg all M : ℕ) (lead_q most_q least_q f_p f_q g_p g_q z : ℤ) → lead_q ≤ℤ int_max (pos (sf + rf) -ℤ (pos sg -ℤ pos lg)) (pos (all + M) -ℤ pos 1) → (most_q -ℤ least_q) ≡ lead_q → f_q ≤ℤ most_q → least_q ≤ℤ g_q → (pos sf -ℤ pos lf) ≤ℤ f_p → g_p ≤ℤ pos (sg + rg) → (pos (sg + rg) -ℤ (pos sf -ℤ pos lf)) ≤ℤ z → rf + lf ≡ kf → rg + lg ≡ kg → kf + kg ≤ all → pos 0 ≤ℤ z → ((f_q -ℤ f_p) -ℤ (g_q -ℤ g_p)) ≤ℤ (pos (all + M) +ℤ z)
 gained sf sg rf rg lf lg kf kg all M lead_q most_q least_q f_p f_q g_p g_q z low is fq gq fp gp back one two runs some = omega (arith, ints, clamps, low, is, fq, gq, fp, gp, back, one, two, runs, some)

@@ -1,4 +1,4 @@
--- What a tenant has at least, and its ground, never fall.
+-- The least of a tenant, and its ground, never fall.
 use Rattle.std.proofs.Common.{ℕ, ◌+◌, ◌*◌, ◌≤◌, ◌≡◌, max, refl, arith, inl, inr, ◌∷◌, Option, Some, None, ℤ, pos, ◌≤ℤ◌}
 use Rattle.std.specs.Prelude.{◌-ℤ◌}
 use Rattle.std.proofs.lemmas.Int.{ints, clamps}
@@ -17,9 +17,9 @@ use Rattle.ever_laws.proofs.Entries.{time_rises}
 use Rattle.ever_laws.proofs.Running.{rise_and_fall, two_run}
 use Rattle.ever_laws.proofs.Takes.{change, within_older}
 
--- ---- what runs
+-- ---- running requests
 
--- what runs of a tenant may rise, and fall, by no more than M for each request
+-- the possible rise and fall of a tenant's running requests are together M for each of these, and M a worker at most
 pub record RunsWithin (C : Config) (P : History) (t M : ℕ) : Type 0 where
   pub parts : may_rise (longest M) C P t + may_fall nothing C P t ≡ running_length M C P t
   pub all : running_length M C P t ≤ C.workers * M
@@ -27,7 +27,7 @@ pub record RunsWithin (C : Config) (P : History) (t M : ℕ) : Type 0 where
 pub runs_within : (C : Config) (P : History) (t M : ℕ) → IsPacedWithin C P M → RunsWithin C P t M
 runs_within C P t M is = record { parts = rise_and_fall C P t M is.legal (is.lengths.requests t); all = omega (arith, two_run C P t (t + 1) M (λ e. omega (arith, e))) }
 
--- ---- what it has at least
+-- ---- the least of a tenant
 
 -- in numbers
 pub least_on : (C : Config) (P : History) (e : Entry) (t : ℕ) → InLimits C → IsLegal C (e ∷ P) → start_now C P t + may_fall nothing C (e ∷ P) t ≤ start_now C (e ∷ P) t + may_fall nothing C P t
@@ -36,9 +36,9 @@ least_on C P e t lim l = least_at C P e.who e.moment t nothing e.act lim l (λ Q
 pub least_rises : LeastRises
 least_rises C P e t lim l = omega (arith, ints, least_on C P e t lim l)
 
--- ---- its ground
+-- ---- the ground of a tenant
 
--- it is at least that
+-- the ground is no less than the least
 pub ground_low : (o : Option ℕ) (least coming : ℤ) → least ≤ℤ ground_for o least coming
 ground_low None least coming = omega (arith, ints, clamps)
 ground_low (Some r) least coming = omega (arith, ints)
@@ -47,7 +47,7 @@ from_some : (o : Option ℕ) (x d x2 d2 : ℕ) (coming : ℤ) → x + d2 ≤ x2 
 from_some None x d x2 d2 coming low = omega (arith, ints, clamps, low)
 from_some (Some r) x d x2 d2 coming low = omega (arith, ints, low)
 
--- (start, what may be taken from it, what runs and virtual time, before and after)
+-- (start, its possible fall, running length and virtual time, before and after)
 on_staying : (o o2 : Option ℕ) (x d k v x2 d2 k2 v2 : ℕ) → x + d2 ≤ x2 + d → k2 ≤ k → v ≤ v2 → (o ≡ None → o2 ≡ None) → ground_for o (pos x -ℤ pos d) (pos v -ℤ pos k) ≤ℤ ground_for o2 (pos x2 -ℤ pos d2) (pos v2 -ℤ pos k2)
 on_staying (Some r) o2 x d k v x2 d2 k2 v2 low runs time still = from_some o2 x d x2 d2 _ low
 on_staying None o2 x d k v x2 d2 k2 v2 low runs time still = rw (still refl) (omega (arith, ints, clamps, low, runs, time))

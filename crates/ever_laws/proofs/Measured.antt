@@ -1,4 +1,4 @@
--- What the greatest length in a history bounds.
+-- Bounds by the greatest length in a history.
 use Rattle.std.proofs.Common.{ℕ, ◌+◌, ◌-◌, ◌<◌, ◌≤◌, ◌≡◌, ◌≢◌, max, refl, arith, [], ◌∷◌, ◌++◌, true, Option, Some, None, length, ℤ, pos, ◌≤ℤ◌}
 use Rattle.std.specs.Prelude.{◌-ℤ◌}
 use Rattle.std.proofs.lemmas.Bool.{and_parts}
@@ -31,7 +31,7 @@ head_covered C [] [] t = omega arith
 head_covered C [] (e ∷ P) t = omega arith
 head_covered C (e ∷ newer) P t = omega (arith, head_covered C newer P t)
 
--- what bounds the requests of each tenant of the configuration
+-- the greatest length bounds the requests of each tenant of the configuration
 tenant_covered : (C : Config) (H : History) (t : ℕ) → t < length C.weights → longest_request C H t ≤ longest_of_all C H
 unfolding longest_of_all
 tenant_covered C H t known = omega (arith, max_covers (longest_request C H) t (length C.weights) known)

@@ -1,4 +1,4 @@
--- The cap stays near virtual time, and both stay near what tenants have at most and at least.
+-- The cap stays near virtual time, and both stay near the most and the least of tenants.
 use Rattle.std.proofs.Common.{ℕ, ◌+◌, ◌≤◌, ◌≡◌, refl, ap, arith, inl, inr, [], ◌∷◌, Option, Some, None, ℤ, pos, ◌≤ℤ◌}
 use Rattle.std.specs.Prelude.{◌-ℤ◌, ◌+ℤ◌}
 use Rattle.std.proofs.lemmas.Int.{ints, clamps}
@@ -35,7 +35,7 @@ cap_near C (e ∷ P) M is =
       | inr x ↦ (let n = x.1 in omega (arith, before, time, n.cap_is, n.lifted, n.len_high))
     ]
 
--- ---- what a tenant has at most
+-- ---- the most of a tenant
 
 pub start_nil : (C : Config) (t M : ℕ) → IsPacedWithin C [] M → start_now C [] t ≡ 0
 start_nil C t M is = omega (arith, starts_at C [] t is.policy, virtual_charge_nil C t, base_nil C t)
@@ -60,14 +60,14 @@ most_near C H t M is = omega (arith, ints, most_near_in C H t M is)
 
 -- ---- the cap and the ground of a tenant
 
--- (the finish of what is taken; the start of t and what of it runs, before; its ground after)
+-- (the finish of the taken request; the start of t, its possible fall and running length, before; its ground after)
 near_waiting : (f x d k part M : ℕ) (ground : ℤ) → f ≤ x + M + part → d ≤ k → (pos x -ℤ pos d) ≤ℤ ground → pos f ≤ℤ (ground +ℤ pos (k + M + part))
 near_waiting f x d k part M ground finish less low = omega (arith, ints, finish, less, low)
 
 near_away : (f x v k part M : ℕ) (ground : ℤ) → x ≤ v + part → f ≤ x + M → (pos v -ℤ pos k) ≤ℤ ground → pos f ≤ℤ (ground +ℤ pos (k + M + part))
 near_away f x v k part M ground lifted finish low = omega (arith, ints, lifted, finish, low)
 
--- where t does not wait, its ground after a Take is at least virtual time less what runs
+-- where t does not wait, its ground after a Take is at least virtual time less its running length
 coming_low : (o o2 : Option ℕ) (least : ℤ) (v k k2 : ℕ) → o ≡ None → (o ≡ None → o2 ≡ None) → k2 ≤ k → (pos v -ℤ pos k) ≤ℤ ground_for o2 least (pos v -ℤ pos k2)
 coming_low o o2 least v k k2 none still runs = rw (still none) (omega (arith, ints, clamps, runs))
 
@@ -83,14 +83,14 @@ away_low C P e t M is none = elim (change C P e t M is) [
   ]
 ]
 
--- its ground after an entry is at least what it had before
+-- its ground after an entry is at least its least before
 pub least_below : (C : Config) (P : History) (e : Entry) (t M : ℕ) → IsPacedWithin C (e ∷ P) M → (pos (start_now C P t) -ℤ pos (may_fall nothing C P t)) ≤ℤ ground M C (e ∷ P) t
 least_below C P e t M is = below (start_now C P t) (may_fall nothing C P t) (start_now C (e ∷ P) t) (may_fall nothing C (e ∷ P) t) _ (least_on C P e t is.limits is.legal) (ground_low (head (e ∷ P) t) _ _)
   where
     below : (x d x2 d2 : ℕ) (ground : ℤ) → x + d2 ≤ x2 + d → (pos x2 -ℤ pos d2) ≤ℤ ground → (pos x -ℤ pos d) ≤ℤ ground
     below x d x2 d2 ground low k = omega (arith, ints, low, k)
 
--- a Take of u leaves the finish of what it takes near the ground of t
+-- a Take of u leaves the finish of its request near the ground of t
 pub finish_near : (C : Config) (P : History) (e : Entry) (t u M : ℕ) → IsPacedWithin C (e ∷ P) M → (n : Taken C P (e ∷ P) u M) → pos (start_now C P u + n.len) ≤ℤ (ground M C (e ∷ P) t +ℤ pos (running_length M C P t + M + greatest_part C M))
 finish_near C P e t u M is n = by_head (head P t) refl
   where

@@ -1,4 +1,4 @@
--- The cap is not far above the ground of g, even with all that f may still be charged for what runs.
+-- The cap is not far above the ground of g, even with M for each running request of f.
 use Rattle.std.proofs.Common.{ℕ, ◌+◌, ◌-◌, ◌*◌, ◌/◌, ◌≤◌, ◌≡◌, ◌≢◌, ◌⊎◌, refl, sym, arith, inl, inr, [], ◌∷◌, Option, Some, None, ℤ, pos, ◌≤ℤ◌}
 use Rattle.std.specs.Prelude.{◌-ℤ◌, ◌+ℤ◌}
 use Rattle.std.proofs.lemmas.Int.{ints}
@@ -67,7 +67,7 @@ one_is_low a h x y n now then = elim (cases_lt (n + n / 2 + 1) (h + x + 2 + (a +
   | inr low ↦ inl (omega (arith, low))
 ]
 
--- (starts of f and g, and what they may fall by, before; x and y requests below the cap)
+-- (starts of f and g, and their possible falls, before; x and y requests below the cap)
 by_f : (s xf df xg dg a h x l k2 n M part : ℕ) (ground : ℤ) → pos s ≤ℤ ((pos xf -ℤ pos df) +ℤ pos ((x + 1) * M + part)) → a ≤ df → xf + 1 ≤ xg + M → dg ≤ l → l ≡ h * M → k2 ≡ (a + 1) * M → h + x + 2 + (a + 1) ≤ n + n / 2 + 1 → (pos xg -ℤ pos dg) ≤ℤ ground → pos (s + k2) ≤ℤ (ground +ℤ ((pos ((n + n / 2 + 1) * M + part) -ℤ pos 1) +ℤ pos (a + 1)))
 by_f s xf df xg dg a h x l k2 n M part ground near some ahead falls runs more low least =
     let k : (h + x + 2 + (a + 1)) * M ≤ (n + n / 2 + 1) * M = mul-le (h + x + 2 + (a + 1)) M (n + n / 2 + 1) M low (omega arith) in
@@ -79,7 +79,7 @@ by_g s xg dg a y k2 n M part ground near more low least =
     omega (arith, ints, near, more, k, least)
 
 module _ (C : Config) (P : History) (e : Entry) (f g M : ℕ) (ne : f ≢ g) (is : IsPacedWithin C (e ∷ P) M) (before : IsInReach C P f g M) (n : Taken C P (e ∷ P) f M) where
-  -- the cap is near the ground of g by what runs of g
+  -- the cap is near the ground of g by the running length of g
   near_enough : pos (pace C (e ∷ P)).reached ≤ℤ (ground M C (e ∷ P) g +ℤ pos (running_length M C P g + M + greatest_part C M)) → IsInReach C (e ∷ P) f g M
   near_enough near = own_raised (pace C (e ∷ P)).reached (running_length M C P f) (running_length M C (e ∷ P) f) (running_length M C P g) (running_length 1 C (e ∷ P) f) (running_length 1 C P f) C.workers M (greatest_part C M) _ near (n.runs_is M) (n.runs_is 1) (n.free f g M ne)
 

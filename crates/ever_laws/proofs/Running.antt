@@ -1,4 +1,4 @@
--- What runs of a tenant: how long it is, what it lacks of the greatest length, and how much of both there is.
+-- The running requests of a tenant: their lengths, M less these lengths, and the sums of both.
 use Rattle.std.proofs.Common.{ℕ, zero, suc, ◌+◌, ◌-◌, ◌*◌, ◌≤◌, ◌≡◌, ◌≢◌, ◌==◌, ◌∙◌, cond, Bool, true, false, refl, arith, inl, inr, [], ◌∷◌, Option, Some, None}
 use Rattle.std.proofs.lemmas.Bool.{cases_Bool}
 use Rattle.std.proofs.Math.Nat.{add-mul}
@@ -28,7 +28,7 @@ use Rattle.ever_laws.specs.Words.{running_length}
 abbrev pub full : ℕ → Measure
 full M = λ r x. M
 
--- ---- what a request lacks of M, and its length
+-- ---- M less the length of a request, and that length
 
 sums_of_two : (a b c : ℕ → ℕ) (n : ℕ) → ((i : ℕ) → a i + b i ≡ c i) → sum_below a n + sum_below b n ≡ sum_below c n
 unfolding sum_below
@@ -79,7 +79,7 @@ two_run_before C P m w q c f g M ne l fits =
 pub one_runs_before : (C : Config) (P : History) (m w q c t M : ℕ) → IsLegal C P → FitsTake C P m w q c → running_length M C P t + M ≤ C.workers * M
 one_runs_before C P m w q c t M l fits = omega (arith, two_run_before C P m w q c t (t + 1) M (λ e. omega (arith, e)) l fits)
 
--- ---- what runs has some length
+-- ---- running requests have some length
 
 estimate_low_at : (C : Config) (P : History) (m r x : ℕ) (a : Act) → InLimits C → IsLegal C P → Fits C P m a → (taken_estimate P r ≡ Some x → 1 ≤ x) → estimate_in r a (taken_estimate P r) ≡ Some x → 1 ≤ x
 estimate_low_at C P m r x (Take w q c) lim l fits older is = elim (cases_Bool (q == r)) [
@@ -96,7 +96,7 @@ estimate_low : (C : Config) (P : History) (r x : ℕ) → InLimits C → IsLegal
 estimate_low C [] r x lim l is = absurd (cc)
 estimate_low C (e ∷ P) r x lim l is = estimate_low_at C P e.moment r x e.act lim l.0 l.3 (estimate_low C P r x lim l.0) is
 
--- so what runs is charged something
+-- so a running request is charged something
 running_charge : (C : Config) (P : History) (i r : ℕ) → InLimits C → IsLegal C P → running_on P i ≡ Some r → 1 ≤ charge P r
 running_charge C P i r lim l is =
     let runs = running_runs C P i r l is in
@@ -117,7 +117,7 @@ some_at C P t i lim l = go (running_on P i) refl
         length_some (charge P r) (taken_weight C P t r) (running_charge C P i r lim l is)
         (taken_weight_low C P t r lim l (tenant_below C P t r l own) (running_taken C P i r l is)))
 
--- ---- how many run
+-- ---- the number of running requests
 
 times_at : (P : History) (t M : ℕ) (o : Option ℕ) → of_request P t (λ r. M) o ≡ of_request P t (λ r. 1) o * M
 times_at P t M None = omega arith

@@ -1,4 +1,4 @@
--- What a Take makes of where its tenant stands, of virtual time and of the cap, and what the choice says of the others.
+-- A Take: the changes of its tenant, of virtual time and of the cap, and the leads over others by the choice.
 use Rattle.std.proofs.Common.{ℕ, ◌+◌, ◌-◌, ◌*◌, ◌≤◌, ◌≡◌, ◌≢◌, ◌==◌, max, cond, Bool, true, refl, sym, subst, arith, inl, inr, ◌⊎◌, [], ◌∷◌, Some, ℤ, pos, ◌≤ℤ◌}
 use Rattle.std.specs.Prelude.{◌+ℤ◌}
 use Rattle.std.specs.Int.{int_max}
@@ -100,7 +100,7 @@ module _ (C : Config) (P : History) (who m w q c t M : ℕ) (is : IsPacedWithin 
   paced : start_now C P t ≡ paced_start C P t
   paced = start_paced C P (last_moment P) t is.policy
 
-  -- the choice says so of the others
+  -- the lead over each other tenant that waits, by the choice
   ahead : (g r : ℕ) → g ≢ t → head P g ≡ Some r → pos (start_now C P t + len) ≤ℤ (pos (start_now C P g) +ℤ int_max (pos (head_length C P g)) (stagger C.policy (pos len) w (pool_at C P) +ℤ pos len))
   ahead g r ne waits = rw of_its_head.length_is (chosen_ahead C P m w t g r of_its_head.its_keys ne is.legal.0 waits fits.worker_known of_its_head.choice)
 
@@ -141,13 +141,13 @@ module _ (C : Config) (P : History) (who m w q c t M : ℕ) (is : IsPacedWithin 
     start_low = λ g r ne waits. behind_start (start_now C P t) (start_now C P g) len (head_length C P g) M (part_of len w (pool_at C P)) _ (ahead g r ne waits) (staggered C.policy len w (pool_at C P) is.policy) (part_below len w (pool_at C P) some_length fits.worker_known) short (heads_low g);
   }
 
--- the same at an entry whose act is known
+-- `Taken` for an entry whose act is a Take of a request of t
 pub taken_by : (C : Config) (P : History) (e : Entry) (w q c t M : ℕ) → IsPacedWithin C (e ∷ P) M → e.act ≡ Take w q c → is_of_tenant t (request_at P q) ≡ true → Taken C P (e ∷ P) t M
 taken_by C P e w q c t M is act own =
     subst (λ (a : Act). Taken C P (one_more e.who e.moment a P) t M) (sym act)
     (taken C P e.who e.moment w q c t M (subst (λ (a : Act). IsPacedWithin C (one_more e.who e.moment a P) M) act is) own)
 
--- ---- what an entry makes of a tenant, and of the cap
+-- ---- the change of a tenant, and of the cap, at an entry
 
 abbrev pub Change : Config → History → History → ℕ → ℕ → Type 0
 Change C P Q t M = Stays C P Q t M ⊎ (Comes C P Q t M ⊎ Taken C P Q t M)
@@ -174,7 +174,7 @@ cap_at C P who m M a is = inl (reached_stays C P (record { who = who; moment = m
 pub cap_change : (C : Config) (P : History) (e : Entry) (M : ℕ) → IsPacedWithin C (e ∷ P) M → CapChange C P (e ∷ P) M
 cap_change C P e M is = cap_at C P e.who e.moment M e.act is
 
--- what is known of a history is known of one entry less
+-- a history one entry shorter is paced within M too
 pub within_older : (C : Config) (P : History) (e : Entry) (M : ℕ) → IsPacedWithin C (e ∷ P) M → IsPacedWithin C P M
 within_older C P e M is = record {
   policy = is.policy;

@@ -47,7 +47,7 @@ unfolding late_taken
 cap_history = entry 1 0 (Submit 4 1 0 4 5) ∷ late_taken
 
 -- or tenant 0 comes before it, and is taken by both workers, while the request of tenant 1 turns out to be short; time
--- passes, tenant 0 submits another request, and those of it that ran turn out to be long
+-- passes, tenant 0 submits another request, and its running requests turn out to be long
 unfoldable pub lead_history : History
 unfolding late_taken
 lead_history =
@@ -110,8 +110,8 @@ three_begun =
     ∷ entry 1 0 (Submit 0 1 0 3 1)
     ∷ []
 
--- what runs of them costs nothing; all workers take a request of tenant 0; time passes, tenant 0 submits another
--- request, and those of it that ran turn out to be long
+-- the running requests of both cost nothing; all workers take a request of tenant 0; time passes, tenant 0 submits
+-- another request, and its running requests turn out to be long
 unfoldable pub three_lead_history : History
 unfolding three_begun
 three_lead_history =

@@ -1,4 +1,4 @@
--- What bounds how far one tenant is ahead of another that waits, under 2dfq+.
+-- Bounds of the lead of one tenant over another that waits, under 2dfq+.
 use Rattle.std.specs.Prelude.{ℕ, ◌+◌, ◌*◌, ◌/◌, ◌≤◌, ◌≡◌, ◌≢◌, ◌==◌, if◌then◌else◌, length, ◌∷◌, ◌++◌, Some, ℤ, pos, ◌+ℤ◌, ◌-ℤ◌, ◌≤ℤ◌}
 use Rattle.vt_fixed.specs.Rounding.{length_of}
 use Rattle.fq_model.specs.Ever.{longest_of_all, greatest_part, most_lead, ever_bound, measured_ever_bound}
@@ -16,13 +16,13 @@ use Rattle.gap_laws.specs.Laws.{worst_lead, all_and_one}
 use Rattle.gap_laws.specs.Words.{IsPrefix, AreSharedFrom, WaitsFrom, AreNoShorter, takes_after, IsAccount}
 use Rattle.ever_laws.specs.Words.{AreAllNoLonger, AllKeepLimits, IsPacedWithin, time_now, most_of, least_of, ground}
 
--- what a tenant has at least never falls, under any policy and whether the tenant waits or not
+-- the least of a tenant never falls, under any policy and whether the tenant waits or not
 abbrev pub LeastRises : Type 0
 LeastRises =
     (C : Config) (P : History) (e : Entry) (t : ℕ) → InLimits C → IsLegal C (e ∷ P)
     → least_of C P t ≤ℤ least_of C (e ∷ P) t
 
--- nor does what it would have at least if it came now
+-- nor does the ground of a tenant
 abbrev pub GroundRises : Type 0
 GroundRises =
     (C : Config) (P : History) (e : Entry) (t M : ℕ) → IsPacedWithin C (e ∷ P) M
@@ -32,30 +32,30 @@ GroundRises =
 abbrev pub all_and_part : Config → ℕ → ℕ
 all_and_part C M = C.workers * M + greatest_part C M
 
--- what a tenant has at most is above virtual time by no more than these
+-- the most of a tenant is above virtual time by no more than these
 abbrev pub MostStaysNear : Type 0
 MostStaysNear =
     (C : Config) (H : History) (t M : ℕ) → IsPacedWithin C H M → most_of M C H t ≤ℤ pos (time_now C H + all_and_part C M)
 
--- and the cap is above what a tenant that waits has at least by no more
+-- and the cap is above the least of a tenant that waits by no more
 abbrev pub CapStaysNear : Type 0
 CapStaysNear =
     (C : Config) (H : History) (t r M : ℕ) → IsPacedWithin C H M → head H t ≡ Some r
     → pos (pace C H).reached ≤ℤ (least_of C H t +ℤ pos (all_and_part C M))
 
--- what f has at most is above the ground of g by no more than that
+-- the most of f is above the ground of g by no more than `ever_bound`
 abbrev pub BoundHolds : Type 0
 BoundHolds =
     (C : Config) (H : History) (f g M : ℕ) → f ≢ g → IsPacedWithin C H M
     → (most_of M C H f -ℤ ground M C H g) ≤ℤ ever_bound C M
 
--- so the worst case of the lead of f is at most that wherever g waits, and f waits or not
+-- so the worst case of the lead of f is at most that bound wherever g waits, and f waits or not
 abbrev pub LeadIsBounded : Type 0
 LeadIsBounded =
     (C : Config) (H : History) (f g r M : ℕ) → f ≢ g → IsPacedWithin C H M → head H g ≡ Some r
     → worst_lead M C H f g ≤ℤ ever_bound C M
 
--- and by any account f is ahead of g by no more
+-- and by any account f is ahead of g by no more than the bound
 abbrev pub AccountsAreBounded : Type 0
 AccountsAreBounded =
     (C : Config) (H : History) (f g r M : ℕ) (of_f of_g : History → ℤ) → f ≢ g → IsPacedWithin C H M
@@ -69,12 +69,12 @@ TakesAreBounded =
     → AreNoShorter C S (newer ++ S) f c → WaitsFrom S (newer ++ S) g r
     → pos (takes_after f newer S * c) ≤ℤ ((pos c +ℤ (ever_bound C M +ℤ pos M)) -ℤ pos 1)
 
--- what a tenant is charged at most while one head of another waits: twice that, and a request of the greatest length
--- for each worker
+-- the greatest rise of a virtual charge while one head of another tenant waits: twice `most_lead`, and a request of the
+-- greatest length for each worker
 abbrev pub most_charged : Config → ℕ → ℕ
 most_charged C M = 2 * most_lead C M + C.workers * M
 
--- while one head of g waits, from S on, f is charged no more than that
+-- while one head of g waits, from S on, the virtual charge of f rises by no more than that
 abbrev pub ChargeIsBounded : Type 0
 ChargeIsBounded =
     (C : Config) (newer S : History) (f g r M : ℕ) → f ≢ g → IsPacedWithin C (newer ++ S) M
@@ -85,7 +85,7 @@ ChargeIsBounded =
 abbrev pub charged_others : Config → History → ℕ → ℕ
 charged_others C P g = sum_below (λ t. if t == g then 0 else virtual_charge C P t) (length C.weights)
 
--- and all others together are charged no more than that for each tenant
+-- and those of all others together rise by no more than that for each tenant
 abbrev pub OthersAreBounded : Type 0
 OthersAreBounded =
     (C : Config) (newer S : History) (g r M : ℕ) → IsPacedWithin C (newer ++ S) M → WaitsFrom S (newer ++ S) g r

@@ -39,14 +39,14 @@ pub record IsPacedWithin (C : Config) (H : History) (M : ℕ) : Type 0 where
 abbrev pub time_now : Config → History → ℕ
 time_now C P = virtual_time C P (last_moment P)
 
--- where tenant t starts if each of its requests that run turns out to be M long, and if each turns out to cost nothing
+-- the start of tenant t if each of its running requests turns out to be M long, and if each turns out to cost nothing
 abbrev pub most_of : ℕ → Config → History → ℕ → ℤ
 most_of M C P t = most (λ r. M) C P t
 
 abbrev pub least_of : Config → History → ℕ → ℤ
 least_of C P t = least (λ r. 0) C P t
 
--- M for each request of tenant t that runs
+-- M for each running request of tenant t
 abbrev pub running_length : ℕ → Config → History → ℕ → ℕ
 running_length M C P t = over_running C P t (λ r. M)
 
@@ -54,6 +54,6 @@ abbrev pub ground_for : Option ℕ → ℤ → ℤ → ℤ
 ground_for None least coming = int_max least coming
 ground_for (Some r) least coming = least
 
--- what tenant t has at least; where it does not wait, what it would have at least if it came now
+-- the ground of tenant t: its least; where it does not wait, the least that it would have if a request of it came now
 abbrev pub ground : ℕ → Config → History → ℕ → ℤ
 ground M C P t = ground_for (head P t) (least_of C P t) (pos (time_now C P) -ℤ pos (running_length M C P t))

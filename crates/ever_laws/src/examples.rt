@@ -1,6 +1,6 @@
-//! Worked histories that come to the bounds: their contracts say what the definitions give, and their bodies are empty.
-//! With two workers no request is longer than 4 units, and the last worker takes 2 units off a start at most. With
-//! three no request is longer than 3, and that is 2 units too.
+//! Worked histories that come to the bounds: their contracts state the values of the definitions, and their bodies are
+//! empty. With two workers no request is longer than 4 units, and the last worker takes 2 units off a start at most.
+//! With three no request is longer than 3, and that is 2 units too.
 ghost use Rattle.std.specs.Prelude.{◌≡◌, ◌-ℤ◌, pos, Some};
 ghost use Rattle.fq_model.specs.Ever.{ever_bound};
 ghost use Rattle.fq_model.specs.History.{head};
@@ -11,11 +11,11 @@ ghost use Rattle.ever_laws.specs.Words.{IsPacedWithin, time_now, most_of, least_
 ghost use Rattle.ever_laws.specs.Laws.{all_and_part};
 ghost use Rattle.ever_laws.specs.Examples.{pair_config, most_history, cap_history, lead_history, three_config, three_cap_history, three_lead_history};
 
-/// What a tenant has at most, above virtual time. Both workers take a request of 1 of tenant 0, and the second one
-/// lifts virtual time to 1. The first request turns out to cost 4, so that the third one starts at 5: worker 1 takes 2
-/// off and lifts virtual time to 3. Tenant 0 is then at 9, and what worker 0 runs may still turn out 3 longer: 12,
-/// which is 9 above virtual time. The bound is 2 times 4 and a part of 2, and the unit that is missing is what worker 0
-/// runs at least.
+/// The most of a tenant, above virtual time. Both workers take a request of 1 of tenant 0, and the second one lifts
+/// virtual time to 1. The first request turns out to cost 4, so that the third one starts at 5: worker 1 takes 2 off
+/// and lifts virtual time to 3. Tenant 0 is then at 9, and the request of worker 0 may still turn out 3 longer: 12,
+/// which is 9 above virtual time. The bound is 2 times 4 and a part of 2, and the unit that is missing is the length of
+/// the request of worker 0 by its estimate.
 pub fn most()
     ensures within { IsPacedWithin pair_config most_history (units 4) }
     ensures time { time_now pair_config most_history ≡ units 3 }
@@ -23,10 +23,10 @@ pub fn most()
     ensures bound { all_and_part pair_config (units 4) ≡ units 10 }
 {}
 
-/// The cap, above what a tenant that waits has at least: the bound is met. Worker 0 takes a request of tenant 1 from 0
-/// to 4. Worker 1 takes three requests of tenant 2. Two of them cost 4 and 2, so that the last one starts at 6: it
-/// lifts virtual time to 6 - 2, and the cap to 6 + 4. Tenant 1 then waits from 4 on, and would be at 0 if what runs of
-/// it cost nothing.
+/// The cap, above the least of a tenant that waits: the bound is met. Worker 0 takes a request of tenant 1 from 0 to 4.
+/// Worker 1 takes three requests of tenant 2. Two of them cost 4 and 2, so that the last one starts at 6: it lifts
+/// virtual time to 6 - 2, and the cap to 6 + 4. Tenant 1 then waits from 4 on, and would be at 0 if its running request
+/// cost nothing.
 pub fn cap()
     ensures within { IsPacedWithin pair_config cap_history (units 4) }
     ensures waits { head cap_history 1 ≡ Some 4 }
@@ -36,11 +36,11 @@ pub fn cap()
 {}
 
 /// The lead. As before virtual time is 4 and the cap is 10. Tenant 0 comes, and starts at 4. Tenant 1 waits from 4 on,
-/// but what runs of it costs 2, and it is back at 2: its head of 4 finishes at 6. Worker 1 takes a request of tenant 0
-/// that finishes at 5, and worker 0, a microsecond later, one that finishes at 6 too. At moment 6 virtual time has come
-/// to the cap, and tenant 0 starts there with one request more. Its two others turn out to cost 4 in place of 1: it is
-/// at 16, and tenant 1 at 2. The bound is 4 times 4 and a part of 2, less a step; the 4 units that are missing are what
-/// requests of 1 take away. (A lead that begins at 0 where both begin to wait stays below 3 times 4.)
+/// but its running request costs 2, and it is back at 2: its head of 4 finishes at 6. Worker 1 takes a request of
+/// tenant 0 that finishes at 5, and worker 0, a microsecond later, one that finishes at 6 too. At moment 6 virtual time
+/// has come to the cap, and tenant 0 starts there with one request more. Its two others turn out to cost 4 in place of
+/// 1: it is at 16, and tenant 1 at 2. The bound is 4 times 4 and a part of 2, less a step; requests of 1 take the 4
+/// missing units away. (A lead that begins at 0 where both begin to wait stays below 3 times 4.)
 pub fn lead()
     ensures within { IsPacedWithin pair_config lead_history (units 4) }
     ensures waits { head lead_history 1 ≡ Some 6 }
@@ -51,7 +51,7 @@ pub fn lead()
 /// The cap with three workers: the bound is met. Workers 0 and 1 take two requests of tenant 1, from 0 to 6, and worker
 /// 1 takes 1 off and lifts virtual time to 2. There tenant 2 comes. Worker 2 takes three requests of it that cost 3
 /// each: the last one starts at 8, and lifts virtual time to 8 - 2, and the cap to 8 + 3. Tenant 1 then waits from 6
-/// on, and would be at 0 if what runs of it cost nothing.
+/// on, and would be at 0 if its running requests cost nothing.
 pub fn cap_of_three()
     ensures within { IsPacedWithin three_config three_cap_history (units 3) }
     ensures waits { head three_cap_history 1 ≡ Some 5 }
@@ -62,8 +62,8 @@ pub fn cap_of_three()
 
 /// The lead with three workers. A request of each tenant is taken from 0 to 3. That of tenant 2 costs 3, and its next
 /// one 2, so that the third one starts at 5: it lifts virtual time to 5 - 2, and the cap to 5 + 3. Tenants 0 and 1 then
-/// wait from 3 on; what runs of them costs nothing, and both are back at 0. The head of tenant 1 finishes at 3, and the
-/// three requests of 1 of tenant 0 at 1, 2 and 3: all workers take these. In 4 microseconds three workers over two
+/// wait from 3 on; their running requests cost nothing, and both are back at 0. The head of tenant 1 finishes at 3, and
+/// the three requests of 1 of tenant 0 at 1, 2 and 3: all workers take these. In 4 microseconds three workers over two
 /// weights make 6 units, and virtual time comes to the cap, 8. There tenant 0 starts with one request more. The three
 /// others turn out to cost 3 in place of 1: it is at 14, and tenant 1 at 0. The bound is 5 times 3 and a part of 2,
 /// less a step; the 3 units that are missing are the lengths at which the three were taken. (A lead that begins at 0

@@ -1,27 +1,27 @@
 //! The laws, one function a law: its contract is the law, and its body is empty.
 ghost use Rattle.ever_laws.specs.Laws.{LeastRises, GroundRises, MostStaysNear, CapStaysNear, BoundHolds, LeadIsBounded, AccountsAreBounded, TakesAreBounded, ChargeIsBounded, OthersAreBounded, GainIsBounded, LengthsAreForetold, LeadIsForetold, LongestIsNoShorter, MeasuredBoundHolds};
 
-/// What a tenant has at least, whatever comes of its requests that run, never falls.
+/// The least of a tenant, its start if its running requests turn out to cost nothing, never falls.
 pub fn least_rises()
     ensures { LeastRises }
 {}
 
-/// Nor does what a tenant that does not wait would have at least if it came now.
+/// Nor does its ground, which is, where it does not wait, the least that it would have if a request of it came now.
 pub fn ground_rises()
     ensures { GroundRises }
 {}
 
-/// What a tenant has at most stays near virtual time: lifted by each Take, this is never far behind what was taken.
+/// The most of a tenant stays near virtual time: lifted by each Take, this is never far behind the taken request.
 pub fn most_stays_near()
     ensures { MostStaysNear }
 {}
 
-/// The cap stays near what a tenant that waits has at least, and so does virtual time, which never passes the cap.
+/// The cap stays near the least of a tenant that waits, and so does virtual time, which never passes the cap.
 pub fn cap_stays_near()
     ensures { CapStaysNear }
 {}
 
-/// So what one tenant has at most is never far above what another has that waits, or would have if it came now.
+/// So the most of one tenant is never far above the ground of another.
 pub fn bound_holds()
     ensures { BoundHolds }
 {}
@@ -33,13 +33,13 @@ pub fn lead_is_bounded()
     ensures { LeadIsBounded }
 {}
 
-/// So it is by any account of what the two have, charged, finished or measured otherwise.
+/// So it is by any account of the two, charged, finished or measured otherwise.
 pub fn accounts_are_bounded()
     ensures { AccountsAreBounded }
 {}
 
-/// While a head waits another tenant, whose requests have a least length above 0, is taken so often at most: as often
-/// as that length goes into the bound and one request of the greatest length, and once more.
+/// While a head waits, another tenant whose requests have a least length above 0 is taken at most as often as that
+/// length goes into the bound and one request of the greatest length, and once more.
 pub fn takes_are_bounded()
     ensures { TakesAreBounded }
 {}
@@ -55,7 +55,7 @@ pub fn others_are_bounded()
     ensures { OthersAreBounded }
 {}
 
-/// What the one gains on the other over a while in which both wait, in the manner of Golestani (1994), by any account
+/// The gain of one tenant on another over a while in which both wait, in the manner of Golestani (1994), by any account
 /// and from any moment on.
 pub fn gain_is_bounded()
     ensures { GainIsBounded }

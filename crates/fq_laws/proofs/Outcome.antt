@@ -1,4 +1,4 @@
--- What a list of calls comes to.
+-- The outcome of a list of calls: it exists, there is one only, and its history is legal.
 use Rattle.std.proofs.Common.{refl, subst, List, [], ◌∷◌, ◌++◌, sym, ◌≡◌, ap, ◌∙◌}
 use Rattle.fq_model.specs.declared.config.Config.{Config}
 use Rattle.fq_model.specs.declared.event.Call.{Call}
@@ -16,7 +16,7 @@ outcome_snoc C P Q H [] (s ∷ rs) c r o a = absurd o
 outcome_snoc C P Q H (d ∷ cs) [] c r o a = absurd o
 outcome_snoc C P Q H (d ∷ cs) (s ∷ rs) c r o a = (o.0, o.1, outcome_snoc C o.0 Q H cs rs c r o.2 a)
 
--- what calls leave of a legal history is legal
+-- calls leave a legal history legal
 pub outcome_from_legal : (C : Config) (P H : History) (cs : List Call) (rs : List Reply) → InLimits C → IsLegal C P → OutcomeFrom C P cs rs H → IsLegal C H
 outcome_from_legal C P H [] [] lim l o = subst (IsLegal C) (sym o) l
 outcome_from_legal C P H [] (s ∷ rs) lim l o = absurd o
@@ -26,7 +26,7 @@ outcome_from_legal C P H (d ∷ cs) (s ∷ rs) lim l o = outcome_from_legal C o.
 pub outcome_legal : (C : Config) (H : History) (cs : List Call) (rs : List Reply) → InLimits C → Outcome C cs rs H → IsLegal C H
 outcome_legal C H cs rs lim o = outcome_from_legal C [] H cs rs lim tt o
 
--- calls come to one list of replies and one history at most
+-- calls have one list of replies and one history at most
 pub outcome_from_one : (C : Config) (P H K : History) (cs : List Call) (rs ss : List Reply) → OutcomeFrom C P cs rs H → OutcomeFrom C P cs ss K → (rs ≡ ss) × (H ≡ K)
 outcome_from_one C P H K [] [] [] o p = (refl, o ∙ sym p)
 outcome_from_one C P H K [] [] (s ∷ ss) o p = absurd p
@@ -41,7 +41,7 @@ outcome_from_one C P H K (c ∷ cs) (r ∷ rs) (s ∷ ss) o p =
 pub outcome_one : (C : Config) (H K : History) (cs : List Call) (rs ss : List Reply) → Outcome C cs rs H → Outcome C cs ss K → (rs ≡ ss) × (H ≡ K)
 outcome_one C H K cs rs ss o p = outcome_from_one C [] H K cs rs ss o p
 
--- and come to one
+-- and they have one
 pub outcome_from_exists : (C : Config) (P : History) (cs : List Call) → InLimits C → IsLegal C P → (rs : List Reply) × (H : History) × OutcomeFrom C P cs rs H
 outcome_from_exists C P [] lim l = ([], P, refl)
 outcome_from_exists C P (c ∷ cs) lim l =

@@ -13,7 +13,7 @@ count_same p q (suc n) h =
     let f : count_below p n ≡ count_below q n = count_same p q n (λ r b. h r (omega arith)) in
     ap (λ b. cond b 1 0 + count_below p n) e ∙ ap (λ k. cond (q n) 1 0 + k) f
 
--- q passes r too, and else what p passes
+-- where q passes r beside the numbers that p passes, its count is one more
 pub count_more : (p q : ℕ → Bool) (r n : ℕ) → r < n → p r ≡ false → q r ≡ true → ((s : ℕ) → s ≢ r → p s ≡ q s) → count_below q n ≡ count_below p n + 1
 unfolding count_below
 count_more p q r zero b out inside h = absurd (omega arith)
@@ -84,7 +84,7 @@ sum_at_most f p bound (suc n) h =
       | inr e ↦ let h2 : f n ≤ 0 = rw e at here in rw e (omega arith)
     ]
 
--- what is known of the least
+-- the option is the least number below n that passes the test, or None where no number does
 abbrev pub IsLeast : (ℕ → Bool) → ℕ → Option ℕ → Type 0
 IsLeast test n None = (s : ℕ) → s < n → test s ≡ false
 IsLeast test n (Some r) = (test r ≡ true) × (r < n) × ((s : ℕ) → s < r → test s ≡ false)
@@ -120,7 +120,7 @@ one_least test n (Some r) (Some s) h k = ap Some (elim (cases_order r s) [
   ]
 ])
 
--- what has the properties of the least is the least
+-- an option with the properties of the least is the least
 pub least_by : (test : ℕ → Bool) (n : ℕ) (o : Option ℕ) → IsLeast test n o → least_below test n ≡ o
 least_by test n o h = one_least test n (least_below test n) o (least_is test n) h
 
@@ -138,7 +138,7 @@ least_exists test n r b e = go (least_below test n) refl
     go None is = absurd (false≢true (sym (least_none test n is r b) ∙ e))
     go (Some s) is = (s, is)
 
--- what is counted passes somewhere
+-- where the count is 1 at least, some number passes
 pub count_found : (p : ℕ → Bool) (n : ℕ) → 1 ≤ count_below p n → (r : ℕ) × (r < n) × (p r ≡ true)
 unfolding count_below
 count_found p zero h = absurd (omega arith)
@@ -176,7 +176,7 @@ max_covers f r (suc n) b = elim (cases_eq n r) [
   | inr ne ↦ let rest : f r ≤ max_below f n = max_covers f r n (omega arith) in omega arith
 ]
 
--- and the greatest is no more than what bounds them all
+-- and a bound of all values bounds the greatest
 pub max_under : (f : ℕ → ℕ) (n bound : ℕ) → ((r : ℕ) → r < n → f r ≤ bound) → max_below f n ≤ bound
 unfolding max_below
 max_under f zero bound h = omega arith

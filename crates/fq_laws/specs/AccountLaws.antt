@@ -1,4 +1,4 @@
--- What follows from the definitions of charges, of estimates, of virtual time and of tags.
+-- Consequences of the definitions of charges, estimates, virtual time and tags.
 use Rattle.std.specs.Prelude.{ℕ, ◌+◌, ◌-◌, ◌*◌, ◌≤◌, ◌≡◌, ◌≢◌, ◌⊎◌, max, true, false, List, [], ◌∷◌, length, Some, None, pos}
 use Rattle.std.specs.Int.{int_max}
 use Rattle.vt_fixed.specs.Rounding.{advance_of, decay_of}
@@ -19,7 +19,7 @@ use Rattle.fq_laws.specs.Changes.{charge_after, change_of, Changes, greatest_cos
 
 -- ---- charges
 
--- one entry on, each charge is what the act makes of it
+-- one entry on, the charge of each request is changed as the act says
 abbrev pub ChargeSteps : Type 0
 ChargeSteps =
     (C : Config) (P : History) (e : Entry) (r : ℕ) → IsLegal C (e ∷ P) → charge (e ∷ P) r ≡ charge_after P r e.act
@@ -42,7 +42,7 @@ TenantSteps =
     (C : Config) (P : History) (e : Entry) (t : ℕ) → InLimits C → IsLegal C (e ∷ P)
     → Changes C P (e ∷ P) t (change_of C P t e.act)
 
--- what a tenant is charged is bounded by the number of requests
+-- the number of requests bounds a tenant's open requests, its virtual charge and its net charge
 pub record TenantLimit (C : Config) (P : History) (t : ℕ) : Type 0 where
   pub open_limit : open_requests P t ≤ submits P
   pub virtual_limit : virtual_charge C P t ≤ submits P * greatest_length
@@ -144,13 +144,13 @@ TagCatchesUp =
     → e.act ≡ Submit request tenant kind declared label → head P tenant ≡ None
     → tag C (e ∷ P) tenant ≡ max (virtual_time C P e.moment) (tag C P tenant)
 
--- where a tenant starts is bounded by the number of requests and the moment
+-- the number of requests and the moment bound a tenant's start
 abbrev pub StartLimit : Type 0
 StartLimit =
     (C : Config) (P : History) (m t : ℕ) → C.policy ≢ TwoDfqPlus → InLimits C → IsLegal C P → last_moment P ≤ m
     → start C P m t ≤ submits P * greatest_length + m * greatest_rate
 
--- under 2dfq+ the number of entries bounds virtual time, the cap, and where a tenant starts
+-- under 2dfq+ the number of entries bounds the cap, and so virtual time, and each tenant's start
 pub record IsPaceLow (C : Config) (P : History) : Type 0 where
   pub cap_low : (pace C P).reached ≤ length P * greatest_length
   pub starts_low : (m t : ℕ) → start C P m t ≤ length P * greatest_length

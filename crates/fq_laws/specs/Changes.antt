@@ -1,4 +1,4 @@
--- What one entry changes: of the charge of a request, of what a tenant is charged, and of an estimate.
+-- The change at one entry: of the charge of a request, of the charges of a tenant, and of an estimate.
 use Rattle.std.specs.Prelude.{ℕ, ◌+◌, ◌≡◌, ◌==◌, max, Bool, if◌then◌else◌, List, [], ◌∷◌, ◌++◌, ℤ, pos, ◌-ℤ◌}
 use Rattle.vt_fixed.specs.Rounding.{length_of}
 use Rattle.fq_model.specs.declared.config.Config.{Config}
@@ -19,9 +19,9 @@ charge_after P r _ = charge P r
 abbrev pub length_change : ℕ → ℕ → ℕ → ℤ
 length_change weight old new = pos (length_of new weight) -ℤ pos (length_of old weight)
 
--- what an entry changes for a tenant: how many requests it opens and closes, and what it makes of the charge of a
--- request of the tenant, which was `charged` and then is `recharged` (both 0 where it charges none), at the weight that
--- the tenant had just before the Take of that request
+-- the change of a tenant at an entry: the numbers of its requests that the entry opens and closes, the charge of one of
+-- its requests before the entry (`charged`) and after it (`recharged`; both 0 where the entry charges none), and the
+-- weight that the tenant had just before the Take of that request
 pub record Change : Type 0 where
   pub opened : ℕ
   pub closed : ℕ
@@ -33,7 +33,7 @@ pub record Change : Type 0 where
 abbrev pub no_change : Change
 no_change = record { opened = 0; closed = 0; charged = 0; recharged = 0; weight = 0 }
 
--- the change of a request's charge, where the request is one of the tenant
+-- the change of a request's charge, where the tenant owns the request
 abbrev pub recharge : Bool → ℕ → ℕ → ℕ → ℕ → Change
 recharge own closed charged recharged weight = record {
   opened = 0;
@@ -43,7 +43,7 @@ recharge own closed charged recharged weight = record {
   weight = weight;
 }
 
--- what the act changes at P for tenant t
+-- the change of tenant t by an act after P
 abbrev pub change_of : Config → History → ℕ → Act → Change
 change_of C P t (Submit request tenant kind declared label) = record no_change { opened = if tenant == t then 1 else 0 }
 change_of C P t (Take worker request estimate) =

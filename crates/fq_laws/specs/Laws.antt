@@ -1,4 +1,4 @@
--- What follows from the definitions of histories, of the choice and of answers.
+-- Consequences of the definitions of histories, of the choice and of answers.
 use Rattle.std.specs.Prelude.{ℕ, ◌+◌, ◌*◌, ◌<◌, ◌≤◌, ◌≡◌, ◌^◌, ◌↔◌, true, false, if◌then◌else◌, List, ◌∷◌, length, Some, None}
 use Rattle.fq_model.specs.declared.config.Config.{Config}
 use Rattle.fq_model.specs.declared.event.Entry.{Entry}
@@ -48,7 +48,7 @@ RunningLaw =
 abbrev pub PoolRange : Type 0
 PoolRange = (C : Config) (P : History) → InLimits C → IsLegal C P → IsWithin 1 C.workers (pool_at C P)
 
--- a worker that runs a request may be above them, and is one of those at the opening
+-- a worker that runs a request is one of the workers at the opening, and need not be in the pool any more
 abbrev pub RunnersKnown : Type 0
 RunnersKnown = (C : Config) (P : History) (i r : ℕ) → IsLegal C P → Runs P i r → i < C.workers
 
@@ -92,9 +92,9 @@ OneChoice =
     (C : Config) (P : History) (m i t u : ℕ) (k l : HeadKeys) → IsChoiceAt C P m i t k → IsChoiceAt C P m i u l
     → (t ≡ u) × (k ≡ l)
 
--- ---- what stays
+-- ---- tenants and keys that do not change
 
--- an entry leaves each tenant that it does not concern as it stood
+-- an entry does not change the tenants that it does not concern
 abbrev pub EntriesLeaveOthers : Type 0
 EntriesLeaveOthers =
     (C : Config) (P : History) (e : Entry) (t : ℕ) → InLimits C → IsLegal C (e ∷ P) → concerns P t e.act ≡ false
@@ -125,7 +125,7 @@ abbrev pub OneAnswer : Type 0
 OneAnswer =
     (C : Config) (P H K : History) (c : Call) (r s : Reply) → Answers C P c r H → Answers C P c s K → (r ≡ s) × (H ≡ K)
 
--- what an answer leaves of a legal history is legal
+-- an answer leaves a legal history legal
 abbrev pub AnswersKeepLegality : Type 0
 AnswersKeepLegality =
     (C : Config) (P H : History) (c : Call) (r : Reply) → InLimits C → IsLegal C P → Answers C P c r H → IsLegal C H
@@ -141,7 +141,7 @@ RefusalsChangeNothing = (C : Config) (P H : History) (c : Call) (x : Cause) → 
 
 -- ---- room
 
--- what a legal history still has room for
+-- the entries for which a legal history still has room
 pub record Room (C : Config) (P : History) : Type 0 where
   -- a Take and a Done of each waiting request, a Done of each running one, and the first Close
   pub for_all : length P + 2 * waiting P + running P + (if is_closed P then 0 else 1) ≤ C.entries
@@ -154,7 +154,7 @@ RoomRemains = (C : Config) (P : History) → InLimits C → IsLegal C P → Room
 
 -- ---- lists of calls
 
--- some replies and some history are what the calls come to
+-- some replies and some history are an outcome of the calls
 abbrev pub SomeOutcome : Config → List Call → Type 0
 SomeOutcome C calls = (replies : List Reply) × (H : History) × Outcome C calls replies H
 
@@ -167,7 +167,7 @@ OneOutcome =
     (C : Config) (H K : History) (calls : List Call) (rs ss : List Reply) → Outcome C calls rs H → Outcome C calls ss K
     → (rs ≡ ss) × (H ≡ K)
 
--- an outcome is a legal history
+-- the history of an outcome is legal
 abbrev pub OutcomesAreLegal : Type 0
 OutcomesAreLegal =
     (C : Config) (H : History) (calls : List Call) (replies : List Reply) → InLimits C → Outcome C calls replies H

@@ -1,4 +1,4 @@
--- What is kept of a history, and what it becomes at one entry more.
+-- A value that is kept of a history, and its change at one entry more.
 use Rattle.std.specs.Prelude.{ℕ, ◌≡◌, ◌∷◌, Some, true}
 use Rattle.fq_model.specs.declared.config.Config.{Config}
 use Rattle.fq_model.specs.declared.event.Act.TheVariants.{Submit, Weight, Workers}
@@ -7,7 +7,7 @@ use Rattle.fq_model.specs.Limits.{InLimits}
 use Rattle.fq_model.specs.History.{History, Request, request_at, is_end_of}
 use Rattle.fq_model.specs.Rules.{IsLegal}
 
--- what is kept is that of a legal history after which such an entry may come
+-- the kept value is that of a legal history after which such an entry may come
 pub record Awaits {K : Type 0} (KeptIs : Config → History → K → Type 0) (Comes : History → Entry → Type 0) (kept : K)
     : Type 0 where
   pub config : Config
@@ -18,7 +18,7 @@ pub record Awaits {K : Type 0} (KeptIs : Config → History → K → Type 0) (C
   pub comes : Comes history entry
   pub kept_is : KeptIs config history kept
 
--- and of each such history, what was kept of it becomes what is kept of the history with the entry
+-- for each such history of which `before` is kept, `after` is the kept value of the history with the entry
 abbrev pub Follows : {K : Type 0} → (Config → History → K → Type 0) → (History → Entry → Type 0) → K → K → Type 0
 Follows KeptIs Comes before after =
     (C : Config) (P : History) (e : Entry) → InLimits C → IsLegal C (e ∷ P) → Comes P e → KeptIs C P before
@@ -47,7 +47,7 @@ pub record Reweighs (moment tenant weight : ℕ) (P : History) (e : Entry) : Typ
   pub moment_is : e.moment ≡ moment
   pub act_is : e.act ≡ Weight tenant weight
 
--- the entry is of this moment, and makes the number of workers this one
+-- the entry is of this moment, and sets the number of workers to this count
 pub record Staffs (moment count : ℕ) (P : History) (e : Entry) : Type 0 where
   pub moment_is : e.moment ≡ moment
   pub act_is : e.act ≡ Workers count

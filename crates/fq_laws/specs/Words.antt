@@ -31,7 +31,7 @@ abbrev pub first : List ℕ → Option ℕ
 first [] = None
 first (x ∷ xs) = Some x
 
--- r is one of the list
+-- r is in the list
 abbrev pub Member : ℕ → List ℕ → Type 0
 Member r [] = ⊥
 Member r (x ∷ xs) = (r ≡ x) ⊎ Member r xs
@@ -69,7 +69,7 @@ concerns P t (Weight tenant weight) = tenant == t
 concerns P t (Withdraw request) = is_of_tenant t (request_at P request)
 concerns P t _ = false
 
--- tenant t stands in Q as it stands in P
+-- head, weight, charges, base, open requests and completed costs of tenant t are equal in Q and P
 pub record Leaves (C : Config) (P Q : History) (t : ℕ) : Type 0 where
   pub head_same : head Q t ≡ head P t
   pub weight_same : weight_at C Q t ≡ weight_at C P t

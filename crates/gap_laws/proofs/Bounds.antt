@@ -1,5 +1,5 @@
--- The largest difference is at most the bound: it is one at a shared prefix, and the bound is above where its run
--- begins.
+-- The largest difference is at most the bound: it is the difference at a shared prefix, and the bound is above the
+-- difference where its run begins.
 use Rattle.std.proofs.Common.{◌≡◌, arith, ℤ, ◌≤ℤ◌}
 use Rattle.std.specs.Int.{int_max}
 use Rattle.std.proofs.lemmas.Int.{ints, clamps}

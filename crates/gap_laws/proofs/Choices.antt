@@ -1,4 +1,4 @@
--- What the choice of one tenant says of another with a head.
+-- Consequences of the choice of one tenant for another with a head.
 use Rattle.std.proofs.Common.{ℕ, ◌+◌, ◌*◌, ◌<◌, ◌≤◌, ◌≢◌, arith, inl, inr, ◌⊎◌, ℤ, pos, ◌≤ℤ◌}
 use Rattle.std.specs.Prelude.{◌+ℤ◌, ◌-ℤ◌}
 use Rattle.std.specs.Int.{int_max}
@@ -10,7 +10,7 @@ use Rattle.fq_model.specs.Keys.{HeadKeys, Turn, stagger, eligible_key, IsEligibl
 use Rattle.fq_model.specs.Gap.{lengths_in_bound}
 use Rattle.fq_laws.proofs.Keys.Choices.{eligible_or_not}
 
--- the keys of the head r that starts at s and is so long
+-- the keys of the head r with the start s and the length len
 abbrev pub keys : ℕ → ℕ → ℕ → HeadKeys
 keys s len r = record { start = pos s; len = pos len; request = r }
 

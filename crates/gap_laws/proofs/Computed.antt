@@ -1,5 +1,5 @@
--- The gap of a short history, computed: each definition stands once more over the numbers below n, with `within` in its
--- name, and with a lemma that it is the same.
+-- The gap of a short history, computed: each definition is repeated over the numbers below n, with `within` in its
+-- name, and with a lemma that the two are equal.
 use Rattle.std.proofs.Common.{ℕ, ◌≡◌, Bool, true, false, not, ◌&&◌, if◌then◌else◌, List, refl, inl, inr, [], ◌∷◌, Option, None, ℤ, pos}
 use Rattle.std.specs.Prelude.{is_some, ◌-ℤ◌, ◌*◌, option_map}
 use Rattle.std.proofs.lemmas.Bool.{cases_lt}
@@ -21,7 +21,7 @@ unasked_declared : (C : Config) (P : History) (r : ℕ) → request_at P r ≡ N
 unfolding is_as_declared
 unasked_declared C P r h = rw h refl
 
--- only what was submitted can be otherwise than declared
+-- only a submitted request can be otherwise than declared
 pub declared_below : (C : Config) (P : History) → IsLegal C P → least_below (λ r. not (is_as_declared C P r)) (submits P) ≡ None → not_declared C P ≡ None
 unfolding not_declared
 declared_below C P l h = least_by (λ r. not (is_as_declared C P r)) request_bound None (λ r b. elim (cases_lt r (submits P)) [
@@ -93,7 +93,7 @@ pub gap_is : (n k : ℕ) (C : Config) (P : History) (f g : ℕ) → IsShort n k 
 unfolding tag_gap largest_difference difference_bound gap_within bound_within
 gap_is n k C P f g s = rw (shared_is n k C P f g s, first_is n k C P f g s) refl
 
--- ---- what an example opens
+-- ---- the definitions that an example opens
 
 -- the line `unfolding computing_gap` opens all of these
 unfoldable pub computing_gap : Unit {0}

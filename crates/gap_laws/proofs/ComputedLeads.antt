@@ -1,4 +1,4 @@
--- The measured gap of a short history, computed: each definition stands once more over the numbers below n.
+-- The measured gap of a short history, computed: each definition is repeated over the numbers below n.
 use Rattle.std.proofs.Common.{ℕ, ◌+◌, ◌*◌, ◌≡◌, Bool, not, ◌&&◌, if◌then◌else◌, List, refl, [], ◌∷◌, Option, ℤ, pos}
 use Rattle.std.specs.Prelude.{is_some, ◌-ℤ◌, option_map}
 use Rattle.fq_model.specs.declared.config.Config.{Config}
@@ -95,7 +95,7 @@ pub measured_is : (n k : ℕ) (C : Config) (H : History) (f g : ℕ) → IsShort
 unfolding measured_gap largest_difference lead_bound measured_within
 measured_is n k C H f g s = rw (shared_is n k C H f g s, lengths_are n k C H f g s, doubts_are n k C H H f g s, leads_are n k C H H f g s) refl
 
--- ---- what an example opens
+-- ---- the definitions that an example opens
 
 -- the line `unfolding computing_lead` opens all of these
 unfoldable pub computing_lead : Unit {0}

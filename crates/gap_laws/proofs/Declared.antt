@@ -1,4 +1,4 @@
--- What follows where every request is as declared: each charge is the declared cost from the Take on.
+-- Consequences where every request is as declared: each charge is the declared cost from the Take on.
 use Rattle.std.proofs.Common.{ℕ, ◌+◌, ◌<◌, ◌≤◌, ◌^◌, ◌≡◌, ◌==◌, ◌||◌, ◌∙◌, max, cond, Bool, true, false, not, refl, sym, ap, subst, arith, inl, inr, [], ◌∷◌, ◌++◌, Option, Some, None}
 use Rattle.std.proofs.lemmas.Bool.{cases_Bool, false≢true, true_from_ne_false, and_parts, not-false, leb-true, eqb-true, or_parts}
 use Rattle.vt_fixed.specs.Rounding.{length_of}
@@ -21,7 +21,7 @@ use Rattle.fq_laws.proofs.Charge.Requests.{estimate_some, cost_none, charge_repo
 use Rattle.fq_laws.proofs.Charge.Tenants.{virtual_charge_submit, virtual_charge_taken, virtual_charge_reported, virtual_charge_finished, virtual_charge_withdraw, virtual_charge_quiet}
 use Rattle.gap_laws.specs.Words.{HasDeclaredCosts, declared_length, taken_length}
 
--- the request r, of which q is known, is as declared
+-- the request r with the fields q is as declared
 pub record KeepsTo (C : Config) (P : History) (r : ℕ) (q : Request) : Type 0 where
   pub estimator : C.estimate ≡ Declared
   pub uses : last_use P r ≤ q.declared
@@ -42,7 +42,7 @@ keeps_to C P r q h was =
     let k = and_parts _ _ p.1 in
     record { estimator = estimator_declared C.estimate p.0; uses = leb-true _ _ k.0; cost = k.1 }
 
--- where none is named that is not as declared, all are
+-- where `not_declared` names no request, every request is as declared
 pub all_are_declared : (C : Config) (P : History) → HasDeclaredCosts C P → AllDeclared C P
 unfolding not_declared request_bound
 all_are_declared C P h = λ r q was.
@@ -90,17 +90,17 @@ untaken_at : (r : ℕ) (a : Act) (P : History) → (is_taken P r ≡ false → t
 untaken_at r (Take worker request estimate) P ih h = let p = or_parts (request == r) (is_taken P r) h in rw p.0 (ih p.1)
 untaken_at r _ P ih h = ih h
 
--- what is not taken has no estimate in a Take
+-- a request that is not taken has no estimate in a Take
 untaken_estimate : (P : History) (r : ℕ) → is_taken P r ≡ false → taken_estimate P r ≡ None
 unfolding is_taken
 untaken_estimate [] r h = refl
 untaken_estimate (e ∷ P) r h = untaken_at r e.act P (untaken_estimate P r) h
 
--- what has one is taken
+-- a request that has an estimate in a Take is taken
 estimate_taken : (P : History) (r x : ℕ) → taken_estimate P r ≡ Some x → is_taken P r ≡ true
 estimate_taken P r x h = true_from_ne_false (is_taken P r) (λ no. let none : taken_estimate P r ≡ None = untaken_estimate P r no in absurd (cc))
 
--- what was asked of a taken request was asked before any later entry
+-- the fields of a taken request were there before any later entry
 asked_before : (C : Config) (e : Entry) (P : History) (r : ℕ) (q : Request) → IsLegal C (e ∷ P) → is_taken P r ≡ true → request_at (e ∷ P) r ≡ Some q → request_at P r ≡ Some q
 asked_before C e P r q l h was =
     let x = taken_known C P r l.0 h in

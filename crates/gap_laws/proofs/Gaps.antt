@@ -1,4 +1,4 @@
--- The difference of two tenants' starts where every request costs what was declared: a lead with nothing in doubt.
+-- The difference of two tenants' starts where every cost is as declared: a lead whose doubt is 0.
 use Rattle.std.proofs.Common.{ℕ, ◌*◌, ◌≡◌, true, sym, subst, arith, inl, inr, ◌++◌, ℤ, pos, ◌≤ℤ◌}
 use Rattle.std.specs.Int.{int_max}
 use Rattle.std.proofs.lemmas.Int.{ints, clamps}
@@ -14,7 +14,7 @@ use Rattle.gap_laws.proofs.Declared.{AllDeclared, all_are_declared, legal_prefix
 use Rattle.gap_laws.proofs.Lengths.{LengthsAtMost, longest_covers_first, longest_covers_second, lengths_prefix}
 use Rattle.gap_laws.proofs.Undoubted.{apart_below}
 
--- what is known of the difference at a shared prefix, where no length is above B
+-- the bound of the difference at a shared prefix, where no length is above B
 abbrev pub BelowLengths : Config → History → ℕ → ℕ → ℕ → Type 0
 BelowLengths C P f g B = start_difference C P f g ≤ℤ int_max (start_difference C (run_start P f g) f g) (pos (lengths_in_bound C.policy * B))
 

@@ -29,7 +29,7 @@ use Rattle.fq_laws.proofs.Keys.Choices.{KeysOf, keys_of, head_has_keys}
 use Rattle.fq_laws.proofs.Keys.Others.{start_moment}
 use Rattle.fq_laws.proofs.Rules.Takes.{choice_head}
 
--- ---- what a tenant has at most, and at least
+-- ---- the most and the least of a tenant
 
 abbrev pub rising : (ℕ → ℕ) → Measure
 rising cap = λ r x. cap r - x
@@ -37,8 +37,8 @@ rising cap = λ r x. cap r - x
 abbrev pub falling : (ℕ → ℕ) → Measure
 falling low = λ r x. x - low r
 
--- the start s of a tenant goes by its virtual charge v; the sum over what runs is u; x and z are the lengths of the
--- request of the entry before and after it, if that is one of the tenant
+-- the start s of a tenant goes by its virtual charge v; the sum over its running requests is u; x and z are the lengths
+-- of the request of the entry before and after it, if that is a request of the tenant
 
 report_most : (own : Bool) (s s2 v v2 u u2 x z cap : ℕ) → s2 + v ≡ s + v2 → v2 + cond own x 0 ≡ v + cond own z 0 → u2 + cond own (cap - x) 0 ≡ u + cond own (cap - z) 0 → (own ≡ true → x ≤ cap) → (own ≡ true → z ≤ cap) → s2 + u2 ≤ s + u
 report_most true s s2 v v2 u u2 x z cap starts charges sums before after = omega (arith, starts, charges, sums, before refl, after refl)
@@ -66,7 +66,7 @@ take_most own s s2 v v2 u u2 z cap other starts charges sums =
     let k : u2 ≡ u + 0 = rw other at sums in
     omega (arith, starts, c, k)
 
--- nothing is taken of a tenant whose request it is not
+-- where an act takes no request of the tenant, its request is of another tenant
 not_own : (w : ℕ) (own : Bool) → cond own (Some w) None ≡ None → own ≡ false
 not_own w true h = absurd (cc)
 not_own w false h = refl
@@ -104,11 +104,11 @@ module _ (C : Config) (P : History) (who m t w q used : ℕ) (f : FitsUse P w q 
 abbrev pub GoesByCharge : Config → History → History → ℕ → Type 0
 GoesByCharge C P Q t = start_now C Q t + virtual_charge C P t ≡ start_now C P t + virtual_charge C Q t
 
--- and it never falls behind that
+-- and the start of each tenant rises at least as its virtual charge does
 abbrev pub AtLeastByCharge : Config → History → History → ℕ → Type 0
 AtLeastByCharge C P Q t = start_now C P t + virtual_charge C Q t ≤ start_now C Q t + virtual_charge C P t
 
--- what it has at most does not rise, but where one of its requests is taken
+-- the most of a tenant does not rise, but where one of its requests is taken
 pub most_at : (C : Config) (P : History) (who m t : ℕ) (cap : ℕ → ℕ) (a : Act) → InLimits C → IsLegal C (one_more who m a P) → AreCaps C (one_more who m a P) t cap → AreCaps C P t cap → takes_of t P a ≡ None → GoesByCharge C P (one_more who m a P) t → start_now C (one_more who m a P) t + may_rise cap C (one_more who m a P) t ≤ start_now C P t + may_rise cap C P t
 most_at C P who m t cap (Submit request tenant kind declared label) lim l now before none starts =
     omega (arith, starts, virtual_charge_submit C P who m t request tenant kind declared label l.0 l.3.numbered, over_submit (rising cap) C P who m t request tenant kind declared label l.0 l.3.numbered)
@@ -128,7 +128,7 @@ most_at C P who m t cap (Done w q used) lim l now before none starts =
 most_at C P who m t cap (Withdraw q) lim l now before none starts = omega (arith, starts, virtual_charge_withdraw C P who m t q, over_withdraw (rising cap) C P who m t q)
 most_at C P who m t cap a lim l now before none starts = omega (arith, starts, virtual_charge_quiet C P who m t a refl, over_quiet (rising cap) C P who m t a refl)
 
--- what it has at least does not fall
+-- the least of a tenant does not fall
 pub least_at : (C : Config) (P : History) (who m t : ℕ) (low : ℕ → ℕ) (a : Act) → InLimits C → IsLegal C (one_more who m a P) → AreLows C (one_more who m a P) t low → AreLows C P t low → AtLeastByCharge C P (one_more who m a P) t → start_now C P t + may_fall low C (one_more who m a P) t ≤ start_now C (one_more who m a P) t + may_fall low C P t
 least_at C P who m t low (Submit request tenant kind declared label) lim l now before starts =
     omega (arith, starts, virtual_charge_submit C P who m t request tenant kind declared label l.0 l.3.numbered, over_submit (falling low) C P who m t request tenant kind declared label l.0 l.3.numbered)
@@ -150,7 +150,7 @@ least_at C P who m t low a lim l now before starts = omega (arith, starts, virtu
 
 -- ---- a Take of f
 
--- the keys of the head of t, by where t starts now
+-- the keys of the head of t, by the start of t now
 head_is : (C : Config) (P : History) (m t : ℕ) (k : HeadKeys) → IsLegal C P → keys_at C P m t ≡ Some k → k ≡ keys (start_now C P t) (head_length C P t) k.request
 head_is C P m t k l h =
     let z : KeysOf C P m t k = keys_of C P m t k h in
@@ -158,7 +158,7 @@ head_is C P m t k l h =
     let long : head_length C P t ≡ length_of (request_estimate C P z.what) (weight_at C P t) = rw (z.is_head, z.was_asked) refl in
     z.is ∙ rw (now, long) refl
 
--- the chosen tenant f, whose head is x long, is ahead of g by no more than this after the Take
+-- the finish of the chosen tenant f is above the start of g by no more than the lead of the Take
 pub chosen_ahead : (C : Config) (P : History) (m w f g r : ℕ) (k : HeadKeys) → g ≢ f → IsLegal C P → head P g ≡ Some r → w < pool_at C P → IsChoiceAt C P m w f k → pos (start_now C P f + head_length C P f) ≤ℤ (pos (start_now C P g) +ℤ lead_of_take C P w f g)
 chosen_ahead C P m w f g r k ne l waits known choice =
     let other = head_has_keys C P m g r waits in
@@ -166,7 +166,7 @@ chosen_ahead C P m w f g r k ne l waits known choice =
     let at_f : IsChoiceAt C P m w f (keys (start_now C P f) (head_length C P f) k.request) = subst (IsChoiceAt C P m w f) (head_is C P m f k l (choice_head C P m w f k choice)) choice in
     chosen_lead (turn_at C P m w) (HasKeys C P m) f g (start_now C P f) (start_now C P g) (head_length C P f) (head_length C P g) k.request other.0.request known ne at_g at_f
 
--- what a Take takes is the head of its tenant, and as long as that is thought to be
+-- the request of a Take is the head of its tenant, and is as long by the estimate of the Take as that head
 pub record OfHead (C : Config) (P : History) (m w f c : ℕ) : Type 0 where
   pub its_keys : HeadKeys
   pub choice : IsChoiceAt C P m w f its_keys
@@ -189,7 +189,7 @@ of_head C P m w q c f fits own =
       length_is = ap (λ x. length_of x (weight_at C P f)) z.estimate_is ∙ sym long;
     }
 
--- a request of f is none of g
+-- a request of f is no request of g
 pub not_both : (f g : ℕ) (o : Option Request) → f ≢ g → is_of_tenant f o ≡ true → is_of_tenant g o ≡ false
 not_both f g None ne h = refl
 not_both f g (Some q) ne h = ne_eqb q.tenant g (λ e. ne (sym (eqb-true q.tenant f h) ∙ e))
@@ -200,7 +200,7 @@ ahead_then own mine sf sf2 vf vf2 sg sg2 vg vg2 x y T is_own is_not starts_f sta
     let b : vg2 ≡ vg + 0 = rw is_not at charge_g in
     omega (arith, ints, starts_f, starts_g, a, b, low)
 
--- what it takes leaves f ahead of g by no more than this
+-- after a Take of a request of f, the start of f is above that of g by no more than the lead of the Take
 take_ahead : (C : Config) (P : History) (who m w q c f g r : ℕ) → f ≢ g → InLimits C → IsLegal C (one_more who m (Take w q c) P) → is_of_tenant f (request_at P q) ≡ true → head P g ≡ Some r → GoesByCharge C P (one_more who m (Take w q c) P) f → GoesByCharge C P (one_more who m (Take w q c) P) g → (pos (start_now C (one_more who m (Take w q c) P) f) -ℤ pos (start_now C (one_more who m (Take w q c) P) g)) ≤ℤ lead_of_take C P w f g
 take_ahead C P who m w q c f g r ne lim l own waits starts_f starts_g =
     let z : OfHead C P m w f c = of_head C P m w q c f l.3 own in
@@ -209,7 +209,7 @@ take_ahead C P who m w q c f g r ne lim l own waits starts_f starts_g =
     ahead_then (is_of_tenant f (request_at P q)) (is_of_tenant g (request_at P q)) _ _ _ _ _ _ _ _ (length_of c (weight_at C P f)) (length_of c (weight_at C P g)) (lead_of_take C P w f g) own (not_both f g (request_at P q) ne own) starts_f starts_g
     (virtual_charge_taken C P who m f w q c lim l.0 l.3) (virtual_charge_taken C P who m g w q c lim l.0 l.3) low
 
--- so does each act that takes a request of f
+-- so it is after each act that takes a request of f
 pub some_own : (w i : ℕ) (own : Bool) → cond own (Some w) None ≡ Some i → (own ≡ true) × (w ≡ i)
 some_own w i true h = (refl, cc)
 some_own w i false h = absurd (cc)
@@ -226,14 +226,14 @@ taken_ahead C P who m f g i r _ ne lim l some waits starts_f starts_g = absurd (
 abbrev Steps : (ℕ → ℕ) → (ℕ → ℕ) → Config → History → History → ℕ → ℕ → ℤ → Type 0
 Steps cap low C P Q f g B = (lead cap low C Q f g ≤ℤ lead cap low C P f g) ⊎ (lead cap low C Q f g ≤ℤ B)
 
--- where most does not rise, and least does not fall
+-- where the most of f does not rise, and the least of g does not fall
 not_more : (sf sf2 uf uf2 sg sg2 ug ug2 : ℕ) → sf2 + uf2 ≤ sf + uf → sg + ug2 ≤ sg2 + ug → (pos (sf2 + uf2) -ℤ (pos sg2 -ℤ pos ug2)) ≤ℤ (pos (sf + uf) -ℤ (pos sg -ℤ pos ug))
 not_more sf sf2 uf uf2 sg sg2 ug ug2 high low = omega (arith, ints, high, low)
 
 at_most : (sf sg uf ug : ℕ) (T B : ℤ) → (pos sf -ℤ pos sg) ≤ℤ T → (T +ℤ pos (uf + ug)) ≤ℤ B → (pos (sf + uf) -ℤ (pos sg -ℤ pos ug)) ≤ℤ B
 at_most sf sg uf ug T B ahead with_doubt = omega (arith, ints, ahead, with_doubt)
 
--- what holds of one entry more
+-- the premises of the law, of the history H from S on
 pub record Premises (cap low : ℕ → ℕ) (C : Config) (S H : History) (f g : ℕ) (B : ℤ) : Type 0 where
   pub limits : InLimits C
   pub legal : IsLegal C H
@@ -271,7 +271,7 @@ within_either x y z b h (inr k) = omega (arith, ints, clamps)
 at_first : (x b : ℤ) → x ≤ℤ int_max x b
 at_first x b = omega (arith, ints, clamps)
 
--- while both wait, from P on, the lead is at most what it was at P, or B
+-- while both wait, from P on, the lead is at most the lead at P, or B
 pub lead_on : (cap low : ℕ → ℕ) (C : Config) (newer P : History) (f g : ℕ) (B : ℤ) → f ≢ g → Premises cap low C P (newer ++ P) f g B → AreSharedFrom P (newer ++ P) f g → lead cap low C (newer ++ P) f g ≤ℤ int_max (lead cap low C P f g) B
 lead_on cap low C [] P f g B ne h shared = at_first (lead cap low C P f g) B
 lead_on cap low C (e ∷ newer) P f g B ne h shared =
@@ -288,7 +288,7 @@ lead_from cap low C P Q f g B ne h is shared =
     subst (λ H. lead cap low C H f g ≤ℤ int_max (lead cap low C P f g) B) (sym split)
     (lead_on cap low C newer P f g B ne (subst (λ H. Premises cap low C P H f g B) split h) (λ R inner outer. shared R (subst (IsPrefix R) (sym split) inner) outer))
 
--- so at most what it was where the run began, or B
+-- so it is at most the lead where the run began, or B
 abbrev pub StaysBelow : (ℕ → ℕ) → (ℕ → ℕ) → Config → History → ℕ → ℕ → ℤ → Type 0
 StaysBelow cap low C P f g B = lead cap low C P f g ≤ℤ int_max (lead cap low C (run_start P f g) f g) B
 

@@ -90,6 +90,6 @@ weight_had : (C : Config) (P : History) (t : ℕ) → Member (weight_at C P t) (
 weight_had C [] t = inl refl
 weight_had C (e ∷ P) t = inl refl
 
--- the length of what a request of t declared, at the weight of t in P
+-- the length of the declared cost of a request of t, at the weight of t in P
 pub length_now : (C : Config) (P : History) (t r B : ℕ) (q : Request) → LengthsAtMost C P t B → request_at P r ≡ Some q → q.tenant ≡ t → length_of q.declared (weight_at C P t) ≤ B
 length_now C P t r B q h was own = h q.declared (weight_at C P t) (subst (λ u. Member q.declared (all_declared P u)) own (declared_had P r q was)) (weight_had C P t)

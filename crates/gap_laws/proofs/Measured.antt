@@ -1,4 +1,4 @@
--- The bound that is measured on a history: what each request became there is its cap and its low.
+-- The bound that is measured on a history: the greatest and least length of each request there are its cap and its low.
 use Rattle.std.proofs.Common.{ℕ, ◌+◌, ◌*◌, ◌≤◌, ◌≡◌, ◌≢◌, ◌∙◌, min, cond, Bool, true, false, refl, sym, ap, subst, arith, inl, inr, List, [], ◌∷◌, ◌++◌, Some, None, ℤ, pos, ◌≤ℤ◌}
 use Rattle.std.specs.Prelude.{◌+ℤ◌, ◌-ℤ◌, option_map, ◌↔◌}
 use Rattle.std.specs.Int.{int_max}
@@ -26,7 +26,7 @@ use Rattle.gap_laws.proofs.WorstCase.{lead_stays_below, legal_in, caps_in}
 
 -- ---- caps and lows
 
--- what is a taken request of t stays one
+-- a taken request of t stays a taken request of t
 of_tenant_stays : (C : Config) (e : Entry) (P : History) (t r : ℕ) → IsLegal C (e ∷ P) → is_taken_of P t r ≡ true → is_taken_of (e ∷ P) t r ≡ true
 unfolding is_taken_of
 of_tenant_stays C e P t r l h =
@@ -69,12 +69,12 @@ caps_are C H t = λ Q r is taken. rw (is.1, ← charged_is C Q t r taken) (longe
 lows_are : (C : Config) (H : History) (t : ℕ) → IsLegal C H → AreLows C H t (shortest_of C H t)
 lows_are C H t l = λ Q r is taken. rw (is.1, ← charged_is C Q t r taken) (shortest_covers C is.0 Q t r (subst (IsLegal C) is.1 l) taken)
 
--- ---- what is told of the Takes
+-- ---- the lengths and the doubts at the Takes
 
 is_take : (P : History) (a : Act) (f g i : ℕ) → is_shared P f g ≡ true → takes_of f P a ≡ Some i → is_lead_take P a f g ≡ true
 is_take P a f g i shared some = rw (shared, some) refl
 
--- the lengths of the heads at a Take are told
+-- the lengths of both heads at a Take are among the lengths at the Takes
 lengths_told : (C : Config) (newer : History) (e : Entry) (P : History) (f g : ℕ) → is_lead_take P e.act f g ≡ true → Member (head_length C P f) (take_lengths C (newer ++ e ∷ P) f g) × Member (head_length C P g) (take_lengths C (newer ++ e ∷ P) f g)
 unfolding take_lengths
 lengths_told C [] e P f g h = rw h (inl refl, inr (inl refl))
@@ -85,7 +85,7 @@ lengths_told C (d ∷ newer) e P f g h =
       cond_both (is_lead_take Q d.act f g) (head_length C Q f ∷ head_length C Q g ∷ take_lengths C Q f g) (take_lengths C Q f g) (Member (head_length C P g)) (λ _. inr (inr older.1)) (λ _. older.1),
     )
 
--- so is the doubt after it
+-- the doubt after a Take is among the doubts after the Takes
 doubt_told : (C : Config) (H newer : History) (e : Entry) (P : History) (f g : ℕ) → is_lead_take P e.act f g ≡ true → Member (doubt (longest_of C H f) (shortest_of C H g) C (e ∷ P) f g) (take_doubts C H (newer ++ e ∷ P) f g)
 unfolding take_doubts
 doubt_told C H [] e P f g h = rw h (inl refl)
@@ -129,7 +129,7 @@ lead_counted C H P f g h =
     value_counted (first_test f g) (measured C H f g) h.0.0.0 P (first_none f g) (and_from _ _ h.0.1 (not_from_false _ h.1)) in
     rw (leads_are C H H f g) (subst (λ Q. Among (measured C H f g P) (values_where (first_test f g) (measured C H f g) Q)) (sym split) counted)
 
--- each of them is one there
+-- each of the first leads is the lead at a prefix where both begin to wait
 lead_found : (C : Config) (H : History) (f g : ℕ) (x : ℤ) → Among x (first_leads C H H f g) → (P : History) × IsFirstIn H f g P × (measured_lead C H P f g ≡ x)
 unfolding first_test measured
 lead_found C H f g x h =
@@ -142,7 +142,7 @@ lead_found C H f g x h =
 starts_below : (sf sg uf ug : ℕ) (b B bound : ℤ) → (pos (sf + uf) -ℤ (pos sg -ℤ pos ug)) ≤ℤ int_max b B → b ≤ℤ bound → B ≤ℤ bound → (pos sf -ℤ pos sg) ≤ℤ bound
 starts_below sf sg uf ug b B bound h first takes = omega (arith, ints, clamps, h, first, takes)
 
--- at each shared prefix
+-- the difference at each shared prefix is at most the bound
 measured_below : (C : Config) (H P : History) (f g : ℕ) → f ≢ g → InLimits C → IsLegal C H → IsSharedIn H f g P → start_difference C P f g ≤ℤ lead_bound C H f g
 unfolding start_difference lead_bound
 measured_below C H P f g ne lim l is =
@@ -163,7 +163,7 @@ measured_bounded C H f g gap ne lim l h =
     let largest : IsGreatestAt (IsSharedIn H f g) (λ P. start_difference C P f g) gap.largest = largest_at C H f g gap.largest p.0 in
     rw (p.1, ← largest.reached.2) (measured_below C H largest.reached.0 f g ne lim l largest.reached.1)
 
--- ---- what it tells
+-- ---- the parts of a measured gap
 
 pub measured_greatest : MeasuredIsGreatest
 unfolding measured_gap

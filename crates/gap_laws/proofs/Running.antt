@@ -1,4 +1,4 @@
--- Sums over the requests of a tenant that run: at one entry more.
+-- Sums over the running requests of a tenant: at one entry more.
 use Rattle.std.proofs.Common.{ℕ, ◌+◌, ◌<◌, ◌≡◌, ◌≢◌, ◌∙◌, max, cond, Bool, true, false, refl, sym, ap, subst, arith, Option, Some, None}
 use Rattle.std.proofs.lemmas.Bool.{false≢true, eq-eqb, ne_eqb}
 use Rattle.vt_fixed.specs.Rounding.{length_of}
@@ -18,20 +18,20 @@ use Rattle.fq_laws.proofs.History.Asked.{waits_untaken}
 use Rattle.fq_laws.proofs.Rules.Takes.{take_waits}
 use Rattle.fq_laws.proofs.Charge.Requests.{charge_take, charge_take_other, taken_weight_take, taken_weight_take_other, charge_report, charge_report_other, charge_done_other, charge_submit, charge_withdraw, charge_quiet}
 
--- ---- what one worker adds
+-- ---- the part of one worker
 
--- what is made of a request by its number and its length
+-- the part of a request in a sum, by its number and its length
 abbrev pub Measure : Type 0
 Measure = ℕ → ℕ → ℕ
 
 abbrev pub over : Measure → Config → History → ℕ → ℕ
 over v C P t = over_running C P t (λ r. v r (request_length C P t r))
 
--- what worker i adds
+-- the part of worker i
 abbrev pub term : Measure → Config → History → ℕ → ℕ → ℕ
 term v C P t i = of_request P t (λ r. v r (request_length C P t r)) (running_on P i)
 
--- r is in Q as it is in P
+-- request r has in Q the tenant, the charge and the weight that it has in P
 record Same (C : Config) (P Q : History) (t r : ℕ) : Type 0 where
   tenant : is_of_tenant t (request_at Q r) ≡ is_of_tenant t (request_at P r)
   charge_is : charge Q r ≡ charge P r
@@ -44,7 +44,7 @@ of_same : (v : Measure) (C : Config) (P Q : History) (t : ℕ) (o : Option ℕ) 
 of_same v C P Q t None h = refl
 of_same v C P Q t (Some r) h = let k : Same C P Q t r = h r refl in measured_same v r _ _ _ _ _ _ k.tenant k.charge_is k.weight
 
--- a worker adds what it did, if it runs what it did, and that request is as it was
+-- a worker's part stays where it runs the same request, with an unchanged tenant, charge and weight
 term_same : (v : Measure) (C : Config) (P Q : History) (t i : ℕ) → running_on Q i ≡ running_on P i → ((r : ℕ) → running_on P i ≡ Some r → Same C P Q t r) → term v C Q t i ≡ term v C P t i
 term_same v C P Q t i e h = rw e (of_same v C P Q t (running_on P i) h)
 
@@ -89,7 +89,7 @@ quiet_runs P who m i a q = refl
 apart : (C : Config) (P : History) (w i q r : ℕ) → IsLegal C P → i ≢ w → Runs P w q → running_on P i ≡ Some r → q ≢ r
 apart C P w i q r l ne runs is = λ e. ne (runs_on_one C P i w r l (running_runs C P i r l is) (subst (λ s. Runs P w s) e runs))
 
--- what a Take takes ran nowhere
+-- the request of a Take ran nowhere before it
 untaken : (C : Config) (P : History) (m w q c i r : ℕ) → IsLegal C P → FitsTake C P m w q c → running_on P i ≡ Some r → q ≢ r
 untaken C P m w q c i r l f is = λ e.
     let no : is_taken P q ≡ false = waits_untaken P q (take_waits C P m w q c f) in
@@ -107,7 +107,7 @@ unfolding over_running
 over_submit v C P who m t q u kind declared label l n = sum_same (term v C (one_more who m (Submit q u kind declared label) P) t) (term v C P t) C.workers
     (λ i b. term_same v C P (one_more who m (Submit q u kind declared label) P) t i refl (λ r is. same_submit C P who m t r q u kind declared label l n (running_taken C P i r l is)))
 
--- a Withdraw leaves what runs as it was
+-- a Withdraw does not change the sum
 pub over_withdraw : (v : Measure) (C : Config) (P : History) (who m t q : ℕ) → over v C (one_more who m (Withdraw q) P) t ≡ over v C P t
 unfolding over_running
 over_withdraw v C P who m t q = sum_same (term v C (one_more who m (Withdraw q) P) t) (term v C P t) C.workers (λ i b. term_same v C P (one_more who m (Withdraw q) P) t i refl (λ r is. same_withdraw C P who m t r q))
@@ -117,7 +117,7 @@ over_at : (v : Measure) (C : Config) (P Q : History) (t w : ℕ) → w < C.worke
 unfolding over_running
 over_at v C P Q t w known others = sum_at (term v C P t) (term v C Q t) w C.workers known (λ i ne. sym (others i ne))
 
--- a Take adds what it takes
+-- a Take adds the part of its request
 pub over_taken : (v : Measure) (C : Config) (P : History) (who m t w q c : ℕ) → IsLegal C P → FitsTake C P m w q c → over v C (one_more who m (Take w q c) P) t ≡ over v C P t + cond (is_of_tenant t (request_at P q)) (v q (length_of c (weight_at C P t))) 0
 over_taken v C P who m t w q c l f =
     let Q : History = one_more who m (Take w q c) P in
@@ -128,7 +128,7 @@ over_taken v C P who m t w q c l f =
     rw now (measured_same v q _ _ _ _ _ _ refl (charge_take C P who m w q c l f) (taken_weight_take C P who m t w q c)) in
     omega (arith, over_at v C P Q t w (omega (arith, f.worker_known, pool_high C P l)) (λ i ne. term_same v C P Q t i (rw (ne_eqb w i (λ e. ne (sym e))) refl) (λ r is. same_take C P who m t r w q c (untaken C P m w q c i r l f is))), before, after)
 
--- a Report changes what its request adds
+-- a Report changes the part of its request
 pub over_reported : (v : Measure) (C : Config) (P : History) (who m t w q used : ℕ) → IsLegal C P → FitsUse P w q used → over v C (one_more who m (Report w q used) P) t + cond (is_of_tenant t (request_at P q)) (v q (request_length C P t q)) 0 ≡ over v C P t + cond (is_of_tenant t (request_at P q)) (v q (length_of (max used (charge P q)) (taken_weight C P t q))) 0
 over_reported v C P who m t w q used l f =
     let Q : History = one_more who m (Report w q used) P in
@@ -138,7 +138,7 @@ over_reported v C P who m t w q used l f =
     rw runs (measured_same v q _ _ _ _ _ _ refl (charge_report P who m w q used f) refl) in
     omega (arith, over_at v C P Q t w (runs_worker_known C P w q l f.runs) (λ i ne. term_same v C P Q t i refl (λ r is. same_report C P who m t r w q used (apart C P w i q r l ne f.runs is))), before, after)
 
--- a Done takes it away
+-- a Done takes away the part of its request
 pub over_finished : (v : Measure) (C : Config) (P : History) (who m t w q cost : ℕ) → IsLegal C P → FitsUse P w q cost → over v C (one_more who m (Done w q cost) P) t + cond (is_of_tenant t (request_at P q)) (v q (request_length C P t q)) 0 ≡ over v C P t
 over_finished v C P who m t w q cost l f =
     let Q : History = one_more who m (Done w q cost) P in
@@ -148,6 +148,6 @@ over_finished v C P who m t w q cost l f =
     let after : term v C Q t w ≡ 0 = rw none refl in
     omega (arith, over_at v C P Q t w (runs_worker_known C P w q l f.runs) (λ i ne. term_same v C P Q t i (rw (ne_eqb w i (λ e. ne (sym e))) refl) (λ r is. same_done C P who m t r w q cost (apart C P w i q r l ne f.runs is))), before, after)
 
--- as long as what a Take takes is thought to be
+-- just after a Take its request is as long as by its estimate
 pub taken_length : (C : Config) (P : History) (who m w q c t : ℕ) → IsLegal C P → FitsTake C P m w q c → request_length C (one_more who m (Take w q c) P) t q ≡ length_of c (weight_at C P t)
 taken_length C P who m w q c t l f = rw (charge_take C P who m w q c l f, taken_weight_take C P who m t w q c) refl

@@ -49,7 +49,7 @@ pub run_new : (e : Entry) (P : History) (f g : ℕ) → is_shared P f g ≡ fals
 unfolding run_start
 run_new e P f g h = rw h refl
 
--- what a prefix is a prefix of is a prefix of one entry more
+-- a prefix of a history is a prefix of that history with one entry more
 pub prefix_older : (e : Entry) (P R : History) → IsPrefix R P → IsPrefix R (e ∷ P)
 prefix_older e P R h = (e ∷ h.0, ap (λ Q. e ∷ Q) h.1)
 
@@ -74,7 +74,7 @@ longer_run e P Q f g now b = record {
   shared = λ R of_longer over. elim (prefix_cases e P R of_longer) [ inl all ↦ rw all now | inr older ↦ b.shared R older over ];
 }
 
--- it begins at what follows a prefix that is not shared
+-- a run begins at the prefix after one that is not shared
 new_run : (e : Entry) (P : History) (f g : ℕ) → is_shared (e ∷ P) f g ≡ true → is_shared P f g ≡ false → RunBegins (e ∷ P) f g (e ∷ P)
 new_run e P f g now before = record {
   first = ((([], refl), now), before);

@@ -1,4 +1,4 @@
--- What one tenant gains on another while both wait, by any account of what they have.
+-- The gain of one tenant on another while both wait, by any account of the two.
 use Rattle.std.proofs.Common.{ℕ, ◌+◌, ◌*◌, ◌≤◌, ◌≡◌, ◌≢◌, true, refl, sym, arith, [], ℤ, pos, ◌≤ℤ◌}
 use Rattle.std.specs.Prelude.{◌-ℤ◌, ◌+ℤ◌, is_some}
 use Rattle.std.specs.Int.{int_max}
@@ -19,11 +19,11 @@ pub shared_both : (P : History) (f g : ℕ) → is_shared P f g ≡ true → is_
 unfolding is_shared
 shared_both P f g h = let p = and_parts (is_some (head P f)) (is_some (head P g)) h in and_from (is_some (head P g)) (is_some (head P f)) p.1 p.0
 
--- from P on, with P as the start
+-- the worst case of the lead from P on, by the lead at P
 worst_on : (C : Config) (P Q : History) (f g M : ℕ) → f ≢ g → InLimits C → IsLegal C Q → AreNoLonger C Q f g M → IsPrefix P Q → AreSharedFrom P Q f g → worst_lead M C Q f g ≤ℤ int_max (worst_lead M C P f g) (worst C M)
 worst_on C P Q f g M ne lim l h is shared = lead_from (longest M) nothing C P Q f g (worst C M) ne (worst_premises C P Q f g M ne lim l h) is shared
 
--- (the starts of the two at P, what may be added to them and taken from them, and the accounts at P and at Q)
+-- (the starts of the two at P, by how much these may rise and fall, and the accounts at P and at Q)
 gained : (sf sg rf rg lf lg all M : ℕ) (lead_q most_q least_q f_p f_q g_p g_q begun : ℤ) → lead_q ≤ℤ int_max (pos (sf + rf) -ℤ (pos sg -ℤ pos lg)) (pos (all + M) -ℤ pos 1) → (most_q -ℤ least_q) ≡ lead_q → f_q ≤ℤ most_q → least_q ≤ℤ g_q → (pos sf -ℤ pos lf) ≤ℤ f_p → g_p ≤ℤ pos (sg + rg) → (pos (sg + rg) -ℤ (pos sf -ℤ pos lf)) ≤ℤ int_max begun (pos (all + M) -ℤ pos 1) → rf + lg ≤ all → rg + lf ≤ all → ((f_q -ℤ f_p) -ℤ (g_q -ℤ g_p)) ≤ℤ (pos (all + M) +ℤ int_max begun (pos (all + M)))
 gained sf sg rf rg lf lg all M lead_q most_q least_q f_p f_q g_p g_q begun low is fq gq fp gp back one two = omega (arith, ints, clamps, low, is, fq, gq, fp, gp, back, one, two)
 

@@ -1,4 +1,4 @@
--- Where a tenant that waits starts: at one entry more, and at its head's keys.
+-- The start of a tenant that waits: at one entry more, and in its head's keys.
 use Rattle.std.proofs.Common.{ℕ, ◌+◌, ◌≤◌, ◌≡◌, refl, arith, ◌∷◌, ◌∙◌, ◌&&◌, false, Some}
 use Rattle.std.specs.Prelude.{is_none}
 use Rattle.std.proofs.lemmas.Bool.{and_right}
@@ -27,7 +27,7 @@ base_waiting C P e t r h =
     let off : (is_submit_for t e.act && is_none (head P t)) ≡ false = and_right _ _ some in
     base_step C P e t ∙ rw off refl
 
--- and where it starts changes as its virtual charge does, under each policy
+-- and its start changes as its virtual charge does, under each policy
 pub start_step : (C : Config) (P : History) (e : Entry) (t r : ℕ) → IsLegal C P → head P t ≡ Some r → start C (e ∷ P) e.moment t + virtual_charge C P t ≡ start C P (last_moment P) t + virtual_charge C (e ∷ P) t
 start_step C P e t r l h =
     let base : tag_base C (e ∷ P) t ≡ tag_base C P t = base_waiting C P e t r h in
@@ -35,7 +35,7 @@ start_step C P e t r l h =
     let same : start_for C.policy (tag_base C (e ∷ P) t) (virtual_idle_time C (e ∷ P) e.moment t) ≡ start_for C.policy (tag_base C P t) (virtual_idle_time C P (last_moment P) t) = rw (base, idle) refl in
     omega (arith, start_is C (e ∷ P) e.moment t, start_is C P (last_moment P) t, same)
 
--- whether it waits or not, it is never later by less than its virtual charge is greater
+-- whether it waits or not, its start rises by no less than its virtual charge
 at_least : (policy : Policy) (base base2 idle idle2 : ℕ) → base ≤ base2 → idle ≤ idle2 → start_for policy base idle ≤ start_for policy base2 idle2
 at_least Wfq base base2 idle idle2 h k = h
 at_least Wf2q base base2 idle idle2 h k = h
@@ -48,6 +48,6 @@ start_rises C P e t =
     let idle : virtual_idle_time C P (last_moment P) t ≤ virtual_idle_time C (e ∷ P) e.moment t = omega (arith, idle_step C P e t, idle_split C P e.moment t) in
     omega (arith, start_is C (e ∷ P) e.moment t, start_is C P (last_moment P) t, at_least C.policy _ _ _ _ (base_rises C P e t) idle)
 
--- so it is later by the length that the entry takes, where every request is as declared
+-- so its start rises by the length that the entry takes, where every request is as declared
 pub start_taken : (C : Config) (P : History) (e : Entry) (t r : ℕ) → InLimits C → IsLegal C (e ∷ P) → AllDeclared C (e ∷ P) → head P t ≡ Some r → start C (e ∷ P) e.moment t ≡ start C P (last_moment P) t + taken_length C P t e.act
 start_taken C P e t r lim l d h = omega (arith, start_step C P e t r l.0 h, charge_step C P e t lim l d)

@@ -31,7 +31,7 @@ use Rattle.gap_laws.proofs.Starts.{start_step, start_rises}
 use Rattle.gap_laws.proofs.Leads.{falling, most_at, least_at, OfHead, of_head, chosen_ahead}
 use Rattle.gap_laws.proofs.WorstCase.{stagger_below, head_some, longest, nothing, legal_in, longest_in, caps_in, worst_lead_below}
 
--- ---- the least length of what is taken after S
+-- ---- the least length of the requests that are taken after S
 
 abbrev later_low : History → ℕ → ℕ → ℕ
 later_low S c = λ r. cond (is_taken S r) 0 c
@@ -42,7 +42,7 @@ lows_later C S H t c h = λ Q r is taken. elim (cases_Bool (is_taken S r)) [
   | inr new ↦ rw new (h Q r is taken new)
 ]
 
--- at S it asks nothing of what runs
+-- at S the low of each running request is 0
 fall_same : (C : Config) (P : History) (t : ℕ) (x y : ℕ → ℕ) (o : Option ℕ) → ((r : ℕ) → o ≡ Some r → x r ≡ y r) → of_request P t x o ≡ of_request P t y o
 fall_same C P t x y None h = refl
 fall_same C P t x y (Some r) h = rw (h r refl) refl
@@ -57,14 +57,14 @@ falls_at_first C S t c l = sum_same _ _ C.workers (λ i b. fall_same C S t (λ r
 own_take_least : (s s2 v v2 u u2 z low : ℕ) → s + v2 ≤ s2 + v → v2 ≡ v + z → u2 ≡ u + (z - low) → low ≤ z → s + u2 + low ≤ s2 + u
 own_take_least s s2 v v2 u u2 z low starts charges sums less = omega (arith, starts, charges, sums, less)
 
--- it raises what f has at least by the low of what it takes
+-- a Take of a request of f raises the least of f by the low of that request
 least_taken : (C : Config) (P : History) (who m w q c f : ℕ) (low : ℕ → ℕ) → InLimits C → IsLegal C (one_more who m (Take w q c) P) → is_of_tenant f (request_at P q) ≡ true → low q ≤ length_of c (weight_at C P f) → start_now C P f + may_fall low C (one_more who m (Take w q c) P) f + low q ≤ start_now C (one_more who m (Take w q c) P) f + may_fall low C P f
 least_taken C P who m w q c f low lim l own less =
     let charges : virtual_charge C (one_more who m (Take w q c) P) f ≡ virtual_charge C P f + length_of c (weight_at C P f) = rw own at (virtual_charge_taken C P who m f w q c lim l.0 l.3) in
     let sums : may_fall low C (one_more who m (Take w q c) P) f ≡ may_fall low C P f + (length_of c (weight_at C P f) - low q) = rw own at (over_taken (falling low) C P who m f w q c l.0 l.3) in
     own_take_least _ _ _ _ _ _ (length_of c (weight_at C P f)) (low q) (start_rises C P (record { who = who; moment = m; act = Take w q c }) f) charges sums less
 
--- before it f is ahead of g by less than one request of the greatest length
+-- before a Take of f, f is ahead of g by less than one request of the greatest length
 before_take : (a b x y M : ℕ) (part : ℤ) → pos (a + x) ≤ℤ (pos b +ℤ int_max (pos y) (part +ℤ pos x)) → (part +ℤ pos 1) ≤ℤ pos x → 1 ≤ x → x ≤ M → y ≤ M → a + 1 ≤ b + M
 before_take a b x y M part ahead less some low_x low_y = omega (arith, ints, clamps, ahead, less, some, low_x, low_y)
 
@@ -119,7 +119,7 @@ record Stands (C : Config) (S P : History) (f g M c k : ℕ) : Type 0 where
   of_g : start_now C P g + may_rise (longest M) C P g ≤ start_now C S g + may_rise (longest M) C S g
   few : (pos (k * c) +ℤ pos 1) ≤ℤ (pos c +ℤ int_max (pos 1) (worst_lead M C S g f +ℤ pos M))
 
--- (starts of f and g at S and at P, what may be taken from f and added to g)
+-- (starts of f and g at S and at P, by how much f may fall and g may rise)
 enough : (sf pf fall_s fall_p sg pg rise_s rise_p M c k : ℕ) → sf + fall_p + k * c ≤ pf + fall_s → pg + rise_p ≤ sg + rise_s → pf + 1 ≤ pg + M → (pos ((1 + k) * c) +ℤ pos 1) ≤ℤ (pos c +ℤ int_max (pos 1) ((pos (sg + rise_s) -ℤ (pos sf -ℤ pos fall_s)) +ℤ pos M))
 enough sf pf fall_s fall_p sg pg rise_s rise_p M c k low high behind = omega (arith, ints, clamps, low, high, behind, add-mul 1 k c)
 
@@ -133,7 +133,7 @@ module _ (C : Config) (S P : History) (who m f g r M c : ℕ) (ne : f ≢ g) (li
   abbrev after : Act → History
   after a = one_more who m a P
 
-  -- g has at most what it had
+  -- the most of g does not rise
   still_most : (a : Act) → IsLegal C (after a) → AreNoLonger C (after a) f g M → head (after a) g ≡ Some r → start_now C (after a) g + may_rise (longest M) C (after a) g ≤ start_now C P g + may_rise (longest M) C P g
   still_most a l h waits_on = most_at C P who m g (longest M) a lim l h.of_g (caps_in C (after a) P g (longest M) (record { who = who; moment = m; act = a } ∷ [], refl) h.of_g)
       (other_taken C P who m g r a l waits waits_on) (start_step C P (record { who = who; moment = m; act = a }) g r l.0 waits)
@@ -175,7 +175,7 @@ counted_none o k e = rw e (omega arith)
 counted_some : (own : Bool) (w k : ℕ) → own ≡ true → cond (is_some (cond own (Some w) None)) 1 0 + k ≡ 1 + k
 counted_some own w k e = rw e refl
 
--- a Take of f after P is one more
+-- a Take of f after P adds one to k
 some_at : (C : Config) (S P : History) (who m f g r M c k : ℕ) (a : Act) (w q estimate : ℕ) → f ≢ g → InLimits C → ((q : ℕ) → is_taken P q ≡ false → is_taken S q ≡ false) → head P g ≡ Some r → may_fall (later_low S c) C S f ≡ may_fall nothing C S f → a ≡ Take w q estimate → is_of_tenant f (request_at P q) ≡ true → IsLegal C (one_more who m a P) → AreNoLonger C (one_more who m a P) f g M → AreNoShorter C S (one_more who m a P) f c → head (one_more who m a P) g ≡ Some r → Stands C S P f g M c k → Stands C S (one_more who m a P) f g M c (cond (is_some (takes_of f P a)) 1 0 + k)
 some_at C S P who m f g r M c k (Take v p x) w q estimate ne lim before here first e own l h short on st =
     let same : p ≡ q = cc in
@@ -199,7 +199,7 @@ module _ (C : Config) (S : History) (f g r M c : ℕ) (ne : f ≢ g) (lim : InLi
         | inr t ↦ some_at C S P e.who e.moment f g r M c (takes_after f newer S) e.act t.0 t.1 t.2 ne lim (taken_before newer S) here first t.3 t.4 l h short on st
       ]
 
--- what g has at most does not rise while its head waits
+-- the most of g does not rise while its head waits
 pub most_waits : (C : Config) (newer S : History) (f g r M : ℕ) → f ≢ g → InLimits C → IsLegal C (newer ++ S) → AreNoLonger C (newer ++ S) f g M → WaitsFrom S (newer ++ S) g r → start_now C (newer ++ S) g + may_rise (longest M) C (newer ++ S) g ≤ start_now C S g + may_rise (longest M) C S g
 most_waits C newer S f g r M ne lim l h waits = (stand C S f g r M 0 ne lim newer l h (λ Q q is taken new. omega arith) waits).of_g
 

@@ -1,4 +1,4 @@
--- What a gap tells is what its words say: the greatest differences at prefixes.
+-- The parts of a gap are the greatest differences at prefixes, as its definitions say.
 use Rattle.std.proofs.Common.{ℕ, ◌≡◌, ◌⊎◌, Bool, true, false, not, ◌&&◌, cond, refl, sym, ap, Option, subst, arith, inl, inr, List, [], ◌∷◌, ◌++◌, drop, Some, None, ℤ, ◌≤ℤ◌}
 use Rattle.std.specs.Prelude.{option_map, ◌↔◌}
 use Rattle.std.specs.Int.{int_max}
@@ -45,7 +45,7 @@ unfoldable pub values_where : (History → Bool) → (History → ℤ) → Histo
 values_where test value [] = []
 values_where test value (e ∷ P) = cond (test (e ∷ P)) (value (e ∷ P) ∷ values_where test value P) (values_where test value P)
 
--- each of them is counted
+-- the value at each such prefix is among them
 pub value_counted : (test : History → Bool) (value : History → ℤ) (newer P : History) → test [] ≡ false → test P ≡ true → Among (value P) (values_where test value (newer ++ P))
 unfolding values_where
 value_counted test value [] [] none h = absurd (both_ways _ none h)
@@ -64,7 +64,7 @@ pub record FoundAt (test : History → Bool) (value : History → ℤ) (H : Hist
 found_older : (test : History → Bool) (value : History → ℤ) (e : Entry) (P : History) (x : ℤ) → FoundAt test value P x → FoundAt test value (e ∷ P) x
 found_older test value e P x w = record { at = w.at; is_prefix = prefix_older e P w.at w.is_prefix; passes = w.passes; is = w.is }
 
--- and none is counted else
+-- and no other value is
 pub value_found : (test : History → Bool) (value : History → ℤ) (H : History) (x : ℤ) → Among x (values_where test value H) → FoundAt test value H x
 unfolding values_where
 value_found test value [] x h = absurd h
@@ -128,7 +128,7 @@ first_found C H f g x h =
     let p = and_parts _ _ w.passes in
     (w.at, ((w.is_prefix, p.0), not-true _ p.1), w.is)
 
--- what is told, if a gap is
+-- the parts of a gap, if there is a gap
 pub gap_parts : (o : Option ℤ) (b : ℤ) (gap : TagGap) → option_map (λ largest. record { largest = largest; bound = b }) o ≡ Some gap → (o ≡ Some gap.largest) × (gap.bound ≡ b)
 gap_parts None b gap h = absurd (cc)
 gap_parts (Some x) b gap h =

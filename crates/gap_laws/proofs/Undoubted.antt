@@ -1,4 +1,4 @@
--- Where every request costs what was declared nothing is in doubt, so that the lead is the difference of the starts.
+-- Where every cost is as declared the doubt is 0, so that the lead is the difference of the starts.
 use Rattle.std.proofs.Common.{ℕ, ◌-◌, ◌*◌, ◌<◌, ◌≤◌, ◌≡◌, ◌≢◌, ◌==◌, ◌∙◌, true, false, not, refl, sym, subst, arith, inl, inr, [], ◌∷◌, ◌++◌, Option, Some, None, pos, ◌≤ℤ◌}
 use Rattle.std.specs.Prelude.{◌+ℤ◌}
 use Rattle.std.specs.Int.{int_max}
@@ -56,17 +56,17 @@ length_kept C e P t r l d taken =
     let other : is_take_of r e.act ≡ false = not_again C P e.moment r e.act l.3 taken in
     same_product C P (e ∷ P) t r (after ∙ sym before) (rw other refl)
 
--- and so many
+-- any number of entries on
 pub length_stays : (C : Config) (newer P : History) (t r : ℕ) → IsLegal C (newer ++ P) → AllDeclared C (newer ++ P) → is_taken P r ≡ true → (is_taken (newer ++ P) r ≡ true) × (request_length C (newer ++ P) t r ≡ request_length C P t r)
 length_stays C [] P t r l d taken = (taken, refl)
 length_stays C (e ∷ newer) P t r l d taken =
     let older = length_stays C newer P t r l.0 (declared_older C e (newer ++ P) l d) taken in
     (taken_stays e (newer ++ P) r older.0, length_kept C e (newer ++ P) t r l d older.0 ∙ older.1)
 
--- ---- nothing is in doubt
+-- ---- the doubt is 0
 
 module _ (C : Config) (P : History) (t : ℕ) (l : IsLegal C P) (d : AllDeclared C P) where
-  -- what a request of t costs in the end
+  -- the length of a request of t in the end
   abbrev pub at_last : ℕ → ℕ
   at_last = λ r. request_length C P t r
 
@@ -103,7 +103,7 @@ head_low C P t B l d low = go (head P t) refl
     go None is = omega arith
     go (Some r) is = asked r is (request_at P r) refl
 
--- with nothing in doubt a Take leaves f ahead by no more than the lengths in the bound
+-- where the doubt is 0 a Take leaves f ahead by no more than the lengths in the bound
 pub lead_low : (policy : Policy) (x y i n B : ℕ) → i < n → x ≤ B → y ≤ B → int_max (pos y) (stagger policy (pos x) i n +ℤ pos x) ≤ℤ pos (lengths_in_bound policy * B)
 lead_low policy x y i n B lt low_x low_y = omega (arith, ints, clamps, stagger_high policy x i n B lt low_x, length_counts policy B, low_y)
 

@@ -1,4 +1,4 @@
--- The bound where nothing is known of what runs but that no request is longer than M.
+-- The bound where no request is longer than M, whatever the running requests cost.
 use Rattle.std.proofs.Common.{ℕ, zero, suc, ◌+◌, ◌-◌, ◌*◌, ◌/◌, ◌<◌, ◌≤◌, ◌≡◌, ◌≢◌, ◌∙◌, cond, Bool, true, false, refl, sym, subst, arith, inl, inr, [], ◌∷◌, Option, Some, None, ℤ, pos, ◌≤ℤ◌}
 use Rattle.std.specs.Prelude.{◌+ℤ◌, ◌-ℤ◌}
 use Rattle.std.specs.Int.{int_max}
@@ -50,9 +50,9 @@ both_below a b M d w (suc n) each known less = elim (cases_eq n w) [
   | inr ne ↦ omega (arith, each n, both_below a b M d w n each (omega arith) less, add-mul 1 n M)
 ]
 
--- ---- what one worker has in doubt
+-- ---- the doubt about the request of one worker
 
--- a request is of f or of g or of none of them, so that either what it lacks of M counts or its length
+-- a request is of f or of g or of neither, so that either M less its length counts or its length
 one_doubt : (own mine : Bool) (x y M : ℕ) → (own ≡ true → mine ≡ false) → (mine ≡ true → y ≤ M) → cond own (M - x) 0 + cond mine (y - 0) 0 ≤ M
 one_doubt true true x y M apart low = let k : true ≡ false = apart refl in absurd (cc)
 one_doubt true false x y M apart low = omega arith
@@ -74,7 +74,7 @@ doubt_at C P f g M i ne l low = go (running_on P i) refl
         (λ own. not_both f g (request_at P r) ne own)
         (λ mine. low P r ([], refl) (taken_of P g r (running_taken C P i r l is) ∙ mine))
 
--- the worker that takes a request of f has less in doubt by its length
+-- the doubt about the worker that takes a request of f is less by the length of that request
 doubt_taken : (own mine : Bool) (x y M : ℕ) → own ≡ true → mine ≡ false → x ≤ M → cond own (M - x) 0 + cond mine (y - 0) 0 + x ≤ M
 doubt_taken own mine x y M is_own is_not low = rw (is_own, is_not) (omega (arith, low))
 
@@ -94,7 +94,7 @@ doubt_after C P who m w q c f g M ne l caps own low =
     both_below (term (rising (longest M)) C Q f) (term (falling nothing) C Q g) M (length_of c (weight_at C P f)) w C.workers
     (λ i. doubt_at C Q f g M i ne l caps) (omega (arith, l.3.worker_known, pool_high C P l.0)) (taker_doubt C P who m w q c f g M ne l.0 l.3 own low)
 
--- ---- what the Take adds
+-- ---- the lead of a Take, with the doubt after it
 
 pub part_below : (len i n : ℕ) → 1 ≤ len → i < n → part_of len i n + 1 ≤ len
 unfolding part_of
@@ -126,11 +126,11 @@ length_some c w cost weight = go (length_of c w) (length_covers c w (omega (arit
 within : (head_f head_g doubts all M : ℕ) (part : ℤ) → head_g ≤ M → head_f ≤ M → 1 ≤ head_f → (part +ℤ pos 1) ≤ℤ pos head_f → doubts + head_f ≤ all → (int_max (pos head_g) (part +ℤ pos head_f) +ℤ pos doubts) ≤ℤ (pos (all + M) -ℤ pos 1)
 within head_f head_g doubts all M part low_g low_f some less sum = omega (arith, ints, clamps, low_g, low_f, some, less, sum)
 
--- how many steps the worst case is: one request of the greatest length more than there are workers, less a step
+-- the worst case, in steps: one request of the greatest length more than there are workers, less a step
 abbrev pub worst : Config → ℕ → ℤ
 worst C M = pos (C.workers * M + M) -ℤ pos 1
 
--- what is taken has some length
+-- the head that a Take takes has some length
 pub head_some : (C : Config) (P : History) (who m w q c f : ℕ) → InLimits C → IsLegal C (one_more who m (Take w q c) P) → is_of_tenant f (request_at P q) ≡ true → 1 ≤ head_length C P f
 head_some C P who m w q c f lim l own =
     let z : OfHead C P m w f c = of_head C P m w q c f l.3 own in
@@ -171,7 +171,7 @@ worst_premises C S H f g M ne lim l h = record {
   takes = λ e Q i is from shared takes. taken_within C Q e.who e.moment f g M i e.act ne lim (legal_in C H (e ∷ Q) is l) (caps_in C H (e ∷ Q) g (longest M) is h.of_g) takes (h.heads e Q i is shared takes);
 }
 
--- the longest of a history is so of a prefix
+-- where no request of a history is longer than M, none of its prefixes has a longer one
 pub longest_in : (C : Config) (H P : History) (f g M : ℕ) → IsPrefix P H → AreNoLonger C H f g M → AreNoLonger C P f g M
 longest_in C H P f g M is h = record {
   of_f = caps_in C H P f (longest M) is h.of_f;

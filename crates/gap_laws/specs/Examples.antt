@@ -10,7 +10,7 @@ use Rattle.fq_model.specs.History.{History}
 use Rattle.fq_model.specs.Gap.{TagGap}
 use Rattle.worked_histories.specs.Examples.{entry, units}
 
--- a gap of so many units, below a bound of so many
+-- a gap of this largest difference and this bound, in units
 abbrev pub gap_of : ℕ → ℕ → TagGap
 gap_of largest bound = record { largest = pos (units largest); bound = pos (units bound) }
 

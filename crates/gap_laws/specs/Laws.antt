@@ -1,5 +1,4 @@
--- What bounds how far one tenant gets ahead of another: where every request costs what was declared, and where nobody
--- knows what one costs.
+-- Bounds of the lead of one tenant over another: where every cost is as declared, and where no cost is known.
 use Rattle.std.specs.Prelude.{ℕ, ◌+◌, ◌*◌, ◌≡◌, ◌≢◌, true, ◌∷◌, ◌++◌, Some, None, ℤ, pos, ◌+ℤ◌, ◌-ℤ◌, ◌≤ℤ◌, ◌↔◌}
 use Rattle.std.specs.Int.{int_max}
 use Rattle.fq_model.specs.declared.config.Config.{Config}
@@ -14,7 +13,7 @@ use Rattle.fq_model.specs.Rules.{IsLegal}
 use Rattle.fq_model.specs.Lead.{lead, longest_of, shortest_of, measured_lead, take_lengths, take_doubts, measured_gap}
 use Rattle.gap_laws.specs.Words.{IsPrefix, AreSharedFrom, WaitsFrom, AreNoShorter, takes_after, AreCaps, AreLows, TakesStayBelow, AreNoLonger, IsAccount, HasDeclaredCosts, taken_length, IsSharedIn, IsFirstIn, RunBegins, IsGreatestAt, IsGreatestOver}
 
--- ---- what moves a charge and a start
+-- ---- the entries that raise a charge and a start
 
 -- one entry on, a virtual charge is greater by the length that the entry takes
 abbrev pub ChargeRisesAtTakes : Type 0
@@ -22,7 +21,7 @@ ChargeRisesAtTakes =
     (C : Config) (P : History) (e : Entry) (t : ℕ) → HasDeclaredCosts C (e ∷ P)
     → virtual_charge C (e ∷ P) t ≡ virtual_charge C P t + taken_length C P t e.act
 
--- so is where a tenant that waits starts
+-- so is the start of a tenant that waits
 abbrev pub StartRisesAtTakes : Type 0
 StartRisesAtTakes =
     (C : Config) (P : History) (e : Entry) (t r : ℕ) → HasDeclaredCosts C (e ∷ P) → head P t ≡ Some r
@@ -30,11 +29,11 @@ StartRisesAtTakes =
 
 -- ---- the bound
 
--- the run of each shared prefix begins where `run_start` says
+-- the run of each shared prefix begins at its `run_start`
 abbrev pub RunStartIs : Type 0
 RunStartIs = (P : History) (f g : ℕ) → is_shared P f g ≡ true → RunBegins P f g (run_start P f g)
 
--- how many steps the lengths in the bound make
+-- the lengths in the bound, in steps
 abbrev pub bound_length : Config → History → ℕ → ℕ → ℤ
 bound_length C H f g = pos (lengths_in_bound C.policy * longest_length C H f g)
 
@@ -51,9 +50,9 @@ LargestIsBounded =
     (C : Config) (H : History) (f g : ℕ) (gap : TagGap) → HasDeclaredCosts C H → tag_gap C H f g ≡ Some gap
     → gap.largest ≤ℤ gap.bound
 
--- ---- what a gap tells
+-- ---- the parts of a gap
 
--- there is one exactly where some prefix is shared
+-- there is a gap exactly where some prefix is shared
 abbrev pub GapIsThere : Type 0
 GapIsThere =
     (C : Config) (H : History) (f g : ℕ) → (tag_gap C H f g ≡ None) ↔ ((P : History) → ¬ IsSharedIn H f g P)
@@ -72,15 +71,15 @@ BoundIsGreatest =
 
 -- ---- where costs are not known
 
--- while both wait, from P to Q, the lead of f over g is at most what it was at P, or what no Take of f passes in
--- between, whatever caps and lows the lengths keep to
+-- while both wait, from P to Q, the lead of f over g is at most the lead at P, or a bound B of the Takes of f in
+-- between, whatever the caps and lows of the lengths
 abbrev pub LeadStaysBelow : Type 0
 LeadStaysBelow =
     (cap low : ℕ → ℕ) (C : Config) (P Q : History) (f g : ℕ) (B : ℤ) → f ≢ g → InLimits C → IsLegal C Q
     → AreCaps C Q f cap → AreLows C Q g low → IsPrefix P Q → AreSharedFrom P Q f g
     → TakesStayBelow cap low C P Q f g B → lead cap low C Q f g ≤ℤ int_max (lead cap low C P f g) B
 
--- how far f is ahead of g at most where no request is longer than M, whatever comes of what runs
+-- the lead of f over g, where each running request may turn out to be M long, or to cost nothing
 abbrev pub worst_lead : ℕ → Config → History → ℕ → ℕ → ℤ
 worst_lead M C P f g = lead (λ r. M) (λ r. 0) C P f g
 
@@ -88,7 +87,7 @@ worst_lead M C P f g = lead (λ r. M) (λ r. 0) C P f g
 abbrev pub all_and_one : Config → ℕ → ℕ
 all_and_one C M = C.workers * M + M
 
--- the worst case: that many requests, less a step
+-- the worst case: the lead where the run began, or `all_and_one` less a step
 abbrev pub WorstLeadStaysBelow : Type 0
 WorstLeadStaysBelow =
     (C : Config) (H P : History) (f g M : ℕ) → f ≢ g → InLimits C → IsLegal C H → AreNoLonger C H f g M
@@ -103,13 +102,13 @@ DifferenceStaysBelow =
     → IsSharedIn H f g P
     → start_difference C P f g ≤ℤ (int_max (start_difference C (run_start P f g) f g) (pos M) +ℤ pos (C.workers * M))
 
--- the measured bound: the largest difference of a gap is at most what it tells, whatever the costs
+-- the measured bound: the largest difference of a measured gap is at most its bound, whatever the costs
 abbrev pub MeasuredIsBounded : Type 0
 MeasuredIsBounded =
     (C : Config) (H : History) (f g : ℕ) (gap : TagGap) → f ≢ g → InLimits C → IsLegal C H
     → measured_gap C H f g ≡ Some gap → gap.largest ≤ℤ gap.bound
 
--- there is one exactly where some prefix is shared
+-- there is a measured gap exactly where some prefix is shared
 abbrev pub MeasuredIsThere : Type 0
 MeasuredIsThere =
     (C : Config) (H : History) (f g : ℕ) → (measured_gap C H f g ≡ None) ↔ ((P : History) → ¬ IsSharedIn H f g P)
@@ -120,19 +119,19 @@ MeasuredIsGreatest =
     (C : Config) (H : History) (f g : ℕ) (gap : TagGap) → measured_gap C H f g ≡ Some gap
     → IsGreatestAt (IsSharedIn H f g) (λ P. start_difference C P f g) gap.largest
 
--- what the Takes of f come to while both wait: the greatest length of a head, or twice that under 2dfq and 2dfq+, and
--- the greatest doubt just after
+-- the bound by the Takes of f while both wait: the greatest length of a head, or twice that under 2dfq and 2dfq+, and
+-- the greatest doubt just after a Take
 abbrev pub bound_of_takes : Config → History → ℕ → ℕ → ℤ
 bound_of_takes C H f g =
     pos (lengths_in_bound C.policy * greatest (take_lengths C H f g) + greatest (take_doubts C H H f g))
 
--- its bound is the greater of these and of the greatest lead where both begin to wait
+-- the bound of a measured gap is the greater of the bound by its Takes and the greatest lead where both begin to wait
 abbrev pub LeadBoundIsGreatest : Type 0
 LeadBoundIsGreatest =
     (C : Config) (H : History) (f g : ℕ) (gap : TagGap) → measured_gap C H f g ≡ Some gap
     → IsGreatestOver (IsFirstIn H f g) (λ P. measured_lead C H P f g) (bound_of_takes C H f g) gap.bound
 
--- what each request of t became in H is no less, and no more, than what it was at any prefix
+-- no taken request of t is longer at a prefix of H than its greatest length in H, or shorter than its least
 abbrev pub MeasuredAreCaps : Type 0
 MeasuredAreCaps =
     (C : Config) (H : History) (t : ℕ) → IsLegal C H
@@ -163,7 +162,7 @@ TakesAreFew =
     → AreNoLonger C (newer ++ S) f g M → AreNoShorter C S (newer ++ S) f c → WaitsFrom S (newer ++ S) g r
     → pos (takes_after f newer S * c) ≤ℤ (pos c +ℤ int_max (pos 0) (worst_lead M C S g f +ℤ pos M))
 
--- the same by the lead that g had where both began to wait, where both wait at S
+-- the Takes of f after S, where both wait at S, by the lead that g had where both began to wait
 abbrev pub TakesAreFewInRun : Type 0
 TakesAreFewInRun =
     (C : Config) (newer S : History) (f g r M c : ℕ) → f ≢ g → InLimits C → IsLegal C (newer ++ S)

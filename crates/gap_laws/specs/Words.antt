@@ -18,12 +18,12 @@ pub record HasDeclaredCosts (C : Config) (H : History) : Type 0 where
   pub legal : IsLegal C H
   pub declared : not_declared C H ≡ None
 
--- the length, at tenant t's weight in P, of what the request declared, where it is one of t, else 0
+-- the length of the request's declared cost, at tenant t's weight in P, where it is a request of t, else 0
 abbrev pub declared_length : Config → History → ℕ → Option Request → ℕ
 declared_length C P t None = 0
 declared_length C P t (Some q) = if q.tenant == t then length_of q.declared (weight_at C P t) else 0
 
--- what the act takes of tenant t: the length of a request of t that it takes, else 0
+-- the declared length of the request of t that the act takes, else 0
 abbrev pub taken_length : Config → History → ℕ → Act → ℕ
 taken_length C P t (Take worker request estimate) = declared_length C P t (request_at P request)
 taken_length C P t _ = 0
@@ -36,7 +36,7 @@ IsPrefix P H = (newer : History) × (H ≡ newer ++ P)
 abbrev pub IsSharedIn : History → ℕ → ℕ → History → Type 0
 IsSharedIn H f g P = IsPrefix P H × (is_shared P f g ≡ true)
 
--- P is one of these at which a run of them begins: the prefix one entry shorter is none
+-- P is a shared prefix at which a run of them begins: the prefix one entry shorter is not shared
 abbrev pub IsFirstIn : History → ℕ → ℕ → History → Type 0
 IsFirstIn H f g P = IsSharedIn H f g P × (is_shared (drop 1 P) f g ≡ false)
 
@@ -66,8 +66,8 @@ abbrev pub AreLows : Config → History → ℕ → (ℕ → ℕ) → Type 0
 AreLows C H t low =
     (Q : History) (r : ℕ) → IsPrefix Q H → is_taken_of Q t r ≡ true → low r ≤ request_length C Q t r
 
--- wherever, from P on in H, a request of f is taken while both wait: what the heads let the start of f be above that of
--- g then, and what is in doubt after it, are together no more than B
+-- for each Take of f in H from P on, while both wait: the lead of the Take by the heads, and the doubt after it, are
+-- together no more than B
 abbrev pub TakesStayBelow : (cap low : ℕ → ℕ) → Config → History → History → ℕ → ℕ → ℤ → Type 0
 TakesStayBelow cap low C P H f g B =
     (e : Entry) (Q : History) (i : ℕ) → IsPrefix (e ∷ Q) H → IsPrefix P Q → is_shared Q f g ≡ true
@@ -82,9 +82,9 @@ pub record AreNoLonger (C : Config) (H : History) (f g M : ℕ) : Type 0 where
       (e : Entry) (Q : History) (i : ℕ) → IsPrefix (e ∷ Q) H → is_shared Q f g ≡ true → takes_of f Q e.act ≡ Some i
       → (head_length C Q f ≤ M) × (head_length C Q g ≤ M)
 
--- an account of what tenant t has, at the prefixes of H: no less than with nothing of what runs, no more than if each
--- request that runs is M long. Where t starts is one, and so is its start without what runs. (A start rises by the
--- service that is charged, divided by weight, while the tenant waits.)
+-- an account of tenant t at the prefixes of H: no less than its least, where running requests may cost nothing, and
+-- no more than its most, where they may be M long. The start of t is an account, and so is its start without its
+-- running requests. (A start rises by the service that is charged, divided by weight, while the tenant waits.)
 abbrev pub IsAccount : ℕ → Config → History → ℕ → (History → ℤ) → Type 0
 IsAccount M C H t account =
     (P : History) → IsPrefix P H
@@ -103,7 +103,7 @@ abbrev pub AreNoShorter : Config → History → History → ℕ → ℕ → Typ
 AreNoShorter C S H t c =
     (Q : History) (r : ℕ) → IsPrefix Q H → is_taken_of Q t r ≡ true → is_taken S r ≡ false → c ≤ request_length C Q t r
 
--- how many of the newer entries, which follow S, take a request of tenant t
+-- the number of the newer entries, which follow S, that take a request of tenant t
 abbrev pub takes_after : ℕ → (newer S : History) → ℕ
 takes_after t [] S = 0
 takes_after t (e ∷ newer) S = (if is_some (takes_of t (newer ++ S) e.act) then 1 else 0) + takes_after t newer S

@@ -21,7 +21,7 @@ pub fn stagger()
     ensures gap { tag_gap stagger_config stagger_history 0 1 ≡ Some (gap_of 10 16) }
 {}
 
-/// Where the two begin to wait at once counts. Tenant 0 was charged 20 when tenant 1 submits at virtual time 0.
+/// The difference where both begin to wait counts. Tenant 0 was charged 20 when tenant 1 submits at virtual time 0.
 pub fn begun()
     ensures premises { HasDeclaredCosts begun_config begun_history }
     ensures longest { longest_length begun_config begun_history 0 1 ≡ units 10 }
@@ -47,7 +47,7 @@ pub fn doubt()
     ensures gap { measured_gap doubt_config doubt_history 0 1 ≡ Some (gap_of 7 7) }
 {}
 
-/// Where both begin to wait counts here too. Nothing is taken while both wait, and tenant 0 is ahead by 20.
+/// The lead where both begin to wait counts here too. Nothing is taken while both wait, and tenant 0 is ahead by 20.
 pub fn begun_ahead()
     ensures { measured_gap begun_config begun_history 0 1 ≡ Some (gap_of 20 20) }
 {}

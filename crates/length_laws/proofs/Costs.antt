@@ -55,7 +55,7 @@ from_below Pessimistic initial cs declared c some first h = omega (arith, some, 
 
 -- ---- costs of a history
 
--- what is so at all prefixes of a history is so at those of a prefix one entry shorter
+-- a limit of costs at all prefixes of a history is a limit at those of a prefix one entry shorter
 pub costs_older : (C : Config) (e : Entry) (P : History) (t c : ℕ) → CostsStayBelow C (e ∷ P) t c → CostsStayBelow C P t c
 costs_older C e P t c h = λ Q r q is. h Q r q (prefix_older e P Q is)
 
@@ -83,12 +83,12 @@ costs_at C P who m t k c (Done w r cost) l h low =
     costs_with t k cost c (request_at P r) (completed P) (λ q is own. (h now r q (whole now) is own).cost cost (cost_told P who m w r cost)) low
 costs_at C P who m t k c _ l h low = low
 
--- the completed costs of a tenant
+-- the completed costs of a tenant are at most c
 costs_below : (C : Config) (P : History) (t k c : ℕ) → IsLegal C P → CostsStayBelow C P t c → AllBelow c (completed_costs (completed P) t k)
 costs_below C [] t k c l h = tt
 costs_below C (e ∷ P) t k c l h = costs_at C P e.who e.moment t k c e.act l h (costs_below C P t k c l.0 (costs_older C e P t c h))
 
--- so what a request of the tenant is thought to cost
+-- so is the estimate of a request of the tenant
 pub estimate_below : (C : Config) (P : History) (r t c : ℕ) (q : Request) → IsLegal C P → 1 ≤ c → CostsStayBelow C P t c → request_at P r ≡ Some q → q.tenant ≡ t → request_estimate C P q ≤ c
 unfolding estimate_at
 estimate_below C P r t c q l some h is own =

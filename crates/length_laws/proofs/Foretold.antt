@@ -23,7 +23,7 @@ use Rattle.length_laws.proofs.Costs.{costs_older, whole, estimate_below}
 
 -- ---- charges
 
--- the request of an estimate in a Take, and that the estimate keeps to the limit where it is one of t
+-- the request of an estimate in a Take; if it is a request of t, the estimate keeps to the limit
 record Estimated (P : History) (t c r n : ℕ) : Type 0 where
   asked : Request
   was_asked : request_at P r ≡ Some asked

@@ -14,14 +14,14 @@ use Rattle.gap_laws.proofs.WorstCase.{legal_in}
 use Rattle.length_laws.specs.Laws.{KeepLimits}
 use Rattle.length_laws.specs.Words.{CostsStayBelow, WeightStaysAbove}
 
--- what the act names of a cost is at most c
+-- the declared cost, the use or the cost that the act names is at most c
 abbrev act_within : ℕ → Act → Bool
 act_within c (Submit request tenant kind declared label) = nat_le declared c
 act_within c (Report worker request used) = nat_le used c
 act_within c (Done worker request cost) = nat_le cost c
 act_within c _ = true
 
--- so it is of all acts
+-- each act of the history names at most c
 abbrev pub all_within : ℕ → History → Bool
 all_within c [] = true
 all_within c (e ∷ P) = act_within c e.act && all_within c P

@@ -1,4 +1,4 @@
--- What limits of costs and weights say of lengths.
+-- Bounds of lengths by limits of costs and weights.
 use Rattle.std.specs.Prelude.{ℕ, ◌≤◌, ◌≢◌, pos, ◌-ℤ◌, ◌≤ℤ◌}
 use Rattle.std.specs.Int.{int_max}
 use Rattle.vt_fixed.specs.Rounding.{length_of}

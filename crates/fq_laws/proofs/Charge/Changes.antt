@@ -1,4 +1,4 @@
--- What one entry more changes for a tenant, in one table.
+-- The change of a tenant at one entry more, in one table.
 use Rattle.std.proofs.Common.{ℕ, ◌≡◌, Bool, true, false, cond, refl, ◌+◌, max, arith, ap, ◌∷◌}
 use Rattle.vt_fixed.specs.Rounding.{length_of}
 use Rattle.vt_fixed.proofs.Bounds.{length_none}
@@ -55,7 +55,7 @@ changes_at C P who m t a lim l f = record {
   net_is = ap (λ x. x + 0) (net_charge_quiet P who m t a refl);
 }
 
--- each entry of a legal history changes what its act says
+-- each entry of a legal history makes the change of its act
 pub changes : (C : Config) (P : History) (e : Entry) (t : ℕ) → InLimits C → IsLegal C (e ∷ P) → Changes C P (e ∷ P) t (change_of C P t e.act)
 changes C P e t lim l = changes_at C P e.who e.moment t e.act lim l.0 l.3
 

@@ -1,4 +1,4 @@
--- Completed requests at one entry more, and what the estimators make of them.
+-- Completed requests at one entry more, and the estimates from them.
 use Rattle.std.proofs.Common.{ℕ, ◌≡◌, refl, ◌∷◌, Some, List, ◌≢◌, ◌==◌, false, ◌≤◌, max, arith, inl, inr, suc, ap, sym, [], ◌++◌, ◌&&◌, Option, None, zero, take, ◌*◌, length}
 use Rattle.std.proofs.lemmas.Bool.{eq-eqb, ne_eqb, and_right, cases_lt, cases_Bool}
 use Rattle.std.specs.Prelude.{sum}
@@ -58,7 +58,7 @@ greatest_decays age (c ∷ cs) = rw (decay_max (decayed age c) (greatest (decaye
 pub greatest_first : (initial : ℕ) → greatest_cost_from initial [] ≡ initial
 greatest_first initial = omega arith
 
--- one cost more: the greater of it and the decay of what was greatest
+-- one cost more: the greater of the cost and the decay of the greatest before it
 pub greatest_next : (initial c : ℕ) (cs : List ℕ) → greatest_cost_from initial (c ∷ cs) ≡ max c (decay_of (greatest_cost_from initial cs))
 greatest_next initial c cs = ap (λ x. max c x) (greatest_decays 0 (cs ++ initial ∷ []))
 

@@ -23,7 +23,7 @@ estimate_some_at : (r : ℕ) (a : Act) (P : History) → (is_taken P r ≡ true 
 estimate_some_at r (Take worker request estimate) P ih h = elim (cases_Bool (request == r)) [ inl e ↦ (estimate, rw e refl) | inr e ↦ rw e (ih (rw e at h)) ]
 estimate_some_at r _ P ih h = ih h
 
--- what is taken has one
+-- a taken request has the estimate of its Take
 pub estimate_some : (P : History) (r : ℕ) → is_taken P r ≡ true → (x : ℕ) × (taken_estimate P r ≡ Some x)
 unfolding is_taken
 estimate_some [] r h = absurd (false≢true h)
@@ -33,7 +33,7 @@ cost_none_at : (r : ℕ) (a : Act) (P : History) → (is_done P r ≡ false → 
 cost_none_at r (Done worker request cost) P ih h = let p = or_parts (request == r) (is_done P r) h in rw p.0 (ih p.1)
 cost_none_at r _ P ih h = ih h
 
--- what is not done has no cost
+-- a request that is not done has no measured cost
 pub cost_none : (P : History) (r : ℕ) → is_done P r ≡ false → final_cost P r ≡ None
 unfolding is_done
 cost_none [] r h = refl
@@ -44,13 +44,13 @@ unused_at C P m r (Take worker request estimate) f ih h = omega (arith, ih (or_p
 unused_at C P m r (Report worker request used) f ih h = rw (ne_eqb request r (λ e. both_ways (is_taken P r) h (rw e at (use_taken P worker request used f.0)))) (omega (arith, ih h))
 unused_at C P m r _ f ih h = omega (arith, ih h)
 
--- of what is not taken no use was reported
+-- no use was reported of a request that is not taken
 pub unused : (C : Config) (P : History) (r : ℕ) → IsLegal C P → is_taken P r ≡ false → last_use P r ≡ 0
 unfolding is_taken
 unused C [] r l h = refl
 unused C (e ∷ P) r l h = unused_at C P e.moment r e.act l.3 (unused C P r l.0) h
 
--- what runs is charged at least its greatest use
+-- a running request is charged its greatest use at least
 pub charge_covers_use : (P : History) (r : ℕ) → is_taken P r ≡ true → is_done P r ≡ false → last_use P r ≤ charge P r
 charge_covers_use P r h d = let x = estimate_some P r h in rw (x.1, cost_none P r d) (omega arith)
 

@@ -19,7 +19,7 @@ use Rattle.fq_laws.proofs.History.Numbers.{take_request_small, use_small}
 
 -- ---- which requests of a tenant are taken, at one entry more
 
--- what is taken is a taken request of its tenant
+-- a taken request is a taken request of its tenant
 pub taken_of : (P : History) (t r : ℕ) → is_taken P r ≡ true → is_taken_of P t r ≡ is_of_tenant t (request_at P r)
 unfolding is_taken_of
 taken_of P t r h = and_with_true _ _ h
@@ -61,7 +61,7 @@ taken_of_quiet P who m t r (Submit request tenant kind declared label) q = absur
 taken_of_quiet P who m t r (Take worker request estimate) q = absurd (false≢true q)
 taken_of_quiet P who m t r _ q = refl
 
--- ---- what a request adds
+-- ---- the charges that one request adds
 
 length_same : (a b : Bool) (x y v w : ℕ) → a ≡ b → x ≡ y → v ≡ w → cond a (length_of x v) 0 ≡ cond b (length_of y w) 0
 length_same a b x y v w e f g = rw (e, f, g) refl
@@ -69,14 +69,14 @@ length_same a b x y v w e f g = rw (e, f, g) refl
 cost_same : (a b : Bool) (x y : ℕ) → a ≡ b → x ≡ y → cond a x 0 ≡ cond b y 0
 cost_same a b x y e f = rw (e, f) refl
 
--- what is not taken adds nothing
+-- a request that is not taken adds nothing
 pub charged_untaken : (C : Config) (P : History) (t r : ℕ) → is_taken P r ≡ false → charged C P t r ≡ 0
 charged_untaken C P t r h = rw (untaken_of P t r h) refl
 
 pub net_charged_untaken : (P : History) (t r : ℕ) → is_taken P r ≡ false → net_charged P t r ≡ 0
 net_charged_untaken P t r h = rw (untaken_of P t r h) refl
 
--- what a taken request adds
+-- a taken request adds the length of its charge, and its charge, to its own tenant
 pub charged_taken : (C : Config) (P : History) (t r : ℕ) → is_taken P r ≡ true → charged C P t r ≡ cond (is_of_tenant t (request_at P r)) (length_of (charge P r) (taken_weight C P t r)) 0
 charged_taken C P t r h = length_same _ _ (charge P r) (charge P r) (taken_weight C P t r) _ (taken_of P t r h) refl refl
 
@@ -85,7 +85,7 @@ net_charged_taken P t r h = cost_same _ _ (charge P r) (charge P r) (taken_of P 
 
 -- ---- requests that an entry leaves as they were
 
--- r adds to tenant t in Q what it adds in P
+-- r adds the same charges to tenant t in Q as in P
 pub record Unmoved (C : Config) (P Q : History) (t r : ℕ) : Type 0 where
   pub taken_same : is_taken_of Q t r ≡ is_taken_of P t r
   pub charge_same : charge Q r ≡ charge P r
@@ -169,7 +169,7 @@ pub net_charge_quiet : (P : History) (who m t : ℕ) (a : Act) → is_quiet a �
 unfolding net_charge
 net_charge_quiet P who m t a q = sum_same (net_charged (one_more who m a P) t) (net_charged P t) request_bound (λ r b. cost_same _ _ (charge (one_more who m a P) r) (charge P r) (taken_of_quiet P who m t r a q) (charge_quiet P who m r a q))
 
--- a Take, a Report and a Done change what one request adds
+-- a Take, a Report and a Done change the charges that one request adds
 pub virtual_charge_take : (C : Config) (P : History) (who m t w q c : ℕ) → q < 2 ^ 32 → virtual_charge C (one_more who m (Take w q c) P) t + charged C P t q ≡ virtual_charge C P t + charged C (one_more who m (Take w q c) P) t q
 virtual_charge_take C P who m t w q c b = virtual_charge_at C P _ t q b (λ r. unmoved_take C P who m t r w q c)
 
@@ -179,7 +179,7 @@ virtual_charge_report C P who m t w q used b = virtual_charge_at C P _ t q b (λ
 pub virtual_charge_done : (C : Config) (P : History) (who m t w q cost : ℕ) → q < 2 ^ 32 → virtual_charge C (one_more who m (Done w q cost) P) t + charged C P t q ≡ virtual_charge C P t + charged C (one_more who m (Done w q cost) P) t q
 virtual_charge_done C P who m t w q cost b = virtual_charge_at C P _ t q b (λ r. unmoved_done C P who m t r w q cost)
 
--- ---- the same in legal histories, by what is known of the request
+-- ---- changes of a tenant's charges in legal histories
 
 -- a Take adds the length of its estimate to its tenant
 pub virtual_charge_taken : (C : Config) (P : History) (who m t w q c : ℕ) → InLimits C → IsLegal C P → Fits C P m (Take w q c) → virtual_charge C (one_more who m (Take w q c) P) t ≡ virtual_charge C P t + cond (is_of_tenant t (request_at P q)) (length_of c (weight_at C P t)) 0

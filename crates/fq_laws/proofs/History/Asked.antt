@@ -1,4 +1,4 @@
--- What a request asked, and whether it was submitted.
+-- The fields of a request, and whether it was submitted.
 use Rattle.std.proofs.Common.{Bool, false, ◌&&◌, ℕ, ◌≡◌, true, ◌==◌, ◌||◌, ◌⊎◌, refl, inl, inr, Some, [], ◌∷◌, None, Option, ◌≢◌}
 use Rattle.std.proofs.lemmas.Bool.{and_parts, not-true, cases_Bool, or_cases, or_left, or_right, eqb-true, false≢true, both_ways, eq-eqb, ne_eqb, false_from_ne_true}
 use Rattle.fq_model.specs.History.{History, is_submitted, is_waiting, is_taken, is_done, is_withdrawn, is_removed, is_ended, is_submit_of, is_take_of, is_done_of, is_withdraw_of, is_removal_of, is_end_of, is_change, has_act, Request, request_at, request_in, is_of_tenant}
@@ -10,9 +10,9 @@ pub and_with_true : (b c : Bool) → c ≡ true → (b && c) ≡ b
 and_with_true true c h = h
 and_with_true false c h = refl
 
--- ---- what is removed, and what is ended
+-- ---- removed requests, and ended requests
 
--- where one test passes the other does, so an act that passes the one passes the other
+-- where q passes each act that p passes, q passes some act of a history where p passes some act
 pub has_weaker : (p q : Act → Bool) → ((a : Act) → p a ≡ true → q a ≡ true) → (P : History) → has_act p P ≡ true → has_act q P ≡ true
 has_weaker p q weaker [] h = absurd (false≢true h)
 has_weaker p q weaker (e ∷ P) h = elim (or_cases (p e.act) (has_act p P) h) [
@@ -36,7 +36,7 @@ pub withdrawn_removed : (P : History) (r : ℕ) → is_withdrawn P r ≡ true �
 unfolding is_withdrawn is_removed
 withdrawn_removed P r h = has_weaker (is_withdraw_of r) (is_removal_of r) (withdraw_removes r) P h
 
--- what is not removed is not taken
+-- a request that is not removed is not taken
 pub unremoved_untaken : (P : History) (r : ℕ) → is_removed P r ≡ false → is_taken P r ≡ false
 unremoved_untaken P r h = false_from_ne_true _ (λ t. both_ways _ h (taken_removed P r t))
 
@@ -44,7 +44,7 @@ done_ends : (r : ℕ) (a : Act) → is_done_of r a ≡ true → is_end_of r a �
 done_ends r (Done worker request cost) h = h
 done_ends r _ h = absurd (false≢true h)
 
--- what is done is ended
+-- a done request is ended
 pub done_ended : (P : History) (r : ℕ) → is_done P r ≡ true → is_ended P r ≡ true
 unfolding is_done is_ended
 done_ended P r h = has_weaker (is_done_of r) (is_end_of r) (done_ends r) P h
@@ -54,7 +54,7 @@ end_by r (Done worker request cost) h = inl h
 end_by r (Withdraw request) h = inr h
 end_by r _ h = absurd (false≢true h)
 
--- what is ended is done or withdrawn
+-- an ended request is done or withdrawn
 pub ended_by : (P : History) (r : ℕ) → is_ended P r ≡ true → (is_done P r ≡ true) ⊎ (is_withdrawn P r ≡ true)
 unfolding is_ended is_done is_withdrawn
 ended_by [] r h = absurd (false≢true h)
@@ -68,7 +68,7 @@ removal_by r (Take worker request estimate) h = inl h
 removal_by r (Withdraw request) h = inr h
 removal_by r _ h = absurd (false≢true h)
 
--- what is removed is taken or withdrawn
+-- a removed request is taken or withdrawn
 pub removed_by : (P : History) (r : ℕ) → is_removed P r ≡ true → (is_taken P r ≡ true) ⊎ (is_withdrawn P r ≡ true)
 unfolding is_removed is_taken is_withdrawn
 removed_by [] r h = absurd (false≢true h)
@@ -81,7 +81,7 @@ withdraw_changes : (r : ℕ) (a : Act) → is_withdraw_of r a ≡ true → is_ch
 withdraw_changes r (Withdraw request) h = refl
 withdraw_changes r _ h = absurd (false≢true h)
 
--- where nothing is changed or withdrawn, what is not taken is not removed
+-- where nothing is changed or withdrawn, a request that is not taken is not removed
 pub untaken_unremoved : (P : History) (r : ℕ) → has_act is_change P ≡ false → is_taken P r ≡ false → is_removed P r ≡ false
 unfolding is_withdrawn
 untaken_unremoved P r none un = false_from_ne_true _ (λ h. elim (removed_by P r h) [
@@ -89,9 +89,9 @@ untaken_unremoved P r none un = false_from_ne_true _ (λ h. elim (removed_by P r
   | inr w ↦ both_ways _ none (has_weaker (is_withdraw_of r) is_change (withdraw_changes r) P w)
 ])
 
--- ---- what waits
+-- ---- waiting requests
 
--- what waits was submitted, and was neither taken nor withdrawn
+-- a waiting request was submitted, and was neither taken nor withdrawn
 pub waits_submitted : (P : History) (r : ℕ) → is_waiting P r ≡ true → is_submitted P r ≡ true
 unfolding is_waiting
 waits_submitted P r h = (and_parts _ _ h).0
@@ -103,7 +103,7 @@ waits_unremoved P r h = not-true _ (and_parts _ _ h).1
 pub waits_untaken : (P : History) (r : ℕ) → is_waiting P r ≡ true → is_taken P r ≡ false
 waits_untaken P r h = unremoved_untaken P r (waits_unremoved P r h)
 
--- ---- what a request asked
+-- ---- the fields of a request
 
 asked_at : (P : History) (r : ℕ) (a : Act) (x : Request) → (request_at P r ≡ Some x → is_submitted P r ≡ true) → request_in r a (request_at P r) ≡ Some x → (is_submit_of r a || is_submitted P r) ≡ true
 asked_at P r (Submit request tenant kind declared label) x ih h = elim (cases_Bool (request == r)) [
@@ -134,7 +134,7 @@ pub is_of_asked : (t : ℕ) (o : Option Request) → is_of_tenant t o ≡ true �
 is_of_asked t None h = absurd (false≢true h)
 is_of_asked t (Some a) h = (a, refl, eqb-true _ _ h)
 
--- what was submitted is known
+-- a submitted request has fields
 pub submitted_known : (P : History) (q : ℕ) → is_submitted P q ≡ true → (a : Request) × (request_at P q ≡ Some a)
 submitted_known P q h = go (request_at P q) refl
   where
@@ -142,7 +142,7 @@ submitted_known P q h = go (request_at P q) refl
     go None is = absurd (both_ways _ (unasked P q is) h)
     go (Some a) is = (a, is)
 
--- whether a request is one of tenant t, by what is known of it
+-- a request is of tenant t, where its field `tenant` is t
 pub of_own : (P : History) (t q : ℕ) (a : Request) → request_at P q ≡ Some a → a.tenant ≡ t → is_of_tenant t (request_at P q) ≡ true
 of_own P t q a is e = rw is (eq-eqb a.tenant t e)
 

@@ -63,7 +63,7 @@ waits_tenant_known C P t r l w = tenant_below C P t r l (and_parts _ _ w).0
 
 -- ---- the head of a tenant
 
--- the same requests of t wait, so its head is the same
+-- where P and Q have the same waiting requests of t, they have the same head of t
 pub head_same : (P Q : History) (t : ℕ) → ((r : ℕ) → waits_for Q t r ≡ waits_for P t r) → head Q t ≡ head P t
 unfolding head
 head_same P Q t h = least_same (waits_for Q t) (waits_for P t) request_bound h

@@ -52,7 +52,7 @@ count_none test (e ∷ P) h =
     let p = or_parts (test e.act) (has_act test P) h in
     rw (p.0, count_none test P p.1) refl
 
--- what is new where it comes is there once
+-- an act that comes only where no act like it came before is counted once at most
 count_new : (test : Act → Bool) (e : Entry) (P : History) → (test e.act ≡ true → has_act test P ≡ false) → count_acts test P ≤ 1 → count_acts test (e ∷ P) ≤ 1
 count_new test e P new h = elim (cases_Bool (test e.act)) [
   | inl is ↦ rw (is, count_none test P (new is)) (omega arith)

@@ -1,4 +1,4 @@
--- What is known of the requests of legal histories.
+-- Properties of the requests of legal histories.
 use Rattle.std.proofs.Common.{ℕ, ◌<◌, ◌≡◌, true, ◌||◌, arith, inl, inr, [], ◌∷◌, subst, false, refl, Some, ◌≤◌, length, Option, None, sym, ◌∙◌}
 use Rattle.std.proofs.lemmas.Bool.{eqb-true, or_cases, false≢true, or_right, and_parts, not_from_false, and_from, false_from_ne_true, both_ways, cases_eq, eq-eqb, ne_eqb, or_from}
 use Rattle.fq_model.specs.declared.config.Config.{Config}
@@ -45,7 +45,7 @@ removed_submitted C (e ∷ P) r l h = removed_at C P e.moment r e.act l.3 (remov
 pub taken_submitted : (C : Config) (P : History) (r : ℕ) → IsLegal C P → is_taken P r ≡ true → is_submitted P r ≡ true
 taken_submitted C P r l h = removed_submitted C P r l (taken_removed P r h)
 
--- what a worker has taken is taken
+-- a Take by worker i is a Take
 taken_by_at : (i r : ℕ) (a : Act) → is_take_by i r a ≡ true → is_take_of r a ≡ true
 taken_by_at i r (Take worker request estimate) h = (and_parts _ _ h).1
 taken_by_at i r _ h = h
@@ -80,11 +80,11 @@ pub untaken_nil : (r : ℕ) → is_taken [] r ≡ false
 unfolding is_taken
 untaken_nil r = refl
 
--- what is not taken is not done
+-- a request that is not taken is not done
 pub untaken_undone : (C : Config) (P : History) (q : ℕ) → IsLegal C P → is_taken P q ≡ false → is_done P q ≡ false
 untaken_undone C P q l h = false_from_ne_true _ (λ d. both_ways _ h (done_taken C P q l d))
 
--- ---- what is withdrawn
+-- ---- withdrawn requests
 
 -- a withdrawn request is never taken
 unmixed_at : (C : Config) (P : History) (m r : ℕ) (a : Act) → Fits C P m a → (is_withdrawn P r ≡ true → is_taken P r ≡ false) → (is_withdraw_of r a || is_withdrawn P r) ≡ true → (is_take_of r a || is_taken P r) ≡ false
@@ -102,25 +102,25 @@ unfolding is_withdrawn is_taken
 withdrawn_untaken C [] r l h = absurd (false≢true h)
 withdrawn_untaken C (e ∷ P) r l h = unmixed_at C P e.moment r e.act l.3 (withdrawn_untaken C P r l.0) h
 
--- what is ended was taken or withdrawn
+-- an ended request was taken or withdrawn
 pub ended_removed : (C : Config) (P : History) (r : ℕ) → IsLegal C P → is_ended P r ≡ true → is_removed P r ≡ true
 ended_removed C P r l h = elim (ended_by P r h) [
   | inl d ↦ taken_removed P r (done_taken C P r l d)
   | inr w ↦ withdrawn_removed P r w
 ]
 
--- so what waits is not ended
+-- so a waiting request is not ended
 pub waits_unended : (C : Config) (P : History) (r : ℕ) → IsLegal C P → is_waiting P r ≡ true → is_ended P r ≡ false
 waits_unended C P r l w = false_from_ne_true _ (λ h. both_ways _ (waits_unremoved P r w) (ended_removed C P r l h))
 
--- nor is what runs
+-- nor is a running request
 pub taken_unended : (C : Config) (P : History) (r : ℕ) → IsLegal C P → is_taken P r ≡ true → is_done P r ≡ false → is_ended P r ≡ false
 taken_unended C P r l t d = false_from_ne_true _ (λ h. elim (ended_by P r h) [
   | inl k ↦ both_ways _ d k
   | inr w ↦ both_ways _ (withdrawn_untaken C P r l w) t
 ])
 
--- ---- what a worker may report of and finish
+-- ---- the request that a worker may report of and finish
 
 -- a use that fits is of a request that is taken
 pub use_taken : (P : History) (w q used : ℕ) → FitsUse P w q used → is_taken P q ≡ true
@@ -167,7 +167,7 @@ tenant_below C P t r l h = go (request_at P r) refl h
     go None is k = absurd (false≢true k)
     go (Some a) is k = let e : a.tenant ≡ t = eqb-true _ _ k in let b : a.tenant < length C.weights = (request_known C P r a l is).tenant_known in omega arith
 
--- ---- what was not submitted yet
+-- ---- requests that are not submitted yet
 
 pub fresh : (C : Config) (P : History) (r : ℕ) → IsLegal C P → submits P ≤ r → request_at P r ≡ None
 fresh C P r l n = go (request_at P r) refl
@@ -191,7 +191,7 @@ fresh_untaken C P r l n = false_from_ne_true _ (λ h. let b : r < submits P = su
 pub fresh_undone : (C : Config) (P : History) (r : ℕ) → IsLegal C P → submits P ≤ r → is_done P r ≡ false
 fresh_undone C P r l n = false_from_ne_true _ (λ h. let b : r < submits P = submitted_below C P r l (taken_submitted C P r l (done_taken C P r l h)) in omega arith)
 
--- ---- what a request asked
+-- ---- the fields of a request
 
 stays_at : (C : Config) (P : History) (m r : ℕ) (a : Act) (q : Request) → IsLegal C P → Fits C P m a → request_at P r ≡ Some q → request_in r a (request_at P r) ≡ Some q
 stays_at C P m r (Submit request tenant kind declared label) q l f h = elim (cases_eq request r) [
@@ -200,6 +200,6 @@ stays_at C P m r (Submit request tenant kind declared label) q l f h = elim (cas
 ]
 stays_at C P m r _ q l f h = h
 
--- what a request asked does not change
+-- the fields of a request do not change
 pub asked_stays : (C : Config) (P : History) (e : Entry) (r : ℕ) (q : Request) → IsLegal C (e ∷ P) → request_at P r ≡ Some q → request_at (e ∷ P) r ≡ Some q
 asked_stays C P e r q l h = stays_at C P e.moment r e.act q l.0 l.3 h

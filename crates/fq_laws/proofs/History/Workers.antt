@@ -1,4 +1,4 @@
--- What runs on a worker.
+-- The requests that workers run.
 use Rattle.std.proofs.Common.{ℕ, ◌≡◌, true, ◌==◌, false, ◌&&◌, ◌||◌, inl, inr, [], ◌∷◌, Option, Some, None, Bool, cond, refl, sym, ◌∙◌, subst, ap, ◌<◌, arith}
 use Rattle.std.proofs.lemmas.Bool.{eqb-true, or_cases, and_parts, both_ways, false≢true, eq-eqb, false_from_ne_true, or_left, or_right, and_from, ne_eqb, or_parts, or_from}
 use Rattle.fq_model.specs.History.{History, is_take_by, has_act, is_taken, Runs, is_done, running_after, running_on}
@@ -12,7 +12,7 @@ use Rattle.fq_laws.proofs.Rules.Takes.{take_waits}
 use Rattle.fq_laws.proofs.History.Weights.{pool_high}
 use Rattle.fq_laws.proofs.History.Asked.{waits_untaken}
 
--- what worker i has taken is taken
+-- a request that worker i has taken is taken
 pub took : (P : History) (i r : ℕ) → has_act (is_take_by i r) P ≡ true → is_taken P r ≡ true
 unfolding is_taken
 took P i r h = worker_took i r P h
@@ -39,12 +39,12 @@ pub take_once : (C : Config) (P : History) (i j r : ℕ) → IsLegal C P → has
 take_once C [] i j r l x y = absurd (false≢true x)
 take_once C (e ∷ P) i j r l x y = once_at C P e.moment i j r e.act l.3 (take_once C P i j r l.0) x y
 
--- what runs on worker i is this, and nothing else does
+-- worker i runs this request and no other, or nothing where there is none
 abbrev pub IsRunningOn : History → ℕ → Option ℕ → Type 0
 IsRunningOn P i None = RunsNothing P i
 IsRunningOn P i (Some r) = Runs P i r × ((s : ℕ) → Runs P i s → s ≡ r)
 
--- the same run on worker i in Q as in P
+-- where worker i runs the same requests in P and Q, `IsRunningOn` holds of Q too
 same_runs : (P Q : History) (i : ℕ) (o : Option ℕ) → ((s : ℕ) → Runs P i s → Runs Q i s) → ((s : ℕ) → Runs Q i s → Runs P i s) → IsRunningOn P i o → IsRunningOn Q i o
 same_runs P Q i None to from h = λ r w. h r (from r w)
 same_runs P Q i (Some r) to from h = (to r h.0, λ s w. h.1 s (from s w))
@@ -88,7 +88,7 @@ runs_at C P who m i (Take worker request estimate) l f h = runs_take C P who m i
 runs_at C P who m i (Done worker request cost) l f h = runs_done C P who m i worker request cost (worker == i) (running_on P i) refl l f.runs h
 runs_at C P who m i a l f h = same_runs P (one_more who m a P) i (running_on P i) (λ s w. record { taken = w.taken; not_done = w.not_done }) (λ s w. record { taken = w.taken; not_done = w.not_done }) h
 
--- `running_on` is what the worker runs
+-- `running_on` is the request that the worker runs
 pub running_is : (C : Config) (P : History) (i : ℕ) → IsLegal C P → IsRunningOn P i (running_on P i)
 running_is C [] i l = λ r w. false≢true w.taken
 running_is C (e ∷ P) i l = runs_at C P e.who e.moment i e.act l.0 l.3 (running_is C P i l.0)

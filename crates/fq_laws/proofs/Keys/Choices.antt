@@ -199,7 +199,7 @@ choice_one at K t u k l (inr a) (inr b) = elim (cases_eq t u) [ inl e ↦ e | in
 
 -- ---- over histories
 
--- what is known of the keys of tenant t
+-- k is the keys of tenant t: its head is a request of t, and the keys are made from the fields of that request
 pub record KeysOf (C : Config) (P : History) (m t : ℕ) (k : HeadKeys) : Type 0 where
   pub what : Request
   pub is_head : head P t ≡ Some k.request
@@ -258,7 +258,7 @@ chosen C P m i l h =
 pub chosen_one : (C : Config) (P : History) (m i t u : ℕ) (k l : HeadKeys) → IsChoiceAt C P m i t k → IsChoiceAt C P m i u l → t ≡ u
 chosen_one C P m i t u k l a b = choice_one (turn_at C P m i) (HasKeys C P m) t u k l a b
 
--- and its keys are the ones
+-- and two choices have equal keys
 pub chosen_keys : (C : Config) (P : History) (m i t u : ℕ) (k l : HeadKeys) → IsChoiceAt C P m i t k → IsChoiceAt C P m i u l → k ≡ l
 chosen_keys C P m i t u k l a b =
     let e : t ≡ u = chosen_one C P m i t u k l a b in

@@ -1,4 +1,4 @@
--- Under 2dfq+ a Take lifts virtual time to the eligible key of what it takes, and the cap to its finish.
+-- Under 2dfq+ a Take lifts virtual time to the eligible key of its request, and the cap to its finish.
 use Rattle.std.proofs.Common.{ℕ, ◌+◌, ◌-◌, max, ◌≡◌, arith, refl, ap, sym, ◌∙◌, Some, pos}
 use Rattle.std.proofs.lemmas.Int.{ints, clamps}
 use Rattle.std.specs.Int.{int_max}

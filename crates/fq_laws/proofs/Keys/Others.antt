@@ -1,4 +1,4 @@
--- What an entry leaves of the tenants that it does not concern, and when keys stay.
+-- Tenants that an entry does not concern, and keys that do not change.
 use Rattle.std.proofs.Common.{subst, ℕ, ◌≡◌, false, refl, List, Option, Some, None, arith, ◌∷◌, ◌^◌, true, sym, ◌∙◌, ap}
 use Rattle.std.proofs.lemmas.Bool.{eqb-false, false_from_ne_true, both_ways, and_parts, and_from, not-true, not_from_false}
 use Rattle.fq_model.specs.History.{is_removed, Request, is_of_tenant, History, request_at, head, is_ended, waits_for, request_bound}
@@ -81,7 +81,7 @@ head_active C P t r l h =
     let unended : is_ended P r ≡ false = false_from_ne_true _ (λ d. both_ways _ (not-true _ p.1) (ended_removed C P r l d)) in
     active_of_open P t (count_some (is_open P t) r (2 ^ 32) x.small (and_from _ _ p.0 (not_from_false _ unended)))
 
--- where a tenant starts does not depend on the moment while it has a head
+-- a tenant's start does not depend on the moment while the tenant has a head
 pub start_moment : (C : Config) (P : History) (m t r : ℕ) → IsLegal C P → head P t ≡ Some r → start C P m t ≡ start C P (last_moment P) t
 unfolding start
 start_moment C P m t r l h = rw (idle_active C P m t (head_active C P t r l h)) refl
@@ -103,12 +103,12 @@ keys_moment C P m t l = go (head P t) refl
 pub keys_still : (C : Config) (P : History) (m n t : ℕ) → IsLegal C P → keys_at C P m t ≡ keys_at C P n t
 keys_still C P m n t l = keys_moment C P m t l ∙ sym (keys_moment C P n t l)
 
--- where a tenant starts, after an entry that leaves it
+-- a tenant's start, after an entry that leaves the tenant
 pub start_left : (C : Config) (P : History) (e : Entry) (t r : ℕ) → IsLegal C P → head P t ≡ Some r → Leaves C P (e ∷ P) t → start C (e ∷ P) e.moment t ≡ start C P (last_moment P) t
 unfolding start tag
 start_left C P e t r l h s = rw (s.charge_same, s.base_same, idle_step C P e t, idle_active C P e.moment t (head_active C P t r l h)) refl
 
--- what a request of the tenant is thought to cost, after an entry that leaves it
+-- the estimate of a tenant's request, after an entry that leaves the tenant
 pub estimate_left : (C : Config) (P : History) (e : Entry) (t : ℕ) (q : Request) → q.tenant ≡ t → Leaves C P (e ∷ P) t → request_estimate C (e ∷ P) q ≡ request_estimate C P q
 unfolding estimate_at
 estimate_left C P e t q is s = let k : completed_costs (completed (e ∷ P)) q.tenant q.kind ≡ completed_costs (completed P) q.tenant q.kind = rw is (s.costs_same q.kind) in ap (λ cs. estimate_from C.estimate C.initial cs q.declared) k

@@ -72,7 +72,7 @@ reached_at C P m _ who other = refl
 pub reached_stays : (C : Config) (P : History) (e : Entry) → is_take e.act ≡ false → (pace C (e ∷ P)).reached ≡ (pace C P).reached
 reached_stays C P e other = reached_at C P e.moment e.act e.who other
 
--- where a tenant starts by the pace
+-- a tenant's start by the pace
 abbrev pub paced_start : Config → History → ℕ → ℕ
 paced_start C P t = virtual_charge C P t + (pace C P).base t
 
@@ -105,7 +105,7 @@ virtual_time_step C P e other = elim (paced_or_not C.policy) [
 pub virtual_time_take : (C : Config) (P : History) (e : Entry) → C.policy ≢ TwoDfqPlus → virtual_time C (e ∷ P) e.moment ≡ virtual_time C P e.moment
 virtual_time_take C P e ne = time_by_clock C (e ∷ P) e.moment ne ∙ (clock_time_step C P e ∙ sym (time_by_clock C P e.moment ne))
 
--- under 2dfq+ a Take lifts it to the key of what is taken
+-- under 2dfq+ a Take lifts virtual time to the eligible key of its request
 pub virtual_time_lifted : (C : Config) (P : History) (who m i r c : ℕ) (q : Request) → C.policy ≡ TwoDfqPlus → request_at P r ≡ Some q → virtual_time C (one_more who m (Take i r c) P) m ≡ max (virtual_time C P m) (paced_start C P q.tenant - part_of (length_of c (weight_at C P q.tenant)) i (pool_at C P))
 virtual_time_lifted C P who m i r c q is asked =
     omega (arith, time_by_pace C (one_more who m (Take i r c) P) m is, time_by_pace C P m is, now_take C P who m i r c q asked, reached_take C P who m i r c q asked, advance_none C (one_more who m (Take i r c) P))

@@ -1,4 +1,4 @@
--- Tags, their bases and where a tenant starts: how they change at one entry more, and their limits.
+-- Tags, their bases and tenants' starts: how they change at one entry more, and their limits.
 use Rattle.std.proofs.Common.{length, true, ◌^◌, ℕ, ◌≡◌, refl, [], ◌-◌, max, ◌&&◌, ◌∷◌, None, ◌==◌, inl, inr, Some, ◌≢◌, ◌≤◌, arith, ◌+◌, subst, sym, ◌*◌}
 use Rattle.std.specs.Prelude.{is_none}
 use Rattle.std.proofs.lemmas.Bool.{false≢true, eq-eqb, cases_Bool, ne_eqb}
@@ -58,7 +58,7 @@ pub tag_submit : (C : Config) (P : History) (who m q t kind declared label : ℕ
 unfolding tag
 tag_submit C P who m q t kind declared label h same = omega (arith, base_submit C P who m q t kind declared label h, same)
 
--- the same in a legal history, at an entry whose act is known
+-- the tag in a legal history, after a Submit that finds none of its tenant's requests waiting
 pub tag_after : (C : Config) (P : History) (e : Entry) (request tenant kind declared label : ℕ) → IsLegal C (e ∷ P) → e.act ≡ Submit request tenant kind declared label → head P tenant ≡ None → tag C (e ∷ P) tenant ≡ max (virtual_time C P e.moment) (tag C P tenant)
 tag_after C P e request tenant kind declared label l is h =
     let f : FitsSubmit C P request tenant kind declared = subst (Fits C P e.moment) is l.3 in
@@ -94,7 +94,7 @@ base_within C P t lim l = elim (paced_or_not C.policy) [
   | inr ne ↦ omega (arith, base_low C P t ne lim l, last_moment_small C P l)
 ]
 
--- so is where a tenant starts, beside the greatest length of each request
+-- so is a tenant's start, beside the greatest length of each request
 pub start_low : (C : Config) (P : History) (m t : ℕ) → C.policy ≢ TwoDfqPlus → InLimits C → IsLegal C P → last_moment P ≤ m → start C P m t ≤ submits P * greatest_length + m * greatest_rate
 start_low C P m t ne lim l h = rw (start_is C P m t) (go C.policy ne)
   where

@@ -1,4 +1,4 @@
--- Each call has exactly one answer, and what it leaves is legal.
+-- Each call has exactly one answer, which leaves a legal history.
 use Rattle.std.proofs.Common.{Option, None, ℕ, refl, ◌≤◌, ◌≡◌, ◌<◌, ap, sym, ◌∙◌, Some, ◌==◌, Bool, true, false, cond, arith, subst, inr, inl}
 use Rattle.std.specs.Prelude.{MatchBool, nat_le}
 use Rattle.std.proofs.lemmas.Bool.{eqb-false}
@@ -24,7 +24,7 @@ use Rattle.fq_laws.proofs.Rules.Limits.{effective_rises, effective_small}
 
 -- ---- the request that a worker takes
 
--- what the tenant with these keys asked
+-- the head of the tenant with these keys is the chosen request
 pub is_chosen : (C : Config) (P : History) (m i t : ℕ) (k : HeadKeys) → IsChoiceAt C P m i t k → (q : Request) × IsChosen C P m i k.request (request_estimate C P q) q
 is_chosen C P m i t k c =
     let z : KeysOf C P m t k = keys_of C P m t k (choice_head C P m i t k c) in
@@ -81,7 +81,7 @@ reply_of P (call.Submit who moment tenant kind declared label) = answer.Request 
 reply_of P (call.Withdraw who moment request) = answer.Withdrawn (label_of (request_at P request))
 reply_of P _ = answer.Accepted
 
--- what answers a call that is not refused
+-- the reply and the history of a call that is not refused
 abbrev Unrefused : Config → History → Call → Reply → History → Type 0
 Unrefused C P (call.Take who moment worker) r Q = AnswersFree C P who moment worker r Q
 Unrefused C P c r Q = IsAccepted P (caller c) (named_moment c) (act_of P c) (reply_of P c) r Q
@@ -146,7 +146,7 @@ unrefused_one C P c r s Q R x y = (x.0 ∙ sym y.0, x.1 ∙ sym y.1)
 pub answer_one : (C : Config) (P : History) (c : Call) (r s : Reply) (Q R : History) → Answers C P c r Q → Answers C P c s R → (r ≡ s) × (Q ≡ R)
 answer_one C P c r s Q R x y = refused_one (refusal_of C P c) P r s Q R (Unrefused C P c r Q) (Unrefused C P c s R) (λ e. unrefused_one C P c r s Q R) (refused_or C P c r Q x) (refused_or C P c s R y)
 
--- ---- what an answer leaves
+-- ---- the history after an answer
 
 -- an act that fits at the effective moment leaves a legal history
 pub accepted_legal : (C : Config) (P : History) (who moment : ℕ) (a : Act) → IsLegal C P → Fits C P (effective_moment P moment) a → IsLegal C (one_more who (effective_moment P moment) a P)
@@ -174,7 +174,7 @@ unrefused_legal C P (call.Weight who moment tenant weight) r Q lim l e x = accep
 unrefused_legal C P (call.Workers who moment count) r Q lim l e x = accepted_keeps C P who moment _ _ r Q l (workers_fits C P count e) x
 unrefused_legal C P (call.Withdraw who moment request) r Q lim l e x = accepted_keeps C P who moment _ _ r Q l (withdraw_fits P request e) x
 
--- what an answer leaves of a legal history is legal
+-- an answer leaves a legal history legal
 pub answer_legal : (C : Config) (P : History) (c : Call) (r : Reply) (Q : History) → InLimits C → IsLegal C P → Answers C P c r Q → IsLegal C Q
 answer_legal C P c r Q lim l x = refused_keeps (refusal_of C P c) P r Q (Unrefused C P c r Q) (IsLegal C) l (unrefused_legal C P c r Q lim l) (refused_or C P c r Q x)
 
@@ -194,7 +194,7 @@ unrefused_extends C P c r Q x = inr (act_of P c, x.1)
 pub answer_extends : (C : Config) (P : History) (c : Call) (r : Reply) (Q : History) → Answers C P c r Q → Extends (caller c) (named_moment c) P Q
 answer_extends C P c r Q x = refused_keeps (refusal_of C P c) P r Q (Unrefused C P c r Q) (Extends (caller c) (named_moment c) P) (inl refl) (λ e. unrefused_extends C P c r Q) (refused_or C P c r Q x)
 
--- ---- what is refused changes nothing
+-- ---- a refused call changes nothing
 
 pooled_refused_at : (C : Config) (P : History) (who moment i : ℕ) (b : Bool) (wanted : Reply) (x : Cause) (Q : History) → MatchBool b (IsAnswered P wanted (answer.Refused x) Q) (RunsChosen C P who moment i (answer.Refused x) Q) → Q ≡ P
 pooled_refused_at C P who moment i true wanted x Q h = h.1

@@ -1,4 +1,4 @@
--- Moments, slots, numbers of entries and what there is room for, in legal histories.
+-- Moments, slots, numbers of entries and room, in legal histories.
 use Rattle.std.proofs.Common.{◌≤◌, arith, [], ◌∷◌, ℕ, min, max, ◌^◌, ◌<◌, length, ◌+◌, ◌*◌, ◌≡◌, false, refl, sym}
 use Rattle.std.proofs.lemmas.Bool.{or_left, eq-eqb, ne_eqb}
 use Rattle.vt_fixed.specs.declared.limits.TheConstants.{GREATEST_MOMENT}
@@ -68,11 +68,11 @@ pub running_some : (C : Config) (P : History) (i r : ℕ) → InLimits C → IsL
 unfolding running request_bound
 running_some C P i r lim l h = count_some (is_running P) r (2 ^ 32) (runs_small C P i r lim l h) (worker_runs P i r h)
 
--- where something waits there is room for its Take, and for its Done
+-- where a request waits there is room for its Take, and for its Done
 pub room_take : (C : Config) (P : History) → InLimits C → IsLegal C P → 1 ≤ waiting P → length P + 2 ≤ C.entries
 room_take C P lim l w = omega (arith, has_room C P lim l)
 
--- where something runs there is room for its Done
+-- where a request runs there is room for its Done
 pub room_done : (C : Config) (P : History) (i r : ℕ) → InLimits C → IsLegal C P → Runs P i r → length P < C.entries
 room_done C P i r lim l h = omega (arith, has_room C P lim l, running_some C P i r lim l h)
 
@@ -82,7 +82,7 @@ room_close C P lim l h =
     let k : length P + 2 * waiting P + running P + 1 ≤ C.entries = rw h at (has_room C P lim l) in
     omega arith
 
--- all that there is room for
+-- each entry for which there is room
 pub room_now : (C : Config) (P : History) → InLimits C → IsLegal C P → Room C P
 room_now C P lim l = record {
   for_all = has_room C P lim l;
@@ -91,7 +91,7 @@ room_now C P lim l = record {
   for_close = λ h. room_close C P lim l h;
 }
 
--- ---- how many entries and requests there are
+-- ---- the numbers of entries and of requests
 
 submitted_count_at : (C : Config) (P : History) (who m : ℕ) (a : Act) → InLimits C → IsLegal C P → Fits C P m a → count_below (is_submitted P) (2 ^ 32) ≡ submits P → count_below (is_submitted (one_more who m a P)) (2 ^ 32) ≡ submits (one_more who m a P)
 unfolding is_submitted

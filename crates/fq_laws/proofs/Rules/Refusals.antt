@@ -1,4 +1,4 @@
--- What follows where a call is not refused, and where a refusal's tests hold.
+-- Consequences of a call that is not refused, and of the tests of a refusal.
 use Rattle.std.proofs.Common.{◌≡◌, Bool, false, not, List, [], ◌∷◌, true, refl, None, Option, Some, sym, ◌∙◌, subst, ℕ, ◌<◌, arith, ◌≤◌, nat_lt, ◌==◌, ◌≢◌, ◌||◌, length, ◌++◌}
 use Rattle.std.specs.Prelude.{nat_le, is_some, is_none}
 use Rattle.std.proofs.lemmas.Bool.Decides.{nat_tests}
@@ -33,26 +33,26 @@ all_false (row ∷ rows) h =
     let x : (row.0 ≡ false) × (first_true rows ≡ None) = row_false row.0 row.1 rows h in
     (x.0, all_false rows x.1)
 
--- some reply and history are so
+-- A holds of some reply and history
 abbrev pub SomeReply : (Reply → History → Type 0) → Type 0
 SomeReply A = (reply : Reply) × (Q : History) × A reply Q
 
--- what is refused, or else answered, is answered
+-- a call has some reply and history, where it has them unless it is refused
 pub refused_exists : (o : Option Cause) (P : History) (A : Reply → History → Type 0) → (o ≡ None → SomeReply A) → SomeReply (λ reply Q. RefusedOrElse o P reply Q (A reply Q))
 refused_exists None P A h = h refl
 refused_exists (Some c) P A h = (answer.Refused c, P, (refl, refl))
 
--- it is so in one way at most
+-- a call has one reply and history at most, where it has one at most unless it is refused
 pub refused_one : (o : Option Cause) (P : History) (r s : Reply) (Q R : History) (X Y : Type 0) → (o ≡ None → X → Y → (r ≡ s) × (Q ≡ R)) → RefusedOrElse o P r Q X → RefusedOrElse o P s R Y → (r ≡ s) × (Q ≡ R)
 refused_one None P r s Q R X Y h x y = h refl x y
 refused_one (Some c) P r s Q R X Y h x y = (x.0 ∙ sym y.0, x.1 ∙ sym y.1)
 
--- what holds of P, and of what is left where nothing is refused, holds of what is left
+-- a property of P holds of the history after the call, where it does unless the call is refused
 pub refused_keeps : (o : Option Cause) (P : History) (reply : Reply) (Q : History) (X : Type 0) (Keeps : History → Type 0) → Keeps P → (o ≡ None → X → Keeps Q) → RefusedOrElse o P reply Q X → Keeps Q
 refused_keeps None P reply Q X Keeps old new x = new refl x
 refused_keeps (Some c) P reply Q X Keeps old new x = subst Keeps (sym x.1) old
 
--- ---- what the tests say
+-- ---- the orders that the tests decide
 
 pub le_false : (a b : ℕ) → nat_le a b ≡ false → b < a
 le_false a b h = grind (arith, nat_tests)

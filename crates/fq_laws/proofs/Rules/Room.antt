@@ -1,4 +1,4 @@
--- A legal history has room for what has to follow.
+-- A legal history has room for the entries that have to follow.
 use Rattle.std.proofs.Common.{ℕ, ◌≡◌, true, false, refl, ◌+◌, ◌*◌, length, if◌then◌else◌, ◌^◌, ◌<◌, ◌≤◌, arith, suc, [], ◌∷◌}
 use Rattle.std.proofs.lemmas.Bool.{cond_both}
 use Rattle.fq_model.specs.History.{History, is_close, is_closed, waiting, running, submits}
@@ -13,7 +13,7 @@ use Rattle.fq_laws.proofs.History.Requests.{submitted_below, taken_submitted, wo
 use Rattle.fq_laws.proofs.History.Asked.{waits_submitted}
 use Rattle.fq_laws.proofs.Rules.Takes.{take_waits}
 
--- what takes room: the entries, those that are owed, and a Close
+-- the entries for which there must be room: those there are, those that are owed, and a first Close
 abbrev pub needs : History → ℕ
 needs P = length P + 2 * waiting P + running P + (if is_closed P then 0 else 1)
 

@@ -24,7 +24,7 @@ keys_head C P m t k h = go (head P t) refl h
     go None is h = cc
     go (Some r) is h = inner r (request_at P r) is refl h
 
--- what a head is
+-- r waits for tenant t, its number fits 32 bits, and no lesser request of t waits
 pub record Heads (P : History) (t r : ℕ) : Type 0 where
   pub waits_now : waits_for P t r ≡ true
   pub small : r < 2 ^ 32

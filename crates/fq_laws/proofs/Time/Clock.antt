@@ -31,7 +31,7 @@ pub active_weight_nil : (C : Config) → active_weight C [] ≡ 0
 unfolding active_weight
 active_weight_nil C = sum_zero (weight_if_active C []) (length C.weights) (λ t. rw (inactive_nil t) refl)
 
--- by what virtual time moves on
+-- virtual time rises by the advance from the last moment, with the workers of the pool, at the active weight
 pub virtual_advance_is : (C : Config) (P : History) (m : ℕ) → virtual_advance C P m ≡ advance_of (m - last_moment P) (pool_at C P) (active_weight C P)
 unfolding virtual_advance
 virtual_advance_is C P m = refl
@@ -88,7 +88,7 @@ idle_active C P m t h = let k : virtual_idle_time C P m t ≡ virtual_idle_time 
 pub idle_inactive : (C : Config) (P : History) (m t : ℕ) → is_active P t ≡ false → virtual_idle_time C P m t + clock_time C P (last_moment P) ≡ virtual_idle_time C P (last_moment P) t + clock_time C P m
 idle_inactive C P m t h = let k : virtual_idle_time C P m t ≡ virtual_idle_time C P (last_moment P) t + virtual_advance C P m = rw h at (idle_split C P m t) in omega (arith, clock_time_split C P m)
 
--- the same at the moment of one entry more, by whether the tenant was active before it
+-- virtual idle time at the moment of one entry more, by whether the tenant was active before it
 pub idle_next_active : (C : Config) (P : History) (e : Entry) (t : ℕ) → is_active P t ≡ true → virtual_idle_time C (e ∷ P) e.moment t ≡ virtual_idle_time C P (last_moment P) t
 idle_next_active C P e t h = idle_step C P e t ∙ idle_active C P e.moment t h
 
@@ -101,7 +101,7 @@ unfolding virtual_idle_time clock_time
 idle_low C [] m t = omega arith
 idle_low C (e ∷ P) m t = elim (cases_Bool (is_active (e ∷ P) t)) [ inl h ↦ rw h (omega (arith, idle_low C P e.moment t)) | inr h ↦ rw h (omega (arith, idle_low C P e.moment t)) ]
 
--- the open requests and the weight of tenant u are in Q what they are in P
+-- the open requests and the weight of tenant u are equal in Q and P
 pub record SameWeight (C : Config) (P Q : History) (u : ℕ) : Type 0 where
   pub open_same : open_requests Q u ≡ open_requests P u
   pub weight_same : weight_at C Q u ≡ weight_at C P u
