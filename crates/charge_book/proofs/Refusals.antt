@@ -1,4 +1,4 @@
--- What the rows of a book refuse is what the rules refuse.
+-- The rows of a book and the rules refuse the same uses and costs.
 use Rattle.std.proofs.Common.{ℕ, ◌<◌, ◌≡◌, nat_lt, if◌then◌else◌, Bool, true, false, refl, sym, ◌∙◌, subst, Option, Some, None, option_map}
 use Rattle.std.proofs.lemmas.Bool.{lt-leb}
 use Rattle.fq_model.specs.declared.config.Config.{Config}
@@ -18,7 +18,7 @@ use Rattle.charge_book.specs.Refusal.{cause_of}
 use Rattle.charge_book.specs.Histories.{row_of_worker, BookIs}
 use Rattle.charge_book.proofs.Rows.{of_worker_known, of_worker_none}
 
--- the row is of what the worker runs, and has the weight of its tenant just before its Take
+-- the row is of the worker's request, and has the weight of its tenant just before its Take
 pub record RowSays (C : Config) (P : History) (worker : ℕ) (row : RunRow) : Type 0 where
   pub running_is : running_on P worker ≡ Some row.request
   pub asked : Request
@@ -29,7 +29,7 @@ pub record RowSays (C : Config) (P : History) (worker : ℕ) (row : RunRow) : Ty
   pub last_is : row.last ≡ last_use P row.request
   pub in_range : IsKnown C asked
 
--- what a row is, by what the worker runs
+-- a row by the worker's request, if it runs one
 abbrev pub IsRowOf : Config → History → ℕ → Option RunRow → Type 0
 IsRowOf C P worker None = running_on P worker ≡ None
 IsRowOf C P worker (Some row) = RowSays C P worker row
@@ -78,6 +78,6 @@ used_at C P worker used (Some row) known says = rw (lt-leb C.workers worker know
     by_tests false true = refl
     by_tests false false = refl
 
--- a use or a cost that the book refuses is refused for its cause, and what it does not refuse is not refused
+-- a use or a cost is refused for the cause of the book, and accepted where the book has none
 pub use_refused : (C : Config) (P : History) (b : BookView) (worker used : ℕ) → IsLegal C P → BookIs C P b → worker < C.workers → done_refusal C P worker used ≡ cause_if (use_refusal b worker used)
 use_refused C P b worker used l is known = used_at C P worker used (row_on b worker) known (row_of C P b worker (row_on b worker) l is known refl)

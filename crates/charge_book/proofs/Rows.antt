@@ -14,7 +14,7 @@ use Rattle.charge_book.specs.declared.row.RunRow.{RunRow}
 use Rattle.charge_book.specs.Rows.{row_charge}
 use Rattle.charge_book.specs.Histories.{run_row, row_of_request, row_of_worker}
 
--- what is read of request s is the same in Q
+-- the numbers that a row reads of request s are the same in Q
 pub record Reads (C : Config) (P Q : History) (s : ℕ) : Type 0 where
   pub request : request_at Q s ≡ request_at P s
   pub weight : (t : ℕ) → taken_weight C Q t s ≡ taken_weight C P t s
@@ -42,14 +42,14 @@ of_worker_same C P Q i same reads = ap (option_and_then (row_of_request C Q)) sa
     go None e = refl
     go (Some s) e = of_request_same C P Q s (reads s e)
 
--- what is read of a running request that is known
+-- the row of a running request that is known
 pub of_worker_known : (C : Config) (P : History) (i s : ℕ) (q : Request) → running_on P i ≡ Some s → request_at P s ≡ Some q → row_of_worker C P i ≡ Some (run_row C P s q)
 of_worker_known C P i s q runs known = ap (option_and_then (row_of_request C P)) runs ∙ ap (option_map (run_row C P s)) known
 
 pub of_worker_none : (C : Config) (P : History) (i : ℕ) → running_on P i ≡ None → row_of_worker C P i ≡ None
 of_worker_none C P i none = ap (option_and_then (row_of_request C P)) none
 
--- what a running request is charged is the charge of its row
+-- the charge of a running request is the charge of its row
 pub charge_is : (C : Config) (P : History) (i s : ℕ) (q : Request) → Runs P i s → charge P s ≡ row_charge (run_row C P s q)
 charge_is C P i s q runs = go (taken_estimate P s) (final_cost P s) (estimate_some P s (took P i s runs.taken)) (cost_none P s runs.not_done)
   where
@@ -58,7 +58,7 @@ charge_is C P i s q runs = go (taken_estimate P s) (final_cost P s) (estimate_so
     go (Some c) None h e = refl
     go (Some c) (Some d) h e = absurd (none-some d (sym e))
 
--- ---- what is read of other requests
+-- ---- the numbers of other requests
 
 pub reads_submit : (C : Config) (P : History) (who m r t k d l s : ℕ) → r ≢ s → Reads C P (one_more who m (Submit r t k d l) P) s
 reads_submit C P who m r t k d l s ne = record { request = rw (ne_eqb r s ne) refl; weight = λ u. refl; estimate = refl; last = omega arith }
@@ -75,7 +75,7 @@ reads_done C P who m w r cost s = record { request = refl; weight = λ u. refl; 
 pub reads_withdraw : (C : Config) (P : History) (who m r s : ℕ) → Reads C P (one_more who m (Withdraw r) P) s
 reads_withdraw C P who m r s = record { request = refl; weight = λ u. refl; estimate = refl; last = omega arith }
 
--- an act that touches no request, as a Weight of its tenant does not, leaves what is read of every request
+-- an act that touches no request, as a Weight of its tenant, leaves the numbers of every request
 pub reads_quiet : (C : Config) (P : History) (who m s : ℕ) (a : Act) → is_quiet a ≡ true → Reads C P (one_more who m a P) s
 reads_quiet C P who m s (Submit request tenant kind declared label) q = absurd (false≢true q)
 reads_quiet C P who m s (Take worker request estimate) q = absurd (false≢true q)
@@ -83,7 +83,7 @@ reads_quiet C P who m s (Report worker request used) q = absurd (false≢true q)
 reads_quiet C P who m s (Done worker request cost) q = absurd (false≢true q)
 reads_quiet C P who m s _ q = record { request = refl; weight = λ u. refl; estimate = refl; last = omega arith }
 
--- and it leaves what each worker runs
+-- and it leaves the request of each worker
 pub running_on_quiet : (P : History) (who m i : ℕ) (a : Act) → is_quiet a ≡ true → running_on (one_more who m a P) i ≡ running_on P i
 running_on_quiet P who m i (Take worker request estimate) q = absurd (false≢true q)
 running_on_quiet P who m i (Done worker request cost) q = absurd (false≢true q)

@@ -11,7 +11,7 @@ use Rattle.charge_book.specs.declared.refusal.BookRefusal.TheVariants.{CostRange
 use Rattle.charge_book.specs.Rows.{row_charge}
 use Rattle.charge_book.specs.Book.{BookView, row_on, MayUse, with_use, nets_recharged, row_refusal, IsRow, IsRunRow, owed, spare, IsSound}
 
--- what is written of a worker and a tenant
+-- the row of a worker and the net charge of a tenant that are written
 record Write (rows : List (Option RunRow)) (nets : List ℕ) (begins worker tenant : ℕ) (old new : Option RunRow) (net begun : ℕ) : Type 0 where
   worker_in : worker < length rows
   tenant_in : tenant < length nets
@@ -68,7 +68,7 @@ covered rows nets begins worker row s b t is =
     let written = subst (λ o. sum_by (owed row.tenant) (slice_set rows worker None) + owed row.tenant o ≡ sum_by (owed row.tenant) rows + 0) is (sum_by-set (owed row.tenant) rows worker None None b) in
     omega (arith, written, s.covers row.tenant t, owed_own row row.tenant refl)
 
--- what is not refused is in range and does not fall
+-- a use that is not refused is in range and does not fall
 accepted : (row : RunRow) (used : ℕ) → row_refusal (Some row) used ≡ None → (row.last ≤ used) × (used ≤ GREATEST_COST)
 accepted row used none = elim (cases_lt GREATEST_COST used) [
   | inl above ↦ absurd (none-some _ (sym none ∙ ap (λ b. if b then Some (CostRange used) else (if nat_lt used row.last then Some (Falling row.last used) else None)) (lt-ltb GREATEST_COST used above)))
@@ -106,7 +106,7 @@ sound_begun rows nets begins worker row s may = sound_write rows nets begins wor
 
 -- ---- a use or a cost
 
--- what is known of the row that a use or a cost may be of
+-- a row, and a use or a cost that it may have, in their limits
 record Held (rows : List (Option RunRow)) (nets : List ℕ) (worker : ℕ) (row : RunRow) (used : ℕ) : Type 0 where
   worker_in : worker < length rows
   row_in : IsRunRow (length nets) row
@@ -132,7 +132,7 @@ held rows nets begins worker row used s may = record {
     ok : IsRunRow (length nets) row
     ok = subst (IsRow (length nets)) may.row_is (s.in_range worker None inside)
 
--- what runs on a worker is charged by a use
+-- the request of a worker is charged by a use
 pub sound_used : (rows : List (Option RunRow)) (nets : List ℕ) (begins worker : ℕ) (row : RunRow) (used : ℕ) → IsSound rows nets begins → MayUse (book_of rows nets begins) worker row used → IsSound (slice_set rows worker (Some (with_use row used))) (nets_recharged nets row (row_charge (with_use row used))) begins
 sound_used rows nets begins worker row used s may = sound_write rows nets begins worker row.tenant (Some row) (Some next) (slice_index nets row.tenant - row_charge row + row_charge next) begins s (record {
   worker_in = h.worker_in;
@@ -153,7 +153,7 @@ sound_used rows nets begins worker row used s may = sound_write rows nets begins
     next : RunRow
     next = with_use row used
 
--- what runs on a worker is done
+-- the request of a worker is done
 pub sound_finished : (rows : List (Option RunRow)) (nets : List ℕ) (begins worker : ℕ) (row : RunRow) (cost : ℕ) → IsSound rows nets begins → MayUse (book_of rows nets begins) worker row cost → IsSound (slice_set rows worker None) (nets_recharged nets row cost) begins
 sound_finished rows nets begins worker row cost s may = sound_write rows nets begins worker row.tenant (Some row) None (slice_index nets row.tenant - row_charge row + cost) begins s (record {
   worker_in = h.worker_in;

@@ -30,7 +30,7 @@ use Rattle.charge_book.specs.Book.{BookView, row_on, row_of_run, begun, recharge
 use Rattle.charge_book.specs.Histories.{run_row, row_of_worker, is_take, takes, BookIs, BookFollows}
 use Rattle.charge_book.proofs.Rows.{of_worker_same, of_worker_known, of_worker_none, charge_is, reads_submit, reads_take, reads_report, reads_done, reads_withdraw, reads_quiet, running_on_quiet}
 
--- ---- what stays
+-- ---- acts that leave the book
 
 pub book_nil : (C : Config) → BookIs C [] (record { rows = replicate C.workers None; nets = replicate (length C.weights) 0; begins = 0 })
 book_nil C = record {
@@ -62,7 +62,7 @@ book_submit C P b who m r t k d x l is = record {
     new : (s : ℕ) → s < submits P → r ≢ s
     new s below same = absurd (omega (arith, l.3.numbered, below, same))
 
--- a Withdraw leaves the book: what is withdrawn does not run
+-- a Withdraw leaves the book: its request does not run
 pub book_withdraw : (C : Config) (P : History) (b : BookView) (who m r : ℕ) → BookIs C P b → BookIs C (one_more who m (Withdraw r) P) b
 book_withdraw C P b who m r is = record {
   workers = is.workers;
@@ -84,7 +84,7 @@ book_quiet C P b who m a q is = record {
 
 -- ---- one worker's row and one tenant's net charge are written
 
--- what is written of worker w and tenant t
+-- the row of worker w and the net charge of tenant t that are written
 pub record Written (C : Config) (P Q : History) (w t : ℕ) (row : Option RunRow) (net : ℕ) (begins : ℕ) : Type 0 where
   pub worker_known : w < C.workers
   pub tenant_known : t < length C.weights
@@ -137,7 +137,7 @@ takes_small C P lim l = omega (arith, count_low is_take P, (entries_low C P lim 
 taker_below : (C : Config) (P : History) (m w r c : ℕ) → IsLegal C P → FitsTake C P m w r c → w < C.workers
 taker_below C P m w r c l f = omega (arith, f.worker_known, pool_high C P l)
 
--- a Take fits what is free
+-- at a Take its worker is free in the book, and the book has room for one more
 pub may_begin : (C : Config) (P : History) (b : BookView) (who m w r c : ℕ) (q : Request) → InLimits C → IsLegal C (one_more who m (Take w r c) P) → request_at P r ≡ Some q → BookIs C P b → (row_on b w ≡ None) × (b.begins < 2 ^ 32)
 may_begin C P b who m w r c q lim l known is = (is.rows w (taker_below C P m w r c l.0 l.3) ∙ of_worker_none C P w (nothing_running C P w l.0 l.3.free), rw is.begins (takes_small C P lim l.0))
 
@@ -188,7 +188,7 @@ charged_by C P t r own h = go (charge P r)
     go : (y : ℕ) → cond (is_taken_of P t r) (length_of y (taken_weight C P t r)) 0 ≡ cond own (length_of y (taken_weight C P t r)) 0
     go y = ap (λ b. cond b (length_of y (taken_weight C P t r)) 0) h
 
--- a difference is what is added
+-- the old number and the difference are the new number
 whole : (v u a c : ℕ) → u + a ≡ v + c → pos v +ℤ (pos c -ℤ pos a) ≡ pos u
 whole v u a c e = omega (arith, ints)
 

@@ -1,4 +1,4 @@
--- What contracts see of a book, and what each call makes of it.
+-- The view of a book in contracts, and the book after each call.
 use Rattle.std.specs.Prelude.{ℕ, ◌+◌, ◌-◌, ◌*◌, ◌<◌, ◌≤◌, ◌^◌, ◌==◌, ◌≡◌, nat_lt, if◌then◌else◌, List, length, slice_index, slice_index_or, slice_set, sum_by, All, Option, Some, None, ℤ, pos}
 use Rattle.charge_book.specs.declared.row.RunRow.{RunRow}
 use Rattle.charge_book.specs.declared.refusal.BookRefusal.{BookRefusal}
@@ -7,17 +7,17 @@ use Rattle.vt_fixed.specs.declared.limits.TheConstants.{GREATEST_COST, GREATEST_
 use Rattle.fq_laws.specs.Changes.{length_change}
 use Rattle.charge_book.specs.Rows.{row_charge}
 
--- what runs, by worker; the net charges, by tenant; and how many requests were begun
+-- the rows of the running requests, by worker; the net charges, by tenant; and how many requests were begun
 pub record BookView : Type 0 where
   pub rows : List (Option RunRow)
   pub nets : List ℕ
   pub begins : ℕ
 
--- what runs on a worker
+-- the row on a worker
 abbrev pub row_on : BookView → ℕ → Option RunRow
 row_on b worker = slice_index_or b.rows worker None
 
--- why a use or a cost of what runs there is refused, if it is
+-- why a use or a cost of the request of this row is refused, if it is
 abbrev pub row_refusal : Option RunRow → ℕ → Option BookRefusal
 row_refusal None used = Some NotRunning
 row_refusal (Some row) used =
@@ -51,11 +51,11 @@ begun b worker row = record {
   begins = b.begins + 1;
 }
 
--- the net charges where what this row was charged becomes this charge
+-- the net charges where the charge of this row becomes `charge`
 abbrev pub nets_recharged : List ℕ → RunRow → ℕ → List ℕ
 nets_recharged nets row charge = slice_set nets row.tenant (slice_index nets row.tenant - row_charge row + charge)
 
--- the worker runs this, and what its row was charged becomes this charge
+-- the worker has the row `next`, and the charge of its row becomes `charge`
 abbrev pub recharged : BookView → ℕ → RunRow → Option RunRow → ℕ → BookView
 recharged b worker row next charge =
     record { rows = slice_set b.rows worker next; nets = nets_recharged b.nets row charge; begins = b.begins }
@@ -69,7 +69,7 @@ reported_at b worker None used = b
 reported_at b worker (Some row) used =
     recharged b worker row (Some (with_use row used)) (row_charge (with_use row used))
 
--- the book after a use of what runs on the worker
+-- the book after a use of the worker's request
 abbrev pub reported : BookView → ℕ → ℕ → BookView
 reported b worker used = reported_at b worker (row_on b worker) used
 
@@ -85,7 +85,7 @@ abbrev pub finished_at : BookView → ℕ → Option RunRow → ℕ → BookView
 finished_at b worker None cost = b
 finished_at b worker (Some row) cost = recharged b worker row None cost
 
--- the book after what runs on the worker is done at this cost
+-- the book after the worker's request is done at this cost
 abbrev pub finished : BookView → ℕ → ℕ → BookView
 finished b worker cost = finished_at b worker (row_on b worker) cost
 
@@ -97,7 +97,7 @@ finish_change_at (Some row) cost = length_change row.weight (row_charge row) cos
 abbrev pub finish_change : BookView → ℕ → ℕ → ℤ
 finish_change b worker cost = finish_change_at (row_on b worker) cost
 
--- ---- what a book keeps
+-- ---- the invariant of a book
 
 -- the numbers of a running request are in their limits
 pub record IsRunRow (tenants : ℕ) (row : RunRow) : Type 0 where
@@ -111,17 +111,17 @@ abbrev pub IsRow : ℕ → Option RunRow → Type 0
 IsRow tenants None = Unit {0}
 IsRow tenants (Some row) = IsRunRow tenants row
 
--- what a worker's request is charged to tenant t
+-- the charge of a worker's request, as far as it is tenant t's
 abbrev pub owed : ℕ → Option RunRow → ℕ
 owed t None = 0
 owed t (Some row) = if row.tenant == t then row_charge row else 0
 
--- what it may still be charged beyond that
+-- and the further charge that it may still have
 abbrev pub spare : ℕ → Option RunRow → ℕ
 spare t None = 0
 spare t (Some row) = if row.tenant == t then GREATEST_COST - row_charge row else 0
 
--- each net charge covers what its running requests are charged, and has room for what they may still be
+-- each net charge covers the charges of its tenant's running requests, and has room for their further charges
 pub record IsSound (rows : List (Option RunRow)) (nets : List ℕ) (begins : ℕ) : Type 0 where
   pub in_range : All (IsRow (length nets)) rows
   pub covers : (t : ℕ) → t < length nets → sum_by (owed t) rows ≤ slice_index nets t

@@ -16,7 +16,7 @@ is_take _ = false
 abbrev pub takes : History → ℕ
 takes P = count_acts is_take P
 
--- what the history says of a running request: its weight is that of its tenant just before its Take, whatever it is now
+-- the row of a running request in a history: its weight is that of its tenant just before its Take, whatever it is now
 abbrev pub run_row : Config → History → ℕ → Request → RunRow
 run_row C P r q = record {
   request = r;
@@ -30,11 +30,11 @@ run_row C P r q = record {
 abbrev pub row_of_request : Config → History → ℕ → Option RunRow
 row_of_request C P r = option_map (run_row C P r) (request_at P r)
 
--- what the history says of what runs on worker i, which may be a worker that the pool has no place for any more
+-- the row on worker i in a history; the worker may be one that the pool has no place for any more
 abbrev pub row_of_worker : Config → History → ℕ → Option RunRow
 row_of_worker C P i = option_and_then (row_of_request C P) (running_on P i)
 
--- the book has what runs on each worker of the configuration, the net charge of each tenant, and the number of Takes
+-- the book has the row on each worker of the configuration, the net charge of each tenant, and the number of Takes
 pub record BookIs (C : Config) (P : History) (b : BookView) : Type 0 where
   pub workers : length b.rows ≡ C.workers
   pub tenants : length b.nets ≡ length C.weights
@@ -42,12 +42,12 @@ pub record BookIs (C : Config) (P : History) (b : BookView) : Type 0 where
   pub nets : (t : ℕ) → t < length C.weights → slice_index b.nets t ≡ net_charge P t
   pub begins : b.begins ≡ takes P
 
--- between P and Q the virtual charge of tenant t changes by so much, and that of no other
+-- between P and Q the virtual charge of tenant t changes by `change`, and that of no other
 pub record IsChange (C : Config) (P Q : History) (t : ℕ) (change : ℤ) : Type 0 where
   pub own : pos (virtual_charge C P t) +ℤ change ≡ pos (virtual_charge C Q t)
   pub others : (u : ℕ) → u ≢ t → virtual_charge C Q u ≡ virtual_charge C P u
 
--- the book is that of the longer history, and between the two the virtual charge of the tenant changes by so much
+-- the book is that of the longer history, and between the two the virtual charge of the tenant changes by `change`
 pub record BookFollows (C : Config) (P Q : History) (tenant : ℕ) (b : BookView) (change : ℤ) : Type 0 where
   pub book_is : BookIs C Q b
   pub changes_by : IsChange C P Q tenant change

@@ -1,4 +1,4 @@
--- A running request, and what it is charged.
+-- The charge of a running request.
 use Rattle.std.specs.Prelude.{ℕ, max}
 use Rattle.charge_book.specs.declared.row.RunRow.{RunRow}
 

@@ -83,7 +83,7 @@ impl Book {
         vt_fixed::length(estimate, weight)
     }
 
-    /// The row of what runs on the worker, where a use or a cost of so many microseconds is not refused.
+    /// The row on the worker, where `used`, a use or a cost in microseconds, is not refused.
     pub fn row_for(&self, worker: u32, used: u64) -> Result<RunRow, BookRefusal>
         requires { worker < length self.now.rows }
         ensures row { IfOk result (λ row. MayUse self.now worker row used) }
@@ -158,7 +158,7 @@ impl Book {
         Ok(self.record_cost(worker, row, cost))
     }
 
-    /// What runs on the worker.
+    /// The row on the worker: the request that it runs, if it runs one.
     pub fn running(&self, worker: u32) -> Option<RunRow>
         requires { worker < length self.now.rows }
         ensures { result ≡ row_on self.now worker }
@@ -175,7 +175,7 @@ impl Book {
     }
 }
 
-// Charges the request of this row so much, and gives the change of the length.
+// Makes `charge` the charge of the request of this row, and gives the change of the length.
 fn recharge(nets: &mut Vec<u64>, row: RunRow, charge: u64) -> i128
     requires row { IsRunRow (length nets.old.items) row }
     requires charge { charge ≤ GREATEST_COST }

@@ -1,4 +1,4 @@
-//! What runs on each worker, and what its tenants are charged for it.
+//! The running request of each worker, and the charges of the tenants.
 #![tactic(auto)]
 
 pub mod book;

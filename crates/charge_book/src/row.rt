@@ -17,7 +17,7 @@ pub struct RunRow {
 }
 
 impl RunRow {
-    /// What it is charged while it runs: the greater of its estimate and its last use.
+    /// Its charge while it runs: the greater of its estimate and its last use.
     pub fn charge(&self) -> u64
         ensures { result ≡ row_charge self.now }
     {

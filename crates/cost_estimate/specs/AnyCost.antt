@@ -27,7 +27,7 @@ kinds_of (Declared e) = e.pairs.kinds
 kinds_of (Recent e) = e.pairs.kinds
 kinds_of (Pessimistic e) = e.pairs.kinds
 
--- what the estimator in it stands for
+-- the estimator in it stands for these completed requests
 abbrev pub StandsFor : AnyCost → List Completed → Type 0
 StandsFor (Declared e) cs = Unit {0}
 StandsFor (Recent e) cs = HasRecent e.pairs.tenants e.pairs.kinds e.rings.items cs

@@ -1,4 +1,4 @@
--- What an estimator keeps of the completed requests, by the place of each tenant and kind.
+-- The numbers that an estimator keeps of the completed requests, by the place of each tenant and kind.
 use Rattle.std.specs.Prelude.{ℕ, ◌+◌, ◌*◌, ◌<◌, ◌≤◌, ◌≡◌, List, [], take, length, slice_index, slice_index_or, All}
 use Rattle.circular_buffer.specs.Buffer.{Buffer, buffer}
 use Rattle.vt_fixed.specs.declared.limits.TheConstants.{GREATEST_COST}

@@ -8,7 +8,7 @@ use crate::recent::RecentCost;
 use fq_model::config::{Checked, Estimator};
 use std::alloc::{AllocError, Global};
 
-/// One of the three estimators: the one that the configuration names.
+/// The estimator that the configuration names, one of three.
 #[derive(Drop)]
 pub enum AnyCost {
     Declared(DeclaredCost),

@@ -1,4 +1,4 @@
-//! What every estimator does.
+//! The trait of every estimator.
 ghost use Rattle.std.specs.Prelude.{◌≡◌, ◌<◌, ◌≤◌, ℕ, List, [], length, IfOk};
 ghost use Rattle.fq_model.specs.Charge.{Completed};
 ghost use Rattle.fq_model.specs.declared.config.Estimator.{Estimator};
@@ -8,7 +8,7 @@ use fq_model::config::Checked;
 use fq_model::limits::GREATEST_COST;
 use std::alloc::{AllocError, Global};
 
-/// Estimates what a request costs, in microseconds, from the costs of the completed requests of its tenant
+/// Estimates the cost of a request, in microseconds, from the costs of the completed requests of its tenant
 /// and kind. Not every cost is kept, so an estimator has no list of them: its meaning is which lists it
 /// stands for, the newest cost first.
 pub trait Estimate: Sized {
@@ -38,15 +38,13 @@ pub trait Estimate: Sized {
         ensures kinds { IfOk result (λ e. kinds e ≡ config.now.kinds) }
         ensures empty { IfOk result (λ e. stands_for e []) };
 
-    /// What a request of this tenant and kind is thought to cost now, of which its submitter declared this
-    /// number, in microseconds.
+    /// The estimate now of a request of this tenant and kind with this declared cost, both in microseconds.
     fn now(&self, tenant: u32, kind: u32, declared: u64) -> u64
         requires tenant { tenant < tenants self.now }
         requires kind { kind < kinds self.now }
         ensures { IsEstimate (stands_for self.now) (rule self.now) (initial self.now) tenant kind declared result };
 
-    /// A request of this tenant and kind was completed, and cost so many microseconds: at most
-    /// 1,000,000,000.
+    /// A request of this tenant and kind was completed at this cost, in microseconds: at most 1,000,000,000.
     fn learn(&mut self, tenant: u32, kind: u32, cost: u64)
         requires tenant { tenant < tenants self.old }
         requires kind { kind < kinds self.old }

@@ -1,4 +1,4 @@
-//! What a request is thought to cost before it is done, by the costs of the requests completed so far.
+//! The estimate of a request's cost before it is done, by the costs of the requests completed so far.
 #![tactic(auto)]
 
 pub mod any;

@@ -13,7 +13,7 @@ pub struct Pairs {
 }
 
 impl Pairs {
-    /// Those of a configuration.
+    /// The pairs of a configuration.
     pub fn of(config: &Checked) -> Pairs
         ensures tenants { result.tenants ≡ length config.now.weights }
         ensures kinds { result.kinds ≡ config.now.kinds }

@@ -56,7 +56,7 @@ impl Estimate for RecentCost {
     }
 }
 
-// So many rings for eight costs, all empty.
+// `count` rings for eight costs, all empty.
 fn empty_rings(alloc: Global, count: usize) -> Result<Vec<HeapCircularBuffer<u64>>, AllocError>
     ensures { IfOk result (λ rings. rings.items ≡ replicate count (buffer [] 8)) }
 {

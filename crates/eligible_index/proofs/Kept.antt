@@ -1,4 +1,4 @@
--- What an index keeps through a change, and through a choice.
+-- The invariant of an index through a change, and through a choice.
 use Rattle.std.proofs.Common.{ℕ, ◌≡◌, ◌≢◌, ◌<◌, ◌≤◌, true, false, List, ◌++◌, Option, Some, None, IfSome, length, replicate, get_or, set, take, drop, arith, refl, sym, ap, ◌∙◌, subst, inl, inr, ◌⊎◌, ℤ, ◌≤ℤ◌}
 use Rattle.std.proofs.lemmas.Bool.{cases_eq, cases_lt}
 use Rattle.std.proofs.lemmas.Int.{ints}
@@ -14,7 +14,7 @@ use Rattle.eligible_index.specs.Noted.{IsNoted}
 use Rattle.eligible_index.specs.Trees.{TreesView, Stands, Follow, HaveNoKey, with_noted, cleared}
 use Rattle.eligible_index.specs.Index.{KeepsIndex, trees_of, AreNoted, AreCleared}
 
--- what was written back whole
+-- a list that was written back whole
 pub whole : {A : Type 0} (xs ys : List A) (len : ℕ) → len ≡ length xs → length ys ≡ length xs → take len (ys ++ drop (length ys) xs) ≡ ys
 whole xs ys len e f = take_at ys (drop (length ys) xs) len (f ∙ sym e)
 
@@ -40,7 +40,7 @@ follow_cleared at table = record {
   stands = λ t lt fresh. absurd (fresh (get_or-replicate (length table) t true false lt));
 }
 
--- what is eligible stays so
+-- a head that is eligible stays so
 stands_on : (policy : Policy) (workers i : ℕ) (v later_v : ℤ) → v ≤ℤ later_v → (keys : Option HeadKeys) (l e : Option Key) → Stands (record { policy = policy; workers = workers; worker = i; virtual_time = v }) keys l e → Stands (record { policy = policy; workers = workers; worker = i; virtual_time = later_v }) keys l e
 stands_on policy workers i v later_v le None l e s = s
 stands_on policy workers i v later_v le (Some k) l e (inl s) = inl s
@@ -67,7 +67,7 @@ no_key_cleared tenants = (none tenants, none tenants)
     none : (n : ℕ) → HasNoKey (replicate {A = Option Key} n None)
     none n leaf = elim (cases_lt leaf n) [ inl lt ↦ get_or-replicate n leaf None None lt | inr le ↦ get_or_past (replicate {A = Option Key} n None) leaf None (omega (arith, length-replicate {A = Option Key} n None, le)) ]
 
--- all trees are cleared, and there are so many workers
+-- all trees are cleared, and there are `fewer` workers
 pub keeps_resized : (policy : Policy) (workers fewer : ℕ) (table : Table) (latest : ℤ) (trees newer : List TreesView) → KeepsIndex policy workers table latest trees → fewer ≤ length trees → AreCleared (length table) trees newer → KeepsIndex policy fewer table latest newer
 keeps_resized policy workers fewer table latest trees newer k le c = record {
   few = k.few;
@@ -90,7 +90,7 @@ keeps_chosen policy workers table latest v trees i w k chosen le f = record {
   retired = λ j over lt. subst HaveNoKey (sym (get_or-set_other trees i j w _ (λ e. omega (arith, e, over, chosen)))) (k.retired j over (omega (arith, length-set trees i w, lt)));
 }
 
--- what a choice finds
+-- the trees of a worker at its choice
 pub follow_now : (policy : Policy) (workers : ℕ) (table : Table) (latest v : ℤ) (trees : List TreesView) (i : ℕ) → KeepsIndex policy workers table latest trees → i < workers → latest ≤ℤ v → Follow (record { policy = policy; workers = workers; worker = i; virtual_time = v }) table (trees_of trees i)
 follow_now policy workers table latest v trees i k chosen le = follow_on policy workers i latest v table (trees_of trees i) le (k.follow i (omega (arith, chosen, k.staffed)))
 

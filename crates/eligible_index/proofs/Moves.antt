@@ -31,7 +31,7 @@ fewer_keys (Some k ∷ map) (suc t) key h = omega (arith, fewer_keys map t key h
 
 -- ---- one head
 
--- a head that stands in the first tree has that key
+-- a key in the first tree is the `later_key` of a head
 stands_later : (at : Turn) (keys : Option HeadKeys) (l e : Option Key) (key : Key) → Stands at keys l e → l ≡ Some key → (k : HeadKeys) × ((keys ≡ Some k) × ((at.policy ≢ Wfq) × (key ≡ later_key at k)))
 stands_later at None l e key s is = absurd (none_not_some l key s.0 is)
 stands_later at (Some k) l e key (inl s) is = (k, (refl, (s.1.1, some_is key (later_key at k) (sym is ∙ s.0))))
@@ -95,7 +95,7 @@ module _ (at : Turn) (table : Table) (later eligible : List (Option Key)) (sized
       let found : (k : HeadKeys) × ((get_or table t None ≡ Some k) × (IsEligible at k × (key ≡ finish_key k))) = stands_eligible at (get_or table t None) (key_of later t) (key_of eligible t) key (h t lt) has in
       (found.0, (has_from table t found.0 lt found.1.0, found.1.1))
 
-  -- a head stands in one of the two
+  -- a head is in one of the two trees
   where_it_stands : (t : ℕ) (k : HeadKeys) → Has table t k → StandsLater at k (key_of later t) (key_of eligible t) ⊎ StandsEligible at k (key_of later t) (key_of eligible t)
   where_it_stands t k has = subst (λ x. Stands at x (key_of later t) (key_of eligible t)) (get_or_from_slice_get table t (Some k) None has) (h t (slice_get_within table t (Some k) has))
 

@@ -5,7 +5,7 @@ use Rattle.std.proofs.lemmas.List.{get_or-set_same, get_or-set_other, length-set
 use Rattle.std.proofs.lemmas.List.Elements.{All-push, Contains-append_left, Contains-push}
 use Rattle.eligible_index.specs.Noted.{IsNoted, count_noted, AreListed, KeepsNoted}
 
--- what is noted is below the bound
+-- a number that is noted is below the bound
 noted_within : (flags : List Bool) (n : ℕ) → IsNoted flags n → n < length flags
 noted_within flags n h = elim (cases_lt n (length flags)) [ inl lt ↦ lt | inr le ↦ absurd (false≢true (sym (get_or_past flags n false le) ∙ h)) ]
 
@@ -43,7 +43,7 @@ count_few (false ∷ flags) = omega (arith, count_few flags)
 pub has_room : (flags : List Bool) (numbers : List ℕ) (n : ℕ) → AreListed flags numbers → n < length flags → get_or flags n false ≡ false → length numbers < length flags
 has_room flags numbers n h lt fresh = omega (arith, h.counted, count_set flags n lt fresh, count_few (set flags n true), length-set flags n true)
 
--- one that was not noted is
+-- a number that was not noted is noted
 pub lists_more : (flags : List Bool) (numbers : List ℕ) (n : ℕ) → AreListed flags numbers → n < length flags → get_or flags n false ≡ false → AreListed (set flags n true) (numbers ++ n ∷ [])
 lists_more flags numbers n h lt fresh = record {
   counted = omega (arith, length_push numbers n, h.counted, count_set flags n lt fresh);
@@ -54,7 +54,7 @@ lists_more flags numbers n h lt fresh = record {
   ];
 }
 
--- one that is noted stays so
+-- a number that is noted stays so
 pub set_again : (flags : List Bool) (n : ℕ) → n < length flags → get_or flags n false ≡ true → flags ≡ set flags n true
 set_again [] n lt h = refl
 set_again (f ∷ flags) zero lt h = ap (λ g. g ∷ flags) h
@@ -62,7 +62,7 @@ set_again (f ∷ flags) (suc n) lt h = ap (λ fs. f ∷ fs) (set_again flags n (
 
 -- ---- forgetting
 
--- what is still noted stands in the list from place i on
+-- each number that is still noted is in the list from place i on
 abbrev pub StandAfter : List Bool → List ℕ → ℕ → Type 0
 StandAfter flags numbers i = (n : ℕ) → IsNoted flags n → (k : ℕ) × ((i ≤ k) × ((k < length numbers) × (get_or numbers k n ≡ n)))
 
@@ -95,7 +95,7 @@ after_last flags numbers i h le = all_false flags (λ n noted. let found : (k : 
     all_false (true ∷ fs) none = absurd (none 0 refl)
     all_false (false ∷ fs) none = ap (λ gs. false ∷ gs) (all_false fs (λ n. none (suc n)))
 
--- ---- what is kept
+-- ---- the invariant
 
 pub keeps_none : (flags : List Bool) (numbers : List ℕ) (bound capacity : ℕ) → flags ≡ replicate bound false → numbers ≡ [] → capacity ≡ bound → KeepsNoted flags numbers capacity
 keeps_none flags numbers bound capacity e f g = rw (e, f, g) (lists_none bound, omega (arith, length-replicate bound false))

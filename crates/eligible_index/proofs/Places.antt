@@ -9,7 +9,7 @@ use Rattle.winner_tree.specs.Order.{key_of}
 use Rattle.eligible_index.specs.Noted.{IsNoted}
 use Rattle.eligible_index.specs.Trees.{TreesView, Stands, StandsIn, StandBut, AllStand, Follow}
 
--- what is written for a tenant stands, and no other tenant has moved
+-- the keys that are written for a tenant stand, and no other tenant has moved
 pub stands_set : (at : Turn) (table : Table) (later eligible : List (Option Key)) (t : ℕ) (l e : Option Key) → t < length later → t < length eligible → Stands at (get_or table t None) l e → StandsIn at table (set later t l) (set eligible t e) t
 stands_set at table later eligible t l e in_later in_eligible h =
     subst (λ x. Stands at (get_or table t None) x (key_of (set eligible t e) t)) (sym (get_or-set_same later t l None in_later)) (subst (λ y. Stands at (get_or table t None) l y) (sym (get_or-set_same eligible t e None in_eligible)) h)

@@ -5,7 +5,7 @@ use Rattle.std.proofs.lemmas.List.{get_or-set_same, get_or-set_other, length-set
 use Rattle.eligible_index.specs.Trees.{TreesView}
 use Rattle.eligible_index.specs.Index.{trees_of}
 
--- those below i are as the change makes them, and all others as before
+-- the trees of workers below i are changed, and all others are as before
 pub record IsChangedTo (change : TreesView → TreesView) (before now : List TreesView) (i : ℕ) : Type 0 where
   pub sized : length now ≡ length before
   pub changed : (j : ℕ) → j < i → j < length before → trees_of now j ≡ change (trees_of before j)

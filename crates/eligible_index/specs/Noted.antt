@@ -11,7 +11,7 @@ count_noted [] = zero
 count_noted (true ∷ flags) = suc (count_noted flags)
 count_noted (false ∷ flags) = count_noted flags
 
--- each number that is noted stands in the list, which is as long as they are many
+-- each number that is noted is in the list, which has no more numbers than are noted
 pub record AreListed (flags : List Bool) (numbers : List ℕ) : Type 0 where
   pub counted : length numbers ≡ count_noted flags
   pub known : All (λ n. n < length flags) numbers

@@ -130,7 +130,7 @@ impl IndexChooser {
     }
 }
 
-// Trees of so many tenants for each of so many workers.
+// Trees for each of `workers` workers, with `tenants` tenants as leaves.
 fn open_trees(alloc: Global, workers: u32, tenants: u32) -> Result<Vec<WorkerTrees>, AllocError>
     requires some { 1 ≤ tenants }
     requires few { tenants ≤ 4096 }

@@ -1,4 +1,4 @@
-//! Where a head stands in the trees of a worker.
+//! The keys of a head in the trees of a worker.
 ghost use Rattle.std.specs.Prelude.{◌≡◌, ◌↔◌, ◌≤ℤ◌, IsTrue, pos};
 ghost use Rattle.eligible_index.specs.Trees.{later_key, Stands};
 
@@ -33,7 +33,7 @@ fn later_key(at: Turn, keys: Keys) -> Key
     }
 }
 
-/// The key of a head once it is eligible, from what it was before.
+/// The key of a head once it is eligible, from its key before.
 pub fn by_finish(later: Key) -> Key
     ensures { result ≡ record { a = later.b; b = pos 0; c = later.c } }
 {

@@ -26,7 +26,7 @@ impl Model for Marked {
 }
 
 impl Marked {
-    /// A tree of so many leaves, none of which has a key.
+    /// A tree of `leaves` leaves, none of which has a key.
     pub fn open(alloc: Global, leaves: u32) -> Result<Marked, AllocError>
         requires some { 1 ≤ leaves }
         requires few { leaves ≤ 4096 }

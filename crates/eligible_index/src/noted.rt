@@ -55,7 +55,7 @@ impl Noted {
         }
     }
 
-    /// Those that are noted.
+    /// The numbers that are noted.
     pub fn numbers(&self) -> &[u32]
         ensures known { All (λ n. n < length self.now) result.now }
         ensures all { (n : ℕ) → IsNoted self.now n → Contains result.now n }

@@ -33,7 +33,7 @@ impl Model for WorkerTrees {
 }
 
 impl WorkerTrees {
-    /// Trees for so many tenants, none of which has a key or is noted. All memory is taken here.
+    /// Trees for `tenants` tenants, none of which has a key or is noted. All memory is taken here.
     pub fn open(alloc: Global, tenants: u32) -> Result<WorkerTrees, AllocError>
         requires some { 1 ≤ tenants }
         requires few { tenants ≤ 4096 }
@@ -54,7 +54,7 @@ impl WorkerTrees {
         self.noted.note(tenant);
     }
 
-    /// Takes all keys out of the trees, of which each has so many leaves, and notes every tenant.
+    /// Takes all keys out of the trees, of which each has `tenants` leaves, and notes every tenant.
     pub fn restart(&mut self, tenants: u32)
         requires { tenants ≡ length self.old.noted }
         ensures { self.new ≡ cleared tenants }
@@ -143,7 +143,7 @@ fn move_over(at: Turn, later: &mut Marked, eligible: &mut Marked)
     }
 }
 
-// Takes all keys out of a tree of so many leaves.
+// Takes all keys out of a tree of `leaves` leaves.
 fn clear(tree: &mut Marked, leaves: u32)
     requires { length tree.old ≡ leaves }
     ensures { tree.new ≡ replicate leaves None }

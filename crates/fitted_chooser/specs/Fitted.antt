@@ -1,4 +1,4 @@
--- Which of two choosers there is, and what contracts see of it.
+-- Which of two choosers there is, and its view in contracts.
 use Rattle.std.specs.Prelude.{nat_le, Bool, true, false, ◌&&◌, length}
 use Rattle.fq_model.specs.declared.config.Config.{Config}
 use Rattle.tag_rules.specs.Tables.{ChooserView}
@@ -15,7 +15,7 @@ abbrev pub is_for_few : {F M : Type 0} → FittedChooser F M → Bool
 is_for_few (ForFew inner) = true
 is_for_few (ForMany inner) = false
 
--- what is seen of the one that there is
+-- the view of the chooser that there is
 abbrev pub seen_of : {F M : Type 0} → (F → ChooserView) → (M → ChooserView) → FittedChooser F M → ChooserView
 seen_of few many (ForFew inner) = few inner
 seen_of few many (ForMany inner) = many inner

@@ -1,4 +1,4 @@
-//! What counts as few.
+//! The bounds of few workers and few tenants.
 ghost use Rattle.std.specs.Prelude.{◌≡◌};
 ghost use Rattle.fitted_chooser.specs.Fitted.{are_few};
 

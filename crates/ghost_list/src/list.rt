@@ -4,8 +4,8 @@ ghost use Rattle.std.specs.Borrow.{ftrue};
 
 use std::marker::{Model, PhantomData};
 
-/// A clause reads the list as `items`. Nothing at run time knows it: what relates it to what a program keeps is the
-/// invariant of the struct that holds it.
+/// A clause reads the list as `items`. Nothing at run time knows it: the invariant of the struct that holds it
+/// relates it to the values that a program keeps.
 #[derive(Drop)]
 pub struct GhostList<T> {
     of: PhantomData<T>,

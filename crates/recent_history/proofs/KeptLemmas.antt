@@ -1,4 +1,4 @@
--- What a call leaves of the last entries.
+-- The last entries after a call.
 use Rattle.std.proofs.Common.{◌≡◌, ℕ, ◌+◌, ◌-◌, ◌<◌, arith, List, [], ◌∷◌, ◌++◌, length, drop, sym, ap, ◌∙◌, refl, Some, inl, inr}
 use Rattle.std.proofs.lemmas.List.{drop-append-le, drop-drop, length-append, length-drop}
 use Rattle.fq_model.specs.declared.event.Call.{Call}
@@ -31,7 +31,7 @@ kept_more n past e =
     let place : k + (length (drop k past ++ e ∷ []) - n) ≡ length (past ++ e ∷ []) - n = omega (arith, length-append (drop k past) (e ∷ []), length-append past (e ∷ []), length-drop k past) in
     ap (λ (l : List Entry). drop (length (drop k past ++ e ∷ []) - n) l) step ∙ (drop-drop (length (drop k past ++ e ∷ []) - n) k (past ++ e ∷ []) ∙ ap (λ m. drop m (past ++ e ∷ [])) place)
 
--- the entry that is put behind the others is the one that they lack
+-- the entry that is put behind the others is the entry that they lack
 pub noted : (n count len : ℕ) (written past items : List Entry) (entry : Entry) → count ≡ length written → items ≡ keep_last n written → IsBehind written past → count < len → len ≡ length past → newest (history_of past) ≡ Some entry → keep_last n (items ++ entry ∷ []) ≡ keep_last n past
 noted n count len written past items entry counted held (inl same) more is last = absurd (omega (arith, counted, more, is, ap length same))
 noted n count len written past items entry counted held (inr (e, one)) more is last =

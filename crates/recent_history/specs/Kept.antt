@@ -4,7 +4,7 @@ use Rattle.fq_model.specs.declared.event.Entry.{Entry}
 use Rattle.circular_buffer.specs.Buffer.{Buffer, buffer, keep_last}
 use Rattle.sched_state.specs.Kept.{IsBehind}
 
--- the entry with this index, if it is one of the last so many
+-- the entry with this index, if it is one of the last `keep` entries
 abbrev pub kept_entry : ℕ → List Entry → ℕ → Option Entry
 kept_entry keep past index = if nat_le (length past - keep) index then slice_get past index else None
 
@@ -12,7 +12,7 @@ kept_entry keep past index = if nat_le (length past - keep) index then slice_get
 abbrev pub HoldsLast : ℕ → List Entry → Buffer Entry → Type 0
 HoldsLast keep past ring = ring ≡ buffer (keep_last keep past) keep
 
--- the ring holds the last of so many entries, of which the past has one more at most
+-- the ring holds the last of the past's first `count` entries, and the past has one more at most
 pub record IsNext (ring : Buffer Entry) (count : ℕ) (past : List Entry) : Type 0 where
   pub written : List Entry
   pub count_is : count ≡ length written

@@ -1,9 +1,9 @@
--- What contracts see of a scheduler that keeps the last of its entries.
+-- The view, in contracts, of a scheduler that keeps the last of its entries.
 use Rattle.std.specs.Prelude.{ℕ, refl}
 use Rattle.std.specs.Coded.{Coded, code_by, coded×, coded_ℕ}
 use Rattle.sched_state.specs.Scheduler.{SchedulerView, scheduler_code}
 
--- what they see of the scheduler that keeps all, and how many of the last entries are kept
+-- the view of the scheduler that keeps all entries, and the number of last entries that are kept
 pub record RecentView (J : Type 0) : Type 0 where
   pub scheduler : SchedulerView J
   pub keep : ℕ

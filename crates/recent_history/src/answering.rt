@@ -7,7 +7,7 @@ use fq_model::event::{Call, Reply};
 use sched_state::answering::{closed, submitted, taken, told, withdrawn};
 use tag_rules::chooser::Chooser;
 
-/// What the scheduler answers to a call, whose label is the job of what is submitted.
+/// The scheduler's reply to a call. The label of a submit is the job of its request.
 pub fn answer<X: Chooser>(recent: &mut Recent<u64, X>, call: Call) -> Reply
     ensures answers { AnswersCall recent.old.scheduler call result recent.new.scheduler }
     ensures keep { recent.new.keep ≡ recent.old.keep }

@@ -26,8 +26,8 @@ use tag_rules::chooser::Chooser;
 use tag_rules::foresees::Foresees;
 use tag_rules::parts::Keys;
 
-/// A scheduler and the last of its entries, as many as were asked for at its opening. Contracts see what they see of
-/// a `Scheduler`, which has all entries, and how many of the last are kept. What each call says is what it says there.
+/// A scheduler and the last of its entries, as many as were asked for at its opening. Contracts see the view of a
+/// `Scheduler`, which has all entries, and how many of the last are kept. Each call has the promise of the call there.
 #[derive(Drop)]
 pub struct Recent<J: Job, X: Chooser> {
     core: Core<J, X>,
@@ -49,7 +49,7 @@ impl<J: Job, X: Chooser> Model for Recent<J, X> {
 }
 
 impl<J: Job + Drop, X: Chooser> Recent<J, X> {
-    /// Takes all the memory that the scheduler will use, for so many entries among it: none, one, or any number.
+    /// Takes all the memory that the scheduler will use, that of the last `keep` entries too: none, one, or any number.
     pub fn open(alloc: Global, config: Checked, keep: u32) -> Result<Recent<J, X>, AllocError>
         ensures { IfOk result (λ s. s ≡ record {
           scheduler = record { config = config; past = []; jobs = map.empty };
@@ -85,8 +85,8 @@ impl<J: Job + Drop, X: Chooser> Recent<J, X> {
         outcome
     }
 
-    /// A worker asks for work, and gets the job of the request that is its turn, if one waits and the worker is below
-    /// the number of workers now.
+    /// A worker asks for work, and gets the job of the chosen request, if one waits and the worker is below the number
+    /// of workers now.
     pub fn take(&mut self, who: u32, moment: u64, worker: u32) -> Taken<J>
         ensures answers { AnswersCall self.old.scheduler (call.Take who moment worker)
             (take_reply J.label_of result) self.new.scheduler }
@@ -156,8 +156,7 @@ impl<J: Job + Drop, X: Chooser> Recent<J, X> {
         outcome
     }
 
-    /// There are so many workers from here on: 1 to as many as the scheduler was opened with. Refused as a `Scheduler`
-    /// would.
+    /// There are `count` workers from here on: 1 to the number at the opening. Refused as a `Scheduler` would.
     pub fn workers(&mut self, who: u32, moment: u64, count: u32) -> Result<(), Cause>
         ensures answers { AnswersCall self.old.scheduler (call.Workers who moment count)
             (change_reply result) self.new.scheduler }
@@ -215,7 +214,7 @@ impl<J: Job + Drop, X: Chooser> Recent<J, X> {
         self.ring.get((index - first) as usize).copied()
     }
 
-    /// What the scheduler was opened with.
+    /// The configuration, as at the opening.
     pub fn config(&self) -> &Checked
         ensures { result.now ≡ self.now.scheduler.config }
     {
@@ -248,7 +247,7 @@ impl<J: Job + Drop, X: Chooser> Recent<J, X> {
         self.core.pool()
     }
 
-    /// What is shown of the history at its last entry.
+    /// The status of the history at its last entry.
     pub fn status(&self) -> Status
         ensures { result ≡ status_of self.now.scheduler.config (history_of self.now.scheduler.past) }
     {
@@ -257,8 +256,7 @@ impl<J: Job + Drop, X: Chooser> Recent<J, X> {
 }
 
 impl<J: Job + Drop, X: Foresees> Recent<J, X> {
-    /// What a worker would find that asked for work at this moment. Nothing changes, and later calls may be at earlier
-    /// moments.
+    /// Foresees a take by the worker at this moment. Nothing changes, and later calls may be at earlier moments.
     pub fn due(&self, moment: u64, worker: u32) -> Due
         ensures { IsDue self.now.scheduler.config (history_of self.now.scheduler.past) moment worker result }
     {
@@ -266,7 +264,7 @@ impl<J: Job + Drop, X: Foresees> Recent<J, X> {
     }
 }
 
-// Keeps the core's last entry, where it has more entries than so many.
+// Keeps the core's last entry, where the core has more than `count` entries.
 fn note<J: Job + Drop, X: Chooser>(
     ring: &mut HeapCircularBuffer<Entry>,
     core: &Core<J, X>,

@@ -1,4 +1,4 @@
--- What contracts see of a journal, and what is kept of it.
+-- The view of a journal in contracts, and the invariant of its ledger.
 use Rattle.std.specs.Prelude.{ℕ, ◌≡◌, nat_le, Bool, List, [], ◌∷◌, ◌++◌, length, Option, Some, None}
 use Rattle.fq_model.specs.declared.config.Config.{Config}
 use Rattle.fq_model.specs.declared.event.Act.{Act}
@@ -32,7 +32,7 @@ newest (e ∷ P) = Some e
 abbrev pub MayGain : JournalView → ℕ → Act → Type 0
 MayGain j m act = (who : ℕ) → IsLegal j.config (one_more who m act (history j))
 
--- where so many requests wait, whether there is room for so many entries more
+-- where `backlog` requests wait, whether there is room for `more` entries
 abbrev pub IsRoomFor : JournalView → ℕ → ℕ → Bool → Type 0
 IsRoomFor j backlog more room =
     backlog ≡ waiting (history j) → room ≡ nat_le (needed_room (history j) more) j.config.entries

@@ -1,4 +1,4 @@
--- What a history comes to in a few numbers.
+-- Whether a history is closed, and counts of its requests.
 use Rattle.std.specs.Prelude.{◌+◌, ◌-◌, ◌<◌, ◌≤◌, ◌≡◌, ◌^◌, true}
 use Rattle.fq_model.specs.declared.event.Act.{Act}
 use Rattle.fq_model.specs.declared.event.Act.TheVariants.{Submit, Take, Done, Close}

@@ -44,7 +44,7 @@ impl History {
         self.past.as_slice()
     }
 
-    /// What it was kept under, and the entries, in order of time: for a caller that lets go of one before the other.
+    /// The configuration, and the entries in order of time: for a caller that frees one before the other.
     pub fn into_parts(self) -> (Checked, Vec<Entry>)
         ensures config { result.0 ≡ self.config }
         ensures entries { result.1.items ≡ self.past }
@@ -53,7 +53,7 @@ impl History {
         (self.config, self.past)
     }
 
-    /// What it was kept under.
+    /// The configuration.
     pub fn config(&self) -> &Checked
         ensures { result.now ≡ self.now.config }
     {

@@ -1,4 +1,4 @@
-//! What a journal answers without its entries.
+//! The ledger: the part of a journal that is kept without its entries.
 ghost use Rattle.std.specs.Prelude.{◌≡◌, ◌≤◌, ◌∷◌, [], length};
 ghost use Rattle.fq_model.specs.Limits.{InLimits};
 ghost use Rattle.fq_model.specs.History.{is_closed, running, submits};
@@ -13,8 +13,8 @@ use fq_model::limits::GREATEST_MOMENT;
 use ghost_list::GhostList;
 use std::marker::Model;
 
-/// The configuration that one history is kept under, how many entries it has, the last of them, and what it comes to in
-/// a few numbers. Contracts see the configuration and all entries in order of time; at run time no other entry is kept.
+/// The configuration that one history is kept under, the number of its entries, the last of them, and its tally.
+/// Contracts see the configuration and all entries in order of time; at run time no other entry is kept.
 #[derive(Drop)]
 pub struct Ledger {
     config: Checked,
@@ -35,7 +35,7 @@ impl Model for Ledger {
 }
 
 impl Ledger {
-    /// That of a history without entries. It takes no memory.
+    /// The ledger of a history without entries. It takes no memory.
     pub fn open(config: Checked) -> Ledger
         ensures { result ≡ record { config = config; past = [] } }
     {
@@ -116,7 +116,7 @@ impl Ledger {
         moment.max(self.last_moment()).min(GREATEST_MOMENT)
     }
 
-    /// Whether there is room for so many entries more, beside those that will be needed where so many requests wait.
+    /// Whether there is room for `more` entries beside those that the open requests need, of which `backlog` wait.
     pub fn has_room(&self, backlog: u32, more: u64) -> bool
         requires { more ≤ 4 }
         ensures { IsRoomFor self.now backlog more result }

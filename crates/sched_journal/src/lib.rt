@@ -1,4 +1,4 @@
-//! What a scheduler asks of its journal: what its entries come to in numbers, and what they leave room for; and a
+//! The numbers that a scheduler reads of its journal: counts of its entries, and the room that they leave; and a
 //! history by itself, with all its entries.
 #![tactic(auto)]
 

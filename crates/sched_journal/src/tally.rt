@@ -4,7 +4,7 @@ ghost use Rattle.sched_journal.specs.Tally.{TallyIs, counted, CanCount};
 
 use fq_model::event::Act;
 
-/// What a history comes to in a few numbers.
+/// Whether a history is closed, and counts of its requests.
 #[derive(Clone, Copy)]
 pub struct Tally {
     /// Whether nothing more is submitted.
@@ -16,7 +16,7 @@ pub struct Tally {
 }
 
 impl Tally {
-    /// That of a history without entries.
+    /// The tally of a history without entries.
     pub fn new() -> Tally
         ensures { TallyIs [] result }
     {

@@ -1,4 +1,4 @@
--- What the calls of a scheduler find, and what they are answered.
+-- The calls of a scheduler: the rows that they read, and their replies.
 use Rattle.std.proofs.Common.{ℕ, ◌<◌, ◌≤◌, ◌≡◌, ◌≢◌, Bool, true, false, cond, arith, refl, sym, ap, subst, ◌∙◌, ◌∷◌, ◌++◌, Option, Some, None}
 use Rattle.std.specs.Prelude.{nat_le, Result, Ok, Err}
 use Rattle.std.specs.Result.{IsErrAnd}
@@ -38,7 +38,7 @@ use Rattle.sched_state.specs.Tracker.{Tracks}
 use Rattle.sched_journal.proofs.JournalLemmas.{history_with}
 use Rattle.sched_state.proofs.RefusalLemmas.{room_row}
 
--- ---- what a call leaves
+-- ---- the scheduler after a call
 
 abbrev with_jobs : {J : Type 0} → JournalView → JobMap J → SchedulerView J
 with_jobs j jobs = record { config = j.config; past = j.past; jobs = jobs }
@@ -85,7 +85,7 @@ answered_submit C P who moment m r tenant kind declared label written none next 
 
 -- ---- a Take
 
--- where no job is told nothing is handed out
+-- a reply without a job hands out none
 pub none_handed_out : {J : Type 0} (now : SchedulerView J) (told : Taken J) → HasNoJob told → HandsOut now told now
 none_handed_out now (taken.UnknownWorker worker) no_job = refl
 none_handed_out now (taken.Busy request) no_job = refl
@@ -120,7 +120,7 @@ took C P who moment m worker request estimate label asked none pooled some is la
   accepted = (ap (λ (l : ℕ). answer.Run request estimate l) (sym labelled), ap (λ (z : ℕ). one_more who z (Take worker request estimate) P) is);
 }))
 
--- ---- a use or a cost of what a row is of
+-- ---- a use or a cost of the request of a row
 
 module _ {J X : Type 0} (label : J → ℕ) (seen : X → ChooserView) (C : Config) (P : History) (k : Tracker J X) (worker used : ℕ) (row : RunRow) (tracks : Tracks label seen C P k) (held : row_on k.book worker ≡ Some row) where
   row_request : worker < C.workers → request_on P worker ≡ row.request

@@ -39,7 +39,7 @@ pub accounts_submit : (C : Config) (P : History) (a : AccountsView) (who m r t k
 accounts_submit C P a who m r t k declared label None lim l none is = accounts_raise C P a who m r t k declared label lim l none is
 accounts_submit C P a who m r t k declared label (Some first) lim l some is = accounts_leave C P a who m r t k declared label first lim l some is
 
--- after the entry the book is b, and the charge of tenant t has changed by so much
+-- after the entry the book is b, and the virtual charge of tenant t has changed by `change`
 pub record Step (C : Config) (P : History) (e : Entry) (a : AccountsView) (t : ℕ) (b : BookView) (change : ℤ) : Type 0 where
   pub limits : InLimits C
   pub legal : IsLegal C (e ∷ P)
@@ -56,20 +56,20 @@ module _ (C : Config) (P : History) (e : Entry) (a : AccountsView) (t : ℕ) (b 
       let own = x.follows.changes_by.own in
       let back : to_z w128 (of_z w128 z) ≡ z = omega (arith, ints) in back ∙ same
 
-  -- what `charge` asks for
+  -- the preconditions of `charge`
   pub step_sized : t < length a.charges
   step_sized = omega (arith, x.accounts_are.charges_sized, x.tenant_known)
 
   pub step_charge : IsCharge (charge_of a t +ℤ to_z w128 (of_z w128 z))
   step_charge = subst (λ y. IsCharge (charge_of a t +ℤ y)) (sym read_back) (may_charge C P a e t change x.limits x.legal x.tenant_known x.follows.changes_by.own x.accounts_are)
 
-  -- and what it makes
+  -- and the accounts after it
   pub step_accounts : (new : AccountsView) → is_submit e.act ≡ false → new ≡ charged a t (to_z w128 (of_z w128 z)) → AccountsAre C (e ∷ P) new
   step_accounts new other is = subst (AccountsAre C (e ∷ P)) (sym (is ∙ ap (charged a t) read_back)) (accounts_charge C P a e t change other x.tenant_known x.follows.changes_by.own x.follows.changes_by.others x.accounts_are)
 
 -- ---- a Take
 
--- what `begin` asks for, and what it does
+-- the preconditions of `begin`, and its step
 pub record BeginStep (C : Config) (P : History) (b : BookView) (a : AccountsView) (who m w r tenant kind estimate weight : ℕ) : Type 0 where
   pub worker : w < length b.rows
   pub free : row_on b w ≡ None
@@ -100,7 +100,7 @@ begin_step C P b a who m w r estimate weight q lim l known heavy is are =
 
 -- ---- a Report and a Done
 
--- what is done to a request concerns its tenant alone
+-- a request is of its tenant alone
 pub only_owner : (P : History) (r t u : ℕ) (q : Request) → request_at P r ≡ Some q → q.tenant ≡ t → u ≢ t → is_of_tenant u (request_at P r) ≡ false
 only_owner P r t u q is own ne = of_other P u r q is (λ e. ne (sym e ∙ own))
 

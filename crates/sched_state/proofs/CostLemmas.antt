@@ -15,7 +15,7 @@ use Rattle.sched_state.specs.Costs.{CostsAre}
 pub costs_stay : (C : Config) (P Q : History) (costs : AnyCost) → CostsAre C P costs → completed Q ≡ completed P → CostsAre C Q costs
 costs_stay C P Q costs is same = record { rule = is.rule; initial = is.initial; tenants = is.tenants; kinds = is.kinds; learned = subst (StandsFor costs) (sym same) is.learned }
 
--- what it answers is the estimate
+-- its answer is the estimate
 pub estimate_is : (C : Config) (P : History) (costs : AnyCost) (tenant kind declared : ℕ) → CostsAre C P costs → estimate_from (rule_of costs) (initial_of costs) (completed_costs (completed P) tenant kind) declared ≡ estimate_at C P tenant kind declared
 unfolding estimate_at
 estimate_is C P costs tenant kind declared is = rw (is.rule, is.initial) refl

@@ -1,4 +1,4 @@
--- What a worker that asked for work would find.
+-- The foreseen take of a worker.
 use Rattle.std.proofs.Common.{ℕ, ◌<◌, ◌≡◌, ◌≢◌, Bool, true, false, nat_le, arith, refl, sym, ap, subst, Option, Some, None, ℤ, pos}
 use Rattle.std.specs.Prelude.{IsSome, option_copied, ◌==◌, if◌then◌else◌, MatchBool}
 use Rattle.std.specs.Borrow.{Bor}
@@ -83,7 +83,7 @@ module _ {J : Type 0} (label : J → ℕ) (C : Config) (P : History) (m i : ℕ)
   unless None who told none a = free (nat_le (pool_at C P) i) who told none a
   unless (Some c) who told none a = refused told c a.0
 
-  -- a worker that is told this in place of work would find so
+  -- a take that would have this result, without work, is foreseen so
   pub due_told : (told : Taken J) → GetsNone label C P i told → IsDue C P m i (due_by told)
   due_told told gets = unless (take_refusal C P i) 0 told gets.no_job (gets.answers 0 m)
 
@@ -92,7 +92,7 @@ module _ {J : Type 0} (label : J → ℕ) (C : Config) (P : History) (m i : ℕ)
 not_over : (n i : ℕ) → i < n → nat_le n i ≡ false
 not_over n i lt = grind (arith, nat_tests)
 
--- one that gets work would find what it says of that
+-- a take that would get work is foreseen as `IsDueOfWaiting` says
 pub due_work : (C : Config) (P : History) (m i : ℕ) (d : Due) → GetsWork C P i → IsDueOfWaiting C P (effective_moment P m) i d → IsDue C P m i d
 due_work C P m i d gets x = rw (gets.free, not_over (pool_at C P) i gets.pooled, ne_eqb (waiting P) 0 gets.some_waits) x
 

@@ -12,7 +12,7 @@ use Rattle.sched_state.proofs.JobMaps.{found_with, either_order, same_out, still
 module _ {J : Type 0} where
   -- ---- lists of lists
 
-  -- what stands before and after the items of list t
+  -- the items before and after those of list t
   record Around (all : List (List (Item J))) (t : ℕ) : Type 0 where
     before : List (Item J)
     behind : List (Item J)
@@ -56,13 +56,13 @@ module _ {J : Type 0} where
   among_at (x ∷ xs) zero i b e = inl (sym e)
   among_at (x ∷ xs) (suc k) i b e = inr (among_at xs k i (omega (arith, b)) e)
 
-  -- what each item has, one of them has
+  -- a property of each item holds of one among them
   pub each_among : (P : Item J → Type 0) (items : List (Item J)) (i : Item J) → AllByRecursion P items → Among i items → P i
   each_among P [] i h a = absurd a
   each_among P (x ∷ xs) i h (inl e) = subst P (sym e) h.0
   each_among P (x ∷ xs) i h (inr a) = each_among P xs i h.1 a
 
-  -- it stands in some list
+  -- an item of all lists is in some list
   pub list_of_one : (i : Item J) (all : List (List (Item J))) → Among i (all_items all) → (t : ℕ) × (t < length all) × Among i (get_or all t [])
   list_of_one i [] h = absurd h
   list_of_one i (items ∷ more) h = elim (among_either i items (all_items more) h) [
@@ -70,7 +70,7 @@ module _ {J : Type 0} where
     | inr k ↦ (let x = list_of_one i more k in (suc x.0, omega (arith, x.1), x.2))
   ]
 
-  -- and what stands in one stands in all
+  -- and an item of one list is in all
   pub one_of_all : (i : Item J) (all : List (List (Item J))) (t : ℕ) → t < length all → Among i (get_or all t []) → Among i (all_items all)
   one_of_all i all t b h =
       let r : Around all t = around all t b in
@@ -78,7 +78,7 @@ module _ {J : Type 0} where
 
   -- ---- jobs
 
-  -- what is found is the job of an item
+  -- a job that is found is the job of an item
   pub found_among : (items : List (Item J)) (q : ℕ) (job : J) → map.get (jobs_of items) q ≡ Some job → (i : Item J) × Among i items × (i.request ≡ q) × (i.job ≡ job)
   found_among [] q job h = let e : ◌≡◌ {A = Option J} None (Some job) = sym (map.get-empty nat_cmp q) ∙ h in absurd (cc)
   found_among (x ∷ xs) q job h = elim (cases_eq q x.request) [
@@ -136,6 +136,6 @@ module _ {J : Type 0} where
   first_of_list [] i h = absurd (cc)
   first_of_list (x ∷ xs) i h = let e : x ≡ i = cc in ap (λ (y : Item J). y ∷ xs) e
 
-  -- so for the first of a list
+  -- an item that is the first of list t: its job is found, and is gone
   pub jobs_pop : (all : List (List (Item J))) (t : ℕ) (i : Item J) → t < length all → slice_get (get_or all t []) 0 ≡ Some i → map.get (jobs_in (set all t (drop 1 (get_or all t [])))) i.request ≡ None → IsOut all t i (drop 1 (get_or all t []))
   jobs_pop all t i b top none = jobs_out all t i [] (drop 1 (get_or all t [])) b (first_of_list (get_or all t []) i top) none

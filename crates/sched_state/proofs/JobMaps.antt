@@ -7,7 +7,7 @@ use Rattle.sched_state.specs.Lists.{JobMap}
 
 -- ---- maps
 
--- what is found after one job more
+-- the job that is found after one job more
 pub found_with : {J : Type 0} (m : JobMap J) (r : ℕ) (job : J) (q : ℕ) → map.get (map.insert m r job) q ≡ cond (q == r) (Some job) (map.get m q)
 found_with m r job q = map.get-insert nat_cmp_total m r job q ∙ ap (λ b. cond b (Some job) (map.get m q)) (unsigned_tied q r)
 
@@ -39,7 +39,7 @@ other_out m r s b ne = same_jobs _ _ (λ q. (found_with (map.remove m r) s b q �
       | inr n ↦ rw (ne_eqb q s n) refl
     ]
 
--- what was just put in is taken out
+-- a job that was just put in is taken out
 pub same_out : {J : Type 0} (m : JobMap J) (r : ℕ) (a : J) → map.get m r ≡ None → m ≡ map.remove (map.insert m r a) r
 same_out m r a none = same_jobs _ _ (λ q. go q ∙ sym (found_without (map.insert m r a) r q ∙ ap (cond (q == r) None) (found_with m r a q)))
   where
@@ -49,7 +49,7 @@ same_out m r a none = same_jobs _ _ (λ q. go q ∙ sym (found_without (map.inse
       | inr n ↦ rw (ne_eqb q r n) refl
     ]
 
--- what is not there is not taken out
+-- a job that is not there is not taken out
 pub none_out : {J : Type 0} (m : JobMap J) (r : ℕ) → map.get m r ≡ None → m ≡ map.remove m r
 none_out m r none = same_jobs _ _ (λ q. go q ∙ sym (found_without m r q))
   where
@@ -59,7 +59,7 @@ none_out m r none = same_jobs _ _ (λ q. go q ∙ sym (found_without m r q))
       | inr n ↦ rw (ne_eqb q r n) refl
     ]
 
--- what is found of one request alone, and not of another
+-- two requests differ where a job is found of the first and none of the second
 unlike : {J : Type 0} (m : JobMap J) (r s : ℕ) (a : J) → map.get m r ≡ Some a → map.get m s ≡ None → r ≢ s
 unlike m r s a some none = λ e. let k : Some a ≡ None = sym some ∙ (ap (map.get m) e ∙ none) in absurd (cc)
 
@@ -67,7 +67,7 @@ none_of : {J : Type 0} (b : Bool) (a : J) (o : Option J) → cond b (Some a) o �
 none_of true a o h = absurd (cc)
 none_of false a o h = (refl, h)
 
--- what is not found after one job more was not found before, and is another's
+-- a job that is not found after one job more was not found before, and is another's
 pub still_none : {J : Type 0} (m : JobMap J) (r : ℕ) (a : J) (q : ℕ) → map.get (map.insert m r a) q ≡ None → (q ≢ r) × (map.get m q ≡ None)
 still_none m r a q h =
     let x : ((q == r) ≡ false) × (map.get m q ≡ None) = none_of (q == r) a (map.get m q) (sym (found_with m r a q) ∙ h) in

@@ -1,4 +1,4 @@
--- What a call leaves of the entries.
+-- The entries after a call.
 use Rattle.std.proofs.Common.{◌≡◌, ℕ, List, [], ◌∷◌, ◌++◌, reverse, sym, ap, ◌∙◌, inl, inr}
 use Rattle.std.proofs.lemmas.List.{reverse-reverse, reverse-append}
 use Rattle.fq_model.specs.declared.event.Entry.{Entry}

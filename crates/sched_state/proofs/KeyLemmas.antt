@@ -119,7 +119,7 @@ module _ (C : Config) (P : History) (m : ℕ) (x : ChooserView) (l : IsLegal C P
   pub same_turn : (i : ℕ) (v : ℤ) → v ≡ pos (virtual_time C P m) → turn_of x.setting i v ≡ turn_at C P m i
   same_turn i v e = rw (is.setting_is, e) refl
 
-  -- what is chosen over the table is the choice
+  -- the choice over the table is the choice of the history
   pub choice_is : (i t : ℕ) (v : ℤ) → v ≡ pos (virtual_time C P m) → IsTableChoice x.setting x.table i v t → (k : HeadKeys) × IsChoiceAt C P m i t k
   choice_is i t v at chosen = (
     chosen.0,

@@ -171,7 +171,7 @@ module _ {J : Type 0} (label : J → ℕ) where
         counted = omega (arith, h.counted, count_set w.lists t (drop 1 items) in_list, length_drop items (queue P t) P t r (h.items t known) top, waiting_taken C P who m worker r estimate lim l.0 l.3);
       }
 
-  -- what was asked by the request of an item that is taken off a list
+  -- the request of an item that is taken off a list
   pub removed_asked : (C : Config) (P : History) (r t : ℕ) (i : Item J) (w new : lists.ListsView J) → ListsAre label C P w → lists.IsRemoved w r t i new → request_at P r ≡ Some (record { tenant = t; kind = i.kind; declared = i.declared; label = label i.job })
   removed_asked C P r t i w new h x =
       let listed : Among i (lists.list_of w t) = rw x.was (among_right i x.front (i ∷ x.rest) (inl refl)) in
@@ -234,7 +234,7 @@ module _ {J : Type 0} (label : J → ℕ) where
   unfolding waits_for is_waiting
   waits_of P t q own waits = and_from _ _ own (and_parts _ _ waits).1
 
-  -- what is in a list waits
+  -- the request of an item in a list waits
   item_waits : (C : Config) (P : History) (w : lists.ListsView J) (t q : ℕ) (i : Item J) → InLimits C → IsLegal C P → ListsAre label C P w → t < length w.lists → Among i (lists.list_of w t) → i.request ≡ q → is_waiting P q ≡ true × IsItemOf label P t q i
   item_waits C P w t q i lim l h known listed is =
       let z = item_request P t i (lists.list_of w t) (queue P t) (h.items t (omega (arith, known, h.tenants))) listed in
@@ -242,7 +242,7 @@ module _ {J : Type 0} (label : J → ℕ) where
       let waits : WaitsFor P t z.0 = ((queue_law C P t lim l).waits z.0).0 z.1 in
       (subst (λ r. is_waiting P r ≡ true) number (of_waits P t z.0 waits), subst (λ r. IsItemOf label P t r i) number z.2)
 
-  -- and what waits is in a list
+  -- and a request that waits is in a list
   record IsListed (w : lists.ListsView J) (q : ℕ) : Type 0 where
     tenant : ℕ
     known : tenant < length w.lists
@@ -368,14 +368,14 @@ module _ {J : Type 0} (label : J → ℕ) where
   pub lists_opened : (C : Config) (tenants slots : ℕ) (w : lists.ListsView J) → tenants ≡ length C.weights → slots ≡ C.requests → w ≡ record { lists = replicate tenants []; slots = slots } → ListsAre label C [] w
   lists_opened C tenants slots w e f is = lists_nil C w (is ∙ rw (e, f) refl)
 
--- ---- what calls of the lists answer
+-- ---- the results of calls of the lists
 
--- what holds of each result that is accepted
+-- a consequence of `Ok` holds of a result that is `Ok`
 pub when_ok : {E : Type 0} {A : Type 0} (r : Result (Unit {0}) E) {x : Unit {0}} → r ≡ Ok x → OnOk r A → A
 when_ok (Ok x) e a = a
 when_ok (Err y) e a = absurd (cc)
 
--- what holds of each item that is found
+-- a property of each item that is found holds of this one
 pub when_some : {A : Type 0} (P : A → Type 0) (o : Option A) {x : A} → o ≡ Some x → IfSome o P → P x
 when_some P (Some y) {x} e h = let same : y ≡ x = cc in subst P same h
 when_some P None e h = absurd (cc)

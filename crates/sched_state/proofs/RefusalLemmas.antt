@@ -38,6 +38,6 @@ report_refused C P worker used c e = refused_before (use_refusals C P worker use
 pub report_unless_full : (C : Config) (P : History) (worker used : ℕ) → done_refusal C P worker used ≡ None → report_refusal C P worker used ≡ room_refusal C P 2
 report_unless_full C P worker used e = not_refused_before (use_refusals C P worker used) (room_row C P) e
 
--- an error that was told has this cause
+-- an error with this cause
 pub told_cause : {A : Type 0} (r : Result A Cause) (c : Cause) (o : Option Cause) → IsErrAnd r (λ d. d ≡ c) → o ≡ Some c → result_err r ≡ o
 told_cause r c o is e = let x = err_from_is_err_and r is in ap (λ (s : Result _ Cause). result_err s) x.1 ∙ (ap (λ (d : Cause). Some d) x.2 ∙ sym e)

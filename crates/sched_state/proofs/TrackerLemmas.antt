@@ -1,4 +1,4 @@
--- What is kept beside a journal at one entry more.
+-- The tracker beside a journal at one entry more.
 use Rattle.std.proofs.Common.{true, ℕ, ◌+◌, ◌<◌, ◌≤◌, ◌≡◌, ◌≢◌, ◌^◌, arith, refl, sym, ap, subst, ◌∙◌, inl, inr, ◌⊎◌, [], ◌∷◌, ◌++◌, length, drop, Option, Some, None, ℤ, pos, ◌≤ℤ◌}
 use Rattle.std.specs.Prelude.{slice_get, is_none, if◌then◌else◌, IfSome, IfNone, IsSome}
 use Rattle.std.proofs.lemmas.Bool.{eq-eqb, ne_eqb}
@@ -104,7 +104,7 @@ module _ {J X : Type 0} (label : J → ℕ) (C : Config) (P : History) (t : ℕ)
     pub head_keys : (z : ℤ) (estimate weight : ℕ) (found : HeadKeys) → z ≡ pos (start C P (last_moment P) t) → estimate ≡ estimate_at C P t i.kind i.declared → weight ≡ weight_at C P t → found ≡ record { start = to_z w128 (of_z w128 z); len = pos (length_of estimate weight); request = i.request } → ◌≡◌ {A = Option HeadKeys} (Some found) (keys_at C P (last_moment P) t)
     head_keys z estimate weight found starts costs weighs is = ap (λ (x : HeadKeys). Some x) (is ∙ rw (handed_on z (start C P (last_moment P) t) starts start_low, costs, weighs) refl) ∙ sym (head_keys_are C P (last_moment P) t i.request (record { tenant = t; kind = i.kind; declared = i.declared; label = label i.job }) is_head was_asked)
 
--- what is of all tenants is of all but one
+-- a tracker with the keys of all tenants has those of all but one
 pub all_but : {J X : Type 0} (label : J → ℕ) (seen : X → ChooserView) (C : Config) (P : History) (t : ℕ) (k : Tracker J X) → t < length C.weights → Tracks label seen C P k → TracksBut label seen t C P k
 all_but label seen C P t k known all =
     let keys = all.chooser_is in
@@ -140,7 +140,7 @@ module _ {J X : Type 0} (label : J → ℕ) (seen : X → ChooserView) (C : Conf
         chooser_is = rw chooses (keys_of_others C P e (seen k.chooser) (seen k.chooser) (λ u. u ≢ t) o.limits l (λ u ne. ne_eqb t u (λ x. ne (sym x))) old.chooser_is (setting_stays C P e (seen k.chooser) (pool_step C P e) old.chooser_is) refl (latest_at C P m (seen k.chooser) l.1 old.chooser_is));
       }
 
-  -- a Report of a use of what the row is of
+  -- a Report of a use of the row's request
   pub report_but : (who m w used : ℕ) (row : RunRow) (change : ℤ) → ReportStep C P k.book k.accounts who m w used row → ComesTo m k.times n.times → change ≡ report_change k.book w used → n.book ≡ reported k.book w used → n.accounts ≡ charged k.accounts row.tenant (to_z w128 (of_z w128 change)) → n.lists ≡ k.lists → n.costs ≡ k.costs → n.chooser ≡ k.chooser → TracksBut label seen row.tenant C (one_more who m (Report w row.request used) P) n
   report_but who m w used row change x passes changed books accounts listed costs chooses =
       let e : Entry = record { who = who; moment = m; act = Report w row.request used } in
@@ -159,7 +159,7 @@ module _ {J X : Type 0} (label : J → ℕ) (seen : X → ChooserView) (C : Conf
         chooser_is = rw chooses (keys_of_others C P e (seen k.chooser) (seen k.chooser) (λ u. u ≢ row.tenant) o.limits x.step.legal x.others old.chooser_is (setting_stays C P e (seen k.chooser) (pool_step C P e) old.chooser_is) refl (latest_at C P m (seen k.chooser) x.step.legal.1 old.chooser_is));
       }
 
-  -- a Done of what the row is of
+  -- a Done of the row's request
   pub done_but : (who m w cost : ℕ) (row : RunRow) (change : ℤ) → FinishStep C P k.book k.accounts who m w cost row → ((e : Entry) → Ends m row.tenant P e → IsLegal C (e ∷ P) → TimesAre C (e ∷ P) n.times) → change ≡ finish_change k.book w cost → n.book ≡ finished k.book w cost → n.accounts ≡ charged k.accounts row.tenant (to_z w128 (of_z w128 change)) → CostsAre C (one_more who m (Done w row.request cost) P) n.costs → n.lists ≡ k.lists → n.chooser ≡ k.chooser → TracksBut label seen row.tenant C (one_more who m (Done w row.request cost) P) n
   done_but who m w cost row change x follow changed books accounts learned listed chooses =
       let e : Entry = record { who = who; moment = m; act = Done w row.request cost } in
@@ -262,7 +262,7 @@ workers_tracks label seen C P k n who m count old l times listed books accounts 
       chooser_is = rw chooses (keys_of_others C P e (seen k.chooser) (resized (seen k.chooser) count) (λ t. Unit {0}) old.mirrors.limits l (λ u among. refl) old.chooser_is (ap (λ (s : Setting). with_workers s count) old.chooser_is.setting_is ∙ ap (setting_at C) (sym (pool_step C P e))) refl (latest_at C P m (seen k.chooser) l.1 old.chooser_is));
     }
 
--- ---- what a worker takes
+-- ---- the request that a worker takes
 
 module _ {J X : Type 0} (label : J → ℕ) (seen : X → ChooserView) (C : Config) (P : History) (m w : ℕ) (k : Tracker J X) (old : Tracks label seen C P k) (later : last_moment P ≤ m) (in_range : m ≤ GREATEST_MOMENT) (free : take_refusal C P w ≡ None) (pooled : w < pool_at C P) (some : waiting P ≢ 0) where
   -- the times, after they have come to the moment
@@ -304,7 +304,7 @@ module _ {J X : Type 0} (label : J → ℕ) (seen : X → ChooserView) (C : Conf
   has_item t (Some i) x top = refl
   has_item t None x top = let e : ◌≡◌ {A = Option ℕ} None (Some x.keys.request) = sym (no_item_head label C P t k.lists old.mirrors.limits old.mirrors.legal x.known old.mirrors.lists_are top) ∙ x.is_head in absurd (cc)
 
-  -- and its first item is what the worker takes
+  -- and its first item is the chosen request
   pub item_chosen : (t estimate : ℕ) (i : Item J) → Turns t → slice_get (lists.list_of k.lists t) 0 ≡ Some i → estimate ≡ estimate_at C P t i.kind i.declared → IsChosen C P m w i.request estimate (record { tenant = t; kind = i.kind; declared = i.declared; label = label i.job })
   item_chosen t estimate i x top costs =
       let number : Some i.request ≡ Some x.keys.request = sym (is_head label C P t k old.mirrors x.known i top) ∙ x.is_head in
@@ -339,7 +339,7 @@ module _ {J X : Type 0} (label : J → ℕ) (seen : X → ChooserView) (C : Conf
   some_chosen (Some t) none = refl
   some_chosen None none = absurd (some (nothing_waits C P m (seen k.chooser) old.mirrors.legal old.chooser_is none))
 
--- ---- what is asked for and given, by a configuration that was read
+-- ---- the preconditions and the results, by a configuration that was read
 
 module _ {J X : Type 0} (label : J → ℕ) (seen : X → ChooserView) {C D : Config} {P : History} {t : ℕ} {k : Tracker J X} (read : D ≡ C) (but : TracksBut label seen t C P k) where
   pub some_but : TracksSomeBut label seen t D k

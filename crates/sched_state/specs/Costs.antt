@@ -6,7 +6,7 @@ use Rattle.fq_model.specs.Charge.{completed}
 use Rattle.cost_estimate.specs.declared.any.AnyCost.{AnyCost}
 use Rattle.cost_estimate.specs.AnyCost.{rule_of, initial_of, tenants_of, kinds_of, StandsFor}
 
--- the estimator is the configuration's, and has seen what was completed
+-- the estimator is the configuration's, and has learned the completed requests
 pub record CostsAre (C : Config) (P : History) (costs : AnyCost) : Type 0 where
   pub rule : rule_of costs ≡ C.estimate
   pub initial : initial_of costs ≡ C.initial

@@ -15,10 +15,10 @@ pub record HasKeysOf (C : Config) (P : History) (Tenants : ℕ → Type 0) (x : 
   pub keys_are : (t : ℕ) → t < length C.weights → Tenants t → slice_get x.table t ≡ Some (keys_at C P (last_moment P) t)
   pub latest_low : x.latest ≤ℤ pos (virtual_time C P (last_moment P))
 
--- it has those of all tenants
+-- the chooser has the keys of all tenants' heads
 abbrev pub ChooserIs : Config → History → ChooserView → Type 0
 ChooserIs C P x = HasKeysOf C P (λ t. Unit {0}) x
 
--- it has those of all tenants but one
+-- the chooser has the keys of the heads of all tenants but one
 abbrev pub ChooserIsBut : ℕ → Config → History → ChooserView → Type 0
 ChooserIsBut tenant C P x = HasKeysOf C P (λ t. t ≢ tenant) x

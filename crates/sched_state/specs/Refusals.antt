@@ -11,17 +11,17 @@ use Rattle.sched_state.specs.declared.replies.Taken.{Taken}
 use Rattle.sched_state.specs.declared.replies.Taken.TheVariants as taken
 use Rattle.sched_state.specs.Replies.{take_reply}
 
--- what is told hands out no job
+-- this result of a take has no job
 abbrev pub HasNoJob : {J : Type 0} → Taken J → Type 0
 HasNoJob (taken.Run request estimate job) = ⊥
 HasNoJob _ = Unit {0}
 
--- a worker that asks for work is told this in place of work, and nothing changes
+-- a take by the worker gets this result, which is no work, and nothing changes
 pub record GetsNone {J : Type 0} (label : J → ℕ) (C : Config) (P : History) (worker : ℕ) (told : Taken J) : Type 0 where
   pub answers : (who moment : ℕ) → Answers C P (call.Take who moment worker) (take_reply label told) P
   pub no_job : HasNoJob told
 
--- or it gets work
+-- or the worker gets work
 pub record GetsWork (C : Config) (P : History) (worker : ℕ) : Type 0 where
   pub free : take_refusal C P worker ≡ None
   pub pooled : worker < pool_at C P
@@ -32,6 +32,6 @@ abbrev pub closed_cause : Result (Unit {0}) AlreadyClosed → Option Cause
 closed_cause (Ok closed) = None
 closed_cause (Err closed) = Some cause.Closed
 
--- why so many entries more are refused, if they are
+-- why `more` entries are refused, if they are
 abbrev pub room_refusal : Config → History → ℕ → Option Cause
 room_refusal C P more = if nat_lt C.entries (needed_room P more) then Some (cause.Full C.entries) else None

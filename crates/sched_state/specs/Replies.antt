@@ -29,7 +29,7 @@ take_reply label (taken.Run request estimate job) = answer.Run request estimate 
 take_reply label taken.Drained = answer.Drained
 take_reply label taken.Idle = answer.Idle
 
--- what a worker would find that would be told this in place of work
+-- the foreseen take that has this result, without work
 abbrev pub due_by : {J : Type 0} → Taken J → Due
 due_by (taken.UnknownWorker worker) = due.Refused (cause.Worker worker)
 due_by (taken.Busy request) = due.Refused (cause.Busy request)
@@ -55,13 +55,13 @@ pub record AnswersCall {J : Type 0} (old : SchedulerView J) (call : Call) (reply
   pub answers : Answers old.config (history_of old.past) call reply (history_of new.past)
   pub config_is : new.config ≡ old.config
 
--- a job that is handed out is the one of its request, and is kept no longer; else nothing changes
+-- a job that is handed out is its request's, and is kept no longer; else nothing changes
 abbrev pub HandsOut : {J : Type 0} → SchedulerView J → Taken J → SchedulerView J → Type 0
 HandsOut old (taken.Run request estimate job) new =
     (map.get old.jobs request ≡ Some job) × (new.jobs ≡ map.remove old.jobs request)
 HandsOut old _ new = new ≡ old
 
--- a job that comes back is the one of its request, and is kept no longer; else nothing changes
+-- a job that comes back is its request's, and is kept no longer; else nothing changes
 abbrev pub HandsBack : {J : Type 0} → SchedulerView J → ℕ → Result J Cause → SchedulerView J → Type 0
 HandsBack old request (Ok job) new =
     (map.get old.jobs request ≡ Some job) × (new.jobs ≡ map.remove old.jobs request)

@@ -1,4 +1,4 @@
--- What contracts see of a scheduler.
+-- The view of a scheduler in contracts.
 use Rattle.std.specs.Prelude.{ℕ, List, refl}
 use Rattle.std.specs.Coded.{Coded, code_by, coded×, coded_list, coded_ℕ}
 use Rattle.std.specs.Ordering.{nat_cmp}

@@ -1,4 +1,4 @@
--- What a scheduler keeps beside its journal, so that no call looks back in it.
+-- The tracker that a scheduler keeps beside its journal, so that no call looks back in it.
 use Rattle.std.specs.Prelude.{ℕ, ℤ, ◌<◌, ◌≤◌, ◌≡◌, is_none, if◌then◌else◌, length, slice_get, Some}
 use Rattle.std.specs.FinMap as map
 use Rattle.vt_fixed.specs.declared.limits.TheConstants.{GREATEST_MOMENT}
@@ -44,7 +44,7 @@ pub record TracksBut {J X : Type 0} (label : J → ℕ) (seen : X → ChooserVie
   pub tenant_known : tenant < length C.weights
   pub chooser_is : ChooserIsBut tenant C P (seen k.chooser)
 
--- so it is of some history
+-- the tracker is so for some history
 pub record TracksSomeBut {J X : Type 0} (label : J → ℕ) (seen : X → ChooserView) (tenant : ℕ) (C : Config) (k : Tracker J X) : Type 0 where
   pub past : History
   pub tracks : TracksBut label seen tenant C past k
@@ -53,7 +53,7 @@ pub record TracksSomeBut {J X : Type 0} (label : J → ℕ) (seen : X → Choose
 abbrev pub TracksAfter : {J X : Type 0} → (J → ℕ) → (X → ChooserView) → JournalView → ℕ → Act → Tracker J X → Type 0
 TracksAfter label seen j m act k = (who : ℕ) → Tracks label seen j.config (one_more who m act (history j)) k
 
--- what the Submit of an item says
+-- the Submit of an item
 abbrev pub submit_act : {J : Type 0} → (J → ℕ) → ℕ → Item J → Act
 submit_act label tenant i = Submit i.request tenant i.kind i.declared (label i.job)
 
@@ -61,13 +61,13 @@ submit_act label tenant i = Submit i.request tenant i.kind i.declared (label i.j
 abbrev pub raised_first : {J : Type 0} → ListsView J → AccountsView → ℕ → ℤ → AccountsView
 raised_first w a tenant v = if is_none (slice_get (list_of w tenant) 0) then raised a tenant v else a
 
--- a worker may take what is its turn at m
+-- a worker may take the chosen request at m
 pub record MayBegin (j : JournalView) (m worker : ℕ) : Type 0 where
   pub later : last_moment (history j) ≤ m
   pub in_range : m ≤ GREATEST_MOMENT
   pub gets : GetsWork j.config (history j) worker
 
--- the worker takes this item, which is its turn at m, at this estimate: it waits no longer, and all else follows its
+-- the worker takes this item, which is chosen at m, at this estimate: it waits no longer, and all else follows its
 -- Take
 pub record Begins {J X : Type 0} (label : J → ℕ) (seen : X → ChooserView) (j : JournalView) (m worker : ℕ) (old : Tracker J X) (i : Item J) (estimate : ℕ) (new : Tracker J X) : Type 0 where
   pub asked : Request

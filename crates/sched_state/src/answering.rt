@@ -7,7 +7,7 @@ use crate::scheduler::Scheduler;
 use fq_model::event::{Call, Cause, Reply};
 use tag_rules::chooser::Chooser;
 
-/// What the scheduler answers to a call, whose label is the job of what is submitted.
+/// The scheduler's reply to a call. The label of a submit is the job of its request.
 pub fn answer<X: Chooser>(scheduler: &mut Scheduler<u64, X>, call: Call) -> Reply
     ensures { AnswersCall scheduler.old call result scheduler.new }
 {

@@ -1,5 +1,5 @@
 //! Why a call is refused: one function a call, which makes its tests in the order of the causes and answers the first
-//! that holds. Each is told what it asks of the journal and of what is kept beside it, as they are before the call.
+//! that holds. Each reads the journal and the tracker as they are before the call.
 ghost use Rattle.std.specs.Prelude.{◌≡◌, ◌≤◌, IfOk, IfSome, IfNone};
 ghost use Rattle.std.specs.Result.{result_err};
 ghost use Rattle.fq_model.specs.declared.config.Config.{Config};
@@ -47,7 +47,7 @@ pub fn submit<J: Job + Drop, X: Chooser>(
     }
 }
 
-/// What a worker that asks for work is told, if it gets none.
+/// The result of a take by the worker, if it gets no work.
 pub fn take<J: Job + Drop, X: Chooser>(
     journal: &Ledger,
     tracker: &Tracker<J, X>,
@@ -77,7 +77,7 @@ pub fn take<J: Job + Drop, X: Chooser>(
     }
 }
 
-/// Why a report of this use, in microseconds, is refused, or else the row of what runs on the worker.
+/// Why a report of this use, in microseconds, is refused, or else the row of the worker's request.
 pub fn report<J: Job + Drop, X: Chooser>(
     journal: &Ledger,
     tracker: &Tracker<J, X>,
@@ -94,7 +94,7 @@ pub fn report<J: Job + Drop, X: Chooser>(
     Ok(row)
 }
 
-/// Why a done at this cost, in microseconds, is refused, or else the row of what runs on the worker.
+/// Why a done at this cost, in microseconds, is refused, or else the row of the worker's request.
 pub fn done<J: Job + Drop, X: Chooser>(
     journal: &Ledger,
     tracker: &Tracker<J, X>,
@@ -171,8 +171,8 @@ pub fn withdraw<J: Job + Drop, X: Chooser>(
     }
 }
 
-// Why so many entries more are refused, if they are, where so many requests wait: those that are left are needed for
-// what is submitted.
+// Why `more` entries are refused, if they are, where `backlog` requests wait: the open requests need those that are
+// left.
 fn room(journal: &Ledger, backlog: u32, more: u64) -> Result<(), Cause>
     requires { more ≤ 4 }
     ensures { backlog ≡ waiting (history journal.now)

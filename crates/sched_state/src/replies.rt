@@ -1,4 +1,4 @@
-//! What the calls of a scheduler give.
+//! The results of the calls of a scheduler.
 ghost use Rattle.std.specs.Prelude.{◌≡◌};
 ghost use Rattle.sched_state.specs.Replies.{due_by};
 
@@ -33,14 +33,14 @@ impl<J> fmt::Display for Refused<J> {
 
 impl<J: fmt::Debug + Drop> Error for Refused<J> {}
 
-/// What a worker that asks for work is given, by the first of these that is so.
+/// The result of a take: the first of these that is so.
 #[derive(Drop)]
 pub enum Taken<J> {
     /// No worker has this number.
     UnknownWorker(u32),
     /// The worker runs this request already.
     Busy(u32),
-    /// There are so many workers now, and this one is not among them; it may ask again.
+    /// The number of workers now. This worker is not among them; it may ask again.
     Retired(u32),
     /// The worker runs this request from now on; it is charged this estimate, in microseconds.
     Run { request: u32, estimate: u64, job: J },
@@ -50,7 +50,7 @@ pub enum Taken<J> {
     Idle,
 }
 
-/// What a worker would find that asked for work, and would be told this in place of work.
+/// The foreseen take of a worker whose take would have this result, without work.
 pub fn due_of<J: Drop>(told: Taken<J>) -> Due
     ensures { result ≡ due_by told }
 {

@@ -34,7 +34,7 @@ use tag_rules::parts::Keys;
 /// order of time, and the jobs by the numbers of their requests. Whoever makes a call names itself by `who`, which
 /// is written down and not looked at, and its clock by `moment`, in microseconds. A call that is answered by
 /// a refusal, by `Idle`, `Drained` or `Retired` changes nothing; each other call adds one entry. No call looks back at
-/// the entries: what it needs of them is kept, and `X` chooses among the heads of the tenants.
+/// the entries: a tracker keeps their consequences, and `X` chooses among the heads of the tenants.
 #[derive(Drop)]
 pub struct Scheduler<J: Job, X: Chooser> {
     core: Core<J, X>,
@@ -87,8 +87,8 @@ impl<J: Job + Drop, X: Chooser> Scheduler<J, X> {
         outcome
     }
 
-    /// A worker asks for work, and gets the job of the request that is its turn, if one waits and the worker is below
-    /// the number of workers now.
+    /// A worker asks for work, and gets the job of the chosen request, if one waits and the worker is below the number
+    /// of workers now.
     pub fn take(&mut self, who: u32, moment: u64, worker: u32) -> Taken<J>
         ensures answers { AnswersCall self.old (call.Take who moment worker) (take_reply J.label_of result) self.new }
         ensures jobs { HandsOut self.old result self.new }
@@ -100,8 +100,8 @@ impl<J: Job + Drop, X: Chooser> Scheduler<J, X> {
 
     /// The worker's request has come to this use, in microseconds, and runs on. Its charge is from now on the greater
     /// of its estimate and its use. Refused, by the first of these that is so: where no worker has this number, where
-    /// the worker runs nothing, where the use is above the greatest cost or below what was reported before, and where
-    /// the entries that are left are needed for what is submitted.
+    /// the worker runs nothing, where the use is above the greatest cost or below the use reported before, and where
+    /// the open requests need the entries that are left.
     pub fn report(&mut self, who: u32, moment: u64, worker: u32, used: u64) -> Result<(), Cause>
         ensures answers { AnswersCall self.old (call.Report who moment worker used) (change_reply result) self.new }
         ensures jobs { self.new.jobs ≡ self.old.jobs }
@@ -134,10 +134,10 @@ impl<J: Job + Drop, X: Chooser> Scheduler<J, X> {
         outcome
     }
 
-    /// The tenant has this weight from here on, 1 to 1,000. What it runs stays charged at the weight that it had at
-    /// the Take; its heads are measured by the new one. May be called after a close, too. Refused, by the first of
-    /// these that is so: where no tenant has this number, where the weight is out of its range, and where the entries
-    /// that are left are needed for what is submitted.
+    /// The tenant has this weight from here on, 1 to 1,000. Its running requests stay charged at the weight that it had
+    /// at the Take; its heads are measured by the new weight. May be called after a close, too. Refused, by the first
+    /// of these that is so: where no tenant has this number, where the weight is out of its range, and where the open
+    /// requests need the entries that are left.
     pub fn weight(&mut self, who: u32, moment: u64, tenant: u32, weight: u32) -> Result<(), Cause>
         ensures answers { AnswersCall self.old (call.Weight who moment tenant weight) (change_reply result) self.new }
         ensures jobs { self.new.jobs ≡ self.old.jobs }
@@ -148,10 +148,10 @@ impl<J: Job + Drop, X: Chooser> Scheduler<J, X> {
         outcome
     }
 
-    /// There are so many workers from here on: those with lower numbers. There may be 1 to as many as the scheduler
-    /// was opened with. A worker above them ends what it runs, and is then told that it is retired. May be called
-    /// after a close, too. Refused, by the first of these that is so: where the number is out of its range, and where
-    /// the entries that are left are needed for what is submitted.
+    /// There are `count` workers from here on, those with lower numbers: 1 to the number at the opening. A worker above
+    /// them ends its request, and its next take is answered by `Retired`. May be called after a close, too. Refused, by
+    /// the first of these that is so: where the number is out of its range, and where the open requests need the
+    /// entries that are left.
     pub fn workers(&mut self, who: u32, moment: u64, count: u32) -> Result<(), Cause>
         ensures answers { AnswersCall self.old (call.Workers who moment count) (change_reply result) self.new }
         ensures jobs { self.new.jobs ≡ self.old.jobs }
@@ -180,12 +180,12 @@ impl<J: Job + Drop, X: Chooser> Scheduler<J, X> {
         ensures legal { IsLegal self.now.config (history_of self.now.past) }
         ensures held { HoldsWaiting J.label_of (history_of self.now.past) self.now.jobs }
     {
-        // its clauses say what is so of all entries
+        // its clauses speak of all entries
         self.core.len();
         self.entries.as_slice()
     }
 
-    /// What the scheduler was opened with.
+    /// The configuration, as at the opening.
     pub fn config(&self) -> &Checked
         ensures { result.now ≡ self.now.config }
     {
@@ -209,8 +209,8 @@ impl<J: Job + Drop, X: Chooser> Scheduler<J, X> {
         self.core.virtual_time()
     }
 
-    /// Virtual time at a moment, in steps: what it comes to by then where no call is accepted before. A moment before
-    /// the last entry's stands for that.
+    /// Virtual time at a moment, in steps, where no call is accepted before. A moment before the last entry's counts as
+    /// the last entry's.
     pub fn virtual_time_at(&self, moment: u64) -> i128
         ensures value { result ≡ pos (virtual_time self.now.config (history_of self.now.past)
             (effective_moment (history_of self.now.past) moment)) }
@@ -227,7 +227,7 @@ impl<J: Job + Drop, X: Chooser> Scheduler<J, X> {
         self.core.pool()
     }
 
-    /// What runs on the worker: the request, and what decides its charge.
+    /// The request that runs on the worker, and the numbers that decide its charge.
     pub fn running(&self, worker: u32) -> Option<RunRow>
         requires { worker < self.now.config.workers }
         ensures { result ≡ row_of_worker self.now.config (history_of self.now.past) worker }
@@ -235,7 +235,7 @@ impl<J: Job + Drop, X: Chooser> Scheduler<J, X> {
         self.core.running(worker)
     }
 
-    /// What is shown of the history at its last entry.
+    /// The status of the history at its last entry.
     pub fn status(&self) -> Status
         ensures { result ≡ status_of self.now.config (history_of self.now.past) }
     {
@@ -244,8 +244,7 @@ impl<J: Job + Drop, X: Chooser> Scheduler<J, X> {
 }
 
 impl<J: Job + Drop, X: Foresees> Scheduler<J, X> {
-    /// What a worker would find that asked for work at this moment. Nothing changes, and later calls may be at earlier
-    /// moments.
+    /// Foresees a take by the worker at this moment. Nothing changes, and later calls may be at earlier moments.
     pub fn due(&self, moment: u64, worker: u32) -> Due
         ensures { IsDue self.now.config (history_of self.now.past) moment worker result }
     {

@@ -1,4 +1,4 @@
-//! What a scheduler keeps beside its journal.
+//! The tracker that a scheduler keeps beside its journal.
 ghost use Rattle.std.specs.Prelude.{◌≡◌, ◌<◌, [], Some, IfOk, length, pos, ◌≤ℤ◌};
 ghost use Rattle.std.specs.FinMap as map;
 ghost use Rattle.fq_model.specs.declared.event.Act.TheVariants as act;
@@ -32,10 +32,10 @@ use virtual_clock::times::Times;
 use waiting_lists::item::Item;
 use waiting_lists::lists::Lists;
 
-/// The waiting requests and their jobs, what runs and what is charged for it, the estimator, virtual time, and a
-/// chooser with the keys of every tenant's head: at each call what the definitions say of the history, so that
-/// nothing looks back at its entries. Each call is told the journal as it is before the call's entry, and each entry
-/// has a call of its own: nothing else changes what is kept.
+/// The waiting requests and their jobs, the running requests and their charges, the estimator, virtual time, and a
+/// chooser with the keys of every tenant's head: at each call as the definitions say of the history, so that nothing
+/// looks back at its entries. Each call gets the journal as it is before the call's entry, and each entry has a call
+/// of its own: nothing else changes the tracker.
 #[derive(Drop)]
 pub struct Tracker<J, X> {
     lists: Lists<J>,
@@ -47,7 +47,7 @@ pub struct Tracker<J, X> {
 }
 
 impl<J: Job + Drop, X: Chooser> Tracker<J, X> {
-    /// What is kept of a history without entries. All its memory is taken here.
+    /// The tracker of a history without entries. All its memory is taken here.
     pub fn open(alloc: Global, config: &Checked) -> Result<Tracker<J, X>, AllocError>
         ensures tracked { IfOk result (Tracks J.label_of X.seen config.now []) }
         ensures jobs { IfOk result (λ k. jobs_in k.lists.lists ≡ map.empty) }
@@ -69,7 +69,7 @@ impl<J: Job + Drop, X: Chooser> Tracker<J, X> {
         &self.lists
     }
 
-    /// What runs, and what is charged for it.
+    /// The running requests, and their charges.
     pub fn book(&self) -> &Book
         ensures { result.now ≡ self.now.book }
     {
@@ -98,8 +98,8 @@ impl<J: Job + Drop, X: Chooser> Tracker<J, X> {
         self.renew(journal.config(), tenant);
     }
 
-    /// A worker that runs nothing takes the request that is its turn at this moment, in microseconds. Gives what
-    /// waited, and the estimate that is charged.
+    /// A worker that runs nothing takes the chosen request at this moment, in microseconds. Gives the item that waited,
+    /// and the estimate that is charged.
     pub fn take(&mut self, journal: &Ledger, moment: u64, worker: u32) -> (Item<J>, u64)
         requires tracked { Tracks J.label_of X.seen journal.now.config (history journal.now) self.old }
         requires may { MayBegin journal.now moment worker }
@@ -136,7 +136,7 @@ impl<J: Job + Drop, X: Chooser> Tracker<J, X> {
         self.renew(journal.config(), row.tenant);
     }
 
-    /// The worker's request, which has this row, has ended at this moment and cost so much, both in microseconds.
+    /// The worker's request, which has this row, has ended at this moment at this cost, both in microseconds.
     pub fn done(&mut self, journal: &Ledger, moment: u64, worker: u32, row: RunRow, cost: u64)
         requires tracked { Tracks J.label_of X.seen journal.now.config (history journal.now) self.old }
         requires legal { MayGain journal.now moment (act.Done worker row.request cost) }
@@ -173,7 +173,7 @@ impl<J: Job + Drop, X: Chooser> Tracker<J, X> {
         self.renew(journal.config(), tenant);
     }
 
-    /// There are so many workers from this moment on, in microseconds.
+    /// There are `count` workers from this moment on, in microseconds.
     pub fn staff(&mut self, journal: &Ledger, moment: u64, count: u32)
         requires tracked { Tracks J.label_of X.seen journal.now.config (history journal.now) self.old }
         requires legal { MayGain journal.now moment (act.Workers count) }
@@ -239,8 +239,7 @@ impl<J: Job + Drop, X: Chooser> Tracker<J, X> {
 }
 
 impl<J: Job + Drop, X: Foresees> Tracker<J, X> {
-    /// What a worker would find that asked for work at this moment, in microseconds, and would get some. Nothing
-    /// changes.
+    /// Foresees a take by the worker at this moment, in microseconds, where it would get work. Nothing changes.
     pub fn due(&self, journal: &Ledger, moment: u64, worker: u32) -> Due
         requires tracked { Tracks J.label_of X.seen journal.now.config (history journal.now) self.now }
         requires gets { GetsWork journal.now.config (history journal.now) worker }

@@ -1,4 +1,4 @@
--- What a head more or less leaves of an order.
+-- An order with one head more or one less.
 use Rattle.std.proofs.Common.{ℕ, zero, suc, ◌≡◌, ◌<◌, inl, inr, List, [], ◌∷◌, ◌++◌, length, get_or, set, take, drop, arith, refl, sym, ◌∙◌, ap, subst, length-append, append_assoc}
 use Rattle.std.specs.List.{All, Contains}
 use Rattle.std.proofs.lemmas.List.{length-set, take-set, drop-set-lt}
@@ -9,7 +9,7 @@ use Rattle.shared_order.proofs.Sorting.{sorted-split, sorted-join, sorted-withou
 use Rattle.shared_order.proofs.Dense.{IsFilled, dense-grown}
 use Rattle.shared_order.proofs.Rows.{heads-append, heads_parts, parts}
 
--- a head stands in its block
+-- a head of the order is in its block
 pub in_block : (h : HeadView) (bs : List (List HeadView)) (at : ℕ) → IsBlockOf h bs at → Contains (all_heads bs) h → Contains (block_at bs at) h
 in_block h bs at p there =
     let front = all_heads (take at bs) in
@@ -52,7 +52,7 @@ joins_gains bs cs at h l j =
 pub gains_length : (xs ys : List HeadView) (h : HeadView) → Gains xs h ys → length ys ≡ suc (length xs)
 gains_length xs ys h g = omega (arith, ap length g.before, ap length g.after, length-append g.front g.back, length-append g.front (h ∷ g.back))
 
--- what holds of the head and of the others
+-- a property of the head and of all others is a property of each
 pub gains_all : (P : HeadView → Type 0) (xs ys : List HeadView) (h : HeadView) → Gains xs h ys → All P xs → P h → All P ys
 gains_all P xs ys h g a p =
     let b : All P (g.front ++ g.back) = subst (All P) g.before a in
@@ -67,7 +67,7 @@ joins_sorted bs cs at h p s j =
     let whole : IsSorted (front ++ (b ++ back)) = rw (← heads_parts bs at p.known) s in
     let one = sorted-split front (b ++ back) whole in
     let two = sorted-split b back one.second in
-    -- the block and what follows it
+    -- the block and the blocks that follow it
     let after : All (λ y. All (HeadBefore y) back) c = gains_all (λ y. All (HeadBefore y) back) b c h j.gains two.across p.after in
     let rest = sorted-join c back j.sorted two.second after in
     let across : All (λ x. All (HeadBefore x) (c ++ back)) front = λ k d l.

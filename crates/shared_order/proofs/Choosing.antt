@@ -20,7 +20,7 @@ use Rattle.shared_order.proofs.Mirroring.{among}
 finish_back : (h : HeadView) → finish (keys_of h) ≡ h.finish
 finish_back h = omega (arith, ints)
 
--- a head that stands in the order
+-- a head of the order
 low : (table : Table) (heads : List HeadView) (h : HeadView) → Mirrors table heads → Contains heads h → pos 0 ≤ℤ h.len
 low table heads h m there = (All-contains (λ (x : HeadView). (pos 0 ≤ℤ x.len) × (x.len ≤ℤ GREATEST_LENGTH)) heads h m.in_range there).0
 
@@ -97,7 +97,7 @@ none_chosen table heads m is = λ t k has. nothing (head_of t k) (subst (λ (xs 
     nothing : (h : HeadView) → ¬ Contains [] h
     nothing h there = absurd (omega (arith, there.1))
 
--- ---- what is foreseen
+-- ---- the foreseen choice
 
 pub foreseen : (at : Turn) (table : Table) (heads : List HeadView) (found : Foreseen) → at.worker < at.workers → Mirrors table heads → IsSorted heads → IsOutlook at heads found → IsForeseenOver at table found
 foreseen at table heads Nothing lt m sorted is = none_chosen table heads m is

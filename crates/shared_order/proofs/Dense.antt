@@ -1,4 +1,4 @@
--- Of two neighbours the heads together are more than half a block: what the calls leave of that.
+-- Of two neighbours the heads together are more than half a block: before a call and after it.
 use Rattle.std.proofs.Common.{ℕ, zero, suc, ◌≡◌, ◌+◌, ◌*◌, ◌<◌, ◌≤◌, List, [], ◌∷◌, ◌++◌, length, take, drop, arith, length-append}
 use Rattle.std.proofs.lemmas.List.Elements.{All-head, All-tail}
 use Rattle.shared_order.specs.Heads.{HeadView}
@@ -64,7 +64,7 @@ meets_first [] (suc k) y h = tt
 meets_first (b ∷ bs) zero y h = h (omega arith)
 meets_first (b ∷ bs) (suc k) y h = meets_first bs k y (λ l. h (omega arith))
 
--- so many blocks have so many heads
+-- a bound on the blocks by the number of their heads
 pub dense-count : (b : List HeadView) (bs : List (List HeadView)) → IsDense (b ∷ bs) → 17 * length bs + length b ≤ 2 * length (all_heads (b ∷ bs))
 dense-count b [] d = omega (arith, length-append b (all_heads []))
 dense-count b (c ∷ bs) d = omega (arith, d.0, dense-count c bs d.1, length-append b (all_heads (c ∷ bs)))

@@ -1,4 +1,4 @@
--- What the calls of a block leave.
+-- A block after each of its calls.
 use Rattle.std.proofs.Common.{ℕ, suc, ◌≡◌, ◌≢◌, ◌+◌, ◌-◌, ◌<◌, ◌≤◌, ℤ, List, ◌∷◌, ◌++◌, length, take, drop, arith, sym, ◌∙◌, ap, subst, length-append, length-drop}
 use Rattle.std.specs.List.{All, Contains}
 use Rattle.std.specs.Int.{int_max}

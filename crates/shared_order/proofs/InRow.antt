@@ -1,4 +1,4 @@
--- What the calls of blocks in a row leave.
+-- Blocks in a row after each of their calls.
 use Rattle.std.proofs.Common.{ℕ, zero, suc, ◌≡◌, ◌+◌, ◌<◌, List, [], ◌∷◌, ◌++◌, length, get_or, set, take, drop, arith, refl, ◌∙◌, ap, add-one}
 use Rattle.std.specs.List.{remove}
 use Rattle.std.proofs.lemmas.List.{get_or_default}

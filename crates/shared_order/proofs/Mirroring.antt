@@ -1,4 +1,4 @@
--- What a head more or less makes of an order and its table.
+-- An order and its table with one head more or one less.
 use Rattle.std.proofs.Common.{ℕ, zero, suc, ◌+◌, ◌<◌, ◌≤◌, ◌≡◌, ◌≢◌, ◌⊎◌, inl, inr, arith, refl, sym, ◌∙◌, ap, subst, cond, List, [], ◌∷◌, ◌++◌, length, slice_get, slice_set, slice_index_or, get_or, replicate, length-append, length-set, Option, Some, None, is_some, IfSome, MatchOption, ℤ, pos, ◌+ℤ◌, ◌-ℤ◌, ◌≤ℤ◌}
 use Rattle.std.specs.List.{All, AllPairs, Contains, count_by}
 use Rattle.std.proofs.lemmas.Int.{ints}
@@ -95,7 +95,7 @@ pairs_with (x ∷ front) h back p a =
     let to_h : Apart x h = λ e. All-head (Apart h) x (front ++ back) a (sym e) in
     AllPairs-cons Apart x (front ++ h ∷ back) (all_middle (Apart x) front h back (all_front (Apart x) front back of_x) to_h (all_back (Apart x) front back of_x)) (pairs_with front h back (pairs_tail x (front ++ back) p) (All-tail (Apart h) x (front ++ back) a))
 
--- what stands among front, h and back
+-- a head among front, h and back
 pub among : (front : List HeadView) (h : HeadView) (back : List HeadView) (x : HeadView) → Contains (front ++ h ∷ back) x → Contains (front ++ back) x ⊎ (h ≡ x)
 among front h back x has = elim (Contains-append_cases front (h ∷ back) x has) [
   | inl f ↦ inl (Contains-append_left front back x f)

@@ -1,4 +1,4 @@
--- Where a head stands in a sorted list, or is to stand.
+-- The place of a head in a sorted list.
 use Rattle.std.proofs.Common.{ℕ, suc, Bool, true, false, ◌≡◌, ◌+◌, ◌<◌, ◌≤◌, List, ◌∷◌, ◌++◌, length, get_or, take, drop, inl, inr, ◌||◌, ◌&&◌, int_lt, int_eq, nat_lt, arith, refl, sym, ◌∙◌, ap, subst, length-take, length-drop}
 use Rattle.std.specs.Bool.{IsTrue}
 use Rattle.std.specs.List.{All, Contains}
@@ -57,7 +57,7 @@ parted h xs s i j d le lt e =
       ]
     ]
 
--- a head that stands in the list stands there
+-- a head of the list is at its place
 pub found : (h : HeadView) (xs : List HeadView) (at : ℕ) → IsSorted xs → IsPlaceOf h xs at → Contains xs h → (at < length xs) × (get_or xs at h ≡ h)
 found h xs at s p (k, l, e) =
     let n = length-take at xs in
@@ -77,7 +77,7 @@ found h xs at s p (k, l, e) =
       ]
     ]
 
--- what is around a place
+-- the heads before a place and behind it
 pub around : (h : HeadView) (xs : List HeadView) (at : ℕ) → at < length xs → get_or xs at h ≡ h → xs ≡ take at xs ++ h ∷ drop (suc at) xs
 around h xs at l e = sym (take-append-drop at xs) ∙ ap (λ t. take at xs ++ t) (drop-cons xs at h l ∙ ap (λ y. y ∷ drop (suc at) xs) e)
 

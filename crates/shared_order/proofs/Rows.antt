@@ -24,7 +24,7 @@ heads_parts bs at l = ap all_heads (parts bs at l) ∙ heads-append (take at bs)
 pub before_not_after : (x f h : HeadView) → HeadBefore x f → ¬ HeadBefore h f → HeadBefore x h
 before_not_after x f h p n = grind (arith, ints)
 
--- a list that does not wholly come after a head: what comes before it comes before the head
+-- a list that does not wholly come after a head: each head before the list comes before that head
 pub before_list : (h : HeadView) (xs ys : List HeadView) → IsSorted (xs ++ ys) → ¬ All (HeadBefore h) ys → All (λ x. HeadBefore x h) xs
 before_list h xs [] s n = absurd (n (All-nil (HeadBefore h)))
 before_list h xs (f ∷ ys) s n =

@@ -56,7 +56,7 @@ no_later : (x y : HeadView) → HeadBefore x y → x.finish ≤ℤ y.finish
 no_later x y (inl h) = omega (arith, ints, h)
 no_later x y (inr h) = omega (arith, ints, h.0)
 
--- what is known of the greatest length where it is read
+-- the greatest length where it is read, and its range
 pub record LongestRead (z : ℤ) (heads : List HeadView) : Type 0 where
   pub low : pos 0 ≤ℤ z
   pub high : z ≤ℤ GREATEST_LENGTH
@@ -68,7 +68,8 @@ longest_read z heads is r =
     let high : z ≤ℤ GREATEST_LENGTH = subst (λ x. x ≤ℤ GREATEST_LENGTH) (sym is) (longest_high heads r) in
     record { low = low; high = high; same = reads_length z low high }
 
--- what a test and a key ask of a head that was read, and of the first finish and the greatest length of a block
+-- the preconditions of a test and a key: of a head that was read, and of the first finish and the greatest length of
+-- a block
 pub head_limits : (finish len : ℤ) → IsInRange (finish -ℤ len) len → AreInLimits (to_z w128 (of_z w128 finish)) (to_z w128 (of_z w128 len))
 head_limits finish len r = rw (reads_finish finish len r, reads_length len r.len_low r.len_high) (record {
   finish_low = omega (arith, ints, r.start_low, r.len_low);
@@ -121,7 +122,7 @@ first_at P heads i h within is p none = record {
   none_earlier = none;
 }
 
--- it stands in a block before which none is
+-- it is in a block before which none is
 pub first_in_block : (P : HeadView → Type 0) (blocks : List (List HeadView)) (i : ℕ) (block : List HeadView) (h : HeadView) → i < length blocks → block ≡ get_or blocks i block → All (λ x. ¬ P x) (all_heads (take i blocks)) → IsFirstThat P block h → IsFirstThat P (all_heads blocks) h
 first_in_block P blocks i block h within is none f =
     let rest : List HeadView = all_heads (drop (i + 1) blocks) in
@@ -231,7 +232,7 @@ soonest_more at blocks i block older newer within is sorted so_far takes =
 pub soonest_found : (at : Turn) (heads : List HeadView) (found : Option Candidate) (best : Candidate) → found ≡ Some best → IsSoonest at heads found → IsLeast (IsSooner at) heads best.head
 soonest_found at heads found best is h = (subst (λ o. IsSoonest at heads o) is h).0
 
--- ---- what a test and a key say of a head that was read
+-- ---- a test and a key of a head that was read
 
 pub reach_read : (at : Turn) (finish len : ℤ) (result : Bool) → IsInRange (finish -ℤ len) len → (IsTrue result ↔ IsInReach at (to_z w128 (of_z w128 finish)) (to_z w128 (of_z w128 len))) → IsTrue result ↔ IsInReach at finish len
 reach_read at finish len result r h = subst (λ z. IsTrue result ↔ IsInReach at finish z) (reads_length len r.len_low r.len_high) (subst (λ z. IsTrue result ↔ IsInReach at z (to_z w128 (of_z w128 len))) (reads_finish finish len r) h)

@@ -1,4 +1,4 @@
--- What settling leaves of blocks of which one lost a head.
+-- Blocks of which one lost a head, after they are settled.
 use Rattle.std.proofs.Common.{ℕ, zero, suc, ◌≡◌, ◌+◌, ◌<◌, List, [], ◌∷◌, ◌++◌, length, take, drop, arith, ◌⊎◌, inl, inr, refl, sym, ◌∙◌, ap, subst, length-append, append_assoc, add-one, length-take, length-drop}
 use Rattle.std.specs.List.{remove}
 use Rattle.std.proofs.lemmas.List.{take_more}
@@ -67,7 +67,7 @@ joined_dense bs at t l f =
     let d : IsDense (take at bs ++ t.fuller ∷ c ∷ drop (suc (suc at)) bs) = rw (← next_parts bs at l) (t.dense) in
     dense-joined (take at bs) t.fuller c (b ++ c) (drop (suc (suc at)) bs) (omega (arith, length-append b c, t.one_more)) (omega (arith, length-append b c)) d
 
--- with the one before it
+-- with the block before it
 joined_dense_before : (bs : List (List HeadView)) (k : ℕ) → IsThinned bs (suc k) → NoneIsEmpty bs → IsDense (with_joined bs k)
 joined_dense_before bs k t f =
     let b = block_at bs k in

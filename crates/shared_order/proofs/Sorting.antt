@@ -1,4 +1,4 @@
--- Lists of heads in order, and what a head more or less leaves of them.
+-- Lists of heads in order, and the lists with one head more or one less.
 use Rattle.std.proofs.Common.{ℕ, zero, suc, ◌≡◌, ◌≢◌, ◌<◌, List, [], ◌∷◌, ◌++◌, length, get_or, inl, inr, arith, sym, subst, Some, slice_get}
 use Rattle.std.specs.List.{All}
 use Rattle.std.proofs.lemmas.Int.{ints, by_lt_z}

@@ -32,16 +32,16 @@ pub record HeadLeaves (old : List (List HeadView)) (at : ℕ) (head : HeadView) 
   pub gains : Gains (block_at new at) head (block_at old at)
   pub others : new ≡ slice_set old at (block_at new at)
 
--- two halves stand in place of a block
+-- two halves replace a block
 abbrev pub with_halves : List (List HeadView) → ℕ → List (List HeadView)
 with_halves blocks at =
     take at blocks ++ take HALF (block_at blocks at) ∷ drop HALF (block_at blocks at) ∷ drop (suc at) blocks
 
--- one block stands in place of two neighbours
+-- one block replaces two neighbours
 abbrev pub with_joined : List (List HeadView) → ℕ → List (List HeadView)
 with_joined blocks at = take at blocks ++ (block_at blocks at ++ block_at blocks (suc at)) ∷ drop (suc (suc at)) blocks
 
--- what contracts see of blocks in a row: those that are in use, and how many more there are
+-- the view, in contracts, of blocks in a row: those that are in use, and how many more there are
 pub record BlocksView : Type 0 where
   pub used : List (List HeadView)
   pub spare : ℕ
@@ -49,9 +49,8 @@ pub record BlocksView : Type 0 where
 abbrev pub block_count : BlocksView → ℕ
 block_count row = length row.used + row.spare
 
--- how many heads always fit into so many blocks: two neighbours have more than half a block, so all but one have half
--- of
--- that on average
+-- how many heads always fit into this number of blocks: two neighbours have more than half a block, so all but one
+-- have half of that on average
 abbrev pub room_in : ℕ → ℕ
 room_in blocks = 8 * (blocks - 1)
 
@@ -66,7 +65,7 @@ pub record AreSmall (blocks : List (List HeadView)) (at : ℕ) : Type 0 where
   pub known : suc at < length blocks
   pub small : length (block_at blocks at) + length (block_at blocks (suc at)) ≤ HALF
 
--- such a pair of a block and a neighbour
+-- a block and a neighbour are such a pair, which begins at `first`
 pub record IsSmallPair (blocks : List (List HeadView)) (at first : ℕ) : Type 0 where
   pub small : AreSmall blocks first
   pub among : (first ≡ at) ⊎ (suc first ≡ at)
@@ -81,31 +80,31 @@ pub record IsThinned (blocks : List (List HeadView)) (at : ℕ) : Type 0 where
   pub one_more : length fuller ≡ suc (length (block_at blocks at))
   pub dense : IsDense (take at blocks ++ fuller ∷ drop (suc at) blocks)
 
--- what contracts see of an order: its heads, and how many it has room for
+-- the view of an order in contracts: its heads, and how many it has room for
 pub record OrderView : Type 0 where
   pub heads : List HeadView
   pub room : ℕ
 
--- what a block keeps
+-- the invariant of a block
 pub record KeepsBlock (heads : List HeadView) (capacity : ℕ) (longest : ℤ) : Type 0 where
   pub sorted : IsSorted heads
   pub few : length heads ≤ BLOCK
   pub room : BLOCK ≤ capacity
   pub greatest : longest ≡ greatest_length heads
 
--- what blocks in a row keep: each place has room for all of them
+-- the invariant of blocks in a row: each place has room for all of them
 pub record KeepsBlocks (used : List (List HeadView)) (used_capacity : ℕ) (spare : List (List HeadView)) (spare_capacity : ℕ) : Type 0 where
   pub empty : All (λ block. block ≡ []) spare
   pub used_room : length used + length spare ≤ used_capacity
   pub spare_room : length used + length spare ≤ spare_capacity
 
--- what an order keeps
+-- the invariant of an order
 pub record KeepsOrder (blocks : List (List HeadView)) : Type 0 where
   pub sorted : IsSorted (all_heads blocks)
   pub filled : NoneIsEmpty blocks
   pub dense : IsDense blocks
 
--- the same heads stand in as many blocks, which are as an order keeps them
+-- the heads stay, in as many blocks, which have the invariant of an order
 pub record IsRearranged (old new : BlocksView) : Type 0 where
   pub heads : all_heads new.used ≡ all_heads old.used
   pub kept : KeepsOrder new.used

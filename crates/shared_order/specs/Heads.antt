@@ -4,7 +4,7 @@ use Rattle.std.specs.List.{All, AllPairs}
 use Rattle.std.specs.Int.{int_max}
 use Rattle.fq_model.specs.Keys.{HeadKeys, finish}
 
--- the head of a tenant as it stands in the order: where it finishes, how long it is thought to be, and its number
+-- the head of a tenant in the order: its finish, its length by the estimate, and its number
 pub record HeadView : Type 0 where
   pub tenant : ℕ
   pub finish : ℤ
@@ -35,7 +35,7 @@ pub record Gains (old : List HeadView) (head : HeadView) (new : List HeadView) :
   pub before : old ≡ front ++ back
   pub after : new ≡ front ++ head ∷ back
 
--- so many heads of the list come before this one, and they are its first
+-- the first `place` heads of the list, and no others, come before this head
 pub record IsPlaceOf (head : HeadView) (heads : List HeadView) (place : ℕ) : Type 0 where
   pub within : place ≤ length heads
   pub before : All (λ other. HeadBefore other head) (take place heads)

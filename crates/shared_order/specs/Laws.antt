@@ -1,6 +1,5 @@
--- What an order of heads by finish rests on: a head's start is not needed, and a bound on finishes from below with one
--- on
--- lengths from above is a bound on eligibility and on eligible keys.
+-- The laws of an order of heads by finish: a head's start is not needed, and a bound on finishes from below with a
+-- bound on lengths from above is a bound on eligibility and on eligible keys.
 use Rattle.std.specs.Prelude.{ℕ, ◌+◌, ◌*◌, ◌<◌, ◌≡◌, ◌↔◌, ◌^◌, ℤ, pos, ◌+ℤ◌, ◌-ℤ◌, ◌≤ℤ◌}
 use Rattle.vt_fixed.specs.declared.limits.TheConstants.{GREATEST_LENGTH}
 use Rattle.fq_model.specs.declared.limits.TheConstants.{GREATEST_START}

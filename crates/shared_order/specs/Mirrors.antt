@@ -21,20 +21,20 @@ pub record Mirrors (table : Table) (heads : List HeadView) : Type 0 where
   pub counted : length heads ≡ count_by is_some table
   pub in_range : AreInRange heads
 
--- what a chooser keeps
+-- the invariant of a chooser
 pub record KeepsChooser (table : Table) (order : OrderView) (latest : ℤ) : Type 0 where
   pub differ : RequestsDiffer table
   pub mirrors : Mirrors table order.heads
   pub room : length table ≤ order.room
   pub begun : pos 0 ≤ℤ latest
 
--- the head is the first eligible one, or, where none is eligible, the one that becomes eligible soonest
+-- the head is the first eligible head, or, where none is eligible, the head that becomes eligible soonest
 abbrev pub IsChosen : Turn → List HeadView → HeadView → Type 0
 IsChosen at heads h =
     IsFirstThat (IsReached at) heads h ⊎ (All (λ other. ¬ IsReached at other) heads × IsLeast (IsSooner at) heads h)
 
--- what is found among the heads: none; that some is eligible; or that none is, and the tenant of the one that becomes
--- eligible soonest
+-- the result of a look at the heads: no head; some head is eligible; or none is, and the tenant of the head that
+-- becomes eligible soonest
 abbrev pub IsOutlook : Turn → List HeadView → Foreseen → Type 0
 IsOutlook at heads Nothing = heads ≡ []
 IsOutlook at heads Eligible = (h : HeadView) × IsFirstThat (IsReached at) heads h

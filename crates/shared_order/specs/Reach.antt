@@ -16,7 +16,8 @@ reach _ len i n = len
 abbrev pub key_by_finish : Turn → ℤ → ℤ → ℤ
 key_by_finish at F L = F -ℤ pos (reach at.policy (unsigned_abs L) at.worker at.workers)
 
--- a head of this length that finishes so far ahead of virtual time is eligible for worker i of n: no number is divided
+-- a head of this length that finishes `ahead` steps after virtual time is eligible for worker i of n: no number is
+-- divided
 abbrev pub Reaches : Policy → ℕ → ℕ → ℤ → ℤ → Type 0
 Reaches Wfq i n ahead len = Unit {0}
 Reaches TwoDfq i n ahead len = (pos n *ℤ ahead) ≤ℤ (pos (n + i) *ℤ len)

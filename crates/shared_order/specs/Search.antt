@@ -1,4 +1,4 @@
--- What is looked for among heads in order.
+-- The heads that are looked for among heads in order.
 use Rattle.std.specs.Prelude.{◌≡◌, List, [], ◌∷◌, ◌++◌, Option, Some, None, ℤ, pos, ◌+ℤ◌, ◌<ℤ◌, ◌≤ℤ◌, ◌⊎◌}
 use Rattle.std.specs.List.{All}
 use Rattle.vt_fixed.specs.declared.limits.TheConstants.{GREATEST_LENGTH}
@@ -12,7 +12,7 @@ use Rattle.shared_order.specs.declared.search.Candidate.{Candidate}
 abbrev pub AreInRange : List HeadView → Type 0
 AreInRange heads = All (λ h. (pos 0 ≤ℤ h.len) × (h.len ≤ℤ GREATEST_LENGTH)) heads
 
--- heads as they stand in an order
+-- heads in order, with lengths in their range
 pub record AreInOrder (heads : List HeadView) : Type 0 where
   pub sorted : IsSorted heads
   pub in_range : AreInRange heads
@@ -57,7 +57,7 @@ abbrev pub IsSoonest : Turn → List HeadView → Option Candidate → Type 0
 IsSoonest at heads None = heads ≡ []
 IsSoonest at heads (Some best) = IsLeast (IsSooner at) heads best.head × (best.key ≡ key_of at best.head)
 
--- the soonest of these and of earlier ones, where they stand in order
+-- the soonest of these and of earlier heads, where they are in order
 abbrev pub TakesSoonest : Turn → Option Candidate → List HeadView → Option Candidate → Type 0
 TakesSoonest at older heads newer =
     (earlier : List HeadView) → IsSorted (earlier ++ heads) → IsSoonest at earlier older

@@ -11,7 +11,7 @@ use std::marker::Model;
 /// The most heads of a block.
 pub const BLOCK: usize = 32;
 
-/// Half of a block: what each part has after a split.
+/// Half of a block: the number of heads of each part after a split.
 pub const HALF: usize = 16;
 
 /// Heads in order, at most `BLOCK`. Contracts see them as a list.

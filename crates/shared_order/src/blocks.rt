@@ -29,7 +29,7 @@ impl Model for Blocks {
 }
 
 impl Blocks {
-    /// So many blocks, of which none is in use.
+    /// A row of `blocks` blocks, of which none is in use.
     pub fn open(alloc: Global, blocks: usize) -> Result<Blocks, AllocError>
         ensures { IfOk result (λ b. b ≡ record { used = []; spare = blocks }) }
     {
@@ -70,7 +70,7 @@ impl Blocks {
         block.insert(head);
     }
 
-    /// Takes a head out of the block that it stands in.
+    /// Takes a head out of its block.
     pub fn remove(&mut self, at: usize, head: Head)
         requires known { at < length self.old.used }
         requires there { Contains (block_at self.old.used at) head }
@@ -122,7 +122,7 @@ impl Blocks {
     }
 }
 
-/// So many blocks that have no heads.
+/// `blocks` blocks that have no heads.
 fn empty_blocks(alloc: Global, blocks: usize) -> Result<Vec<Block>, AllocError>
     ensures empty { IfOk result (λ v. All (λ b. b ≡ []) v.items) }
     ensures count { IfOk result (λ v. length v.items ≡ blocks) }

@@ -1,4 +1,4 @@
-//! Heads whose eligibility is worked by hand, one function an example: its contract says what comes out, and its body
+//! Heads whose eligibility is worked by hand, one function an example: its contract states the result, and its body
 //! is empty. Numbers are steps.
 ghost use Rattle.std.specs.Prelude.{◌≡◌, pos};
 ghost use Rattle.fq_model.specs.declared.config.Policy.TheVariants.{Wfq, Wf2q, TwoDfq};

@@ -1,4 +1,4 @@
-//! Heads as they stand in the order.
+//! Heads in the order.
 ghost use Rattle.std.specs.Prelude.{◌≡◌, ◌↔◌, IsTrue};
 ghost use Rattle.tag_rules.specs.Keys.{IsInRange};
 ghost use Rattle.shared_order.specs.Heads.{head_of, HeadBefore};
@@ -6,8 +6,8 @@ ghost use Rattle.shared_order.specs.Heads.{head_of, HeadBefore};
 use std::marker::Model;
 use tag_rules::parts::Keys;
 
-/// The head of a tenant: where it finishes and the length that it is thought to have, both in steps of virtual time,
-/// and its number. Its start is its finish less its length; starts and lengths are in the range of `Keys`.
+/// The head of a tenant: its finish and its length by the estimate, both in steps of virtual time, and its number.
+/// Its start is its finish less its length; starts and lengths are in the range of `Keys`.
 #[derive(Clone, Copy, Debug, PartialEq, Eq)]
 pub struct Head {
     pub finish: i128,

@@ -32,7 +32,7 @@ impl Model for Order {
 }
 
 impl Order {
-    /// An order that has no heads, and room for so many at least.
+    /// An order that has no heads, and room for `most` at least.
     pub fn open(alloc: Global, most: u32) -> Result<Order, AllocError>
         ensures none { IfOk result (λ o. o.heads ≡ []) }
         ensures room { IfOk result (λ o. most ≤ o.room) }

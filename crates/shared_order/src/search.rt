@@ -14,7 +14,7 @@ use tag_rules::foresees::Foreseen;
 use tag_rules::turn::Turn;
 use vt_fixed::part;
 
-/// The head that is chosen: the first eligible one, or, where none is eligible, the one that becomes eligible soonest.
+/// The choice: the first eligible head, or, where none is eligible, the head that becomes eligible soonest.
 pub fn choice(turn: Turn, blocks: &[Block]) -> Option<Head>
     requires begun { pos 0 ≤ℤ turn.virtual_time }
     requires in_order { AreInOrder (all_heads blocks.now) }
@@ -27,7 +27,7 @@ pub fn choice(turn: Turn, blocks: &[Block]) -> Option<Head>
     }
 }
 
-/// What the worker would find: it stops at the first eligible head.
+/// Foresees the worker's choice. It stops at the first eligible head.
 pub fn outlook(turn: Turn, blocks: &[Block]) -> Foreseen
     requires begun { pos 0 ≤ℤ turn.virtual_time }
     requires in_order { AreInOrder (all_heads blocks.now) }
@@ -181,7 +181,7 @@ fn is_in_reach(turn: Turn, finish: i128, len: i128) -> bool
     finish <= turn.virtual_time || reaches(turn, (finish - turn.virtual_time) as u128, len as u128)
 }
 
-// Whether a head of this length that finishes so far ahead of virtual time is eligible.
+// Whether a head of this length that finishes `ahead` steps after virtual time is eligible.
 fn reaches(turn: Turn, ahead: u128, len: u128) -> bool
     requires near { pos ahead ≤ℤ (GREATEST_START +ℤ GREATEST_LENGTH) }
     requires short { pos len ≤ℤ GREATEST_LENGTH }

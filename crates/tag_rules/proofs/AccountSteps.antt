@@ -90,7 +90,7 @@ may_charge C P a e t delta lim l known own is =
     let is_now = is.charges_are t known in
     (omega (arith, ints, own, is_now), omega (arith, ints, own, is_now, low))
 
--- a Withdraw leaves the accounts: what is withdrawn was not charged
+-- a Withdraw leaves the accounts: its request was not charged
 pub accounts_withdraw : (C : Config) (P : History) (a : AccountsView) (who m r : ℕ) → AccountsAre C P a → AccountsAre C (one_more who m (Withdraw r) P) a
 accounts_withdraw C P a who m r is = record {
   charges_sized = is.charges_sized;

@@ -10,7 +10,7 @@ use Rattle.tag_rules.specs.Orders.{ComesBefore}
 reads_back : (z : ℤ) → mag z < 170141183460469231731687303715884105728 → to_z w128 (of_z w128 z) ≡ z
 reads_back z h = omega (arith, ints)
 
--- the same numbers, and a test that means the same; a number that fits is written and read back
+-- a comparison of two numbers that were written and read back is the comparison of the numbers
 pub compared : (x y a b : ℤ) (result next : Bool) (Next : Type 0) → mag x < 170141183460469231731687303715884105728 → mag y < 170141183460469231731687303715884105728 → x ≡ a → y ≡ b → (IsTrue result ↔ ComesBefore (to_z w128 (of_z w128 x)) (to_z w128 (of_z w128 y)) (IsTrue next)) → (IsTrue next ↔ Next) → IsTrue result ↔ ComesBefore a b Next
 compared x y a b result next Next in_x in_y e f h n =
     let back : IsTrue result ↔ ComesBefore x y (IsTrue next) = rw (reads_back x in_x, reads_back y in_y) at h in
@@ -19,7 +19,7 @@ compared x y a b result next Next in_x in_y e f h n =
       λ p. same.1 (elim p [ inl less ↦ inl less | inr tie ↦ inr (tie.0, n.1 tie.1) ]),
     )
 
--- a number that fits, read back, is what it is
+-- a number that fits is read back as itself
 pub read : (z w : ℤ) → mag z < 170141183460469231731687303715884105728 → z ≡ w → to_z w128 (of_z w128 z) ≡ w
 read z w h e = reads_back z h ∙ e
 

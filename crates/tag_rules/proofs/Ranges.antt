@@ -1,4 +1,4 @@
--- What accounts keep after a write.
+-- The invariant of accounts after a write.
 use Rattle.std.proofs.Common.{ℕ, arith, ◌<◌, ◌≡◌, refl, sym, ◌∙◌, List, length, slice_set, get_or, slice_index_or, ℤ, pos, length-set}
 use Rattle.std.proofs.lemmas.List.Elements.{All-set}
 use Rattle.std.proofs.lemmas.Option.{slice_get_read, get_or_from_slice_get}
@@ -8,7 +8,7 @@ use Rattle.tag_rules.specs.Accounts.{IsCharge, IsBase, IsSound}
 pub read : (numbers : List ℤ) (t : ℕ) (x : ℤ) → t < length numbers → x ≡ get_or numbers t x → slice_index_or numbers t (pos 0) ≡ x
 read numbers t x known is = get_or_from_slice_get numbers t x (pos 0) (slice_get_read numbers _ t x refl known is)
 
--- what is known of a base and a charge that were read
+-- a base and a charge that were read, and their ranges
 pub record Seen (charges bases : List ℤ) (t : ℕ) (base charge : ℤ) : Type 0 where
   pub base_is : slice_index_or bases t (pos 0) ≡ base
   pub charge_is : slice_index_or charges t (pos 0) ≡ charge

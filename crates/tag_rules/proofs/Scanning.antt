@@ -19,7 +19,7 @@ order_in Fallback at = by_eligible at
 pub same_keys : (table : Table) (t : ℕ) (k l : HeadKeys) → Has table t k → Has table t l → k ≡ l
 same_keys table t k l h i = let e : Some (Some k) ≡ Some (Some l) = sym h ∙ i in cc
 
--- where the keys of n do not pass, or it has none, what was found stays
+-- where the keys of n do not pass, or it has none, the head found before stays
 pub scan_over : (Passes : HeadKeys → Type 0) (Before : HeadKeys → HeadKeys → Type 0) (table : Table) (n : ℕ) (older : Option Found) → ((l : HeadKeys) → Has table n l → ¬ Passes l) → IsFirstBelow Passes Before table n older → IsFirstBelow Passes Before table (n + 1) older
 scan_over Passes Before table n None out h = λ u l b has p. elim (cases_eq u n) [
   | inl e ↦ out l (subst (λ x. Has table x l) e has) p

@@ -7,7 +7,7 @@ use Rattle.fq_model.specs.Keys.{HeadKeys, Turn, IsEligible, EligibleBefore, Ever
 use Rattle.tag_rules.specs.Tables.{Table, Has}
 use Rattle.tag_rules.proofs.Scanning.{same_keys}
 
--- what comes before an eligible head is eligible
+-- a head before an eligible head, by eligibility, is eligible
 pub eligible_before : (at : Turn) (k l : HeadKeys) → EligibleBefore at k l → IsEligible at l → IsEligible at k
 eligible_before at k l before (inl wfq) = inl wfq
 eligible_before at k l (inl less) (inr due) = inr (omega (arith, ints, less, due))

@@ -1,4 +1,4 @@
--- What contracts see of accounts, what the calls make of them, and the accounts of a history.
+-- The view of accounts in contracts, the accounts after each call, and the accounts of a history.
 use Rattle.std.specs.Prelude.{ℕ, ◌<◌, ◌≡◌, List, length, replicate, slice_index_or, slice_set, All, ℤ, pos, ◌+ℤ◌, ◌-ℤ◌, ◌≤ℤ◌}
 use Rattle.std.specs.Int.{int_max}
 use Rattle.fq_model.specs.declared.limits.TheConstants.{GREATEST_VIRTUAL_CHARGE, GREATEST_VIRTUAL_TIME}
@@ -21,16 +21,16 @@ charge_of a tenant = slice_index_or a.charges tenant (pos 0)
 abbrev pub base_of : AccountsView → ℕ → ℤ
 base_of a tenant = slice_index_or a.bases tenant (pos 0)
 
--- the tag of the tenant is v at least: its base is the greater of what it was and v less the charge
+-- the tag of the tenant is v at least: its base is the greater of its old base and v less the charge
 abbrev pub raised : AccountsView → ℕ → ℤ → AccountsView
 raised a tenant v =
     record { charges = a.charges; bases = slice_set a.bases tenant (int_max (base_of a tenant) (v -ℤ charge_of a tenant)) }
 
--- the charge of the tenant has moved by so much
+-- the virtual charge of the tenant has moved by `delta`
 abbrev pub charged : AccountsView → ℕ → ℤ → AccountsView
 charged a tenant delta = record { charges = slice_set a.charges tenant (charge_of a tenant +ℤ delta); bases = a.bases }
 
--- ---- what accounts keep
+-- ---- the invariant of accounts
 
 abbrev pub IsCharge : ℤ → Type 0
 IsCharge charge = (pos 0 ≤ℤ charge) × (charge ≤ℤ GREATEST_VIRTUAL_CHARGE)

@@ -1,4 +1,4 @@
--- What a worker that chose now would find.
+-- The foreseen choice of a worker.
 use Rattle.std.specs.Prelude.{ℕ, ℤ}
 use Rattle.fq_model.specs.Due.{SomeIsEligible}
 use Rattle.fq_model.specs.Keys.{HeadKeys, Turn, IsChoice, NoneIsEligible}
@@ -12,6 +12,6 @@ IsForeseenOver at table Nothing = NoneHas table
 IsForeseenOver at table Eligible = SomeIsEligible at (Has table)
 IsForeseenOver at table (Early t) = NoneIsEligible at (Has table) × ((k : HeadKeys) × IsChoice at (Has table) t k)
 
--- what worker i would find at virtual time v, by what the chooser has
+-- the foreseen choice of worker i at virtual time v, by the setting and the table of the chooser
 abbrev pub IsForeseen : ChooserView → ℕ → ℤ → Foreseen → Type 0
 IsForeseen x i v = IsForeseenOver (turn_of x.setting i v) x.table

@@ -1,17 +1,17 @@
--- The keys of the tenants' heads in a table, and what a choice over it reads.
+-- The keys of the tenants' heads in a table, and the setting of a choice over it.
 use Rattle.std.specs.Prelude.{ℕ, ◌≡◌, ◌≢◌, length, replicate, List, Option, Some, None, slice_get, slice_set, ℤ, pos}
 use Rattle.fq_model.specs.declared.config.Config.{Config}
 use Rattle.fq_model.specs.declared.config.Policy.{Policy}
 use Rattle.fq_model.specs.Keys.{HeadKeys, Turn, IsChoice}
 
--- what a chooser is set to: the policy, the most workers that there can be, the workers that there are, and the tenants
+-- the setting of a chooser: the policy, the most workers that there can be, the workers that there are, and the tenants
 pub record Setting : Type 0 where
   pub policy : Policy
   pub most_workers : ℕ
   pub workers : ℕ
   pub tenants : ℕ
 
--- that of a configuration while there are so many workers
+-- the setting of a configuration while there are `workers` workers
 abbrev pub setting_at : Config → ℕ → Setting
 setting_at C workers = record {
   policy = C.policy;
@@ -20,11 +20,11 @@ setting_at C workers = record {
   tenants = length C.weights;
 }
 
--- that at the opening: the workers are the most that there can be
+-- the setting at the opening: the workers are the most that there can be
 abbrev pub setting_of : Config → Setting
 setting_of C = setting_at C C.workers
 
--- with so many workers
+-- with `workers` workers
 abbrev pub with_workers : Setting → ℕ → Setting
 with_workers s workers = record {
   policy = s.policy;
@@ -60,8 +60,7 @@ turn_of s i v = record { policy = s.policy; workers = s.workers; worker = i; vir
 abbrev pub IsTableChoice : Setting → Table → ℕ → ℤ → ℕ → Type 0
 IsTableChoice s table i v t = (k : HeadKeys) × IsChoice (turn_of s i v) (Has table) t k
 
--- what contracts see of a chooser: what it is set to, the keys by tenant, and the greatest virtual time of a choice so
--- far
+-- the view of a chooser in contracts: its setting, the keys by tenant, and the greatest virtual time of a choice so far
 pub record ChooserView : Type 0 where
   pub setting : Setting
   pub table : Table
@@ -75,7 +74,7 @@ opened C = record { setting = setting_of C; table = replicate (length C.weights)
 abbrev pub with_keys : ChooserView → ℕ → Option HeadKeys → ChooserView
 with_keys x t keys = record { setting = x.setting; table = slice_set x.table t keys; latest = x.latest }
 
--- while there are so many workers
+-- while there are `workers` workers
 abbrev pub resized : ChooserView → ℕ → ChooserView
 resized x workers = record { setting = with_workers x.setting workers; table = x.table; latest = x.latest }
 

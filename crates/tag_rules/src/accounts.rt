@@ -8,8 +8,8 @@ use std::marker::Model;
 
 /// The virtual charge of each tenant and the base of its tag, in steps. In fair queuing the tag of a tenant is where
 /// its next request starts: the greater of virtual time and the finish of the request before (Demers and others,
-/// 1989). Here it is the charge and a base: the charge moves with what the tenant's requests turn out to cost, and
-/// the base rises where the tenant comes back behind virtual time. Contracts see both by number.
+/// 1989). Here it is the charge and a base: the charge follows the estimates, uses and costs of the tenant's requests,
+/// and the base rises where the tenant comes back behind virtual time. Contracts see both by number.
 #[derive(Drop)]
 pub struct Accounts {
     charges: Vec<i128>,
@@ -47,7 +47,7 @@ impl Accounts {
         self.bases[tenant] = self.bases[tenant].max(v - self.charges[tenant]);
     }
 
-    /// Moves the virtual charge of the tenant by so much.
+    /// Moves the virtual charge of the tenant by `delta`, in steps.
     pub fn charge(&mut self, tenant: u32, delta: i128)
         requires tenant { tenant < length self.old.charges }
         requires low { pos 0 ≤ℤ (charge_of self.old tenant +ℤ delta) }

@@ -1,4 +1,4 @@
-//! What chooses a tenant for a worker.
+//! A chooser of tenants for workers.
 ghost use Rattle.std.specs.Prelude.{◌≡◌, ◌<◌, ◌≤◌, ◌≤ℤ◌, IfOk, IfSome, IfNone};
 ghost use Rattle.tag_rules.specs.Tables.{ChooserView, opened, with_keys, resized, asked_at, NoneHas, IsNewTo, IsTableChoice};
 
@@ -8,8 +8,7 @@ use std::alloc::{AllocError, Global};
 
 /// Chooses tenants by the keys of their heads. No call after `open` takes memory.
 pub trait Chooser: Sized {
-    /// What a contract sees of it: what it is set to, the keys by tenant, and the greatest virtual time of a choice so
-    /// far, or 0.
+    /// Its view in contracts: its setting, the keys by tenant, and the greatest virtual time of a choice so far, or 0.
     ghost seen: { Self → ChooserView };
 
     /// A chooser for this configuration in which no tenant has keys. All its memory is taken here.
@@ -22,7 +21,7 @@ pub trait Chooser: Sized {
         requires new_request { IfSome keys (IsNewTo (seen self.old).table tenant) }
         ensures { seen self.new ≡ with_keys (seen self.old) tenant keys };
 
-    /// From here on there are so many workers, and the stagger goes by that number. The keys stay, and so does the
+    /// From here on there are `workers` workers, and the stagger goes by that number. The keys stay, and so does the
     /// greatest virtual time of a choice so far.
     fn resize(&mut self, workers: u32)
         requires some { 1 ≤ workers }

@@ -1,4 +1,4 @@
-//! What foresees a choice.
+//! A chooser that foresees a choice.
 ghost use Rattle.std.specs.Prelude.{◌<◌, ◌≤◌, ◌≤ℤ◌, length};
 ghost use Rattle.tag_rules.specs.Tables.{RequestsDiffer};
 ghost use Rattle.tag_rules.specs.Foreseen.{IsForeseen, IsForeseenOver};
@@ -10,7 +10,7 @@ use crate::scan::first_in;
 use crate::turn::Turn;
 use fq_model::limits::MOST_TENANTS;
 
-/// What a worker that chose would find.
+/// The foreseen choice of a worker.
 #[derive(Clone, Copy, Debug, PartialEq, Eq)]
 pub enum Foreseen {
     /// No tenant has a head.
@@ -21,18 +21,18 @@ pub enum Foreseen {
     Early(u32),
 }
 
-/// Says what a choice would find, and makes none: nothing changes, and no memory is taken.
+/// Foresees a choice, and makes none: nothing changes, and no memory is taken.
 pub trait Foresees: Chooser {
-    /// What a worker that chose at virtual time `v` would find, in steps, which is no earlier than at the choices
-    /// before. A choice after this one may be at an earlier virtual time.
+    /// The foreseen choice of the worker at virtual time `v`, in steps, which is no earlier than at the choices before.
+    /// A choice after this look may be at an earlier virtual time.
     fn foresee(&self, worker: u32, v: i128) -> Foreseen
         requires worker { worker < (Self.seen self.now).setting.workers }
         requires not_back { (Self.seen self.now).latest ≤ℤ v }
         ensures { IsForeseen (Self.seen self.now) worker v result };
 }
 
-/// What the worker would find among the heads of a table, of which each is looked at. The head that becomes eligible
-/// soonest is eligible where any is.
+/// The foreseen choice among the heads of a table, of which each is looked at. The head that becomes eligible soonest
+/// is eligible where any is.
 pub fn foreseen_in(turn: Turn, table: &[Option<Keys>]) -> Foreseen
     requires few { length table.now ≤ MOST_TENANTS }
     requires differ { RequestsDiffer table.now }

@@ -17,8 +17,8 @@ impl Keys {
     }
 }
 
-/// The keys of the head `request` of a tenant that starts there, in steps, and has this weight, where the head is
-/// thought to cost so many microseconds.
+/// The keys of the head `request` of a tenant with this start, in steps, and this weight, at this estimate, in
+/// microseconds.
 pub fn keys(start: i128, estimate: u64, weight: u32, request: u32) -> Keys
     requires start_low { pos 0 ≤ℤ start }
     requires start_high { start ≤ℤ GREATEST_START }

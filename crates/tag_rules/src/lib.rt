@@ -1,5 +1,5 @@
-//! What tenants are charged, where they start, what their heads are compared by and how at a turn of a worker, what
-//! chooses among them, and what foresees a choice.
+//! The charges and the tags of tenants, the keys of their heads, the order of the keys at a turn of a worker, and the
+//! traits of a chooser and of one that foresees a choice.
 #![tactic(auto)]
 
 pub mod accounts;

@@ -1,9 +1,9 @@
-//! What heads are compared by.
+//! The keys that heads are compared by.
 use std::marker::Model;
 
-/// What the head of a tenant is compared by: the start of its tenant and the length that it is thought to have, both
-/// in steps of virtual time, and its number. A start is 0 to `GREATEST_START`, a length 0 to
-/// `GREATEST_LENGTH`: `keys` makes such ones.
+/// The keys that the head of a tenant is compared by: its start and its length by the estimate, both in steps of
+/// virtual time, and its number. A start is 0 to `GREATEST_START`, a length 0 to `GREATEST_LENGTH`: `keys` keeps
+/// to these ranges.
 #[derive(Clone, Copy, Debug, PartialEq, Eq)]
 pub struct Keys {
     pub start: i128,

@@ -31,7 +31,7 @@ pub fn choice_in(turn: Turn, table: &[Option<Keys>]) -> Option<Found>
     }
 }
 
-/// Of the tenants whose heads go in the pass, the one whose head is first by it.
+/// The tenant whose head is the first by the pass, of the tenants whose heads go in it.
 pub fn first_in(pass: Pass, turn: Turn, table: &[Option<Keys>]) -> Option<Found>
     requires few { length table.now ≤ MOST_TENANTS }
     requires differ { RequestsDiffer table.now }

@@ -8,7 +8,7 @@ use crate::parts::Keys;
 use fq_model::config::Policy;
 use std::marker::Model;
 
-/// Under which policy a worker, of how many, chooses, and at what virtual time, in steps.
+/// The policy under which a worker chooses, the number of workers, the worker, and virtual time, in steps.
 #[derive(Clone, Copy)]
 pub struct Turn {
     pub policy: Policy,

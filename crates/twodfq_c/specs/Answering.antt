@@ -1,4 +1,4 @@
--- What a call does to what a handle holds.
+-- A call on the scheduler that a handle holds.
 use Rattle.std.specs.Prelude.{◌≡◌, ℕ, Some, None}
 use Rattle.fq_model.specs.declared.event.Call.{Call}
 use Rattle.fq_model.specs.declared.event.Reply.{Reply}
@@ -8,7 +8,7 @@ use Rattle.twodfq_c.specs.declared.reply.PlainReply.{PlainReply}
 use Rattle.twodfq_c.specs.Held.{Held}
 use Rattle.twodfq_c.specs.Replies.{plain_reply, no_scheduler}
 
--- the scheduler answers the call, the numbers are its reply's, and what it leaves is held; as many entries are kept
+-- the scheduler answers the call, the numbers are its reply's, and the new scheduler is held; as many entries are kept
 pub record AnswersInNumbers (old : RecentView ℕ) (call : Call) (plain : PlainReply) (new : Held) : Type 0 where
   pub reply : Reply
   pub left : RecentView ℕ

@@ -1,4 +1,4 @@
--- What a worker would find, by what a handle holds.
+-- The foreseen take of a worker, by the scheduler that a handle holds.
 use Rattle.std.specs.Prelude.{◌≡◌, ℕ, Some, None}
 use Rattle.fq_model.specs.declared.event.Due.{Due}
 use Rattle.fq_model.specs.Due.{IsDue}

@@ -1,4 +1,4 @@
--- What a handle holds.
+-- The scheduler that a handle holds, if it holds one.
 use Rattle.std.specs.Prelude.{ℕ, Option}
 use Rattle.recent_history.specs.Views.{RecentView}
 

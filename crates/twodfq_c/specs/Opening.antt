@@ -78,7 +78,7 @@ WhyRefused o weights why = unnamed_number o ≡ Some why
 abbrev pub kept_of : Opening → ℕ
 kept_of o = if o.keep == 0 || nat_lt o.entries o.keep then o.entries else o.keep
 
--- a scheduler of this configuration, which has no fault, with no entries, which keeps the last so many
+-- a scheduler of this configuration, which has no fault, with no entries, which keeps its last `kept_of o`
 pub record HoldsOpened (o : Opening) (weights : List ℕ) (new : Held) : Type 0 where
   pub config : Config
   pub config_is : IsConfigOf o weights config
@@ -94,7 +94,7 @@ abbrev pub WhyNotOpened : Held → Opening → List ℕ → Refusal → Type 0
 WhyNotOpened old o weights refusal.AlreadyOpen = IsSome old
 WhyNotOpened old o weights why = (old ≡ None) × WhyRefused o weights why
 
--- where none was held, such a scheduler; or what was held, for a cause
+-- where no scheduler was held, such a scheduler; or else the old state, for a cause
 abbrev pub OpensWith : Held → Opening → List ℕ → Result (Unit {0}) Refusal → Held → Type 0
 OpensWith old o weights (Ok opened) new = (old ≡ None) × HoldsOpened o weights new
 OpensWith old o weights (Err why) new = (new ≡ old) × WhyNotOpened old o weights why

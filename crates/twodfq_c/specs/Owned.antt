@@ -1,4 +1,4 @@
--- What a slot owns.
+-- The scheduler that a slot owns.
 use Rattle.std.specs.Prelude.{Option, Some, None}
 use Rattle.std_heap.specs.contracts.GlobalAllocator.TheImpl as heap_impl
 use Rattle.std.specs.Box.Ownership.{box_owns}
@@ -13,7 +13,7 @@ use denote.Builtin.{u64}
 use denote.RattleType.{RattleType}
 use denote.RawPtr.{Ptr}
 
--- the chooser, and what contracts see of it
+-- the chooser, and its view in contracts
 abbrev pub chooser_row : RattleType
 chooser_row = chooser.the_row
 

@@ -8,15 +8,15 @@ use Rattle.fq_model.specs.declared.event.Reply.{Reply}
 use Rattle.fq_model.specs.declared.event.Reply.TheVariants as answer
 use Rattle.twodfq_c.specs.declared.reply.PlainReply.{PlainReply}
 
--- one that names a request
+-- a reply that names a request
 abbrev pub requested : ℕ → ℕ → ℕ → ℕ → PlainReply
 requested kind request first second = record { kind = kind; request = request; first = first; second = second }
 
--- one that names none
+-- a reply that names no request
 abbrev pub numbered : ℕ → ℕ → ℕ → PlainReply
 numbered kind first second = requested kind 0 first second
 
--- that of a handle which holds no scheduler
+-- the reply of a handle that holds no scheduler
 abbrev pub no_scheduler : PlainReply
 no_scheduler = numbered 255 0 0
 
@@ -45,7 +45,7 @@ plain_reply (answer.Retired workers) = numbered 5 workers 0
 plain_reply (answer.Withdrawn label) = numbered 6 0 label
 plain_reply (answer.Refused why) = plain_cause why
 
--- what a worker would find
+-- a foreseen take
 abbrev pub plain_due : Due → PlainReply
 plain_due due.Nothing = numbered 7 0 0
 plain_due due.Eligible = numbered 8 0 0

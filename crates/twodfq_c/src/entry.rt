@@ -45,7 +45,7 @@ const BLANK: PlainEntry = PlainEntry {
 };
 
 impl PlainEntry {
-    /// What stands for an entry where none that is kept has the index: the first index that one of them has.
+    /// The numbers where no kept entry has the index: the first index that a kept entry has.
     pub(crate) fn missing(first: u64) -> PlainEntry
         ensures { result ≡ no_entry first }
     {

@@ -1,4 +1,4 @@
-//! What a program in C keeps of a scheduler.
+//! The handle by which a program in C keeps a scheduler.
 ghost use Rattle.std.specs.Prelude.{◌≡◌, Some, None, is_some, option_map};
 ghost use Rattle.twodfq_c.specs.Answering.{AnswersHeld};
 ghost use Rattle.twodfq_c.specs.Entries.{ReadsHeld};
@@ -69,7 +69,7 @@ impl Handle {
         PlainReply::of(reply)
     }
 
-    /// What a worker would find that asked for work at this moment.
+    /// Foresees a take by the worker at this moment.
     pub(crate) fn due(&mut self, alloc: Global, moment: u64, worker: u32) -> PlainReply
         ensures due { FindsHeld self.old.slot.held moment worker result }
         ensures unchanged { self.new.slot.held ≡ self.old.slot.held }
@@ -95,7 +95,7 @@ impl Handle {
         entry
     }
 
-    /// Tells how the scheduler stands.
+    /// Gives the status of the scheduler.
     pub(crate) fn status(&mut self, alloc: Global) -> PlainStatus
         ensures status { TellsHeld self.old.slot.held result }
         ensures unchanged { self.new.slot.held ≡ self.old.slot.held }

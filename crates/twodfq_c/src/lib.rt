@@ -164,7 +164,7 @@ pub extern "C" fn twodfq_weight(
     handle.call(alloc, call)
 }
 
-/// There are so many workers from here on, 1 to as many as at the opening: those with lower numbers.
+/// There are `count` workers from here on, 1 to the number at the opening: those with lower numbers.
 #[unsafe(no_mangle)]
 pub extern "C" fn twodfq_workers(
     handle: &mut Handle,
@@ -198,7 +198,7 @@ pub extern "C" fn twodfq_withdraw(
     handle.call(alloc, call)
 }
 
-/// What a worker would find that asked for work at this moment; nothing changes.
+/// Foresees a take by the worker at this moment; nothing changes.
 #[unsafe(no_mangle)]
 pub extern "C" fn twodfq_due(
     handle: &mut Handle,
@@ -221,7 +221,7 @@ pub extern "C" fn twodfq_entry(handle: &mut Handle, alloc: Global, index: u64) -
     handle.entry(alloc, index)
 }
 
-/// Tells how the scheduler stands after its last entry.
+/// Gives the status of the scheduler after its last entry.
 #[unsafe(no_mangle)]
 pub extern "C" fn twodfq_status(handle: &mut Handle, alloc: Global) -> PlainStatus
     ensures status { TellsHeld handle.old.slot.held result }

@@ -4,7 +4,7 @@ ghost use Rattle.twodfq_c.specs.Replies.{plain_reply, plain_due, plain_cause, re
 
 use fq_model::event::{Cause, Due, Reply};
 
-/// A reply to a call, or what a worker would find: its kind, and the numbers that come with it, 0 where none does.
+/// A reply to a call, or a foreseen take: its kind, and the numbers that come with it, 0 where none does.
 ///
 /// | kind | reply | request | first | second |
 /// |---|---|---|---|---|
@@ -13,8 +13,8 @@ use fq_model::event::{Cause, Due, Reply};
 /// | 2, 3, 4 | accepted, idle, drained | | | |
 /// | 5 | retired | | workers now | |
 /// | 6 | withdrawn | | | label |
-/// | 7, 8 | found: nothing waits; some head is eligible | | | |
-/// | 9 | found: no head is eligible, and this one would be taken | its number | estimate, in microseconds | |
+/// | 7, 8 | foreseen: nothing waits; some head is eligible | | | |
+/// | 9 | foreseen: no head is eligible, and this head would be taken | its number | estimate, in microseconds | |
 /// | 16 | refused: closed | | | |
 /// | 17, 18 | refused: no such tenant, kind | | the number given | |
 /// | 19 | refused: cost out of its range | | the cost given | |
@@ -36,7 +36,7 @@ pub struct PlainReply {
 }
 
 impl PlainReply {
-    /// What a handle that holds no scheduler answers.
+    /// The reply of a handle that holds no scheduler.
     pub(crate) fn no_scheduler() -> PlainReply
         ensures { result ≡ no_scheduler }
     {
@@ -68,7 +68,7 @@ impl PlainReply {
         }
     }
 
-    /// What a worker would find, in numbers.
+    /// The foreseen take in numbers.
     pub(crate) fn of_due(due: Due) -> PlainReply
         ensures { result ≡ plain_due due }
     {

@@ -9,11 +9,11 @@ use shared_order::chooser::SharedChooser;
 use std::alloc::Global;
 use std::marker::{Model, Send};
 
-/// What a handle holds: jobs are their labels. The chooser is named here alone, beside its names for contracts in
-/// `specs/Owned.antt` and for `Send`.
+/// The scheduler that a handle holds: jobs are their labels. The chooser is named here alone, beside its names for
+/// contracts in `specs/Owned.antt` and for `Send`.
 pub(crate) type Served = Recent<u64, SharedChooser>;
 
-/// What stands at the pointer, as C sees it.
+/// The scheduler at the pointer, as C sees it.
 #[repr(C)]
 pub struct Hidden {
     unused: u8,
@@ -66,7 +66,7 @@ impl Slot {
         }
     }
 
-    // The pointer with the right to free what is there.
+    // The pointer with the right to free the scheduler there.
     fn into_loose(self, alloc: Global) -> Loose<Served, Global>
         requires { IsSome self.held }
         ensures { self.held ≡ Some result.value }

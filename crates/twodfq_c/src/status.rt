@@ -1,4 +1,4 @@
-//! How a scheduler stands, in plain numbers.
+//! The status of a scheduler in plain numbers.
 ghost use Rattle.std.specs.Prelude.{◌≡◌, ◌≤ℤ◌, pos, Some};
 ghost use Rattle.fq_model.specs.declared.limits.TheConstants.{GREATEST_VIRTUAL_TIME};
 ghost use Rattle.twodfq_c.specs.Statuses.{TellsStatus, TellsHeld, no_status};
@@ -6,9 +6,9 @@ ghost use Rattle.twodfq_c.specs.Statuses.{TellsStatus, TellsHeld, no_status};
 use crate::slot::Served;
 use fq_model::parts::Status;
 
-/// How a scheduler stands after its last entry. Virtual time is in units, of which each has 1,048,576 steps.
+/// The status of a scheduler after its last entry. Virtual time is in units, of which each has 1,048,576 steps.
 ///
-/// | kind | what it says |
+/// | kind | meaning |
 /// |---|---|
 /// | 0 | the numbers are the scheduler's |
 /// | 255 | the handle holds no scheduler, and the numbers are 0 |
@@ -33,7 +33,7 @@ pub struct PlainStatus {
 const STEPS: u128 = 1048576;
 
 impl PlainStatus {
-    /// What stands for a status where there is no scheduler.
+    /// The status where there is no scheduler.
     pub(crate) fn missing() -> PlainStatus
         ensures { result ≡ no_status }
     {
@@ -67,7 +67,7 @@ impl PlainStatus {
     }
 }
 
-/// How this scheduler stands.
+/// The status of this scheduler.
 pub(crate) fn status_of(served: &Served) -> PlainStatus
     ensures { TellsHeld (Some served.now) result }
 {

@@ -83,7 +83,7 @@ fn a_request_is_withdrawn(rt: HostRuntime) -> Result<(), Fail> {
     Ok(())
 }
 
-// What a worker would find, of each kind. With one tenant of weight 1 virtual time goes at 2 units a microsecond. The
+// Foreseen takes of each kind. With one tenant of weight 1 virtual time goes at 2 units a microsecond. The
 // second request starts at 10 and has the length 10, so worker 1 of 2 may take it from 5 on.
 #[test]
 fn what_a_worker_would_find(rt: HostRuntime) -> Result<(), Fail> {

@@ -39,7 +39,7 @@ while_asleep C P m t i ne none is = rw (is.undone ∙ none) at (is.total ne m)
 earlier_next : (C : Config) (P : History) (e : Entry) (t : ℕ) (i : Idle) → IdleAt C P e.moment t i → i.since ≤ℤ pos (virtual_time C (e ∷ P) e.moment)
 earlier_next C P e t i is = omega (arith, ints, is.earlier, entry_rises C P e)
 
--- what it was in total stays while it stays awake, and while it stays asleep
+-- the idle time in total stays right while the tenant stays awake, and while it stays asleep
 stays_awake : (C : Config) (P : History) (e : Entry) (m t : ℕ) (i : Idle) → C.policy ≢ TwoDfqPlus → 1 ≤ open_requests P t → 1 ≤ open_requests (e ∷ P) t → IdleAt C P e.moment t i → i.whole ≡ pos (virtual_idle_time C (e ∷ P) m t)
 stays_awake C P e m t i ne some still is = while_awake C P (last_moment P) t i ne some is ∙ ap pos (sym (idle_active C (e ∷ P) m t (active_of_open (e ∷ P) t still) ∙ idle_next_active C P e t (active_of_open P t some)))
 
@@ -50,7 +50,7 @@ stays_asleep C P e m t i ne none still is =
     let after = asleep_here C (e ∷ P) m t ne (inactive_of_open (e ∷ P) t still) in
     omega (arith, ints, before, at_entry, after)
 
--- where none of its requests is opened or closed, what is kept of it stays
+-- where none of its requests is opened or closed, its idle time stays
 idle_stays : (C : Config) (P : History) (e : Entry) (t : ℕ) (i : Idle) → open_requests (e ∷ P) t ≡ open_requests P t → IdleAt C P e.moment t i → IdleIs C (e ∷ P) t i
 idle_stays C P e t i same is = record {
   undone = is.undone ∙ sym same;
@@ -134,7 +134,7 @@ idles_stay C P e idles same is = record {
   each = λ t known. idle_stays C P e t (idle_of idles t) (same t) (is.each t known);
 }
 
--- what is kept of one is written, and the others' requests are none of those opened or closed
+-- the idle time of one tenant is written, and no request of another is opened or closed
 pub idles_written : (C : Config) (P : History) (e : Entry) (t : ℕ) (idles : List Idle) (i : Idle) → t < length C.weights → ((u : ℕ) → u ≢ t → open_requests (e ∷ P) u ≡ open_requests P u) → IdlesAt C P e.moment idles → IdleIs C (e ∷ P) t i → IdlesAre C (e ∷ P) (slice_set idles t i)
 idles_written C P e t idles i known same is new = record {
   tenants = length-set idles t i ∙ is.tenants;

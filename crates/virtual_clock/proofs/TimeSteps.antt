@@ -37,7 +37,7 @@ use Rattle.virtual_clock.proofs.Opening.{Opens, Closes, submits_open, ends_close
 use Rattle.virtual_clock.proofs.ClockSteps.{clock_nil, clock_moved, next_time, next_cap, clock_next}
 use Rattle.virtual_clock.proofs.IdleSteps.{idles_nil, idles_later, idles_stay, idles_written, idle_opened, idle_closed}
 
--- those of the empty history
+-- the times of the empty history
 pub times_nil : (C : Config) → TimesAre C [] (record { clock = at_start C.policy C.workers; weights = C.weights; idles = replicate (length C.weights) asleep_at_first })
 unfolding weight_at
 times_nil C = record { clock_is = clock_nil C; weights_are = record { tenants = refl; each = λ t b. refl }; idles_are = idles_nil C }
@@ -85,7 +85,7 @@ since_moved C P e t old lim l known is =
 
 -- ---- a Submit
 
--- what the calls at a Submit ask of what was kept
+-- the preconditions of the calls at a Submit, of the times before it
 pub record MaySubmit (m : ℕ) (old : Times) (t : ℕ) : Type 0 where
   pub kept : t < length old.idles
   pub earlier : (idle_of old.idles t).since ≤ℤ (moved_to old.clock m).time
@@ -106,7 +106,7 @@ may_submit m t old w =
       room = λ asleep. omega (arith, w.kept_is.clock_is.weights, w.kept_is.weights_are.each t o.known, weight_woken C w.history w.entry t o (sym is.undone ∙ eqb-true _ 0 asleep), active_weight_low C (w.entry ∷ w.history) w.limits w.legal);
     }
 
--- what the code makes of the times at a Submit
+-- the times after a Submit, by the code
 pub record Submitted (m t : ℕ) (old new : Times) : Type 0 where
   pub clock_is : new.clock ≡ cond (is_asleep (idle_of old.idles t)) (entered (moved_to old.clock m) (slice_index old.weights t)) (moved_to old.clock m)
   pub weights_are : new.weights ≡ old.weights
@@ -131,7 +131,7 @@ follows_submit m t old new made = λ C P e lim l s is.
 
 -- ---- a Done or a Withdraw
 
--- what the calls at one ask of what was kept
+-- the preconditions of the calls at a Done or a Withdraw, of the times before it
 pub record MayEnd (m : ℕ) (old : Times) (t : ℕ) : Type 0 where
   pub weighed : t < length old.weights
   pub kept : t < length old.idles
@@ -152,7 +152,7 @@ may_end m t old w =
       entered = λ last. omega (arith, w.kept_is.clock_is.weights, w.kept_is.weights_are.each t c.known, weight_asleep C w.history w.entry t c (sym is.undone ∙ eqb-true _ 1 last));
     }
 
--- what the code makes of the times at one
+-- the times after it, by the code
 pub record Ended (m t : ℕ) (old new : Times) : Type 0 where
   pub clock_is : new.clock ≡ cond (is_at_last (idle_of old.idles t)) (left (moved_to old.clock m) (slice_index old.weights t)) (moved_to old.clock m)
   pub weights_are : new.weights ≡ old.weights
@@ -177,7 +177,7 @@ follows_end m t old new made = λ C P e lim l s is.
 
 -- ---- a Weight
 
--- what the calls at a Weight ask of what was kept
+-- the preconditions of the calls at a Weight, of the times before it
 pub record MayReweigh (old : Times) (t w : ℕ) : Type 0 where
   pub kept : t < length old.idles
   pub weighed : t < length old.weights
@@ -208,7 +208,7 @@ may_reweigh m t w old a =
           );
     }
 
--- what the code makes of the times at a Weight
+-- the times after a Weight, by the code
 pub record Retuned (m t w : ℕ) (old new : Times) : Type 0 where
   pub clock_is : new.clock ≡ cond (is_asleep (idle_of old.idles t)) (moved_to old.clock m) (entered (left (moved_to old.clock m) (slice_index old.weights t)) w)
   pub weights_are : new.weights ≡ slice_set old.weights t w
@@ -260,9 +260,9 @@ follows_workers m n old new made = λ C P e lim l s is.
       idles_are = idles_stay C P e old.idles (λ t. (k.all_stay t).open_same) (idles_later C P e.moment old.idles is.idles_are);
     })
 
--- ---- what may be asked
+-- ---- the preconditions of `idle`
 
--- what `Times::idle` asks for is there for each tenant
+-- the preconditions of `Times::idle` hold for each tenant
 pub record MayAsk (times : Times) (t : ℕ) : Type 0 where
   pub tenant : t < length times.idles
   pub weighed : t < length times.weights
@@ -277,7 +277,7 @@ may_ask C P t times is known = record {
 
 -- ---- a Take under 2dfq+
 
--- what the calls at a Take ask of what was kept
+-- the preconditions of the calls at a Take, of the times before it
 pub record MayLift (worker : ℕ) (start len : ℤ) (old : Times) : Type 0 where
   pub worker_known : worker < old.clock.workers
   pub start_low : pos 0 ≤ℤ start
@@ -285,7 +285,7 @@ pub record MayLift (worker : ℕ) (start len : ℤ) (old : Times) : Type 0 where
   pub len_high : len ≤ℤ pos greatest_length
   pub finish_high : (start +ℤ len) ≤ℤ pos (10 ^ 25)
 
--- the numbers of what is taken
+-- the numbers of the head that is taken
 pub record ChoiceIs (C : Config) (P : History) (m worker t : ℕ) (k : HeadKeys) : Type 0 where
   pub begins : ℕ
   pub lasts : ℕ
@@ -330,7 +330,7 @@ may_lift worker start len old w =
       finish_high = omega (arith, ints, clamps, w.takes.start_is, w.takes.len_is, lifts.cap_is, within);
     }
 
--- what the code makes of the times
+-- the times after the Take, by the code
 pub record Lifted (worker : ℕ) (start len : ℤ) (old new : Times) : Type 0 where
   pub clock_is : new.clock ≡ lifted old.clock (start -ℤ pos (part_of (unsigned_abs len) worker old.clock.workers)) (start +ℤ len)
   pub weights_are : new.weights ≡ old.weights

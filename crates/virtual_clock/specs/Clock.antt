@@ -1,4 +1,4 @@
--- What contracts see of a clock, and what its calls make of it.
+-- The view of a clock in contracts, and the clock after each of its calls.
 use Rattle.std.specs.Prelude.{ℕ, ◌+◌, ◌-◌, ◌≤◌, ℤ, pos, ◌+ℤ◌, ◌≤ℤ◌}
 use Rattle.std.specs.Int.{int_min, int_max}
 use Rattle.vt_fixed.specs.Rounding.{advance_of}
@@ -15,7 +15,7 @@ pub record ClockView : Type 0 where
   pub time : ℤ
   pub cap : ℤ
 
--- the cap of a clock, where so much was reached: only under 2dfq+ virtual time may come to it
+-- the cap of a clock: `reached` under 2dfq+, and else a number that virtual time does not come to
 abbrev pub cap_for : Policy → ℕ → ℤ
 cap_for TwoDfqPlus reached = pos reached
 cap_for _ reached = GREATEST_VIRTUAL_TIME
@@ -55,7 +55,7 @@ left c weight = record {
   cap = c.cap;
 }
 
--- with so many workers from now on
+-- with `workers` workers from now on
 abbrev pub staffed : ClockView → ℕ → ClockView
 staffed c workers = record {
   workers = workers;
@@ -65,7 +65,7 @@ staffed c workers = record {
   cap = c.cap;
 }
 
--- virtual time is at least what makes a request eligible, and the cap at least the finish of the request
+-- virtual time is at least the eligible key of a request, and the cap at least the finish of the request
 abbrev pub lifted : ClockView → ℤ → ℤ → ClockView
 lifted c key finish = record {
   workers = c.workers;

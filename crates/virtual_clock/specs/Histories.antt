@@ -32,7 +32,7 @@ pub record IdleAt (C : Config) (P : History) (m t : ℕ) (i : Idle) : Type 0 whe
   pub earlier : i.since ≤ℤ pos (virtual_time C P m)
   pub total : C.policy ≢ TwoDfqPlus → (k : ℕ) → total_at i (pos (virtual_time C P k)) ≡ pos (virtual_idle_time C P k t)
 
--- so for each tenant
+-- each tenant's idle time is so
 pub record IdlesAt (C : Config) (P : History) (m : ℕ) (idles : List Idle) : Type 0 where
   pub tenants : length idles ≡ length C.weights
   pub each : (t : ℕ) → t < length C.weights → IdleAt C P m t (idle_of idles t)
@@ -62,7 +62,7 @@ IdlesAre C P idles = IdlesAt C P (last_moment P) idles
 abbrev pub TimesAre : Config → History → Times → Type 0
 TimesAre C P times = TimesAt C P (last_moment P) times
 
--- ---- what is read
+-- ---- the numbers that are read
 
 -- whatever history the times are of, and at whichever moment, this is its virtual time
 abbrev pub IsTimeOf : Times → ℤ → Type 0

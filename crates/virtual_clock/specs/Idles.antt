@@ -1,4 +1,4 @@
--- What contracts see of an idle time, and what the calls make of it.
+-- The view of an idle time in contracts, and the idle time after each call.
 use Rattle.std.specs.Prelude.{ℕ, ◌+◌, ◌-◌, ◌==◌, Bool, if◌then◌else◌, List, slice_index_or, ℤ, pos, ◌+ℤ◌, ◌-ℤ◌, ◌≤ℤ◌}
 use Rattle.fq_model.specs.declared.limits.TheConstants.{GREATEST_VIRTUAL_TIME}
 use Rattle.virtual_clock.specs.declared.idles.Idle.{Idle}
@@ -19,11 +19,11 @@ is_asleep i = i.undone == 0
 abbrev pub total_at : Idle → ℤ → ℤ
 total_at i v = if is_asleep i then i.whole +ℤ (v -ℤ i.since) else i.whole
 
--- what was asleep is awake from v on, with one open request
+-- a tenant that was asleep is awake from v on, with one open request
 abbrev pub woken : Idle → ℤ → Idle
 woken i v = record { whole = i.whole +ℤ (v -ℤ i.since); since = v; undone = 1 }
 
--- what was awake is asleep from v on
+-- a tenant that was awake is asleep from v on
 abbrev pub put_to_sleep : Idle → ℤ → Idle
 put_to_sleep i v = record { whole = i.whole; since = v; undone = 0 }
 

@@ -20,7 +20,7 @@ pub struct Clock128 {
     moment: u64,
     weights: u64,
     time: i128,
-    // what time may not pass; where the policy has no cap, a number that it does not come to
+    // the number that virtual time may not pass; where the policy has no cap, a number that it does not come to
     cap: i128,
 }
 
@@ -109,7 +109,7 @@ impl Clock128 {
         self.weights -= weight as u64;
     }
 
-    /// There are so many workers from this moment on.
+    /// There are `workers` workers from this moment on.
     pub fn staff(&mut self, workers: u32)
         requires workers_positive { 1 ≤ workers }
         requires workers_in_range { workers ≤ MOST_WORKERS }

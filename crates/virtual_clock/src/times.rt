@@ -23,7 +23,7 @@ pub struct Times {
 }
 
 impl Times {
-    /// Those of a history without entries. All their memory is taken here.
+    /// The times of a history without entries. All their memory is taken here.
     pub fn open(alloc: Global, config: &Checked) -> Result<Times, AllocError>
         ensures { IfOk result (TimesAre config.now []) }
     {
@@ -56,7 +56,7 @@ impl Times {
         }
     }
 
-    // Virtual time is no less than what makes the request eligible from here on, and the cap no less than its finish.
+    // Virtual time is no less than the request's eligible key from here on, and the cap no less than its finish.
     fn lift(&mut self, worker: u32, start: i128, len: i128)
         requires { AwaitsTake worker start len self.old }
         ensures { FollowsTake worker start len self.old self.new }

@@ -24,7 +24,7 @@ impl Model for WeightsNow {
 }
 
 impl WeightsNow {
-    /// Those of the configuration. All their memory is taken here.
+    /// The weights of the configuration. All their memory is taken here.
     pub fn open(alloc: Global, config: &Checked) -> Result<WeightsNow, AllocError>
         ensures { IfOk result (λ w. w ≡ config.now.weights) }
     {

@@ -101,7 +101,7 @@ module _ (next : ℕ → Option ℕ) (bound : ℕ) where
   linked_bound at ns i p h =
       let found : (rest : List ℕ) × (length rest < length ns) × AreChained next bound (Some i) (i ∷ rest) = linked_within at ns i p h in found.2.1
 
-  -- the first number of a chain stands in it once
+  -- the first number of a chain is in it once
   pub first_once : (at : Option ℕ) (i : ℕ) (is : List ℕ) → AreChained next bound at (i ∷ is) → StandsIn i is → ⊥
   first_once at i is p h =
       let found : (rest : List ℕ) × (length rest < length is) × AreChained next bound (Some i) (i ∷ rest) = linked_within (next i) is i p.2 h in

@@ -26,7 +26,7 @@ of_cell_some None P e h = h
 of_cell_some (Some x) P e h = none_not_some (Some x) x e refl
 
 module _ {J : Type 0} where
-  -- a slot without a number stands in no chain
+  -- a slot without a number is in no chain
   pub not_held : (numbers : ℕ → Option ℕ) (cells : List (Option ℕ)) (slots : List (Slot J)) (k : KeepsIndex numbers cells slots) (cell i : ℕ) → cell < length cells → numbers i ≡ None → StandsIn i (k.chains cell) → ⊥
   not_held numbers cells slots k cell i lt none h = of_cell_some (numbers i) (λ n. n % length cells ≡ cell) none (k.held cell i lt h)
 
@@ -151,7 +151,7 @@ module _ {J : Type 0} where
     | inr le ↦ absurd (none_not_some (number_at slots slot) n (ap (λ (s : Slot J). option_map (λ x. x.request) s.item) (get_or_past slots slot empty_slot le)) e)
   ]
 
-  -- what `file` does
+  -- the index after `file`
   pub file_keeps : (cells : List (Option ℕ)) (slots after : List (Slot J)) (slot request : ℕ) → 0 < length cells → number_at slots slot ≡ Some request → KeepsIndex (without slot (number_at slots)) cells slots → LeadsInCell slots slot (get_or cells (request % length cells) None) after → KeepsIndex (number_at after) (set cells (request % length cells) (Some slot)) after
   file_keeps cells slots after slot request some held k leads =
       let first : Option ℕ = get_or cells (request % length cells) None in

@@ -1,4 +1,4 @@
--- What putting an item in, and taking one out, does to the index.
+-- The index after an item is put in, and after one is taken out.
 use Rattle.std.proofs.Common.{◌≡◌, ℕ, ◌≤◌, List, ◌∷◌, ◌++◌, Option, Some, None, IsSome, length, get_or, set, option_map, arith, sym, ap, ◌∙◌, subst, inl, inr}
 use Rattle.std.proofs.lemmas.Bool.{cases_eq}
 use Rattle.waiting_lists.specs.declared.item.Item.{Item}

@@ -38,7 +38,7 @@ module _ {J : Type 0} where
   list_and_rest slots ends free k u lt =
       omega (arith, get_or-le-sum_by (λ (l : List (Item J)). length l) (lists_of slots ends) u [] (omega (arith, lists_length slots ends)), length_list slots ends free k u [] lt, k.total)
 
-  -- what a move of slots between a tenant's list and the free ones is
+  -- a move of slots between a tenant's list and the free slots
   pub record IsMove (slots after : List (Slot J)) (ends now : List (Option Ends)) (free link : Option ℕ) (k : Keeps slots ends free) (t : ℕ) : Type 0 where
     pub owner : ℕ → ℕ
     pub list : List ℕ

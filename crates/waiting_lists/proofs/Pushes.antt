@@ -64,7 +64,7 @@ module _ {J : Type 0} where
       list_apart i h e = omega (arith, lt, list_owner i h, ap k.owner e, slot_owner)
 
       module _ (item : Item J) where
-        -- what `append` has done
+        -- the slots after `append`
         pub record HasPushed (after : List (Slot J)) (new : Ends) : Type 0 where
           pub size : length after ≡ length slots
           pub same : (i : ℕ) → i ≢ slot → k.owner i ≢ t → slot_at after i ≡ slot_at slots i
@@ -216,7 +216,7 @@ module _ {J : Type 0} where
             last = last;
           }
 
-        -- what `append` reads and writes
+        -- the links that `append` reads and writes
         module _ (read : Option ℕ) (read_is : read ≡ before) where
           pub read_bound : IfSome read (λ l. l < length (set slots slot (record { item = Some item; tenant = t; before = read; next = None; next_in_cell = None })))
           read_bound = subst (λ o. IfSome o (λ l. l < length (set slots slot (record { item = Some item; tenant = t; before = o; next = None; next_in_cell = None })))) (sym read_is) before_bound

@@ -1,4 +1,4 @@
--- What is left of a cell's chain to look through.
+-- The rest of a cell's chain in a search.
 use Rattle.std.proofs.Common.{◌≡◌, ◌≢◌, ℕ, ◌<◌, ◌%◌, List, [], ◌∷◌, Option, Some, None, true, false, eqb, length, get_or, refl, sym, ap, ◌∙◌, subst, inl, inr}
 use Rattle.std.specs.Option.{option_eq}
 use Rattle.std.proofs.Math.Nat.{mod-lt}
@@ -9,7 +9,7 @@ use Rattle.waiting_lists.specs.Cells.{number_at, AreOfCell, KeepsIndex, IsChainF
 use Rattle.waiting_lists.proofs.Chains.{some_is, none_not_some, linked_one}
 use Rattle.waiting_lists.proofs.Walks.{walk, nearer}
 
--- what a test of two numbers says, where there may be one
+-- a test of a number that may be there against another
 pub same_some : (o : Option ℕ) (x : ℕ) → true ≡ option_eq eqb o (Some x) → o ≡ Some x
 same_some None x e = absurd (false≢true (sym e))
 same_some (Some y) x e = ap Some (eqb-true y x (sym e))
@@ -71,7 +71,7 @@ module _ {J : Type 0} where
   pub left_none : (slots : List (Slot J)) (request : ℕ) → IsLeft slots request None → (i : ℕ) → number_at slots i ≢ Some request
   left_none slots request l i e = none_stands slots l.rest l.chained i (l.all i e)
 
-  -- each slot of a cell that leads to this one is behind here, and what is behind here is of the cell
+  -- each slot of a cell that leads to this slot is behind here, and each slot behind here is of the cell
   pub record IsLeftOf (slots : List (Slot J)) (first : Option ℕ) (slot : ℕ) (at : Option ℕ) : Type 0 where
     pub rest : List ℕ
     pub chained : AreOfCell slots at rest
@@ -93,7 +93,7 @@ module _ {J : Type 0} where
     pub left_of_bound : here < length slots
     left_of_bound = found_of.2
 
-    -- it stands in the chain
+    -- it is in the chain
     pub left_of_found : cell_links slots here ≡ Some slot → IsBeforeIn slots first here slot
     left_of_found e chain p = (l.within chain p here (subst (StandsIn here) (sym found_of.1) (inl refl)), e)
 

@@ -1,4 +1,4 @@
--- What stands in linked slots.
+-- The items in linked slots.
 use Rattle.std.proofs.Common.{◌≡◌, ◌≢◌, ℕ, zero, suc, ◌<◌, ◌≤◌, List, [], ◌∷◌, ◌++◌, Option, Some, None, length, set, IsSome, arith, refl, ap, ◌∙◌, inl, inr}
 use Rattle.std.proofs.lemmas.Bool.{false≢true}
 use Rattle.std.proofs.lemmas.List.{get_or-set_same, get_or-set_other}
@@ -41,7 +41,7 @@ module _ {J : Type 0} where
       let found : (item : Item J) × ((slot_at slots n).item ≡ Some item) = some_item (slot_at slots n).item (full n (inl refl)) in
       ap (λ o. length (put_before o (items_at slots ns))) found.1 ∙ ap suc (length_items_at slots ns (λ i h. full i (inr h)))
 
-  -- what stands along a chain is what stands in its slots
+  -- the items along a chain are the items in its slots
   pub items_from_chain : (slots : List (Slot J)) (fuel : ℕ) (at : Option ℕ) (ns : List ℕ) → length ns ≤ fuel → AreLinked slots at ns → items_from slots fuel at ≡ items_at slots ns
   items_from_chain slots zero at [] h p = refl
   items_from_chain slots zero at (n ∷ ns) h p = absurd (omega arith)

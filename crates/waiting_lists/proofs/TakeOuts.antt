@@ -246,7 +246,7 @@ module _ {J : Type 0} (slots : List (Slot J)) (ends : List (Option Ends)) (free 
   abbrev found : (front : List ℕ) × ((rest : List ℕ) × (k.numbers t ≡ front ++ s ∷ rest))
   found = stands_at s (k.numbers t) stands
 
-  -- what `take_out` reads and writes
+  -- the slots that `take_out` reads and writes
   module _ (read dest : Slot J) (read_is : read ≡ slot_at slots s) (dest_is : dest ≡ place) where
     pub known_read : read.tenant < length ends
     known_read = subst (λ (x : Slot J). x.tenant < length ends) (sym read_is) known

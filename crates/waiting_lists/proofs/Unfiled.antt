@@ -162,7 +162,7 @@ module _ {J : Type 0} (numbers : ℕ → Option ℕ) (cells : List (Option ℕ))
       })
 
 module _ {J : Type 0} (cells : List (Option ℕ)) (slots : List (Slot J)) (slot request : ℕ) (some : 0 < length cells) (held : number_at slots slot ≡ Some request) (k : KeepsIndex (number_at slots) cells slots) (read : Option ℕ) (read_is : read ≡ cell_links slots slot) where
-  -- what `unfile` does
+  -- the index after `unfile`
   module _ (before : ℕ) (found : IsBeforeIn slots (get_or cells (request % length cells) None) before slot) where
     pub bound : before < length slots
     bound = before_bound (number_at slots) cells slots slot request some held k before found

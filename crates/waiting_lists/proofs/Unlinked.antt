@@ -4,7 +4,7 @@ use Rattle.std.proofs.lemmas.Bool.{cond-true, cond-false, eq-eqb, ne_eqb}
 use Rattle.waiting_lists.specs.Linked.{StandsIn, last_behind, AreChained, AreChainedBack}
 use Rattle.waiting_lists.proofs.Chains.{some_is, stands_right, first_once, next_stands, linked_stays}
 
--- a link that passes over a number, to what comes behind it
+-- a link that passes over a number, to the link behind it
 abbrev pub past : ℕ → Option ℕ → Option ℕ → Option ℕ
 past s behind None = None
 past s behind (Some i) = cond (eqb i s) behind (Some i)

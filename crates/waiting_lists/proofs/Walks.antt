@@ -6,7 +6,7 @@ use Rattle.std.proofs.lemmas.Map.Steps.{length-le_from_distinct_below}
 use Rattle.waiting_lists.specs.Linked.{StandsIn, AreChained}
 use Rattle.waiting_lists.proofs.Chains.{some_is, none_not_some, first_once, linked_bound}
 
--- the numbers along at most so many links
+-- the numbers along at most this number of links
 abbrev pub walk : (ℕ → Option ℕ) → ℕ → Option ℕ → List ℕ
 walk next zero at = []
 walk next (suc more) None = []

@@ -3,7 +3,7 @@ use Rattle.std.specs.Prelude.{ℕ, ◌≡◌, ◌≢◌, ◌<◌, ◌%◌, List,
 use Rattle.waiting_lists.specs.declared.links.Slot.{Slot}
 use Rattle.waiting_lists.specs.Linked.{StandsIn, AreChained, slot_at}
 
--- these numbers but for the one at this place
+-- these numbers but for that of this slot
 abbrev pub without : ℕ → (ℕ → Option ℕ) → ℕ → Option ℕ
 without slot numbers i = cond (eqb i slot) None (numbers i)
 
@@ -16,8 +16,8 @@ module _ {J : Type 0} where
   abbrev pub AreOfCell : List (Slot J) → Option ℕ → List ℕ → Type 0
   AreOfCell slots first chain = AreChained (λ i. (slot_at slots i).next_in_cell) (length slots) first chain
 
-  -- Where the slots have these numbers: each with a number stands in the chain of its cell, and every slot of a chain
-  -- has a number of that cell.
+  -- Where the slots have these numbers: each with a number is in the chain of its cell, and every slot of a chain has
+  -- a number of that cell.
   pub record KeepsIndex (numbers : ℕ → Option ℕ) (cells : List (Option ℕ)) (slots : List (Slot J)) : Type 0 where
     pub chains : ℕ → List ℕ
     pub chained : (cell : ℕ) → cell < length cells → AreOfCell slots (slice_index_or cells cell None) (chains cell)

@@ -1,4 +1,4 @@
--- What is always true of the slots, the cells and the ends.
+-- The invariant of the slots, the cells and the ends.
 use Rattle.std.specs.Prelude.{ℕ, ◌≡◌, ◌<◌, ◌≤◌, List, Option, length}
 use Rattle.waiting_lists.specs.declared.links.Slot.{Slot}
 use Rattle.waiting_lists.specs.declared.links.Ends.{Ends}

@@ -34,12 +34,12 @@ abbrev pub AreChained : (ℕ → Option ℕ) → ℕ → Option ℕ → List ℕ
 AreChained next bound at [] = at ≡ None
 AreChained next bound at (i ∷ is) = (at ≡ Some i) × (i < bound) × AreChained next bound (next i) is
 
--- by these links each of these numbers is linked back to the one before it, and the first to this one
+-- by these links each of these numbers is linked back to the number before it, and the first to `at`
 abbrev pub AreChainedBack : (ℕ → Option ℕ) → Option ℕ → List ℕ → Type 0
 AreChainedBack before at [] = Unit {0}
 AreChainedBack before at (i ∷ is) = (before i ≡ at) × AreChainedBack before (Some i) is
 
--- where a slot with these neighbours stands in a list with these ends, these are the ends of the list without it
+-- where a slot with these neighbours is in a list with these ends, these are the ends of the list without it
 abbrev pub AreEndsWithout : Option Ends → Option ℕ → Option ℕ → Option Ends → Type 0
 AreEndsWithout ends before next without =
     (front : List ℕ) (i : ℕ) (rest : List ℕ) → before ≡ last_behind None front → next ≡ first_in rest
@@ -60,7 +60,7 @@ module _ {J : Type 0} where
   put_before None items = items
   put_before (Some item) items = item ∷ items
 
-  -- the items in the slots from this one on, along at most so many links
+  -- the items in the slots from this slot on, along at most this number of links
   abbrev pub items_from : List (Slot J) → ℕ → Option ℕ → List (Item J)
   items_from slots zero at = []
   items_from slots (suc more) None = []
@@ -108,7 +108,7 @@ module _ {J : Type 0} where
   LeadsBack slots slot before slots2 =
       MatchOption slot (slots2 ≡ slots) (λ i. slots2 ≡ slice_set slots i (record (slot_at slots i) { before = before }))
 
-  -- how many items stand in these lists
+  -- how many items are in these lists
   abbrev pub count_of : List (List (Item J)) → ℕ
   count_of lists = sum_by (λ list. length list) lists
 
@@ -123,7 +123,7 @@ module _ {J : Type 0} where
     pub occupied : (i : ℕ) → StandsIn i numbers → IsSome (slot_at slots i).item
     pub last : last_of ends ≡ last_behind None numbers
 
-  -- the slot stands in the list of its tenant, of so many, where these slots are the lists
+  -- the slot is in the list of its tenant, one of `tenants`, where these slots are the lists
   pub record IsListed (slots : List (Slot J)) (tenants : ℕ) (numbers : ℕ → List ℕ) (slot : ℕ) : Type 0 where
     pub known : (slot_at slots slot).tenant < tenants
     pub stands : StandsIn slot (numbers (slot_at slots slot).tenant)
@@ -141,7 +141,7 @@ module _ {J : Type 0} where
     pub short : (tenant : ℕ) → tenant < length ends → length (numbers tenant) ≤ length slots
     pub total : count_of (lists_of slots ends) + length (numbers (length ends)) ≡ length slots
 
-  -- wherever the slot stands in the list of its tenant, its item is off that list, and all other lists are as before
+  -- wherever the slot is in the list of its tenant, its item is off that list, and all other lists are as before
   abbrev pub IsTakenOut : List (Slot J) → List (Option Ends) → ℕ → List (Slot J) → List (Option Ends) → Type 0
   IsTakenOut slots ends slot slots2 ends2 =
       (front rest : List ℕ)

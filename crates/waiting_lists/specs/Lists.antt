@@ -1,4 +1,4 @@
--- What contracts see of lists of waiting items.
+-- The view of lists of waiting items in contracts.
 use Rattle.std.specs.Prelude.{ℕ, ◌≡◌, ◌≢◌, ◌<◌, List, [], ◌∷◌, ◌++◌, All, Any, length, sum_by, slice_index_or, slice_set, refl}
 use Rattle.std.specs.Coded.{Coded, code_by, coded×, coded_ℕ, coded_list}
 use Rattle.waiting_lists.specs.declared.item.Item.{Item}

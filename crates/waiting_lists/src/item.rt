@@ -1,4 +1,4 @@
-//! What waits.
+//! An item of a waiting list.
 
 /// A request that waits.
 #[derive(Debug, PartialEq, Eq, Drop)]
@@ -9,6 +9,6 @@ pub struct Item<J> {
     pub kind: u32,
     /// The cost that was declared for it, in microseconds.
     pub declared: u64,
-    /// What is handed to the worker that takes it.
+    /// The job that the worker gets with it.
     pub job: J,
 }

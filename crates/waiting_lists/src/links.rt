@@ -17,7 +17,7 @@ pub struct Slot<J> {
 }
 
 impl<J> Slot<J> {
-    // One that has no item, and leads to this slot.
+    // A slot that has no item, and leads to this slot.
     fn empty(next: Option<u32>) -> Slot<J>
         ensures { result ≡ record empty_slot { next = next } }
     {
@@ -112,7 +112,7 @@ fn lead_back<J: Drop>(slots: &mut [Slot<J>], slot: Option<u32>, before: Option<u
     }
 }
 
-/// Takes the item out of a slot, wherever that stands in a list, and makes it the first of the free slots.
+/// Takes the item out of a slot, wherever the slot is in a list, and makes the slot the first of the free slots.
 pub fn unlink<J: Drop>(
     slots: &mut [Slot<J>],
     ends: &mut [Option<Ends>],

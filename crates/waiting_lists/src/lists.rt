@@ -14,9 +14,9 @@ use std::marker::Model;
 /// found by the number of its request, has a cell a slot, written at opening.
 #[derive(Drop)]
 pub struct Lists<J> {
-    // those that were needed so far, with memory for all
+    // the slots that were needed so far, with memory for all
     slots: Vec<Slot<J>>,
-    // how many there may be
+    // how many slots there may be
     room: u32,
     // the first slot of each cell of the index
     cells: Vec<Option<u32>>,
@@ -44,7 +44,7 @@ impl<J> Model for Lists<J> {
 }
 
 impl<J: Drop> Lists<J> {
-    /// Empty lists for so many tenants, with room for so many items in all.
+    /// Empty lists, one a tenant, with room for `slots` items in all.
     pub fn open(alloc: Global, tenants: u32, slots: u32) -> Result<Lists<J>, AllocError>
         ensures { IfOk result (λ l. l ≡ record { lists = replicate tenants []; slots = slots }) }
     {
@@ -110,7 +110,7 @@ impl<J: Drop> Lists<J> {
         item
     }
 
-    /// The tenant in whose list an item of this request stands.
+    /// The tenant in whose list an item of this request is.
     pub fn find(&self, request: u32) -> Option<u32>
         ensures some { IfSome result (HasItemOf self.now request) }
         ensures none { IfNone result (HasNone self.now request) }
@@ -119,7 +119,7 @@ impl<J: Drop> Lists<J> {
         Some(self.slots[slot as usize].tenant)
     }
 
-    /// Takes an item of this request out of the list in which it stands, and tells whose list that is.
+    /// Takes an item of this request out of its list. Gives the list's tenant and the item.
     pub fn remove(&mut self, request: u32) -> Option<(u32, Item<J>)>
         ensures removed { IfSome result (λ r. IsRemoved self.old request r.0 r.1 self.new) }
         ensures none { IfNone result (HasNone self.old request) }
@@ -147,14 +147,14 @@ impl<J: Drop> Lists<J> {
     }
 }
 
-/// The ends of so many lists that have no item.
+/// The ends of lists that have no item, one a tenant.
 fn empty_ends(alloc: Global, tenants: u32) -> Result<Vec<Option<Ends>>, AllocError>
     ensures { IfOk result (λ v. v.items ≡ replicate tenants None) }
 {
     vec![in alloc; None; tenants as usize]
 }
 
-/// The cells of an index of so many slots, of which none holds an item; one cell at the least.
+/// The cells of an index of `slots` slots, of which none holds an item; one cell at the least.
 fn empty_cells(alloc: Global, slots: u32) -> Result<Vec<Option<u32>>, AllocError>
     ensures { IfOk result (λ v. v.items ≡ replicate (max slots 1) None) }
 {

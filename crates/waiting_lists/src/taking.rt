@@ -7,7 +7,7 @@ use crate::cells::{number_of, unfile};
 use crate::item::Item;
 use crate::links::{Ends, Slot, unlink};
 
-/// Takes the item out of a slot, wherever that stands in a list.
+/// Takes the item out of a slot, wherever the slot is in a list.
 pub fn take_out<J: Drop>(
     slots: &mut [Slot<J>],
     cells: &mut [Option<u32>],

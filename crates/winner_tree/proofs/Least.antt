@@ -35,7 +35,7 @@ lead_from map l r t other ahead h z p a has =
     let f : ahead.key ≡ a = one_key map l ahead.key a ahead.has has in
     order_goes_on a other z l r t (subst (λ v. Precedes v l other r) f (subst (λ v. Precedes ahead.key l v r) e ahead.before)) p
 
--- what stands under an item stands under one of the two below
+-- the leaves under an item are those under the two items below it
 module _ (map : List (Option Key)) (width item : ℕ) (low : 1 ≤ item) (inner : item < width) where
   left_up : (leaf : ℕ) → Reaches (width + leaf) (2 * item) → Reaches (width + leaf) item
   left_up leaf r = reaches_half (width + leaf) item (2 * item) (omega arith) r
@@ -71,7 +71,7 @@ module _ (map : List (Option Key)) (width item : ℕ) (low : 1 ≤ item) (inner 
     before = λ u other ne has s. elim (by_two u s) [ inl t ↦ h u other ne has t b.key b.has | inr t ↦ b.before u other ne has t ];
   }
 
-  -- what the leader of the other side leads comes after what is ahead of that leader
+  -- a leaf ahead of the leader of a side comes before each leaf of that side
   ahead_of_all : (side l r : ℕ) → LeadsUnder map width side r → IsAhead map l r → (u : ℕ) (other : Key) → HasKey map u other → Reaches (width + u) side → (key : Key) → HasKey map l key → Precedes key l other u
   ahead_of_all side l r b ahead u other has s key found = elim (cases_eq u r) [
     | inl e ↦
@@ -97,7 +97,7 @@ lesser_turned map (Some l) None winner h = h
 lesser_turned map (Some l) (Some r) winner (inl h) = inr h
 lesser_turned map (Some l) (Some r) winner (inr h) = inl h
 
--- two neighbours: the one is the left of the two below their item, and the other the right
+-- of two neighbours one is the left item below their item, and the other the right item
 sides : (child other : ℕ) → AreNeighbours child other → ((child ≡ 2 * (child / 2)) × (other ≡ 2 * (child / 2) + 1)) ⊎ ((child ≡ 2 * (child / 2) + 1) × (other ≡ 2 * (child / 2)))
 sides child other beside = elim (cases_eq child (2 * (child / 2))) [
   | inl even ↦ inl (even, omega (arith, beside.0, beside.1))
@@ -129,7 +129,7 @@ least_is_unique map width item (Some x) (Some y) p q = elim (cases_eq x y) [
   | inr ne ↦ absurd (not_both_come_first p.key q.key x y (p.before y q.key (λ e. ne (sym e)) q.has q.under) (q.before x p.key ne p.has p.under))
 ]
 
--- what a tree keeps, read at an item
+-- the invariant of a tree, read at an item
 module _ (map : List (Option Key)) (width item : ℕ) (low : 1 ≤ item) (inner : item < width) where
   lesser_of : (left right : Option ℕ) → IsLeastUnder map width (2 * item) left → IsLeastUnder map width (2 * item + 1) right → (winner : Option ℕ) × IsLesser map left right winner
   lesser_of None right a b = (right, refl)
@@ -156,7 +156,7 @@ name_of_leaf map width leaf (Some x) lt le h =
     let has : key_of map leaf ≡ Some h.key = subst (λ v. HasKey map v h.key) same h.has in
     rw has (ap Some same)
 
--- what a tree keeps is what its items are promised to be
+-- the items of a tree with its invariant are as they are promised to be
 pub winners_from_keeps : (map : List (Option Key)) (winners : List (Option ℕ)) → Keeps map winners → AreWinners map winners
 winners_from_keeps map winners k = record {
   width = k.width;
@@ -201,7 +201,7 @@ root_first map winners k leaf key e has =
       before = λ u other ne found. subst (λ v. Precedes v leaf other u) same (h.before u other ne found (root_of_leaf k.width u (width_low (length map) k.width k.rounded)));
     }
 
--- what a read at the root gives
+-- the result of a read at the root
 pub root_read : (map : List (Option Key)) (winners : List (Option ℕ)) → Keeps map winners → (name found : Option ℕ) → name ≡ get_or winners 1 name → name ≡ found → name_at winners 1 ≡ found
 root_read map winners k name found e is = sym (get_or_read winners 1 name (omega (arith, k.size, width_low (length map) k.width k.rounded)) e None) ∙ is
 

@@ -43,7 +43,7 @@ pub reaches_rest : (item higher : ℕ) → item ≢ higher → Reaches item high
 reaches_rest item higher ne (zero, e) = absurd (ne e)
 reaches_rest item higher ne (suc levels, e) = (levels, e)
 
--- what reaches an item from below comes by one of the two below it
+-- an item that reaches a higher item from below comes by one of the two items below that item
 pub reaches_by : (item higher : ℕ) → higher < item → Reaches item higher → Reaches item (2 * higher) ⊎ Reaches item (2 * higher + 1)
 reaches_by item higher lt (zero, e) = absurd (omega arith)
 reaches_by item higher lt (suc levels, e) =

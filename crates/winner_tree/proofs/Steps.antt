@@ -48,7 +48,7 @@ module _ (old map : List (Option Key)) (width leaf : ℕ) (agree : (u : ℕ) →
   least_apart_from item None never h = λ v r. agree v (λ e. never (subst (λ x. Reaches (width + x) item) e r)) ∙ h v r
   least_apart_from item (Some u) never h = leads_apart item u never h
 
-  -- An item on the way whose name stands, and is not the leaf. What stands above it was right before, and is right now.
+  -- An item on the way whose name stays, and is not the leaf. The items above it were right before, and are right now.
   module _ (item higher : ℕ) (under : Reaches (width + leaf) item) (up : Reaches item higher) where
     none_stays : IsLeastUnder map width item None → IsLeastUnder old width higher None → IsLeastUnder map width higher None
     none_stays now h v r = elim (cases_eq v leaf) [ inl e ↦ ap (key_of map) e ∙ now leaf under | inr ne ↦ agree v ne ∙ h v r ]

@@ -1,4 +1,4 @@
--- What the items of a tree of winners are.
+-- The items of a tree of winners.
 use Rattle.std.specs.Prelude.{ℕ, zero, suc, ◌≡◌, ◌≢◌, ◌+◌, ◌*◌, ◌/◌, ◌<◌, ◌≤◌, ◌⊎◌, List, Option, Some, None, length, slice_index_or, is_some, if◌then◌else◌}
 use Rattle.std.specs.Int.{IsNextPowerOfTwo}
 use Rattle.winner_tree.specs.declared.key.Key.{Key}
@@ -8,7 +8,7 @@ use Rattle.winner_tree.specs.Order.{key_of, HasKey, Precedes, IsAhead}
 abbrev pub name_at : List (Option ℕ) → ℕ → Option ℕ
 name_at winners item = slice_index_or winners item None
 
--- of the leaves that two items name, the third names the one that comes before the other
+-- of the leaves that two items name, the third names the leaf that comes before the other
 abbrev pub IsLesser : List (Option Key) → Option ℕ → Option ℕ → Option ℕ → Type 0
 IsLesser map None right winner = winner ≡ right
 IsLesser map (Some l) None winner = winner ≡ Some l
@@ -21,7 +21,7 @@ AreNeighbours item other = (item / 2 ≡ other / 2) × (item ≢ other)
 
 -- There are twice as many items as the least power of two that is at least the number of leaves. Its second half are
 -- the leaves in order, with a name exactly where the leaf has a key. Item k of the first half names the lesser of
--- what items 2k and 2k + 1 name, so item 1 is the root. Item 0 is not used.
+-- the leaves that items 2k and 2k + 1 name, so item 1 is the root. Item 0 is not used.
 pub record AreWinners (map : List (Option Key)) (winners : List (Option ℕ)) : Type 0 where
   pub width : ℕ
   pub rounded : IsNextPowerOfTwo (length map) width
@@ -32,12 +32,12 @@ pub record AreWinners (map : List (Option Key)) (winners : List (Option ℕ)) : 
   pub nodes : (k : ℕ) → 1 ≤ k → k < width
       → IsLesser map (name_at winners (2 * k)) (name_at winners (2 * k + 1)) (name_at winners k)
 
--- the item that stands so many levels above another
+-- the item that is this number of levels above another
 abbrev pub above : ℕ → ℕ → ℕ
 above zero item = item
 above (suc levels) item = above levels (item / 2)
 
--- the second item is the first, or stands above it
+-- the second item is the first, or is above it
 abbrev pub Reaches : ℕ → ℕ → Type 0
 Reaches item higher = (levels : ℕ) × (above levels item ≡ higher)
 
@@ -54,7 +54,7 @@ abbrev pub IsLeastUnder : List (Option Key) → ℕ → ℕ → Option ℕ → T
 IsLeastUnder map width item None = (leaf : ℕ) → Reaches (width + leaf) item → key_of map leaf ≡ None
 IsLeastUnder map width item (Some leaf) = LeadsUnder map width item leaf
 
--- what a tree keeps: each item names the first of the leaves under it
+-- the invariant of a tree: each item names the first of the leaves under it
 pub record Keeps (map : List (Option Key)) (winners : List (Option ℕ)) : Type 0 where
   pub width : ℕ
   pub rounded : IsNextPowerOfTwo (length map) width

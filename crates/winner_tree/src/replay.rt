@@ -7,8 +7,8 @@ use crate::key::Key;
 
 /// Gives a leaf a key or takes it away, and plays its matches again.
 ///
-/// The way ends at the root, or where another leaf wins a match that it had won before: what stands above has not
-/// changed then. (It is inlined so that giving a key and taking it away have each what it needs.)
+/// The way ends at the root, or where another leaf wins a match that it had won before: the items above have not
+/// changed then. (It is inlined so that giving a key and taking it away have each the code that it needs.)
 #[inline(always)]
 pub fn set_leaf(keys: &mut [Option<Key>], winners: &mut [Option<u32>], leaf: u32, key: Option<Key>)
     requires known { leaf < length keys.old }
@@ -49,7 +49,7 @@ fn stands(before: Option<u32>, winner: Option<u32>, changed: u32) -> bool
     }
 }
 
-/// Of the leaves that two items name, the one that comes before the other.
+/// Of the leaves that two items name, the leaf that comes before the other.
 #[inline]
 fn lesser(keys: &[Option<Key>], one: Option<u32>, other: Option<u32>) -> Option<u32>
     requires has_key { IfSome one (λ l. IsSome (key_of keys.now l)) }

@@ -10,7 +10,7 @@ use Rattle.sched_state.proofs.refusals.done.Given as given
 use Rattle.sched_state.proofs.refusals.done.Goals as goal
 use Rattle.sched_state.proofs.refusals.done.Goals.{After-row_for}
 
--- the definition refuses what the book refuses
+-- the definition and the book refuse for one cause
 refused_so : (g : given.Over) (c : After-row_for g) → done_refusal c.args.journal.now.config (history c.args.journal.now) c.args.worker c.args.cost ≡ cause_if (use_refusal c.book.result.now c.args.worker c.args.cost)
 refused_so g c =
     let m = c.requires.mirrors in

@@ -30,7 +30,7 @@ index_mut-trees-requires c = omega (arith, in_pool _ _ c.args.worker c.self.view
 pub invariant_of-turn : goal.invariant_of-turn
 invariant_of-turn c = in_pool _ _ c.args.worker c.self.view_is c.requires.worker
 
--- the same in what was read: virtual time, the table and the trees
+-- `Follow` at the virtual time, the table and the trees that were read
 follow_at : (policy : Policy) (workers i : ℕ) (z v : ℤ) (read_table table : Table) (read_trees w : TreesView) → z ≡ v → read_table ≡ table → read_trees ≡ w → Follow (record { policy = policy; workers = workers; worker = i; virtual_time = v }) table w → Follow (record { policy = policy; workers = workers; worker = i; virtual_time = z }) read_table read_trees
 follow_at policy workers i z v read_table table read_trees w e f g h = rw (e, f, g) h
 

@@ -31,7 +31,7 @@ end-requires g c =
     let x = finish_step c.args.journal.now.config (history c.args.journal.now) c.args.self.now.book c.args.self.now.accounts 0 c.args.moment c.args.worker c.args.cost c.args.row m.limits (c.requires.legal 0) m.book_is m.accounts_are c.requires.row.row_is in
     record { config = c.args.journal.now.config; history = history c.args.journal.now; entry = _; limits = m.limits; legal = c.requires.legal 0; comes = x.ends; kept_is = m.times_are }
 
--- what is kept is that of the longer history, but for the keys of the tenant
+-- the tracker is that of the longer history, but for the keys of the tenant
 but : (g : given.Over) (c : After-end g) (who : ℕ) → TracksBut g.J.Job.label_of g.X.Chooser.seen c.args.row.tenant c.args.journal.now.config (one_more who c.args.moment (Done c.args.worker c.args.row.request c.args.cost) (history c.args.journal.now)) (record { lists = c.args.self.now.lists; book = c.record_cost-correction.new.self; accounts = c.charge.new.self; costs = c.learn.new.self; times = c.end.new.self; chooser = c.args.self.now.chooser })
 but g c who =
     let m = c.requires.tracked.mirrors in

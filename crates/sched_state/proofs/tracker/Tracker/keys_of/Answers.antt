@@ -25,7 +25,7 @@ now-estimate-requires-clause-kind g c =
     let m = c.requires.tracks.mirrors in
     omega (arith, kind_known g.J.Job.label_of c.args.config.now c.requires.past c.args.tenant c.args.self.now m c.requires.tracks.tenant_known c.in_ok-item.item.now (sym c.head.ensures ∙ ap option_copied c.in_ok-item.was), m.costs_are.kinds)
 
--- what the estimator answered
+-- the answer of the estimator
 estimated : (g : given.Over) (c : After-now-estimate g) (P : History) → Mirrors g.J.Job.label_of c.args.config.now P c.args.self.now → c.now-estimate.result ≡ estimate_at c.args.config.now P c.args.tenant c.in_ok-item.item.now.kind c.in_ok-item.item.now.declared
 estimated g c P m = c.now-estimate.ensures (completed P) m.costs_are.learned ∙ estimate_is c.args.config.now P c.args.self.now.costs c.args.tenant c.in_ok-item.item.now.kind c.in_ok-item.item.now.declared m.costs_are
 

@@ -23,7 +23,7 @@ pass-requires-clause-later g c = omega (arith, (c.requires.legal 0).1, c.require
 pub pass-requires-clause-in_range : goal.pass-requires-clause-in_range
 pass-requires-clause-in_range g c = (c.requires.legal 0).2
 
--- what is kept is that of the longer history, but for the keys of the tenant
+-- the tracker is that of the longer history, but for the keys of the tenant
 but : (g : given.Over) (c : After-pass g) (who : ℕ) → TracksBut g.J.Job.label_of g.X.Chooser.seen c.args.row.tenant c.args.journal.now.config (one_more who c.args.moment (Report c.args.worker c.args.row.request c.args.used) (history c.args.journal.now)) (record { lists = c.args.self.now.lists; book = c.record_use-change.new.self; accounts = c.charge.new.self; costs = c.args.self.now.costs; times = c.pass.new.self; chooser = c.args.self.now.chooser })
 but g c who =
     let m = c.requires.tracked.mirrors in

@@ -13,7 +13,7 @@ reweigh-requires g c =
     let m = c.requires.tracked.mirrors in
     record { config = c.args.journal.now.config; history = history c.args.journal.now; entry = record { who = 0; moment = c.args.moment; act = Weight c.args.tenant c.args.weight }; limits = m.limits; legal = c.requires.legal 0; comes = record { moment_is = refl; act_is = refl }; kept_is = m.times_are }
 
--- what is kept is that of the longer history, but for the keys of the tenant
+-- the tracker is that of the longer history, but for the keys of the tenant
 but : (g : given.Over) (c : After-reweigh g) (who : ℕ) → TracksBut g.J.Job.label_of g.X.Chooser.seen c.args.tenant c.args.journal.now.config (one_more who c.args.moment (Weight c.args.tenant c.args.weight) (history c.args.journal.now)) (record { lists = c.args.self.now.lists; book = c.args.self.now.book; accounts = c.args.self.now.accounts; costs = c.args.self.now.costs; times = c.reweigh.new.self; chooser = c.args.self.now.chooser })
 but g c who =
     let m = c.requires.tracked.mirrors in

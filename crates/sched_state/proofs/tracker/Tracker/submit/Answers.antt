@@ -34,7 +34,7 @@ push-requires g c = omega (arith, (c.requires.legal 0).3.tenant_known, c.require
 pub unwrap-requires : goal.unwrap-requires
 unwrap-requires g c = room_left g.J.Job.label_of c.args.journal.now.config (history c.args.journal.now) c.args.self.now.lists c.push.result (c.requires.legal 0).3.slot c.requires.tracked.mirrors.lists_are c.push.ensures.full
 
--- what is kept is that of the longer history, but for the keys of the tenant
+-- the tracker is that of the longer history, but for the keys of the tenant
 but : (g : given.Over) (c : After-unwrap g) (who : ℕ) → TracksBut g.J.Job.label_of g.X.Chooser.seen c.args.tenant c.args.journal.now.config (one_more who c.args.moment (submit_act g.J.Job.label_of c.args.tenant c.args.item) (history c.args.journal.now)) (record { lists = c.push.new.self; book = c.args.self.now.book; accounts = c.raise_first.new.accounts; costs = c.args.self.now.costs; times = c.submit.new.self; chooser = c.args.self.now.chooser })
 but g c who =
     let m = c.requires.tracked.mirrors in

@@ -77,12 +77,12 @@ estimated g c =
     let costs = c.requires.tracked.mirrors.costs_are in
     c.now-estimate.ensures (completed (history c.args.journal.now)) costs.learned ∙ estimate_is c.args.journal.now.config (history c.args.journal.now) c.args.self.now.costs c.unwrap-tenant.result c.unwrap-item.result.kind c.unwrap-item.result.declared costs
 
--- the item is what the worker takes
+-- the item is the chosen request
 chosen : (g : given.Over) (c : After-weight-weight g) → Turns g.J.Job.label_of g.X.Chooser.seen c.args.journal.now.config (history c.args.journal.now) c.args.moment c.args.worker c.args.self.now c.requires.tracked c.requires.may.later c.requires.may.in_range c.requires.may.gets.free c.requires.may.gets.pooled c.requires.may.gets.some_waits c.unwrap-tenant.result → IsChosen c.args.journal.now.config (history c.args.journal.now) c.args.moment c.args.worker c.unwrap-item.result.request c.now-estimate.result (record { tenant = c.unwrap-tenant.result; kind = c.unwrap-item.result.kind; declared = c.unwrap-item.result.declared; label = g.J.Job.label_of c.unwrap-item.result.job })
 chosen g c x =
     item_chosen g.J.Job.label_of g.X.Chooser.seen c.args.journal.now.config (history c.args.journal.now) c.args.moment c.args.worker c.args.self.now c.requires.tracked c.requires.may.later c.requires.may.in_range c.requires.may.gets.free c.requires.may.gets.pooled c.requires.may.gets.some_waits c.unwrap-tenant.result c.now-estimate.result c.unwrap-item.result x (sym c.pop.ensures.first ∙ c.unwrap-item.ensures) (estimated g c)
 
--- what its Take begins
+-- the step of the book at its Take
 begun : (g : given.Over) (c : After-weight-weight g) → Turns g.J.Job.label_of g.X.Chooser.seen c.args.journal.now.config (history c.args.journal.now) c.args.moment c.args.worker c.args.self.now c.requires.tracked c.requires.may.later c.requires.may.in_range c.requires.may.gets.free c.requires.may.gets.pooled c.requires.may.gets.some_waits c.unwrap-tenant.result → (who : ℕ) → BeginStep c.args.journal.now.config (history c.args.journal.now) c.args.self.now.book c.args.self.now.accounts who c.args.moment c.args.worker c.unwrap-item.result.request c.unwrap-tenant.result c.unwrap-item.result.kind c.now-estimate.result c.weight-weight.result
 begun g c x who =
     let m = c.requires.tracked.mirrors in
@@ -113,7 +113,7 @@ begin-change-requires-clause-few g c = let at = goal.at.begin-change-requires-cl
 pub tag-start-requires : goal.tag-start-requires
 tag-start-requires g c = omega (arith, (turn g (goal.at.tag-start-requires g c).After-unwrap-tenant).known, c.requires.tracked.mirrors.accounts_are.charges_sized)
 
--- the Take, and what is known of its keys under 2dfq+
+-- the Take, and its keys under 2dfq+
 abbrev took : (g : given.Over) (c : After-tag-start g) (who : ℕ) → Entry
 took g c who = record { who = who; moment = c.args.moment; act = Take c.args.worker c.unwrap-item.result.request c.now-estimate.result }
 
@@ -158,7 +158,7 @@ charge-requires-clause-low g c = let at = goal.at.charge-requires-clause-low g c
 pub charge-requires-clause-high : goal.charge-requires-clause-high
 charge-requires-clause-high g c = let at = goal.at.charge-requires-clause-high g c in (step_charge c.args.journal.now.config (history c.args.journal.now) _ c.args.self.now.accounts c.unwrap-tenant.result _ _ c.begin-change.result (begun g at.After-weight-weight (turn g at.After-unwrap-tenant) 0).step c.begin-change.ensures.change).1
 
--- what is kept is that of the longer history, but for the keys of the tenant
+-- the tracker is that of the longer history, but for the keys of the tenant
 but : (g : given.Over) (c : After-charge g) (who : ℕ) → BeginStep c.args.journal.now.config (history c.args.journal.now) c.args.self.now.book c.args.self.now.accounts who c.args.moment c.args.worker c.unwrap-item.result.request c.unwrap-tenant.result c.unwrap-item.result.kind c.now-estimate.result c.weight-weight.result → TimesAre c.args.journal.now.config (one_more who c.args.moment (Take c.args.worker c.unwrap-item.result.request c.now-estimate.result) (history c.args.journal.now)) c.take.new.self → TracksBut g.J.Job.label_of g.X.Chooser.seen c.unwrap-tenant.result c.args.journal.now.config (one_more who c.args.moment (Take c.args.worker c.unwrap-item.result.request c.now-estimate.result) (history c.args.journal.now)) (record { lists = c.pop.new.self; book = c.begin-change.new.self; accounts = c.charge.new.self; costs = c.args.self.now.costs; times = c.take.new.self; chooser = c.choose.new.self })
 but g c who x times =
     let v = c.now.ensures in

@@ -18,7 +18,7 @@ unwrap-tenant-requires g c =
     let m = c.requires.tracked.mirrors in
     is_found g.J.Job.label_of c.args.journal.now.config (history c.args.journal.now) c.args.self.now.lists c.args.request c.remove.result m.limits m.legal m.lists_are (c.requires.legal 0).3 c.remove.ensures.none
 
--- what was found is off its list
+-- the item that was found is off its list
 off : (g : given.Over) (c : After-unwrap-tenant g) → IsRemoved c.args.self.now.lists c.args.request c.unwrap-tenant.result.0 c.unwrap-tenant.result.1 c.remove.new.self
 off g c = when_some (λ (x : ℕ × Item g.row.J.Denot). IsRemoved c.args.self.now.lists c.args.request x.0 x.1 c.remove.new.self) c.remove.result c.unwrap-tenant.ensures c.remove.ensures.removed
 
@@ -27,7 +27,7 @@ end-requires g c =
     let m = c.requires.tracked.mirrors in
     record { config = c.args.journal.now.config; history = history c.args.journal.now; entry = _; limits = m.limits; legal = c.requires.legal 0; comes = withdraw_ends g.J.Job.label_of g.X.Chooser.seen c.args.journal.now.config (history c.args.journal.now) c.args.self.now c.args.self.now c.requires.tracked 0 c.args.moment _ c.args.request _ _ (off g (goal.at.end-requires g c).After-unwrap-tenant); kept_is = m.times_are }
 
--- what is kept is that of the longer history, but for the keys of the tenant
+-- the tracker is that of the longer history, but for the keys of the tenant
 but : (g : given.Over) (c : After-end g) (who : ℕ) → IsRemoved c.args.self.now.lists c.args.request c.unwrap-tenant.result.0 c.unwrap-tenant.result.1 c.remove.new.self → TracksBut g.J.Job.label_of g.X.Chooser.seen c.unwrap-tenant.result.0 c.args.journal.now.config (one_more who c.args.moment (Withdraw c.args.request) (history c.args.journal.now)) (record { lists = c.remove.new.self; book = c.args.self.now.book; accounts = c.args.self.now.accounts; costs = c.args.self.now.costs; times = c.end.new.self; chooser = c.args.self.now.chooser })
 but g c who x =
     let m = c.requires.tracked.mirrors in

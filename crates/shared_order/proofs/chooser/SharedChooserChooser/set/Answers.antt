@@ -5,7 +5,7 @@ use Rattle.shared_order.proofs.Mirroring.{taken_out, has_room, new_to_heads, tak
 use Rattle.shared_order.proofs.chooser.SharedChooserChooser.set.Goals as goal
 use Rattle.shared_order.proofs.chooser.SharedChooserChooser.set.Goals.{After-take_out}
 
--- what stands when the old head is out
+-- the table and the order when the old head is out
 between : (c : After-take_out) → Mirrors (slice_set c.self.inside.table.items c.args.tenant None) c.take_out.new.order.heads
 between c = taken_out c.self.inside.table.items c.self.inside.order.heads c.take_out.new.order.heads c.args.tenant c.index.result.now c.self.invariant.mirrors (omega (arith, c.requires.tenant, ap (λ (x : ChooserView). x.setting.tenants) c.self.view_is)) c.index.ensures c.take_out.ensures.heads
 
