@@ -46,7 +46,7 @@ taken_weight C (e ∷ P) t r = if is_take_of r e.act then weight_at C P t else t
 unfoldable pub is_taken_of : History → ℕ → ℕ → Bool
 is_taken_of P t r = is_of_tenant t (request_at P r) && is_taken P r
 
--- what r adds to the virtual charge of tenant t: the length of its charge
+-- the part of r in the virtual charge of tenant t: the length of its charge
 abbrev pub charged : Config → History → ℕ → ℕ → ℕ
 charged C P t r = if is_taken_of P t r then length_of (charge P r) (taken_weight C P t r) else 0
 
@@ -67,7 +67,7 @@ pub record Completed : Type 0 where
   pub kind : ℕ
   pub cost : ℕ
 
--- one more completed request, of which this is known
+-- one more completed request, with its Submit and its cost
 abbrev pub with_cost : Option Request → ℕ → List Completed → List Completed
 with_cost None cost older = older
 with_cost (Some q) cost older = record { tenant = q.tenant; kind = q.kind; cost = cost } ∷ older
@@ -96,7 +96,7 @@ abbrev pub recent_mean : ℕ → List ℕ → ℕ
 recent_mean initial [] = initial
 recent_mean initial (c ∷ cs) = max 1 (mean (take 8 (c ∷ cs)))
 
--- a cost that was decayed so many times
+-- a cost after this number of decays
 abbrev pub decayed : ℕ → ℕ → ℕ
 decayed zero c = c
 decayed (suc age) c = decay_of (decayed age c)
@@ -121,7 +121,7 @@ estimate_from Declared initial costs declared = declared
 estimate_from Recent initial costs declared = recent_mean initial costs
 estimate_from Pessimistic initial costs declared = pessimistic_cost initial costs
 
--- what a request of tenant t and kind k is thought to cost at P, of which its submitter declared so much
+-- the estimate at P of a request of tenant t and kind k with this declared cost
 unfoldable pub estimate_at : Config → History → ℕ → ℕ → ℕ → ℕ
 estimate_at C P t k declared = estimate_from C.estimate C.initial (completed_costs (completed P) t k) declared
 

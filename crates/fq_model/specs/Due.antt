@@ -1,4 +1,4 @@
--- What a worker that asks for work would find: a question that changes nothing.
+-- The answer to a take, foreseen: a question that changes nothing.
 use Rattle.std.specs.Prelude.{ℕ, ◌≡◌, ◌==◌, nat_le, Option, Some, None, MatchBool}
 use Rattle.fq_model.specs.declared.config.Config.{Config}
 use Rattle.fq_model.specs.declared.event.Cause.{Cause}
@@ -22,26 +22,26 @@ pub record IsEarly (C : Config) (P : History) (m i request estimate : ℕ) : Typ
   pub asked : Request
   pub chosen : IsChosen C P m i request estimate asked
 
--- what a worker of the pool that runs nothing would find where something waits
+-- the foreseen answer to a worker of the pool that runs nothing, where something waits
 abbrev pub IsDueOfWaiting : Config → History → ℕ → ℕ → Due → Type 0
 IsDueOfWaiting C P m i Eligible = SomeIsEligible (turn_at C P m i) (HasKeys C P m)
 IsDueOfWaiting C P m i (Early request estimate) = IsEarly C P m i request estimate
 IsDueOfWaiting C P m i _ = ⊥
 
--- what a worker of the pool that runs nothing would find: Nothing exactly where nothing waits
+-- the foreseen answer to a worker of the pool that runs nothing: Nothing exactly where nothing waits
 abbrev pub IsDuePooled : Config → History → ℕ → ℕ → Due → Type 0
 IsDuePooled C P m i due = MatchBool (waiting P == 0) (due ≡ Nothing) (IsDueOfWaiting C P m i due)
 
--- what a worker that runs nothing would find: that it is retired, with the number of workers, where its own is not
--- below that
+-- the foreseen answer to a worker that runs nothing: Retired, with the number of workers, where its own is not below
+-- that
 abbrev pub IsDueFree : Config → History → ℕ → ℕ → Due → Type 0
 IsDueFree C P m i due = MatchBool (nat_le (pool_at C P) i) (due ≡ Retired (pool_at C P)) (IsDuePooled C P m i due)
 
--- that it would be refused for the cause, if there is one; if there is none, what `Else` says
+-- Refused for the cause, if there is one; if there is none, `Else` holds
 abbrev pub DueUnless : Option Cause → Due → Type 0 → Type 0
 DueUnless None due Else = Else
 DueUnless (Some c) due Else = due ≡ Refused c
 
--- what worker i would find if it asked at this moment, which stands for the effective one, as for a call
+-- the foreseen answer to a take by worker i at this moment, which is made effective, as that of a call
 abbrev pub IsDue : Config → History → (moment worker : ℕ) → Due → Type 0
 IsDue C P moment i due = DueUnless (take_refusal C P i) due (IsDueFree C P (effective_moment P moment) i due)

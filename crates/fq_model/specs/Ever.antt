@@ -26,7 +26,7 @@ longest_of_all C H = max 1 (max_below (longest_request C H) (length C.weights))
 
 -- The bound, where no request is longer than M.
 
--- what no stagger passes: the part of the last of all workers, of a length of M
+-- a part that no stagger passes: that of the last of all workers, of a length of M
 abbrev pub greatest_part : Config → ℕ → ℕ
 greatest_part C M = part_of M (C.workers - 1) C.workers
 

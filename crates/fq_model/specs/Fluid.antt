@@ -41,9 +41,9 @@ moment_of test (e ∷ P) = if test e.act then Some e.moment else moment_of test 
 abbrev pub submit_moment : History → ℕ → Option ℕ
 submit_moment P r = moment_of (is_submit_of r) P
 
--- ---- what is read of a history
+-- ---- the completed requests and the changes of a history
 
--- one more completed request, of which this is known
+-- one more completed request, with its Submit, the moment of this and its cost
 abbrev pub with_row_of : Option Request → Option ℕ → ℕ → List FluidRow → List FluidRow
 with_row_of (Some q) (Some submit) cost older = older ++ record { tenant = q.tenant; submit = submit; cost = cost } ∷ []
 with_row_of _ _ cost older = older
@@ -53,7 +53,7 @@ abbrev pub with_row : History → Act → List FluidRow → List FluidRow
 with_row P (Done worker request cost) older = with_row_of (request_at P request) (submit_moment P request) cost older
 with_row P _ older = older
 
--- the completed requests in the order of their Dones: whose they are, when they were submitted, and their costs
+-- the completed requests in the order of their Dones: their tenants, the moments of their Submits, and their costs
 abbrev pub fluid_rows_of : History → List FluidRow
 fluid_rows_of [] = []
 fluid_rows_of (e ∷ P) = with_row P e.act (fluid_rows_of P)
@@ -69,12 +69,12 @@ abbrev pub changes_of : History → List Change
 changes_of [] = []
 changes_of (e ∷ P) = with_change e.moment e.act (changes_of P)
 
--- what a change does
+-- the act of a change
 abbrev pub change_act : What → Act
 change_act (changed.Weight tenant weight) = Weight tenant weight
 change_act (changed.Workers count) = Workers count
 
--- a change as an entry, of which nobody asks who made it
+-- a change as an entry, whose caller nothing reads
 abbrev pub change_entry : Change → Entry
 change_entry c = record { who = 0; moment = c.moment; act = change_act c.what }
 
@@ -92,7 +92,7 @@ cost_by m t row = if (row.tenant == t) && nat_le row.submit m then row.cost else
 abbrev pub costs_by : List FluidRow → ℕ → ℕ → ℕ
 costs_by rows m t = sum_by (cost_by m t) rows
 
--- what tenant t still wants at m, where so much of each tenant was served before, and its weight then
+-- the backlog of tenant t at m, with its weight then, where `served` is the service of each tenant up to m
 abbrev pub backlog_at : Config → List FluidRow → History → ℕ → (ℕ → ℕ) → ℕ → Backlog
 backlog_at C rows H m served t = record { units = costs_by rows m t - served t; weight = weight_at C (prefix_at H m) t }
 
@@ -104,11 +104,11 @@ backlogs_at C rows H m served = list_below (backlog_at C rows H m served) (lengt
 abbrev pub slot_level : Config → List FluidRow → History → ℕ → ℕ → (ℕ → ℕ) → Level
 slot_level C rows H Q m served = level (pool_at C (prefix_at H m) * Q) (backlogs_at C rows H m served)
 
--- what that slot gives tenant t
+-- the gift of that slot to tenant t
 abbrev pub slot_gift : Config → List FluidRow → History → ℕ → ℕ → (ℕ → ℕ) → ℕ → ℕ
 slot_gift C rows H Q m served t = gift (slot_level C rows H Q m served) (backlog_at C rows H m served t)
 
--- what tenant t is served in the first k slots of length Q, of these requests, where H says the weights and the workers
+-- the service of tenant t in the first k slots of length Q, of these requests, by the weights and the workers in H
 unfoldable pub fluid : Config → List FluidRow → History → ℕ → ℕ → ℕ → ℕ
 fluid C rows H Q t zero = 0
 fluid C rows H Q t (suc k) = fluid C rows H Q t k + slot_gift C rows H Q (k * Q) (λ u. fluid C rows H Q u k) t
@@ -117,11 +117,11 @@ fluid C rows H Q t (suc k) = fluid C rows H Q t k + slot_gift C rows H Q (k * Q)
 abbrev pub fluid_service : Config → History → ℕ → ℕ → ℕ → ℕ
 fluid_service C H Q t k = fluid C (fluid_rows_of H) H Q t k
 
--- what each tenant is served, by number, up to the end of each of the first slots
+-- the service of each tenant, by number, up to the end of each of the first slots
 abbrev pub fluid_table : Config → List FluidRow → History → ℕ → ℕ → List (List ℕ)
 fluid_table C rows H Q slots = list_below (λ k. list_below (λ t. fluid C rows H Q t (suc k)) (length C.weights)) slots
 
--- the changes of a history say all of it that the fluid service asks beside the requests
+-- beside the requests, the fluid service depends on a history by its changes alone
 abbrev pub ChangesSayAll : Type 0
 ChangesSayAll = (C : Config) (rows : List FluidRow) (H : History) (Q t k : ℕ) → IsInOrder H →
     fluid C rows (history_of_changes (changes_of H)) Q t k ≡ fluid C rows H Q t k

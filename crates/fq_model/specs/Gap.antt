@@ -1,4 +1,4 @@
--- How far the start of one tenant is above that of another while both wait, and what bounds it.
+-- The difference of the starts of two tenants while both wait, and its bound.
 use Rattle.std.specs.Prelude.{ℕ, ◌*◌, ◌==◌, nat_le, Bool, true, false, not, ◌&&◌, if◌then◌else◌, List, [], ◌∷◌, ◌++◌, map, Option, Some, None, is_some, option_map, ℤ, pos, ◌-ℤ◌}
 use Rattle.std.specs.Int.{int_max}
 use Rattle.vt_fixed.specs.Rounding.{length_of}
@@ -15,7 +15,7 @@ use Rattle.fq_model.specs.Keys.{start}
 use Rattle.fq_model.specs.Sums.{least_below}
 use Rattle.fq_model.specs.Time.{last_moment}
 
--- Requests that cost what was declared.
+-- Requests that are as declared.
 
 abbrev pub is_declared : Estimator → Bool
 is_declared Declared = true
@@ -79,12 +79,12 @@ abbrev pub weights_had : Config → History → ℕ → List ℕ
 weights_had C [] t = weight_at C [] t ∷ []
 weights_had C (e ∷ P) t = weight_at C (e ∷ P) t ∷ weights_had C P t
 
--- what the act declares for a request of tenant t, before what was declared earlier
+-- the cost that the act declares for a request of tenant t, before the costs declared earlier
 abbrev pub with_declared : ℕ → Act → List ℕ → List ℕ
 with_declared t (Submit request tenant kind declared label) older = if tenant == t then declared ∷ older else older
 with_declared t _ older = older
 
--- what is declared for the requests of tenant t
+-- the declared costs of the requests of tenant t, the newest first
 abbrev pub all_declared : History → ℕ → List ℕ
 all_declared [] t = []
 all_declared (e ∷ P) t = with_declared t e.act (all_declared P t)
@@ -98,13 +98,13 @@ all_lengths costs (w ∷ ws) = map (λ cost. length_of cost w) costs ++ all_leng
 abbrev pub lengths_had : Config → History → ℕ → List ℕ
 lengths_had C H t = all_lengths (all_declared H t) (weights_had C H t)
 
--- the greatest of these of f and of g
+-- the longest length of the requests of f and of g
 unfoldable pub longest_length : Config → History → ℕ → ℕ → ℕ
 longest_length C H f g = greatest (lengths_had C H f ++ lengths_had C H g)
 
 -- The gap.
 
--- how many of the longest length the bound has
+-- the number of longest lengths in the bound
 abbrev pub lengths_in_bound : Policy → ℕ
 lengths_in_bound TwoDfq = 2
 lengths_in_bound TwoDfqPlus = 2

@@ -1,4 +1,4 @@
--- A history is the list of its entries, the newest first. What is submitted, waits and runs in it.
+-- A history is the list of its entries, the newest first. The requests that are submitted, wait and run in it.
 use Rattle.std.specs.Prelude.{ℕ, suc, ◌^◌, ◌≤◌, ◌≡◌, ◌==◌, max, Bool, true, false, not, ◌&&◌, ◌||◌, if◌then◌else◌, List, [], ◌∷◌, ◌++◌, Option, Some, None, reverse, drop, filter, slice_index}
 use Rattle.fq_model.specs.declared.config.Config.{Config}
 use Rattle.fq_model.specs.declared.event.Act.{Act}
@@ -132,7 +132,7 @@ abbrev pub submits : History → ℕ
 submits [] = 0
 submits (e ∷ P) = with_submit e.act (submits P)
 
--- what the Submit of a request says of it
+-- the tenant, kind, declared cost and label in the Submit of a request
 pub record Request : Type 0 where
   pub tenant : ℕ
   pub kind : ℕ
@@ -144,7 +144,7 @@ request_in r (Submit request tenant kind declared label) older =
     if request == r then Some (record { tenant = tenant; kind = kind; declared = declared; label = label }) else older
 request_in r _ older = older
 
--- what the Submit of r says of it, if it is submitted
+-- the tenant, kind, declared cost and label in the Submit of r, if it is submitted
 abbrev pub request_at : History → ℕ → Option Request
 request_at [] r = None
 request_at (e ∷ P) r = request_in r e.act (request_at P r)
@@ -204,14 +204,14 @@ unfoldable pub pool_at : Config → History → ℕ
 pool_at C [] = C.workers
 pool_at C (e ∷ P) = pool_after e.act (pool_at C P)
 
--- what runs on worker i after one act more
+-- the request that runs on worker i after one act more
 abbrev pub running_after : ℕ → Act → Option ℕ → Option ℕ
 running_after i (Take worker request estimate) older = if worker == i then Some request else older
 running_after i (Done worker request cost) older = if worker == i then None else older
 running_after i _ older = older
 
--- the request of worker i's last Take, or none where a Done by this worker follows it: in a legal history this is what
--- the worker runs (a law ties it to `Runs`)
+-- the request of worker i's last Take, or none where a Done by this worker follows it: in a legal history the request
+-- that the worker runs (a law ties it to `Runs`)
 abbrev pub running_on : History → ℕ → Option ℕ
 running_on [] i = None
 running_on (e ∷ P) i = running_after i e.act (running_on P i)

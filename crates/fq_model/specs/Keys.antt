@@ -17,22 +17,22 @@ abbrev pub start_for : Policy → ℕ → ℕ → ℕ
 start_for Msf2q by_tag by_idle_time = by_idle_time
 start_for _ by_tag by_idle_time = by_tag
 
--- where tenant t starts at m: its tag; under msf2q its virtual charge plus the virtual time that passed while it was
+-- the start of tenant t at m: its tag; under msf2q its virtual charge plus the virtual time that passed while it was
 -- not active
 unfoldable pub start : Config → History → ℕ → ℕ → ℕ
 start C P m t = start_for C.policy (tag C P t) (virtual_charge C P t + virtual_idle_time C P m t)
 
--- what a head is compared by: where its tenant starts, how long it is thought to be, and its number
+-- the keys by which a head is compared: the start of its tenant, the length of its estimate, and its number
 pub record HeadKeys : Type 0 where
   pub start : ℤ
   pub len : ℤ
   pub request : ℕ
 
--- where the head finishes
+-- the finish of the head
 abbrev pub finish : HeadKeys → ℤ
 finish k = k.start +ℤ k.len
 
--- where a choice is made: under which policy, by which worker of how many, and at what virtual time
+-- the turn of a choice: its policy, the number of workers, its worker, and virtual time
 pub record Turn : Type 0 where
   pub policy : Policy
   pub workers : ℕ

@@ -18,8 +18,8 @@ done_moment H r = unwrap_or (moment_of (is_done_of r) H) 0
 abbrev pub measured_cost : History → ℕ → ℕ
 measured_cost H r = unwrap_or (final_cost H r) 0
 
--- the work done by m on what was taken at `taken` and done at `ended`: all of its cost from its end on, none up to its
--- start, and in between as large a part of its cost as of its time has gone by, rounded down
+-- the work done by m on a request that was taken at `taken` and done at `ended`: all of its cost from its Done on, none
+-- up to its Take, and in between as large a part of its cost as of its time has gone by, rounded down
 abbrev pub work_between : ℕ → ℕ → ℕ → ℕ → ℕ
 work_between taken ended cost m =
     if nat_le ended m then cost
@@ -30,7 +30,7 @@ work_between taken ended cost m =
 abbrev pub work_done : History → ℕ → ℕ → ℕ
 work_done H r m = work_between (take_moment H r) (done_moment H r) (measured_cost H r) m
 
--- the same, where r is a request of tenant t
+-- the work done on r by m where r is a request of tenant t, else 0
 abbrev pub work_done_for : History → ℕ → ℕ → ℕ → ℕ
 work_done_for H t m r = if is_of_tenant t (request_at H r) then work_done H r m else 0
 

@@ -1,5 +1,5 @@
--- How far one tenant may be ahead of another, where nobody knows what a request costs before it is done: its start, and
--- what the requests that run may still add to it or take from it.
+-- The lead of one tenant over another, where the cost of a request is not known before it is done: the difference of
+-- their starts, and the doubt about the requests that run.
 use Rattle.std.specs.Prelude.{ℕ, ◌+◌, ◌-◌, ◌*◌, max, min, Bool, not, ◌&&◌, if◌then◌else◌, List, [], ◌∷◌, Option, Some, None, is_some, option_map, ℤ, pos, ◌+ℤ◌, ◌-ℤ◌}
 use Rattle.std.specs.Int.{int_max}
 use Rattle.vt_fixed.specs.Rounding.{length_of}
@@ -38,25 +38,25 @@ may_rise cap C P t = over_running C P t (λ r. cap r - request_length C P t r)
 abbrev pub may_fall : (low : ℕ → ℕ) → Config → History → ℕ → ℕ
 may_fall low C P t = over_running C P t (λ r. request_length C P t r - low r)
 
--- what can still come of what runs, to the gain of f over g
+-- the doubt about the requests that run, to the gain of f over g
 abbrev pub doubt : (cap low : ℕ → ℕ) → Config → History → ℕ → ℕ → ℕ
 doubt cap low C P f g = may_rise cap C P f + may_fall low C P g
 
 -- The lead.
 
--- where tenant t starts
+-- the start of tenant t at the last entry
 abbrev pub start_now : Config → History → ℕ → ℕ
 start_now C P t = start C P (last_moment P) t
 
--- where it starts if each of its requests that run turns out as long as it may
+-- its start if each of its requests that run turns out as long as it may
 abbrev pub most : (cap : ℕ → ℕ) → Config → History → ℕ → ℤ
 most cap C P t = pos (start_now C P t + may_rise cap C P t)
 
--- where it starts if each turns out as short as it may
+-- its start if each turns out as short as it may
 abbrev pub least : (low : ℕ → ℕ) → Config → History → ℕ → ℤ
 least low C P t = pos (start_now C P t) -ℤ pos (may_fall low C P t)
 
--- how far f is ahead of g at most, whatever comes of what runs
+-- how far f is ahead of g at most, however the requests that run turn out
 abbrev pub lead : (cap low : ℕ → ℕ) → Config → History → ℕ → ℕ → ℤ
 lead cap low C P f g = most cap C P f -ℤ least low C P g
 
@@ -70,7 +70,7 @@ abbrev pub length_of_head : Config → History → ℕ → Option ℕ → ℕ
 length_of_head C P t None = 0
 length_of_head C P t (Some r) = length_of_request C P t (request_at P r)
 
--- how long the head of tenant t is thought to be, or 0 where it has none
+-- the length of the head of tenant t by its estimate, or 0 where it has none
 abbrev pub head_length : Config → History → ℕ → ℕ
 head_length C P t = length_of_head C P t (head P t)
 
@@ -103,7 +103,7 @@ shortest_of C [] t r = 0
 shortest_of C (e ∷ P) t r =
     if is_taken_of P t r then min (charged C (e ∷ P) t r) (shortest_of C P t r) else charged C (e ∷ P) t r
 
--- the lead at P, by what became in H of the requests that run at P
+-- the lead at P, by the lengths that the requests that run at P have in H
 abbrev pub measured_lead : Config → History → History → ℕ → ℕ → ℤ
 measured_lead C H P f g = lead (longest_of C H f) (shortest_of C H g) C P f g
 
@@ -115,7 +115,7 @@ first_leads C H (e ∷ P) f g =
     then measured_lead C H (e ∷ P) f g ∷ first_leads C H P f g
     else first_leads C H P f g
 
--- how long the heads of both are thought to be, wherever a request of f is taken while both wait
+-- the lengths of the heads of both by their estimates, wherever a request of f is taken while both wait
 unfoldable pub take_lengths : Config → History → ℕ → ℕ → List ℕ
 take_lengths C [] f g = []
 take_lengths C (e ∷ P) f g =
@@ -123,7 +123,7 @@ take_lengths C (e ∷ P) f g =
     then head_length C P f ∷ head_length C P g ∷ take_lengths C P f g
     else take_lengths C P f g
 
--- what is in doubt just after each such Take, by what became of it in H
+-- the doubt just after each such Take, by the lengths in H
 unfoldable pub take_doubts : Config → History → History → ℕ → ℕ → List ℕ
 take_doubts C H [] f g = []
 take_doubts C H (e ∷ P) f g =
@@ -138,7 +138,7 @@ lead_bound C H f g = greatest_with
     (pos (lengths_in_bound C.policy * greatest (take_lengths C H f g) + greatest (take_doubts C H H f g)))
     (first_leads C H H f g)
 
--- the largest difference of the starts of f and g while both wait, and what bounds it; or none exactly where the two
+-- the largest difference of the starts of f and g while both wait, and its bound; or none exactly where the two
 -- never wait together
 unfoldable pub measured_gap : Config → History → ℕ → ℕ → Option TagGap
 measured_gap C H f g =

@@ -1,15 +1,15 @@
--- The level to which a slot serves what tenants still want.
+-- The level to which a slot serves the backlogs of tenants.
 use Rattle.std.specs.Prelude.{ℕ, ◌+◌, ◌*◌, ◌/◌, ◌<◌, ◌≤◌, ◌≡◌, nat_lt, nat_le, min, Bool, if◌then◌else◌, List, sum_by, count_by, All, unwrap_or, ◌↔◌}
 use Rattle.fq_model.specs.declared.level.Backlog.{Backlog}
 use Rattle.fq_model.specs.declared.level.Level.{Level}
 use Rattle.fq_model.specs.declared.level.Level.TheVariants as levels
 use Rattle.fq_model.specs.Sums.{greatest_below}
 
--- what a backlog is given at level x: x 1024ths of a unit for each weight, rounded down, and at most its units
+-- the gift of a backlog at level x: x 1024ths of a unit for each weight, rounded down, and at most its units
 abbrev pub gift_at : ℕ → Backlog → ℕ
 gift_at x b = min b.units (x * b.weight / 1024)
 
--- what a backlog is given
+-- the gift of a backlog at a level
 abbrev pub gift : Level → Backlog → ℕ
 gift levels.All b = b.units
 gift (levels.At x) b = gift_at x b
@@ -45,12 +45,12 @@ greatest_level cap rows = unwrap_or (greatest_below (gifts_fit cap rows) (1024 *
 unfoldable pub level : ℕ → List Backlog → Level
 level cap rows = if nat_le (total_units rows) cap then levels.All else levels.At (greatest_level cap rows)
 
--- what has a weight of 1 or more has one level, and it is this
+-- where each weight is 1 or more there is one level, and it is `level`
 abbrev pub LevelIsTheOne : Type 0
 LevelIsTheOne = (cap : ℕ) (rows : List Backlog) (l : Level) → All (λ b. 1 ≤ b.weight) rows →
     IsLevel cap rows l ↔ (l ≡ level cap rows)
 
--- how many have something left to be served
+-- the number of backlogs with more than 0 units
 abbrev pub with_backlog : List Backlog → ℕ
 with_backlog rows = count_by (λ b. nat_lt 0 b.units) rows
 

@@ -6,7 +6,7 @@ use Rattle.fq_model.specs.Spelling.{is_name}
 abbrev pub number_among : List (List ℕ) → List ℕ → Option ℕ
 number_among names name = position (bytes_eq name) names
 
--- no more than so many, each of them a name, and no two the same
+-- at most `limit` texts, each of them a name, and no two alike
 pub record AreNames (limit : ℕ) (names : List (List ℕ)) : Type 0 where
   pub few : length names ≤ limit
   pub spelled : All (λ name. IsTrue (is_name name)) names

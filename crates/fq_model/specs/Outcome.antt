@@ -1,4 +1,4 @@
--- The entries of one caller, and what a list of calls comes to.
+-- The entries of one caller, and the outcome of a list of calls.
 use Rattle.std.specs.Prelude.{ℕ, ◌≡◌, ◌==◌, List, [], ◌∷◌, filter}
 use Rattle.fq_model.specs.declared.config.Config.{Config}
 use Rattle.fq_model.specs.declared.event.Call.{Call}

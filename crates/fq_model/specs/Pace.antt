@@ -48,7 +48,7 @@ pace_of_submit C P v s t = record {
   base = λ u. if (t == u) && is_none (head P u) then max (v - virtual_charge C P u) (s.base u) else s.base u;
 }
 
--- lifted: a Take makes virtual time at least what makes its request eligible, and the cap at least its finish. The
+-- lifted: a Take makes virtual time at least the eligible key of its request, and the cap at least its finish. The
 -- request starts at x, has this length, and is taken by worker i of a pool.
 abbrev pub pace_of_take : ℕ → Pace → ℕ → ℕ → ℕ → ℕ → Pace
 pace_of_take v s x len i pool = record {

@@ -10,9 +10,8 @@ count_up_to x samples = count_by (λ y. int_le y x) samples
 abbrev pub count_less : ℤ → List ℤ → ℕ
 count_less x samples = count_by (λ y. int_lt y x) samples
 
--- where the samples stand in order, from the least on, x stands at this place, counted from 1: at least that many
--- samples
--- are at most x, and fewer are less
+-- where the samples are in order, from the least on, x is at this rank, counted from 1: at least `rank` samples are at
+-- most x, and fewer than `rank` are less
 abbrev pub is_at_rank : ℕ → List ℤ → ℤ → Bool
 is_at_rank rank samples x = nat_le rank (count_up_to x samples) && nat_lt (count_less x samples) rank
 

@@ -56,7 +56,7 @@ submits_for (e ∷ P) t = with_submit_for t e.act (submits_for P t)
 abbrev pub samples_of : Config → History → ℕ → ℕ → List ℤ
 samples_of C H Q t = list_below (λ k. lag C H Q t (suc k)) (slots_of H Q)
 
--- what a report with slots of length Q says of tenant t: its weight is the configuration's
+-- the row of tenant t in a report with slots of length Q: its weight is the configuration's
 abbrev pub tenant_lag : Config → History → ℕ → ℕ → TenantLag
 tenant_lag C H Q t = record {
   weight = slice_index C.weights t;
@@ -72,7 +72,7 @@ tenant_lag C H Q t = record {
 
 -- ---- the report
 
--- a report: how long its slots are and how many, what it says of each tenant, by number, the moment of the last entry,
+-- a report: the length and the number of its slots, the row of each tenant, by number, the moment of the last entry,
 -- and the number of entries
 pub record LagReport : Type 0 where
   pub slot : ℕ
@@ -95,7 +95,7 @@ lag_report C H Q = record {
 abbrev pub least_lag : List TenantLag → ℤ
 least_lag rows = least_sample (map (λ row. row.least) rows)
 
--- the greatest
+-- the greatest lag of all tenants, after any slot
 abbrev pub greatest_lag : List TenantLag → ℤ
 greatest_lag rows = greatest_sample (map (λ row. row.greatest) rows)
 

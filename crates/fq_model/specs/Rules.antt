@@ -1,4 +1,4 @@
--- Legal histories, and what each call is answered.
+-- Legal histories, and the answer to each call.
 use Rattle.std.specs.Prelude.{ℕ, ◌+◌, ◌*◌, ◌<◌, ◌≤◌, ◌≡◌, ◌==◌, nat_lt, nat_le, Bool, true, false, not, ◌||◌, if◌then◌else◌, List, [], ◌∷◌, ◌++◌, Option, Some, None, is_some, is_none, unwrap_or, length, MatchBool}
 use Rattle.fq_model.specs.declared.config.Config.{Config}
 use Rattle.fq_model.specs.declared.event.Act.{Act}
@@ -21,7 +21,7 @@ use Rattle.fq_model.specs.Keys.{HeadKeys, IsChoiceAt}
 abbrev pub needed_room : History → ℕ → ℕ
 needed_room P x = length P + 2 * waiting P + running P + x
 
--- the configuration's entries are that many at least
+-- the needed room is at most the configuration's entries
 abbrev pub HasRoom : Config → History → ℕ → Type 0
 HasRoom C P x = needed_room P x ≤ C.entries
 
@@ -29,7 +29,7 @@ HasRoom C P x = needed_room P x ≤ C.entries
 abbrev pub RunsNothing : History → ℕ → Type 0
 RunsNothing P i = (r : ℕ) → ¬ Runs P i r
 
--- worker i takes this request at m: it is the head of the chosen tenant, q was asked of it, and this is its estimate
+-- worker i takes this request at m: it is the head of the chosen tenant, its Submit has q, and this is its estimate
 pub record IsChosen (C : Config) (P : History) (m i request estimate : ℕ) (q : Request) : Type 0 where
   pub tenant : ℕ
   pub keys : HeadKeys
@@ -104,7 +104,7 @@ submit_refusal C P tenant kind declared = first_true
     ∷ (nat_lt C.entries (needed_room P 4), cause.Full C.entries)
     ∷ [])
 
--- why a take is refused, if it is (a worker that the pool has no place for may be free, and is told so by its reply)
+-- why a take is refused, if it is (a worker that the pool has no place for may be free, and its reply is then Retired)
 abbrev pub take_refusal : Config → History → ℕ → Option Cause
 take_refusal C P i = first_true
     ((nat_le C.workers i, cause.Worker i)
@@ -179,14 +179,14 @@ pub record RunsChosen (C : Config) (P : History) (who moment i : ℕ) (reply : R
   pub chosen : IsChosen C P (effective_moment P moment) i request estimate asked
   pub accepted : IsAccepted P who moment (Take i request estimate) (answer.Run request estimate asked.label) reply P2
 
--- what a worker of the pool that runs nothing is answered: Drained or Idle where nothing waits, else the chosen request
+-- the answer to a worker of the pool that runs nothing: Drained or Idle where nothing waits, else the chosen request
 abbrev pub AnswersPooled : Config → History → ℕ → ℕ → ℕ → Reply → History → Type 0
 AnswersPooled C P who moment i reply P2 =
     MatchBool (waiting P == 0)
     (IsAnswered P (if is_closed P then answer.Drained else answer.Idle) reply P2)
     (RunsChosen C P who moment i reply P2)
 
--- what a worker that runs nothing is answered: Retired, with the number of workers, where its own is not below that
+-- the answer to a worker that runs nothing: Retired, with the number of workers, where its own is not below that
 abbrev pub AnswersFree : Config → History → ℕ → ℕ → ℕ → Reply → History → Type 0
 AnswersFree C P who moment i reply P2 =
     MatchBool (nat_le (pool_at C P) i)

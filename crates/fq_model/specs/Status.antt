@@ -1,4 +1,4 @@
--- What is shown of a history while it grows.
+-- The status of a history.
 use Rattle.std.specs.Prelude.{length, pos}
 use Rattle.fq_model.specs.declared.config.Config.{Config}
 use Rattle.fq_model.specs.declared.parts.Status.{Status}

@@ -1,4 +1,4 @@
-//! What a scheduler is opened with.
+//! The configuration of a scheduler.
 ghost use Rattle.std.specs.Prelude.{◌≡◌, ◌<◌, ◌≤◌, length, IfOk, IfErr, IfNone, All, Some, None, slice_index};
 ghost use Rattle.fq_model.specs.Limits.{
   InLimits,
@@ -32,16 +32,16 @@ pub enum Policy {
     Msf2q,
     /// As `Wf2q`, with a start that is staggered by worker (after Mace and others, 2016).
     TwoDfq,
-    /// As `TwoDfq`, with a virtual time that stays near what was served: it is capped at the greatest finish at which
-    /// a request was taken, and a Take whose request was not eligible lifts it to what makes it eligible (after Bennett
-    /// and Zhang, 1996; the rules are this project's own).
+    /// As `TwoDfq`, with a virtual time that stays near the service: it is capped at the greatest finish at which a
+    /// request was taken, and a Take whose request was not eligible lifts it to the request's eligible key (after
+    /// Bennett and Zhang, 1996; the rules are this project's own).
     TwoDfqPlus,
 }
 
-/// What a request is thought to cost before it is done.
+/// How the cost of a request is estimated before it is done.
 #[derive(Clone, Copy, PartialEq, Eq)]
 pub enum Estimator {
-    /// What its submitter named.
+    /// The cost that its submitter declared.
     Declared,
     /// The mean of its tenant's and kind's last eight costs, rounded down and at least 1; the initial value before any.
     Recent,
@@ -109,21 +109,21 @@ pub struct Config {
 /// The first number of a configuration that is out of its limit, in the order of these variants.
 #[derive(Clone, Copy, Debug, PartialEq, Eq)]
 pub enum ConfigFault {
-    /// So many workers; there may be 1 to 64.
+    /// This number of workers; there may be 1 to 64.
     Workers(u32),
-    /// So many tenants; there may be 1 to 4,096.
+    /// This number of tenants; there may be 1 to 4,096.
     Tenants(u64),
     /// The least tenant whose weight is not from 1 to 1,000.
     Weight(u32),
-    /// So many kinds; there may be 1 to 64.
+    /// This number of kinds; there may be 1 to 64.
     Kinds(u32),
-    /// So many tenants times kinds; there may be 65,536.
+    /// This number of pairs of a tenant and a kind; there may be up to 65,536.
     Pairs(u64),
-    /// So many entries; there may be 4 to 4,194,304.
+    /// This number of entries; there may be 4 to 4,194,304.
     Entries(u32),
-    /// So many entries of a long history; there may be 4 to 4,000,000,000.
+    /// This number of entries of a long history; there may be 4 to 4,000,000,000.
     LongEntries(u32),
-    /// So many requests that may wait; there may be 1 to 262,144.
+    /// This number of requests that may wait; there may be 1 to 262,144.
     Requests(u32),
     /// This initial value, in microseconds; it may be 1 to 10^9.
     Initial(u64),
@@ -270,7 +270,7 @@ impl Checked {
         self.config.policy
     }
 
-    /// What a request is thought to cost.
+    /// How the cost of a request is estimated.
     pub fn estimate(&self) -> Estimator
         ensures value { result ≡ self.now.estimate }
         ensures limits { InLimits self.now }

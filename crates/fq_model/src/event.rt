@@ -1,11 +1,11 @@
-//! Entries of a history, calls and replies, and what a worker that asked would find.
+//! Entries of a history, calls and replies, and the foreseen answer to a take.
 
 use crate::limits::{GREATEST_COST, GREATEST_WEIGHT};
 use crate::messages::{numbered, plain, two_numbers};
 use std::error::Error;
 use std::fmt;
 
-/// What an entry says was done. Moments and costs are microseconds.
+/// The act of an entry. Uses and costs are microseconds.
 #[derive(Clone, Copy, PartialEq, Eq)]
 pub enum Act {
     /// A request came. `declared` is the cost that its submitter names, `label` the number of its job.
@@ -41,7 +41,7 @@ pub enum Act {
         tenant: u32,
         weight: u32,
     },
-    /// From here on there are so many workers: those with lower numbers.
+    /// From here on there is this number of workers: those with lower numbers.
     Workers {
         count: u32,
     },
@@ -51,7 +51,7 @@ pub enum Act {
     },
 }
 
-/// One accepted call: who made it, at what moment in microseconds, and what it did.
+/// The record of an accepted call: its caller, its moment in microseconds, and its act.
 #[derive(Clone, Copy, PartialEq, Eq)]
 pub struct Entry {
     pub who: u32,
@@ -143,7 +143,7 @@ impl fmt::Display for Cause {
 
 impl Error for Cause {}
 
-/// What a scheduler is asked. `who` is the caller's number, which is written down and not looked at;
+/// A call to a scheduler. `who` is the caller's number, which is written down and not looked at;
 /// `moment` is the caller's clock in microseconds, and may be any number.
 #[derive(Clone, Copy, PartialEq, Eq)]
 pub enum Call {
@@ -162,14 +162,14 @@ pub enum Call {
         moment: u64,
         worker: u32,
     },
-    /// A worker says what its request has used so far.
+    /// A worker names the use of its request so far.
     Report {
         who: u32,
         moment: u64,
         worker: u32,
         used: u64,
     },
-    /// A worker says what its request cost, now that it has ended.
+    /// A worker names the measured cost of its request, which has ended.
     Done {
         who: u32,
         moment: u64,
@@ -188,7 +188,7 @@ pub enum Call {
         tenant: u32,
         weight: u32,
     },
-    /// There are to be so many workers from now on.
+    /// There is to be this number of workers from now on.
     Workers {
         who: u32,
         moment: u64,
@@ -202,7 +202,7 @@ pub enum Call {
     },
 }
 
-/// What a scheduler answers.
+/// The answer to a call.
 #[derive(Clone, Copy)]
 pub enum Reply {
     /// The submitted request has this number.
@@ -219,7 +219,7 @@ pub enum Reply {
     Idle,
     /// Nothing waits, and nothing more will come.
     Drained,
-    /// There are so many workers now, and this one is not among them; it may ask again.
+    /// There is this number of workers now, and the worker is not among them; it may ask again.
     Retired(u32),
     /// The request is withdrawn; its job has this label.
     Withdrawn {
@@ -229,17 +229,17 @@ pub enum Reply {
     Refused(Cause),
 }
 
-/// What a worker that asked for work would find.
+/// The foreseen answer to a take.
 #[derive(Clone, Copy)]
 pub enum Due {
     /// Nothing waits, whether or not more may come.
     Nothing,
     /// Some head is eligible for the worker.
     Eligible,
-    /// Requests wait, and no head is eligible for the worker: it would get this one before its time, charged this
-    /// estimate.
+    /// Requests wait, and no head is eligible for the worker: it would get this request before its time, charged
+    /// this estimate.
     Early { request: u32, estimate: u64 },
-    /// There are so many workers now, and this one is not among them.
+    /// There is this number of workers now, and the worker is not among them.
     Retired(u32),
     /// It would be refused, for this cause: no worker has its number, or it runs a request.
     Refused(Cause),

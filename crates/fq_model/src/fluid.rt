@@ -1,4 +1,4 @@
-//! What the fluid reference reads of a history.
+//! The completed requests and the changes of a history, which the fluid reference reads.
 
 /// A request that is done. The moment and the cost are microseconds.
 #[derive(Clone, Copy)]
@@ -10,12 +10,12 @@ pub struct FluidRow {
     pub cost: u64,
 }
 
-/// What a change sets.
+/// The weight or the number of workers that a change sets.
 #[derive(Clone, Copy)]
 pub enum What {
     /// From here on the tenant has this weight.
     Weight { tenant: u32, weight: u32 },
-    /// From here on there are so many workers.
+    /// From here on there is this number of workers.
     Workers { count: u32 },
 }
 

@@ -1,8 +1,8 @@
-//! What is submitted.
+//! The job of a request.
 ghost use Rattle.std.specs.Prelude.{◌≡◌, ℕ};
 
-/// What a submitter hands in. The scheduler keeps it unread, and hands it to the worker that takes its
-/// request; its label alone stands in the journal.
+/// The value that a submitter hands in with a request. The scheduler keeps it unread, and hands it to the worker that
+/// takes the request; the journal has its label alone.
 pub trait Job {
     /// The label as contracts see it.
     ghost label_of: { Self → ℕ };

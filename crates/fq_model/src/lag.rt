@@ -1,4 +1,4 @@
-//! What a lag report says of a tenant.
+//! The numbers of a tenant in a lag report.
 
 /// A tenant's line of a lag report. The lags are those after each slot, in microseconds of work: below 0 where the
 /// tenant was served more than its share, above 0 where it was served less.

@@ -1,6 +1,6 @@
-//! How far a slot serves what tenants still want.
+//! How far a slot serves the backlogs of tenants.
 
-/// What a tenant still wants, in microseconds of work, and its weight.
+/// The work that a tenant still wants, in microseconds, and its weight.
 #[derive(Clone, Copy)]
 pub struct Backlog {
     pub units: u64,

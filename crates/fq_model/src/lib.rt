@@ -1,5 +1,5 @@
-//! What a scheduler is opened with, what it is asked and answers, what a report of its history holds, and what all of
-//! these mean.
+//! A scheduler's configuration, entries, calls and replies, the numbers of a report of its history, and the definitions
+//! of all of these.
 #![tactic(auto)]
 
 pub mod config;

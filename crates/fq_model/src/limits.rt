@@ -44,7 +44,7 @@ pub const GREATEST_SLOT: u64 = 1000000000000000;
 /// The most completed requests that a fluid reference reads: more than any history has that is kept whole.
 pub const MOST_FLUID_ROWS: u32 = 2000000;
 
-/// The most that a tenant may still want, in microseconds of work: the greatest cost of that many requests.
+/// The greatest backlog of a tenant, in microseconds of work: the greatest cost times `MOST_FLUID_ROWS`.
 pub const GREATEST_BACKLOG: u64 = 2000000000000000;
 
 /// The most cells of a lag report: its slots times its tenants.

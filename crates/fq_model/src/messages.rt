@@ -1,4 +1,4 @@
-//! What the messages of faults are made of. Each message is one call of these, which is quickly proved.
+//! The parts of the messages of faults. Each message is one call of these, which is quickly proved.
 use std::fmt;
 
 /// A text without numbers.
@@ -31,7 +31,7 @@ pub fn two_numbers<W: fmt::Write>(
     numbered(f, "", second, after)
 }
 
-/// So many of something, of which there may be another number.
+/// A number of things, and the range of the numbers that there may be.
 pub fn out_of_range<W: fmt::Write>(
     f: &mut fmt::Formatter<W>,
     number: u64,

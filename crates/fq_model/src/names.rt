@@ -1,4 +1,4 @@
-//! What is a name.
+//! The spelling of names.
 ghost use Rattle.std.specs.Prelude.{◌≡◌};
 ghost use Rattle.std.specs.List.{list_all};
 ghost use Rattle.fq_model.specs.Spelling.{is_name_byte, is_name};

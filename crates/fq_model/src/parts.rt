@@ -1,4 +1,4 @@
-//! What is shown of a history while it grows.
+//! The status of a history.
 
 /// Numbers of one history.
 #[derive(Clone, Copy)]

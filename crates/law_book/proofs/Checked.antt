@@ -1,4 +1,4 @@
--- What the status of `check` tells.
+-- The status of `check` tells whether a journal is legal.
 use Rattle.std.proofs.Common.{ℕ, ◌≡◌, refl, subst, arith, Option}
 use Rattle.std.specs.Prelude.{◌↔◌}
 use Rattle.fq_model.specs.History.{history_of}

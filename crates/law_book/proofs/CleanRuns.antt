@@ -26,12 +26,12 @@ part_fits room sink text clean short fails part =
     let rose : Rose 0 sink.after.faults = rw (ap (λ (d : Device). d.faults) clean.fresh) at fails in
     never_full room written.0 sink.after.faults text clean.written clean.clean short written.2 rose
 
--- what was read is the input that is told
+-- the bytes that were read are the input of the source
 told_input : (input read : List ℕ) (left : Option (List ℕ)) → GaveAll (Some input) left read → read ≡ input
 told_input input read None gave = absurd gave
 told_input input read (Some ys) gave = gave.0
 
--- so what answers the one answers the other
+-- so an answer to the bytes that were read is an answer to the input of the source
 told_answer : (Told : ℕ → Type 0) (command : Command) (source : Move) (input read : List ℕ) (answer : Answer) → source.before.bytes ≡ Some input → ReadsInput (reads_input command) source read
     → IsAnswer Told command read answer → IsAnswer Told command input answer
 told_answer Told (Plain (Gen seed tenants requests print)) source input read answer told reads x = x
@@ -44,7 +44,7 @@ no_writing Told ask source sink errs status room input run told clean short five
     let answer = told_answer Told cut.0 source input failed.answered.input (Text failed.status failed.text) told failed.answered.read failed.answered.is_answer in
     part_fits room sink failed.text clean (short cut.0 failed.status failed.text cut.1 answer) failed.wrote.0 failed.wrote.1
 
--- the same of a clean sink before and after
+-- over a clean sink, given before and after the run, no run ends with 5
 pub never_writes : (old new : CleanMemory) {Told : ℕ → Type 0} {ask : Option Command} {left : Option (List ℕ)} {left_faults faults : ℕ} {input : List ℕ} {errs : Move} {status : ℕ}
     → old.written ≡ [] → old.faults ≡ 0 → Some new.room ≡ Some old.room → IsClean new.room new.written new.faults
     → IsRun Told ask (record { before = record { bytes = Some input; faults = faults }; after = record { bytes = left; faults = left_faults } })

@@ -22,7 +22,7 @@ ended {A} place d u h = go (is_empty d.kinds) h
     go true h = absurd (cc)
     go false h = (refl, cc)
 
--- what a line added to a document: a tenant or a kind of its head, or something to its body
+-- the part that a line adds to a document: a tenant or a kind of its head, or an item of its body
 data Step {A : Type 0} (d u : Document A) : Type 0 where
   Tenant : (line : Words) → is_empty d.kinds ≡ true → with_tenant d line ≡ Ok u → Step d u
   Kind : (line : Words) → is_empty d.tenants ≡ false → is_empty d.body ≡ true → with_kind d line ≡ Ok u → Step d u
@@ -56,7 +56,7 @@ module _ {A : Type 0} (reader : LineReader A) where
   still_some : (xs : List A) (x : A) → is_empty (xs ++ x ∷ []) ≡ false
   still_some xs x = false_from_ne_true (is_empty (xs ++ x ∷ [])) (λ e. omega (arith, eqb-true (length (xs ++ x ∷ [])) 0 e, length-append xs (x ∷ [])))
 
-  -- where something stands in the body, no line changes the configuration
+  -- where the body has an item, no line changes the configuration
   body_keeps : (lines : List (List ℕ)) (place : ℕ) (d u : Document A) → is_empty d.kinds ≡ false → is_empty d.body ≡ false → with_lines reader place d lines ≡ Ok u → config_of u ≡ config_of d
   body_keeps [] place d u some more h = ap config_of (sym (ended place d u h).1)
   body_keeps (line ∷ lines) place d u some more h =

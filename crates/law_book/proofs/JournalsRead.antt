@@ -138,7 +138,7 @@ tenants_read reader s below u (name ∷ names) (weight ∷ weights) place done w
 
 -- ---- the configuration
 
--- three words after a space, another, and what comes behind them
+-- three words with spaces between them, and the text behind them
 three_words : (a b c more : List ℕ) → (a ++ codes " " ++ b ++ codes " " ++ c) ++ more ≡ a ++ (32 ∷ (b ++ (32 ∷ (c ++ more))))
 three_words a b c more =
     append_assoc (a ++ codes " " ++ b ++ codes " ") c more

@@ -66,7 +66,7 @@ all_fit C before (e ∷ past) limits legal unread (suc k) d there =
 pub entries_fit : LegalEntriesFit
 entries_fit C past limits legal unread = all_fit C [] past limits legal unread
 
--- what is read back is judged
+-- the text of a legal history that is read back is judged legal
 judged : (C : Config) (tenants kinds : List (List ℕ)) (past : List Entry) (text : List ℕ) → IsReadBack C tenants kinds past text → IsLegal C (history_of past) → IsJudgedLegal C past text
 judged C tenants kinds past text back legal =
     let here : IsLegal (config_of (journal_with C tenants kinds past)) (history_of past) = subst (λ (B : Config). IsLegal B (history_of past)) (sym back.config_is) legal in

@@ -1,4 +1,4 @@
--- Each line of a printed journal is read as what was printed.
+-- Each line of a printed journal is read as it was printed.
 use Rattle.std.proofs.Common.{ℕ, suc, inl, inr, ◌*◌, ◌^◌, ◌<◌, ◌≤◌, ◌≡◌, ◌≢◌, ◌==◌, true, false, nat_le, List, [], ◌∷◌, ◌++◌, length, get_or, map, Ok, bytes_eq, refl, arith}
 use Rattle.std.specs.Prelude.{codes}
 use Rattle.std.specs.Fmt.{decimal}

@@ -57,7 +57,7 @@ use Rattle.law_book.specs.Programs.{IsPlainWithinLimits, IsWithinLimits}
 one_past : (past later : List Entry) → history_of past ≡ history_of later → past ≡ later
 one_past past later same = sym (reverse-reverse past) ∙ (ap reverse same ∙ reverse-reverse later)
 
--- what is answered of one history is one answer
+-- one history has one answer
 one_history : (IsOne : History → Type 0) (print : HistoryPrint) (slot : ℕ) (C : Config) (tenants kinds : List (List ℕ)) (a b : Answer) → ((H K : History) → IsOne H → IsOne K → H ≡ K)
     → IsHistoryAnswer IsOne print slot C tenants kinds a → IsHistoryAnswer IsOne print slot C tenants kinds b → a ≡ b
 one_history IsOne print slot C tenants kinds a b one x y =
@@ -67,7 +67,7 @@ one_unless : (many : Bool) (so a b : Answer) (Else : Answer → Type 0) → (Els
 one_unless true so a b Else one x y = x ∙ sym y
 one_unless false so a b Else one x y = one x y
 
--- what is answered of what an input says is one answer, where that is so of all that it may say
+-- an input has one answer at most where its contents, if it has them, have one at most
 one_read : {A F : Type 0} (fault_text : F → List ℕ) (IsOf : A → Answer → Type 0) (read : Result A (ℕ × F)) (a b : Answer) → ((said : A) → read ≡ Ok said → IsOf said a → IsOf said b → a ≡ b)
     → IsReadAnswer fault_text IsOf read a → IsReadAnswer fault_text IsOf read b → a ≡ b
 one_read fault_text IsOf (Ok said) a b one x y = one said refl x y
@@ -93,7 +93,7 @@ one_generated : (print : GenPrint) (T : Trace) (a b : Answer) → IsLawfulTrace 
 one_generated gen.Trace T a b fair x y = x ∙ sym y
 one_generated gen.Summary T a b fair x y = one_simulated_answer default_run_options 0 history.Summary T a b fair x y
 
--- a journal has one verdict, and what explains a request of a legal one has one text
+-- a journal has one verdict, and the explanation of a request of a legal one has one text
 one_explained : (asked : Option ℕ) (journal : Journal) (verdict : Verdict) (text other : List ℕ) → IsVerdict (config_of journal) journal.body verdict
     → IsExplanationIfAny journal (request_explained verdict asked) text → IsExplanationIfAny journal (request_explained verdict asked) other → text ≡ other
 one_explained None journal Legal text other legal x y = x ∙ sym y
@@ -116,7 +116,7 @@ one_lead of over journal a b x y =
     let same = one_verdict (config_of journal) journal.body x.verdict y.verdict x.is_verdict y.is_verdict in
     x.answer_is ∙ (ap (lead_answer of over journal) same ∙ sym y.answer_is)
 
--- what is said of the least moments is one answer, since they are
+-- a trace has one shaped answer, since its least moments are one list
 one_sized : (rate burst : ℕ) (T : Trace) (big : Option ℕ) (a b : Answer) → IsSizedAnswer rate burst T big a → IsSizedAnswer rate burst T big b → a ≡ b
 one_sized rate burst T None a b x y =
     x.answer_is ∙ (ap (λ (ms : List ℕ). moments_answer T ms (too_late ms)) (least_is_one T rate burst x.moments y.moments x.least y.least) ∙ sym y.answer_is)

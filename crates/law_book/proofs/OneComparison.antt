@@ -21,7 +21,7 @@ use Rattle.program_model.specs.Trace.{Trace}
 use Rattle.program_model.specs.TraceText.{IsLawfulTrace}
 use Rattle.trace_runner.proofs.Only.{one_simulated}
 
--- what is so of each item of a list, and of one at a place
+-- a property of the first n items of a list is one of the item at a place below n
 at : {X : Type 0} (P : X → Type 0) (xs : List X) (n k : ℕ) (x : X) → All P (take n xs) → n ≤ length xs → k < n → slice_get xs k ≡ Some x → P x
 at P xs n k x all within below there =
     subst P (get_or-take n xs k x below ∙ get_or_from_slice_get xs k x x there) (all k x (subst (λ m. k < m) (sym (length-take-le n xs within)) below))

@@ -1,4 +1,4 @@
--- The rows of the table of commands, and what follows from their options.
+-- The rows of the table of commands, and the laws that follow from their options.
 use Rattle.std.proofs.Common.{refl, List, [], ◌∷◌}
 use Rattle.std.specs.Prelude.{All}
 use Rattle.std.proofs.lemmas.List.Elements.{All-cons, All-nil}

@@ -63,7 +63,7 @@ use Rattle.law_book.proofs.SomeComparison.{some_comparison}
 use Rattle.law_book.proofs.SomeExplanation.{some_explanation}
 use Rattle.law_book.proofs.SomeVerdict.{some_verdict}
 
--- something is answered so
+-- there is such an answer
 abbrev Answered : (Answer → Type 0) → Type 0
 Answered Is = (answer : Answer) × Is answer
 
@@ -71,13 +71,13 @@ some_unless : (many : Bool) (so : Answer) (Else : Answer → Type 0) → (many �
 some_unless true so Else some = (so, refl)
 some_unless false so Else some = some refl
 
--- of what an input says something is answered, where that is so of all that it may say
+-- an input has an answer where its contents, if it has them, have one
 some_read : {A F : Type 0} (fault_text : F → List ℕ) (IsOf : A → Answer → Type 0) (read : Result A (ℕ × F)) → ((said : A) → read ≡ Ok said → Answered (IsOf said))
     → Answered (IsReadAnswer fault_text IsOf read)
 some_read fault_text IsOf (Ok said) some = some said refl
 some_read fault_text IsOf (Err (line, fault)) some = (fault_answer line (fault_text fault), refl)
 
--- of a history something is answered
+-- a history has an answer
 some_history : (IsOne : History → Type 0) (print : HistoryPrint) (slot : ℕ) (C : Config) (tenants kinds : List (List ℕ)) → (H : History) → IsOne H → Answered (IsHistoryAnswer IsOne print slot C tenants kinds)
 some_history IsOne print slot C tenants kinds H is =
     (history_answer print slot C tenants kinds (reverse H), record { past = reverse H; is_one = subst IsOne (sym (reverse-reverse H)) is; answer_is = refl })
@@ -119,7 +119,7 @@ some_generated seed tenants requests gen.Summary limits =
       few = generated_short seed tenants requests limits.0.0 limits.0.1 limits.1;
     })
 
--- what explains a request, if one is asked about
+-- the explanation of a request, if one is asked about
 some_text : (asked : Option ℕ) (journal : Journal) → InLimits (config_of journal) → (text : List ℕ) × IsExplanationIfAny journal asked text
 some_text None journal limits = ([], refl)
 some_text (Some request) journal limits =
@@ -185,7 +185,7 @@ within_limits : (command : Command) → IsInRange command → IsWithinLimits com
 within_limits (Plain (Gen seed tenants requests print)) limits = limits
 within_limits _ limits = tt
 
--- what may be said is one answer, where something is answered and nothing else
+-- there is just one answer, where `Else` has just one
 one_said : (long : Bool) (so : Answer) (Else : Answer → Type 0) → Answered Else → ((a b : Answer) → Else a → Else b → a ≡ b)
     → (answer : Answer) × IsAnswerUnless long so Else answer × ((other : Answer) → IsAnswerUnless long so Else other → other ≡ answer)
 one_said true so Else some one = (so, refl, λ other is. is)

@@ -27,7 +27,7 @@ holds {X} xs small =
     let text = spelled handle bytes ∣ IsUtf8-from_ascii bytes (zeros (length xs)) ∣₁ (omega (arith, long, small)) in
     (holding (string_vec text) xs (omega (arith, long), omega arith), refl {A = List X})
 
--- what is told of a head
+-- the row of a head
 row_of : (at : Turn) (head : ℕ × HeadKeys) → (row : ExplainRow) × IsRow at head.0 head.1 row
 row_of at head = elim (eligible_or_not at head.1) [
   | inl is ↦ (told true, record { tenant_is = refl; head_is = refl; start_is = refl; finish_is = refl; key_is = refl; eligible_is = (λ t. is, λ e. refl) })

@@ -1,4 +1,4 @@
--- What the text of a journal tells of its history, and what it is read as.
+-- Laws of journals: the text of a journal determines its history, and is read back.
 use Rattle.std.specs.Prelude.{ℕ, ◌^◌, ◌<◌, ◌≡◌, List, length, Ok}
 use Rattle.std.specs.List.{All}
 use Rattle.fq_model.specs.declared.config.Config.{Config}
@@ -86,7 +86,7 @@ StreamedReadBack =
     → InLimits C → HasShortHistory C → AreNamesFor C tenants kinds → AreEntries past
     → IsReadBack C tenants kinds past (streamed_text C tenants kinds past)
 
--- what no rule looks at fits its type: the number of the caller, and the label of a Submit
+-- the numbers that no rule looks at fit their types: the number of the caller, and the label of a Submit
 abbrev pub FitsLabel : Act → Type 0
 FitsLabel (Submit request tenant kind declared label) = label < 2 ^ 64
 FitsLabel _ = Unit {0}
@@ -117,7 +117,7 @@ LegalIsJudgedLegal =
     → InLimits C → HasShortHistory C → AreNamesFor C tenants kinds → All IsUnreadFit past → IsLegal C (history_of past)
     → IsJudgedLegal C past (journal_text C tenants kinds past)
 
--- and so is what was written of it as its entries came
+-- and so is the journal that was written as its entries came
 abbrev pub StreamedIsJudgedLegal : Type 0
 StreamedIsJudgedLegal =
     (C : Config) (tenants kinds : List (List ℕ)) (past : List Entry)

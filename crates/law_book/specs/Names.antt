@@ -1,4 +1,4 @@
--- What follows of numbered names.
+-- The law of numbered names.
 use Rattle.std.specs.Prelude.{ℕ, ◌≡◌, ◌<◌, List, length, slice_index_or, [], Some}
 use Rattle.tenant_table.specs.Names.{AreNames, number_among}
 

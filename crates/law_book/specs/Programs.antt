@@ -21,7 +21,7 @@ use Rattle.program_model.specs.Options.{Value, CommandRow, command_of}
 use Rattle.program_model.specs.Program.{Move, IsRun}
 use Rattle.program_model.specs.Statuses.{MaySay, MustSay}
 
--- what a row means is a command of this row
+-- the commands that a row means are of this row
 abbrev pub IsOwnRow : CommandRow Command → Type 0
 IsOwnRow row = (values : List Value) → row_of (row.means values) ≡ row
 
@@ -29,7 +29,7 @@ IsOwnRow row = (values : List Value) → row_of (row.means values) ≡ row
 abbrev pub AreOwnRows : Type 0
 AreOwnRows = All IsOwnRow built_commands
 
--- what `gen` runs a trace with is what `run` runs one with where its words give no options
+-- `gen` runs a trace with the options that `run` has where its words give none
 abbrev pub GenRunsByDefaults : Type 0
 GenRunsByDefaults = command_of built_commands (codes "run" ∷ []) ≡ Some (Plain (Run default_run_options 0 Both))
 
@@ -70,7 +70,7 @@ SomeAnswer Told =
     (command : Command) (input : List ℕ) → is_live command ≡ false → IsInRange command
     → (answer : Answer) × IsAnswer Told command input answer
 
--- so each input has one status: something of this status may be said of it, and whatever is said of it has this status
+-- so each input has one status: some answer may have this status, and each answer has it
 abbrev pub SomeStatus : (ℕ → Type 0) → Type 0
 SomeStatus Told =
     (command : Command) (input : List ℕ) → is_live command ≡ false → IsInRange command
@@ -89,7 +89,7 @@ pub record IsCleanSink (room : ℕ) (sink : Move) : Type 0 where
   pub told : sink.after.bytes ≡ Some written
   pub clean : IsClean room written sink.after.faults
 
--- what may be written for this input, where a command is asked for, is shorter than this
+-- the texts that may be written for this input, where a command is asked for, are shorter than this
 abbrev pub AreTextsShorter : ℕ → (ℕ → Type 0) → Option Command → List ℕ → Type 0
 AreTextsShorter room Told ask input =
     (command : Command) (status : ℕ) (text : List ℕ)
@@ -101,7 +101,7 @@ NeverFailsReading Told =
     (ask : Option Command) (source sink errs : Move) (status : ℕ)
     → IsRun Told ask source sink errs status → IsCleanSource source → status ≢ 4
 
--- over a fresh clean sink that has more room than a text has bytes it never ends with 5, where the input is told
+-- over a fresh clean sink that has more room than a text has bytes it never ends with 5, where the input is known
 abbrev pub NeverFailsWriting : (ℕ → Type 0) → Type 0
 NeverFailsWriting Told =
     (ask : Option Command) (source sink errs : Move) (status room : ℕ) (input : List ℕ)

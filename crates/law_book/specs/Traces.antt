@@ -1,4 +1,4 @@
--- What a printed trace is read as, and how long the history of a generated one is.
+-- Printed traces are read back, and the history of a generated one is short.
 use Rattle.std.specs.Prelude.{ℕ, ◌≤◌, ◌≡◌, Ok}
 use Rattle.fq_model.specs.declared.limits.TheConstants.{MOST_TENANTS, MOST_ROWS, MOST_ENTRIES}
 use Rattle.program_model.specs.GenCommand.{default_run_options}
@@ -9,7 +9,7 @@ use Rattle.program_model.specs.Trace.{Trace}
 use Rattle.program_model.specs.TraceGrammar.{trace_of}
 use Rattle.program_model.specs.TraceText.{HasKindsInOrder, IsLawfulTrace, trace_text}
 
--- the text of a lawful trace whose kinds stand in their order spells that trace
+-- the text of a lawful trace whose kinds are in their order spells that trace
 abbrev pub ReadsBack : Type 0
 ReadsBack = (t : Trace) → IsLawfulTrace t → HasKindsInOrder t → trace_of (trace_text t) ≡ Ok t
 

@@ -21,7 +21,7 @@ pub fn charge_limit()
     ensures { ChargeLimit }
 {}
 
-/// What each act changes of a tenant's open requests, its virtual charge and its net charge.
+/// The change that each act makes to a tenant's open requests, its virtual charge and its net charge.
 pub fn tenant_steps()
     ensures { TenantSteps }
 {}
@@ -82,7 +82,7 @@ pub fn idle_limit()
     ensures { IdleLimit }
 {}
 
-/// What the tag of a tenant adds to its virtual charge never falls.
+/// The base of a tenant's tag never falls.
 pub fn base_rises()
     ensures { BaseRises }
 {}

@@ -27,7 +27,7 @@ pub fn pool_range()
     ensures { PoolRange }
 {}
 
-/// What runs runs on one of the workers that there were at the opening, be it retired or not.
+/// A running request runs on one of the workers that there were at the opening, be it retired or not.
 pub fn runners_known()
     ensures { RunnersKnown }
 {}
@@ -99,8 +99,8 @@ pub fn refusals_change_nothing()
     ensures { RefusalsChangeNothing }
 {}
 
-/// A legal history always has room for what has to follow: what waits can be taken and ended, what runs can be ended,
-/// and the history can be closed.
+/// A legal history always has room for the entries that have to follow: each waiting request can be taken and ended,
+/// each running request can be ended, and the history can be closed.
 pub fn room_remains()
     ensures { RoomRemains }
 {}

@@ -14,7 +14,7 @@ pub fn journals_read_back()
     ensures { JournalsReadBack }
 {}
 
-/// And so does reading what was written of it as its entries came.
+/// And so does reading the journal that was written as its entries came.
 pub fn streamed_read_back()
     ensures { StreamedReadBack }
 {}
@@ -29,7 +29,7 @@ pub fn legal_is_judged_legal()
     ensures { LegalIsJudgedLegal }
 {}
 
-/// And so is what was written of it as its entries came.
+/// And so is the journal that was written as its entries came.
 pub fn streamed_is_judged_legal()
     ensures { StreamedIsJudgedLegal }
 {}

@@ -11,7 +11,7 @@ pub fn not_both_come_first()
     ensures { NotBothComeFirst }
 {}
 
-/// What comes before a leaf comes before all that it comes before.
+/// A leaf that comes before a second one comes before all that the second one comes before.
 pub fn order_goes_on()
     ensures { OrderGoesOn }
 {}

@@ -1,7 +1,7 @@
 //! Laws of levels.
 ghost use Rattle.fq_model.specs.Level.{LevelIsTheOne};
 
-/// What has a weight of 1 or more has one level.
+/// Backlogs whose weights are 1 or more have one level.
 pub fn level_is_the_one()
     ensures { LevelIsTheOne }
 {}

@@ -1,4 +1,4 @@
-//! The laws: what follows from the definitions, and from what each part promises. The contract of each function is a
+//! The laws: consequences of the definitions, and of the promises of each part. The contract of each function is a
 //! law, and its body is empty, or calls the laws that it stands on.
 #![tactic(auto)]
 

@@ -10,7 +10,7 @@ pub fn own_rows()
     ensures { AreOwnRows }
 {}
 
-/// `gen` runs its trace, for the summary, with what `run` runs one with where no options are given.
+/// `gen` runs its trace, for the summary, with the options that `run` has where none are given.
 pub fn gen_runs_by_defaults()
     ensures { GenRunsByDefaults }
 {}

@@ -2,12 +2,13 @@
 ghost use Rattle.fq_model.specs.Fluid.{ChangesSayAll};
 ghost use Rattle.fluid_reference.specs.Slots.{ServesWhatCame};
 
-/// The changes of a history say all of it that the fluid service asks beside the requests.
+/// Beside the requests, the fluid service depends on a history by its changes alone.
 pub fn changes_say_all()
     ensures { ChangesSayAll }
 {}
 
-/// What is served in the first slots is at most what came by the start of the last of them.
+/// The fluid service of a tenant in the first slots is at most the cost of its requests that came by the start of the
+/// last of these slots.
 pub fn serves_what_came()
     ensures { ServesWhatCame }
 {}

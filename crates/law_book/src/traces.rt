@@ -1,7 +1,7 @@
 //! Laws of traces and their texts, and of generated traces.
 ghost use Rattle.law_book.specs.Traces.{ReadsBack, GeneratedReadsBack, GeneratedIsShort};
 
-/// Reading the text of a lawful trace, whose kinds stand in the order of their first requests, gives the trace.
+/// Reading the text of a lawful trace, whose kinds are in the order of their first requests, gives the trace.
 pub fn reads_back()
     ensures { ReadsBack }
 {}

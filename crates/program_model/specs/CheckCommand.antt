@@ -39,7 +39,7 @@ abbrev pub verdict_status : Verdict → ℕ
 verdict_status Legal = 0
 verdict_status (Bad place reply wanted) = 8
 
--- the request that is explained: the one that is asked about, but none in a journal that isn't legal
+-- the request that is explained, if one is asked about: none in a journal that isn't legal
 abbrev pub request_explained : Verdict → Option ℕ → Option ℕ
 request_explained Legal asked = asked
 request_explained (Bad place reply wanted) asked = None
@@ -55,7 +55,7 @@ abbrev pub IsExplanationIfAny : Journal → Option ℕ → List ℕ → Type 0
 IsExplanationIfAny journal None text = text ≡ []
 IsExplanationIfAny journal (Some request) text = IsExplanation journal request text
 
--- what is answered of a journal: the verdict, with its status, and what explains the request
+-- the answer from a journal: the verdict, with its status, and the explanation of the request
 pub record IsJudged (asked : Option ℕ) (journal : Journal) (answer : Answer) : Type 0 where
   pub verdict : Verdict
   pub is_verdict : IsVerdict (config_of journal) journal.body verdict
@@ -63,6 +63,6 @@ pub record IsJudged (asked : Option ℕ) (journal : Journal) (answer : Answer) :
   pub explains : IsExplanationIfAny journal (request_explained verdict asked) explanation
   pub answer_is : answer ≡ Text (verdict_status verdict) (verdict_text journal.body verdict ++ explanation)
 
--- what is answered of a journal, and of an input that is none its first fault
+-- the answer to a journal; or, where the input is none, its first fault
 abbrev pub IsCheckAnswer : Option ℕ → List ℕ → Answer → Type 0
 IsCheckAnswer asked input answer = IsReadAnswer journal_fault_text (IsJudged asked) (journal_of input) answer

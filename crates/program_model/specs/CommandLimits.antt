@@ -1,4 +1,4 @@
--- The limits of what a command is asked with.
+-- The limits of the numbers that a command is asked with.
 use Rattle.std.specs.Prelude.{◌≤◌}
 use Rattle.fq_model.specs.declared.limits.TheConstants.{MOST_TENANTS, MOST_ROWS, MOST_STATUSES, GREATEST_BURST, GREATEST_RATE, GREATEST_SLOT}
 use Rattle.fq_model.specs.Limits.{IsWithin}

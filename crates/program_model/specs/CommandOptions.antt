@@ -1,4 +1,4 @@
--- What the options of commands are made of, and the options that several commands have.
+-- The parts of the options of commands, and the options that several commands have.
 use Rattle.std.specs.Prelude.{ℕ, List, [], ◌∷◌, map, Option, Some, None, unwrap_or, slice_index_or, codes}
 use Rattle.fq_model.specs.declared.config.Policy.{Policy}
 use Rattle.fq_model.specs.declared.config.Policy.TheVariants.{Wfq, Wf2q, Msf2q, TwoDfq, TwoDfqPlus}
@@ -15,7 +15,7 @@ use Rattle.program_model.specs.Options.{Within, Among, Named, Required, Default,
 abbrev pub policies : List Policy
 policies = Wfq ∷ Wf2q ∷ Msf2q ∷ TwoDfq ∷ TwoDfqPlus ∷ []
 
--- the same for the estimators
+-- the estimators, in the order in which an option lists their words
 abbrev pub estimators : List Estimator
 estimators = Declared ∷ Recent ∷ Pessimistic ∷ []
 
@@ -61,7 +61,7 @@ workers_option = number_option (codes "--workers") 1 MOST_WORKERS (codes "4")
 abbrev pub policy_option : OptionRow
 policy_option = listed_option (codes "--policy") (map policy_word policies) (codes "2dfq")
 
--- what a request is thought to cost
+-- how the cost of a request is estimated
 abbrev pub estimate_option : OptionRow
 estimate_option = listed_option (codes "--estimate") (map estimator_word estimators) (codes "pessimistic")
 

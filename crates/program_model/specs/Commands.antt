@@ -1,4 +1,4 @@
--- The commands that there are: one row each in this table, and what each answers to an input.
+-- The commands that there are: one row each in this table, and the answers of each to an input.
 use Rattle.std.specs.Prelude.{ℕ, Bool, true, false, List, [], ◌∷◌}
 use Rattle.program_model.specs.declared.command.Command.{Command}
 use Rattle.program_model.specs.declared.command.Command.TheVariants.{Plain, Live, Compare}
@@ -58,7 +58,7 @@ row_of (Compare options) = compare_row
 abbrev pub reads_input : Command → Bool
 reads_input command = (row_of command).reads_input
 
--- What a command answers to an input. (One that reads no input has the empty one.)
+-- The answers of a command to an input. (A command that reads no input has the empty one.)
 
 abbrev pub IsPlainAnswer : PlainCommand → List ℕ → Answer → Type 0
 IsPlainAnswer (Script print) input answer = IsScriptAnswer print input answer
@@ -68,12 +68,12 @@ IsPlainAnswer (Check explain) input answer = IsCheckAnswer explain input answer
 IsPlainAnswer (Lead of over) input answer = IsLeadAnswer of over input answer
 IsPlainAnswer (Shape rate burst) input answer = IsShapeAnswer rate burst input answer
 
--- the same of any command, at moments that a clock tells
+-- this is an answer of the command to this input, at moments that a clock gives
 abbrev pub IsAnswer : (ℕ → Type 0) → Command → List ℕ → Answer → Type 0
 IsAnswer Told (Plain command) input answer = IsPlainAnswer command input answer
 IsAnswer Told (Live options) input answer = IsLiveAnswer Told options input answer
 IsAnswer Told (Compare options) input answer = IsCompareAnswer options input answer
 
--- what a clock tells that is not asked
+-- the moments of a clock that is not asked: none
 abbrev pub Untold : ℕ → Type 0
 Untold moment = ⊥

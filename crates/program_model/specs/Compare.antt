@@ -22,7 +22,7 @@ pairs_of policy others = (policy, Declared) ∷ (policy, Recent) ∷ (policy, Pe
 abbrev pub all_pairs : List (Policy × Estimator)
 all_pairs = pairs_of Wfq (pairs_of Wf2q (pairs_of Msf2q (pairs_of TwoDfq [])))
 
--- what a trace is run with under one pair
+-- the options of a run of a trace under one pair
 abbrev pub run_options : CompareOptions → Policy × Estimator → RunOptions
 run_options o pair = record {
   workers = o.workers;
@@ -32,7 +32,7 @@ run_options o pair = record {
   refresh = o.refresh;
 }
 
--- what a pair's report says in its row
+-- the row of a pair, from its report
 abbrev pub row_of_report : Policy × Estimator → LagReport → CompareRow
 row_of_report pair report = record {
   policy = pair.0;

@@ -18,7 +18,7 @@ use Rattle.program_model.specs.Simulated.{needed_entries, run_config, IsSimulate
 use Rattle.program_model.specs.Trace.{Trace}
 use Rattle.program_model.specs.TraceCommand.{IsTraceAnswer}
 
--- what a trace is run with under each pair, and by which slot it is reported
+-- the options for the runs under each pair, and for the slot of their reports
 abbrev pub compare_options : List OptionRow
 compare_options = workers_option ∷ initial_option ∷ refresh_option ∷ slot_option ∷ []
 
@@ -47,14 +47,14 @@ pub record IsShort (T : Trace) (o : CompareOptions) (pair : Policy × Estimator)
   pub simulated : IsSimulated T (run_options o pair) history
   pub few : has_many_cells o.slot (run_config T (run_options o pair)) history ≡ false
 
--- it would have so many, and may not
+-- that report would have this number of cells, and may not
 pub record IsLong (T : Trace) (o : CompareOptions) (cells : ℕ) (pair : Policy × Estimator) : Type 0 where
   pub history : History
   pub simulated : IsSimulated T (run_options o pair) history
   pub many : has_many_cells o.slot (run_config T (run_options o pair)) history ≡ true
   pub cells_are : cells ≡ cells_of (run_config T (run_options o pair)) history o.slot
 
--- the first of all pairs whose report would have too many cells is this, counted from 0, and it would have so many
+-- the first of all pairs whose report would have too many cells is this, counted from 0, and it would have this number
 pub record IsFirstLong (T : Trace) (o : CompareOptions) (row cells : ℕ) : Type 0 where
   pub earlier : All (IsShort T o) (take row all_pairs)
   pub long : IsSomeAnd (slice_get all_pairs row) (IsLong T o cells)
@@ -77,14 +77,13 @@ pub record IsLongAnswer (T : Trace) (o : CompareOptions) (answer : Answer) : Typ
   pub first : IsFirstLong T o row cells
   pub answer_is : answer ≡ cells_answer cells
 
--- what is answered of a trace: one of these, or that its histories, which are of one length, would have too many
--- entries
+-- the answer to a trace: one of these, or that its histories, which are of one length, would have too many entries
 abbrev pub IsComparisonAnswer : CompareOptions → Trace → Answer → Type 0
 IsComparisonAnswer o T answer =
     IsAnswerUnless (has_many_entries (needed_entries T.rows o.refresh))
     (entries_answer (needed_entries T.rows o.refresh))
     (λ a. IsRowsAnswer T o a ⊎ IsLongAnswer T o a) answer
 
--- what is answered of a trace, and of an input that is none its first fault
+-- the answer to a trace; or, where the input is none, its first fault
 abbrev pub IsCompareAnswer : CompareOptions → List ℕ → Answer → Type 0
 IsCompareAnswer o input answer = IsTraceAnswer (IsComparisonAnswer o) input answer

@@ -9,7 +9,7 @@ use Rattle.program_model.specs.Trace.{Trace}
 abbrev pub gain : Trace → ℕ → ℕ → ℕ
 gain T rate t = rate * slice_index T.weights t
 
--- what the rows of tenant t declare together
+-- the sum of the declared costs of the rows of tenant t
 abbrev pub declared_by : ℕ → List TraceRow → ℕ
 declared_by t [] = 0
 declared_by t (row ∷ rows) = (if row.tenant == t then row.declared else 0) + declared_by t rows
@@ -34,7 +34,7 @@ pub record IsPair (T : Trace) (moments : List ℕ) (t j k m n : ℕ) : Type 0 wh
   pub in_order : j ≤ k
 
 -- the moments, one a row, conform: none is before its row's, within a tenant they do not fall, and the rows of a tenant
--- from any one to any later one, or that one alone, take no more than a full bucket and what it gains in between
+-- from any row to any later one, or that row alone, take no more than a full bucket and its gain in between
 pub record Conforms (T : Trace) (rate burst : ℕ) (moments : List ℕ) : Type 0 where
   pub one_each : length moments ≡ length T.rows
   pub not_early : (k : ℕ) (row : TraceRow) (m : ℕ) → IsMoved T moments k row m → row.moment ≤ m

@@ -1,4 +1,4 @@
--- How the rows of a trace stand in a history: each is submitted, and a worker serves it from a Take to a Done.
+-- The rows of a trace in a history: each is submitted, and a worker serves it from a Take to a Done.
 use Rattle.std.specs.Prelude.{ℕ, zero, suc, ◌+◌, ◌-◌, ◌*◌, ◌/◌, ◌==◌, max, Bool, false, if◌then◌else◌, List, [], ◌∷◌, length, filter}
 use Rattle.fq_model.specs.declared.config.Config.{Config}
 use Rattle.fq_model.specs.declared.event.Act.{Act}
@@ -32,7 +32,7 @@ abbrev pub sum_over : (TraceRow → ℕ) → List TraceRow → ℕ
 sum_over f [] = 0
 sum_over f (row ∷ rows) = f row + sum_over f rows
 
--- what the scheduler of a trace is opened with, where its history may have so many entries: all rows may wait at once
+-- the configuration of a trace's scheduler whose history may have this number of entries: all rows may wait at once
 abbrev pub trace_config : Trace → RunOptions → ℕ → Config
 trace_config T O entries = record {
   workers = O.workers;
@@ -47,7 +47,7 @@ trace_config T O entries = record {
 
 -- Rows as requests, and their courses.
 
--- what the Submit of row r says: its label is the row's number
+-- the request in the Submit of row r: its label is the row's number
 abbrev pub row_request : ℕ → TraceRow → Request
 row_request r row = record { tenant = row.tenant; kind = row.kind; declared = row.declared; label = r }
 

@@ -1,6 +1,6 @@
--- What scripts and journals share: a first line that names the version, a head that says what scheduler is opened, and
--- a body of lines, each of which says one thing of a type A. A text is such a document, or it has a first fault: a
--- line, counted from 1, and what is wrong with it.
+-- The documents, which are scripts and journals: a first line that names the version, a head with the configuration,
+-- and a body of lines, each of which spells an item of a type A. A text is such a document, or it has a first fault: a
+-- line, counted from 1, and its fault.
 use Rattle.std.specs.Prelude.{ℕ, ◌+◌, ◌*◌, nat_lt, not, ◌&&◌, ◌||◌, if◌then◌else◌, List, [], ◌∷◌, ◌++◌, length, Option, Some, None, Result, Ok, Err, codes, bytes_eq}
 use Rattle.std.specs.List.{list_any}
 use Rattle.fq_model.specs.declared.config.Policy.{Policy}
@@ -15,7 +15,7 @@ use Rattle.fq_model.specs.declared.limits.TheConstants.{MOST_TENANTS, MOST_KINDS
 use Rattle.program_model.specs.Reading.{◌>>=◌, at_line, begins_with, is_empty}
 use Rattle.program_model.specs.Lines.{lines_of, Words, words_of, with_count, ranged_at, name_at, policy_at, estimator_at}
 
--- what the config line says
+-- the contents of the config line
 pub record Settings : Type 0 where
   pub workers : ℕ
   pub policy : Policy
@@ -24,8 +24,8 @@ pub record Settings : Type 0 where
   pub entries : ℕ
   pub requests : ℕ
 
--- the config line, the tenants' names and weights by number, the kinds' names by number, and what the lines below them
--- say, in order
+-- the config line, the tenants' names and weights by number, the kinds' names by number, and the items of the lines
+-- below them, in order
 pub record Document (A : Type 0) : Type 0 where
   pub settings : Settings
   pub tenants : List (List ℕ)
@@ -133,7 +133,7 @@ unfoldable pub config_line : {A : Type 0} → Words → Result (Document A) Scri
 config_line words =
     if begins_with words (codes "config") then (settings_of words >>= λ settings. Ok (opened settings)) else Err Word
 
--- what follows the first line
+-- the document below the first line, or its first fault
 abbrev pub below_header : {A : Type 0} → LineReader A → List (List ℕ) → Result (Document A) (ℕ × ScriptKind)
 below_header reader [] = Err (2, Missing)
 below_header reader (line ∷ lines) = at_line 2 (config_line (words_of line)) >>= λ d. with_lines reader 3 d lines
@@ -147,7 +147,7 @@ version_of title line =
     else if bytes_eq line (title ++ codes " 3") then Some Third
     else None
 
--- what follows a first line that names this version, if it names one
+-- the document below a first line that names this version, if it names one, or its first fault
 abbrev pub below_version : {A : Type 0} → (Version → LineReader A) → Option Version → List (List ℕ)
     → Result (Document A) (ℕ × ScriptKind)
 below_version reader None lines = Err (1, Header)

@@ -1,4 +1,4 @@
--- Why a worker took a request: the heads among which it was chosen, and what they were compared by.
+-- Why a worker took a request: the heads among which it was chosen, and the keys by which they were compared.
 use Rattle.std.specs.Prelude.{ℕ, zero, suc, ◌≡◌, ◌↔◌, IsTrue, false, List, [], ◌∷◌, ◌++◌, length, Option, Some, None, pos}
 use Rattle.fq_model.specs.declared.config.Config.{Config}
 use Rattle.fq_model.specs.declared.event.Act.TheVariants.{Take}
@@ -9,7 +9,7 @@ use Rattle.fq_model.specs.Keys.{HeadKeys, Turn, finish, eligible_key, IsEligible
 use Rattle.program_model.specs.declared.explained.Explained.{Explained}
 use Rattle.program_model.specs.declared.explained.ExplainRow.{ExplainRow}
 
--- what is told of the head of a tenant, which has the keys k, at a worker's turn
+-- the row of the head of a tenant, which has the keys k, at a worker's turn
 pub record IsRow (at : Turn) (tenant : ℕ) (k : HeadKeys) (row : ExplainRow) : Type 0 where
   pub tenant_is : row.tenant ≡ tenant
   pub head_is : row.head ≡ k.request
@@ -38,9 +38,9 @@ AreRows at [] [] = Unit {0}
 AreRows at (head ∷ heads) (row ∷ rows) = IsRow at head.0 head.1 row × AreRows at heads rows
 AreRows at _ _ = ⊥
 
--- One of these entries, in order of time, is a Take of the request. The explanation tells its worker, its moment, and
--- the virtual time at that moment; and of each head, as it stood after the entries before the Take, what it was
--- compared by at that moment.
+-- One of these entries, in order of time, is a Take of the request. The explanation has its worker, its moment, and
+-- the virtual time at that moment; and of each head, as it stood after the entries before the Take, the keys by which
+-- it was compared at that moment.
 pub record IsExplained (C : Config) (entries : List Entry) (request : ℕ) (x : Explained) : Type 0 where
   pub before : List Entry
   pub after : List Entry
@@ -50,7 +50,7 @@ pub record IsExplained (C : Config) (entries : List Entry) (request : ℕ) (x : 
   pub vtime_is : x.vtime ≡ pos (virtual_time C (history_of before) x.moment)
   pub rows_are : AreRows (turn_at C (history_of before) x.moment x.worker) (heads_at C (history_of before) x.moment) x.rows.items
 
--- what explains a request, if it was taken
+-- the explanation of a request, or none where it was not taken
 abbrev pub Explains : Config → List Entry → ℕ → Option Explained → Type 0
 Explains C entries request None = is_taken (history_of entries) request ≡ false
 Explains C entries request (Some x) = IsExplained C entries request x

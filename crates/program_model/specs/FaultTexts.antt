@@ -1,4 +1,4 @@
--- What is told of the faults of scripts, journals and traces.
+-- The texts of the faults of scripts, journals and traces.
 use Rattle.std.specs.Prelude.{ℕ, List, ◌++◌, codes}
 use Rattle.std.specs.Fmt.{decimal}
 use Rattle.program_model.specs.declared.fault.ScriptKind.{ScriptKind}
@@ -38,6 +38,6 @@ trace_fault_text traces.Backward = codes "moment goes back"
 trace_fault_text traces.TooMany = codes "too many"
 trace_fault_text traces.NoTenants = codes "no tenants"
 
--- what is told of a fault with this text, at this line
+-- the text of a fault with its line
 abbrev pub placed_text : ℕ → List ℕ → List ℕ
 placed_text line text = codes "line " ++ decimal line ++ codes ": " ++ text

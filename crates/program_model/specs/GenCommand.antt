@@ -18,7 +18,7 @@ use Rattle.program_model.specs.RunCommand.{IsSimulatedAnswer}
 use Rattle.program_model.specs.Trace.{Trace}
 use Rattle.program_model.specs.TraceText.{trace_text}
 
--- what may be written, in the order of its words
+-- the possible outputs, in the order of their words
 abbrev pub gen_prints : List GenPrint
 gen_prints = gen.Trace ∷ gen.Summary ∷ []
 
@@ -27,7 +27,7 @@ abbrev pub gen_print_word : GenPrint → List ℕ
 gen_print_word gen.Trace = codes "trace"
 gen_print_word gen.Summary = codes "summary"
 
--- what is generated, and what is printed of it
+-- the options for the seed, the numbers of tenants and requests, and the output
 abbrev pub gen_options : List OptionRow
 gen_options =
     required_option (codes "--seed") 0 18446744073709551615
@@ -49,7 +49,7 @@ gen_row = record {
   reads_input = false;
 }
 
--- what a trace is run with where nothing is asked for
+-- the options of a run where none are given
 abbrev pub default_run_options : RunOptions
 default_run_options = record { workers = 4; policy = TwoDfq; estimate = Pessimistic; initial = 1000; refresh = 10000 }
 

@@ -9,7 +9,7 @@ use Rattle.program_model.specs.Trace.{Trace, last_row_moment, with_row, with_som
 
 -- Random numbers.
 
--- the random numbers of a seed, after so many were drawn
+-- the generator of random numbers of a seed, after this number of draws
 unfoldable pub after_draws : ℕ → ℕ → Lcg
 after_draws seed zero = pcg32_of_seed (pcg32_seed 16 seed)
 after_draws seed (suc k) = (pcg32 (after_draws seed k)).1
@@ -46,7 +46,7 @@ generated_kind i =
     else if i % 4 == 3 then codes "scan"
     else codes "get"
 
--- what is declared for a tenant's requests
+-- the declared cost of a tenant's requests
 abbrev pub generated_declared : ℕ → ℕ
 generated_declared i =
     if i % 4 == 2 then 1000
@@ -70,13 +70,13 @@ with_generated tenants j t a b c = with_row t
     (last_row_moment t.rows + a % 200) (j % 4) (b % tenants)
     (generated_kind (b % tenants)) (generated_declared (b % tenants)) (generated_cost (b % tenants) c)
 
--- the tenants and the first so many requests
+-- the tenants and this number of first requests
 unfoldable pub generated_requests : ℕ → ℕ → ℕ → Trace
 generated_requests seed tenants zero = generated_tenants tenants
 generated_requests seed tenants (suc j) =
     with_generated tenants j (generated_requests seed tenants j)
     (draw seed (3 * j)) (draw seed (3 * j + 1)) (draw seed (3 * j + 2))
 
--- the trace of a seed, with so many tenants and requests
+-- the trace of a seed, with these numbers of tenants and requests
 unfoldable pub generated_trace : ℕ → ℕ → ℕ → Trace
 generated_trace seed tenants requests = with_some_kind (generated_requests seed tenants requests)

@@ -1,4 +1,4 @@
--- What is answered of a history: its journal, its lag report, both, or its summary; or that it would be too large.
+-- The answer from a history: its journal, its lag report, both, or its summary; or that it would be too large.
 use Rattle.std.specs.Prelude.{ℕ, ◌≡◌, nat_le, nat_lt, Bool, true, false, not, ◌&&◌, if◌then◌else◌, List, ◌++◌, codes}
 use Rattle.std.specs.Fmt.{decimal}
 use Rattle.fq_model.specs.declared.config.Config.{Config}
@@ -12,14 +12,14 @@ use Rattle.program_model.specs.Answer.{Answer, Text, Message, message_line}
 use Rattle.program_model.specs.JournalText.{journal_text}
 use Rattle.program_model.specs.ReportText.{report_text, summary_text}
 
--- what is written of a history, of its texts
+-- the output from a history, by its texts
 abbrev pub output_text : HistoryPrint → (journal report summary : List ℕ) → List ℕ
 output_text Journal journal report summary = journal
 output_text Report journal report summary = report
 output_text Both journal report summary = journal ++ report
 output_text Summary journal report summary = summary
 
--- what is written of a history, given in order of time, with the names of its tenants and kinds; the report, and the
+-- the output from a history, given in order of time, with the names of its tenants and kinds; the report, and the
 -- summary of it, are by the slot that is asked for, or by the automatic one where that is 0
 abbrev pub history_output : HistoryPrint → Config → (tenants kinds : List (List ℕ)) → List Entry → ℕ → List ℕ
 history_output print C tenants kinds past slot =
@@ -38,14 +38,14 @@ makes_report _ = true
 abbrev pub has_many_cells : ℕ → Config → History → Bool
 has_many_cells slot C H = nat_le 1 slot && not (are_cells_few C H slot)
 
--- what is said of a report that would have so many cells, and may not
+-- the message for a report that would have this number of cells, and may not
 abbrev pub cells_text : ℕ → List ℕ
 cells_text cells = codes "the report would have " ++ decimal cells ++ codes " cells, more than 4000000"
 
 abbrev pub cells_answer : ℕ → Answer
 cells_answer cells = Message 7 (message_line (cells_text cells))
 
--- what is answered of a history, given in order of time
+-- the answer from a history, given in order of time
 abbrev pub history_answer : HistoryPrint → ℕ → Config → (tenants kinds : List (List ℕ)) → List Entry → Answer
 history_answer print slot C tenants kinds past =
     if makes_report print && has_many_cells slot C (history_of past) then cells_answer (cells_of C (history_of past) slot)
@@ -58,11 +58,11 @@ pub record IsHistoryAnswer (IsOne : History → Type 0) (print : HistoryPrint) (
   pub is_one : IsOne (history_of past)
   pub answer_is : answer ≡ history_answer print slot C tenants kinds past
 
--- so many entries are more than a history may have
+-- this number of entries is more than a history may have
 abbrev pub has_many_entries : ℕ → Bool
 has_many_entries needed = nat_lt MOST_ENTRIES needed
 
--- what is said of a history that would have so many entries, and may not
+-- the message for a history that would have this number of entries, and may not
 abbrev pub entries_text : ℕ → List ℕ
 entries_text needed = codes "the history would have " ++ decimal needed ++ codes " entries, more than 4194304"
 

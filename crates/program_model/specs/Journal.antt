@@ -126,6 +126,6 @@ call_of_act who moment (Weight tenant weight) = calls.Weight who moment tenant w
 call_of_act who moment (Workers count) = calls.Workers who moment count
 call_of_act who moment (Withdraw request) = calls.Withdraw who moment request
 
--- the call whose entry this may be: with its caller, its moment, and what a caller says of such an act
+-- the call whose entry this may be: with its caller, its moment, and the part of its act that a caller names
 abbrev pub call_of : Entry → Call
 call_of e = call_of_act e.who e.moment e.act

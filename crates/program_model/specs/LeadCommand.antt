@@ -1,4 +1,4 @@
--- `lead`: tells how far one tenant of a journal got ahead of another while both waited, and what bounds that.
+-- `lead`: tells how far one tenant of a journal got ahead of another while both waited, and the bound of that.
 use Rattle.std.specs.Prelude.{ℕ, ℤ, ◌≡◌, ◌==◌, true, if◌then◌else◌, List, [], ◌∷◌, ◌++◌, Option, Some, None, codes}
 use Rattle.std.specs.Fmt.{signed_decimal}
 use Rattle.fq_model.specs.declared.config.Config.{Config}
@@ -42,7 +42,7 @@ abbrev pub ever_text : Option ℤ → List ℕ
 ever_text None = []
 ever_text (Some bound) = codes " ever " ++ signed_decimal bound
 
--- the line of what was measured: the largest difference of their starts and its bound, in steps, and the bound that
+-- the line of the measured gap: the largest difference of their starts and its bound, in steps, and the bound that
 -- holds whatever came before; or that the two never waited together
 abbrev pub lead_text : (of over : List ℕ) → Option ℤ → Option TagGap → List ℕ
 lead_text of over ever None = of ++ codes " and " ++ over ++ codes " never waited together\n"
@@ -54,15 +54,15 @@ lead_text of over ever (Some gap) =
 abbrev pub measured_text : (of over : List ℕ) → Config → History → (f g : ℕ) → List ℕ
 measured_text of over C H f g = lead_text of over (measured_ever_bound C H) (measured_gap C H f g)
 
--- what is said of a name that no tenant of the journal has
+-- the message for a name that no tenant of the journal has
 abbrev pub unknown_answer : List ℕ → Answer
 unknown_answer name = Message 7 (message_line (codes "the journal has no tenant " ++ name))
 
--- what is said of one name given for both
+-- the message for one name given for both
 abbrev pub same_answer : List ℕ → Answer
 same_answer name = Message 7 (message_line (codes "--of and --over are both " ++ name))
 
--- what is answered of two tenants of a legal journal, with these names and, where they are tenants of it, these
+-- the answer about two tenants of a legal journal, with these names and, where they are tenants of it, these
 -- numbers: an unknown name comes before one name given for both, and that of `--of` before that of `--over`
 abbrev pub pair_answer : Journal → (of over : List ℕ) → (f g : Option ℕ) → Answer
 pair_answer journal of over None g = unknown_answer of
@@ -71,20 +71,20 @@ pair_answer journal of over (Some f) (Some g) =
     if f == g then same_answer of
     else Text 0 (measured_text of over (config_of journal) (history_of journal.body) f g)
 
--- what is answered of a journal with this verdict: where it isn't legal, the same as by `check`
+-- the answer from a journal with this verdict: where it isn't legal, that of `check`
 abbrev pub lead_answer : (of over : List ℕ) → Journal → Verdict → Answer
 lead_answer of over journal Legal =
     pair_answer journal of over (number_among journal.tenants of) (number_among journal.tenants over)
 lead_answer of over journal (Bad place reply wanted) =
     Text (verdict_status (Bad place reply wanted)) (verdict_text journal.body (Bad place reply wanted))
 
--- what is answered of a journal
+-- the answer from a journal
 pub record IsLeadTold (of over : List ℕ) (journal : Journal) (answer : Answer) : Type 0 where
   pub verdict : Verdict
   pub is_verdict : IsVerdict (config_of journal) journal.body verdict
   pub answer_is : answer ≡ lead_answer of over journal verdict
 
--- what is answered of a journal, and of an input that is none its first fault
+-- the answer to a journal; or, where the input is none, its first fault
 abbrev pub IsLeadAnswer : (of over : List ℕ) → List ℕ → Answer → Type 0
 IsLeadAnswer of over input answer =
     IsReadAnswer journal_fault_text (IsLeadTold of over) (journal_of input) answer

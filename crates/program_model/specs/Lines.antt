@@ -1,4 +1,4 @@
--- Lines of a text, the words of a line, and what single words say.
+-- Lines of a text, the words of a line, and the values of single words.
 use Rattle.std.specs.Prelude.{ℕ, ◌+◌, ◌==◌, nat_lt, ◌||◌, if◌then◌else◌, List, [], ◌∷◌, length, Result, Ok, Err, slice_index_or}
 use Rattle.std.specs.List.{slice_split, onto_first}
 use Rattle.fq_model.specs.declared.config.Policy.{Policy}

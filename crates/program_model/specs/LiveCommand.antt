@@ -17,7 +17,7 @@ use Rattle.program_model.specs.Readings.{AreReadings, status_lines}
 use Rattle.program_model.specs.Trace.{Trace}
 use Rattle.program_model.specs.TraceCommand.{trace_options, run_options_of, history_print_at, IsTraceAnswer}
 
--- those of `run`, and how many times the status is read
+-- the options of `run`, and how many times the status is read
 abbrev pub live_options : List OptionRow
 live_options = trace_options ++ number_option (codes "--watch") 0 MOST_STATUSES (codes "0") ∷ []
 
@@ -45,7 +45,7 @@ pub record PoolMakes (Told : ℕ → Type 0) (T : Trace) (options : RunOptions) 
   pub history : IsPoolHistory T options H
   pub moments : HasToldMoments Told H
 
--- the same answer; where it is a text these lines come before it
+-- the answer, with these lines before it where it is a text
 abbrev pub after_lines : List ℕ → Answer → Answer
 after_lines lines (Text status bytes) = Text status (lines ++ bytes)
 after_lines lines (Message status bytes) = Message status bytes
@@ -63,14 +63,14 @@ pub record IsWatchedAnswer (Told : ℕ → Type 0) (options : LiveOptions) (T : 
       ≡ after_lines (status_lines statuses)
       (history_answer options.print options.slot (pool_config T options.run) T.tenants T.kinds past)
 
--- the same, or that the history would have too many entries
+-- the answer from such a history, or that it would have too many entries
 abbrev pub IsPoolAnswer : (ℕ → Type 0) → LiveOptions → Trace → Answer → Type 0
 IsPoolAnswer Told options T answer =
     IsAnswerUnless (has_many_entries (needed_pool_entries T.rows options.run.refresh))
     (entries_answer (needed_pool_entries T.rows options.run.refresh))
     (IsWatchedAnswer Told options T) answer
 
--- what is answered of a trace, and of an input that is none its first fault. (A trace may have several histories, so
--- several answers.)
+-- the answer to a trace; or, where the input is none, its first fault. (A trace may have several histories, so several
+-- answers.)
 abbrev pub IsLiveAnswer : (ℕ → Type 0) → LiveOptions → List ℕ → Answer → Type 0
 IsLiveAnswer Told options input answer = IsTraceAnswer (IsPoolAnswer Told options) input answer

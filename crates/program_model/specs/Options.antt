@@ -1,4 +1,4 @@
--- Command lines by a table: its commands, their options, and what a list of words is by such a table.
+-- Command lines by a table: its commands, their options, and the command that a list of words spells by such a table.
 use Rattle.std.specs.Prelude.{ℕ, ◌==◌, Bool, false, not, if◌then◌else◌, List, [], ◌∷◌, map, filter, find, position, Option, Some, None, option_map, option_and_then, codes, bytes_eq}
 use Rattle.std.specs.List.{list_any, list_all, before_first, after_first}
 use Rattle.fq_model.specs.Limits.{is_outside}
@@ -8,15 +8,15 @@ use Rattle.program_model.specs.declared.argument.Argument.TheVariants.{Number, N
 use Rattle.program_model.specs.Lines.{Words}
 use Rattle.program_model.specs.Numbers.{number_of}
 
--- what may be written as the value of an option: a number from low to high; one of these words, which stands for its
+-- the possible values of an option, as texts: a number from low to high; one of these words, which stands for its
 -- place among them, counted from 0; or a name. None begins with `-`
 pub data Values : Type 0 where
   Within : (low high : ℕ) → Values
   Among : (words : Words) → Values
   Named : Values
 
--- what it means that an option is not given: that the words are no command line, that the option has no value, or the
--- same as this text
+-- the meaning of an option that is not given: that the words are no command line, that the option has no value, or
+-- the value that this text spells
 pub data Absent : Type 0 where
   Required : Absent
   Nothing : Absent
@@ -28,11 +28,11 @@ pub record OptionRow : Type 0 where
   pub values : Values
   pub absent : Absent
 
--- what an option is given, if it is given anything
+-- the value that is given to an option, if one is given
 abbrev pub Value : Type 0
 Value = Option Argument
 
--- a command: its word, its options, what it means by the values of these, in this order, and whether it reads an input
+-- a command: its word, its options, its meaning by the values of these, in this order, and whether it reads an input
 pub record CommandRow (C : Type 0) : Type 0 where
   pub word : List ℕ
   pub options : List OptionRow
@@ -74,7 +74,7 @@ are_known rows given = list_all (λ g. list_any (λ row. bytes_eq row.name g.nam
 abbrev pub texts_for : List ℕ → List Given → List (List ℕ)
 texts_for name given = map (λ g. g.text) (filter (λ g. bytes_eq g.name name) given)
 
--- What options mean.
+-- The meaning of options.
 
 -- a text that may be a value: it is not empty, and does not begin with `-`
 abbrev pub is_value : List ℕ → Bool
@@ -85,13 +85,13 @@ is_value (b ∷ bs) = not (b == 45)
 abbrev pub within : ℕ → ℕ → ℕ → Option ℕ
 within low high n = if is_outside low high n then None else Some n
 
--- what a text stands for, if it is one of the values
+-- the value that a text spells, if it is one of the values
 abbrev pub argument_among : Values → List ℕ → Option Argument
 argument_among (Within low high) text = option_map (λ n. Number n) (option_and_then (within low high) (number_of text))
 argument_among (Among words) text = option_map (λ n. Number n) (position (λ w. bytes_eq w text) words)
 argument_among Named text = if is_name text then Some (Name text) else None
 
--- the same, where the text may be a value at all
+-- the value that a text spells, where the text may be a value at all
 unfoldable pub argument_for : Values → List ℕ → Option Argument
 argument_for values text = if is_value text then argument_among values text else None
 
@@ -107,7 +107,7 @@ value_of row [] = absent_value row.values row.absent
 value_of row (text ∷ []) = option_map (λ a. Some a) (argument_for row.values text)
 value_of row _ = None
 
--- the values of the options, in order, where each has what it needs
+-- the values of the options, in order, if each is given as its row asks
 abbrev pub values_of : List OptionRow → List Given → Option (List Value)
 values_of [] given = Some []
 values_of (row ∷ rows) given =
@@ -120,7 +120,7 @@ values_in rows words =
 
 -- The whole line.
 
--- what the words after a command's own make of it
+-- the command of a row, by the words after its own
 abbrev pub command_by : {C : Type 0} → Words → CommandRow C → Option C
 command_by words row = option_map row.means (values_in row.options words)
 

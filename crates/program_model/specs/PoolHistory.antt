@@ -15,7 +15,7 @@ use Rattle.fq_model.specs.Rules.{IsLegal}
 use Rattle.fq_model.specs.Time.{effective_moment}
 use Rattle.program_model.specs.Trace.{Trace}
 
--- a request of this cost is reported after each so much of use: refresh, or more where it would have too many slices;
+-- a request of this cost is reported after each step of use: refresh, or more where it would have too many slices;
 -- without refresh it is the whole cost
 unfoldable pub step_of : ℕ → ℕ → ℕ
 step_of refresh cost = if refresh == 0 then cost else max refresh (ceil_div cost MOST_SLICES)
@@ -29,25 +29,25 @@ row_reports refresh row = reports_below (step_of refresh row.cost) row.cost
 abbrev pub needed_pool_entries : List TraceRow → ℕ → ℕ
 needed_pool_entries rows refresh = 3 * length rows + 2 + sum_over (row_reports refresh) rows
 
--- what the scheduler of a pool is opened with
+-- the configuration of a pool's scheduler
 abbrev pub pool_config : Trace → RunOptions → Config
 pool_config T O = trace_config T O (max LEAST_ENTRIES (needed_pool_entries T.rows O.refresh))
 
 -- Submitters.
 
--- what the act submits, before what was submitted earlier
+-- the request that the act submits, before the requests that were submitted earlier
 abbrev pub with_request : Act → List Request → List Request
 with_request (Submit request tenant kind declared label) older =
     record { tenant = tenant; kind = kind; declared = declared; label = label }
     ∷ older
 with_request _ older = older
 
--- what the Submits say, the newest first
+-- the requests in the Submits, the newest first
 abbrev pub submitted_requests : History → List Request
 submitted_requests [] = []
 submitted_requests (e ∷ P) = with_request e.act (submitted_requests P)
 
--- what the rows of submitter j say, in order, where the first of these rows is row r
+-- the requests of the rows of submitter j, in order, where the first of these rows is row r
 abbrev pub requests_from : ℕ → ℕ → List TraceRow → List Request
 requests_from j r [] = []
 requests_from j r (row ∷ rows) =
@@ -105,7 +105,7 @@ pub record IsServedOnce (H : History) (r : ℕ) : Type 0 where
   pub taken : count_acts (is_take_of r) H ≡ 1
   pub done : is_done H r ≡ true
 
--- H is a history of a pool that serves this trace under these options (moments are whatever the clock told)
+-- H is a history of a pool that serves this trace under these options, at any moments
 pub record IsPoolHistory (T : Trace) (O : RunOptions) (H : History) : Type 0 where
   pub legal : IsLegal (pool_config T O) H
   pub fed : (j : ℕ) → j < submitters T.rows → IsFed T j (own_entries H j)

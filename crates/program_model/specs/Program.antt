@@ -1,5 +1,5 @@
--- What a run of the program is: what it does with its input, its output and its messages, by what it is asked and what
--- its clock may tell.
+-- A run of the program: its effect on its input, its output and its messages, by the command and by the moments that
+-- its clock may give.
 use Rattle.std.specs.Prelude.{ℕ, ◌+◌, ◌≤◌, ◌≡◌, Bool, true, false, if◌then◌else◌, List, [], length, Option, Some, None, Result, Ok, Err, ◌⊎◌}
 use Rattle.std.specs.String.{string_bytes}
 use Rattle.std.specs.Io.KnownBytes.{Appends}
@@ -16,15 +16,15 @@ use Rattle.program_model.specs.Ending.{status_of, failure_message}
 use Rattle.program_model.specs.Lines.{Words as Line}
 use Rattle.program_model.specs.Options.{command_of}
 
--- What is asked.
+-- The command.
 
--- what is asked of a part of the program that serves these commands: the command, if it is one of these
+-- the command that is asked of a part of the program that serves these commands, if it is one of these
 abbrev pub if_served : (Command → Bool) → Option Command → Option Command
 if_served serves None = None
 if_served serves (Some command) = if serves command then Some command else None
 
--- what the words, without the program's name, ask of it: a command, if they are a line of the table of commands for one
--- of those that it serves
+-- the command that the words, without the program's name, ask of it: if they are a line of the table of commands, and
+-- the command is one of those that it serves
 abbrev pub asked : (Command → Bool) → Line → Option Command
 asked serves words = if_served serves (command_of built_commands words)
 
@@ -38,7 +38,7 @@ is_any command = true
 abbrev pub greatest_input : ℕ
 greatest_input = 67108864
 
--- a source or a sink before and after a call: the bytes that it tells, and its count of faults
+-- a source or a sink before and after a call: the bytes that it shows, and its count of faults
 pub record Device : Type 0 where
   pub bytes : Option (List ℕ)
   pub faults : ℕ
@@ -47,7 +47,7 @@ pub record Move : Type 0 where
   pub before : Device
   pub after : Device
 
--- how a call moved it from `old` to `new`, of which `bytes` and `faults` tell
+-- how a call moved it from `old` to `new`, as `bytes` and `faults` show
 abbrev pub moved : {D : Type 0} → (D → Option (List ℕ)) → (D → ℕ) → D → D → Move
 moved bytes faults old new = record {
   before = record { bytes = bytes old; faults = faults old };
@@ -74,11 +74,11 @@ Writes sink text = Appends sink.before.bytes sink.after.bytes text
 abbrev pub WritesPart : Move → List ℕ → Type 0
 WritesPart sink text = Fails sink × AppendsPart sink.before.bytes sink.after.bytes text
 
--- at most so many bytes were read from it
+-- at most this number of bytes was read from it
 abbrev pub ReadsAtMost : Move → ℕ → Type 0
 ReadsAtMost source n = TookAtMost source.before.bytes source.after.bytes n
 
--- What a command reads, where it reads an input or none.
+-- The bytes that a command reads, where it reads an input or none.
 
 -- this input, to its end; or nothing, and its input is empty
 abbrev pub ReadsInput : (reads : Bool) → Move → List ℕ → Type 0
@@ -122,8 +122,8 @@ pub record FailsWriting (Told : ℕ → Type 0) (command : Command) (source sink
   pub answered : IsAnswered Told command source (Text status text)
   pub wrote : WritesPart sink text
 
--- when each end of a command comes, and what it leaves of the source and the sink. Want of memory may come at any step
--- before writing.
+-- when each end of a command comes, and the state in which it leaves the source and the sink. Want of memory may
+-- come at any step before writing.
 abbrev pub EndsCommand : (ℕ → Type 0) → Command → Move → Move → Result ℕ Failure → Type 0
 EndsCommand Told command source sink (Ok status) = Succeeds Told command source sink status
 EndsCommand Told command source sink (Err Words) = ⊥
@@ -135,7 +135,7 @@ EndsCommand Told command source sink (Err (Stopped (stops.Message status message
 EndsCommand Told command source sink (Err (Stopped stops.NoMemory)) =
     ReadsSome (reads_input command) source × Stays sink
 
--- the same by what is asked: where that is nothing, neither source nor sink is called
+-- when each end comes, by the command: where there is none, neither source nor sink is called
 abbrev pub Ends : (ℕ → Type 0) → Option Command → Move → Move → Result ℕ Failure → Type 0
 Ends Told (Some command) source sink end = EndsCommand Told command source sink end
 Ends Told None source sink end = (end ≡ Err Words) × Stays source × Stays sink
@@ -148,8 +148,8 @@ abbrev pub TellsEnd : Move → Result ℕ Failure → Type 0
 TellsEnd errs (Ok status) = Stays errs
 TellsEnd errs (Err failure) = Says errs (failure_message failure)
 
--- the whole of a call that is asked this, over a clock that may tell this: it ends in some way, with that status and
--- that message
+-- a run of the program that is asked for this, over a clock that may give these moments: it ends in some way,
+-- with that status and that message
 pub record IsRun (Told : ℕ → Type 0) (ask : Option Command) (source sink errs : Move) (status : ℕ) : Type 0 where
   pub end : Result ℕ Failure
   pub ends : Ends Told ask source sink end

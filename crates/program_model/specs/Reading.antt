@@ -21,6 +21,6 @@ at_line place (Err fault) = Err (place, fault)
 abbrev pub begins_with : List (List ℕ) → List ℕ → Bool
 begins_with words first = bytes_eq (slice_index_or words 0 []) first
 
--- nothing stands in the list
+-- the list has no items
 abbrev pub is_empty : {A : Type 0} → List A → Bool
 is_empty xs = length xs == 0

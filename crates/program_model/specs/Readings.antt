@@ -12,8 +12,8 @@ pub record IsStatusIn (C : Config) (past : List Entry) (status : Status) : Type 
   pub within : status.entries ≤ length past
   pub is_status : status ≡ status_of C (history_of (take status.entries past))
 
--- each is the status of the first of these entries, of as many as it says; none says fewer than the one before it, nor
--- the first fewer than `least`
+-- each is the status of the first of these entries, of as many as it says; none says fewer than the status before
+-- it, nor the first fewer than `least`
 abbrev pub AreReadings : Config → List Entry → (least : ℕ) → List Status → Type 0
 AreReadings C past least [] = Unit {0}
 AreReadings C past least (status ∷ later) =

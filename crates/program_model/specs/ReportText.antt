@@ -44,7 +44,7 @@ lag_report_text names report =
 abbrev pub report_text : Config → History → List (List ℕ) → ℕ → List ℕ
 report_text C H names Q = lag_report_text names (lag_report C H Q)
 
--- the summary of a report of so many requests
+-- the summary of a report of this number of requests
 abbrev pub lag_summary_text : ℕ → LagReport → List ℕ
 lag_summary_text requests report =
     codes "summary 1\n"

@@ -24,18 +24,18 @@ run_row = record {
   reads_input = true;
 }
 
--- what is answered of the simulated history of a trace
+-- the answer from the simulated history of a trace
 abbrev pub IsSimulatedAnswer : RunOptions → ℕ → HistoryPrint → Trace → Answer → Type 0
 IsSimulatedAnswer options slot print T answer =
     IsHistoryAnswer (IsSimulated T options) print slot (run_config T options) T.tenants T.kinds answer
 
--- the same, or that this history would have too many entries
+-- the answer from this history, or that it would have too many entries
 abbrev pub IsSimulationAnswer : RunOptions → ℕ → HistoryPrint → Trace → Answer → Type 0
 IsSimulationAnswer options slot print T answer =
     IsAnswerUnless (has_many_entries (needed_entries T.rows options.refresh))
     (entries_answer (needed_entries T.rows options.refresh))
     (IsSimulatedAnswer options slot print T) answer
 
--- what is answered of the simulation of a trace, and of an input that is none its first fault
+-- the answer to a trace by its simulation; or, where the input is none, its first fault
 abbrev pub IsRunAnswer : RunOptions → ℕ → HistoryPrint → List ℕ → Answer → Type 0
 IsRunAnswer options slot print input answer = IsTraceAnswer (IsSimulationAnswer options slot print) input answer

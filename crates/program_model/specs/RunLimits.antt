@@ -12,7 +12,7 @@ pub record AreInRange (O : RunOptions) : Type 0 where
   pub initial : IsWithin 1 GREATEST_COST O.initial
   pub refresh : O.refresh ≤ GREATEST_COST
 
--- the same where policies and estimators are compared, with the slot
+-- the numbers of a comparison are within their limits
 pub record CanCompare (o : CompareOptions) : Type 0 where
   pub workers : IsWithin 1 MOST_WORKERS o.workers
   pub initial : IsWithin 1 GREATEST_COST o.initial

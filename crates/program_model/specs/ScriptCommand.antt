@@ -18,7 +18,7 @@ use Rattle.program_model.specs.Options.{OptionRow, Value, CommandRow}
 use Rattle.program_model.specs.Script.{Script, script_of}
 use Rattle.program_model.specs.Texts.{replies_text}
 
--- what may be written, in the order of its words
+-- the possible outputs, in the order of their words
 abbrev pub script_prints : List ScriptPrint
 script_prints = Replies ∷ Journal ∷ Both ∷ []
 
@@ -28,7 +28,7 @@ script_print_word Replies = codes "replies"
 script_print_word Journal = codes "journal"
 script_print_word Both = codes "both"
 
--- what is printed of the calls
+-- the option for the output
 abbrev pub script_options : List OptionRow
 script_options = listed_option (codes "--print") (map script_print_word script_prints) (codes "replies") ∷ []
 
@@ -43,7 +43,7 @@ script_row = record {
   reads_input = true;
 }
 
--- what is written of the texts that there are
+-- the output, from the texts of the replies and of the journal
 abbrev pub script_output_text : ScriptPrint → (replies journal : List ℕ) → List ℕ
 script_output_text Replies replies journal = replies
 script_output_text Journal replies journal = journal
@@ -58,6 +58,6 @@ pub record AreCallsMade (print : ScriptPrint) (script : Script) (answer : Answer
   pub answer_is : answer ≡ Text 0 (script_output_text print (replies_text replies)
       (journal_text (config_of script) script.tenants script.kinds past))
 
--- what is written of the calls of a script, and of an input that is none its first fault
+-- the answer to a script; or, where the input is none, its first fault
 abbrev pub IsScriptAnswer : ScriptPrint → List ℕ → Answer → Type 0
 IsScriptAnswer print input answer = IsReadAnswer script_fault_text (AreCallsMade print) (script_of input) answer

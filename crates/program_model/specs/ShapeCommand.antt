@@ -33,13 +33,13 @@ shape_row = record {
   reads_input = true;
 }
 
--- what is said of request r, which declares more than a bucket holds
+-- the message for request r, which declares more than a bucket holds
 abbrev pub big_text : (r declared burst : ℕ) → List ℕ
 big_text r declared burst =
     codes "request " ++ decimal r ++ codes " has size " ++ decimal declared ++ codes ", more than the burst "
     ++ decimal burst
 
--- what is said of request r, whose least moment is none of a trace
+-- the message for request r, whose least moment is too late for a trace
 abbrev pub late_text : ℕ → List ℕ
 late_text r = codes "request " ++ decimal r ++ codes " would come after 100000000000000"
 
@@ -49,7 +49,7 @@ pub record IsBigAnswer (T : Trace) (burst r : ℕ) (answer : Answer) : Type 0 wh
   pub row_is : slice_get T.rows r ≡ Some row
   pub answer_is : answer ≡ Message 7 (message_line (big_text r row.declared burst))
 
--- what is answered of the least moments, by the first row for which they are too late, if there is one: the trace at
+-- the answer from the least moments, by the first row for which they are too late, if there is one: the trace at
 -- these moments, or that this row would come too late
 abbrev pub moments_answer : Trace → List ℕ → Option ℕ → Answer
 moments_answer T moments None = Text 0 (trace_text (at_moments T moments))
@@ -61,7 +61,7 @@ pub record IsMomentsAnswer (rate burst : ℕ) (T : Trace) (answer : Answer) : Ty
   pub least : IsLeastConforming T rate burst moments
   pub answer_is : answer ≡ moments_answer T moments (too_late moments)
 
--- what is answered of a trace, by the first row that declares more than a bucket holds, if there is one
+-- the answer to a trace, by the first row that declares more than a bucket holds, if there is one
 abbrev pub IsSizedAnswer : (rate burst : ℕ) → Trace → Option ℕ → Answer → Type 0
 IsSizedAnswer rate burst T None answer = IsMomentsAnswer rate burst T answer
 IsSizedAnswer rate burst T (Some r) answer = IsBigAnswer T burst r answer
@@ -69,6 +69,6 @@ IsSizedAnswer rate burst T (Some r) answer = IsBigAnswer T burst r answer
 abbrev pub IsShapedAnswer : (rate burst : ℕ) → Trace → Answer → Type 0
 IsShapedAnswer rate burst T answer = IsSizedAnswer rate burst T (too_big T burst) answer
 
--- what is answered of a trace, and of an input that is none its first fault
+-- the answer to a trace; or, where the input is none, its first fault
 abbrev pub IsShapeAnswer : (rate burst : ℕ) → List ℕ → Answer → Type 0
 IsShapeAnswer rate burst input answer = IsTraceAnswer (IsShapedAnswer rate burst) input answer

@@ -1,5 +1,5 @@
--- The simulated history of a trace: its requests come when their rows say and cost what they say, and no worker is idle
--- while one waits.
+-- The simulated history of a trace: its requests come at the moments of their rows and cost as their rows say, and no
+-- worker is idle while one waits.
 use Rattle.std.specs.Prelude.{ℕ, ◌+◌, ◌*◌, ◌<◌, ◌≡◌, max, false, List, [], ◌∷◌, length, filter, slice_get, Some, suc, ◌⊎◌}
 use Rattle.fq_model.specs.declared.config.Config.{Config}
 use Rattle.fq_model.specs.declared.event.Act.{Act}
@@ -18,7 +18,7 @@ use Rattle.program_model.specs.Trace.{Trace}
 abbrev pub needed_entries : List TraceRow → ℕ → ℕ
 needed_entries rows refresh = 3 * length rows + 1 + sum_over (λ row. reports_below refresh row.cost) rows
 
--- what the scheduler of a simulation is opened with
+-- the configuration of a simulation's scheduler
 abbrev pub run_config : Trace → RunOptions → Config
 run_config T O = trace_config T O (max LEAST_ENTRIES (needed_entries T.rows O.refresh))
 
@@ -62,7 +62,7 @@ rank _ = (4, 0)
 abbrev pub RankBefore : ℕ × ℕ → ℕ × ℕ → Type 0
 RankBefore a b = (a.0 < b.0) ⊎ ((a.0 ≡ b.0) × (a.1 < b.1))
 
--- at one moment the entry has a greater rank than the one before it, where neither is the Close
+-- at one moment the entry has a greater rank than the entry before it, where neither is the Close
 abbrev pub InTurn : History → Entry → Type 0
 InTurn [] e = Unit {0}
 InTurn (d ∷ P) e =

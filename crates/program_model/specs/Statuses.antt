@@ -1,4 +1,4 @@
--- What a status of the program says of what is asked and of an input whose bytes are told, and the other way round.
+-- The meaning of each status of the program, by the command and the bytes of the input, both ways.
 use Rattle.std.specs.Prelude.{ℕ, ◌≡◌, ◌==◌, ◌↔◌, nat_lt, Bool, false, ◌||◌, if◌then◌else◌, List, [], length, Option, Some, ◌⊎◌, IsSome, IfSome, IsSomeAnd}
 use Rattle.program_model.specs.declared.command.Command.{Command}
 use Rattle.program_model.specs.declared.ending.Failure.TheVariants.{TooLong}
@@ -7,20 +7,20 @@ use Rattle.program_model.specs.Commands.{reads_input, IsAnswer}
 use Rattle.program_model.specs.Ending.{failure_message}
 use Rattle.program_model.specs.Program.{Move, Fails, greatest_input}
 
--- what may be said of an input: that it is too long, or an answer of the command
+-- a possible result for an input: that it is too long, or an answer of the command
 abbrev pub IsSaid : (ℕ → Type 0) → Command → List ℕ → Answer → Type 0
 IsSaid Told command input answer =
     IsAnswerUnless (nat_lt greatest_input (length input))
     (Message 3 (failure_message TooLong))
     (IsAnswer Told command input) answer
 
--- something of this status may be said of it
+-- a possible result for it has this status
 pub record MaySay (status : ℕ) (Told : ℕ → Type 0) (command : Command) (input : List ℕ) : Type 0 where
   pub answer : Answer
   pub is_said : IsSaid Told command input answer
   pub status_is : answer_status answer ≡ status
 
--- whatever is said of it has this status
+-- each possible result for it has this status
 abbrev pub MustSay : ℕ → (ℕ → Type 0) → Command → List ℕ → Type 0
 MustSay status Told command input =
     (answer : Answer) → IsSaid Told command input answer → answer_status answer ≡ status
@@ -30,33 +30,33 @@ pub record IsMessage (status : ℕ) (answer : Answer) : Type 0 where
   pub message : List ℕ
   pub answer_is : answer ≡ Message status message
 
--- whatever is said of it is a message at this status, so that nothing is to be written
+-- each possible result for it is a message at this status, so that nothing is to be written
 abbrev pub MustTell : ℕ → (ℕ → Type 0) → Command → List ℕ → Type 0
 MustTell status Told command input =
     (answer : Answer) → IsSaid Told command input answer → IsMessage status answer
 
--- the input of a command, where that is known: the bytes of its source, if they are told; one that reads no input has
--- the empty one
+-- the input of a command, where it is known: the bytes of its source, if they are known; a command that reads no input
+-- has the empty one
 abbrev pub input_of : Command → Option (List ℕ) → Option (List ℕ)
 input_of command bytes = if reads_input command then bytes else Some []
 
--- something is asked for, and this is so of its input, where that is known
+-- a command is asked for, and this is so of its input, where that is known
 abbrev pub May : (Command → List ℕ → Type 0) → Option Command → Option (List ℕ) → Type 0
 May So ask bytes = IsSomeAnd ask (λ command. IfSome (input_of command bytes) (So command))
 
--- something is asked for, its input is known, and this is so of it
+-- a command is asked for, its input is known, and this is so of it
 abbrev pub Must : (Command → List ℕ → Type 0) → Option Command → Option (List ℕ) → Type 0
 Must So ask bytes = IsSomeAnd ask (λ command. IsSomeAnd (input_of command bytes) (So command))
 
--- the status is none that is said of an input
+-- the status is that of no result for an input
 abbrev pub is_failure : ℕ → Bool
 is_failure status = status == 2 || (status == 4 || (status == 5 || status == 6))
 
--- What a status says of what is asked, and of an input that is known. 2 comes exactly where nothing is asked, 4 only
--- where reading failed, and 5 only where writing failed; any other status but 6 is one that may be said of the input.
--- The other way round: where a command is asked, reading did not fail, and all that may be said of the input has one
--- status, then this status comes, or 6 where memory ran out, provided that writing did not fail either; and it comes
--- even where writing failed, if what may be said is a message, since then nothing is to be written.
+-- The meaning of a status, by the command and an input that is known. 2 comes exactly where no command is asked for, 4
+-- only where reading failed, and 5 only where writing failed; any other status but 6 is that of a possible result.
+-- The other way round: where a command is asked for, reading did not fail, and all possible results have one status,
+-- then this status comes, or 6 where memory ran out, provided that writing did not fail either; and it comes even
+-- where writing failed, if the possible results are messages, since then nothing is to be written.
 pub record StatusMeans (Told : ℕ → Type 0) (ask : Option Command) (source sink : Move) (status : ℕ) : Type 0 where
   pub line : (status ≡ 2) ↔ ¬ IsSome ask
   pub reading : status ≡ 4 → Fails source

@@ -16,8 +16,8 @@ pub record Trace : Type 0 where
 abbrev pub last_row_moment : List TraceRow → ℕ
 last_row_moment rows = unwrap_or (option_map (λ row. row.moment) (last_or None rows)) 0
 
--- the trace with one request more: its moment, submitter, tenant, the name of its kind, what is declared, and its cost;
--- a kind that is new gets the next number
+-- the trace with one request more: its moment, submitter, tenant, the name of its kind, its declared cost, and its
+-- cost; a kind that is new gets the next number
 abbrev pub with_row : Trace → ℕ → ℕ → ℕ → List ℕ → ℕ → ℕ → Trace
 with_row t moment submitter tenant kind declared cost = record t {
   kinds = with_appearance t.kinds kind;

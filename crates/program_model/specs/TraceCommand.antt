@@ -1,5 +1,5 @@
--- Commands that read a trace: what is answered to an input by what is answered to the trace that it spells; and the
--- options of those that make a history of it.
+-- Commands that read a trace: the answer to an input by the answer to the trace that it spells; and the options of the
+-- commands that make a history of it.
 use Rattle.std.specs.Prelude.{ℕ, List, [], ◌∷◌, map, slice_index_or, codes}
 use Rattle.fq_model.specs.declared.config.Policy.TheVariants.{TwoDfq}
 use Rattle.fq_model.specs.declared.config.Estimator.TheVariants.{Pessimistic}
@@ -13,7 +13,7 @@ use Rattle.program_model.specs.Options.{OptionRow, Value}
 use Rattle.program_model.specs.Trace.{Trace}
 use Rattle.program_model.specs.TraceGrammar.{trace_of}
 
--- what may be written of a history, in the order of its words
+-- the possible outputs from a history, in the order of their words
 abbrev pub history_prints : List HistoryPrint
 history_prints = Journal ∷ Report ∷ Both ∷ Summary ∷ []
 
@@ -24,14 +24,14 @@ history_print_word Report = codes "report"
 history_print_word Both = codes "both"
 history_print_word Summary = codes "summary"
 
--- what a trace is run with, by which slot it is reported, and what is printed of it
+-- the options for a run, for the slot of its report, and for the output
 abbrev pub trace_options : List OptionRow
 trace_options =
     workers_option ∷ policy_option ∷ estimate_option ∷ initial_option ∷ refresh_option ∷ slot_option
     ∷ listed_option (codes "--print") (map history_print_word history_prints) (codes "both")
     ∷ []
 
--- what a trace is run with
+-- the options of a run, by the values of the command's options
 abbrev pub run_options_of : List Value → RunOptions
 run_options_of values = record {
   workers = value_at values 0;
@@ -41,10 +41,10 @@ run_options_of values = record {
   refresh = value_at values 4;
 }
 
--- what is printed of a history
+-- the output from a history, by the value of option k
 abbrev pub history_print_at : List Value → ℕ → HistoryPrint
 history_print_at values k = slice_index_or history_prints (value_at values k) Both
 
--- of a trace what is answered to it, and of an input that is none its first fault
+-- the answer to a trace; or, where the input is none, its first fault
 abbrev pub IsTraceAnswer : (Trace → Answer → Type 0) → List ℕ → Answer → Type 0
 IsTraceAnswer OfTrace input answer = IsReadAnswer trace_fault_text OfTrace (trace_of input) answer

@@ -1,5 +1,5 @@
 -- Traces as texts: records of fields between commas, each a tenant or a request.
--- A text is a trace, or it has a first fault: the number of a record, counted from 1, and what is wrong with it.
+-- A text is a trace, or it has a first fault: the number of a record, counted from 1, and its fault.
 use Rattle.std.specs.Prelude.{ℕ, ◌+◌, ◌*◌, ◌==◌, nat_lt, not, ◌||◌, if◌then◌else◌, List, [], ◌∷◌, ◌++◌, length, is_some, Result, Ok, Err, slice_index_or, codes}
 use Rattle.std.specs.List.{list_all}
 use Rattle.std.specs.Str.{is_utf8}
@@ -108,8 +108,7 @@ with_record t fields =
 -- The whole text.
 
 -- all records are read: a tenant is there, and a kind where no request names one; `place` is one more than the number
--- of
--- records
+-- of records
 abbrev pub at_end : ℕ → Trace → Result Trace (ℕ × TraceKind)
 at_end place t = if is_empty t.tenants then Err (place, NoTenants) else Ok (with_some_kind t)
 

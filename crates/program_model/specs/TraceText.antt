@@ -9,7 +9,7 @@ use Rattle.fq_model.specs.Limits.{IsWithin, IsWeight}
 use Rattle.fq_model.specs.Names.{AreNames}
 use Rattle.program_model.specs.Trace.{Trace}
 
--- the numbers of a request are within their limits, where there are so many tenants and kinds
+-- the numbers of a request are within their limits, where there are these numbers of tenants and kinds
 pub record IsLawfulRow (tenants kinds : ℕ) (row : TraceRow) : Type 0 where
   pub moment : row.moment ≤ GREATEST_TRACE_MOMENT
   pub submitter : row.submitter ≤ GREATEST_SUBMITTER
@@ -32,17 +32,17 @@ pub record IsLawfulTrace (t : Trace) : Type 0 where
   pub rows : All (IsLawfulRow (length t.tenants) (length t.kinds)) t.rows
   pub in_order : IsNonDecreasing (map (λ row. row.moment) t.rows)
 
--- where `seen` kinds have appeared, these requests bring the next ones in order, up to so many
+-- where `seen` kinds have appeared, these requests bring the next kinds in order, `kinds` of them in all
 abbrev pub KindsAppear : ℕ → List TraceRow → ℕ → Type 0
 KindsAppear seen [] kinds = seen ≡ kinds
 KindsAppear seen (row ∷ rows) kinds = (row.kind ≤ seen) × KindsAppear (max seen (row.kind + 1)) rows kinds
 
--- the kinds are the one kind `-` where there are no requests, and else stand in the order of their first requests
+-- the kinds are the one kind `-` where there are no requests, and else are in the order of their first requests
 abbrev pub AreKindsOf : List TraceRow → List (List ℕ) → Type 0
 AreKindsOf [] kinds = kinds ≡ codes "-" ∷ []
 AreKindsOf rows kinds = KindsAppear 0 rows (length kinds)
 
--- the kinds of the trace stand in this order, so that its text says all of it
+-- the kinds of the trace are in this order, so that its text determines it
 abbrev pub HasKindsInOrder : Trace → Type 0
 HasKindsInOrder t = AreKindsOf t.rows t.kinds
 

@@ -57,7 +57,7 @@ taken_line request x =
     codes "request " ++ decimal request ++ codes " worker " ++ decimal x.worker ++ codes " moment " ++ decimal x.moment
     ++ codes " virtual " ++ signed_decimal x.vtime ++ codes "\n"
 
--- what explains a request, if it was taken
+-- the lines that explain a request, if it was taken
 abbrev pub explanation_text : List (List ℕ) → ℕ → Option Explained → List ℕ
 explanation_text names request None = codes "request " ++ decimal request ++ codes " was not taken\n"
 explanation_text names request (Some x) = taken_line request x ++ rows_text names x.rows.items

@@ -4,7 +4,7 @@ use crate::compare::CompareOptions;
 use crate::name::Name;
 use crate::trace::RunOptions;
 
-/// What `script` writes.
+/// The output of `script`.
 #[derive(Clone, Copy, PartialEq, Eq)]
 pub enum ScriptPrint {
     /// The replies.
@@ -15,7 +15,7 @@ pub enum ScriptPrint {
     Both,
 }
 
-/// What `run` and `live` write of a history.
+/// The output of `run` and `live` from a history.
 #[derive(Clone, Copy, PartialEq, Eq)]
 pub enum HistoryPrint {
     /// Its journal.
@@ -28,7 +28,7 @@ pub enum HistoryPrint {
     Summary,
 }
 
-/// What `gen` writes.
+/// The output of `gen`.
 #[derive(Clone, Copy, PartialEq, Eq)]
 pub enum GenPrint {
     /// The generated trace.
@@ -37,7 +37,7 @@ pub enum GenPrint {
     Summary,
 }
 
-/// What is asked for that needs no threads. A slot is in microseconds, and 0 stands for the automatic slot.
+/// A command that needs no threads. A slot is in microseconds, and 0 stands for the automatic slot.
 #[derive(Clone, Copy, PartialEq, Eq)]
 pub enum PlainCommand {
     /// Makes the calls of a script.
@@ -77,7 +77,7 @@ pub enum PlainCommand {
     },
 }
 
-/// What `live` is asked for.
+/// The options of `live`.
 #[derive(Clone, Copy, PartialEq, Eq)]
 pub struct LiveOptions {
     pub run: RunOptions,
@@ -88,10 +88,10 @@ pub struct LiveOptions {
     pub watch: u32,
 }
 
-/// What a command line asks for, by the part of the program that serves it.
+/// The command that a command line asks for, by the part of the program that serves it.
 #[derive(Clone, Copy, PartialEq, Eq)]
 pub enum Command {
-    /// What needs no threads.
+    /// A command that needs no threads.
     Plain(PlainCommand),
     /// Serves a trace by a pool of threads.
     Live { options: LiveOptions },

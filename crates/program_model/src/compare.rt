@@ -1,4 +1,4 @@
-//! What the policies and estimators are compared by.
+//! The comparison of policies and estimators: its options and its rows.
 
 use fq_model::config::{Estimator, Policy};
 
@@ -12,7 +12,7 @@ pub const ESTIMATORS: [Estimator; 3] = [
     Estimator::Pessimistic,
 ];
 
-/// What a trace is run with under each policy and estimator.
+/// The options of the runs of a trace under each policy and estimator.
 #[derive(Clone, Copy, PartialEq, Eq)]
 pub struct CompareOptions {
     /// 1 to 64.
@@ -26,7 +26,7 @@ pub struct CompareOptions {
     pub slot: u64,
 }
 
-/// What one policy and estimator come to on a trace.
+/// The results of one policy and estimator on a trace.
 #[derive(Clone, Copy)]
 pub struct CompareRow {
     pub policy: Policy,

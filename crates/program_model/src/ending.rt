@@ -1,4 +1,4 @@
-//! What a command makes of its input, and how the program ends.
+//! The output of a command for its input, and how the program ends.
 ghost use Rattle.std.specs.Prelude.{◌≡◌};
 ghost use Rattle.program_model.specs.Ending.{stop_status, stop_message, failure_status, failure_message};
 

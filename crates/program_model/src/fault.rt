@@ -1,10 +1,10 @@
-//! What is wrong with a script, a journal or a trace.
+//! The faults of scripts, journals and traces.
 
 use fq_model::messages::{numbered, plain};
 use std::error::Error;
 use std::fmt;
 
-/// What is wrong with a line of a script or a journal.
+/// The fault of a line of a script or a journal.
 #[derive(Clone, Copy, Debug, PartialEq, Eq)]
 pub enum ScriptKind {
     /// The first line is not `script` or, for a journal, `journal`, with 1, 2 or 3 behind it.
@@ -12,7 +12,7 @@ pub enum ScriptKind {
     /// A word that does not stand here: no line begins so at this place, or it is no name, policy or
     /// estimator.
     Word,
-    /// So many words, where the first asks for another number.
+    /// This number of words, where the first asks for another number.
     Fields(u64),
     /// This word is not a number; the first is 1.
     Number(u32),
@@ -59,14 +59,14 @@ impl fmt::Display for ScriptKind {
 
 impl Error for ScriptKind {}
 
-/// What is wrong with a record of a trace.
+/// The fault of a record of a trace.
 #[derive(Clone, Copy, Debug, PartialEq, Eq)]
 pub enum TraceKind {
     /// A field is not UTF-8.
     NotUtf8,
     /// The first field is no word with which a record begins, or a name is no name.
     Word,
-    /// So many fields, where the first asks for another number.
+    /// This number of fields, where the first asks for another number.
     Fields(u64),
     /// This field is not a number; the first is 1.
     Number(u32),

@@ -1,4 +1,4 @@
-//! What the program is asked for, what scripts, journals and traces hold, and what it writes: what all of these mean.
+//! The commands and the output of the program, scripts, journals and traces, and the meaning of all of these.
 #![tactic(auto)]
 
 pub mod argument;

@@ -1,4 +1,4 @@
-//! Names that are held in place, so that what has one can be copied.
+//! Names that are held in place, so that a value with a name can be copied.
 ghost use Rattle.std.specs.Prelude.{◌≡◌, IsTrue, if◌then◌else◌, Some, None};
 ghost use Rattle.fq_model.specs.Spelling.{is_name};
 

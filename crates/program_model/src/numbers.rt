@@ -24,7 +24,7 @@ fn digits(text: &[u8]) -> Option<u64>
     }
 }
 
-// The same for so few digits that they always fit, so that no step need see to it.
+// The number that digits spell, where they are so few that it always fits, so that no step need see to it.
 fn few_digits(text: &[u8]) -> Option<u64>
     requires { length text.now < 20 }
     ensures { result ≡ with_digits 0 text.now }

@@ -1,9 +1,9 @@
-//! What a trace says of a request, and how a trace is run.
+//! The requests of a trace, and how a trace is run.
 
 use fq_model::config::{Estimator, Policy};
 
-/// A request of a trace: when it comes, through which submitter, of which tenant and kind, what its submitter declares,
-/// and what it costs. The moment, the declared number and the cost are microseconds.
+/// A request of a trace: its moment, its submitter, its tenant and kind, its declared cost, and its cost. The moment
+/// and the costs are microseconds.
 #[derive(Clone, Copy, PartialEq, Eq)]
 pub struct TraceRow {
     /// 0 to 100,000,000,000,000; moments do not fall from row to row.
@@ -18,7 +18,7 @@ pub struct TraceRow {
     pub cost: u64,
 }
 
-/// What a trace is run with.
+/// The options of a run of a trace.
 #[derive(Clone, Copy, PartialEq, Eq)]
 pub struct RunOptions {
     /// 1 to 64.

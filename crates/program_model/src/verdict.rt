@@ -1,4 +1,4 @@
-//! What is said of a journal.
+//! The verdict about a journal.
 
 use fq_model::event::{Entry, Reply};
 
@@ -7,9 +7,8 @@ use fq_model::event::{Entry, Reply};
 pub enum Verdict {
     /// They are.
     Legal,
-    /// They aren't: `entry` is the number of the first that isn't legal, counted from 1. The call of which it is said
-    /// to be the entry is answered by `reply` after the entries before it, and `wanted` is the entry that it then adds,
-    /// or none.
+    /// They aren't: `entry` is the number of the first that isn't legal, counted from 1. The call whose entry it may be
+    /// is answered by `reply` after the entries before it, and `wanted` is the entry that this call adds, or none.
     Bad {
         entry: u64,
         reply: Reply,

@@ -1,4 +1,4 @@
--- What was found of the differences, one entry on and at the end.
+-- The greatest differences, one entry on and at the end.
 use Rattle.std.proofs.Common.{ℕ, ◌*◌, ◌≡◌, ◌∙◌, refl, ap, sym, arith, inl, inr, List, [], ◌∷◌, Option, Some, None, ℤ, pos}
 use Rattle.std.specs.Prelude.{option_map}
 use Rattle.std.specs.Int.{int_max}
@@ -51,12 +51,12 @@ module _ (C : Config) (P : History) (e : Entry) (f g : ℕ) (x : Found) (is : Fo
     ]
   ]
 
--- the gap of what was found, by its parts
+-- the gap by the differences found, part by part
 pub gap_is : (largest : Option ℤ) (b c : ℤ) → b ≡ c → option_map told (option_map (λ x. record { largest = x; bound = b }) largest) ≡ option_map (λ x. record { largest = x; bound = c }) largest
 gap_is None b c same = refl
 gap_is (Some x) b c same = rw same refl
 
--- at the end what was found is the gap
+-- at the end the differences found make the gap
 pub found_gap : (C : Config) (H : History) (f g : ℕ) (x : Found) (least : ℤ) → FoundIn C H f g x → least ≡ pos (lengths_in_bound C.policy * longest_length C H f g) → option_map told (gap_from x least) ≡ tag_gap C H f g
 unfolding tag_gap largest_difference difference_bound
 found_gap C H f g x least is low =

@@ -1,4 +1,4 @@
--- What the differences of two starts come to.
+-- The greatest differences of two starts.
 use Rattle.std.specs.Prelude.{ℕ, ℤ, ◌≡◌, true, false, if◌then◌else◌, Option, Some, None, option_map}
 use Rattle.std.specs.Int.{int_max}
 use Rattle.fq_model.specs.declared.config.Config.{Config}
@@ -11,7 +11,7 @@ use Rattle.tag_difference.specs.declared.gap.Gap.{Gap}
 abbrev pub nothing : Found
 nothing = record { largest = None; first = None; shared = false }
 
--- the greater of d and what was found
+-- the greater of d and the number found, if there is one
 abbrev pub at_least : ℤ → Option ℤ → ℤ
 at_least d None = d
 at_least d (Some x) = int_max x d
@@ -29,7 +29,7 @@ with_difference found (Some d) = record {
 abbrev pub gap_from : Found → ℤ → Option Gap
 gap_from found least = option_map (λ x. record { largest = x; bound = at_least least found.first }) found.largest
 
--- what was found is that of the history
+-- the differences found are those of the history
 pub record FoundIn (C : Config) (P : History) (f g : ℕ) (found : Found) : Type 0 where
   pub largest_is : found.largest ≡ greatest_of (shared_differences C P f g)
   pub first_is : found.first ≡ greatest_of (first_differences C P f g)

@@ -12,11 +12,11 @@ use Rattle.tag_difference.specs.declared.fault.GapFault.TheVariants.{UnknownTena
 abbrev pub difference_at : Config → History → ℕ → ℕ → Option ℤ
 difference_at C P f g = if is_shared P f g then Some (start_difference C P f g) else None
 
--- the gap that is told
+-- the gap, as definitions have it
 abbrev pub told : Gap → TagGap
 told gap = record { largest = gap.largest; bound = gap.bound }
 
--- why these two tenants have no gap, in whatever history, as rows
+-- why these two tenants have no gap in any history, as rows
 abbrev pub tenant_faults : Config → ℕ → ℕ → List (Bool × GapFault)
 tenant_faults C f g =
     (nat_le (length C.weights) f, UnknownTenant f)

@@ -4,7 +4,7 @@ ghost use Rattle.tag_difference.specs.declared.fault.GapFault.TheVariants as fau
 
 use std::alloc::AllocError;
 
-/// Why no gap of two tenants is told.
+/// Why there is no gap of two tenants.
 #[derive(Clone, Copy, Debug, PartialEq, Eq, thiserror::Error)]
 pub enum GapFault {
     /// No tenant has this number.

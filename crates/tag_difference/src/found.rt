@@ -1,10 +1,10 @@
-//! What the differences of two starts come to.
+//! The greatest differences of two starts.
 ghost use Rattle.std.specs.Prelude.{◌≡◌};
 ghost use Rattle.tag_difference.specs.Found.{nothing, with_difference, at_least, gap_from};
 
 use crate::gap::Gap;
 
-/// What the differences at the prefixes in which two tenants wait, which are shared, come to. In steps.
+/// The greatest differences at the prefixes in which two tenants wait, which are shared. In steps.
 #[derive(Clone, Copy, Debug, PartialEq, Eq)]
 pub struct Found {
     /// The greatest.
@@ -58,7 +58,7 @@ impl Found {
     }
 }
 
-/// The greater of d and what was found.
+/// The greater of d and the number found, if there is one.
 pub fn at_least(d: i128, found: Option<i128>) -> i128
     ensures { result ≡ at_least d found }
 {

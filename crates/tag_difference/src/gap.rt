@@ -5,8 +5,8 @@
 pub struct Gap {
     /// The greatest difference of their starts at a prefix in which both wait.
     pub largest: i128,
-    /// What no such difference passes: the greater of two numbers. As `tag_gap` tells it, where costs are as declared:
-    /// the greatest difference at the first prefix of a run of such, and the longest length of a request of the two, or
-    /// twice that under 2dfq and 2dfq+. Where they are not, what is in doubt counts too (`tag_lead`).
+    /// The bound of each such difference: the greater of two numbers. By `tag_gap`, where costs are as declared: the
+    /// greatest difference at the first prefix of a run of such, and the longest length of a request of the two, or
+    /// twice that under 2dfq and 2dfq+. Where costs are not as declared, the doubt counts too (`tag_lead`).
     pub bound: i128,
 }

@@ -1,4 +1,4 @@
-//! What the differences of two tenants' starts come to, at the prefixes of a past in which both wait.
+//! The greatest differences of two tenants' starts, at the prefixes of a past in which both wait.
 #![tactic(auto)]
 
 pub mod fault;

@@ -6,7 +6,7 @@ ghost use Rattle.tag_difference.specs.Pairs.{tenant_fault};
 use crate::fault::GapFault;
 use fq_model::config::Checked;
 
-/// Why these two tenants have no gap, in whatever history, if they have none.
+/// Why these two tenants have no gap in any history, if they have none.
 pub fn tenant_fault(config: &Checked, f: u32, g: u32) -> Option<GapFault>
     ensures fault { result ≡ tenant_fault config.now f g }
     ensures limits { InLimits config.now }

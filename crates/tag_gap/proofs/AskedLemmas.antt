@@ -1,4 +1,4 @@
--- What the Submits of a past say, by number.
+-- The tenants and the declared costs of requests, by request number.
 use Rattle.std.proofs.Common.{ℕ, zero, suc, ◌≡◌, ◌≢◌, ◌∙◌, ap, refl, subst, arith, inl, inr, List, [], ◌∷◌, ◌++◌, length, drop, Option, Some, None, length-append}
 use Rattle.std.specs.Prelude.{slice_get, option_map, filter_map, reverse}
 use Rattle.std.proofs.lemmas.Bool.{cases_eq, eq-eqb, ne_eqb}
@@ -30,7 +30,7 @@ not_at_end (y ∷ xs) x (suc i) ne = not_at_end xs x i (λ e. ne (omega arith))
 
 -- ---- the requests of a history
 
--- and there are as many as Submits
+-- the tenants and the declared costs of all requests of a history, as many as its Submits
 record Collected (P : History) (asked : List Asked) : Type 0 where
   len : length asked ≡ submits P
   are : AreAsked P asked
@@ -50,7 +50,7 @@ collected_len : (P : History) (a : Act) (asked : List Asked) → length asked �
 collected_len P (Submit request tenant kind declared label) asked e = omega (arith, length-append asked (record { tenant = tenant; declared = declared } ∷ []))
 collected_len P a asked e = e
 
--- those of the acts in order of time
+-- the tenants and the declared costs in the Submits, in order of time
 abbrev in_order : History → List Asked
 in_order P = filter_map (λ (e : Entry). submitted e.act) (reverse P)
 
@@ -71,19 +71,19 @@ collected C (e ∷ P) l =
 pub asked_in_order : (C : Config) (past : List Entry) → IsLegal C (history_of past) → AreAsked (history_of past) (filter_map (λ (e : Entry). submitted e.act) past)
 asked_in_order C past l = subst (λ (xs : List Entry). AreAsked (history_of past) (filter_map (λ (e : Entry). submitted e.act) xs)) (reverse-reverse past) (collected C (history_of past) l).are
 
--- ---- those of an earlier history
+-- ---- the requests of an earlier history
 
 pub asked_later : (C : Config) (newer P : History) (r : ℕ) (q : Request) → IsLegal C (newer ++ P) → request_at P r ≡ Some q → request_at (newer ++ P) r ≡ Some q
 asked_later C [] P r q l was = was
 asked_later C (e ∷ newer) P r q l was = asked_stays C (newer ++ P) e r q l (asked_later C newer P r q l.0 was)
 
--- of each request of the history it is known what it asked
+-- the tenant and the declared cost of each request of the history are known
 abbrev pub Knows : History → List Asked → Type 0
 Knows P asked = (r : ℕ) (q : Request) → request_at P r ≡ Some q → slice_get asked r ≡ Some (asked_of q)
 
 known_earlier : (C : Config) (newer P : History) (asked : List Asked) → IsLegal C (newer ++ P) → AreAsked (newer ++ P) asked → Knows P asked
 known_earlier C newer P asked l are r q was = are r ∙ ap (option_map asked_of) (asked_later C newer P r q l was)
 
--- so of those of the first entries
+-- so are those of each request of the first entries
 pub known_first : (C : Config) (past : List Entry) (i : ℕ) (asked : List Asked) → IsLegal C (history_of past) → AreAsked (history_of past) asked → Knows (first_entries past i) asked
 known_first C past i asked l are = known_earlier C (history_of (drop i past)) (first_entries past i) asked (subst (IsLegal C) (split_at past i) l) (subst (λ (H : History). AreAsked H asked) (split_at past i) are)

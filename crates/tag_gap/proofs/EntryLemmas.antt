@@ -1,4 +1,4 @@
--- What is kept of a history, one entry on, and where its tenants start.
+-- The state that is kept of a history, one entry on, and the starts of its tenants.
 use Rattle.std.proofs.Common.{ℕ, ◌+◌, ◌<◌, ◌≡◌, ◌≢◌, ◌⊎◌, ◌∙◌, ◌&&◌, true, false, Bool, refl, ap, sym, subst, arith, inl, inr, List, ◌∷◌, length, Some, None, ℤ, pos, get_or, ◌-ℤ◌}
 use Rattle.std.specs.Prelude.{slice_index, slice_get, is_some, if◌then◌else◌}
 use Rattle.std.proofs.lemmas.Bool.{eq-eqb}
@@ -86,11 +86,11 @@ steady_keeps C P e k n steady h times same is =
 
 -- ---- one entry
 
--- what a request asked, as it is kept
+-- the tenant and the declared cost of a request, as they are kept
 abbrev pub asked_at : List Asked → ℕ → Asked
 asked_at asked r = get_or asked r (record { tenant = 0; declared = 0 })
 
--- a request of the history is among those that are kept
+-- a request of the history is among the kept requests
 record KnownAt (P : History) (asked : List Asked) (r : ℕ) : Type 0 where
   what : Request
   was : request_at P r ≡ Some what
@@ -108,7 +108,7 @@ module _ (C : Config) (P : History) (asked : List Asked) (e : Entry) (may : MayC
         tenant_is = ap (λ (x : Asked). x.tenant) (sym (get_or_from_slice_get asked r (asked_of q) (record { tenant = 0; declared = 0 }) at));
       }
 
-  -- so is one that is taken, done or withdrawn
+  -- so is a request that is taken, done or withdrawn
   taken_at : (w r estimate : ℕ) → e.act ≡ Take w r estimate → KnownAt P asked r
   taken_at w r estimate act = let f : FitsTake C P e.moment w r estimate = subst (Fits C P e.moment) act may.costs.legal.3 in known_at r f.asked f.chosen.asked
 
@@ -133,7 +133,7 @@ module _ (C : Config) (P : History) (asked : List Asked) (e : Entry) (may : MayC
   withdraws_is : (r : ℕ) → e.act ≡ Withdraw r → Withdraws e.moment (asked_at asked r).tenant P e
   withdraws_is r act = let x = withdrawn_at r act in record { request = r; asked = x.what; moment_is = refl; act_is = act; asked_is = x.was; tenant_is = x.tenant_is }
 
--- what the calls at a Done ask for
+-- the requirements of the calls at a Done
 pub done_within : (asked : List Asked) (e : Entry) (k : Reading) (w r cost : ℕ) → AwaitsEntry asked e k → e.act ≡ Done w r cost → r < length asked
 done_within asked e k w r cost a act = (done_at a.config a.history asked e a.comes w r cost act).within
 
@@ -147,7 +147,7 @@ withdraw_within asked e k r a act = (withdrawn_at a.config a.history asked e a.c
 pub awaits_withdraw : (asked : List Asked) (e : Entry) (k : Reading) (r : ℕ) → AwaitsEntry asked e k → e.act ≡ Withdraw r → Awaits Keeps (Withdraws e.moment (asked_at asked r).tenant) k
 awaits_withdraw asked e k r a act = record { config = a.config; history = a.history; entry = e; limits = a.keeps.limits; legal = a.comes.costs.legal; comes = withdraws_is a.config a.history asked e a.comes r act; kept_is = a.keeps }
 
--- what each act makes of what is kept
+-- the kept state after each act
 pub read_submit : (asked : List Asked) (e : Entry) (k n : Reading) (r t kind declared label : ℕ) → e.act ≡ Submit r t kind declared label → Follows Keeps (Submits e.moment t) k n → FollowsEntry asked e k n
 read_submit asked e k n r t kind declared label act f = λ C P may is. f C P e is.limits may.costs.legal (record { request = r; kind = kind; declared = declared; label = label; moment_is = refl; act_is = act }) is
 

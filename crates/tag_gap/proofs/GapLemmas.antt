@@ -54,13 +54,13 @@ module _ (C : Config) (past : List Entry) (asked : List Asked) (h : HasDeclaredC
   pub keeps_next : (i : ℕ) (k n : Reading) → i < length past → FollowsEntry asked (next_entry past i) k n → Keeps C (first_entries past i) k → Keeps C (first_entries past (i + 1)) n
   keeps_next i k n b f is = subst (λ H. Keeps C H n) (sym (one_on past i b)) (f C (first_entries past i) (comes i b) is)
 
--- what was found, one entry on
+-- the differences found, one entry on
 pub found_on : (C : Config) (past : List Entry) (i f g : ℕ) (x : Found) (d : Option ℤ) → i < length past → FoundIn C (first_entries past i) f g x → d ≡ difference_at C (first_entries past (i + 1)) f g → FoundIn C (first_entries past (i + 1)) f g (with_difference x d)
 found_on C past i f g x d b is apart =
     let next : FoundIn C (first_entries past (i + 1)) f g (with_difference x (difference_at C (first_entries past (i + 1)) f g)) = subst (λ H. FoundIn C H f g (with_difference x (difference_at C H f g))) (sym (one_on past i b)) (found_next C (first_entries past i) (next_entry past i) f g x is) in
     subst (λ (y : Option ℤ). FoundIn C (first_entries past (i + 1)) f g (with_difference x y)) (sym apart) next
 
--- at the end it is of the whole
+-- at the end they are those of the whole history
 pub found_all : (C : Config) (past : List Entry) (i f g : ℕ) (x : Found) → length past ≤ i → FoundIn C (first_entries past i) f g x → FoundIn C (history_of past) f g x
 found_all C past i f g x b is = subst (λ H. FoundIn C H f g x) (all_entries past i b) is
 

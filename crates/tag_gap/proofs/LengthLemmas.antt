@@ -105,12 +105,12 @@ extremes_longest C H t x lim l known is =
 pub extremes_end : (C : Config) (past : List Entry) (i t : ℕ) (x : Extremes) → InLimits C → IsLegal C (history_of past) → t < length C.weights → length past ≤ i → ExtremesAre C (first_entries past i) t x → Longest C (history_of past) t x
 extremes_end C past i t x lim l known b is = extremes_longest C (history_of past) t x lim l known (subst (λ H. ExtremesAre C H t x) (all_entries past i b) is)
 
--- the greater of two
+-- the longest length of two tenants is the greater of theirs
 pub longest_both : (C : Config) (H : History) (f g : ℕ) → longest_length C H f g ≡ max (greatest (lengths_had C H f)) (greatest (lengths_had C H g))
 unfolding longest_length
 longest_both C H f g = greatest_both (lengths_had C H f) (lengths_had C H g)
 
--- how many the bound has
+-- the number of lengths in the bound
 pub lengths_two : (p q : Policy) → p ≡ q → (p ≡ TwoDfq) ⊎ (p ≡ TwoDfqPlus) → lengths_in_bound q ≡ 2
 lengths_two p q same (inl is) = rw (← same, is) refl
 lengths_two p q same (inr is) = rw (← same, is) refl

@@ -1,4 +1,4 @@
--- What is kept of a history, one entry on.
+-- The state that is kept of a history, one entry on.
 use Rattle.std.proofs.Common.{ℕ, ◌+◌, ◌-◌, ◌<◌, ◌≤◌, ◌≡◌, ◌≢◌, ◌==◌, ◌∙◌, true, false, Bool, cond, refl, ap, ap₂, sym, subst, arith, inl, inr, List, [], ◌∷◌, length, replicate, Some, None, ℤ, pos, get_or, ◌+ℤ◌, length-set, get_or-set_same, get_or-set_other, length-append, length-drop}
 use Rattle.std.specs.Prelude.{slice_index, slice_set}
 use Rattle.std.proofs.lemmas.Bool.{cases_Bool, cases_eq, eq-eqb, ne_eqb, and_from, not_from_false}
@@ -114,7 +114,7 @@ queue_submit_own P who m r t kind declared label = rw (eq-eqb t t refl) (length-
 queue_submit_other : (P : History) (who m r t u kind declared label : ℕ) → u ≢ t → queue (one_more who m (Submit r t kind declared label) P) u ≡ queue P u
 queue_submit_other P who m r t u kind declared label ne = rw (ne_eqb t u (λ e. ne (sym e))) refl
 
--- what is kept after a Submit, once the tag is raised at v and one more waits
+-- the kept state after a Submit, once the tag is raised at v and one request more waits
 submitted_keeps : (C : Config) (P : History) (k n : Reading) (who m r t kind declared label : ℕ) → InLimits C → IsLegal C (one_more who m (Submit r t kind declared label) P) → Keeps C P k → n.policy ≡ k.policy → TimesAre C (one_more who m (Submit r t kind declared label) P) n.times → n.accounts ≡ raised_first (slice_index k.waiting.items t) k.accounts t (pos (virtual_time C P m)) → n.waiting.items ≡ slice_set k.waiting.items t (slice_index k.waiting.items t + 1) → Keeps C (one_more who m (Submit r t kind declared label) P) n
 submitted_keeps C P k n who m r t kind declared label lim l is policy times accounts waiting =
     let count = is.waiting_are.each t l.3.tenant_known in
@@ -140,7 +140,7 @@ submit_follows m t w k n v z policy times shows same read accounts waiting = λ 
     let more : n.waiting.items ≡ slice_set k.waiting.items t (slice_index k.waiting.items t + 1) = waiting ∙ ap (λ (x : ℕ). slice_set k.waiting.items t (x + 1)) read in
     subst (λ (x : Entry). Keeps C (x ∷ P) n) (sym entry) (submitted_keeps C P k n e.who e.moment s.request t s.kind s.declared s.label lim (subst (λ (x : Entry). IsLegal C (x ∷ P)) entry l) is policy (subst (λ (x : Entry). TimesAre C (x ∷ P) n.times) entry are) raises more)
 
--- what the calls at a Submit ask for
+-- the requirements of the calls at a Submit
 pub record MaySubmit (k : Reading) (t : ℕ) : Type 0 where
   pub waits : t < length k.waiting.items
   pub few : slice_index k.waiting.items t < 4294967295
@@ -155,7 +155,7 @@ may_submit m t k w =
 
 -- ---- a Take
 
--- what a Take of a request of tenant t changes, at this estimate
+-- the changes by a Take of a request of tenant t, at this estimate
 record TakeStep (C : Config) (P : History) (e : Entry) (t estimate : ℕ) : Type 0 where
   known : t < length C.weights
   low : estimate ≤ GREATEST_COST
@@ -200,7 +200,7 @@ take_step C P e m w t estimate lim l s =
 own_change : (a b d : ℕ) → b ≡ a + d → pos a +ℤ pos d ≡ pos b
 own_change a b d e = omega (arith, ints)
 
--- what is known of the weight, the length and the tag of what is taken, once the times have come to its moment
+-- the weight, the length and the tag of the request that is taken, once the times have come to its moment
 pub record AtTake (m w t estimate : ℕ) (k : Reading) (passed : Times) (weight : ℕ) (len tag_now : ℤ) : Type 0 where
   pub times : ComesTo m k.times passed
   pub weight_is : IsWeightOf passed t weight
@@ -267,7 +267,7 @@ take_follows m w t estimate weight waited k n passed len tag_now at times policy
       waiting_are = rw waiting (waiting_written C P e t (waited - 1) k.waiting.items x.known (omega (arith, read, is.waiting_are.each t x.known, x.own_queue)) x.other_queues is.waiting_are);
     }
 
--- what the calls at a Take ask for
+-- the requirements of the calls at a Take
 pub record MayTake (k : Reading) (passed : Times) (w t estimate : ℕ) : Type 0 where
   pub weighed : t < length passed.weights
   pub low : estimate ≤ GREATEST_COST
@@ -311,18 +311,18 @@ may_take m w t estimate k passed a comes =
 
 -- ---- a Withdraw
 
--- one fewer stands in a list that ascends without one that stands in it
+-- an ascending list without one of its items is one shorter
 one_fewer : (q : ℕ) (xs : List ℕ) → Ascends xs → Member q xs → length (but q xs) + 1 ≡ length xs
 one_fewer q [] a h = absurd h
 one_fewer q (x ∷ xs) a (inl e) = rw (eq-eqb x q (sym e), but_none q xs (λ r k same. let b : x < r = a.0 r k in omega (arith, e, same, b))) (omega arith)
 one_fewer q (x ∷ xs) a (inr h) = let b : x < q = a.0 q h in rw (ne_eqb x q (λ e. omega (arith, e, b))) (omega (arith, one_fewer q xs a.1 h))
 
--- what is withdrawn waits for its tenant
+-- a request that is withdrawn waits for its tenant
 waits_own : (P : History) (t r : ℕ) → is_of_tenant t (request_at P r) ≡ true → is_waiting P r ≡ true → waits_for P t r ≡ true
 unfolding waits_for
 waits_own P t r own w = and_from _ _ own (not_from_false _ (waits_unremoved P r w))
 
--- what a Withdraw of a request of tenant t changes
+-- the changes by a Withdraw of a request of tenant t
 record WithdrawStep (C : Config) (P : History) (e : Entry) (t : ℕ) : Type 0 where
   known : t < length C.weights
   own_queue : length (queue (e ∷ P) t) + 1 ≡ length (queue P t)
@@ -365,7 +365,7 @@ withdraw_follows m t waited k n times policy accounts read waiting = λ C P e li
       waiting_are = rw waiting (waiting_written C P e t (waited - 1) k.waiting.items x.known (omega (arith, read, is.waiting_are.each t x.known, x.own_queue)) x.other_queues is.waiting_are);
     }
 
--- what the calls at a Withdraw ask for
+-- the requirements of the calls at a Withdraw
 pub record MayWithdraw (k : Reading) (t : ℕ) : Type 0 where
   pub waits : t < length k.waiting.items
   pub some : 1 ≤ slice_index k.waiting.items t

@@ -53,13 +53,13 @@ lesser_none : (o : Option ℕ) → lesser o None ≡ o
 lesser_none None = refl
 lesser_none (Some x) = refl
 
--- ---- what one entry shows of a request
+-- ---- the request that one entry shows not to be as declared
 
 -- the requests that are not as declared, as a test
 abbrev is_stray : Config → History → ℕ → Bool
 is_stray C P r = not (is_as_declared C P r)
 
--- what is known of a request decides whether it is as declared
+-- whether a request is as declared, by its use, its cost and its Submit
 abbrev as_asked : Estimator → ℕ → Option ℕ → Option Request → Bool
 as_asked estimator used cost None = true
 as_asked estimator used cost (Some q) = is_declared estimator && (nat_le used q.declared && is_cost_declared q.declared cost)
@@ -72,7 +72,7 @@ declared_is : (C : Config) (P : History) (r used : ℕ) (cost : Option ℕ) (o :
 unfolding is_as_declared
 declared_is C P r used cost o uses costs was = rw (was, asked_is C P r o, uses, costs) refl
 
--- an entry that neither asks for r nor uses it nor ends it
+-- an entry that neither submits r nor uses it nor ends it
 declared_same : (C : Config) (P : History) (e : Entry) (r : ℕ) → request_in r e.act (request_at P r) ≡ request_at P r → use_in r e.act ≡ 0 → cost_in r e.act (final_cost P r) ≡ final_cost P r → is_stray C (e ∷ P) r ≡ is_stray C P r
 declared_same C P e r was uses costs = ap not (declared_is C (e ∷ P) r (last_use P r) (final_cost P r) (request_at P r) (omega (arith, uses)) costs was ∙ sym (declared_is C P r _ _ _ refl refl refl))
 
@@ -96,7 +96,7 @@ submit_shows C P who m q u kind declared label is l number = λ r. elim (cases_e
       ap not (after_it ∙ (kept ∙ sym before))
 ]
 
--- what is known of a request that is used
+-- the facts about a request that is used
 record Used (C : Config) (P : History) (asked : List Asked) (r used : ℕ) : Type 0 where
   what : Request
   was : request_at P r ≡ Some what
@@ -117,7 +117,7 @@ used_is C P asked w r used lim l f knows =
       small = use_small C P w r used lim l f;
     }
 
--- a request without a cost is as declared where its use is at most what it declared
+-- a request without a cost is as declared where its use is at most its declared cost
 uncosted : (C : Config) (H : History) (r used : ℕ) (q : Request) (b : Bool) → C.estimate ≡ Declared → request_at H r ≡ Some q → final_cost H r ≡ None → last_use H r ≡ used → nat_le used q.declared ≡ b → is_stray C H r ≡ not b
 uncosted C H r used q b is was cost uses low =
     let decided : as_asked C.estimate used None (Some q) ≡ b = rw (is, low) (keeps b) in
@@ -200,7 +200,7 @@ unfolding not_declared request_bound
 shown C P e None h = least_same _ _ (2 ^ 32) h ∙ sym (lesser_none (least_below (is_stray C P) (2 ^ 32)))
 shown C P e (Some s) h = least_more _ _ (2 ^ 32) s h.1 h.0
 
--- one entry on, the least is the lesser of what it was and what the entry shows
+-- one entry on, the least is the lesser of the least before and the request that the entry shows
 pub stray_next : (C : Config) (P : History) (e : Entry) (asked : List Asked) → C.estimate ≡ Declared → InLimits C → IsLegal C (e ∷ P) → Knows P asked → not_declared C (e ∷ P) ≡ lesser (not_declared C P) (stray asked e.act)
 stray_next C P e asked is lim l knows = shown C P e (stray asked e.act) (shows_at C P asked e.who e.moment e.act is lim l knows)
 
@@ -208,7 +208,7 @@ pub stray_nil : (C : Config) → not_declared C [] ≡ None
 unfolding not_declared request_bound is_as_declared
 stray_nil C = least_by (λ r. not (is_as_declared C [] r)) (2 ^ 32) None (λ r b. refl)
 
--- what the entry is of is one of the requests
+-- an entry reports or ends one of the requests
 known_at : (P : History) (asked : List Asked) (C : Config) (m : ℕ) (a : Act) → IsLegal C P → Fits C P m a → Knows P asked → IsKnown a (length asked)
 known_at P asked C m (Report worker request used) l f knows = let x = use_known C P worker request used l f.0 in slice_get_within asked request _ (knows request x.0 x.1)
 known_at P asked C m (Done worker request cost) l f knows = let x = use_known C P worker request cost l f in slice_get_within asked request _ (knows request x.0 x.1)

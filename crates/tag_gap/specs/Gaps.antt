@@ -1,4 +1,4 @@
--- Why no gap is told of a history.
+-- Why two tenants have no gap in a history.
 use Rattle.std.specs.Prelude.{ℕ, List, [], ◌∷◌, ◌++◌, Option, is_some, unwrap_or}
 use Rattle.fq_model.specs.declared.config.Config.{Config}
 use Rattle.fq_model.specs.Rows.{first_true}

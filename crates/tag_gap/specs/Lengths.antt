@@ -1,4 +1,4 @@
--- What the longest length of a tenant's requests is made of.
+-- The numbers that give the longest length of a tenant's requests.
 use Rattle.std.specs.Prelude.{ℕ, max, min, ◌==◌, if◌then◌else◌}
 use Rattle.fq_model.specs.declared.event.Act.{Act}
 use Rattle.fq_model.specs.declared.event.Act.TheVariants.{Submit, Weight}

@@ -1,4 +1,4 @@
--- What is kept of a history while its entries are read.
+-- The state that is kept while the entries of a history are read.
 use Rattle.std.specs.Prelude.{ℕ, ℤ, ◌<◌, ◌≡◌, ◌==◌, ◌∷◌, if◌then◌else◌, List, Some, length, slice_get, slice_index}
 use Rattle.fq_model.specs.declared.config.Config.{Config}
 use Rattle.fq_model.specs.declared.event.Act.TheVariants.{Take, Withdraw}
@@ -13,7 +13,7 @@ use Rattle.tag_gap.specs.declared.asked.Asked.{Asked}
 use Rattle.tag_gap.specs.declared.reading.Reading.{Reading}
 use Rattle.tag_gap.specs.Asked.{asked_of}
 
--- so many requests of each tenant wait
+-- the numbers of waiting requests by tenant
 pub record WaitingAre (C : Config) (P : History) (waiting : List ℕ) : Type 0 where
   pub tenants : length waiting ≡ length C.weights
   pub each : (t : ℕ) → t < length C.weights → slice_index waiting t ≡ length (queue P t)
@@ -27,7 +27,7 @@ pub record Keeps (C : Config) (P : History) (k : Reading) : Type 0 where
   pub accounts_are : AccountsAre C P k.accounts
   pub waiting_are : WaitingAre C P k.waiting.items
 
--- it is of some history
+-- the kept state is that of some history
 abbrev pub KeepsSome : Reading → Type 0
 KeepsSome k = (C : Config) × (P : History) × Keeps C P k
 
@@ -49,19 +49,19 @@ pub record Withdraws (moment tenant : ℕ) (P : History) (e : Entry) : Type 0 wh
   pub asked_is : request_at P request ≡ Some asked
   pub tenant_is : asked.tenant ≡ tenant
 
--- the entry may come after the history, and leaves all requests as declared; what those before it asked is known
+-- the entry may come after the history, and leaves all requests as declared; the requests before it are known
 pub record MayCome (C : Config) (asked : List Asked) (P : History) (e : Entry) : Type 0 where
   pub costs : HasDeclaredCosts C (e ∷ P)
   pub known : (r : ℕ) (q : Request) → request_at P r ≡ Some q → slice_get asked r ≡ Some (asked_of q)
 
--- what is kept is that of a history after which the entry may come
+-- the kept state is that of a history after which the entry may come
 pub record AwaitsEntry (asked : List Asked) (e : Entry) (k : Reading) : Type 0 where
   pub config : Config
   pub history : History
   pub comes : MayCome config asked history e
   pub keeps : Keeps config history k
 
--- and of each such history, what was kept of it becomes what is kept of the history with the entry
+-- and the state that was kept of each such history becomes that of the history with the entry
 abbrev pub FollowsEntry : List Asked → Entry → Reading → Reading → Type 0
 FollowsEntry asked e before after =
     (C : Config) (P : History) → MayCome C asked P e → Keeps C P before → Keeps C (e ∷ P) after

@@ -4,13 +4,13 @@ use Rattle.fq_model.specs.declared.event.Act.{Act}
 use Rattle.fq_model.specs.declared.event.Act.TheVariants.{Report, Done}
 use Rattle.tag_gap.specs.declared.asked.Asked.{Asked}
 
--- what the act reports or ends is one of so many requests
+-- the request that the act reports or ends is one of the first n
 abbrev pub IsKnown : Act → ℕ → Type 0
 IsKnown (Report worker request used) n = request < n
 IsKnown (Done worker request cost) n = request < n
 IsKnown _ n = Unit {0}
 
--- what is declared of a request
+-- the declared cost of a request
 abbrev pub declared_of : List Asked → ℕ → ℕ
 declared_of asked r = (slice_index_or asked r (record { tenant = 0; declared = 0 })).declared
 

@@ -1,11 +1,11 @@
-//! What was asked, by request.
+//! The tenants and the declared costs of requests.
 ghost use Rattle.std.specs.Prelude.{◌≡◌, IfOk, filter_map};
 ghost use Rattle.tag_gap.specs.Asked.{submitted};
 
 use fq_model::event::{Act, Entry};
 use std::alloc::{AllocError, Global};
 
-/// What the Submit of a request says of it.
+/// The tenant and the declared cost in the Submit of a request.
 #[derive(Clone, Copy, Debug, PartialEq, Eq)]
 pub struct Asked {
     pub tenant: u32,
@@ -13,7 +13,7 @@ pub struct Asked {
     pub declared: u64,
 }
 
-/// What the Submits of a past say, in order of time: where it is legal, by the number of the request.
+/// The tenants and declared costs in the Submits of a past, in order of time: where it is legal, by request number.
 pub fn asked_in(alloc: Global, past: &[Entry]) -> Result<Vec<Asked>, AllocError>
     ensures { IfOk result (λ v. v.items ≡ filter_map (λ e. submitted e.act) past.now) }
 {
@@ -22,7 +22,7 @@ pub fn asked_in(alloc: Global, past: &[Entry]) -> Result<Vec<Asked>, AllocError>
         .collect(alloc)
 }
 
-// What the entry says of a request that it submits, if it does.
+// The tenant and the declared cost of the request that the entry submits, if it does.
 fn submitted(entry: &Entry) -> Option<Asked>
     ensures { result ≡ submitted entry.now.act }
 {

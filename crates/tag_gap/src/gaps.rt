@@ -1,4 +1,4 @@
-//! How far one tenant's start was above another's.
+//! The gap of two tenants.
 ghost use Rattle.std.specs.Prelude.{◌≡◌, ◌<◌, ◌⊎◌, length, IfOk, IfErr, IfSome, Err, None, Some, option_map, ◌≤ℤ◌};
 ghost use Rattle.fq_model.specs.History.{history_of};
 ghost use Rattle.fq_model.specs.Gap.{tag_gap};
@@ -22,11 +22,11 @@ use tag_difference::found::Found;
 use tag_difference::gap::Gap;
 use tag_difference::pair::tenant_fault;
 
-/// How far the start of tenant f was above that of tenant g at most, at the prefixes of a past in which both wait, and
-/// what bounds that; none where they never wait both. Fair queuing bounds such a difference of two backlogged flows by
-/// the lengths of their longest packets (Golestani, 1994; Goyal, Vin and Cheng, 1996), which are known there: so all
-/// requests must cost what was declared. The faults of the tenants are found before any memory is taken. Takes time in
-/// proportion to the past, and memory in proportion to its requests and the tenants.
+/// The greatest difference of the starts of tenants f and g at the prefixes of a past in which both wait, and its
+/// bound; none where they never wait both. Fair queuing bounds such a difference of two backlogged flows by the lengths
+/// of their longest packets (Golestani, 1994; Goyal, Vin and Cheng, 1996), which are known there: so all requests must
+/// be as declared. The faults of the tenants are found before any memory is taken. Takes time in proportion to the
+/// past, and memory in proportion to its requests and the tenants.
 pub fn tag_gap(
     alloc: Global,
     past: &[Entry],

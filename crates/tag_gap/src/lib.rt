@@ -1,4 +1,4 @@
-//! How far the start of one tenant was above that of another while both waited, and what bounds it.
+//! The gap of two tenants: the greatest difference of their starts while both wait, and its bound.
 #![tactic(auto)]
 
 pub mod asked;

@@ -1,4 +1,4 @@
-//! What is known of a past while its entries are read.
+//! The state that is kept while the entries of a past are read.
 ghost use Rattle.std.specs.Prelude.{◌≡◌, ◌<◌, [], IfOk, IfErr, length, pos, ◌≤ℤ◌};
 ghost use Rattle.fq_model.specs.declared.config.Config.{Config};
 ghost use Rattle.fq_model.specs.History.{History};
@@ -20,7 +20,7 @@ use tag_rules::accounts::Accounts;
 use virtual_clock::times::Times;
 use vt_fixed::length;
 
-/// What decides where the tenants of a history start, and how many requests of each wait, by number.
+/// The policy, times and accounts that decide the starts of the tenants, and how many requests of each tenant wait.
 #[derive(Drop)]
 pub struct Reading {
     pub policy: Policy,
@@ -30,7 +30,7 @@ pub struct Reading {
 }
 
 impl Reading {
-    /// That of a history without entries. All its memory is taken here.
+    /// The state of a history without entries. All its memory is taken here.
     pub fn open(alloc: Global, config: &Checked) -> Result<Reading, GapFault>
         ensures keeps { IfOk result (Keeps config.now []) }
         ensures fault { IfErr result (λ x. x ≡ faults.NoMemory) }

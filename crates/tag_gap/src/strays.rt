@@ -25,7 +25,7 @@ pub fn not_declared(past: &[Entry], config: &Checked, asked: &[Asked]) -> Option
     }
 }
 
-// The same where estimates are the declared numbers.
+// The least request that is not as declared, where estimates are the declared numbers.
 fn least_stray(past: &[Entry], config: &Checked, asked: &[Asked]) -> Option<u32>
     requires legal { IsLegal config.now (history_of past.now) }
     requires asked { AreAsked (history_of past.now) asked.now }
@@ -52,7 +52,7 @@ fn stray(entry: &Entry, asked: &[Asked]) -> Option<u32>
     }
 }
 
-// What is declared of a request, in microseconds.
+// The declared cost of a request, in microseconds.
 fn declared_of(asked: &[Asked], request: u32) -> u64
     requires { request < length asked.now }
     ensures { result ≡ declared_of asked.now request }

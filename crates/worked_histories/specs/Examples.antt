@@ -1,6 +1,5 @@
--- Worked histories, the newest entry first, small enough to find by hand what the definitions give on them. The numbers
--- of
--- an act stand in the order of its fields: Submit request tenant kind declared label, Take worker request estimate,
+-- Worked histories, the newest entry first, small enough to find the values of the definitions by hand. The numbers of
+-- an act are in the order of its fields: Submit request tenant kind declared label, Take worker request estimate,
 -- Report worker request used, Done worker request cost, Weight tenant weight.
 use Rattle.std.specs.Prelude.{ℕ, ◌*◌, [], ◌∷◌, pos}
 use Rattle.vt_fixed.specs.Rounding.{steps_per_unit}
@@ -18,11 +17,11 @@ use Rattle.fq_model.specs.Keys.{HeadKeys, HasKeys, NoneIsEligible, turn_at}
 abbrev pub entry : ℕ → ℕ → Act → Entry
 entry who moment act = record { who = who; moment = moment; act = act }
 
--- so many virtual units, in steps
+-- this number of virtual units, in steps
 abbrev pub units : ℕ → ℕ
 units n = n * steps_per_unit
 
--- the keys of a head that starts at so many units and is so many units long
+-- the keys of a head whose start and length are these numbers of units
 abbrev pub keys : ℕ → ℕ → ℕ → HeadKeys
 keys start len request = record { start = pos (units start); len = pos (units len); request = request }
 
@@ -38,8 +37,7 @@ stagger_config =
     record { workers = 2; weights = 1 ∷ 1 ∷ []; kinds = 1; entries = 100; requests = 10; policy = TwoDfq; estimate = Declared; initial = 1000 }
 
 -- worker 1 runs a request of tenant 0 that is 8 long, while worker 0 runs requests of tenant 1 that are 1 long: the
--- sixth
--- of them has just begun
+-- sixth of them has just begun
 unfoldable pub stagger_history : History
 stagger_history =
     entry 10 5 (Take 0 7 1)

@@ -11,12 +11,12 @@ use Rattle.fq_model.specs.Pace.{pace}
 use Rattle.fq_model.specs.Rules.{IsLegal}
 use Rattle.worked_histories.specs.Examples.{entry, units}
 
--- so many workers, and two tenants of weight 1
+-- this number of workers, and two tenants of weight 1
 abbrev pub config_for : ℕ → Policy → Config
 config_for workers policy =
     record { workers = workers; weights = 1 ∷ 1 ∷ []; kinds = 1; entries = 100; requests = 10; policy = policy; estimate = Declared; initial = 1000 }
 
--- under 2dfq+ virtual time and the cap are so many units just after the last entry
+-- under 2dfq+ virtual time and the cap are these numbers of units just after the last entry
 pub record PaceIs (C : Config) (P : History) (time cap : ℕ) : Type 0 where
   pub time_is : (pace C P).now ≡ units time
   pub cap_is : (pace C P).reached ≡ units cap
@@ -75,7 +75,7 @@ cap_history =
 unfoldable pub both_config : Policy → Config
 both_config policy = config_for 1 policy
 
--- a request of tenant 0 that was thought to cost 1 has cost 5 after 10
+-- a request of tenant 0 that was estimated at 1 has cost 5 after 10
 unfoldable pub both_ended : History
 both_ended =
     entry 10 10 (Done 0 0 5)
@@ -101,7 +101,7 @@ both_history = entry 10 20 (Done 0 1 3) ∷ entry 1 10 (Submit 3 1 0 2 4) ∷ bo
 unfoldable pub refunded_config : Policy → Config
 refunded_config policy = config_for 1 policy
 
--- a request of tenant 0 that was thought to cost 10 has cost 1, and the next one, which cost 1 too, ran from 1 to 9
+-- a request of tenant 0 that was estimated at 10 has cost 1, and the next one, which cost 1 too, ran from 1 to 9
 unfoldable pub refunded_ended : History
 refunded_ended =
     entry 10 9 (Done 0 1 1)

@@ -1,4 +1,4 @@
--- Worked histories in which a request is withdrawn, the newest entry first. The numbers of an act stand in the order of
+-- Worked histories in which a request is withdrawn, the newest entry first. The numbers of an act are in the order of
 -- its fields: Submit request tenant kind declared label, Take worker request estimate, Done worker request cost,
 -- Withdraw request.
 use Rattle.std.specs.Prelude.{ℕ, [], ◌∷◌}
@@ -49,12 +49,12 @@ unfoldable pub back_again : History
 unfolding worker_free
 back_again = entry 1 10 (Submit 3 1 0 3 4) ∷ worker_free
 
--- in place of that tenant 0 withdraws what waits of it, while its other request runs
+-- in place of that tenant 0 withdraws its waiting request, while its other request runs
 unfoldable pub other_withdrawn : History
 unfolding both_wait
 other_withdrawn = entry 0 4 (Withdraw 1) ∷ both_wait
 
--- until that one ends
+-- until the other request ends
 unfoldable pub other_ended : History
 unfolding other_withdrawn
 other_ended = entry 10 10 (Done 0 0 10) ∷ other_withdrawn
@@ -89,12 +89,12 @@ closed_waits =
     ∷ entry 0 0 (Submit 0 0 0 5 1)
     ∷ []
 
--- the one that runs ends
+-- the running request ends
 unfoldable pub closed_ended : History
 unfolding closed_waits
 closed_ended = entry 10 5 (Done 0 0 5) ∷ closed_waits
 
--- and the one that waits is withdrawn
+-- and the waiting request is withdrawn
 unfoldable pub closed_withdrawn : History
 unfolding closed_ended
 closed_withdrawn = entry 0 6 (Withdraw 1) ∷ closed_ended

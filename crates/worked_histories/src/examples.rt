@@ -1,4 +1,4 @@
-//! The definitions computed on worked histories, one function an example: its contract says what they give there, and
+//! The definitions computed on worked histories, one function an example: its contract states their values there, and
 //! its body is empty. Each number can be found by hand, as the comments do. A unit of virtual time is 2^20 steps;
 //! tenants, requests and workers count from 0.
 ghost use Rattle.std.specs.Prelude.{◌/◌, ◌≡◌, ◌≢◌, ◌∷◌, pos, Some, None};
@@ -99,9 +99,8 @@ pub fn pause()
 
 /// The weights example. One worker over the weights 4 and 1 makes a unit in 5 microseconds, and 4 in 20. The request
 /// of tenant 0 cost 8, and is charged by the weight 2 that its tenant had at the Take: 4 units, where the weight 4
-/// would make
-/// 2. Its next head is measured by the weight now: 8 at the weight 4 is 2 units, so that it finishes at 6, after tenant
-/// 1's at 5.
+/// would make 2. Its next head is measured by the weight now: 8 at the weight 4 is 2 units, so that it finishes at 6,
+/// after tenant 1's at 5.
 pub fn weights()
     ensures in_limits { InLimits weights_config }
     ensures legal { IsLegal weights_config weights_history }
@@ -113,8 +112,8 @@ pub fn weights()
 {}
 
 /// The workers example. From moment 0 on there is one worker, over one weight: 4 microseconds are 4 units. Worker 1
-/// ends what it runs, is told that it is retired though a request waits, and may not take; worker 0 may. There may be
-/// 2 workers again, and not 3.
+/// ends its request, is answered Retired though a request waits, and may not take; worker 0 may. There may be 2 workers
+/// again, and not 3.
 pub fn workers()
     ensures in_limits { InLimits workers_config }
     ensures legal { IsLegal workers_config workers_history }

@@ -1,4 +1,4 @@
-//! What the definitions give on worked histories, small enough to find each number by hand.
+//! The values of the definitions on worked histories, small enough to find each number by hand.
 #![tactic(auto)]
 
 pub mod examples;

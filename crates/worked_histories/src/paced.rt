@@ -1,4 +1,4 @@
-//! Worked histories under `2dfq+`, in which virtual time is lifted or capped, and what the same calls give under
+//! Worked histories under `2dfq+`, in which virtual time is lifted or capped, and the results of the same calls under
 //! `2dfq`. In each of them tenant 0 is there alone at first, and tenant 1 comes later.
 ghost use Rattle.std.specs.Prelude.{◌≡◌};
 ghost use Rattle.fq_model.specs.declared.config.Policy.{Policy};

@@ -1,5 +1,6 @@
-//! Worked histories in which a request is withdrawn: who has a head then and who is active, which keys the next head
-//! has, what stays, and what the call is answered. In each of them there are one worker and two tenants of weight 1.
+//! Worked histories in which a request is withdrawn: which tenants then have a head and are active, the keys of the
+//! next head, the numbers that stay, and the answer to the call. In each of them there are one worker and two tenants
+//! of weight 1.
 ghost use Rattle.std.specs.Prelude.{◌≡◌, true, false, [], ◌∷◌, Some, None};
 ghost use Rattle.fq_model.specs.declared.config.Policy.{Policy};
 ghost use Rattle.fq_model.specs.declared.config.Policy.TheVariants.{Msf2q, TwoDfq, TwoDfqPlus};
@@ -33,7 +34,7 @@ pub fn only_request()
     ensures choice { IsChoiceAt (withdraw_config TwoDfq) back_again 10 0 1 (keys 8 3 3) }
 {}
 
-/// What the call is answered there. Request 2 waits, and its label is 3: the reply is that, and the history is one
+/// The answer to the call there. Request 2 waits, and its label is 3: the reply is that label, and the history is one
 /// entry longer. Then it waits no more, and is refused, as request 0 is, which runs, and 3, which was never submitted.
 /// Nor may request 2 be taken then, when the worker is free.
 pub fn answers()
@@ -44,9 +45,9 @@ pub fn answers()
     ensures not_taken { ¬ IsLegal (withdraw_config TwoDfq) (entry 10 10 (Act.Take 0 2 4) ∷ worker_free) }
 {}
 
-/// A request of a tenant that runs another one. At moment 4 tenant 0 withdraws what waits of it: it has no head, but is
-/// active until its other request ends at moment 10. Up to there one worker over two weights makes 5 units, and 4 more
-/// over the weight of tenant 1 until moment 14.
+/// A request of a tenant that runs another one. At moment 4 tenant 0 withdraws its waiting request: it has no head, but
+/// is active until its other request ends at moment 10. Up to there one worker over two weights makes 5 units, and 4
+/// more over the weight of tenant 1 until moment 14.
 pub fn running_tenant()
     ensures legal { (p : Policy) → IsLegal (withdraw_config p) other_ended }
     ensures no_head { head other_withdrawn 0 ≡ None }
@@ -93,7 +94,7 @@ pub fn middle_of_list()
 {}
 
 /// After Close. Request 1 waits still when request 0 has ended. It is withdrawn, its label is 2, and a take is then
-/// answered that all is drained.
+/// answered Drained.
 pub fn after_close()
     ensures legal { IsLegal (withdraw_config TwoDfq) closed_withdrawn }
     ensures one_waits { waiting closed_ended ≡ 1 }

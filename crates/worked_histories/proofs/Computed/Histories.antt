@@ -1,7 +1,6 @@
--- The definitions count and sum over all numbers of 32 bits, and so many do not compute. On a history whose requests
--- are
--- below n the numbers below n come to the same: here each definition stands once more over these, with `within` in its
--- name, and with a lemma that it is the same.
+-- The definitions count and sum over all numbers of 32 bits, which are too many to compute. On a history whose requests
+-- are below n the numbers below n give the same results: here each definition stands once more over these, with
+-- `within` in its name, and with a lemma that it is the same.
 use Rattle.std.proofs.Common.{ℕ, nat_lt, Bool, true, ◌&&◌, [], ◌∷◌, ◌≤◌, ◌≡◌, ◌-◌, ◌<◌, arith, Option, None, refl, false, nat_eq, inl, inr, zero, suc, ◌∙◌, Some, ap, if◌then◌else◌, length, ◌+◌, ap₂, max, min, is_none, pos, ◌==◌}
 use Rattle.std.proofs.Math.Path.{fun_ext}
 use Rattle.std.proofs.lemmas.Bool.{and_parts, ltb-true, ne_eqb, or_from, cases_Bool, cases_eq, and_left}
@@ -119,7 +118,7 @@ least_within p n (suc m) b h = elim (cases_eq n (suc m)) [
     first_none None = refl
     first_none (Some r) = refl
 
--- ---- what waits and runs
+-- ---- waiting and running requests
 
 unfoldable pub waiting_within : ℕ → History → ℕ
 waiting_within n P = count_below (is_waiting P) n
@@ -331,7 +330,7 @@ pub turn_is : (n k : ℕ) (C : Config) (P : History) (m i : ℕ) → IsShort n k
 unfolding turn_within
 turn_is n k C P m i s = ap (λ (v : ℕ). record { policy = C.policy; workers = pool_at C P; worker = i; virtual_time = pos v }) (virtual_time_is n k C P m s)
 
--- ---- what an example opens
+-- ---- the definitions that an example opens
 
 -- the line `unfolding computing` opens all of these
 unfoldable pub computing : Unit {0}
