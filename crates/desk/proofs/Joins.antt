@@ -28,7 +28,7 @@ module _ {A : Type 0} where
   each_so P Q f [] h = tt
   each_so P Q f (x ∷ xs) h = (f x h.0, each_so P Q f xs h.1)
 
-  -- of those of which all hold one thing and one holds the other, one holds both
+  -- where P holds of each and Q of some, both hold of one
   found : (P Q : A → Type 0) (xs : List A) → HoldsOfEach P xs → HoldsOfSome Q xs → (x : A) × P x × Q x
   found P Q [] h s = absurd s
   found P Q (x ∷ xs) h (inl s) = (x, h.0, s)

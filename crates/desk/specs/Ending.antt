@@ -40,7 +40,7 @@ pub record AreOf (lock : LockView Crew) (submitters : List Submitter) (workers :
 abbrev pub IsIn : List Entry → PassView Crew → Type 0
 IsIn past pass = IsPrefix pass.seen past × (own_entries past pass.number ≡ pass.mine)
 
--- the past is so for each token that is handed in
+-- so it is for each token that is handed in
 pub record HasAll (past : List Entry) (submitters : List Submitter) (workers : List Worker) : Type 0 where
   pub of_submitters : HoldsOfEach (λ t. IsIn past t.pass) submitters
   pub of_workers : HoldsOfEach (λ t. IsIn past t.pass) workers

@@ -59,7 +59,7 @@ abbrev pub live_reply : Result (Unit {0}) LiveRefusal → Reply
 live_reply (Ok accepted) = answer.Accepted
 live_reply (Err why) = answer.Refused (live_cause why)
 
--- the causes that a completion may have
+-- the causes that a refused done may have
 abbrev pub IsEnding : Cause → Type 0
 IsEnding (cause.Cost cost) = Unit {0}
 IsEnding (cause.Falling last given) = Unit {0}

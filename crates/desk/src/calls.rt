@@ -194,7 +194,7 @@ impl<J: Job + Drop, X: Chooser> DeskOf<Floor<J, X>> {
         self.bell.wait(rt, heard);
     }
 
-    /// A worker asks for work. It keeps its token unless it is to run a request.
+    /// A worker takes its next request. It keeps its token unless it is to run one.
     pub fn take<R: Wait>(&self, rt: &R, worker: Worker, moment: u64) -> Took<J>
         requires { IsOf self.now.lock worker.pass }
         ensures stays { Stays self.now.lock worker.pass (took_pass result) }

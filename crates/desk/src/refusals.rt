@@ -30,7 +30,7 @@ pub enum LiveRefusal {
     Full(u32),
 }
 
-/// Why a completion is refused. Costs are microseconds.
+/// Why a done is refused. Costs are microseconds.
 #[derive(Clone, Copy, Debug, PartialEq, Eq, thiserror::Error)]
 pub enum DoneRefusal {
     /// A cost above the greatest one.

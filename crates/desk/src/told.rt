@@ -12,7 +12,7 @@ pub enum Ask<J> {
         declared: u64,
         job: J,
     },
-    /// A worker asks for work.
+    /// A worker takes its next request.
     Take {
         moment: u64,
         worker: u32,

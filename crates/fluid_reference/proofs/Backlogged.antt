@@ -44,7 +44,7 @@ sum_each f n (u ∷ w) known =
     let own : times u (u ∷ w) * f u ≡ f u + times u w * f u = ap (λ c. c * f u) (times_own u w) ∙ omega (arith, add-mul 1 (times u w) (f u)) in
     omega (arith, sum_by-cons f u w, rest, one, own)
 
--- what has no backlog isn't named, and what has one is named once
+-- a tenant that has no backlog isn't named, and a tenant that has one is named once
 times_none : (costs served w : List ℕ) (t : ℕ) → AreBacklogged costs served w → has_backlog costs served t ≡ false → times t w ≡ 0
 times_none costs served w t are none = are t ∙ ap (λ b. cond {A = ℕ} b 1 0) none
 
@@ -90,7 +90,7 @@ no_more costs served w are = omega (
 
 -- ---- the level
 
--- what has no backlog wants no units
+-- a tenant that has no backlog wants no units
 no_units : (costs served weights : List ℕ) (t : ℕ) → has_backlog costs served t ≡ false → (want_of costs served weights t).units ≡ 0
 no_units costs served weights t none = omega (arith, ltb-false (number_at served t) (number_at costs t) none)
 
@@ -102,7 +102,7 @@ sum_wants costs served weights w f are none = sum_of_map f (want_of costs served
     ∙ sum_backlogged costs served w (λ t. f (want_of costs served weights t)) are (λ t e. none _ (no_units costs served weights t e))
     ∙ sym (sum_of_list f (want_of costs served weights) (length costs))
 
--- those that have a backlog have the level of all
+-- the backlogs of the tenants that have one have the level of all backlogs
 pub level_of_all : (cap : ℕ) (costs served weights w : List ℕ) (l : Level) → AreBacklogged costs served w → IsLevel cap (map (want_of costs served weights) w) l → IsLevel cap (wants_of costs served weights) l
 level_of_all cap costs served weights w levels.All are is = omega (arith, is, sum_wants costs served weights w (λ b. b.units) are (λ b e. e))
 level_of_all cap costs served weights w (levels.At x) are is =
@@ -120,9 +120,9 @@ backlogs_in_range costs served weights w can known k d l =
       weight = can.in_range (get_or w k 0) 0 (omega (arith, tenant, can.weights_len));
     })
 
--- ---- what they are given
+-- ---- the gifts to the tenants that have a backlog
 
--- what a slot of this level gives tenant u, counted for tenant t
+-- the gift of a slot of this level to tenant u, counted for tenant t
 abbrev pub given_to : Level → List ℕ → List ℕ → List ℕ → ℕ → ℕ → ℕ
 given_to l costs served weights t u = cond (nat_eq u t) (gift l (want_of costs served weights u)) 0
 
@@ -132,7 +132,7 @@ given_own l costs served weights t = cond-true (nat_eq t t) _ _ (eq-eqb t t refl
 given_other : (l : Level) (costs served weights : List ℕ) (t u : ℕ) → t ≢ u → given_to l costs served weights t u ≡ 0
 given_other l costs served weights t u other = cond-false (nat_eq u t) _ _ (ne_eqb u t (λ e. other (sym e)))
 
--- all together are its gift
+-- the gifts that count for tenant t are together its gift
 given_all : (l : Level) (costs served weights w : List ℕ) (t : ℕ) → AreBacklogged costs served w → t < length costs → sum_by (given_to l costs served weights t) w ≡ gift l (want_of costs served weights t)
 given_all l costs served weights w t are here =
     let all : sum_by (given_to l costs served weights t) w ≡ sum_below (given_to l costs served weights t) (length costs) = sum_backlogged costs served w (given_to l costs served weights t) are (λ u e. elim (cases_eq t u) [
@@ -142,7 +142,7 @@ given_all l costs served weights w t are here =
     let one : sum_below (λ _. 0) (length costs) + given_to l costs served weights t t ≡ sum_below (given_to l costs served weights t) (length costs) + 0 = sum_at (given_to l costs served weights t) (λ _. 0) t (length costs) here (λ s other. given_other l costs served weights t s (λ e. other (sym e))) in
     omega (arith, all, one, sum_zero (λ _. 0) (length costs) (λ r. refl), given_own l costs served weights t)
 
--- what each is served when the first of them were given theirs
+-- `now` is the service of each tenant once the tenants in w were given their gifts
 abbrev pub IsGiven : Level → List ℕ → List ℕ → List ℕ → List ℕ → List ℕ → Type 0
 IsGiven l costs served weights w now = (t : ℕ) → t < length served → number_at now t ≡ number_at served t + sum_by (given_to l costs served weights t) w
 
@@ -157,7 +157,7 @@ given_one l costs served weights w now k some known same are t here =
       | inr other ↦ get_or-set_other now T t v 0 other ∙ omega (arith, are t here, sum_by_more (given_to l costs served weights t) w k 0 some, given_other l costs served weights t T other)
     ]
 
--- the next one's gift leaves it within the limits
+-- the gift to the next tenant leaves its service within the limits
 pub given_low : (l : Level) (costs served weights w now : List ℕ) (k : ℕ) → CanShare costs served weights → AreBacklogged costs served w → k < length w → IsGiven l costs served weights (take k w) now →
     number_at now (get_or w k 0) + gift l (want_of costs served weights (get_or w k 0)) ≤ 2000000000000000
 given_low l costs served weights w now k can backlogged some are =
@@ -178,7 +178,7 @@ given_low l costs served weights w now k can backlogged some are =
 pub level_is : (cap : ℕ) (l : Level) (costs served weights w : List ℕ) → CanShare costs served weights → AreBacklogged costs served w → IsLevel cap (map (want_of costs served weights) w) l → l ≡ level cap (wants_of costs served weights)
 level_is cap l costs served weights w can backlogged is = level_of_wants cap (wants_of costs served weights) l (wants_in_range costs served weights can.costs_low can.weights_len can.in_range) (level_of_all cap costs served weights w l backlogged is)
 
--- when all were given theirs
+-- the service once all tenants that have a backlog were given their gifts
 pub served_is : (cap : ℕ) (l : Level) (costs served weights w now : List ℕ) → CanShare costs served weights → AreBacklogged costs served w → IsLevel cap (map (want_of costs served weights) w) l → length now ≡ length served → IsGiven l costs served weights w now →
     now ≡ served_next cap costs served weights
 served_is cap l costs served weights w now can backlogged is same are =
@@ -207,7 +207,7 @@ times_left p t (u ∷ w) = elim (cases_eq t u) [
   ]
 ]
 
--- when more was served, of what had a backlog
+-- after gifts, the tenants that have a backlog are those in w that still have one
 pub still_are : (l : Level) (costs served weights w now : List ℕ) → length served ≡ length costs → AreBacklogged costs served w → IsGiven l costs served weights w now → AreBacklogged costs now (filter (has_backlog costs now) w)
 still_are l costs served weights w now same are given t = times_left (has_backlog costs now) t w ∙ elim (cases_Bool (has_backlog costs now t)) [
   | inl e ↦ cond-true (has_backlog costs now t) _ _ e ∙ times_once costs served w t are (had t e) ∙ sym (cond-true (has_backlog costs now t) _ _ e)

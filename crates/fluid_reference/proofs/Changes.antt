@@ -1,4 +1,4 @@
--- The changes of a history say all of it that the fluid service asks beside the requests.
+-- Beside the requests, the fluid service asks nothing of a history but its changes.
 use Rattle.std.proofs.Common.{ℕ, zero, suc, ◌+◌, ◌*◌, ◌≤◌, ◌≡◌, true, false, nat_le, nat_eq, ◌-◌, ◌&&◌, List, [], ◌∷◌, map, length, arith, refl, ap, ap₂, sym, ◌∙◌, subst, inl, inr, reverse, cond}
 use Rattle.std.proofs.lemmas.List.{map-append, reverse-append}
 use Rattle.std.proofs.lemmas.Bool.{cases_Bool, leb-true, le-leb, cond-true, cond-false, and_from, and_parts}
@@ -31,7 +31,7 @@ grows_at m _ cs = refl
 grows : (e : Entry) (P : History) → G (e ∷ P) ≡ more e.moment e.act (G P)
 grows e P = grows_at e.moment e.act (changes_of P)
 
--- in a history in order whose last moment is at most m all are
+-- in a history in order whose last moment is at most m, all moments are
 all_by : (m : ℕ) (H : History) → IsInOrder H → last_moment H ≤ m → is_all_by m H ≡ true
 all_by m [] o h = refl
 all_by m (e ∷ P) o h = and_from _ _ (le-leb _ _ h) (all_by m P o.1 (omega (arith, o.0, h)))
@@ -51,7 +51,7 @@ pub whole : (m : ℕ) (H : History) → is_all_by m H ≡ true → prefix_at H m
 whole m [] h = refl
 whole m (e ∷ P) h = cond-true (is_all_by m (e ∷ P)) _ _ h
 
--- a prefix by moment: all where all are in time, and never what is too late
+-- a prefix by moment: the history where all entries are in time, and never an entry that is too late
 pub not_by : (m : ℕ) (e : Entry) (P : History) → nat_le e.moment m ≡ false → prefix_at (e ∷ P) m ≡ prefix_at P m
 not_by m e P h = cond-false (is_all_by m (e ∷ P)) _ _ (ap (λ b. b && is_all_by m P) h)
 
@@ -60,7 +60,7 @@ not_more m n (Weight tenant weight) older h = not_by m _ older h
 not_more m n (Workers count) older h = not_by m _ older h
 not_more m n _ older h = refl
 
--- what the changes of a history say, those of its prefix say of the prefix
+-- a value that is equal for a history and for its changes is equal for their prefixes by moment
 same_at : {A : Type 0} (f : History → A) → ((H : History) → f (G H) ≡ f H) → (H : History) (m : ℕ) → IsInOrder H → f (prefix_at (G H) m) ≡ f (prefix_at H m)
 same_at f s [] m o = refl
 same_at f s (e ∷ P) m o = elim (cases_Bool (nat_le e.moment m)) [

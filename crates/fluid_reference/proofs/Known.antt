@@ -1,4 +1,4 @@
--- What is known at a slot's start gives what is served by its end.
+-- Costs, weights and workers at a slot's start give the service by its end.
 use Rattle.std.proofs.Common.{ℕ, suc, ◌+◌, ◌-◌, ◌*◌, ◌<◌, ◌≤◌, ◌≡◌, List, ◌++◌, length, arith, refl, ap, ap₂, sym, ◌∙◌, subst, All, take, drop, zero, replicate, append-nil}
 use Rattle.std.proofs.lemmas.List.{get_or-replicate, length-replicate, take_all}
 use Rattle.std.proofs.Math.ListN.{drop_of_length-le}
@@ -30,7 +30,7 @@ pub record IsKnown (C : Config) (rows : List FluidRow) (H : History) (Q k : ℕ)
   pub weights_are : (t : ℕ) → t < length C.weights → number_at weights t ≡ weight_at C (prefix_at H (k * Q)) t
   pub workers_are : workers ≡ pool_at C (prefix_at H (k * Q))
 
--- from what was read up to a place
+-- these values at slot k, from the lists as read up to a place
 pub known : (C : Config) (rows sorted : List FluidRow) (changes : List Change) (Q k j i : ℕ) (costs weights : List ℕ) (workers : ℕ) → length costs ≡ length C.weights →
     IsPermutation rows sorted → IsNonDecreasingBy (λ (r : FluidRow). r.submit) sorted → IsNonDecreasingBy (λ (c : Change). c.moment) changes →
     CostsAre (take j sorted) costs → All (λ r. r.submit ≤ k * Q) (take j sorted) → (j < length sorted → k * Q < (row_of sorted j).submit) →
@@ -45,7 +45,7 @@ known C rows sorted changes Q k j i costs weights workers len moved up rise are 
       workers_are = set.pool ∙ ap (pool_at C) (sym prefix);
     }
 
--- what was served by the start of slot k
+-- the service of each tenant by the start of slot k
 pub record IsServed (C : Config) (rows : List FluidRow) (H : History) (Q k : ℕ) (served : List ℕ) : Type 0 where
   pub tenants : length served ≡ length C.weights
   pub each : (t : ℕ) → t < length C.weights → number_at served t ≡ fluid C rows H Q t k
@@ -55,7 +55,7 @@ pub fluid_more : (C : Config) (rows : List FluidRow) (H : History) (Q t k : ℕ)
 unfolding fluid
 fluid_more C rows H Q t k = refl
 
--- what tenants want then, and its level
+-- the backlogs at the start of slot k, and its level
 wants_are : (C : Config) (rows : List FluidRow) (H : History) (Q k : ℕ) (costs weights served : List ℕ) (workers t : ℕ) → IsKnown C rows H Q k costs weights workers → IsServed C rows H Q k served → t < length C.weights → want_of costs served weights t ≡ backlog_at C rows H (k * Q) (λ u. fluid C rows H Q u k) t
 wants_are C rows H Q k costs weights served workers t p s l = ap₂ (λ (n : ℕ) (w : ℕ). record { units = n; weight = w }) (ap₂ ◌-◌ (p.costs_are t l) (s.each t l)) (p.weights_are t l)
 
@@ -89,7 +89,7 @@ unfolding fluid
 served_low C n rows H Q t zero a few = omega arith
 served_low C n rows H Q t (suc k) a few = omega (arith, within C rows H Q t k, costs_low n rows (k * Q) t a few)
 
--- ---- what tenants want is in its limits
+-- ---- backlogs are in their limits
 
 pub wants_in_range : (costs served weights : List ℕ) → ((t : ℕ) → t < length costs → number_at costs t ≤ 2000000000000000) → length weights ≡ length costs → All IsWeight weights → All IsBacklog (wants_of costs served weights)
 wants_in_range costs served weights low same heavy k d l =
@@ -99,7 +99,7 @@ wants_in_range costs served weights low same heavy k d l =
       weight = heavy k 0 (omega (arith, here, same));
     })
 
--- the level that they have is the one
+-- backlogs have no level but `level`
 pub level_of_wants : (cap : ℕ) (wants : List Backlog) (l : Level) → All IsBacklog wants → IsLevel cap wants l → l ≡ level cap wants
 level_of_wants cap wants l a is = (the_one cap wants l (λ k d m. (a k d m).weight.0)).0 is
 
@@ -115,10 +115,10 @@ served_none C rows H Q served is = record {
   each = λ t l. ap (λ xs. number_at xs t) is ∙ get_or-replicate (length C.weights) t 0 0 l;
 }
 
--- what came by a slot's start came by the next one's
+-- items that came by a slot's start came by the start of the next slot
 pub still_before : {X : Type 0} (n : X → ℕ) (xs : List X) (k Q : ℕ) → All (λ x. n x ≤ k * Q) xs → All (λ x. n x ≤ (k + 1) * Q) xs
 still_before n xs k Q before i d l = omega (arith, before i d l, add-mul k 1 Q)
 
--- what a slice of a vector holds after writes is what the vector holds
+-- a vector that is written through a slice of all its elements holds the new elements of the slice
 pub written_back : {X : Type 0} (n : ℕ) (old new : List X) → length new ≡ length old → n ≡ length old → take n (new ++ drop (length new) old) ≡ new
 written_back n old new same len = ap (λ xs. take n (new ++ xs)) (drop_of_length-le old (omega (arith, same))) ∙ ap (take n) (append-nil new) ∙ take_all n new (omega (arith, same, len))

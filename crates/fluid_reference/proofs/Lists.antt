@@ -34,7 +34,7 @@ list_at f (suc n) k d l = elim (cases_eq k n) [
   | inr ne ↦ get_or-append (list_below f n) (f n ∷ []) d k (omega (arith, l, ne, list_length f n)) ∙ list_at f n k d (omega (arith, l, ne))
 ]
 
--- sums of what is the same, and of nothing
+-- sums of equal numbers, and of zeros
 pub sum_same : {X : Type 0} (f g : X → ℕ) (xs : List X) → All (λ x. f x ≡ g x) xs → sum_by f xs ≡ sum_by g xs
 sum_same f g [] h = refl
 sum_same f g (x ∷ xs) h = sum_by-cons f x xs ∙ ap₂ ◌+◌ (h 0 x (omega arith)) (sum_same f g xs (λ k d l. h (suc k) d (omega (arith, l)))) ∙ sym (sum_by-cons g x xs)
@@ -53,7 +53,7 @@ pub sum_of_map : {A B : Type 0} (f : B → ℕ) (g : A → B) (xs : List A) → 
 sum_of_map f g [] = refl
 sum_of_map f g (x ∷ xs) = sum_by-cons f (g x) (map g xs) ∙ ap (λ n. f (g x) + n) (sum_of_map f g xs) ∙ sym (sum_by-cons (λ y. f (g y)) x xs)
 
--- in order, what comes from a place on is beyond what the first of them is beyond
+-- in a list in order, the elements from a place on are above m where the element at that place is
 pub beyond : {X : Type 0} (n : X → ℕ) (xs : List X) (j m : ℕ) (e : X) → IsNonDecreasingBy n xs → (j < length xs → m < n (get_or xs j e)) → All (λ x. m < n x) (drop j xs)
 beyond n xs j m e order next k d l =
     let some : j < length xs = omega (arith, l, length-drop j xs) in

@@ -1,4 +1,4 @@
--- What has joined and what has changed by a moment, by the place up to which a list in order has been read.
+-- The requests joined and the changes made by a moment, by the place up to which a list in order has been read.
 use Rattle.std.proofs.Common.{ℕ, suc, ◌+◌, ◌<◌, ◌≤◌, ◌≡◌, true, nat_le, nat_eq, ◌&&◌, List, [], ◌∷◌, ◌++◌, map, length, arith, refl, ap, sym, ◌∙◌, subst, inl, inr, reverse, cond, All, take, drop, sum_by, append_assoc}
 use Rattle.std.proofs.lemmas.List.{map-append, reverse-append, take-append-drop}
 use Rattle.std.proofs.lemmas.List.Sums.{sum_by-take-drop}
@@ -31,7 +31,7 @@ pub all_by : (m : ℕ) (cs : List Change) → All (λ c. c.moment ≤ m) cs → 
 all_by m [] h = refl
 all_by m (c ∷ cs) h = subst (λ P. is_all_by m P ≡ true) (sym (one_before c cs)) (all_append m (history_of_changes cs) (change_entry c ∷ []) (all_by m cs (λ k d l. h (suc k) d (omega (arith, l)))) (and_from _ _ (le-leb _ _ (h 0 c (omega arith))) refl))
 
--- what came later is passed over
+-- later changes are passed over
 passed_over : (m : ℕ) (cs : List Change) (P : History) → All (λ c. m < c.moment) cs → prefix_at (history_of_changes cs ++ P) m ≡ prefix_at P m
 passed_over m [] P h = refl
 passed_over m (c ∷ cs) P h = ap (λ Q. prefix_at Q m) (ap (λ Q. Q ++ P) (one_before c cs) ∙ append_assoc (history_of_changes cs) (change_entry c ∷ []) P)

@@ -1,4 +1,4 @@
--- What the levels of slots give is the fluid service.
+-- The service by the levels of slots is the fluid service.
 use Rattle.std.proofs.Common.{ℕ, zero, suc, ◌+◌, ◌-◌, ◌*◌, ◌<◌, ◌≤◌, ◌≡◌, true, false, nat_le, nat_eq, List, [], ◌∷◌, ◌++◌, length, get_or, take, sum_by, cond, All, arith, refl, ap, ap₂, sym, ◌∙◌, subst, inl, inr, append_assoc, append-nil, length-append}
 use Rattle.std.specs.List.Sorted.{IsNonDecreasingBy}
 use Rattle.std.proofs.lemmas.Bool.{cases_Bool, cond-true, cond-false, eq-eqb, leb-true}
@@ -41,7 +41,7 @@ only_own m t (row ∷ rows) = elim (cases_Bool (nat_eq row.tenant t)) [
 own_cost : (t : ℕ) (row : FluidRow) → nat_eq row.tenant t ≡ true → row.cost ≡ cost_of t row
 own_cost t row e = rw e refl
 
--- what they cost up to a place, where these came by m and the next one later
+-- the costs of a tenant's requests up to a place, where these came by m and the next request came later
 pub came_is : (rows own : List FluidRow) (j m t : ℕ) → own ≡ rows_for t rows → IsNonDecreasingBy (λ (r : FluidRow). r.submit) own → All (λ r. nat_eq r.tenant t ≡ true) own → All (λ r. r.submit ≤ m) (take j own) → (j < length own → m < (row_of own j).submit) →
     sum_by (λ (r : FluidRow). r.cost) (take j own) ≡ costs_by rows m t
 came_is rows own j m t is rise theirs came next =
@@ -135,7 +135,7 @@ pub weight_none : (C : Config) (t : ℕ) → weight_at C [] t ≡ get_or C.weigh
 unfolding weight_at
 weight_none C t = refl
 
--- ---- the service goes by what requests cost together
+-- ---- the service goes by the sums of costs
 
 abbrev pub CostTheSame : List FluidRow → List FluidRow → Type 0
 CostTheSame rows others = (m t : ℕ) → costs_by rows m t ≡ costs_by others m t
@@ -153,7 +153,7 @@ unfolding fluid
 fluid_rows C rows others H Q t zero cost = refl
 fluid_rows C rows others H Q t (suc k) cost = ap₂ ◌+◌ (fluid_rows C rows others H Q t k cost) (gift_rows C rows others H Q (k * Q) t _ _ cost (λ u. fluid_rows C rows others H Q u k cost))
 
--- ---- what the levels give
+-- ---- the service by the levels
 
 pub replayed_more : (C : Config) (rows : List FluidRow) (changes : List Change) (slots : List Level) (Q t k : ℕ) → replayed C rows changes slots Q t (suc k) ≡ replayed C rows changes slots Q t k + gift (level_in slots k) (own_backlog C rows changes (k * Q) (λ u. replayed C rows changes slots Q u k) t)
 unfolding replayed
@@ -163,7 +163,7 @@ pub replayed_none : (C : Config) (rows : List FluidRow) (changes : List Change) 
 unfolding replayed
 replayed_none C rows changes slots Q t = refl
 
--- no more than came
+-- it is at most the costs of the requests that came
 pub replayed_low : (C : Config) (rows : List FluidRow) (changes : List Change) (slots : List Level) (Q t k : ℕ) → replayed C rows changes slots Q t k ≤ costs_by rows (k * Q) t
 unfolding replayed
 replayed_low C rows changes slots Q t zero = omega arith
@@ -171,7 +171,7 @@ replayed_low C rows changes slots Q t (suc k) =
     let more : costs_by rows (k * Q) t ≤ costs_by rows (suc k * Q) t = costs_more rows (k * Q) (suc k * Q) t (omega (arith, add-mul 1 k Q)) in
     omega (arith, replayed_low C rows changes slots Q t k, more, gift_low (level_in slots k) (own_backlog C rows changes (k * Q) (λ u. replayed C rows changes slots Q u k) t))
 
--- these are requests and changes in another order, those of a tenant's weight in the same one
+-- these are requests and changes in another order; the changes of each tenant's weight keep their order
 pub record Parted (sorted parted : List FluidRow) (changes parted_changes : List Change) : Type 0 where
   pub cost : CostTheSame parted sorted
   pub order : IsNonDecreasingBy (λ (c : Change). c.moment) changes
@@ -204,7 +204,7 @@ table_is C rows sorted parted changes parted_changes Q n cost p =
     ap (list_below (λ k. list_below (λ t. replayed C parted parted_changes (levels_of C sorted changes Q n) Q t (suc k)) (length C.weights))) (list_length (level_of_slot C sorted (history_of_changes changes) Q) n)
     ∙ list_same _ _ n (λ k l. list_same _ _ (length C.weights) (λ t _. replayed_is C sorted parted changes parted_changes Q n t (suc k) p (omega (arith, l)) ∙ fluid_rows C sorted rows (history_of_changes changes) Q t (suc k) cost))
 
--- and a tenant's column is what it is given
+-- and a tenant's column is its service
 pub column_is : (C : Config) (rows : List FluidRow) (changes : List Change) (slots : List Level) (Q t : ℕ) → t < length C.weights →
     column_of (replayed_table C rows changes slots Q) t ≡ list_below (λ k. replayed C rows changes slots Q t (suc k)) (length slots)
 column_is C rows changes slots Q t known =

@@ -1,4 +1,4 @@
--- No more is served than came.
+-- The fluid service is at most the costs of the requests that came.
 use Rattle.std.proofs.Common.{ℕ, zero, suc, ◌*◌, ◌≤◌, List, arith}
 use Rattle.std.proofs.lemmas.List.Sums.{sum_by-le-sum_by}
 use Rattle.std.proofs.Math.Nat.{add-mul}
@@ -22,7 +22,7 @@ cost_more m n t row h = grind (arith, nat_tests)
 pub costs_more : (rows : List FluidRow) (m n t : ℕ) → m ≤ n → costs_by rows m t ≤ costs_by rows n t
 costs_more rows m n t h = sum_by-le-sum_by (cost_by m t) (cost_by n t) rows (λ row. cost_more m n t row h)
 
--- what is served in the first slots is at most what had come by the start of the last of them
+-- the fluid service in the first slots is at most the costs of the requests that came by the start of the last of them
 pub within : (C : Config) (rows : List FluidRow) (H : History) (Q t k : ℕ) → fluid C rows H Q t (suc k) ≤ costs_by rows (k * Q) t
 unfolding fluid
 within C rows H Q t zero = omega (arith, gift_low (slot_level C rows H Q (0 * Q) (λ u. fluid C rows H Q u 0)) (backlog_at C rows H (0 * Q) (λ u. fluid C rows H Q u 0) t))

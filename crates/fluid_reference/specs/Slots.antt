@@ -1,4 +1,4 @@
--- Requests and changes in their limits, what is known of them at a slot's start, and what the levels of slots give.
+-- Requests and changes in their limits, costs and settings at a slot's start, and the service by the levels of slots.
 use Rattle.std.specs.Prelude.{ℕ, zero, suc, ◌+◌, ◌-◌, ◌*◌, ◌<◌, ◌≤◌, ◌≡◌, ◌==◌, nat_lt, Bool, if◌then◌else◌, List, [], filter, length, All, take, sum_by, count_by, slice_index_or}
 use Rattle.std.specs.List.Sorted.{IsNonDecreasingBy}
 use Rattle.vt_fixed.specs.declared.limits.TheConstants.{GREATEST_COST, MOST_WORKERS}
@@ -19,12 +19,12 @@ use Rattle.fq_model.specs.Level.{gift, level}
 use Rattle.fq_model.specs.Sums.{list_below}
 use Rattle.fq_model.specs.Fluid.{history_of_changes, fluid, fluid_table, slot_level, backlog_at, costs_by}
 
--- the numbers of a request are in their limits, where there are so many tenants
+-- the numbers of a request are in their limits, for this number of tenants
 pub record IsRowOf (tenants : ℕ) (row : FluidRow) : Type 0 where
   pub tenant : row.tenant < tenants
   pub cost : row.cost ≤ GREATEST_COST
 
--- so those of what a change sets
+-- so are the numbers that a change sets
 abbrev pub SetsInRange : ℕ → What → Type 0
 SetsInRange tenants (changed.Weight tenant weight) = (tenant < tenants) × IsWeight weight
 SetsInRange tenants (changed.Workers count) = IsWithin 1 MOST_WORKERS count
@@ -68,7 +68,7 @@ abbrev pub AreBacklogged : List ℕ → List ℕ → List ℕ → Type 0
 AreBacklogged costs served tenants =
     (t : ℕ) → count_by (λ u. u == t) tenants ≡ (if has_backlog costs served t then 1 else 0)
 
--- what a slot shares by is in its limits, of the same tenants
+-- costs, services and weights of the tenants are in their limits
 pub record CanShare (costs served weights : List ℕ) : Type 0 where
   pub few : length costs ≤ MOST_TENANTS
   pub served_len : length served ≡ length costs
@@ -83,30 +83,30 @@ pub record SettingIs (C : Config) (changes : List Change) (weights : List ℕ) (
   pub each : (t : ℕ) → t < length C.weights → number_at weights t ≡ weight_at C (history_of_changes changes) t
   pub pool : workers ≡ pool_at C (history_of_changes changes)
 
--- what tenant t still wants: what its requests cost, less what it was served
+-- the backlog of tenant t: the costs of its requests, less its service
 abbrev pub want_of : List ℕ → List ℕ → List ℕ → ℕ → Backlog
 want_of costs served weights t = record { units = number_at costs t - number_at served t; weight = number_at weights t }
 
--- what tenant t is served by the end of a slot of this level
+-- the service of tenant t by the end of a slot of this level
 abbrev pub served_after : Level → List Backlog → List ℕ → ℕ → ℕ
 served_after l wants served t = number_at served t + gift l (backlog_at_place wants t)
 
--- what all tenants want
+-- the backlogs of all tenants
 abbrev pub wants_of : List ℕ → List ℕ → List ℕ → List Backlog
 wants_of costs served weights = list_below (want_of costs served weights) (length costs)
 
--- what each is served by the end of a slot that shares cap
+-- the service of each tenant by the end of a slot that shares cap
 abbrev pub served_by : ℕ → List Backlog → List ℕ → ℕ → List ℕ
 served_by cap wants served n = list_below (served_after (level cap wants) wants served) n
 
 abbrev pub served_next : ℕ → List ℕ → List ℕ → List ℕ → List ℕ
 served_next cap costs served weights = served_by cap (wants_of costs served weights) served (length costs)
 
--- the fluid service where these changes say the weights and the workers
+-- the fluid service where these changes set the weights and the workers
 abbrev pub table_of_changes : Config → List FluidRow → List Change → ℕ → ℕ → List (List ℕ)
 table_of_changes C rows changes Q slots = fluid_table C rows (history_of_changes changes) Q slots
 
--- the level of slot k, and those of the first slots where these changes say the weights and the workers
+-- the level of slot k, and those of the first slots where these changes set the weights and the workers
 abbrev pub level_of_slot : Config → List FluidRow → History → ℕ → ℕ → Level
 level_of_slot C rows H Q k = slot_level C rows H Q (k * Q) (λ u. fluid C rows H Q u k)
 
@@ -120,21 +120,21 @@ IsTooLong C slots = MOST_CELLS < slots * length C.weights
 abbrev pub too_long : Config → ℕ → FluidFault
 too_long C slots = TooLong slots (length C.weights)
 
--- what is served in the first slots is at most what came by the start of the last of them
+-- the fluid service in the first slots is at most the costs of the requests that came by the start of the last of them
 abbrev pub ServesWhatCame : Type 0
 ServesWhatCame = (C : Config) (rows : List FluidRow) (H : History) (Q t k : ℕ) →
     fluid C rows H Q t (suc k) ≤ costs_by rows (k * Q) t
 
--- what a table by slots says of a slot, or nothing where it has none, and what it says of a tenant slot by slot
+-- the row of a slot in a table by slots, or [] where it has none, and the column of a tenant, slot by slot
 abbrev pub slot_at : List (List ℕ) → ℕ → List ℕ
 slot_at table k = slice_index_or table k []
 
 abbrev pub column_of : List (List ℕ) → ℕ → List ℕ
 column_of table t = list_below (λ k. number_at (slot_at table k) t) (length table)
 
--- ---- what the levels of slots give
+-- ---- the service by the levels of slots
 
--- whose weight a change sets; a number that no tenant has, where it sets none
+-- the tenant whose weight a change sets; a number that no tenant has, where it sets none
 abbrev pub owner_of_set : What → ℕ
 owner_of_set (changed.Weight tenant weight) = tenant
 owner_of_set (changed.Workers count) = MOST_TENANTS
@@ -142,7 +142,7 @@ owner_of_set (changed.Workers count) = MOST_TENANTS
 abbrev pub owner_of : Change → ℕ
 owner_of change = owner_of_set change.what
 
--- those that belong to tenant t
+-- the items that belong to tenant t
 abbrev pub owned_by : {A : Type 0} → (A → ℕ) → ℕ → List A → List A
 owned_by owner t items = filter (λ x. owner x == t) items
 
@@ -153,7 +153,7 @@ rows_for t rows = owned_by (λ row. row.tenant) t rows
 abbrev pub changes_for : ℕ → List Change → List Change
 changes_for t changes = owned_by owner_of t changes
 
--- the requests of a tenant up to a place came by a moment, and this is what they cost
+-- the requests of a tenant up to a place came by a moment, and this is the sum of their costs
 pub record CameBy (own : List FluidRow) (at place cost : ℕ) : Type 0 where
   pub in_list : place ≤ length own
   pub theirs : cost ≡ sum_by (λ row. row.cost) (take place own)
@@ -168,23 +168,23 @@ pub record ChangedBy (changes : List Change) (at place : ℕ) : Type 0 where
 abbrev pub level_in : List Level → ℕ → Level
 level_in slots k = slice_index_or slots k levels.All
 
--- what tenant t still wants at m, where so much of each tenant was served before, by the changes of its own weight
+-- the backlog of tenant t at m, after these services of the tenants, by the changes of its own weight
 abbrev pub own_backlog : Config → List FluidRow → List Change → ℕ → (ℕ → ℕ) → ℕ → Backlog
 own_backlog C rows changes m served t = backlog_at C rows (history_of_changes (changes_for t changes)) m served t
 
--- what tenant t is served in the first k slots of length Q, if these are their levels
+-- the service of tenant t in the first k slots of length Q, if these are their levels
 unfoldable pub replayed : Config → List FluidRow → List Change → List Level → ℕ → ℕ → ℕ → ℕ
 replayed C rows changes slots Q t zero = 0
 replayed C rows changes slots Q t (suc k) = replayed C rows changes slots Q t k
     + gift (level_in slots k) (own_backlog C rows changes (k * Q) (λ u. replayed C rows changes slots Q u k) t)
 
--- so for each tenant, by number, up to the end of each slot
+-- this service of each tenant, by number, up to the end of each slot
 abbrev pub replayed_table : Config → List FluidRow → List Change → List Level → ℕ → List (List ℕ)
 replayed_table C rows changes slots Q =
     list_below (λ k. list_below (λ t. replayed C rows changes slots Q t (suc k)) (length C.weights)) (length slots)
 
--- no more requests than there may be, each in its limits for so many tenants; requests and changes in the order of
--- their tenants, those of a tenant in order of time
+-- no more requests than there may be, each in its limits for this number of tenants; requests and changes in the order
+-- of their tenants, those of a tenant in order of time
 pub record CanReplay (tenants : ℕ) (rows : List FluidRow) (changes : List Change) : Type 0 where
   pub few : length rows ≤ MOST_FLUID_ROWS
   pub in_range : All (IsRowOf tenants) rows

@@ -8,7 +8,7 @@ use std::alloc::AllocError;
 /// Why there is no fluid reference.
 #[derive(Clone, Copy, Debug, PartialEq, Eq, thiserror::Error)]
 pub enum FluidFault {
-    /// So many slots for so many tenants; there may be 4,000,000 cells.
+    /// This number of slots for this number of tenants is too great; there may be 4,000,000 cells.
     #[error("{slots} slots for {tenants} tenants, and there may be {MOST_CELLS} cells")]
     TooLong { slots: u64, tenants: u32 },
     /// There was no memory.

@@ -1,4 +1,4 @@
-//! What requests join by a slot's start.
+//! The requests that join by a slot's start.
 ghost use Rattle.std.specs.Prelude.{◌≡◌, ◌≤◌, ◌<◌, ◌+◌, length, All, IfOk, OnOk, slice_set};
 ghost use Rattle.fluid_reference.specs.Slots.{IsRowOf, HaveJoined, AreBacklogged, row_of, number_at};
 

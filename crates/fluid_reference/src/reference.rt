@@ -1,4 +1,4 @@
-//! What tenants are served by the end of each slot.
+//! The fluid service of tenants by the end of each slot.
 ghost use Rattle.std.specs.Prelude.{◌≡◌, ◌<◌, length, IfOk, ℕ};
 ghost use Rattle.fluid_reference.specs.Slots.{CanReplay, column_of, replayed_table, slot_at};
 
@@ -9,8 +9,8 @@ use fq_model::level::Level;
 use std::alloc::{AllocError, Global};
 use std::marker::Model;
 
-/// What each tenant is served, by number, up to the end of each slot. Contracts see the list of lists; what is kept are
-/// the levels of the slots, from which the services of a tenant are reckoned when they are asked for.
+/// The fluid service of each tenant, by number, up to the end of each slot. Contracts see the list of lists; the value
+/// keeps the levels of the slots, from which the services of a tenant are reckoned when they are asked for.
 #[derive(Drop)]
 pub struct FluidReference<'a> {
     config: &'a Checked,
@@ -61,8 +61,8 @@ impl<'a> FluidReference<'a> {
         self.levels.len()
     }
 
-    /// What a tenant is served, in microseconds of work, up to the end of each slot. It is reckoned anew each time; the
-    /// error is that memory ran out.
+    /// The fluid service of a tenant, in microseconds of work, up to the end of each slot. It is reckoned anew each
+    /// time; the error is that memory ran out.
     pub fn services(&self, alloc: Global, tenant: u32) -> Result<Vec<u64>, AllocError>
         requires { (k : ℕ) → k < length self.now → tenant < length (slot_at self.now k) }
         ensures { IfOk result (λ v. v.items ≡ column_of self.now tenant) }

@@ -1,4 +1,4 @@
-//! What one tenant is served in slots whose levels are known.
+//! The fluid service of one tenant in slots whose levels are known.
 ghost use Rattle.std.specs.Prelude.{◌≡◌, ◌≤◌, ◌<◌, suc, length, take, All, IfOk, ℕ};
 ghost use Rattle.std.specs.List.Sorted.{IsNonDecreasingBy};
 ghost use Rattle.vt_fixed.specs.declared.limits.TheConstants.{GREATEST_COST};
@@ -16,7 +16,7 @@ use fq_model::limits::MOST_FLUID_ROWS;
 use std::alloc::{AllocError, Global};
 use water_level::gifts::give;
 
-/// What a tenant is served up to the end of each slot, where these are the levels of the slots, and requests and
+/// The fluid service of a tenant up to the end of each slot, where these are the levels of the slots, and requests and
 /// changes are in the order of their tenants.
 pub fn replay(
     alloc: Global,
@@ -52,7 +52,7 @@ pub fn replay(
 }
 
 // The place of the first request that comes later, of a tenant's requests in the order of their submissions from a
-// place on, and what those before it cost.
+// place on, and the cost of the requests before it.
 fn join_own(own: &[FluidRow], from: usize, cost: u64, at: u128) -> (usize, u64)
     requires few { length own.now ≤ MOST_FLUID_ROWS }
     requires small { All (λ r. r.cost ≤ GREATEST_COST) own.now }

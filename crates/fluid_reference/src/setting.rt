@@ -8,8 +8,8 @@ ghost use Rattle.fluid_reference.specs.Slots.{IsChangeOf, SettingIs, change_of};
 use fq_model::fluid::{Change, What};
 use fq_model::limits::MOST_WORKERS;
 
-/// Makes those changes that come by a moment, of changes in order of time from a place on. Gives the place of the next
-/// one.
+/// Makes the changes that come by a moment, of changes in order of time from a place on. Gives the place of the next
+/// change.
 pub fn change(
     weights: &mut [u32],
     workers: &mut u32,

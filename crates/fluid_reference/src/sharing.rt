@@ -1,4 +1,4 @@
-//! What a slot gives each tenant.
+//! The gifts of a slot to tenants.
 ghost use Rattle.std.specs.Prelude.{◌≡◌, ◌<◌, length, map, filter, IfOk, OnOk, All};
 ghost use Rattle.fq_model.specs.Level.{level};
 ghost use Rattle.fluid_reference.specs.Slots.{CanShare, AreBacklogged, want_of, wants_of, served_next, has_backlog};
@@ -8,9 +8,9 @@ use std::alloc::AllocError;
 use water_level::gifts::give;
 use water_level::levels::level;
 
-/// Serves the tenants that have a backlog what a slot that shares this many units gives them, and gives the level at
-/// which it was shared. The others get nothing, and no step is taken for them. Both vectors lend their memory: `left`
-/// then says who has a backlog after the slot.
+/// Adds the gifts of a slot that shares this number of units to the service of the tenants that have a backlog, and
+/// gives the level at which the slot was shared. The others get nothing, and no step is taken for them. Both vectors
+/// lend their memory: `left` then names the tenants that have a backlog after the slot.
 pub fn share(
     cap: u64,
     costs: &[u64],
@@ -35,7 +35,7 @@ pub fn share(
     Ok(level)
 }
 
-// What each of these tenants still wants: what its requests that joined cost, less what it was served.
+// The backlog of each of these tenants: the costs of its requests that joined, less its service.
 fn note_wants(
     costs: &[u64],
     served: &[u64],

@@ -1,5 +1,5 @@
 -- Worked histories, the newest entry first, whose gap is found by hand: each shows that one part of the bound is
--- needed. The numbers of an act stand in the order of its fields: Submit request tenant kind declared label, Take
+-- needed. The numbers of an act are in the order of its fields: Submit request tenant kind declared label, Take
 -- worker request estimate, Done worker request cost, Weight tenant weight.
 use Rattle.std.specs.Prelude.{ℕ, [], ◌∷◌, pos}
 use Rattle.fq_model.specs.declared.config.Config.{Config}
@@ -81,8 +81,7 @@ unfoldable pub doubt_config : Config
 doubt_config =
     record { workers = 1; weights = 1 ∷ 1 ∷ []; kinds = 1; entries = 100; requests = 10; policy = Wfq; estimate = Declared; initial = 1000 }
 
--- the head of tenant 1 is 4 long; tenant 0 has requests that are thought to be 1 long, of which the fourth turns out to
--- be 4 long
+-- the head of tenant 1 is 4 long; tenant 0 has requests of the estimate 1, of which the fourth turns out to be 4 long
 unfoldable pub doubt_history : History
 doubt_history =
     entry 10 7 (Done 0 3 4)

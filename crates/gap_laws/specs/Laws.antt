@@ -1,4 +1,4 @@
--- Bounds of the lead of one tenant over another: where every cost is as declared, and where no cost is known.
+-- Bounds of the lead of one tenant over another: where every cost is as declared, and where costs are not known.
 use Rattle.std.specs.Prelude.{ℕ, ◌+◌, ◌*◌, ◌≡◌, ◌≢◌, true, ◌∷◌, ◌++◌, Some, None, ℤ, pos, ◌+ℤ◌, ◌-ℤ◌, ◌≤ℤ◌, ◌↔◌}
 use Rattle.std.specs.Int.{int_max}
 use Rattle.fq_model.specs.declared.config.Config.{Config}

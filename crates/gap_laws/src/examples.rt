@@ -37,8 +37,8 @@ pub fn weights()
     ensures gap { tag_gap weights_config weights_history 0 1 ≡ Some (gap_of 8 10) }
 {}
 
-/// The measured bound is met. Tenant 0 is charged 1 for each of three requests, and then takes one that is thought to
-/// be 1 long, since it would finish at 4 as the head of tenant 1 would. It turns out to be 4 long, so that tenant 0
+/// The measured bound is met. Tenant 0 is charged 1 for each of three requests, and then its fourth is taken, of the
+/// estimate 1, since it would finish at 4 as the head of tenant 1 would. It turns out to be 4 long, so that tenant 0
 /// starts at 7 and tenant 1 still at 0. The bound is the greatest head, 4, and the doubt after that Take, 4 - 1. (No
 /// request is longer than 4, so one worker lets a tenant get ahead by less than 2 times 4.)
 pub fn doubt()

@@ -13,8 +13,8 @@ pub trait Kind<J> {
         ensures { result ≡ kind_of self.now job.now };
 }
 
-/// A function from jobs to kinds that is known to answer kinds that there are, so that no submission is refused for
-/// its kind.
+/// A function from jobs to kinds that is known to answer kinds that there are, so that no submit is refused for its
+/// kind.
 #[derive(Drop)]
 pub struct KindRule<J, F: Kind<J>> {
     function: F,

@@ -32,7 +32,7 @@ module _ {F : Type 0} where
   spent_view =
       record { number = 0; frame = None; seen = []; mine = []; stage = Spent; made = 0; seen_before = []; seen_by_other = []; ended = [] }
 
-  -- the view of a badge, which has no other
+  -- the only view of a badge
   abbrev pub view_of : List (View F) → View F
   view_of [] = spent_view
   view_of (v ∷ vs) = v

@@ -253,7 +253,7 @@ fn serves<'a, X: Chooser, R: Wait>(
     through.store(1, Ordering::SeqCst);
 }
 
-// Both at once.
+// The submitter and the worker at once.
 fn beside<'a, X: Chooser + Send, R: Threads + Wait + Sync + Abort, O: time::Clock + Files + Alloc>(
     rt: &R,
     os: &O,

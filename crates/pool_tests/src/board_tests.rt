@@ -162,7 +162,7 @@ fn submits<X: Chooser, R: Wait>(rt: &R, desk: &Desk<u64, X>, who: &mut Submitter
     true
 }
 
-// Reads until all requests have come. Whether no status has fewer entries than that before it, or is of two moments.
+// Reads until all requests have come. Whether no status has fewer entries than the status before, or is of two moments.
 fn watches(board: &Board, reader: &mut Reader) -> bool
     requires { IsReaderOf board.now reader.old }
     ensures { IsReaderOf board.now reader.new }
@@ -182,7 +182,7 @@ fn watches(board: &Board, reader: &mut Reader) -> bool
     false
 }
 
-// Both, at once.
+// Submits and reads at once.
 fn side_by_side<X: Chooser + Send, R: Threads + Wait + Sync>(
     rt: &R,
     desk: &Desk<u64, X>,

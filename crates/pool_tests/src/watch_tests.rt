@@ -97,7 +97,7 @@ fn expect_waiting<R: Abort>(rt: &R, seen: &[Status], times: usize, requests: u32
     }
 }
 
-// It reads twice before each of two submissions, and three times after them, where no more entries come than the last
+// The hand reads twice before each of two submits, and three times after them, where no more entries come than the last
 // read is to be spread over.
 fn between_submissions<X: Chooser + Drop + Send, R: Threads + Wait + Sync + Abort>(
     rt: &R,

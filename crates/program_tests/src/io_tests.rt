@@ -55,7 +55,7 @@ fn reading_in_pieces(rt: HostRuntime) {
     read_in_pieces(&rt, rt.alloc());
 }
 
-// Seven bytes are written in pieces of 4 to a sink with this room that fails at this call: the result, and its bytes.
+// Seven bytes are written in pieces of 4 to a sink with this room that fails at this call: the result and the bytes.
 fn expect_written<R: Abort>(
     rt: &R,
     alloc: Global,

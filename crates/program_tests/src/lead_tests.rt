@@ -3,7 +3,7 @@ use crate::worked_tests::{Wanted, check, sound_sink, sound_source};
 use std::alloc::Global;
 use std::process::Abort;
 
-// One worker that serves two tenants of weight 1. The head of b costs 4. Requests of a are thought to cost 1, and the
+// One worker that serves two tenants of weight 1. The head of b costs 4. Requests of a have the estimate 1, and the
 // fourth costs 4.
 const UNKNOWN: &str =
     "journal 1\nconfig 1 wfq declared 1000 100 10\ntenant a 1\ntenant b 1\nkind get\n\
@@ -16,7 +16,7 @@ const ALONE: &str =
     "journal 1\nconfig 1 wfq declared 1000 100 10\ntenant a 1\ntenant b 1\nkind get\n\
     submit 0 0 0 0 0 1 1\ntake 9 0 0 0 1\nsubmit 1 0 1 1 0 1 2\n";
 
-// It takes that of b first.
+// The worker takes the request of b first.
 const ILLEGAL: &str =
     "journal 1\nconfig 1 wfq declared 1000 100 10\ntenant a 1\ntenant b 1\nkind get\n\
     submit 0 0 0 0 0 1 1\nsubmit 1 0 1 1 0 1 2\ntake 9 0 0 1 1\n";

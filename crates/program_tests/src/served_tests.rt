@@ -17,7 +17,7 @@ fn answers<R: Abort>(rt: &R, alloc: Global, input: &str, replies: &str) {
     prints(rt, alloc, &["script"], input, replies);
 }
 
-// So are these parts of one input.
+// These parts of one input are served, with these replies.
 fn parts_answer<R: Abort>(rt: &R, alloc: Global, parts: &[&str], replies: &str) {
     let input = joined(rt, alloc, parts);
     answers(rt, alloc, input.as_str(), replies);
@@ -149,7 +149,7 @@ const BY_TAG: &str =
 const BY_IDLE_TIME: &str =
     "request 0\nrun 0 1000 1\nrequest 1\nrequest 2\nok\nrun 1 10 2\nok\nrequest 3\nrun 3 200 4\n";
 
-// It is served so under this policy.
+// `AFTER_A_REST` is served under this policy, with these replies.
 fn comes_back<R: Abort>(rt: &R, alloc: Global, policy: &str, replies: &str) {
     let parts = ["script 1\nconfig 1 ", policy, " ", AFTER_A_REST];
     each_answers(rt, alloc, &parts, replies);

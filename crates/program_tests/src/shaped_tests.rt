@@ -11,7 +11,7 @@ pub const BURST: &str =
 pub const SPREAD: &str =
     "tenant,a,1\nrequest,0,0,a,get,3,3\nrequest,1000,0,a,get,3,3\nrequest,2000,0,a,get,2,2\n";
 
-// These words make this of the trace.
+// These words have this result for the trace.
 fn expect<R: Abort>(rt: &R, alloc: Global, words: &[&str], trace: &str, wanted: Wanted<'_>) {
     let mut source = sound_source(rt, alloc, trace);
     let mut sink = sound_sink(rt, alloc);

@@ -131,8 +131,8 @@ fn moments_in<R: Abort>(rt: &R, text: &str) -> u32 {
     moments
 }
 
-// One run of twenty has many moments. Which run it is nobody can say: the thread that watches may be held up while the
-// others serve.
+// One run of twenty has many moments. Nobody can say which run: the thread that watches may be held up while the others
+// serve.
 fn many_moments<T: Abort + Wait + Threads + Sync>(rt: &T, alloc: Global) {
     let words = "live --workers 2 --refresh 0 --watch 50 --print journal";
     let trace = long_trace(rt, alloc);

@@ -98,7 +98,7 @@ fn expect_no_command<R: Abort>(rt: &R, alloc: Global, words: &[&str]) {
     expect_left(rt, alloc, &mut source, SCRIPT);
 }
 
-// Nor do the words of `live` and `compare` read it, since `plain` serves only commands that wait for nobody.
+// These words leave the input unread, and so do `live` and `compare`: `plain` serves only commands without threads.
 #[test]
 fn words_of_no_command_leave_the_input(rt: HostRuntime) {
     expect_no_command(&rt, rt.alloc(), &[]);

@@ -51,7 +51,7 @@ fn expect_now<E: Estimate, R: Abort>(rt: &R, estimator: &E, tenant: u32, kind: u
     );
 }
 
-// It learns these costs of tenant 1 and kind 1, and says this after each.
+// The estimator learns these costs of tenant 1 and kind 1, and has this estimate after each.
 fn expect_learned<E: Estimate, R: Abort>(rt: &R, estimator: &mut E, rows: &[(u16, u64)])
     requires tenant { 1 < E.tenants estimator.old }
     requires kind { 1 < E.kinds estimator.old }
@@ -64,7 +64,7 @@ fn expect_learned<E: Estimate, R: Abort>(rt: &R, estimator: &mut E, rows: &[(u16
     }
 }
 
-// It says one thing first, these after each cost, and the first thing still of other tenants and kinds.
+// The estimates: this one first, these after each cost, and the first still for other tenants and kinds.
 fn expect_estimates<E: Estimate + Drop + Send, R: Abort>(
     rt: &R,
     alloc: Global,

@@ -81,7 +81,7 @@ fn withdrawals() -> [Call; 7] {
     ]
 }
 
-// Of the replies that come here.
+// Whether two replies are the same, for the kinds of replies in these tests.
 fn is_same(a: Reply, b: Reply) -> bool {
     match (a, b) {
         (Reply::Request(a), Reply::Request(b)) => a == b,

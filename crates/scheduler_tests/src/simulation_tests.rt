@@ -255,7 +255,7 @@ fn past_by<X: Chooser + Drop, R: Abort>(
     past
 }
 
-// So is this one.
+// The simulated history of this trace is this.
 fn expect_past<X: Chooser + Drop, R: Abort>(
     rt: &R,
     alloc: Global,
@@ -283,7 +283,7 @@ fn expect_alike<X: Chooser + Drop, Y: Chooser + Drop, P: Chooser + Drop, R: Abor
     expect_past::<Y, R>(rt, alloc, trace, policy, plain.as_slice());
 }
 
-// They do under each policy.
+// The choosers serve alike under each policy.
 fn expect_all_alike<X: Chooser + Drop, Y: Chooser + Drop, P: Chooser + Drop, R: Abort>(
     rt: &R,
     alloc: Global,

@@ -1,5 +1,5 @@
 //! The table that the writer and all readers share. Word 0 is the version: twice the number of entries that are shown,
-//! and 1 more while the words of the next history are written. The others are the other numbers of a status.
+//! and 1 more while the words of the next history are written. The other words have the other numbers of a status.
 use atomic_table::{Seat, Table, TableRule};
 use fq_model::config::Checked;
 use fq_model::event::Entry;

@@ -34,7 +34,7 @@ impl Model for Writer {
     ghost invariant = { λ w. WriterRests w.status w.place.me };
 }
 
-// Writes a word that differs from the word there. (A write takes several times as long as this comparison.)
+// Writes a word where it differs from the word there. (A write takes several times as long as this comparison.)
 fn put(table: &BoardTable, place: &mut Place, word: usize, stands: u64, next: u64)
     requires own { IsPlaceAt place.old.table_id table.now.shared.table_id }
     requires writes { place.old.me.0.stage ≡ Writes }

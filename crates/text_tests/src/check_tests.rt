@@ -53,7 +53,7 @@ fn no_entry_is_wanted(rt: HostRuntime) {
     expect_verdict(&rt, rt.alloc(), HEAD, "done 9 0 0 0 5\n", wanted);
 }
 
-// The entries after that one are read, and not judged.
+// The entries after the illegal entry are read, and not judged.
 #[test]
 fn the_first_that_is_not_legal(rt: HostRuntime) {
     let head = "journal 2\nconfig 2 msf2q declared 1000000000 20 10\ntenant z 3\nkind A\nkind d\n";

@@ -16,7 +16,7 @@ fn backlog(units: u64, weight: u32) -> Backlog
     Backlog { units, weight }
 }
 
-// The level of so much service for these is this one.
+// The level of these backlogs under this cap is this.
 fn expect_level<R: Abort>(rt: &R, cap: u64, rows: &[Backlog], wanted: Level)
     requires few { length rows.now ≤ 4 }
     requires in_range { All IsBacklog rows.now }

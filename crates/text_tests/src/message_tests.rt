@@ -9,7 +9,7 @@ use std::alloc::Global;
 use std::fmt::Display;
 use std::process::Abort;
 
-// Each of these says this.
+// Each of these faults has this message.
 fn expect<D: Display>(rt: &impl Abort, alloc: Global, messages: &[(D, &str)]) {
     for (fault, wanted) in messages {
         let text = format!(in alloc; "{fault}").expect(rt, "memory for a text");

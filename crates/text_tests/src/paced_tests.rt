@@ -50,8 +50,8 @@ fn capped(rt: HostRuntime) {
     expect_each(&rt, rt.alloc(), TWO_WORKERS, &rows);
 }
 
-// A request that was thought to cost 4 costs 9, so that its tenant starts above the cap. The next take comes at a
-// capped time, 4 and not 6, and lifts it to its key, 9 less 2.
+// A request with the estimate 4 costs 9, so that its tenant starts above the cap. The next take comes at a capped time,
+// 4 and not 6, and lifts it to its key, 9 less 2.
 #[test]
 fn capped_and_lifted(rt: HostRuntime) {
     let rows = [
@@ -67,8 +67,8 @@ fn capped_and_lifted(rt: HostRuntime) {
     expect_each(&rt, rt.alloc(), TWO_WORKERS, &rows);
 }
 
-// A request that was thought to cost 20 costs 2. Its tenant gets 18 back, and the cap stays at 20: virtual time comes
-// to 12 while that tenant is charged 6 in all.
+// A request with the estimate 20 costs 2. Its tenant gets 18 back, and the cap stays at 20: virtual time comes to 12
+// while that tenant is charged 6 in all.
 #[test]
 fn a_refund_leaves_the_cap(rt: HostRuntime) {
     let one_worker =

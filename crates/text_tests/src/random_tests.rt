@@ -117,7 +117,7 @@ fn expect_legal<X: Chooser + Drop, R: Abort>(rt: &R, alloc: Global, settings: &s
     };
 }
 
-// So it is under each policy, and with each estimator.
+// The journals under each policy, and with each estimator, are judged legal.
 fn expect_each_legal<X: Chooser + Drop, R: Abort>(rt: &R, alloc: Global) {
     let settings = [
         "2dfq+ pessimistic",

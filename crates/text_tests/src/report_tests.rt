@@ -48,7 +48,7 @@ fn reported<R: Abort>(rt: &R, alloc: Global, workers: u32, past: &[Entry], slot:
     told
 }
 
-// It is printed so.
+// The report is printed so.
 fn expect_printed<R: Abort>(rt: &R, alloc: Global, told: &Report, wanted: &[u8])
     requires { length told.now.rows ≡ 2 }
 {

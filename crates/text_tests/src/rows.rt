@@ -66,7 +66,7 @@ fn expect_rows<X: Chooser, R: Abort>(
     }
 }
 
-// So does one over this chooser, opened as the head says.
+// A scheduler over this chooser, opened by the head, answers the calls as the rows say.
 fn expect_served<X: Chooser + Drop, R: Abort>(rt: &R, alloc: Global, head: &str, rows: &[Row<'_>]) {
     let text = script_of(rt, alloc, head, rows);
     let Ok(script) = read_script(alloc, text.as_slice()) else {
@@ -80,7 +80,7 @@ fn expect_served<X: Chooser + Drop, R: Abort>(rt: &R, alloc: Global, head: &str,
     drop(scheduler);
 }
 
-/// So does one over each chooser.
+/// A scheduler over each chooser answers the calls as the rows say.
 pub fn expect_each<R: Abort>(rt: &R, alloc: Global, head: &str, rows: &[Row<'_>]) {
     expect_served::<PlainChooser, R>(rt, alloc, head, rows);
     expect_served::<IndexChooser, R>(rt, alloc, head, rows);

@@ -74,7 +74,7 @@ fn expect_services<R: Abort>(
     }
 }
 
-// With this number of workers, two tenants of weight 1 have these services in slots of 10 microseconds, from one on.
+// Two tenants of weight 1 have these services by this number of workers, in slots of 10 microseconds, from one slot on.
 fn expect_served<R: Abort>(
     rt: &R,
     alloc: Global,

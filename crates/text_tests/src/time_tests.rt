@@ -10,7 +10,7 @@ fn expect_lengths<R: Abort>(rt: &R) {
     assert!(rt; part(GREATEST_LENGTH, 63, 64) == 1032192000000000);
 }
 
-// So are advances and decays.
+// Advances and decays are rounded so.
 fn expect_advances<R: Abort>(rt: &R) {
     assert!(rt; advance(1, 1, 3) == 349525);
     assert!(rt; advance(5, 4, 0) == 0);

@@ -2,8 +2,8 @@
 use crate::report_tests::expect_report;
 use fq_model::event::{Act, Entry};
 
-// The only request of a tenant is withdrawn while the other's runs. It is counted, and never joined the fluid
-// reference: with its 8 units there, b would have got 1 unit in the first slot, and lagged by -1.
+// The only request of a tenant is withdrawn while a request of the other runs. It is counted, and never joined the
+// fluid reference: with its 8 units there, b would have got 1 unit in the first slot, and lagged by -1.
 #[test]
 fn lags_without_what_is_withdrawn(rt: HostRuntime) {
     let past = [

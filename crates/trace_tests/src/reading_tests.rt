@@ -19,14 +19,14 @@ fn expect_fault<R: Abort>(rt: &R, alloc: Global, text: &[u8], line: u64, kind: T
     assert_eq!(rt; fault, Some(TraceFault::At { line, kind }), "in {text:?}");
 }
 
-// So has each of these, at these lines.
+// Each of these texts has this first fault, at this line.
 fn expect_faults<R: Abort>(rt: &R, alloc: Global, rows: &[(&str, u64, TraceKind)]) {
     for (text, line, kind) in rows {
         expect_fault(rt, alloc, text.as_bytes(), *line, *kind);
     }
 }
 
-// So has each of these, at its second line.
+// Each of these texts has this first fault, at its second line.
 fn expect_second_faults<R: Abort>(rt: &R, alloc: Global, rows: &[(&str, TraceKind)]) {
     for (text, kind) in rows {
         expect_fault(rt, alloc, text.as_bytes(), 2, *kind);
@@ -157,7 +157,7 @@ fn expect_first_kind<R: Abort>(rt: &R, trace: &Trace, name: &str) {
     assert!(rt; kinds.name(0) == name, "of {name}");
 }
 
-// So has that of the trace that a text says.
+// The first kind of the trace that a text says has this name.
 fn expect_first_kind_in<R: Abort>(rt: &R, alloc: Global, text: &str, name: &str) {
     let trace = trace_in(rt, alloc, text);
     expect_first_kind(rt, &trace, name);

@@ -1,4 +1,4 @@
--- What the greatest level leaves.
+-- The units that the greatest level leaves.
 use Rattle.std.proofs.Common.{ℕ, ◌+◌, List, All, arith, inl, inr}
 use Rattle.std.proofs.lemmas.Bool.{cases_lt}
 use Rattle.fq_model.specs.declared.level.Backlog.{Backlog}

@@ -47,6 +47,6 @@ gifts_step x (b ∷ rows) a =
     let rest : gifts_at (x + 1) rows ≤ gifts_at x rows + with_backlog rows = gifts_step x rows (λ k d h. a (suc k) d (omega arith)) in
     rw (sum_by-cons (gift_at (x + 1)) b rows, sum_by-cons (gift_at x) b rows, sum_by-cons (λ c. cond (ltb 0 c.units) 1 0) b rows) (omega (arith, one, rest))
 
--- what few backlogs have in all
+-- the units of few backlogs in all
 pub total_bound : (rows : List Backlog) → All IsBacklog rows → length rows ≤ 4096 → total_units rows ≤ 8192000000000000000
 total_bound rows a h = omega (arith, sum_by-le (λ b. b.units) 2000000000000000 rows (λ k d l. (a k d l).units))

@@ -1,4 +1,4 @@
--- What has a weight of 1 or more has one level.
+-- Backlogs with a weight of 1 or more have one level.
 use Rattle.std.proofs.Common.{ℕ, zero, suc, ◌+◌, ◌*◌, ◌<◌, ◌≤◌, ◌≡◌, Bool, true, false, List, [], ◌∷◌, All, arith, ap, sym, ◌∙◌, subst, inl, inr, Some, unwrap_or, nat_le}
 use Rattle.std.proofs.lemmas.List.Sums.{sum_by-cons}
 use Rattle.std.proofs.lemmas.Nat.{le-div, mul-le}
@@ -25,7 +25,7 @@ gifts_all x (b ∷ rows) a h =
     let rest : total_units rows ≤ gifts_at x rows = gifts_all x rows (λ k d l. a (suc k) d (omega arith)) (omega (arith, c)) in
     rw (sum_by-cons (gift_at x) b rows) (omega (arith, c, one, rest))
 
--- at the highest level all backlogs in their limits are
+-- at the highest level all backlogs in their limits are served whole
 pub gifts_highest : (rows : List Backlog) → All IsBacklog rows → total_units rows ≤ gifts_at 2048000000000000000 rows
 gifts_highest [] a = omega arith
 gifts_highest (b ∷ rows) a =

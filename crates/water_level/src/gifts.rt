@@ -1,4 +1,4 @@
-//! What backlogs are given at a level, and sums over backlogs.
+//! The gifts of a level to backlogs, and sums over backlogs.
 ghost use Rattle.std.specs.Prelude.{◌≡◌, ◌≤◌, length, All};
 ghost use Rattle.fq_model.specs.Level.{gift, gift_at, gifts_at, total_units};
 ghost use Rattle.water_level.specs.Backlogs.{IsBacklog};
@@ -6,7 +6,7 @@ ghost use Rattle.water_level.specs.Backlogs.{IsBacklog};
 use fq_model::level::{Backlog, Level};
 use fq_model::limits::MOST_TENANTS;
 
-/// What a backlog is given at a level, in microseconds of work.
+/// The gift to a backlog at a level, in microseconds of work.
 pub fn give(level: Level, row: Backlog) -> u64
     ensures { result ≡ gift level row }
 {
@@ -48,20 +48,20 @@ pub(crate) fn sum_of_units(rows: &[Backlog]) -> u64
     sum
 }
 
-/// What backlogs come to at a level. The sum of the gifts is promised, and the others guide a search.
+/// Sums over backlogs at a level. The sum of the gifts is promised, and the others guide a search.
 #[derive(Clone, Copy)]
 pub(crate) struct Measure {
     /// The sum of the gifts.
     pub sum: u64,
-    /// The units of those that are served whole.
+    /// The units of the backlogs that are served whole.
     pub whole: u64,
     /// The weights of the others.
     pub weights: u64,
-    /// How many these are.
+    /// The number of the others.
     pub others: u64,
 }
 
-/// What they come to.
+/// The sums over these backlogs.
 pub(crate) fn measured(x: u64, rows: &[Backlog]) -> Measure
     requires few { length rows.now ≤ MOST_TENANTS }
     requires in_range { All IsBacklog rows.now }

@@ -11,8 +11,8 @@ use fq_model::limits::MOST_TENANTS;
 const HIGHEST: u64 = 2048000000000000000;
 
 /// The level at which a capacity is shared, in microseconds of work: all are served whole where they fit, and else up
-/// to the greatest level whose gifts fit. It is found by guesses, each by what the last one leaves; nothing here takes
-/// a step for each level, or memory.
+/// to the greatest level whose gifts fit. It is found by guesses, each by the units that the last guess leaves; nothing
+/// here takes a step for each level, or memory.
 pub fn level(cap: u64, rows: &[Backlog]) -> Level
     requires few { length rows.now ≤ MOST_TENANTS }
     requires in_range { All IsBacklog rows.now }
@@ -56,10 +56,10 @@ fn between(cap: u64, rows: &[Backlog]) -> Bounds
     Bounds { low, high }
 }
 
-// The next level to look at, after one whose gifts fit, at which backlogs come to this. It is the one at which those
-// that are not served whole share what the others leave, if that is higher: a step of Newton's method, since the sum of
-// gifts rises by less and less. Else it is one that is too high for them, whatever is lost by rounding. Nothing is
-// promised of it, since only time hangs on it.
+// The next level to look at, after a level whose gifts fit and which has this measure. It is the level at which the
+// backlogs that are not served whole share the units that the others leave, if that is higher: a step of Newton's
+// method, since the sum of gifts rises by less and less. Else it is a level that is too high for them, whatever is lost
+// by rounding. Nothing is promised of it, since only time hangs on it.
 fn next_guess(cap: u64, at: Measure, low: u64) -> u64 {
     let room = cap.saturating_sub(at.whole) as u128 * 1024;
     let share = quotient(room, at.weights);
@@ -70,8 +70,8 @@ fn next_guess(cap: u64, at: Measure, low: u64) -> u64 {
     }
 }
 
-// What a number divided by another comes to, as far as 64 bits hold it. Most that are divided here fit 64 bits, and a
-// processor divides those faster than 128.
+// The quotient of two numbers, as far as 64 bits hold it. Most numbers that are divided here fit 64 bits, and a
+// processor divides those faster than numbers of 128.
 fn quotient(number: u128, by: u64) -> u64 {
     let by = by.max(1);
     if number <= u64::MAX as u128 {

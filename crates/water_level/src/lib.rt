@@ -1,4 +1,4 @@
-//! The level to which a slot serves what tenants still want.
+//! The level to which a slot serves the backlogs of tenants.
 #![tactic(auto)]
 
 pub mod gifts;

@@ -136,12 +136,12 @@ ascends_but q (x ∷ xs) a = elim (cases_eq x q) [
   | inr ne ↦ rw (ne_eqb x q ne) (λ s h. a.0 s (but_member q s xs h).0, ascends_but q xs a.1)
 ]
 
--- where q is none of them all stay
+-- where q is not in the list, all numbers stay
 pub but_none : (q : ℕ) (xs : List ℕ) → ((r : ℕ) → Member r xs → q ≢ r) → but q xs ≡ xs
 but_none q [] off = refl
 but_none q (x ∷ xs) off = rw (ne_eqb x q (λ e. off x (inl refl) (sym e)), but_none q xs (λ r h. off r (inr h))) refl
 
--- and where it stands between these, it alone is gone
+-- and where q is in an ascending list, it alone is gone
 pub but_middle : (q : ℕ) (front rest : List ℕ) → Ascends (front ++ q ∷ rest) → but q (front ++ q ∷ rest) ≡ front ++ rest
 but_middle q [] rest a = rw (eq-eqb q q refl) (but_none q rest (λ r h e. let b : q < r = a.0 r h in omega (arith, e)))
 but_middle q (x ∷ front) rest a =

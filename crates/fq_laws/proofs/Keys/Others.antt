@@ -56,7 +56,7 @@ costs_left : (P : History) (t k : ℕ) (a : Act) → concerns P t a ≡ false �
 costs_left P t k (Done worker request cost) off = costs_done (completed P) (request_at P request) cost t k off
 costs_left P t k _ off = refl
 
--- an entry leaves the tenants that it does not concern as they stood
+-- an entry does not change the tenants that it does not concern
 pub leaves : (C : Config) (P : History) (e : Entry) (t : ℕ) → InLimits C → IsLegal C (e ∷ P) → concerns P t e.act ≡ false → Leaves C P (e ∷ P) t
 leaves C P e t lim l off =
     let d : Changes C P (e ∷ P) t (record no_change { weight = (change_of C P t e.act).weight }) = subst (Changes C P (e ∷ P) t) (nothing_changes C P t e.act off) (changes C P e t lim l) in

@@ -37,17 +37,17 @@ all_false (row ∷ rows) h =
 abbrev pub SomeReply : (Reply → History → Type 0) → Type 0
 SomeReply A = (reply : Reply) × (Q : History) × A reply Q
 
--- a call has some reply and history, where it has them unless it is refused
+-- a call that may be refused has some reply and history, if it has them where it is not refused
 pub refused_exists : (o : Option Cause) (P : History) (A : Reply → History → Type 0) → (o ≡ None → SomeReply A) → SomeReply (λ reply Q. RefusedOrElse o P reply Q (A reply Q))
 refused_exists None P A h = h refl
 refused_exists (Some c) P A h = (answer.Refused c, P, (refl, refl))
 
--- a call has one reply and history at most, where it has one at most unless it is refused
+-- it has one reply and history at most, if it has one at most where it is not refused
 pub refused_one : (o : Option Cause) (P : History) (r s : Reply) (Q R : History) (X Y : Type 0) → (o ≡ None → X → Y → (r ≡ s) × (Q ≡ R)) → RefusedOrElse o P r Q X → RefusedOrElse o P s R Y → (r ≡ s) × (Q ≡ R)
 refused_one None P r s Q R X Y h x y = h refl x y
 refused_one (Some c) P r s Q R X Y h x y = (x.0 ∙ sym y.0, x.1 ∙ sym y.1)
 
--- a property of P holds of the history after the call, where it does unless the call is refused
+-- a property of P holds of the history after the call, if it does where the call is not refused
 pub refused_keeps : (o : Option Cause) (P : History) (reply : Reply) (Q : History) (X : Type 0) (Keeps : History → Type 0) → Keeps P → (o ≡ None → X → Keeps Q) → RefusedOrElse o P reply Q X → Keeps Q
 refused_keeps None P reply Q X Keeps old new x = new refl x
 refused_keeps (Some c) P reply Q X Keeps old new x = subst Keeps (sym x.1) old

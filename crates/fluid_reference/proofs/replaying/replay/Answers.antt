@@ -38,7 +38,7 @@ join_own-requires-clause-small c = subst (All (λ (r : FluidRow). r.cost ≤ 100
 pub join_own-requires-clause-came : goal.join_own-requires-clause-came
 join_own-requires-clause-came c = c.loop-k.invariant.joined
 
--- what the tenant's requests cost by now
+-- the costs of the tenant's requests by now
 cost_is : (c : After-weigh) → c.join_own.result.1 ≡ costs_by c.args.rows.now (c.loop-k.k * c.args.slot) c.args.tenant
 cost_is c =
     c.join_own.ensures.came.theirs
@@ -61,7 +61,7 @@ weight_is c =
     ∙ ap (λ P. weight_at c.args.config.now P c.args.tenant) (sym (prefix_to c.of_tenant-changes.result.now c.weigh.result.0 (c.loop-k.k * c.args.slot) rise c.weigh.ensures.came.before c.weigh.ensures.next))
     ∙ ap (λ xs. weight_at c.args.config.now (prefix_at (history_of_changes xs) (c.loop-k.k * c.args.slot)) c.args.tenant) c.of_tenant-changes.ensures
 
--- what it wants in this slot
+-- its backlog in this slot
 wants_is : (c : After-weigh) → (let b : Backlog = record { units = c.join_own.result.1 - c.loop-k.served; weight = c.weigh.result.1 } in b) ≡ own_backlog c.args.config.now c.args.rows.now c.args.changes.now (c.loop-k.k * c.args.slot) (λ u. replayed c.args.config.now c.args.rows.now c.args.changes.now c.args.levels.now c.args.slot u c.loop-k.k) c.args.tenant
 wants_is c = ap₂ (λ (n : ℕ) (w : ℕ). record { units = n; weight = w }) (ap₂ ◌-◌ (cost_is c) c.loop-k.invariant.served) (weight_is c)
 
@@ -71,7 +71,7 @@ served_low c = omega (arith, cost_is c, c.loop-k.invariant.served, replayed_low 
 pub overflow_sub-units : goal.overflow_sub-units
 overflow_sub-units c = served_low (goal.at.overflow_sub-units c).After-weigh
 
--- what it is served with this slot
+-- its service with this slot
 more : (c : goal.In_ok-push) → c.loop-k.served + c.give-served.result ≡ replayed c.args.config.now c.args.rows.now c.args.changes.now c.args.levels.now c.args.slot c.args.tenant (c.loop-k.k + 1)
 more c =
     ap₂ ◌+◌ c.loop-k.invariant.served (c.give-served.ensures ∙ ap₂ gift (get_or_default c.args.levels.now c.loop-k.k _ _ c.loop-k-test.true) (wants_is (goal.at.loop-k-preserved c).After-weigh))

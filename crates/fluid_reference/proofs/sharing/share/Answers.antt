@@ -22,7 +22,7 @@ level-level-requires-clause-few c = omega (arith, ap length (wants_are c), lengt
 pub level-level-requires-clause-in_range : goal.level-level-requires-clause-in_range
 level-level-requires-clause-in_range c = subst (All IsBacklog) (sym (wants_are c)) (backlogs_in_range _ _ _ _ c.requires.in_range (known_tenants _ _ _ c.requires.backlogged))
 
--- the next one's gift
+-- the next tenant's gift
 gift_is : (c : After-give) → c.give.result ≡ gift c.level-level.result (want_of c.args.costs.now c.args.served.now c.args.weights.now (get_or c.args.backlogged.now c.loop-k.k 0))
 gift_is c = c.give.ensures ∙ ap (gift c.level-level.result) (c.index.ensures ∙ ap (λ bs. get_or bs c.loop-k.k c.index.result.now) c.in_ok-note_wants.ensures ∙ get_or-map (want_of c.args.costs.now c.args.served.now c.args.weights.now) c.args.backlogged.now c.loop-k.k 0 c.index.result.now c.loop-k-test.true)
 
