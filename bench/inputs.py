@@ -44,6 +44,27 @@ def script_of(calls, tenants, workers, policy="2dfq", estimate="pessimistic", se
     return "\n".join(["script 1", *lines]) + "\n"
 
 
+def takes_of(takes, tenants, workers, is_worst):
+    """A script in which the last worker takes a head that is not eligible for it, ends its request at cost 0, and the tenant
+    submits it anew, again and again, while each tenant has a head. All moments are 0, and virtual time is. At worst each head
+    is as long as it can be with an eligible key of 1 for the last worker, by its finish, so that nothing but a look at each
+    head shows that none is eligible. Else heads are of uneven lengths."""
+    draw, last = random.Random(11), workers - 1
+    finishes = [10_000 + 2 * t for t in range(tenants)]
+    lengths = [(it - 1) * workers // (2 * workers - 1) if is_worst else draw.randrange(1, 5_000) for it in finishes]
+    lines = [f"config {workers} 2dfq declared 1000 {4 * tenants + 3 * takes} {2 * tenants + takes}"]
+    lines += [f"tenant t{t} 1" for t in range(tenants)]
+    lines += ["kind get"]
+    for t, (finish, length) in enumerate(zip(finishes, lengths)):
+        # (the cost that it has run by then is its start)
+        lines += [f"submit 0 0 {t} 0 {finish - length} {t}", "take 1 0 0", f"done 1 0 0 {finish - length}"]
+    heads = [f"submit 0 0 {t} 0 {length} {t}" for t, length in enumerate(lengths)]
+    # (no head is eligible at virtual time 0: then the least eligible key goes first, and of equal ones the least finish)
+    first = min(range(tenants), key=lambda t: (workers * (finishes[t] - lengths[t]) - last * lengths[t], finishes[t]))
+    again = [f"take {1 + last} 0 {last}", f"done {1 + last} 0 {last} 0", heads[first]]
+    return "\n".join(["script 1", *lines, *heads, *(again * takes)]) + "\n"
+
+
 def backlog_of(tenants, seed=5):
     """A trace in which every tenant has one long request at 0, so that at first all have a backlog in the fluid reference."""
     draw = random.Random(seed)
