@@ -88,3 +88,23 @@ pub(crate) fn measured(x: u64, rows: &[Backlog]) -> Measure
         others,
     }
 }
+
+/// The least level above this at which the gift of a backlog rises, or the greatest number. Only that it is no lower
+/// level is promised, since it guides a search.
+pub(crate) fn next_rise(x: u64, rows: &[Backlog]) -> u64
+    ensures { x ≤ result }
+{
+    let mut least = u64::MAX;
+    for b in rows {
+        if gift_at(x, *b) < b.units {
+            least = least.min(rise_of(x, b.weight));
+        }
+    }
+    least.max(x)
+}
+
+// The least level above this at which the share of a weight is a unit more.
+fn rise_of(x: u64, weight: u32) -> u64 {
+    let part = x.wrapping_mul(weight as u64) % 1024;
+    x.saturating_add((1024 - part).div_ceil(weight.max(1) as u64))
+}

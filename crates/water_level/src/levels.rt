@@ -1,11 +1,14 @@
 //! The level at which a capacity is shared.
-ghost use Rattle.std.specs.Prelude.{◌<◌, ◌≤◌, length, All};
+ghost use Rattle.std.specs.Prelude.{◌<◌, ◌≤◌, ◌+◌, length, All};
 ghost use Rattle.fq_model.specs.Level.{IsLevel, IsGreatestLevel, LeavesFewUnits, gifts_at, total_units};
 ghost use Rattle.water_level.specs.Backlogs.{IsBacklog};
 
-use crate::gifts::{Measure, measured, sum_of_gifts, sum_of_units};
+use crate::gifts::{Measure, measured, next_rise, sum_of_gifts, sum_of_units};
 use fq_model::level::{Backlog, Level};
 use fq_model::limits::MOST_TENANTS;
+
+/// Levels that are nearer to one another are halved: for them a look at the next rise is not worth its time.
+const NARROW: u64 = 16;
 
 /// A level that serves each backlog whole: 1024 times the greatest of all backlogs.
 const HIGHEST: u64 = 2048000000000000000;
@@ -92,12 +95,31 @@ fn search(cap: u64, rows: &[Backlog], low: u64, high: u64) -> u64
     let mut low = low;
     let mut high = high;
     'search: while high - low > 1 {
-        let middle = low + (high - low) / 2;
-        if sum_of_gifts(middle, rows) <= cap {
-            low = middle;
+        let between = probe(low, high, rows);
+        if sum_of_gifts(between, rows) <= cap {
+            low = between;
         } else {
-            high = middle;
+            high = between;
         }
     }
     low
+}
+
+// A level between two to look at next. Where gifts rise at few levels between them, as where weights are equal, it is
+// the first of these levels, or the last level below `high` if there is none; else it is the middle.
+fn probe(low: u64, high: u64, rows: &[Backlog]) -> u64
+    requires { low + 1 < high }
+    ensures above { low < result }
+    ensures below { result < high }
+{
+    let middle = low + (high - low) / 2;
+    if high - low < NARROW {
+        return middle;
+    }
+    let rise = next_rise(low, rows);
+    if rise - low > (high - low) / 8 {
+        rise.min(high - 1)
+    } else {
+        middle
+    }
 }
