@@ -13,7 +13,7 @@ use Rattle.program_model.specs.Script.{call_of_words, submit_of, take_of, report
 use Rattle.journal_text.specs.Reading.{IsFirstLine}
 use Rattle.journal_text.specs.AtOnce.{BeginsWithNumber, TellsFirst}
 
--- what stands at a place of a text divides it
+-- a byte of a text divides it
 pub divided : (text : List ℕ) (at byte : ℕ) → at < length text → slice_index text at ≡ byte → text ≡ take at text ++ (byte ∷ drop (at + 1) text)
 divided text at byte inside here =
     let behind : drop at text ≡ byte ∷ drop (at + 1) text = rw add-one (drop-cons text at 0 inside ∙ ap (λ (b : ℕ). b ∷ drop (suc at) text) here) in
@@ -76,7 +76,7 @@ word_alone : (word : List ℕ) → IsWord word → words_of word ≡ word ∷ []
 word_alone [] w = refl
 word_alone (b ∷ bs) w = rw (w.0.0, word_alone bs w.1) refl
 
--- the first line of a text has these words, and below it stands the rest
+-- the first line of a text has these words, and this is the text below it
 pub record HasWords (text : List ℕ) (words : Words) (below : List ℕ) : Type 0 where
   pub line : List ℕ
   pub first : IsFirstLine text line below

@@ -18,19 +18,19 @@ use Rattle.journal_text.specs.declared.fault.ScriptFault.{ScriptFault}
 use Rattle.journal_text.specs.declared.fault.ScriptFault.TheVariants as faults
 use Rattle.journal_text.proofs.HeadLimits.{IsKept, config_of-in_limits, config_of-short, some_if}
 
--- what was said before, and what is said later
+-- these values before the later ones
 abbrev pub with_more : {A F : Type 0} → List A → Result (List A) F → Result (List A) F
 with_more said later = later >>= λ more. Ok (said ++ more)
 
--- the document, with what a line of its body says
+-- the document with the value of one line more
 abbrev added : {A : Type 0} → Document A → A → Document A
 added d said = record d { body = d.body ++ said ∷ [] }
 
--- the document, with what is said below
+-- the document with the values of the lines below
 abbrev extended : {A : Type 0} → Document A → Result (List A) (ℕ × ScriptKind) → Result (Document A) (ℕ × ScriptKind)
 extended d later = later >>= λ more. Ok (record d { body = d.body ++ more })
 
--- it is the same, whether a line is added before the others or with them
+-- a line may be added before the others or with them
 regrouped : {A : Type 0} (d : Document A) (said : A) (later : Result (List A) (ℕ × ScriptKind)) → extended (added d said) later ≡ extended d (with_first said later)
 regrouped d said (Ok more) = ap (λ body. Ok (record d { body = body })) (append_assoc d.body (said ∷ []) more)
 regrouped d said (Err e) = refl
@@ -43,7 +43,7 @@ one_more : {A : Type 0} (reader : LineReader A) (place : ℕ) (lines : List (Lis
 one_more reader place lines d (Ok said) later = later said ∙ regrouped d said (body_of reader (place + 1) lines)
 one_more reader place lines d (Err kind) later = refl
 
--- a line that stands nowhere in the head
+-- a line that is none of the head
 past_head : {X : Type 0} (tenant kind none : Bool) (x y z w : X) → none ≡ false → kind ≡ false
     → (if tenant && none then x else (if kind then y else (if none then z else w))) ≡ w
 past_head tenant kind true x y z w some past = absurd (cc)
@@ -77,7 +77,7 @@ no_kind true true b h = h
 no_kind true false b h = refl
 no_kind false t b h = refl
 
--- where something stands in the body, each line goes to it
+-- where the body is not empty, each line goes to it
 with_lines-more : {A : Type 0} (reader : LineReader A) (lines : List (List ℕ)) (place : ℕ) (d : Document A) → is_empty d.kinds ≡ false → is_empty d.body ≡ false
     → with_lines reader place d lines ≡ extended d (body_of reader place lines)
 with_lines-more reader [] place d some more = none_left reader place d some
@@ -108,7 +108,7 @@ extended-bodyless : {A : Type 0} (d : Document A) (said : Result (List A) (ℕ �
 extended-bodyless d (Ok more) none = ap (λ body. Ok (record d { body = body ++ more })) none
 extended-bodyless d (Err e) none = refl
 
--- a text is read like what is left of it, however the lines of the body are read
+-- however the lines of the body are read, the text spells the head so far with the lines of the rest
 abbrev pub IsReadAt : {A : Type 0} → Reads A → Version → ℕ → Document A → List ℕ → Type 0
 IsReadAt {A} text version place d rest = (reader : Version → LineReader A) → with_lines (reader version) place d (lines_of rest) ≡ text reader
 
@@ -144,7 +144,7 @@ pub ends_in_head : {A : Type 0} (text : Reads A) (version : Version) (place : �
     → IsReadAt text version place d rest → is_empty d.kinds ≡ true → rest ≡ [] → IsHeadFault (faults.At place Missing) text
 ends_in_head text version place d rest same none end reader = sym (same reader) ∙ rw (end, none) refl
 
--- where nothing stands in the body, and a line is no first one of it, it is one of the head
+-- where the body is empty, and a line does not begin it, the line is one of the head
 same_head : {X : Type 0} (tenant kind none unnamed bodyless : Bool) (x y z w : X) → bodyless ≡ true → (not none && not kind) ≡ false → (none ≡ false → unnamed ≡ false)
     → (if tenant && none then x else (if kind && (not unnamed && bodyless) then y else (if none then z else w)))
     ≡ (if tenant && none then x else (if kind && not unnamed then y else z))
@@ -180,8 +180,8 @@ fault_in_head text version place d line rest below (errors.Fault kind) same kept
     sym (same reader) ∙ (next_in_head (reader version) place d line rest below kept first goes_on ∙ ap (λ r. at_line place r >>= λ more. with_lines (reader version) (place + 1) more (lines_of below)) fails)
 fault_in_head text version place d line rest below errors.NoMemory same kept first goes_on fails reader = tt
 
--- The lines that are passed, and those of the rest, are the lines below the config line; and whatever stands below the
--- lines that are passed, the head so far says what they say.
+-- The lines that are passed, and those of the rest, are the lines below the config line; and whatever lines follow
+-- those that are passed, they are read on the head so far.
 pub record IsPast {A : Type 0} (config d : Document A) (text : List ℕ) (place : ℕ) (rest : List ℕ) : Type 0 where
   pub above : List (List ℕ)
   pub split : lines_of text ≡ above ++ lines_of rest
@@ -191,7 +191,7 @@ pub record IsPast {A : Type 0} (config d : Document A) (text : List ℕ) (place 
 pub nothing_past : {A : Type 0} (config : Document A) (text : List ℕ) → IsPast config config text 3 text
 nothing_past config text = record { above = []; split = refl; counted = refl; says = λ reader more. refl }
 
--- what is left says what the whole says
+-- the rest, on the head so far, spells what the whole does
 pub left_says : {A : Type 0} (config d : Document A) (text : List ℕ) (place : ℕ) (rest : List ℕ) (version : Version) → IsPast config d text place rest
     → IsReadAt (λ reader. with_lines (reader version) 3 config (lines_of text)) version place d rest
 left_says config d text place rest version past reader = past.says (reader version) (lines_of rest) ∙ ap (with_lines (reader version) 3 config) (sym past.split)
@@ -219,7 +219,7 @@ divided_at config d text place rest version past some = record {
   counted = past.counted;
 }
 
--- two facts of what was read
+-- two facts of one result
 pub IfOk-both : {T E : Type 0} (r : Result T E) (P Q : T → Type 0) → IfOk r P → IfOk r Q → IfOk r (λ x. P x × Q x)
 IfOk-both (Ok x) P Q p q = (p, q)
 IfOk-both (Err e) P Q p q = tt
@@ -250,7 +250,7 @@ under_header title version head text line below body first names is divided = re
   version = names ∙ ap (λ v. Some v) (sym is);
 }
 
--- what a first line says is said before what the others say
+-- the value of a first line comes before those of the others
 pub said_first : {A : Type 0} (reader : Version → LineReader A) (old : Below) (said : A) (new : Below) → SaysFirst reader old said new
     → said_below reader old ≡ with_first said (said_below reader new)
 said_first reader old said new first = rw (first.there, first.says, first.left) refl
@@ -267,23 +267,19 @@ first_fault reader old (faults.At line kind) new stuck =
     rw stuck.there (ap (λ read. read >>= λ said. with_first said (body_of (reader old.version) (old.place + 1) stuck.more)) stuck.fails)
 first_fault reader old faults.NoMemory new stuck = tt
 
-fails_at : {A : Type 0} (place : ℕ) (e : LineError) (read : Result A ScriptKind) → Fails e read → IsFirstFault (fault_at place e) (at_line place read)
-fails_at place (errors.Fault kind) read fails = ap (at_line place) fails
-fails_at place errors.NoMemory read fails = tt
-
 -- the first line of a text was not read
-pub stays_at_first : {A : Type 0} (reader : Version → LineReader A) (version : Version) (place : ℕ) (rest line below : List ℕ) (old new : Below) (e : LineError)
-    → below_at version place rest ≡ old → below_at version place rest ≡ new → lines_of rest ≡ line ∷ lines_of below → Fails e (reader version (words_of line))
-    → IsStuck reader old (fault_at place e) new
-stays_at_first reader version place rest line below old new e was is first fails = rw (sym was, sym is) (record {
+pub stays_at_first : {A : Type 0} (reader : Version → LineReader A) (version : Version) (place : ℕ) (rest line below : List ℕ) (old new : Below) (kind : ScriptKind)
+    → below_at version place rest ≡ old → below_at version place rest ≡ new → lines_of rest ≡ line ∷ lines_of below → reader version (words_of line) ≡ Err kind
+    → IsStuck reader old (faults.At place kind) new
+stays_at_first reader version place rest line below old new kind was is first fails = rw (sym was, sym is) (record {
   line = line;
   more = lines_of below;
   there = first;
-  fails = fails_at place e (reader version (words_of line)) fails;
+  fails = ap (at_line place) fails;
   same = refl;
 })
 
--- what the first line says is said before the rest
+-- the value of the first line comes before the rest
 with_more-first : {A F : Type 0} (said : List A) (x : A) (later : Result (List A) F) → with_more said (with_first x later) ≡ with_more (said ++ x ∷ []) later
 with_more-first said x (Ok more) = ap (λ all. Ok all) (sym (append_assoc said (x ∷ []) more))
 with_more-first said x (Err e) = refl

@@ -32,12 +32,12 @@ more_open b bs false e le later =
     let long : suc (length bs) ≤ 1 + end_of bs = rw e at le in
     rw e (later (omega arith))
 
--- the one line of a text without an LF
+-- a text without an LF is one line
 pub lines_of-open : (b : ℕ) (bs : List ℕ) → length (b ∷ bs) ≤ end_of (b ∷ bs) → lines_of (b ∷ bs) ≡ (b ∷ bs) ∷ []
 lines_of-open b [] le = more_open b [] (b == 10) refl le (λ _. refl)
 lines_of-open b (c ∷ cs) le = more_open b (c ∷ cs) (b == 10) refl le (λ h. rw (lines_of-open c cs h) refl)
 
-placed : (n e len : ℕ) (t : Bool) → nat_lt e len ≡ t → Some n ≡ (if t then Some e else None) → (e ≡ n) × (n < len)
+pub placed : (n e len : ℕ) (t : Bool) → nat_lt e len ≡ t → Some n ≡ (if t then Some e else None) → (e ≡ n) × (n < len)
 placed n e len true lt h =
     let same : e ≡ n = cc in
     (same, omega (arith, ltb-true e len lt))
@@ -53,7 +53,7 @@ first_line_at text end h =
       shorter = omega (arith, here.1, ap length (take_rest text (end + 1)), length-drop (end + 1) text);
     }
 
-unplaced : (e len : ℕ) (t : Bool) → nat_lt e len ≡ t → None ≡ (if t then Some e else None) → len ≤ e
+pub unplaced : (e len : ℕ) (t : Bool) → nat_lt e len ≡ t → None ≡ (if t then Some e else None) → len ≤ e
 unplaced e len true lt h = absurd (cc)
 unplaced e len false lt h = omega (arith, ltb-false e len lt)
 
@@ -68,13 +68,13 @@ first_line_open (b ∷ bs) some h =
       shorter = rw none (omega arith);
     }
 
--- what a search for an LF finds
-pub found_end : (text : List ℕ) (r : Option ℕ) → IsFirstByte (is_byte 10) text r → r ≡ position (λ b. b == 10) text
-found_end text None none =
-    let passed : end_of text ≡ length text = position_or_len_is (λ b. b == 10) text (length text) 0 (omega arith)
+-- a search for a byte finds the first such byte
+pub found_at : (byte : ℕ) (text : List ℕ) (r : Option ℕ) → IsFirstByte (is_byte byte) text r → r ≡ position (λ b. b == byte) text
+found_at byte text None none =
+    let passed : position_or_len (λ b. b == byte) text ≡ length text = position_or_len_is (λ b. b == byte) text (length text) 0 (omega arith)
     (λ k lt. false_from_ne_true _ (none k (omega arith) lt)) (λ lt. absurd (omega arith)) in
-    cond_above (end_of text) (length text) (Some (end_of text)) None None (omega arith) refl
-found_end text (Some k) found =
-    let here : end_of text ≡ k = position_or_len_is (λ b. b == 10) text k 0 (omega (arith, found.0.high))
+    cond_above (position_or_len (λ b. b == byte) text) (length text) (Some (position_or_len (λ b. b == byte) text)) None None (omega arith) refl
+found_at byte text (Some k) found =
+    let here : position_or_len (λ b. b == byte) text ≡ k = position_or_len_is (λ b. b == byte) text k 0 (omega (arith, found.0.high))
     (λ i lt. false_from_ne_true _ (found.0.before i (omega arith) lt)) (λ lt. found.1) in
-    ap Some (sym here) ∙ cond_below (end_of text) (length text) (Some (end_of text)) None (omega (arith, found.0.high))
+    ap Some (sym here) ∙ cond_below (position_or_len (λ b. b == byte) text) (length text) (Some (position_or_len (λ b. b == byte) text)) None (omega (arith, found.0.high))

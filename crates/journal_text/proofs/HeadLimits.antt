@@ -1,4 +1,4 @@
--- What holds of a head while it is read: the configuration of one with a kind is within its limits.
+-- The invariant of a head while it is read, and that the configuration of a head with a kind is within its limits.
 use Rattle.std.proofs.Common.{ℕ, zero, suc, ◌*◌, ◌<◌, ◌≤◌, ◌≡◌, ◌==◌, Bool, true, false, not, ◌||◌, ◌&&◌, nat_lt, if◌then◌else◌, ◌⊎◌, inl, inr, [], ◌∷◌, ◌++◌, length, All, Result, Ok, Err, refl, subst, arith, length-append}
 use borrow.Author.Tests.{ltb-false}
 use Rattle.std.specs.Prelude.{codes}
@@ -14,7 +14,7 @@ use Rattle.program_model.specs.Reading.{◌>>=◌, begins_with, is_empty}
 use Rattle.program_model.specs.Lines.{Words, number_at, ranged_at, policy_at, estimator_at, with_count, name_at}
 use Rattle.journal_text.specs.Reading.{with_head_line}
 
--- what a first step gave, where both steps gave something
+-- the value of a first step, where both steps have one
 pub bind_ok : {A B F : Type 0} (r : Result A F) (f : A → Result B F) (y : B) → (r >>= f) ≡ Ok y → (x : A) × (r ≡ Ok x) × (f x ≡ Ok y)
 bind_ok (Ok x) f y h = (x, refl, h)
 bind_ok (Err e) f y h = absurd (cc)
@@ -58,7 +58,7 @@ settings_of-within line s h =
       requests = ranged_at-within words.0 6 1 MOST_REQUESTS requests.0 requests.1;
     })
 
--- what holds of a head that is being read
+-- the invariant of a head that is being read
 pub record IsKept {A : Type 0} (s : Document A) : Type 0 where
   pub bodyless : s.body ≡ []
   pub settings : SettingsAreWithin s.settings

@@ -38,7 +38,7 @@ next_tenant names weights t name weight below named weighs =
     let next : t + 1 ≡ suc t = omega arith in
     rw (next, weighs) (tenant_at names weights t name below named)
 
--- where a line was added, and what is left begins with it, the whole is the same
+-- a line is moved from the head of the rest to the end of the text: the whole stays
 pub longer : (text word text2 row text3 rest rest2 all : List ℕ) → text2 ≡ text ++ word → text3 ≡ text2 ++ row → rest ≡ word ++ (row ++ rest2)
     → text ++ rest ≡ all → text3 ++ rest2 ≡ all
 longer text word text2 row text3 rest rest2 all one two more whole =

@@ -1,4 +1,4 @@
--- What stood in a text stands there still.
+-- A text that grows begins with the old text.
 use Rattle.std.proofs.Common.{ℕ, Bool, true, false, cond, ◌+◌, ◌<◌, ◌≤◌, ◌≡◌, ◌∙◌, List, [], ◌∷◌, ◌++◌, length, take, drop, sym, ap, append_assoc, slice_index, get_or}
 use Rattle.std.specs.Prelude.{codes}
 use Rattle.std.specs.Fmt.{decimal}
@@ -17,11 +17,11 @@ kept_more old text more new kept is = (kept.0 ++ more, is ∙ ap (λ t. t ++ mor
 pub cut_back : (old text : List ℕ) → IsKept old text → take (length old) text ≡ old
 cut_back old text kept = ap (take (length old)) kept.1 ∙ take-append_seam old kept.0
 
--- what is kept of what was kept
+-- a text that grows twice
 pub kept_through : (old text new : List ℕ) → IsKept old text → IsKept text new → IsKept old new
 kept_through old text new kept then = kept_more old text then.0 new kept then.1
 
--- one more of the things that are told, each by its line
+-- one item more is printed, as its line
 pub one_more : {X : Type 0} (told : List X → List ℕ) (things : List X) (k : ℕ) (none : X) (line text new all : List ℕ) → k < length things
     → told (get_or things k none ∷ drop (k + 1) things) ≡ line ++ told (drop (k + 1) things) → new ≡ text ++ line
     → text ++ told (drop k things) ≡ all → new ++ told (drop (k + 1) things) ≡ all
@@ -29,7 +29,7 @@ one_more told things k none line text new all lt tells is so_far =
     let below = told (drop (k + 1) things) in
     ap (λ t. t ++ below) is ∙ append_assoc text line below ∙ ap (λ t. text ++ t) (sym (at_drop_more told things k none lt ∙ tells)) ∙ so_far
 
--- all of them are told
+-- all items are printed
 pub all_told : {X : Type 0} (told : List X → List ℕ) (things : List X) (k : ℕ) (text all : List ℕ) → length things ≤ k → told [] ≡ []
     → text ++ told (drop k things) ≡ all → text ≡ all
 all_told told things k text all le nothing so_far = sym (append-nil text) ∙ ap (λ t. text ++ t) (sym (at_drop_all told things k le ∙ nothing)) ∙ so_far
@@ -50,11 +50,11 @@ all_numbers numbers k text new all le is so_far =
     let none : drop k numbers ≡ [] = drop_all k numbers le in
     is ∙ rw none at so_far
 
--- what is kept where nothing more is added
+-- a text to which nothing is added
 pub kept_still : (old text new : List ℕ) → IsKept old text → new ≡ text → IsKept old new
 kept_still old text new kept is = (kept.0, is ∙ kept.1)
 
--- what is kept where something more is added, or nothing
+-- a text to which another is added, or nothing
 pub kept_either : (old text more new : List ℕ) (t : Bool) → IsKept old text → new ≡ cond t (text ++ more) text → IsKept old new
 kept_either old text more new true kept is = kept_more old text more new kept is
 kept_either old text more new false kept is = kept_still old text new kept is

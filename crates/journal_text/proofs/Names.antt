@@ -12,7 +12,7 @@ use Rattle.fq_model.specs.Names.{number_among}
 use Rattle.program_model.specs.Document.{new_among}
 use Rattle.program_model.specs.declared.fault.ScriptKind.TheVariants.{Twice}
 
--- what a word names, and no text is no word
+-- an option through a result
 pub named : {A E : Type 0} (o : Option A) (e : E) (r : Result A E) → r ≡ ok_or o e → result_ok r ≡ o
 named None e r is = rw is refl
 named (Some x) e r is = rw is refl

@@ -7,52 +7,51 @@ use Rattle.program_model.specs.Document.{Document, LineReader, config_of, versio
 use Rattle.fq_model.specs.Limits.{config_fault}
 use Rattle.program_model.specs.Lines.{lines_of, words_of}
 use Rattle.program_model.specs.Reading.{◌>>=◌, at_line}
-use Rattle.journal_text.specs.declared.fault.LineError.{LineError}
 use Rattle.journal_text.specs.declared.fault.ScriptFault.{ScriptFault}
-use Rattle.journal_text.specs.Reading.{Fails, IsFirstFault, IsFirstLine}
+use Rattle.journal_text.specs.Reading.{IsFirstFault, IsFirstLine}
 
--- what is left of a body: the version of its text, its lines, and the place of the first of them in the text
+-- the lines of a body that are still to be read, with the version of the text and the place of the first of them in it
 pub record Below : Type 0 where
   pub version : Version
   pub place : ℕ
   pub lines : List (List ℕ)
 
--- the body that this text is, in a document of this version, its first line being line `place` of the document
+-- the body of a document of this version whose lines are those of this text, from line `place` of the document on
 abbrev pub below_at : Version → ℕ → List ℕ → Below
 below_at version place text = record { version = version; place = place; lines = lines_of text }
 
--- this is said before what is said later
+-- this value before the later ones
 abbrev pub with_first : {A F : Type 0} → A → Result (List A) F → Result (List A) F
 with_first said later = later >>= λ more. Ok (said ∷ more)
 
--- what the lines of a body say, in order, or their first fault; the first of them is line `place` of the text
+-- the values of the lines of a body, in order, or their first fault; the first of them is line `place` of the text
 abbrev pub body_of : {A : Type 0} → LineReader A → ℕ → List (List ℕ) → Result (List A) (ℕ × ScriptKind)
 body_of reader place [] = Ok []
 body_of reader place (line ∷ lines) =
     at_line place (reader (words_of line)) >>= λ said. with_first said (body_of reader (place + 1) lines)
 
--- what the lines that are left of a body say, in order, or their first fault
+-- the values of the lines that are left of a body, in order, or their first fault
 abbrev pub said_below : {A : Type 0} → (Version → LineReader A) → Below → Result (List A) (ℕ × ScriptKind)
 said_below reader below = body_of (reader below.version) below.place below.lines
 
--- the document with this head, and with what its body says, or the body's fault
+-- the document with this head and the values of its body, or the body's fault
 abbrev pub with_body_lines : {A : Type 0} → Document A → Result (List A) (ℕ × ScriptKind)
     → Result (Document A) (ℕ × ScriptKind)
 with_body_lines head said = said >>= λ body. Ok (record head { body = body })
 
--- what a text spells, by how the lines of its body are read: a document, or the first fault
+-- the document that a text spells, or its first fault, as a function of how the lines of its body are read
 abbrev pub Reads : Type 0 → Type 0
 Reads A = (Version → LineReader A) → Result (Document A) (ℕ × ScriptKind)
 
--- What is read is this head with what stands below it, however the lines of the body are read: so the head has no
--- fault. The head by itself is a document that a scheduler can be opened with.
+-- However the lines of the body are read, the text spells this head with this body: so the head has no fault. The head
+-- by itself is a document that a scheduler can be opened with.
 pub record IsOpened {A : Type 0} (read : Reads A) (head : Document A) (below : Below) : Type 0 where
   pub means : (reader : Version → LineReader A) → read reader ≡ with_body_lines head (said_below reader below)
   pub bodyless : head.body ≡ []
   pub fits : config_fault (config_of head) ≡ None
 
 -- Some lines, of which the first is line `place` of a text, are those of this head and below them those of this body.
--- The lines of the head alone spell it, however a body would be read.
+-- The lines of the head alone spell the head, however a body would be read.
 pub record Divides {A : Type 0} (spelled : List (List ℕ) → Reads A) (place : ℕ) (lines : List (List ℕ)) (head : Document A) (below : Below) : Type 0 where
   pub above : List (List ℕ)
   pub split : lines ≡ above ++ below.lines
@@ -74,27 +73,27 @@ pub record DividesText {A : Type 0} (title text : List ℕ) (head : Document A) 
 abbrev pub IsHeadFault : {A : Type 0} → ScriptFault → Reads A → Type 0
 IsHeadFault fault read = (reader : Version → LineReader _) → IsFirstFault fault (read reader)
 
--- the first line of a text says this, and below it stands the rest
+-- the first line of a text has this value, and this is the text below it
 pub record FirstLineSays {A : Type 0} (reader : LineReader A) (text : List ℕ) (said : A) (below : List ℕ) : Type 0 where
   pub line : List ℕ
   pub first : IsFirstLine text line below
   pub says : reader (words_of line) ≡ Ok said
 
--- a text has a first line, and this is its fault, unless memory ran out
-pub record FirstLineFails {A : Type 0} (reader : LineReader A) (text : List ℕ) (fault : LineError) : Type 0 where
+-- a text has a first line, and this is its fault
+pub record FirstLineFails {A : Type 0} (reader : LineReader A) (text : List ℕ) (fault : ScriptKind) : Type 0 where
   pub line : List ℕ
   pub below : List ℕ
   pub first : IsFirstLine text line below
-  pub fails : Fails fault (reader (words_of line))
+  pub fails : reader (words_of line) ≡ Err fault
 
--- what reading the first line of a text returns: what the line says and the text below it, nothing where the text is
+-- the result of reading the first line of a text: the value of the line and the text below it, None where the text is
 -- empty, or the line's fault
-abbrev pub ReadsFirst : {A : Type 0} → LineReader A → List ℕ → Result (Option (A × Bor (List ℕ))) LineError → Type 0
+abbrev pub ReadsFirst : {A : Type 0} → LineReader A → List ℕ → Result (Option (A × Bor (List ℕ))) ScriptKind → Type 0
 ReadsFirst reader text (Ok (Some (said, below))) = FirstLineSays reader text said below.now
 ReadsFirst reader text (Ok None) = text ≡ []
 ReadsFirst reader text (Err fault) = FirstLineFails reader text fault
 
--- the first line of a body says this, and was taken off
+-- the first line of a body has this value, and was taken off
 pub record SaysFirst {A : Type 0} (reader : Version → LineReader A) (old : Below) (said : A) (new : Below) : Type 0 where
   pub line : List ℕ
   pub there : old.lines ≡ line ∷ new.lines
@@ -109,8 +108,7 @@ pub record IsStuck {A : Type 0} (reader : Version → LineReader A) (old : Below
   pub fails : IsFirstFault fault (at_line old.place (reader old.version (words_of line)))
   pub same : new ≡ old
 
--- what reading the next line of a body returns and leaves: what the line says, nothing where no line is left, or the
--- line's fault
+-- the result of reading the next line of a body: the value of the line, None where no line is left, or the line's fault
 abbrev pub ReadsNext : {A : Type 0} → (Version → LineReader A) → Below → Result (Option A) ScriptFault → Below → Type 0
 ReadsNext reader old (Ok (Some said)) new = SaysFirst reader old said new
 ReadsNext reader old (Ok None) new = (old.lines ≡ []) × (new ≡ old)

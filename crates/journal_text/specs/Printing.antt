@@ -1,4 +1,4 @@
--- What printing adds to a text, and what it leaves of it.
+-- Printed lines, and texts that grow by them.
 use Rattle.std.specs.Prelude.{ℕ, ◌≡◌, List, ◌++◌}
 use Rattle.fq_model.specs.declared.config.Config.{Config}
 use Rattle.fq_model.specs.declared.event.Entry.{Entry}
@@ -10,14 +10,14 @@ use Rattle.program_model.specs.JournalText.{numbers_text, header_line, head_text
 abbrev pub row_text : List ℕ → List ℕ → List ℕ
 row_text word numbers = word ++ numbers_text numbers
 
--- what stands above the entries of a journal of this version
+-- the lines above the entries of a journal of this version
 abbrev pub top_text : Version → Config → List (List ℕ) → List (List ℕ) → List ℕ
 top_text version C tenants kinds = header_line version ++ head_text C tenants kinds
 
--- the journal of entries that are written as they come, in order of time: its version allows any
+-- the journal of entries that are written as they come, in order of time: its version allows any entry
 abbrev pub streamed_text : Config → List (List ℕ) → List (List ℕ) → List Entry → List ℕ
 streamed_text C tenants kinds entries = top_text Third C tenants kinds ++ entries_text entries
 
--- what stood there stands there, with perhaps more after it
+-- the new text is the old one, perhaps with more after it
 abbrev pub IsKept : List ℕ → List ℕ → Type 0
 IsKept old new = (more : List ℕ) × (new ≡ old ++ more)

@@ -1,6 +1,5 @@
--- What the reader returns, against what a text says.
-use Rattle.std.specs.Prelude.{ℕ, ◌*◌, ◌<◌, ◌≡◌, nat_lt, Bool, not, ◌&&◌, ◌||◌, if◌then◌else◌, codes, List, ◌∷◌, length, map, Result, Ok, Err}
-use Rattle.std.specs.Borrow.{Bor}
+-- The reader's results and the definitions of texts.
+use Rattle.std.specs.Prelude.{ℕ, ◌*◌, ◌<◌, ◌≡◌, nat_lt, Bool, not, ◌&&◌, ◌||◌, if◌then◌else◌, codes, List, ◌∷◌, length, Result, Ok, Err}
 use Rattle.program_model.specs.declared.fault.ScriptKind.{ScriptKind}
 use Rattle.fq_model.specs.declared.config.Config.{Config}
 use Rattle.fq_model.specs.declared.limits.TheConstants.{MOST_TENANTS, MOST_KINDS, MOST_PAIRS}
@@ -14,21 +13,17 @@ use Rattle.journal_text.specs.declared.fault.LineError.TheVariants as errors
 use Rattle.journal_text.specs.declared.fault.ScriptFault.{ScriptFault}
 use Rattle.journal_text.specs.declared.fault.ScriptFault.TheVariants as faults
 
--- the words that are seen through references
-abbrev pub words_in : List (Bor (List ℕ)) → Words
-words_in words = map (λ w. w.now) words
-
--- reading has this fault, unless memory ran out
+-- the definition gives this fault, unless memory ran out
 abbrev pub Fails : {Y : Type 0} → LineError → Result Y ScriptKind → Type 0
 Fails (errors.Fault kind) read = read ≡ Err kind
 Fails errors.NoMemory read = Unit {0}
 
--- what was returned is, seen by `view`, what reading gives
+-- the result is, seen by `view`, that of the definition
 abbrev pub Gives : {X Y : Type 0} → (X → Y) → Result X LineError → Result Y ScriptKind → Type 0
 Gives view (Ok x) read = read ≡ Ok (view x)
 Gives view (Err e) read = Fails e read
 
--- this is the first fault of what was read, which has a line; where memory ran out, nothing is said of the text
+-- this is the first fault of a text, with its line; where memory ran out, nothing is said of the text
 abbrev pub IsFirstFault : {Y : Type 0} → ScriptFault → Result Y (ℕ × ScriptKind) → Type 0
 IsFirstFault (faults.At line kind) read = read ≡ Err (line, kind)
 IsFirstFault faults.NoMemory read = Unit {0}
@@ -42,7 +37,7 @@ pub record IsFirstLine (text line below : List ℕ) : Type 0 where
   pub lines : lines_of text ≡ line ∷ lines_of below
   pub shorter : length below < length text
 
--- what the config line of a document with this configuration says
+-- the settings in the config line of a document with this configuration
 abbrev pub settings_in : Config → Settings
 settings_in c =
     record { workers = c.workers; policy = c.policy; estimate = c.estimate; initial = c.initial; entries = c.entries; requests = c.requests }
@@ -70,7 +65,7 @@ IsOfConfigLine {A} d = (words : Words) × (config_line {A = A} words ≡ Ok d)
 abbrev pub ends_before : {A : Type 0} → Document A → Words → Bool
 ends_before d words = not (is_empty d.kinds) && not (begins_with words (codes "kind"))
 
--- the head with one line more, below its config line, where that line does not begin the body
+-- the head with one line more, below its config line, where that line is not the first of the body
 abbrev pub with_head_line : {A : Type 0} → Document A → Words → Result (Document A) ScriptKind
 with_head_line d words =
     if begins_with words (codes "tenant") && is_empty d.kinds then with_tenant d words

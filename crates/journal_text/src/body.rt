@@ -1,4 +1,4 @@
-//! What stands below the head of a document, and how it is read.
+//! The body of a document: the lines below its head, read one at a time.
 ghost use Rattle.std.specs.Prelude.{◌≡◌, ◌+◌, ◌^◌, ◌<◌, List, ℕ, Result, length, IfOk, IfErr};
 ghost use Rattle.program_model.specs.declared.fault.ScriptKind.{ScriptKind};
 ghost use Rattle.program_model.specs.declared.version.Version.{Version};
@@ -7,35 +7,31 @@ ghost use Rattle.program_model.specs.Document.{version_of};
 ghost use Rattle.journal_text.specs.Reading.{IsFirstFault};
 ghost use Rattle.journal_text.specs.Body.{ReadsFirst, ReadsNext, below_at, said_below};
 
-use crate::fault::{LineError, ScriptFault};
+use crate::fault::ScriptFault;
+use program_model::fault::ScriptKind;
 use program_model::version::Version;
 use std::alloc::Global;
 use std::marker::{Model, PhantomData};
 
-/// What a line below the head says.
+/// The value of a line below the head: a call or an entry.
 pub trait Line: Drop + Sized {
     /// The word with which the first line of such a document begins.
     ghost title: { List ℕ };
 
-    /// How a line is read.
+    /// The value of a line in a document of a version, or the line's fault.
     ghost reader: { Version → Words → Result Self ScriptKind };
 
     /// The version that a first line names, if it names one.
     fn version(line: &[u8]) -> Option<Version>
         ensures { result ≡ version_of title line.now };
 
-    /// Reads the first line of a text: what it says, and the text below it; None where the text is empty. The words of
-    /// the line go into `words` where they have to be looked at one by one: only for a line of more words than it has
-    /// room for is memory taken. The error is the line's fault, or that memory ran out.
-    fn read_first<'a>(
-        version: Version,
-        text: &'a [u8],
-        words: &mut Vec<&'a [u8]>,
-    ) -> Result<Option<(Self, &'a [u8])>, LineError>
+    /// Reads the first line of a text: the value that the line spells, and the text below it; None where the text is
+    /// empty. The error is the line's fault.
+    fn read_first(version: Version, text: &[u8]) -> Result<Option<(Self, &[u8])>, ScriptKind>
         ensures { ReadsFirst (reader version) text.now result };
 }
 
-/// What is left of a body, to be read one line at a time.
+/// The lines of a body that are still to be read.
 #[derive(Drop)]
 pub struct Body<'a, A: Line> {
     version: Version,
@@ -43,8 +39,6 @@ pub struct Body<'a, A: Line> {
     place: u64,
     // the text from there on
     rest: &'a [u8],
-    // room for the words of a line
-    words: Vec<&'a [u8]>,
     says: PhantomData<A>,
 }
 
@@ -61,14 +55,8 @@ impl<'a, A: Line> Model for Body<'a, A> {
 }
 
 impl<'a, A: Line> Body<'a, A> {
-    // The body that begins at this line of a text, the rest of the text. The words of each line go into
-    // `words`. Takes no memory.
-    pub(crate) fn new(
-        version: Version,
-        place: u64,
-        rest: &'a [u8],
-        words: Vec<&'a [u8]>,
-    ) -> Body<'a, A>
+    // The body that begins at this line of a document and is the rest of its text.
+    pub(crate) fn new(version: Version, place: u64, rest: &'a [u8]) -> Body<'a, A>
         requires { place + length rest.now < 2 ^ 64 }
         ensures { result ≡ below_at version place rest.now }
     {
@@ -76,30 +64,30 @@ impl<'a, A: Line> Body<'a, A> {
             version,
             place,
             rest,
-            words,
             says: PhantomData,
         }
     }
 
-    /// Reads the next line, or names its fault; after an error the body is as it was. Memory is taken only for a
-    /// line of more words than any line before it. Where it ran out, nothing is said of the line but that it is
-    /// there.
+    /// Reads the next line, or names its fault; after an error the body is as it was. Takes no memory.
     pub fn read_next(&mut self) -> Result<Option<A>, ScriptFault>
         ensures { ReadsNext A.reader self.old result self.new }
     {
-        match A::read_first(self.version, self.rest, &mut self.words) {
+        match A::read_first(self.version, self.rest) {
             Ok(Some((said, below))) => {
                 self.rest = below;
                 self.place += 1;
                 Ok(Some(said))
             }
             Ok(None) => Ok(None),
-            Err(e) => Err(e.at(self.place)),
+            Err(kind) => Err(ScriptFault::At {
+                line: self.place,
+                kind,
+            }),
         }
     }
 
-    /// Reads all lines that are left, or names their first fault. An answer that memory ran out says
-    /// nothing of the text.
+    /// Reads all lines that are left, or names their first fault. An answer that memory ran out says nothing of the
+    /// text.
     pub fn read_all(mut self, alloc: Global) -> Result<Vec<A>, ScriptFault>
         ensures ok { IfOk result (λ said. said_below A.reader self.entry ≡ Ok said.items) }
         ensures fault { IfErr result (λ f. IsFirstFault f (said_below A.reader self.entry)) }

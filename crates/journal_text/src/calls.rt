@@ -3,15 +3,15 @@ ghost use Rattle.std.specs.Prelude.{◌≡◌, ◌<◌, codes, Ok, IfOk, IfErr};
 ghost use Rattle.program_model.specs.Document.{document_of};
 ghost use Rattle.program_model.specs.Script.{submit_of, take_of, report_of, done_of, close_of, weight_of, workers_of, withdraw_of, fixed_call_of, changing_call_of, withdrawing_call_of, call_of_words, script_of};
 ghost use Rattle.journal_text.specs.Body.{ReadsFirst, IsOpened, IsHeadFault, DividesText};
-ghost use Rattle.journal_text.specs.Reading.{Gives, IsFirstFault, words_in};
+ghost use Rattle.journal_text.specs.Reading.{IsFirstFault};
 
 use crate::at_once::call_at_once;
 use crate::body::Line;
 use crate::document::Document;
-use crate::fault::{LineError, ScriptFault};
-use crate::lines::{next_line, split_words};
+use crate::fault::ScriptFault;
+use crate::lines::next_line;
 use crate::reading::{Opened, open_document, read_document};
-use crate::words::{begins_with, expect_count, index_at, number_at};
+use crate::words::Words;
 use fq_model::event::Call;
 use program_model::fault::ScriptKind;
 use program_model::version::Version;
@@ -21,16 +21,16 @@ use std::alloc::Global;
 pub type Script = Document<Call>;
 
 #[tactic(auto, unfolding(program_model::specs::Script::submit_of))]
-fn submit(words: &[&[u8]]) -> Result<Call, LineError>
-    ensures { Gives (λ c. c) result (submit_of (words_in words.now)) }
+fn submit(words: &Words) -> Result<Call, ScriptKind>
+    ensures { result ≡ submit_of words.now }
 {
-    expect_count(words, 7)?;
-    let who = index_at(words, 1)?;
-    let moment = number_at(words, 2)?;
-    let tenant = index_at(words, 3)?;
-    let kind = index_at(words, 4)?;
-    let declared = number_at(words, 5)?;
-    let label = number_at(words, 6)?;
+    words.expect_count(7)?;
+    let who = words.index_at(1)?;
+    let moment = words.number_at(2)?;
+    let tenant = words.index_at(3)?;
+    let kind = words.index_at(4)?;
+    let declared = words.number_at(5)?;
+    let label = words.number_at(6)?;
     Ok(Call::Submit {
         who,
         moment,
@@ -42,13 +42,13 @@ fn submit(words: &[&[u8]]) -> Result<Call, LineError>
 }
 
 #[tactic(auto, unfolding(program_model::specs::Script::take_of))]
-fn take(words: &[&[u8]]) -> Result<Call, LineError>
-    ensures { Gives (λ c. c) result (take_of (words_in words.now)) }
+fn take(words: &Words) -> Result<Call, ScriptKind>
+    ensures { result ≡ take_of words.now }
 {
-    expect_count(words, 4)?;
-    let who = index_at(words, 1)?;
-    let moment = number_at(words, 2)?;
-    let worker = index_at(words, 3)?;
+    words.expect_count(4)?;
+    let who = words.index_at(1)?;
+    let moment = words.number_at(2)?;
+    let worker = words.index_at(3)?;
     Ok(Call::Take {
         who,
         moment,
@@ -57,14 +57,14 @@ fn take(words: &[&[u8]]) -> Result<Call, LineError>
 }
 
 #[tactic(auto, unfolding(program_model::specs::Script::report_of))]
-fn report(words: &[&[u8]]) -> Result<Call, LineError>
-    ensures { Gives (λ c. c) result (report_of (words_in words.now)) }
+fn report(words: &Words) -> Result<Call, ScriptKind>
+    ensures { result ≡ report_of words.now }
 {
-    expect_count(words, 5)?;
-    let who = index_at(words, 1)?;
-    let moment = number_at(words, 2)?;
-    let worker = index_at(words, 3)?;
-    let used = number_at(words, 4)?;
+    words.expect_count(5)?;
+    let who = words.index_at(1)?;
+    let moment = words.number_at(2)?;
+    let worker = words.index_at(3)?;
+    let used = words.number_at(4)?;
     Ok(Call::Report {
         who,
         moment,
@@ -74,14 +74,14 @@ fn report(words: &[&[u8]]) -> Result<Call, LineError>
 }
 
 #[tactic(auto, unfolding(program_model::specs::Script::done_of))]
-fn done(words: &[&[u8]]) -> Result<Call, LineError>
-    ensures { Gives (λ c. c) result (done_of (words_in words.now)) }
+fn done(words: &Words) -> Result<Call, ScriptKind>
+    ensures { result ≡ done_of words.now }
 {
-    expect_count(words, 5)?;
-    let who = index_at(words, 1)?;
-    let moment = number_at(words, 2)?;
-    let worker = index_at(words, 3)?;
-    let cost = number_at(words, 4)?;
+    words.expect_count(5)?;
+    let who = words.index_at(1)?;
+    let moment = words.number_at(2)?;
+    let worker = words.index_at(3)?;
+    let cost = words.number_at(4)?;
     Ok(Call::Done {
         who,
         moment,
@@ -91,24 +91,24 @@ fn done(words: &[&[u8]]) -> Result<Call, LineError>
 }
 
 #[tactic(auto, unfolding(program_model::specs::Script::close_of))]
-fn close(words: &[&[u8]]) -> Result<Call, LineError>
-    ensures { Gives (λ c. c) result (close_of (words_in words.now)) }
+fn close(words: &Words) -> Result<Call, ScriptKind>
+    ensures { result ≡ close_of words.now }
 {
-    expect_count(words, 3)?;
-    let who = index_at(words, 1)?;
-    let moment = number_at(words, 2)?;
+    words.expect_count(3)?;
+    let who = words.index_at(1)?;
+    let moment = words.number_at(2)?;
     Ok(Call::Close { who, moment })
 }
 
 #[tactic(auto, unfolding(program_model::specs::Script::weight_of))]
-fn weight(words: &[&[u8]]) -> Result<Call, LineError>
-    ensures { Gives (λ c. c) result (weight_of (words_in words.now)) }
+fn weight(words: &Words) -> Result<Call, ScriptKind>
+    ensures { result ≡ weight_of words.now }
 {
-    expect_count(words, 5)?;
-    let who = index_at(words, 1)?;
-    let moment = number_at(words, 2)?;
-    let tenant = index_at(words, 3)?;
-    let weight = index_at(words, 4)?;
+    words.expect_count(5)?;
+    let who = words.index_at(1)?;
+    let moment = words.number_at(2)?;
+    let tenant = words.index_at(3)?;
+    let weight = words.index_at(4)?;
     Ok(Call::Weight {
         who,
         moment,
@@ -118,24 +118,24 @@ fn weight(words: &[&[u8]]) -> Result<Call, LineError>
 }
 
 #[tactic(auto, unfolding(program_model::specs::Script::workers_of))]
-fn workers(words: &[&[u8]]) -> Result<Call, LineError>
-    ensures { Gives (λ c. c) result (workers_of (words_in words.now)) }
+fn workers(words: &Words) -> Result<Call, ScriptKind>
+    ensures { result ≡ workers_of words.now }
 {
-    expect_count(words, 4)?;
-    let who = index_at(words, 1)?;
-    let moment = number_at(words, 2)?;
-    let count = index_at(words, 3)?;
+    words.expect_count(4)?;
+    let who = words.index_at(1)?;
+    let moment = words.number_at(2)?;
+    let count = words.index_at(3)?;
     Ok(Call::Workers { who, moment, count })
 }
 
 #[tactic(auto, unfolding(program_model::specs::Script::withdraw_of))]
-fn withdraw(words: &[&[u8]]) -> Result<Call, LineError>
-    ensures { Gives (λ c. c) result (withdraw_of (words_in words.now)) }
+fn withdraw(words: &Words) -> Result<Call, ScriptKind>
+    ensures { result ≡ withdraw_of words.now }
 {
-    expect_count(words, 4)?;
-    let who = index_at(words, 1)?;
-    let moment = number_at(words, 2)?;
-    let request = index_at(words, 3)?;
+    words.expect_count(4)?;
+    let who = words.index_at(1)?;
+    let moment = words.number_at(2)?;
+    let request = words.index_at(3)?;
     Ok(Call::Withdraw {
         who,
         moment,
@@ -145,32 +145,32 @@ fn withdraw(words: &[&[u8]]) -> Result<Call, LineError>
 
 // The call of a line, where neither weights nor the number of workers change.
 #[tactic(auto, unfolding(program_model::specs::Script::fixed_call_of))]
-fn fixed_call(words: &[&[u8]]) -> Result<Call, LineError>
-    ensures { Gives (λ c. c) result (fixed_call_of (words_in words.now)) }
+fn fixed_call(words: &Words) -> Result<Call, ScriptKind>
+    ensures { result ≡ fixed_call_of words.now }
 {
-    if begins_with(words, b"submit") {
+    if words.begins_with(b"submit") {
         submit(words)
-    } else if begins_with(words, b"take") {
+    } else if words.begins_with(b"take") {
         take(words)
-    } else if begins_with(words, b"report") {
+    } else if words.begins_with(b"report") {
         report(words)
-    } else if begins_with(words, b"done") {
+    } else if words.begins_with(b"done") {
         done(words)
-    } else if begins_with(words, b"close") {
+    } else if words.begins_with(b"close") {
         close(words)
     } else {
-        Err(LineError::Fault(ScriptKind::Word))
+        Err(ScriptKind::Word)
     }
 }
 
 // The call of a line, where they may change.
 #[tactic(auto, unfolding(program_model::specs::Script::changing_call_of))]
-fn changing_call(words: &[&[u8]]) -> Result<Call, LineError>
-    ensures { Gives (λ c. c) result (changing_call_of (words_in words.now)) }
+fn changing_call(words: &Words) -> Result<Call, ScriptKind>
+    ensures { result ≡ changing_call_of words.now }
 {
-    if begins_with(words, b"weight") {
+    if words.begins_with(b"weight") {
         weight(words)
-    } else if begins_with(words, b"workers") {
+    } else if words.begins_with(b"workers") {
         workers(words)
     } else {
         fixed_call(words)
@@ -179,10 +179,10 @@ fn changing_call(words: &[&[u8]]) -> Result<Call, LineError>
 
 // The call of a line, where they may change and requests may be withdrawn.
 #[tactic(auto, unfolding(program_model::specs::Script::withdrawing_call_of))]
-fn withdrawing_call(words: &[&[u8]]) -> Result<Call, LineError>
-    ensures { Gives (λ c. c) result (withdrawing_call_of (words_in words.now)) }
+fn withdrawing_call(words: &Words) -> Result<Call, ScriptKind>
+    ensures { result ≡ withdrawing_call_of words.now }
 {
-    if begins_with(words, b"withdraw") {
+    if words.begins_with(b"withdraw") {
         withdraw(words)
     } else {
         changing_call(words)
@@ -190,8 +190,8 @@ fn withdrawing_call(words: &[&[u8]]) -> Result<Call, LineError>
 }
 
 // The call of a line of this version.
-fn call(version: Version, words: &[&[u8]]) -> Result<Call, LineError>
-    ensures { Gives (λ c. c) result (call_of_words version (words_in words.now)) }
+fn call(version: Version, words: &Words) -> Result<Call, ScriptKind>
+    ensures { result ≡ call_of_words version words.now }
 {
     match version {
         Version::First => fixed_call(words),
@@ -201,18 +201,13 @@ fn call(version: Version, words: &[&[u8]]) -> Result<Call, LineError>
 }
 
 // Reads the first line of a text by its words.
-fn read_by_words<'a>(
-    version: Version,
-    text: &'a [u8],
-    words: &mut Vec<&'a [u8]>,
-) -> Result<Option<(Call, &'a [u8])>, LineError>
+fn read_by_words(version: Version, text: &[u8]) -> Result<Option<(Call, &[u8])>, ScriptKind>
     ensures { ReadsFirst (call_of_words version) text.now result }
 {
     let Some((line, below)) = next_line(text) else {
         return Ok(None);
     };
-    split_words(line, words)?;
-    let said = call(version, words.as_slice())?;
+    let said = call(version, &Words::of(line))?;
     Ok(Some((said, below)))
 }
 
@@ -233,15 +228,11 @@ impl Line for Call {
         }
     }
 
-    fn read_first<'a>(
-        version: Version,
-        text: &'a [u8],
-        words: &mut Vec<&'a [u8]>,
-    ) -> Result<Option<(Call, &'a [u8])>, LineError> {
-        if let Some(told) = call_at_once(text) {
-            return Ok(Some(told));
+    fn read_first(version: Version, text: &[u8]) -> Result<Option<(Call, &[u8])>, ScriptKind> {
+        if let Some(read) = call_at_once(text) {
+            return Ok(Some(read));
         }
-        read_by_words(version, text, words)
+        read_by_words(version, text)
     }
 }
 

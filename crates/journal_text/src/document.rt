@@ -1,4 +1,4 @@
-//! Documents: what a script or a journal says.
+//! Documents: the values that a script or a journal spells.
 ghost use Rattle.std.specs.Prelude.{◌≡◌};
 ghost use Rattle.program_model.specs.Document.{config_of};
 ghost use Rattle.tenant_table.specs.Names.{names_of, weights_of};
@@ -9,8 +9,8 @@ use std::marker::Model;
 use tenant_table::kinds::Kinds;
 use tenant_table::tenants::Tenants;
 
-/// A document: the configuration of the scheduler that it is about, its tenants and kinds, and what the
-/// lines below them say, in order.
+/// A document: the configuration of a scheduler, its tenants and kinds, and the values of the lines below them, which
+/// are calls or entries, in order.
 #[derive(Drop)]
 pub struct Document<A: Drop> {
     config: Checked,
@@ -44,14 +44,14 @@ impl<A: Drop> Document<A> {
         }
     }
 
-    // Gives it this body, in place of the one that it has.
+    // Replaces the body.
     pub(crate) fn set_body(&mut self, body: Vec<A>)
         ensures { self.new ≡ record self.old { body = body.items } }
     {
         self.body = body;
     }
 
-    /// What the scheduler is opened with.
+    /// The configuration of the scheduler.
     pub fn config(&self) -> &Checked
         ensures { result.now ≡ config_of self.now }
     {
@@ -73,14 +73,14 @@ impl<A: Drop> Document<A> {
         &self.kinds
     }
 
-    /// What the lines below the head say, in order.
+    /// The values of the lines below the head, in order.
     pub fn body(&self) -> &[A]
         ensures { result.now ≡ self.now.body }
     {
         self.body.as_slice()
     }
 
-    /// Its parts: the configuration, the tenants, the kinds, and what the lines below say. Takes no memory.
+    /// The configuration, the tenants, the kinds and the body. Takes no memory.
     pub fn into_parts(self) -> (Checked, Tenants, Kinds, Vec<A>)
         ensures config { result.0 ≡ config_of self }
         ensures tenants { names_of result.1 ≡ self.tenants }

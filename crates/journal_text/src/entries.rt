@@ -2,15 +2,15 @@
 ghost use Rattle.std.specs.Prelude.{◌≡◌, ◌<◌, codes, Ok, IfOk, IfErr, length};
 ghost use Rattle.program_model.specs.Journal.{submit_act, take_act, report_act, done_act, close_act, weight_act, workers_act, withdraw_act, entry_with, fixed_entry_of, changing_entry_of, withdrawing_entry_of, entry_of_words, journal_of};
 ghost use Rattle.journal_text.specs.Body.{ReadsFirst};
-ghost use Rattle.journal_text.specs.Reading.{Gives, IsFirstFault, words_in};
+ghost use Rattle.journal_text.specs.Reading.{IsFirstFault};
 
 use crate::body::Line;
 use crate::document::Document;
 use crate::entries_at_once::entry_at_once;
-use crate::fault::{LineError, ScriptFault};
-use crate::lines::{next_line, split_words};
+use crate::fault::ScriptFault;
+use crate::lines::next_line;
 use crate::reading::read_document;
-use crate::words::{begins_with, expect_count, index_at, number_at};
+use crate::words::Words;
 use fq_model::event::{Act, Entry};
 use program_model::fault::ScriptKind;
 use program_model::version::Version;
@@ -20,17 +20,17 @@ use std::alloc::Global;
 pub type Journal = Document<Entry>;
 
 #[tactic(auto, unfolding(program_model::specs::Journal::entry_with, program_model::specs::Journal::submit_act))]
-fn submit(words: &[&[u8]]) -> Result<Entry, LineError>
-    ensures { Gives (λ e. e) result (entry_with 8 submit_act (words_in words.now)) }
+fn submit(words: &Words) -> Result<Entry, ScriptKind>
+    ensures { result ≡ entry_with 8 submit_act words.now }
 {
-    expect_count(words, 8)?;
-    let who = index_at(words, 1)?;
-    let moment = number_at(words, 2)?;
-    let request = index_at(words, 3)?;
-    let tenant = index_at(words, 4)?;
-    let kind = index_at(words, 5)?;
-    let declared = number_at(words, 6)?;
-    let label = number_at(words, 7)?;
+    words.expect_count(8)?;
+    let who = words.index_at(1)?;
+    let moment = words.number_at(2)?;
+    let request = words.index_at(3)?;
+    let tenant = words.index_at(4)?;
+    let kind = words.index_at(5)?;
+    let declared = words.number_at(6)?;
+    let label = words.number_at(7)?;
     let act = Act::Submit {
         request,
         tenant,
@@ -42,15 +42,15 @@ fn submit(words: &[&[u8]]) -> Result<Entry, LineError>
 }
 
 #[tactic(auto, unfolding(program_model::specs::Journal::entry_with, program_model::specs::Journal::take_act))]
-fn take(words: &[&[u8]]) -> Result<Entry, LineError>
-    ensures { Gives (λ e. e) result (entry_with 6 take_act (words_in words.now)) }
+fn take(words: &Words) -> Result<Entry, ScriptKind>
+    ensures { result ≡ entry_with 6 take_act words.now }
 {
-    expect_count(words, 6)?;
-    let who = index_at(words, 1)?;
-    let moment = number_at(words, 2)?;
-    let worker = index_at(words, 3)?;
-    let request = index_at(words, 4)?;
-    let estimate = number_at(words, 5)?;
+    words.expect_count(6)?;
+    let who = words.index_at(1)?;
+    let moment = words.number_at(2)?;
+    let worker = words.index_at(3)?;
+    let request = words.index_at(4)?;
+    let estimate = words.number_at(5)?;
     let act = Act::Take {
         worker,
         request,
@@ -60,15 +60,15 @@ fn take(words: &[&[u8]]) -> Result<Entry, LineError>
 }
 
 #[tactic(auto, unfolding(program_model::specs::Journal::entry_with, program_model::specs::Journal::report_act))]
-fn report(words: &[&[u8]]) -> Result<Entry, LineError>
-    ensures { Gives (λ e. e) result (entry_with 6 report_act (words_in words.now)) }
+fn report(words: &Words) -> Result<Entry, ScriptKind>
+    ensures { result ≡ entry_with 6 report_act words.now }
 {
-    expect_count(words, 6)?;
-    let who = index_at(words, 1)?;
-    let moment = number_at(words, 2)?;
-    let worker = index_at(words, 3)?;
-    let request = index_at(words, 4)?;
-    let used = number_at(words, 5)?;
+    words.expect_count(6)?;
+    let who = words.index_at(1)?;
+    let moment = words.number_at(2)?;
+    let worker = words.index_at(3)?;
+    let request = words.index_at(4)?;
+    let used = words.number_at(5)?;
     let act = Act::Report {
         worker,
         request,
@@ -78,15 +78,15 @@ fn report(words: &[&[u8]]) -> Result<Entry, LineError>
 }
 
 #[tactic(auto, unfolding(program_model::specs::Journal::entry_with, program_model::specs::Journal::done_act))]
-fn done(words: &[&[u8]]) -> Result<Entry, LineError>
-    ensures { Gives (λ e. e) result (entry_with 6 done_act (words_in words.now)) }
+fn done(words: &Words) -> Result<Entry, ScriptKind>
+    ensures { result ≡ entry_with 6 done_act words.now }
 {
-    expect_count(words, 6)?;
-    let who = index_at(words, 1)?;
-    let moment = number_at(words, 2)?;
-    let worker = index_at(words, 3)?;
-    let request = index_at(words, 4)?;
-    let cost = number_at(words, 5)?;
+    words.expect_count(6)?;
+    let who = words.index_at(1)?;
+    let moment = words.number_at(2)?;
+    let worker = words.index_at(3)?;
+    let request = words.index_at(4)?;
+    let cost = words.number_at(5)?;
     let act = Act::Done {
         worker,
         request,
@@ -96,81 +96,81 @@ fn done(words: &[&[u8]]) -> Result<Entry, LineError>
 }
 
 #[tactic(auto, unfolding(program_model::specs::Journal::entry_with, program_model::specs::Journal::close_act))]
-fn close(words: &[&[u8]]) -> Result<Entry, LineError>
-    ensures { Gives (λ e. e) result (entry_with 3 close_act (words_in words.now)) }
+fn close(words: &Words) -> Result<Entry, ScriptKind>
+    ensures { result ≡ entry_with 3 close_act words.now }
 {
-    expect_count(words, 3)?;
-    let who = index_at(words, 1)?;
-    let moment = number_at(words, 2)?;
+    words.expect_count(3)?;
+    let who = words.index_at(1)?;
+    let moment = words.number_at(2)?;
     let act = Act::Close;
     Ok(Entry { who, moment, act })
 }
 
 #[tactic(auto, unfolding(program_model::specs::Journal::entry_with, program_model::specs::Journal::weight_act))]
-fn weight(words: &[&[u8]]) -> Result<Entry, LineError>
-    ensures { Gives (λ e. e) result (entry_with 5 weight_act (words_in words.now)) }
+fn weight(words: &Words) -> Result<Entry, ScriptKind>
+    ensures { result ≡ entry_with 5 weight_act words.now }
 {
-    expect_count(words, 5)?;
-    let who = index_at(words, 1)?;
-    let moment = number_at(words, 2)?;
-    let tenant = index_at(words, 3)?;
-    let weight = index_at(words, 4)?;
+    words.expect_count(5)?;
+    let who = words.index_at(1)?;
+    let moment = words.number_at(2)?;
+    let tenant = words.index_at(3)?;
+    let weight = words.index_at(4)?;
     let act = Act::Weight { tenant, weight };
     Ok(Entry { who, moment, act })
 }
 
 #[tactic(auto, unfolding(program_model::specs::Journal::entry_with, program_model::specs::Journal::workers_act))]
-fn workers(words: &[&[u8]]) -> Result<Entry, LineError>
-    ensures { Gives (λ e. e) result (entry_with 4 workers_act (words_in words.now)) }
+fn workers(words: &Words) -> Result<Entry, ScriptKind>
+    ensures { result ≡ entry_with 4 workers_act words.now }
 {
-    expect_count(words, 4)?;
-    let who = index_at(words, 1)?;
-    let moment = number_at(words, 2)?;
-    let count = index_at(words, 3)?;
+    words.expect_count(4)?;
+    let who = words.index_at(1)?;
+    let moment = words.number_at(2)?;
+    let count = words.index_at(3)?;
     let act = Act::Workers { count };
     Ok(Entry { who, moment, act })
 }
 
 #[tactic(auto, unfolding(program_model::specs::Journal::entry_with, program_model::specs::Journal::withdraw_act))]
-fn withdraw(words: &[&[u8]]) -> Result<Entry, LineError>
-    ensures { Gives (λ e. e) result (entry_with 4 withdraw_act (words_in words.now)) }
+fn withdraw(words: &Words) -> Result<Entry, ScriptKind>
+    ensures { result ≡ entry_with 4 withdraw_act words.now }
 {
-    expect_count(words, 4)?;
-    let who = index_at(words, 1)?;
-    let moment = number_at(words, 2)?;
-    let request = index_at(words, 3)?;
+    words.expect_count(4)?;
+    let who = words.index_at(1)?;
+    let moment = words.number_at(2)?;
+    let request = words.index_at(3)?;
     let act = Act::Withdraw { request };
     Ok(Entry { who, moment, act })
 }
 
 // The entry of a line, where neither weights nor the number of workers change.
 #[tactic(auto, unfolding(program_model::specs::Journal::fixed_entry_of))]
-fn fixed_entry(words: &[&[u8]]) -> Result<Entry, LineError>
-    ensures { Gives (λ e. e) result (fixed_entry_of (words_in words.now)) }
+fn fixed_entry(words: &Words) -> Result<Entry, ScriptKind>
+    ensures { result ≡ fixed_entry_of words.now }
 {
-    if begins_with(words, b"submit") {
+    if words.begins_with(b"submit") {
         submit(words)
-    } else if begins_with(words, b"take") {
+    } else if words.begins_with(b"take") {
         take(words)
-    } else if begins_with(words, b"report") {
+    } else if words.begins_with(b"report") {
         report(words)
-    } else if begins_with(words, b"done") {
+    } else if words.begins_with(b"done") {
         done(words)
-    } else if begins_with(words, b"close") {
+    } else if words.begins_with(b"close") {
         close(words)
     } else {
-        Err(LineError::Fault(ScriptKind::Word))
+        Err(ScriptKind::Word)
     }
 }
 
 // The entry of a line, where they may change.
 #[tactic(auto, unfolding(program_model::specs::Journal::changing_entry_of))]
-fn changing_entry(words: &[&[u8]]) -> Result<Entry, LineError>
-    ensures { Gives (λ e. e) result (changing_entry_of (words_in words.now)) }
+fn changing_entry(words: &Words) -> Result<Entry, ScriptKind>
+    ensures { result ≡ changing_entry_of words.now }
 {
-    if begins_with(words, b"weight") {
+    if words.begins_with(b"weight") {
         weight(words)
-    } else if begins_with(words, b"workers") {
+    } else if words.begins_with(b"workers") {
         workers(words)
     } else {
         fixed_entry(words)
@@ -179,10 +179,10 @@ fn changing_entry(words: &[&[u8]]) -> Result<Entry, LineError>
 
 // The entry of a line, where they may change and requests may be withdrawn.
 #[tactic(auto, unfolding(program_model::specs::Journal::withdrawing_entry_of))]
-fn withdrawing_entry(words: &[&[u8]]) -> Result<Entry, LineError>
-    ensures { Gives (λ e. e) result (withdrawing_entry_of (words_in words.now)) }
+fn withdrawing_entry(words: &Words) -> Result<Entry, ScriptKind>
+    ensures { result ≡ withdrawing_entry_of words.now }
 {
-    if begins_with(words, b"withdraw") {
+    if words.begins_with(b"withdraw") {
         withdraw(words)
     } else {
         changing_entry(words)
@@ -190,8 +190,8 @@ fn withdrawing_entry(words: &[&[u8]]) -> Result<Entry, LineError>
 }
 
 // The entry of a line of this version.
-fn entry(version: Version, words: &[&[u8]]) -> Result<Entry, LineError>
-    ensures { Gives (λ e. e) result (entry_of_words version (words_in words.now)) }
+fn entry(version: Version, words: &Words) -> Result<Entry, ScriptKind>
+    ensures { result ≡ entry_of_words version words.now }
 {
     match version {
         Version::First => fixed_entry(words),
@@ -201,18 +201,13 @@ fn entry(version: Version, words: &[&[u8]]) -> Result<Entry, LineError>
 }
 
 // Reads the first line of a text by its words.
-fn read_by_words<'a>(
-    version: Version,
-    text: &'a [u8],
-    words: &mut Vec<&'a [u8]>,
-) -> Result<Option<(Entry, &'a [u8])>, LineError>
+fn read_by_words(version: Version, text: &[u8]) -> Result<Option<(Entry, &[u8])>, ScriptKind>
     ensures { ReadsFirst (entry_of_words version) text.now result }
 {
     let Some((line, below)) = next_line(text) else {
         return Ok(None);
     };
-    split_words(line, words)?;
-    let said = entry(version, words.as_slice())?;
+    let said = entry(version, &Words::of(line))?;
     Ok(Some((said, below)))
 }
 
@@ -233,15 +228,11 @@ impl Line for Entry {
         }
     }
 
-    fn read_first<'a>(
-        version: Version,
-        text: &'a [u8],
-        words: &mut Vec<&'a [u8]>,
-    ) -> Result<Option<(Entry, &'a [u8])>, LineError> {
-        if let Some(told) = entry_at_once(text) {
-            return Ok(Some(told));
+    fn read_first(version: Version, text: &[u8]) -> Result<Option<(Entry, &[u8])>, ScriptKind> {
+        if let Some(read) = entry_at_once(text) {
+            return Ok(Some(read));
         }
-        read_by_words(version, text, words)
+        read_by_words(version, text)
     }
 }
 

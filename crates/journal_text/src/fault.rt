@@ -1,17 +1,16 @@
 //! Why a script or a journal was not read.
 ghost use Rattle.std.specs.Prelude.{◌≡◌};
-ghost use Rattle.journal_text.specs.declared.fault.LineError.TheVariants.{NoMemory};
+ghost use Rattle.journal_text.specs.declared.fault.LineError.TheVariants.{Fault, NoMemory};
 ghost use Rattle.journal_text.specs.Reading.{fault_at};
 
 use program_model::fault::ScriptKind;
 use std::alloc::{AllocError, AllocFailed};
-use std::fmt;
 use thiserror::Error;
 
 /// Why a document was not read.
-#[derive(Clone, Copy, PartialEq, Eq, Error)]
+#[derive(Clone, Copy, Debug, PartialEq, Eq, Error)]
 pub enum ScriptFault {
-    /// The first fault: its line, counted from 1, and what is wrong there.
+    /// The first fault: its line, counted from 1, and its kind.
     #[error("line {line}: {kind}")]
     At { line: u64, kind: ScriptKind },
     /// Memory ran out.
@@ -19,15 +18,8 @@ pub enum ScriptFault {
     NoMemory,
 }
 
-// A failed `unwrap` or assertion then tells the message.
-impl fmt::Debug for ScriptFault {
-    fn fmt<W: fmt::Write>(&self, f: &mut fmt::Formatter<W>) -> fmt::Result {
-        fmt::Display::fmt(self, f)
-    }
-}
-
 /// Why a line was not read.
-#[derive(Clone, Copy, Error)]
+#[derive(Clone, Copy, Debug, Error)]
 pub enum LineError {
     /// The line's first fault.
     #[error("{0}")]
@@ -37,15 +29,8 @@ pub enum LineError {
     NoMemory,
 }
 
-// A failed `unwrap` or assertion then tells the message.
-impl fmt::Debug for LineError {
-    fn fmt<W: fmt::Write>(&self, f: &mut fmt::Formatter<W>) -> fmt::Result {
-        fmt::Display::fmt(self, f)
-    }
-}
-
 impl LineError {
-    /// The same, with the line's number where it is a fault; that memory ran out has no line.
+    /// This error at a line of the text, counted from 1.
     pub fn at(self, line: u64) -> ScriptFault
         ensures { result ≡ fault_at line self }
     {
@@ -53,6 +38,14 @@ impl LineError {
             LineError::Fault(kind) => ScriptFault::At { line, kind },
             LineError::NoMemory => ScriptFault::NoMemory,
         }
+    }
+}
+
+impl From<ScriptKind> for LineError {
+    ghost from_gives = { λ kind e. e ≡ Fault kind };
+
+    fn from(kind: ScriptKind) -> LineError {
+        LineError::Fault(kind)
     }
 }
 

@@ -1,14 +1,14 @@
 //! The config line.
+ghost use Rattle.std.specs.Prelude.{◌≡◌};
 ghost use Rattle.program_model.specs.Document.{settings_of};
-ghost use Rattle.journal_text.specs.Reading.{Gives, words_in};
 
-use crate::fault::LineError;
-use crate::words::{estimator_at, expect_count, policy_at, ranged_at, small_at};
+use crate::words::Words;
 use fq_model::config::{Estimator, Policy};
 use fq_model::limits::{GREATEST_COST, LEAST_ENTRIES, MOST_ENTRIES, MOST_REQUESTS, MOST_WORKERS};
+use program_model::fault::ScriptKind;
 use std::marker::Model;
 
-/// What the config line says.
+/// The settings of a config line.
 #[derive(Drop)]
 pub struct Settings {
     /// 1 to 64.
@@ -38,18 +38,18 @@ impl Model for Settings {
     } };
 }
 
-/// Reads the words of a config line. Takes no memory.
+/// Reads the words of a config line.
 #[tactic(auto, unfolding(program_model::specs::Document::settings_of))]
-pub fn read_settings(words: &[&[u8]]) -> Result<Settings, LineError>
-    ensures { Gives (λ s. s) result (settings_of (words_in words.now)) }
+pub fn read_settings(words: &Words) -> Result<Settings, ScriptKind>
+    ensures { result ≡ settings_of words.now }
 {
-    expect_count(words, 7)?;
-    let workers = small_at(words, 1, 1, MOST_WORKERS)?;
-    let policy = policy_at(words, 2)?;
-    let estimate = estimator_at(words, 3)?;
-    let initial = ranged_at(words, 4, 1, GREATEST_COST)?;
-    let entries = small_at(words, 5, LEAST_ENTRIES, MOST_ENTRIES)?;
-    let requests = small_at(words, 6, 1, MOST_REQUESTS)?;
+    words.expect_count(7)?;
+    let workers = words.small_at(1, 1, MOST_WORKERS)?;
+    let policy = words.policy_at(2)?;
+    let estimate = words.estimator_at(3)?;
+    let initial = words.ranged_at(4, 1, GREATEST_COST)?;
+    let entries = words.small_at(5, LEAST_ENTRIES, MOST_ENTRIES)?;
+    let requests = words.small_at(6, 1, MOST_REQUESTS)?;
     Ok(Settings {
         workers,
         policy,

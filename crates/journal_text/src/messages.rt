@@ -1,12 +1,12 @@
-//! What is told of the faults of scripts and journals.
+//! Messages about the faults of scripts and journals.
 ghost use Rattle.std.specs.Prelude.{◌≡◌, string_bytes, IfOk};
 ghost use Rattle.program_model.specs.FaultTexts.{fault_text, placed_text};
 
 use program_model::fault::ScriptKind;
 use std::alloc::{AllocError, Global};
 
-/// What is told of a fault at a line of a text with this title, `script` or `journal`. Lines and words
-/// are counted from 1.
+/// The message about a fault at a line of a text with this title, `script` or `journal`. Lines and words are counted
+/// from 1.
 pub fn placed_fault(
     alloc: Global,
     title: &str,

@@ -1,4 +1,4 @@
-//! What single words name.
+//! Names, policies and estimators as words.
 ghost use Rattle.std.specs.Prelude.{◌≡◌, is_some, IfSome};
 ghost use Rattle.fq_model.specs.Spelling.{is_name, policy_of, estimator_of};
 

@@ -17,8 +17,8 @@ use std::alloc::{AllocError, Global};
 use tenant_table::kinds::Kinds;
 use tenant_table::tenants::Tenants;
 
-/// The journal of a scheduler's entries, in order of time, as a text: its configuration, the names of its
-/// tenants and kinds by number, and a line for each entry.
+/// The journal of a scheduler's entries, in order of time, as a text: its configuration, the names of its tenants and
+/// kinds by number, and a line for each entry.
 pub fn print(
     alloc: Global,
     past: &[Entry],
@@ -55,7 +55,7 @@ pub fn add_journal(
     Ok(())
 }
 
-// Appends its lines. Where memory runs out, what stood there stands still, perhaps with more after it.
+// Appends its lines. Where memory runs out, the text is kept, perhaps with a part of the journal after it.
 #[tactic(auto, unfolding(program_model::specs::JournalText::journal_text))]
 fn add_lines(
     alloc: Global,
@@ -73,8 +73,8 @@ fn add_lines(
     add_entries(past, text)
 }
 
-/// Begins a journal that is written while its scheduler runs: appends what stands above the entries, each of which
-/// `entry_line` then appends. It is of the version that allows any entry. Where memory runs out, the text stays as it
+/// Begins a journal that is written while its scheduler runs: appends its first line and its head; `entry_line` then
+/// appends each entry. The journal is of the version that allows any entry. Where memory runs out, the text stays as it
 /// was.
 pub fn begin_journal(
     alloc: Global,
@@ -162,7 +162,7 @@ fn is_change(act: Act) -> bool
     )
 }
 
-// Appends the lines between the first and the entries; like what it calls, it keeps what stood there.
+// Appends the lines between the first and the entries. Where memory runs out, the text is kept, as in `add_lines`.
 fn add_head(
     alloc: Global,
     config: &Checked,
@@ -222,7 +222,7 @@ fn add_kinds(kinds: &Kinds, text: &mut Vec<u8>) -> Result<(), AllocError>
     Ok(())
 }
 
-// What is set aside for an entry's line, in bytes: more than most lines take. What is left of it is never touched.
+// The room that is reserved for an entry's line, in bytes: more than most lines take. Unused room is never touched.
 const ROOM: usize = 48;
 
 // Appends a line for each entry. Room for all is taken at once, so that a long text need not be moved as it grows.

@@ -1,20 +1,20 @@
 //! The reader of documents.
 ghost use Rattle.std.specs.Prelude.{◌≡◌, ◌+◌, ◌≤◌, length, None, Ok, IfOk, IfErr};
 ghost use Rattle.program_model.specs.declared.version.Version.{Version};
-ghost use Rattle.program_model.specs.Lines.{words_of, lines_of};
+ghost use Rattle.program_model.specs.Lines.{lines_of};
 ghost use Rattle.program_model.specs.Document.{new_among, with_tenant, with_kind, with_lines, opened, config_line, below_header, config_of, document_of};
 ghost use Rattle.fq_model.specs.Limits.{config_fault};
 ghost use Rattle.fq_model.specs.Names.{number_among};
 ghost use Rattle.tenant_table.specs.Names.{names_of};
-ghost use Rattle.journal_text.specs.Reading.{Gives, IsFirstFault, words_in, are_too_many, ends_before, with_head_line, IsOfConfigLine};
+ghost use Rattle.journal_text.specs.Reading.{Gives, IsFirstFault, are_too_many, ends_before, with_head_line, IsOfConfigLine};
 ghost use Rattle.journal_text.specs.Body.{IsOpened, IsHeadFault, Divides, DividesText, below_at};
 
 use crate::body::{Body, Line};
 use crate::document::Document;
 use crate::fault::{LineError, ScriptFault};
 use crate::head::{Settings, read_settings};
-use crate::lines::{next_line, split_words};
-use crate::words::{begins_with, expect_count, name_at, small_at};
+use crate::lines::next_line;
+use crate::words::Words;
 use fq_model::config::{Config, Weights};
 use fq_model::limits::{GREATEST_WEIGHT, MOST_KINDS, MOST_PAIRS, MOST_TENANTS};
 use program_model::fault::ScriptKind;
@@ -32,7 +32,7 @@ pub struct Opened<'a, A: Line> {
     pub body: Body<'a, A>,
 }
 
-// What the lines of the head so far say, as a document with no body.
+// The head as far as its lines are read: a document with no body.
 #[derive(Drop)]
 struct Draft<A: Drop> {
     settings: Settings,
@@ -97,12 +97,12 @@ impl<A: Line> Draft<A> {
     }
 
     #[tactic(auto, unfolding(program_model::specs::Document::with_tenant))]
-    fn add_tenant(&mut self, words: &[&[u8]]) -> Result<(), LineError>
-        ensures { Gives (λ _. self.new) result (with_tenant self.old (words_in words.now)) }
+    fn add_tenant(&mut self, words: &Words) -> Result<(), LineError>
+        ensures { Gives (λ _. self.new) result (with_tenant self.old words.now) }
     {
-        expect_count(words, 3)?;
-        let name = name_at(words, 1)?;
-        let weight = small_at(words, 2, 1, GREATEST_WEIGHT)?;
+        words.expect_count(3)?;
+        let name = words.name_at(1)?;
+        let weight = words.small_at(2, 1, GREATEST_WEIGHT)?;
         expect_new_tenant(&self.tenants, name)?;
         if are_too_many(self.tenants.len() + 1, self.kinds.len()) {
             return Err(LineError::Fault(ScriptKind::TooMany));
@@ -112,11 +112,11 @@ impl<A: Line> Draft<A> {
     }
 
     #[tactic(auto, unfolding(program_model::specs::Document::with_kind))]
-    fn add_kind(&mut self, words: &[&[u8]]) -> Result<(), LineError>
-        ensures { Gives (λ _. self.new) result (with_kind self.old (words_in words.now)) }
+    fn add_kind(&mut self, words: &Words) -> Result<(), LineError>
+        ensures { Gives (λ _. self.new) result (with_kind self.old words.now) }
     {
-        expect_count(words, 2)?;
-        let name = name_at(words, 1)?;
+        words.expect_count(2)?;
+        let name = words.name_at(1)?;
         expect_new_kind(&self.kinds, name)?;
         if are_too_many(self.tenants.len(), self.kinds.len() + 1) {
             return Err(LineError::Fault(ScriptKind::TooMany));
@@ -125,20 +125,20 @@ impl<A: Line> Draft<A> {
         Ok(())
     }
 
-    // Whether the body begins with a line of these words.
-    fn ends_before(&self, words: &[&[u8]]) -> bool
-        ensures { result ≡ ends_before self.now (words_in words.now) }
+    // Whether a line of these words is the first of the body.
+    fn ends_before(&self, words: &Words) -> bool
+        ensures { result ≡ ends_before self.now words.now }
     {
-        !self.kinds.is_empty() && !begins_with(words, b"kind")
+        !self.kinds.is_empty() && !words.begins_with(b"kind")
     }
 
     // Adds a line of the head, below the config line.
-    fn add_words(&mut self, words: &[&[u8]]) -> Result<(), LineError>
-        ensures { Gives (λ _. self.new) result (with_head_line self.old (words_in words.now)) }
+    fn add_words(&mut self, words: &Words) -> Result<(), LineError>
+        ensures { Gives (λ _. self.new) result (with_head_line self.old words.now) }
     {
-        if begins_with(words, b"tenant") && self.kinds.is_empty() {
+        if words.begins_with(b"tenant") && self.kinds.is_empty() {
             self.add_tenant(words)
-        } else if begins_with(words, b"kind") && !self.tenants.is_empty() {
+        } else if words.begins_with(b"kind") && !self.tenants.is_empty() {
             self.add_kind(words)
         } else {
             Err(LineError::Fault(ScriptKind::Word))
@@ -176,32 +176,20 @@ fn are_too_many(tenants: u32, kinds: u32) -> bool
 }
 
 #[tactic(auto, unfolding(program_model::specs::Document::config_line))]
-fn config_words<A: Line>(alloc: Global, words: &[&[u8]]) -> Result<Draft<A>, LineError>
-    ensures { Gives (λ d. d) result (config_line (words_in words.now)) }
+fn config_line<A: Line>(alloc: Global, words: &Words) -> Result<Draft<A>, ScriptKind>
+    ensures { result ≡ config_line words.now }
 {
-    if !begins_with(words, b"config") {
-        return Err(LineError::Fault(ScriptKind::Word));
+    if !words.begins_with(b"config") {
+        return Err(ScriptKind::Word);
     }
     Ok(Draft::opened(alloc, read_settings(words)?))
 }
 
-fn config_line<'a, A: Line>(
-    alloc: Global,
-    line: &'a [u8],
-    words: &mut Vec<&'a [u8]>,
-) -> Result<Draft<A>, LineError>
-    ensures { Gives (λ d. d) result (config_line (words_of line.now)) }
-{
-    split_words(line, words)?;
-    config_words(alloc, words.as_slice())
-}
-
-// Adds the lines below the config line, which are a text of their own, up to the body. The answer is the number of the
+// Adds the lines of this text, which begins below the config line, up to the body. The answer is the number of the
 // body's first line, and the text from there on.
 fn add_lines<'a, A: Line>(
     draft: &mut Draft<A>,
     text: &'a [u8],
-    words: &mut Vec<&'a [u8]>,
 ) -> Result<(u64, &'a [u8]), ScriptFault>
     requires { IsOfConfigLine draft.now }
     ensures ok { IfOk result (λ r. (version : Version) → IsOpened
@@ -217,12 +205,11 @@ fn add_lines<'a, A: Line>(
     let mut rest = text;
     let mut place: u64 = 3;
     while let Some((line, below)) = next_line(rest) {
-        split_words(line, words)?;
-        let here = words.as_slice();
-        if draft.ends_before(here) {
+        let words = Words::of(line);
+        if draft.ends_before(&words) {
             return Ok((place, rest));
         }
-        if let Err(e) = draft.add_words(here) {
+        if let Err(e) = draft.add_words(&words) {
             return Err(e.at(place));
         }
         rest = below;
@@ -237,12 +224,11 @@ fn add_lines<'a, A: Line>(
     Ok((place, rest))
 }
 
-// The same of a head by value, which is given back with what is left to be read.
+// Adds the lines below the config line to a head, and returns the head with the body.
 fn with_lines<'a, A: Line>(
     version: Version,
     mut draft: Draft<A>,
     text: &'a [u8],
-    mut words: Vec<&'a [u8]>,
 ) -> Result<(Draft<A>, Body<'a, A>), ScriptFault>
     requires { IsOfConfigLine draft }
     ensures ok { IfOk result (λ r.
@@ -253,8 +239,8 @@ fn with_lines<'a, A: Line>(
     ensures fault { IfErr result (λ f.
         IsHeadFault f (λ reader. with_lines {A = A} (reader version) 3 draft (lines_of text.now))) }
 {
-    let (place, rest) = add_lines(&mut draft, text, &mut words)?;
-    Ok((draft, Body::new(version, place, rest, words)))
+    let (place, rest) = add_lines(&mut draft, text)?;
+    Ok((draft, Body::new(version, place, rest)))
 }
 
 fn below_header<'a, A: Line>(
@@ -275,10 +261,9 @@ fn below_header<'a, A: Line>(
             kind: ScriptKind::Missing,
         });
     };
-    let mut words = Vec::new(alloc);
-    match config_line(alloc, line, &mut words) {
-        Ok(draft) => with_lines(version, draft, below, words),
-        Err(e) => Err(e.at(2)),
+    match config_line(alloc, &Words::of(line)) {
+        Ok(draft) => with_lines(version, draft, below),
+        Err(kind) => Err(ScriptFault::At { line: 2, kind }),
     }
 }
 
@@ -302,9 +287,8 @@ fn read_draft<'a, A: Line>(
     })
 }
 
-/// Reads the head of a document, up to its last kind, or names the head's first fault. No line of the body
-/// is read; the first is split into its words, since its first word ends the head. An answer that memory
-/// ran out says nothing of the text.
+/// Reads the head of a document, up to its last kind, or names the head's first fault. Of the body only the first word
+/// is looked at, since it ends the head. An answer that memory ran out says nothing of the text.
 pub fn open_document<'a, A: Line>(
     alloc: Global,
     bytes: &'a [u8],

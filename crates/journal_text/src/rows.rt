@@ -7,8 +7,7 @@ ghost use Rattle.journal_text.specs.Printing.{row_text, IsKept};
 use itoa::Buffer;
 use std::alloc::AllocError;
 
-/// Appends a line: a word, and numbers, each after a space. Where memory runs out, the text stays as it
-/// was.
+/// Appends a line: a word, and numbers, each after a space. Where memory runs out, the text stays as it was.
 pub fn add_row(word: &str, numbers: &[u64], text: &mut Vec<u8>) -> Result<(), AllocError>
     ensures added { OnOk result (text.new.items ≡ text.old.items ++ row_text word.now numbers.now) }
     ensures unchanged { OnErr result (text.new.items ≡ text.old.items) }
@@ -38,8 +37,8 @@ pub fn add_one(word: &str, number: u64, text: &mut Vec<u8>) -> Result<(), AllocE
     add_row(word, &[number], text)
 }
 
-/// Appends the rest of a line: numbers, each after a space. Where memory runs out, what stood there stands still,
-/// perhaps with more after it.
+/// Appends the rest of a line: numbers, each after a space. Where memory runs out, the text is kept, perhaps with a
+/// part of the line after it.
 pub fn add_numbers(numbers: &[u64], text: &mut Vec<u8>) -> Result<(), AllocError>
     ensures added { OnOk result (text.new.items ≡ text.old.items ++ numbers_text numbers.now) }
     ensures kept { IsKept text.old.items text.new.items }
@@ -52,7 +51,7 @@ pub fn add_numbers(numbers: &[u64], text: &mut Vec<u8>) -> Result<(), AllocError
     Ok(())
 }
 
-// Appends a number after a space. Where memory runs out, what stood there stands still, perhaps with a space after it.
+// Appends a number after a space. Where memory runs out, the text is kept, perhaps with a space after it.
 fn add_number(number: u64, buffer: &mut Buffer, text: &mut Vec<u8>) -> Result<(), AllocError>
     ensures added { OnOk result (text.new.items ≡ text.old.items ++ (codes " " ++ decimal number)) }
     ensures kept { IsKept text.old.items text.new.items }

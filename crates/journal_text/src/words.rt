@@ -1,108 +1,160 @@
-//! What single words say. The first word is word 0; faults count from 1.
-ghost use Rattle.std.specs.Prelude.{◌≡◌, ◌<◌, ◌≤◌, IsTrue, length, IfOk};
+//! The words of a line. The first word is word 0; faults count from 1.
+ghost use Rattle.std.specs.Prelude.{◌≡◌, ◌<◌, ◌≤◌, IsTrue, length, IfOk, Ok, Err, MatchResult};
 ghost use Rattle.program_model.specs.Reading.{begins_with};
 ghost use Rattle.fq_model.specs.Spelling.{is_name};
-ghost use Rattle.program_model.specs.Lines.{with_count, number_at, ranged_at, index_at, name_at, policy_at, estimator_at};
-ghost use Rattle.journal_text.specs.Reading.{Gives, words_in};
+ghost use Rattle.program_model.specs.Lines.{words_of, word, with_count, number_at, ranged_at, index_at, name_at, policy_at, estimator_at};
 
-use crate::fault::LineError;
+use crate::lines::find;
 use crate::named::{estimator, name, policy};
 use fq_model::config::{Estimator, Policy};
 use program_model::fault::ScriptKind;
 use program_model::numbers::number;
+use std::marker::Model;
 
-/// Whether a line's first word is this.
-pub fn begins_with(words: &[&[u8]], first: &[u8]) -> bool
-    ensures { result ≡ begins_with (words_in words.now) first.now }
-{
-    if words.is_empty() {
-        return first.is_empty();
+/// The words of a line. Each is found where it is asked for, so that they take no memory, however many there are.
+#[derive(Drop)]
+pub struct Words<'a> {
+    first: &'a [u8],
+    // the line behind the space that ends the first word
+    rest: Option<&'a [u8]>,
+}
+
+impl<'a> Model for Words<'a> {
+    ghost use Rattle.std.specs.Prelude.{◌∷◌, []};
+    ghost use Rattle.std.specs.Option.{option_map_or};
+    ghost use Rattle.program_model.specs.Lines.{Words, words_of};
+
+    ghost Value = { Words };
+
+    ghost view = { λ w. w.first.now ∷ option_map_or (λ rest. words_of rest.now) w.rest [] };
+}
+
+impl<'a> Words<'a> {
+    /// The words of this line.
+    pub fn of(line: &'a [u8]) -> Words<'a>
+        ensures { result ≡ words_of line.now }
+    {
+        match find(b' ', line) {
+            Some(end) => Words {
+                first: &line[..end],
+                rest: Some(&line[end + 1..]),
+            },
+            None => Words {
+                first: line,
+                rest: None,
+            },
+        }
     }
-    words[0] == first
-}
 
-/// That there are this many words.
-pub fn expect_count(words: &[&[u8]], count: usize) -> Result<(), LineError>
-    ensures { Gives (λ _. words_in words.now) result (with_count count (words_in words.now)) }
-{
-    if words.len() != count {
-        return Err(LineError::Fault(ScriptKind::Fields(words.len() as u64)));
+    // The number of words.
+    fn count(&self) -> usize
+        ensures { result ≡ length self.now }
+    {
+        match self.rest {
+            Some(rest) => rest.iter().filter(|b| **b == b' ').count() + 2,
+            None => 1,
+        }
     }
-    Ok(())
-}
 
-/// A number.
-#[tactic(auto, unfolding(program_model::specs::Lines::number_at))]
-pub fn number_at(words: &[&[u8]], k: u32) -> Result<u64, LineError>
-    requires there { k < length words.now }
-    requires small { k < 8 }
-    ensures { Gives (λ n. n) result (number_at (words_in words.now) k) }
-{
-    number(words[k as usize]).ok_or(LineError::Fault(ScriptKind::Number(k + 1)))
-}
-
-/// A number from `low` to `high`.
-#[tactic(auto, unfolding(program_model::specs::Lines::ranged_at))]
-pub fn ranged_at(words: &[&[u8]], k: u32, low: u64, high: u64) -> Result<u64, LineError>
-    requires there { k < length words.now }
-    requires small { k < 8 }
-    ensures given { Gives (λ n. n) result (ranged_at (words_in words.now) k low high) }
-    ensures lower { IfOk result (λ n. low ≤ n) }
-    ensures upper { IfOk result (λ n. n ≤ high) }
-{
-    let n = number_at(words, k)?;
-    if n < low || n > high {
-        return Err(LineError::Fault(ScriptKind::Range(k + 1)));
+    // Word k, or nothing where there are fewer.
+    fn word(&self, k: u32) -> &'a [u8]
+        ensures { result.now ≡ word self.now k }
+    {
+        if k == 0 {
+            return self.first;
+        }
+        match self.rest {
+            Some(rest) => Words::of(rest).word(k - 1),
+            None => &self.first[..0],
+        }
     }
-    Ok(n)
-}
 
-/// A number of 32 bits: of a caller, a tenant, a kind or a worker, a weight, or a count.
-#[tactic(auto, unfolding(program_model::specs::Lines::index_at))]
-pub fn index_at(words: &[&[u8]], k: u32) -> Result<u32, LineError>
-    requires there { k < length words.now }
-    requires small { k < 8 }
-    ensures { Gives (λ n. n) result (index_at (words_in words.now) k) }
-{
-    small_at(words, k, 0, u32::MAX)
-}
+    /// Whether the first word is this.
+    pub fn begins_with(&self, first: &[u8]) -> bool
+        ensures { result ≡ begins_with self.now first.now }
+    {
+        self.first == first
+    }
 
-/// A number from `low` to `high`, which is of 32 bits.
-pub fn small_at(words: &[&[u8]], k: u32, low: u32, high: u32) -> Result<u32, LineError>
-    requires there { k < length words.now }
-    requires small { k < 8 }
-    ensures given { Gives (λ n. n) result (ranged_at (words_in words.now) k low high) }
-    ensures lower { IfOk result (λ n. low ≤ n) }
-    ensures upper { IfOk result (λ n. n ≤ high) }
-{
-    let n = ranged_at(words, k, low as u64, high as u64)?;
-    Ok(n as u32)
-}
+    /// That there are this many words.
+    pub fn expect_count(&self, count: usize) -> Result<(), ScriptKind>
+        ensures { MatchResult result
+            (λ _. with_count count self.now ≡ Ok self.now) (λ fault. with_count count self.now ≡ Err fault) }
+    {
+        let words = self.count();
+        if words != count {
+            return Err(ScriptKind::Fields(words as u64));
+        }
+        Ok(())
+    }
 
-/// A name.
-#[tactic(auto, unfolding(program_model::specs::Lines::name_at))]
-pub fn name_at<'a>(words: &[&'a [u8]], k: u32) -> Result<&'a str, LineError>
-    requires { k < length words.now }
-    ensures given { Gives (λ n. n.now) result (name_at (words_in words.now) k) }
-    ensures spelled { IfOk result (λ n. IsTrue (is_name n.now)) }
-{
-    name(words[k as usize]).ok_or(LineError::Fault(ScriptKind::Word))
-}
+    /// A number.
+    #[tactic(auto, unfolding(program_model::specs::Lines::number_at))]
+    pub fn number_at(&self, k: u32) -> Result<u64, ScriptKind>
+        requires { k < 8 }
+        ensures { result ≡ number_at self.now k }
+    {
+        number(self.word(k)).ok_or(ScriptKind::Number(k + 1))
+    }
 
-/// A policy.
-#[tactic(auto, unfolding(program_model::specs::Lines::policy_at))]
-pub fn policy_at(words: &[&[u8]], k: u32) -> Result<Policy, LineError>
-    requires { k < length words.now }
-    ensures { Gives (λ p. p) result (policy_at (words_in words.now) k) }
-{
-    policy(words[k as usize]).ok_or(LineError::Fault(ScriptKind::Word))
-}
+    /// A number from `low` to `high`.
+    #[tactic(auto, unfolding(program_model::specs::Lines::ranged_at))]
+    pub fn ranged_at(&self, k: u32, low: u64, high: u64) -> Result<u64, ScriptKind>
+        requires { k < 8 }
+        ensures given { result ≡ ranged_at self.now k low high }
+        ensures lower { IfOk result (λ n. low ≤ n) }
+        ensures upper { IfOk result (λ n. n ≤ high) }
+    {
+        let n = self.number_at(k)?;
+        if n < low || n > high {
+            return Err(ScriptKind::Range(k + 1));
+        }
+        Ok(n)
+    }
 
-/// An estimator.
-#[tactic(auto, unfolding(program_model::specs::Lines::estimator_at))]
-pub fn estimator_at(words: &[&[u8]], k: u32) -> Result<Estimator, LineError>
-    requires { k < length words.now }
-    ensures { Gives (λ e. e) result (estimator_at (words_in words.now) k) }
-{
-    estimator(words[k as usize]).ok_or(LineError::Fault(ScriptKind::Word))
+    /// A number of 32 bits: of a caller, a tenant, a kind or a worker, a weight, or a count.
+    #[tactic(auto, unfolding(program_model::specs::Lines::index_at))]
+    pub fn index_at(&self, k: u32) -> Result<u32, ScriptKind>
+        requires { k < 8 }
+        ensures { result ≡ index_at self.now k }
+    {
+        self.small_at(k, 0, u32::MAX)
+    }
+
+    /// A number from `low` to `high`, which is of 32 bits.
+    pub fn small_at(&self, k: u32, low: u32, high: u32) -> Result<u32, ScriptKind>
+        requires { k < 8 }
+        ensures given { result ≡ ranged_at self.now k low high }
+        ensures lower { IfOk result (λ n. low ≤ n) }
+        ensures upper { IfOk result (λ n. n ≤ high) }
+    {
+        let n = self.ranged_at(k, low as u64, high as u64)?;
+        Ok(n as u32)
+    }
+
+    /// A name.
+    #[tactic(auto, unfolding(program_model::specs::Lines::name_at))]
+    pub fn name_at(&self, k: u32) -> Result<&'a str, ScriptKind>
+        ensures given { MatchResult result
+            (λ n. name_at self.now k ≡ Ok n.now) (λ fault. name_at self.now k ≡ Err fault) }
+        ensures spelled { IfOk result (λ n. IsTrue (is_name n.now)) }
+    {
+        name(self.word(k)).ok_or(ScriptKind::Word)
+    }
+
+    /// A policy.
+    #[tactic(auto, unfolding(program_model::specs::Lines::policy_at))]
+    pub fn policy_at(&self, k: u32) -> Result<Policy, ScriptKind>
+        ensures { result ≡ policy_at self.now k }
+    {
+        policy(self.word(k)).ok_or(ScriptKind::Word)
+    }
+
+    /// An estimator.
+    #[tactic(auto, unfolding(program_model::specs::Lines::estimator_at))]
+    pub fn estimator_at(&self, k: u32) -> Result<Estimator, ScriptKind>
+        ensures { result ≡ estimator_at self.now k }
+    {
+        estimator(self.word(k)).ok_or(ScriptKind::Word)
+    }
 }

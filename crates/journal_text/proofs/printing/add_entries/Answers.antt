@@ -5,7 +5,7 @@ use Rattle.program_model.specs.JournalText.{entries_text}
 use Rattle.journal_text.proofs.Kept.{kept_all, kept_more, kept_still, one_more, all_told}
 use Rattle.journal_text.proofs.printing.add_entries.Goals as goal
 
--- what stands past the end
+-- the default of an index past the end
 abbrev none : Entry
 none = record { who = 0; moment = 0; act = Submit 0 0 0 0 0 }
 

@@ -5,7 +5,7 @@ use Rattle.program_model.specs.Texts.{replies_text}
 use Rattle.journal_text.proofs.Kept.{one_more, all_told}
 use Rattle.journal_text.proofs.replies.replies_text.Goals as goal
 
--- what stands past the end
+-- the default of an index past the end
 abbrev none : Reply
 none = Request 0
 
