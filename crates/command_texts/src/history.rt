@@ -15,7 +15,7 @@ use crate::messages::told;
 use journal_text::printing::print as print_journal;
 use lag_report::automatic::auto_slot;
 use lag_report::fault::ReportFault;
-use lag_report::parts::Report;
+use lag_report::report::Report;
 use lag_report::printing::{print as print_report, summary};
 use lag_report::reporting::last_report;
 use program_model::command::HistoryPrint;

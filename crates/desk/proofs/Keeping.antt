@@ -17,17 +17,17 @@ use Rattle.sched_state.specs.Scheduler.{SchedulerView}
 use Rattle.sched_state.specs.declared.replies.Refused.{Refused}
 use Rattle.sched_state.specs.Replies.{AnswersCall}
 use Rattle.desk.specs.declared.floor.Crew.{Crew}
-use Rattle.desk.specs.declared.told.Ask.{Ask}
-use Rattle.desk.specs.declared.told.Ask.TheVariants as ask
-use Rattle.desk.specs.declared.told.Told.{Told}
-use Rattle.desk.specs.declared.told.Told.TheVariants as told
+use Rattle.desk.specs.declared.asking.Ask.{Ask}
+use Rattle.desk.specs.declared.asking.Ask.TheVariants as ask
+use Rattle.desk.specs.declared.asking.DeskReply.{DeskReply}
+use Rattle.desk.specs.declared.asking.DeskReply.TheVariants as replies
 use Rattle.desk.specs.Staffed.{IsMadeBy, IsStaffed, MayAsk}
 use Rattle.status_board.specs.Boards.{BoardView, ReaderView}
 use Rattle.desk.specs.Floors.{FloorView, crew_for, crew_of, opened, KeepsFloor}
 use Rattle.desk.specs.Growing.{answers_grow}
 use Rattle.desk.specs.Shown.{ShownView, board_of, Shows, ShowsPart, AreReadersOf, HaveSeen}
 use Rattle.desk.specs.Ending.{IsGivenBack}
-use Rattle.desk.specs.Told.{call_of, reply_of, Suits, AnswersAsk}
+use Rattle.desk.specs.Asking.{call_of, reply_of, Suits, AnswersAsk}
 
 -- an accepted call of this act, refused or not, keeps the history staffed
 staffed_more : (s who moment : ℕ) (act : Act) (o : Option Cause) (P : History) (wanted reply : Reply) (Q : History) → IsMadeBy s who act → IsStaffed s P → RefusedOrElse o P reply Q (IsAccepted P who moment act wanted reply Q) → IsStaffed s Q
@@ -64,22 +64,22 @@ kept {J = J} label before after s b seen who asked reply view may a k =
     }
 
 -- and answers the call so
-pub answers_so : {J : Type 0} (label : J → ℕ) (before after : SchedulerView J) (s : ℕ) (b : Option BoardView) (seen : FloorView J) (who : ℕ) (asked : Ask J) (reply : Told J) → record { scheduler = before; submitters = s; board = b } ≡ seen
+pub answers_so : {J : Type 0} (label : J → ℕ) (before after : SchedulerView J) (s : ℕ) (b : Option BoardView) (seen : FloorView J) (who : ℕ) (asked : Ask J) (reply : DeskReply J) → record { scheduler = before; submitters = s; board = b } ≡ seen
     → AnswersCall before (call_of label who asked) (reply_of label reply) after → Suits asked reply → KeepsFloor before s → AnswersAsk label (crew_of seen) seen.scheduler.past who asked reply after.past
 answers_so {J = J} label before after s b seen who asked reply view a suits k =
     subst (λ (f : FloorView J). AnswersAsk label (crew_of f) f.scheduler.past who asked reply after.past) view
     (record { legal = k.legal; staffed = k.staffed; answers = a.answers; suits = suits })
 
 -- a refused Submit gives its job back
-pub suits_submit : {J : Type 0} (moment tenant kind declared : ℕ) (job : J) (result : Result ℕ (Refused J)) → IfErr result (λ f. f.job ≡ job) → Suits (ask.Submit moment tenant kind declared job) (told.Submitted result)
+pub suits_submit : {J : Type 0} (moment tenant kind declared : ℕ) (job : J) (result : Result ℕ (Refused J)) → IfErr result (λ f. f.job ≡ job) → Suits (ask.Submit moment tenant kind declared job) (replies.Submitted result)
 suits_submit moment tenant kind declared job (Ok request) back = tt
 suits_submit moment tenant kind declared job (Err refused) back = back
 
 -- the answer to a call is the answer to an equal call
-pub told_so : {J : Type 0} (label : J → ℕ) (before after : SchedulerView J) (who : ℕ) (given asked : Ask J) (reply : Told J) → given ≡ asked → AnswersCall before (call_of label who asked) (reply_of label reply) after → AnswersCall before (call_of label who given) (reply_of label reply) after
-told_so {J = J} label before after who given asked reply is a = subst (λ (x : Ask J). AnswersCall before (call_of label who x) (reply_of label reply) after) (sym is) a
+pub reply_so : {J : Type 0} (label : J → ℕ) (before after : SchedulerView J) (who : ℕ) (given asked : Ask J) (reply : DeskReply J) → given ≡ asked → AnswersCall before (call_of label who asked) (reply_of label reply) after → AnswersCall before (call_of label who given) (reply_of label reply) after
+reply_so {J = J} label before after who given asked reply is a = subst (λ (x : Ask J). AnswersCall before (call_of label who x) (reply_of label reply) after) (sym is) a
 
-pub suits_so : {J : Type 0} (given asked : Ask J) (reply : Told J) → given ≡ asked → Suits asked reply → Suits given reply
+pub suits_so : {J : Type 0} (given asked : Ask J) (reply : DeskReply J) → given ≡ asked → Suits asked reply → Suits given reply
 suits_so {J = J} given asked reply is a = subst (λ (x : Ask J). Suits x reply) (sym is) a
 
 -- the crew stays
@@ -87,7 +87,7 @@ pub crew_stays : {J : Type 0} (before after : SchedulerView J) (s : ℕ) (b b2 :
 crew_stays {J = J} before after s b b2 seen view same board = (λ i. crew_for (same i) s (board i)) ∙ ap (λ (f : FloorView J). crew_of f) view
 
 -- the past goes on, so the past that was shown is a prefix of it
-pub shows_part : {J : Type 0} (label : J → ℕ) (before after : SchedulerView J) (s : ℕ) (who : ℕ) (asked : Ask J) (reply : Told J) (shown : Option ShownView)
+pub shows_part : {J : Type 0} (label : J → ℕ) (before after : SchedulerView J) (s : ℕ) (who : ℕ) (asked : Ask J) (reply : DeskReply J) (shown : Option ShownView)
     → AnswersCall before (call_of label who asked) (reply_of label reply) after → Suits asked reply → KeepsFloor before s → Shows before.config before.past shown → ShowsPart after.config after.past shown
 shows_part label before after s who asked reply None a suits k shows = tt
 shows_part label before after s who asked reply (Some v) a suits k shows =

@@ -7,15 +7,15 @@ use Rattle.fq_model.specs.Outcome.{own_entries}
 use Rattle.history_lock.specs.Histories.{IsPrefix, Gains}
 use Rattle.history_lock.specs.Passes.{LockView, PassView, IsOf}
 use Rattle.desk.specs.declared.floor.Crew.{Crew}
-use Rattle.desk.specs.declared.told.Ask.{Ask}
-use Rattle.desk.specs.declared.told.Ask.TheVariants as ask
-use Rattle.desk.specs.declared.told.Told.{Told}
-use Rattle.desk.specs.declared.told.Told.TheVariants as told
+use Rattle.desk.specs.declared.asking.Ask.{Ask}
+use Rattle.desk.specs.declared.asking.Ask.TheVariants as ask
+use Rattle.desk.specs.declared.asking.DeskReply.{DeskReply}
+use Rattle.desk.specs.declared.asking.DeskReply.TheVariants as replies
 use Rattle.sched_state.specs.declared.replies.Taken.{Taken}
 use Rattle.sched_state.specs.Replies.{take_reply, change_reply}
 use Rattle.fq_model.specs.declared.event.Cause.{Cause}
 use Rattle.desk.specs.Staffed.{MayAsk}
-use Rattle.desk.specs.Told.{call_of, reply_of, AnswersAsk}
+use Rattle.desk.specs.Asking.{call_of, reply_of, AnswersAsk}
 use Rattle.desk.specs.Replies.{TookLeft}
 use Rattle.desk.specs.Tokens.{submitters_of, workers_of, IsAnswered}
 use Rattle.desk.proofs.Keeping.{staffed_on}
@@ -24,14 +24,14 @@ use Rattle.desk.proofs.Left.{ReportLeft, DoneLeft, took_left, report_left, done_
 
 module _ {J : Type 0} (label : J → ℕ) where
   -- the contract of a turn
-  abbrev pub HasTurned : Crew → PassView Crew → PassView Crew → Ask J → Told J → Type 0
+  abbrev pub HasTurned : Crew → PassView Crew → PassView Crew → Ask J → DeskReply J → Type 0
   HasTurned crew old new asked reply = (P : List Entry) × IsPrefix old.seen P × (own_entries P old.number ≡ old.mine) × AnswersAsk label crew P old.number asked reply new.seen × Gains old.number P new.seen old.mine new.mine
 
   -- at P before the turn, and after the turn, the request that a worker runs is that of its own entries
-  before : (crew : Crew) (old new : PassView Crew) (i : ℕ) (asked : Ask J) (reply : Told J) (t : HasTurned crew old new asked reply) → old.number ≡ crew.submitters + i → running_on (history_of t.0) i ≡ running_on (history_of old.mine) i
+  before : (crew : Crew) (old new : PassView Crew) (i : ℕ) (asked : Ask J) (reply : DeskReply J) (t : HasTurned crew old new asked reply) → old.number ≡ crew.submitters + i → running_on (history_of t.0) i ≡ running_on (history_of old.mine) i
   before crew old new i asked reply t by = sym (runs_by_own crew.submitters i old.number t.0 old.mine by t.2 t.3.staffed)
 
-  after : (crew : Crew) (old new : PassView Crew) (i : ℕ) (asked : Ask J) (reply : Told J) → HasTurned crew old new asked reply → MayAsk crew old.number asked → old.number ≡ crew.submitters + i → running_on (history_of new.mine) i ≡ running_on (history_of new.seen) i
+  after : (crew : Crew) (old new : PassView Crew) (i : ℕ) (asked : Ask J) (reply : DeskReply J) → HasTurned crew old new asked reply → MayAsk crew old.number asked → old.number ≡ crew.submitters + i → running_on (history_of new.mine) i ≡ running_on (history_of new.seen) i
   after crew old new i asked reply t may by =
       runs_by_own crew.submitters i old.number new.seen new.mine by (own_gained old.number t.0 new.seen old.mine new.mine t.2 t.4) (staffed_on label crew (history_of t.0) old.number asked (reply_of label reply) (history_of new.seen) may t.3.staffed t.3.answers)
 
@@ -43,41 +43,41 @@ module _ {J : Type 0} (label : J → ℕ) where
 
   -- a Take is answered u
   pub take_leaves : (lock : LockView Crew) (old new : PassView Crew) (m i : ℕ) (taken u : Taken J) → IsOf lock old → old.number ≡ submitters_of old.frame + i → i < workers_of old.frame → running_on (history_of old.mine) i ≡ None
-      → HasTurned lock.frame old new (ask.Take m i) (told.Took taken) → taken ≡ u → TookLeft i (history_of new.mine) (take_reply label u)
+      → HasTurned lock.frame old new (ask.Take m i) (replies.Took taken) → taken ≡ u → TookLeft i (history_of new.mine) (take_reply label u)
   take_leaves lock old new m i taken u own by known free t is =
       let n = numbered_by lock old i own by in
-      let x : TookLeft i (history_of new.seen) (take_reply label taken) = took_left lock.frame.config (history_of t.0) old.number m i (take_reply label taken) (history_of new.seen) (known_by lock old i own known) (before lock.frame old new i (ask.Take m i) (told.Took taken) t n ∙ free) t.3.answers in
-      took_same i (history_of new.seen) (history_of new.mine) (take_reply label u) (after lock.frame old new i (ask.Take m i) (told.Took taken) t n n) (subst (λ (v : Taken J). TookLeft i (history_of new.seen) (take_reply label v)) is x)
+      let x : TookLeft i (history_of new.seen) (take_reply label taken) = took_left lock.frame.config (history_of t.0) old.number m i (take_reply label taken) (history_of new.seen) (known_by lock old i own known) (before lock.frame old new i (ask.Take m i) (replies.Took taken) t n ∙ free) t.3.answers in
+      took_same i (history_of new.seen) (history_of new.mine) (take_reply label u) (after lock.frame old new i (ask.Take m i) (replies.Took taken) t n n) (subst (λ (v : Taken J). TookLeft i (history_of new.seen) (take_reply label v)) is x)
 
   -- a Report is answered u
   pub report_leaves : (lock : LockView Crew) (old new : PassView Crew) (m i used r : ℕ) (result u : Result (Unit {0}) Cause) → IsOf lock old → old.number ≡ submitters_of old.frame + i → i < workers_of old.frame → running_on (history_of old.mine) i ≡ Some r
-      → HasTurned lock.frame old new (ask.Report m i used) (told.Reported result) → result ≡ u → ReportLeft i r (history_of new.mine) (change_reply u)
+      → HasTurned lock.frame old new (ask.Report m i used) (replies.Reported result) → result ≡ u → ReportLeft i r (history_of new.mine) (change_reply u)
   report_leaves lock old new m i used r result u own by known runs t is =
       let n = numbered_by lock old i own by in
-      let x : ReportLeft i r (history_of new.seen) (change_reply result) = report_left lock.frame.config (history_of t.0) old.number m i used r (change_reply result) (history_of new.seen) (known_by lock old i own known) (before lock.frame old new i (ask.Report m i used) (told.Reported result) t n ∙ runs) t.3.answers in
-      report_same i r (history_of new.seen) (history_of new.mine) (change_reply u) (after lock.frame old new i (ask.Report m i used) (told.Reported result) t n n) (subst (λ v. ReportLeft i r (history_of new.seen) (change_reply v)) is x)
+      let x : ReportLeft i r (history_of new.seen) (change_reply result) = report_left lock.frame.config (history_of t.0) old.number m i used r (change_reply result) (history_of new.seen) (known_by lock old i own known) (before lock.frame old new i (ask.Report m i used) (replies.Reported result) t n ∙ runs) t.3.answers in
+      report_same i r (history_of new.seen) (history_of new.mine) (change_reply u) (after lock.frame old new i (ask.Report m i used) (replies.Reported result) t n n) (subst (λ v. ReportLeft i r (history_of new.seen) (change_reply v)) is x)
 
   -- a Done is answered u
   pub done_leaves : (lock : LockView Crew) (old new : PassView Crew) (m i cost r : ℕ) (result u : Result (Unit {0}) Cause) → IsOf lock old → old.number ≡ submitters_of old.frame + i → i < workers_of old.frame → running_on (history_of old.mine) i ≡ Some r
-      → HasTurned lock.frame old new (ask.Done m i cost) (told.Ended result) → result ≡ u → DoneLeft i r (history_of new.mine) (change_reply u)
+      → HasTurned lock.frame old new (ask.Done m i cost) (replies.Ended result) → result ≡ u → DoneLeft i r (history_of new.mine) (change_reply u)
   done_leaves lock old new m i cost r result u own by known runs t is =
       let n = numbered_by lock old i own by in
-      let x : DoneLeft i r (history_of new.seen) (change_reply result) = done_left lock.frame.config (history_of t.0) old.number m i cost r (change_reply result) (history_of new.seen) (known_by lock old i own known) (before lock.frame old new i (ask.Done m i cost) (told.Ended result) t n ∙ runs) t.3.answers in
-      done_same i r (history_of new.seen) (history_of new.mine) (change_reply u) (after lock.frame old new i (ask.Done m i cost) (told.Ended result) t n n) (subst (λ v. DoneLeft i r (history_of new.seen) (change_reply v)) is x)
+      let x : DoneLeft i r (history_of new.seen) (change_reply result) = done_left lock.frame.config (history_of t.0) old.number m i cost r (change_reply result) (history_of new.seen) (known_by lock old i own known) (before lock.frame old new i (ask.Done m i cost) (replies.Ended result) t n ∙ runs) t.3.answers in
+      done_same i r (history_of new.seen) (history_of new.mine) (change_reply u) (after lock.frame old new i (ask.Done m i cost) (replies.Ended result) t n n) (subst (λ v. DoneLeft i r (history_of new.seen) (change_reply v)) is x)
 
   -- whatever the answer to a Report, the worker runs on
-  pub report_runs : (lock : LockView Crew) (old new : PassView Crew) (m i used r : ℕ) (reply : Told J) → IsOf lock old → old.number ≡ submitters_of old.frame + i → i < workers_of old.frame → running_on (history_of old.mine) i ≡ Some r
+  pub report_runs : (lock : LockView Crew) (old new : PassView Crew) (m i used r : ℕ) (reply : DeskReply J) → IsOf lock old → old.number ≡ submitters_of old.frame + i → i < workers_of old.frame → running_on (history_of old.mine) i ≡ Some r
       → HasTurned lock.frame old new (ask.Report m i used) reply → running_on (history_of new.mine) i ≡ Some r
   report_runs lock old new m i used r reply own by known runs t =
       let n = numbered_by lock old i own by in
       after lock.frame old new i (ask.Report m i used) reply t n n ∙ reported_runs i r (history_of new.seen) (reply_of label reply) (report_left lock.frame.config (history_of t.0) old.number m i used r (reply_of label reply) (history_of new.seen) (known_by lock old i own known) (before lock.frame old new i (ask.Report m i used) reply t n ∙ runs) t.3.answers)
 
   -- the contract of a turn gives that of a call
-  pub answered : (crew : Crew) (old new : PassView Crew) (asked : Ask J) (reply : Told J) (r : Reply) → HasTurned crew old new asked reply → reply_of label reply ≡ r → IsAnswered crew old (call_of label old.number asked) r new
+  pub answered : (crew : Crew) (old new : PassView Crew) (asked : Ask J) (reply : DeskReply J) (r : Reply) → HasTurned crew old new asked reply → reply_of label reply ≡ r → IsAnswered crew old (call_of label old.number asked) r new
   answered crew old new asked reply r t is = record { P = t.0; begins = t.1; own = t.2; legal = t.3.legal; staffed = t.3.staffed; answers = rw (← is) t.3.answers; gains = t.4 }
 
   -- a pass's own entries after a turn are its entries in the history that it has seen
-  pub own_kept : (crew : Crew) (old new : PassView Crew) (asked : Ask J) (reply : Told J) → HasTurned crew old new asked reply → new.number ≡ old.number → new.mine ≡ own_entries new.seen new.number
+  pub own_kept : (crew : Crew) (old new : PassView Crew) (asked : Ask J) (reply : DeskReply J) → HasTurned crew old new asked reply → new.number ≡ old.number → new.mine ≡ own_entries new.seen new.number
   own_kept crew old new asked reply t same = sym (ap (own_entries new.seen) same ∙ own_gained old.number t.0 new.seen old.mine new.mine t.2 t.4)
 
 -- the pass of a submitter is one after a turn

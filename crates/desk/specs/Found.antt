@@ -8,7 +8,7 @@ use Rattle.fq_model.specs.Rules.{IsLegal}
 use Rattle.history_lock.specs.Histories.{IsPrefix}
 use Rattle.history_lock.specs.Passes.{PassView}
 use Rattle.desk.specs.declared.floor.Crew.{Crew}
-use Rattle.desk.specs.declared.told.AskDue.{AskDue}
+use Rattle.desk.specs.declared.asking.AskDue.{AskDue}
 use Rattle.desk.specs.Staffed.{IsStaffed}
 
 -- at P, which is legal and staffed, worker i would find this at the moment m

@@ -7,10 +7,10 @@ use Rattle.fq_laws.specs.Words.{Extends, caller, named_moment}
 use Rattle.fq_laws.proofs.Rules.Answers.{answer_extends}
 use Rattle.history_lock.specs.Histories.{Grows}
 use Rattle.desk.specs.declared.floor.Crew.{Crew}
-use Rattle.desk.specs.declared.told.Ask.{Ask}
-use Rattle.desk.specs.declared.told.Ask.TheVariants as ask
-use Rattle.desk.specs.declared.told.Told.{Told}
-use Rattle.desk.specs.Told.{call_of, AnswersAsk}
+use Rattle.desk.specs.declared.asking.Ask.{Ask}
+use Rattle.desk.specs.declared.asking.Ask.TheVariants as ask
+use Rattle.desk.specs.declared.asking.DeskReply.{DeskReply}
+use Rattle.desk.specs.Asking.{call_of, AnswersAsk}
 
 caller_is : {J : Type 0} (label : J → ℕ) (who : ℕ) (asked : Ask J) → caller (call_of label who asked) ≡ who
 caller_is label who (ask.Submit moment tenant kind declared job) = refl
@@ -35,7 +35,7 @@ extends_grows : (who moment : ℕ) (P Q : List Entry) → Extends who moment (hi
 extends_grows who moment P Q (inl same) = inl (turned_same P Q same)
 extends_grows who moment P Q (inr (act, more)) = inr (_, turned_more P Q _ more, refl)
 
-pub answers_grow : {J : Type 0} (label : J → ℕ) (crew : Crew) (P : List Entry) (who : ℕ) (asked : Ask J) (reply : Told J) (P2 : List Entry) → AnswersAsk label crew P who asked reply P2 → Grows who P P2
+pub answers_grow : {J : Type 0} (label : J → ℕ) (crew : Crew) (P : List Entry) (who : ℕ) (asked : Ask J) (reply : DeskReply J) (P2 : List Entry) → AnswersAsk label crew P who asked reply P2 → Grows who P P2
 answers_grow label crew P who asked reply P2 a =
     let c = call_of label who asked in
     subst (λ n. Grows n P P2) (caller_is label who asked) (extends_grows (caller c) (named_moment c) P P2 (answer_extends crew.config (history_of P) c _ (history_of P2) a.answers))

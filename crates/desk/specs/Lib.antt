@@ -1,7 +1,7 @@
 pub mod Staffed
 pub mod Shown
 pub mod Floors
-pub mod Told
+pub mod Asking
 pub mod Growing
 pub mod Tokens
 pub mod Replies

@@ -4,8 +4,8 @@ use Rattle.fq_model.specs.declared.event.Act.{Act}
 use Rattle.fq_model.specs.declared.event.Act.TheVariants.{Take, Report, Done}
 use Rattle.fq_model.specs.History.{History}
 use Rattle.desk.specs.declared.floor.Crew.{Crew}
-use Rattle.desk.specs.declared.told.Ask.{Ask}
-use Rattle.desk.specs.declared.told.Ask.TheVariants as ask
+use Rattle.desk.specs.declared.asking.Ask.{Ask}
+use Rattle.desk.specs.declared.asking.Ask.TheVariants as ask
 
 -- a Take, a Report and a Done are their worker's, and each other act is a submitter's
 abbrev pub IsMadeBy : ℕ → ℕ → Act → Type 0

@@ -8,12 +8,12 @@ ghost use Rattle.desk.specs.Tokens.{Stays, IsAnswered, IsOfWorker};
 ghost use Rattle.desk.specs.Replies.{took_reply, took_pass, took_worker, TookLeft};
 ghost use Rattle.desk.specs.Replies.{live_reply, done_reply, done_pass, SameRun, GoesOn};
 
+use crate::asking::{Ask, DeskReply};
 use crate::bell::Heard;
 use crate::desk::DeskOf;
 use crate::floor::{Crew, Floor};
 use crate::refusals::{DoneRefusal, LiveRefusal, done_refusal, live_refusal};
 use crate::tokens::{Running, Submitter, Took, Worker};
-use crate::told::{Ask, Told};
 use fq_model::event::Cause;
 use fq_model::job::Job;
 use history_lock::Pass;
@@ -77,7 +77,7 @@ impl<J: Job + Drop, X: Chooser> DeskOf<Floor<J, X>> {
             job,
         };
         match self.lock.turn(rt, &mut who.pass, ask) {
-            Told::Submitted(result) => {
+            DeskReply::Submitted(result) => {
                 if result.is_ok() {
                     self.bell.ring_one();
                 }
@@ -100,7 +100,7 @@ impl<J: Job + Drop, X: Chooser> DeskOf<Floor<J, X>> {
             (call.Close who.old.pass.number moment) (close_reply result) who.new.pass }
     {
         match self.lock.turn(rt, &mut who.pass, Ask::Close { moment }) {
-            Told::Closed(result) => {
+            DeskReply::Closed(result) => {
                 if result.is_ok() {
                     self.bell.ring_all();
                 }
@@ -130,7 +130,7 @@ impl<J: Job + Drop, X: Chooser> DeskOf<Floor<J, X>> {
             weight,
         };
         match self.lock.turn(rt, &mut who.pass, ask) {
-            Told::Changed(result) => result,
+            DeskReply::Changed(result) => result,
             _ => unreachable!(),
         }
     }
@@ -150,7 +150,7 @@ impl<J: Job + Drop, X: Chooser> DeskOf<Floor<J, X>> {
     {
         let ask = Ask::Workers { moment, count };
         match self.lock.turn(rt, &mut who.pass, ask) {
-            Told::Changed(result) => {
+            DeskReply::Changed(result) => {
                 if result.is_ok() {
                     self.bell.ring_all();
                 }
@@ -176,7 +176,7 @@ impl<J: Job + Drop, X: Chooser> DeskOf<Floor<J, X>> {
     {
         let ask = Ask::Withdraw { moment, request };
         match self.lock.turn(rt, &mut who.pass, ask) {
-            Told::Withdrawn(result) => result,
+            DeskReply::Withdrawn(result) => result,
             _ => unreachable!(),
         }
     }
@@ -204,7 +204,7 @@ impl<J: Job + Drop, X: Chooser> DeskOf<Floor<J, X>> {
     {
         let Worker { mut pass, worker } = worker;
         let ask = Ask::Take { moment, worker };
-        let Told::Took(taken) = self.lock.turn(rt, &mut pass, ask) else {
+        let DeskReply::Took(taken) = self.lock.turn(rt, &mut pass, ask) else {
             unreachable!()
         };
         took(pass, worker, taken)
@@ -230,7 +230,7 @@ impl<J: Job + Drop, X: Chooser> DeskOf<Floor<J, X>> {
             worker,
             used,
         };
-        let Told::Reported(result) = self.lock.turn(rt, &mut running.pass, ask) else {
+        let DeskReply::Reported(result) = self.lock.turn(rt, &mut running.pass, ask) else {
             unreachable!()
         };
         match result {
@@ -265,7 +265,7 @@ impl<J: Job + Drop, X: Chooser> DeskOf<Floor<J, X>> {
             worker,
             cost,
         };
-        let Told::Ended(result) = self.lock.turn(rt, &mut pass, ask) else {
+        let DeskReply::Ended(result) = self.lock.turn(rt, &mut pass, ask) else {
             unreachable!()
         };
         match result {

@@ -5,8 +5,8 @@ ghost use Rattle.desk.specs.Floors.{opened, KeepsFloor};
 ghost use Rattle.desk.specs.Shown.{board_of, Shows};
 
 use crate::answering::answer;
+use crate::asking::{Ask, AskDue, DeskReply};
 use crate::shown::{Shown, show_past};
-use crate::told::{Ask, AskDue, Told};
 use fq_model::config::Checked;
 use fq_model::event::Due;
 use fq_model::job::Job;
@@ -84,12 +84,12 @@ impl<J: Job, X: Chooser> Floor<J, X> {
 impl<J: Job + Drop, X: Chooser> Machine for Floor<J, X> {
     ghost use Rattle.desk.specs.Floors.{crew_of};
     ghost use Rattle.desk.specs.Staffed.{MayAsk};
-    ghost use Rattle.desk.specs.Told.{AnswersAsk};
+    ghost use Rattle.desk.specs.Asking.{AnswersAsk};
     ghost use Rattle.desk.specs.Growing.{answers_grow};
 
     type Call = Ask<J>;
 
-    type Reply = Told<J>;
+    type Reply = DeskReply<J>;
 
     type Frame = Crew;
 
@@ -103,7 +103,7 @@ impl<J: Job + Drop, X: Chooser> Machine for Floor<J, X> {
 
     ghost grows = { answers_grow J.label_of };
 
-    fn step(&mut self, who: u32, call: Ask<J>) -> Told<J> {
+    fn step(&mut self, who: u32, call: Ask<J>) -> DeskReply<J> {
         let told = answer(&mut self.scheduler, who, call);
         show_past(&mut self.shown, &self.scheduler);
         told

@@ -4,10 +4,10 @@ ghost use Rattle.history_lock.specs.Passes.{IsOf};
 ghost use Rattle.desk.specs.Tokens.{Stays};
 ghost use Rattle.desk.specs.Found.{IsFound};
 
+use crate::asking::AskDue;
 use crate::desk::DeskOf;
 use crate::floor::Floor;
 use crate::tokens::Worker;
-use crate::told::AskDue;
 use fq_model::event::Due;
 use fq_model::job::Job;
 use std::sync::Wait;

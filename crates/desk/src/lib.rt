@@ -2,6 +2,7 @@
 #![tactic(auto)]
 
 mod answering;
+mod asking;
 mod bell;
 mod calls;
 pub mod crossing;
@@ -13,11 +14,10 @@ mod opening;
 mod refusals;
 mod shown;
 mod tokens;
-mod told;
 
+pub use asking::{Ask, AskDue, DeskReply};
 pub use bell::Heard;
 pub use desk::{Desk, DeskOf, MOST_SUBMITTERS};
 pub use floor::{Crew, Floor};
 pub use refusals::{DoneRefusal, LiveRefusal, OpenFault};
 pub use tokens::{Running, Submitter, Took, Worker};
-pub use told::{Ask, AskDue, Told};

@@ -7,7 +7,7 @@ ghost use Rattle.lag_report.specs.Reports.{requests_of};
 ghost use Rattle.lag_report.specs.Texts.{with_counts, with_range, with_totals};
 
 use crate::extremes::{greatest_lag, least_lag};
-use crate::parts::Report;
+use crate::report::Report;
 use fq_model::lag::TenantLag;
 use fq_model::limits::MOST_TENANTS;
 use itoa::Buffer;

@@ -12,8 +12,8 @@ use Rattle.fq_laws.proofs.Rules.Answers.{chosen_exists}
 use Rattle.fq_laws.proofs.Rules.Limits.{length_entries}
 use Rattle.trace_runner.specs.declared.agenda.Agenda.{Agenda}
 use Rattle.trace_runner.specs.declared.agenda.Event.{Event}
-use Rattle.trace_runner.specs.declared.agenda.What.{What}
-use Rattle.trace_runner.specs.declared.agenda.What.TheVariants as what
+use Rattle.trace_runner.specs.declared.agenda.EventCall.{EventCall}
+use Rattle.trace_runner.specs.declared.agenda.EventCall.TheVariants as what
 use Rattle.trace_runner.specs.declared.staff.Work.{Work}
 use Rattle.trace_runner.specs.Agenda.{IsNext, IsTimed, NothingNext, NothingTimed, event_of_work, event_of_row, comes_by}
 use Rattle.trace_runner.specs.Plan.{IsPlan}
@@ -222,7 +222,7 @@ take_fits T O P a i k d some =
       },
     )
 
-one_more_event : (T : Trace) (O : RunOptions) (P : History) (a : Agenda) (m : ℕ) (w : What) → IsPlan T O → Keeps T O P a → IsNext a T.rows (record { moment = m; what = w }) → OneMore T O P
+one_more_event : (T : Trace) (O : RunOptions) (P : History) (a : Agenda) (m : ℕ) (w : EventCall) → IsPlan T O → Keeps T O P a → IsNext a T.rows (record { moment = m; what = w }) → OneMore T O P
 one_more_event T O P a m (what.Report i w) p k n = record { entry = _; agenda = _; keeps = keeps_report T O P a i w (at_report T O P a m i w p k n) }
 one_more_event T O P a m (what.Done i w) p k n = record { entry = _; agenda = _; keeps = keeps_done T O P a i w (at_done T O P a m i w p k n) }
 one_more_event T O P a m (what.Submit row) p k n = record { entry = _; agenda = _; keeps = keeps_submit T O P a row (at_submit T O P a m row p k n) }

@@ -51,7 +51,7 @@ pub enum Taken<J> {
 }
 
 /// The foreseen take of a worker whose take would have this result, without work.
-pub fn due_of<J: Drop>(told: Taken<J>) -> Due
+pub(crate) fn due_of<J: Drop>(told: Taken<J>) -> Due
     ensures { result ≡ due_by told }
 {
     match told {

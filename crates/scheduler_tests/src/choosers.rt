@@ -10,7 +10,7 @@ use std::marker::Send;
 use std::process::Abort;
 use tag_rules::chooser::Chooser;
 use tag_rules::keys::keys;
-use tag_rules::parts::Keys;
+use tag_rules::keys::Keys;
 
 /// One virtual unit, in steps.
 pub const UNIT: i128 = 1048576;

@@ -9,7 +9,7 @@ use std::alloc::Global;
 use std::process::Abort;
 use tag_rules::chooser::Chooser;
 use tag_rules::keys::keys;
-use tag_rules::parts::Keys;
+use tag_rules::keys::Keys;
 
 #[test]
 fn resized(rt: HostRuntime) {

@@ -6,7 +6,6 @@ pub mod accounts;
 pub mod chooser;
 pub mod foresees;
 pub mod keys;
-pub mod parts;
 pub mod pass;
 pub mod scan;
 pub mod turn;

@@ -3,8 +3,7 @@ ghost use Rattle.std.specs.Prelude.{◌≡◌, ◌↔◌, IsTrue};
 ghost use Rattle.fq_model.specs.Keys.{finish, eligible_key, IsEligible, FinishBefore, EligibleBefore};
 ghost use Rattle.tag_rules.specs.Orders.{ComesBefore};
 
-use crate::keys::eligible_key;
-use crate::parts::Keys;
+use crate::keys::{Keys, eligible_key};
 use fq_model::config::Policy;
 use std::marker::Model;
 

@@ -7,7 +7,7 @@ use crate::samples::two_tenants;
 use fq_model::event::{Act, Entry};
 use lag_report::automatic::auto_slot;
 use lag_report::fault::ReportFault;
-use lag_report::parts::Report;
+use lag_report::report::Report;
 use lag_report::printing::{print, summary};
 use lag_report::reporting::report;
 use std::alloc::Global;

@@ -21,7 +21,7 @@ use Rattle.sched_state.specs.declared.replies.Taken.{Taken}
 use Rattle.sched_state.specs.declared.replies.Taken.TheVariants as takens
 use Rattle.fq_model.specs.declared.event.Cause.{Cause}
 use Rattle.trace_runner.specs.declared.agenda.Agenda.{Agenda}
-use Rattle.trace_runner.specs.declared.agenda.What.TheVariants as what
+use Rattle.trace_runner.specs.declared.agenda.EventCall.TheVariants as what
 use Rattle.trace_runner.specs.declared.staff.Work.{Work}
 use Rattle.trace_runner.specs.Agenda.{IsNext, ByWorks, ByRows}
 use Rattle.trace_reader.specs.Rows.{row_at}

@@ -7,7 +7,7 @@ use Rattle.program_model.specs.declared.trace.TraceRow.{TraceRow}
 use Rattle.program_model.specs.Simulated.{RankBefore}
 use Rattle.trace_runner.specs.declared.agenda.Agenda.{Agenda}
 use Rattle.trace_runner.specs.declared.agenda.Event.{Event}
-use Rattle.trace_runner.specs.declared.agenda.What.TheVariants as what
+use Rattle.trace_runner.specs.declared.agenda.EventCall.TheVariants as what
 use Rattle.trace_runner.specs.declared.staff.Work.{Work}
 use Rattle.trace_runner.specs.Staff.{work_at, work_moment, work_rank, IsSmall, NoneWorks, ComesBefore, IsFirstWork, IsFirstIdle}
 use Rattle.trace_runner.specs.Agenda.{next_of_work, event_of_work, event_of_row, comes_by, what_rank, ComesBy, ByWorks, ByRows, MayCome, NoneTakes, IsTimed, NothingTimed, IsNext, NothingNext}

@@ -3,8 +3,8 @@ use Rattle.std.specs.Prelude.{ℕ, ◌+◌, ◌-◌, ◌<◌, ◌≤◌, ◌≡�
 use Rattle.program_model.specs.declared.trace.TraceRow.{TraceRow}
 use Rattle.trace_runner.specs.declared.agenda.Agenda.{Agenda}
 use Rattle.trace_runner.specs.declared.agenda.Event.{Event}
-use Rattle.trace_runner.specs.declared.agenda.What.{What}
-use Rattle.trace_runner.specs.declared.agenda.What.TheVariants as what
+use Rattle.trace_runner.specs.declared.agenda.EventCall.{EventCall}
+use Rattle.trace_runner.specs.declared.agenda.EventCall.TheVariants as what
 use Rattle.trace_runner.specs.declared.staff.Work.{Work}
 use Rattle.trace_runner.specs.Staff.{work_at, work_moment, work_rank, IsSmall, IsIdle, NoneIdle, NoneWorks, ComesBefore}
 
@@ -31,7 +31,7 @@ abbrev pub after_take : Agenda → ℕ → Work → Agenda
 after_take a i work = record a { staff = slice_set a.staff i (Some work); waiting = a.waiting - 1 }
 
 -- the next call of worker i, by the request that it serves
-abbrev pub next_of_work : ℕ → Work → What
+abbrev pub next_of_work : ℕ → Work → EventCall
 next_of_work i w = if nat_lt w.due w.cost then what.Report i w else what.Done i w
 
 abbrev pub event_of_work : ℕ → Work → Event
@@ -47,7 +47,7 @@ comes_by None m = false
 comes_by (Some e) m = nat_le e.moment m
 
 -- the rank of a call, where this number of requests was submitted
-abbrev pub what_rank : ℕ → What → ℕ × ℕ
+abbrev pub what_rank : ℕ → EventCall → ℕ × ℕ
 what_rank submitted (what.Report worker work) = (0, worker)
 what_rank submitted (what.Done worker work) = (1, worker)
 what_rank submitted (what.Submit row) = (2, submitted)
@@ -67,7 +67,7 @@ ByRows rows r m rank = (row : TraceRow) → slice_get rows r ≡ Some row → Co
 
 -- the event is one that may come: of a worker that serves a request, of the next request, or of the first idle worker
 -- where a request waits
-abbrev pub MayCome : Agenda → List TraceRow → ℕ → What → Type 0
+abbrev pub MayCome : Agenda → List TraceRow → ℕ → EventCall → Type 0
 MayCome a rows m (what.Report i w) = (work_at a.staff i ≡ Some w) × IsSmall w × (w.due < w.cost) × (m ≡ work_moment w)
 MayCome a rows m (what.Done i w) = (work_at a.staff i ≡ Some w) × IsSmall w × (w.due ≡ w.cost) × (m ≡ work_moment w)
 MayCome a rows m (what.Submit row) = (slice_get rows a.submitted ≡ Some row) × (m ≡ row.moment)

@@ -12,7 +12,7 @@ use std::alloc::{AllocError, Global};
 
 /// The call of the simulation at an event.
 #[derive(Clone, Copy)]
-pub enum What {
+pub enum EventCall {
     /// The worker reports the use of its request so far.
     Report { worker: u32, work: Work },
     /// The worker's request ends.
@@ -27,7 +27,7 @@ pub enum What {
 #[derive(Clone, Copy)]
 pub struct Event {
     pub moment: u64,
-    pub what: What,
+    pub what: EventCall,
 }
 
 /// The events that are still to come, and the progress of the simulation. No call after `open` takes memory, and none
@@ -82,7 +82,7 @@ impl Agenda {
         match self.staff.first_idle() {
             Some(worker) => Some(Event {
                 moment: self.moment,
-                what: What::Take { worker },
+                what: EventCall::Take { worker },
             }),
             None => timed,
         }
@@ -145,9 +145,9 @@ fn of_work(worker: u32, work: Work) -> Event
     ensures { result ≡ event_of_work worker work }
 {
     let what = if work.due < work.cost {
-        What::Report { worker, work }
+        EventCall::Report { worker, work }
     } else {
-        What::Done { worker, work }
+        EventCall::Done { worker, work }
     };
     Event {
         moment: work.moment(),
@@ -161,7 +161,7 @@ fn of_row(row: TraceRow) -> Event
 {
     Event {
         moment: row.moment,
-        what: What::Submit(row),
+        what: EventCall::Submit(row),
     }
 }
 

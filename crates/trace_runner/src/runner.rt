@@ -9,7 +9,7 @@ ghost use Rattle.trace_runner.specs.Plan.{IsTooLong, too_long};
 ghost use Rattle.trace_runner.specs.Simulation.{Simulates};
 ghost use Rattle.trace_runner.specs.declared.fault.SimFault.TheVariants as faults;
 
-use crate::agenda::{Agenda, Event, What};
+use crate::agenda::{Agenda, Event, EventCall};
 use crate::fault::SimFault;
 use crate::needed::needed;
 use crate::staff::Work;
@@ -73,19 +73,19 @@ fn step<X: Chooser + Drop>(
 {
     let moment = event.moment;
     match event.what {
-        What::Report { worker, work } => {
+        EventCall::Report { worker, work } => {
             match scheduler.report(agenda.caller(worker), moment, worker, work.due) {
                 Ok(()) => agenda.worked(moment, worker, Some(work.after_report(options.refresh))),
                 Err(_) => unreachable!(),
             }
         }
-        What::Done { worker, work } => {
+        EventCall::Done { worker, work } => {
             match scheduler.done(agenda.caller(worker), moment, worker, work.cost) {
                 Ok(()) => agenda.worked(moment, worker, None),
                 Err(_) => unreachable!(),
             }
         }
-        What::Submit(row) => {
+        EventCall::Submit(row) => {
             let label = agenda.submitted as u64;
             match scheduler.submit(
                 row.submitter,
@@ -99,7 +99,7 @@ fn step<X: Chooser + Drop>(
                 Err(_) => unreachable!(),
             }
         }
-        What::Take { worker } => match scheduler.take(agenda.caller(worker), moment, worker) {
+        EventCall::Take { worker } => match scheduler.take(agenda.caller(worker), moment, worker) {
             Taken::Run { request, .. } => {
                 let cost = trace.rows()[request as usize].cost;
                 agenda.taken(worker, Work::new(moment, cost, options.refresh));

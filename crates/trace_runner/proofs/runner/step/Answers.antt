@@ -1,5 +1,5 @@
 use Rattle.std.proofs.Common.{arith, ap, length, ◌∙◌, subst}
-use Rattle.trace_runner.specs.declared.agenda.What.TheVariants as what
+use Rattle.trace_runner.specs.declared.agenda.EventCall.TheVariants as what
 use Rattle.trace_runner.specs.Agenda.{IsNext}
 use Rattle.trace_reader.specs.Rows.{row_at}
 use Rattle.trace_runner.specs.Staff.{new_work}

@@ -2,8 +2,8 @@ use Rattle.std.proofs.Common.{refl, sym, ap, ◌∙◌}
 use Rattle.fq_model.specs.declared.event.Cause.{Cause}
 use Rattle.fq_model.specs.declared.event.Reply.TheVariants as answer
 use Rattle.sched_state.specs.Replies.{change_reply}
-use Rattle.desk.specs.declared.told.Ask.TheVariants as ask
-use Rattle.desk.specs.declared.told.Told.TheVariants as told
+use Rattle.desk.specs.declared.asking.Ask.TheVariants as ask
+use Rattle.desk.specs.declared.asking.DeskReply.TheVariants as replies
 use Rattle.desk.proofs.Turned.{numbered_by, own_kept, numbered_kept, known_kept, answered, done_leaves}
 use Rattle.desk.proofs.calls.DeskOf+Floor+J+X.done.Goals as goal
 
@@ -52,13 +52,13 @@ pub returns-in-Ok-clause-stays : goal.returns-in-Ok-clause-stays
 returns-in-Ok-clause-stays g c = let t = c.turn.ensures in record { own = t.lock; number = t.number; made = t.made; ended = t.ended }
 
 pub returns-in-Ok-clause-answers : goal.returns-in-Ok-clause-answers
-returns-in-Ok-clause-answers g c = answered g.J.Job.label_of c.args.self.now.lock.frame c.args.running.pass c.turn.new.pass (ask.Done c.args.moment c.args.running.worker c.args.cost) (told.Ended c.in-Ended.result) _ c.in-Ended.ensures.answers (ap change_reply c.in-Ok.is)
+returns-in-Ok-clause-answers g c = answered g.J.Job.label_of c.args.self.now.lock.frame c.args.running.pass c.turn.new.pass (ask.Done c.args.moment c.args.running.worker c.args.cost) (replies.Ended c.in-Ended.result) _ c.in-Ended.ensures.answers (ap change_reply c.in-Ok.is)
 
 pub returns-in-Err-clause-stays : goal.returns-in-Err-clause-stays
 returns-in-Err-clause-stays g c = let t = c.turn.ensures in record { own = t.lock; number = t.number; made = t.made; ended = t.ended }
 
 pub returns-in-Err-clause-answers : goal.returns-in-Err-clause-answers
-returns-in-Err-clause-answers g c = answered g.J.Job.label_of c.args.self.now.lock.frame c.args.running.pass c.turn.new.pass (ask.Done c.args.moment c.args.running.worker c.args.cost) (told.Ended c.in-Ended.result) _ c.in-Ended.ensures.answers (ap change_reply c.in-Err.is ∙ ap (λ (x : Cause). answer.Refused x) (sym c.done_refusal.ensures))
+returns-in-Err-clause-answers g c = answered g.J.Job.label_of c.args.self.now.lock.frame c.args.running.pass c.turn.new.pass (ask.Done c.args.moment c.args.running.worker c.args.cost) (replies.Ended c.in-Ended.result) _ c.in-Ended.ensures.answers (ap change_reply c.in-Err.is ∙ ap (λ (x : Cause). answer.Refused x) (sym c.done_refusal.ensures))
 
 pub returns-in-Err-clause-token : goal.returns-in-Err-clause-token
 returns-in-Err-clause-token g c = record { worker = refl; request = refl; estimate = refl }

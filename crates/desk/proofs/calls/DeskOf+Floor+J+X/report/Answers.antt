@@ -2,8 +2,8 @@ use Rattle.std.proofs.Common.{refl, sym, ap, ◌∙◌}
 use Rattle.fq_model.specs.declared.event.Cause.{Cause}
 use Rattle.fq_model.specs.declared.event.Reply.TheVariants as answer
 use Rattle.sched_state.specs.Replies.{change_reply}
-use Rattle.desk.specs.declared.told.Ask.TheVariants as ask
-use Rattle.desk.specs.declared.told.Told.TheVariants as told
+use Rattle.desk.specs.declared.asking.Ask.TheVariants as ask
+use Rattle.desk.specs.declared.asking.DeskReply.TheVariants as replies
 use Rattle.desk.proofs.Turned.{numbered_by, own_kept, numbered_kept, known_kept, answered, report_leaves, report_runs}
 use Rattle.desk.proofs.calls.DeskOf+Floor+J+X.report.Goals as goal
 
@@ -36,7 +36,7 @@ pub returns-in-Ok-clause-stays : goal.returns-in-Ok-clause-stays
 returns-in-Ok-clause-stays g c = let t = c.turn.ensures in record { own = t.lock; number = t.number; made = t.made; ended = t.ended }
 
 pub returns-in-Ok-clause-answers : goal.returns-in-Ok-clause-answers
-returns-in-Ok-clause-answers g c = answered g.J.Job.label_of c.args.self.now.lock.frame c.args.running.now.pass c.turn.new.pass (ask.Report c.args.moment c.args.running.now.worker c.args.used) (told.Reported c.in-Reported.result) _ c.in-Reported.ensures.answers (ap change_reply c.in-Ok.is)
+returns-in-Ok-clause-answers g c = answered g.J.Job.label_of c.args.self.now.lock.frame c.args.running.now.pass c.turn.new.pass (ask.Report c.args.moment c.args.running.now.worker c.args.used) (replies.Reported c.in-Reported.result) _ c.in-Reported.ensures.answers (ap change_reply c.in-Ok.is)
 
 pub returns-in-Ok-clause-run : goal.returns-in-Ok-clause-run
 returns-in-Ok-clause-run g c = record { worker = refl; request = refl; estimate = refl }
@@ -45,7 +45,7 @@ pub returns-in-Err-clause-stays : goal.returns-in-Err-clause-stays
 returns-in-Err-clause-stays g c = let t = c.turn.ensures in record { own = t.lock; number = t.number; made = t.made; ended = t.ended }
 
 pub returns-in-Err-clause-answers : goal.returns-in-Err-clause-answers
-returns-in-Err-clause-answers g c = answered g.J.Job.label_of c.args.self.now.lock.frame c.args.running.now.pass c.turn.new.pass (ask.Report c.args.moment c.args.running.now.worker c.args.used) (told.Reported c.in-Reported.result) _ c.in-Reported.ensures.answers (ap change_reply c.in-Err.is ∙ ap (λ (x : Cause). answer.Refused x) (sym c.live_refusal.ensures))
+returns-in-Err-clause-answers g c = answered g.J.Job.label_of c.args.self.now.lock.frame c.args.running.now.pass c.turn.new.pass (ask.Report c.args.moment c.args.running.now.worker c.args.used) (replies.Reported c.in-Reported.result) _ c.in-Reported.ensures.answers (ap change_reply c.in-Err.is ∙ ap (λ (x : Cause). answer.Refused x) (sym c.live_refusal.ensures))
 
 pub returns-in-Err-clause-run : goal.returns-in-Err-clause-run
 returns-in-Err-clause-run g c = record { worker = refl; request = refl; estimate = refl }

@@ -1,6 +1,6 @@
 use Rattle.std.proofs.Common.{refl, sym}
-use Rattle.desk.specs.declared.told.Ask.TheVariants as ask
-use Rattle.desk.specs.declared.told.Told.TheVariants as told
+use Rattle.desk.specs.declared.asking.Ask.TheVariants as ask
+use Rattle.desk.specs.declared.asking.DeskReply.TheVariants as replies
 use Rattle.desk.proofs.Turned.{numbered_by, own_kept, numbered_kept, known_kept, answered, take_leaves}
 use Rattle.desk.proofs.calls.DeskOf+Floor+J+X.take.Goals as goal
 
@@ -27,7 +27,7 @@ pub returns-clause-stays : goal.returns-clause-stays
 returns-clause-stays g c = let t = c.turn.ensures in rw c.took.ensures.same.0 (record { own = t.lock; number = t.number; made = t.made; ended = t.ended })
 
 pub returns-clause-answers : goal.returns-clause-answers
-returns-clause-answers g c = rw c.took.ensures.same.0 (answered g.J.Job.label_of c.args.self.now.lock.frame c.args.worker.pass c.turn.new.pass (ask.Take c.args.moment c.args.worker.worker) (told.Took c.in-Took.taken) _ c.in-Took.ensures.answers (sym c.took.ensures.reply))
+returns-clause-answers g c = rw c.took.ensures.same.0 (answered g.J.Job.label_of c.args.self.now.lock.frame c.args.worker.pass c.turn.new.pass (ask.Take c.args.moment c.args.worker.worker) (replies.Took c.in-Took.taken) _ c.in-Took.ensures.answers (sym c.took.ensures.reply))
 
 pub returns-clause-worker : goal.returns-clause-worker
 returns-clause-worker g c = c.took.ensures.same.1

@@ -8,10 +8,10 @@ use Rattle.fq_model.specs.History.{history_of}
 use Rattle.fq_model.specs.Rules.{IsLegal, Answers}
 use Rattle.sched_state.specs.Replies.{submit_reply, take_reply, change_reply, close_reply, withdraw_reply}
 use Rattle.desk.specs.declared.floor.Crew.{Crew}
-use Rattle.desk.specs.declared.told.Ask.{Ask}
-use Rattle.desk.specs.declared.told.Ask.TheVariants as ask
-use Rattle.desk.specs.declared.told.Told.{Told}
-use Rattle.desk.specs.declared.told.Told.TheVariants as told
+use Rattle.desk.specs.declared.asking.Ask.{Ask}
+use Rattle.desk.specs.declared.asking.Ask.TheVariants as ask
+use Rattle.desk.specs.declared.asking.DeskReply.{DeskReply}
+use Rattle.desk.specs.declared.asking.DeskReply.TheVariants as replies
 use Rattle.desk.specs.Staffed.{IsStaffed}
 
 -- the call that is asked, by this caller
@@ -26,30 +26,30 @@ call_of label who (ask.Workers moment count) = call.Workers who moment count
 call_of label who (ask.Withdraw moment request) = call.Withdraw who moment request
 
 -- the reply in an answer
-abbrev pub reply_of : {J : Type 0} → (J → ℕ) → Told J → Reply
-reply_of label (told.Submitted result) = submit_reply result
-reply_of label (told.Took taken) = take_reply label taken
-reply_of label (told.Reported result) = change_reply result
-reply_of label (told.Ended result) = change_reply result
-reply_of label (told.Closed result) = close_reply result
-reply_of label (told.Changed result) = change_reply result
-reply_of label (told.Withdrawn result) = withdraw_reply label result
+abbrev pub reply_of : {J : Type 0} → (J → ℕ) → DeskReply J → Reply
+reply_of label (replies.Submitted result) = submit_reply result
+reply_of label (replies.Took taken) = take_reply label taken
+reply_of label (replies.Reported result) = change_reply result
+reply_of label (replies.Ended result) = change_reply result
+reply_of label (replies.Closed result) = close_reply result
+reply_of label (replies.Changed result) = change_reply result
+reply_of label (replies.Withdrawn result) = withdraw_reply label result
 
 -- the answer is of the call's kind, and a refused Submit gives its job back
-abbrev pub Suits : {J : Type 0} → Ask J → Told J → Type 0
-Suits (ask.Submit moment tenant kind declared job) (told.Submitted (Ok request)) = Unit {0}
-Suits (ask.Submit moment tenant kind declared job) (told.Submitted (Err refused)) = refused.job ≡ job
-Suits (ask.Take moment worker) (told.Took taken) = Unit {0}
-Suits (ask.Report moment worker used) (told.Reported result) = Unit {0}
-Suits (ask.Done moment worker cost) (told.Ended result) = Unit {0}
-Suits (ask.Close moment) (told.Closed result) = Unit {0}
-Suits (ask.Weight moment tenant weight) (told.Changed result) = Unit {0}
-Suits (ask.Workers moment count) (told.Changed result) = Unit {0}
-Suits (ask.Withdraw moment request) (told.Withdrawn result) = Unit {0}
+abbrev pub Suits : {J : Type 0} → Ask J → DeskReply J → Type 0
+Suits (ask.Submit moment tenant kind declared job) (replies.Submitted (Ok request)) = Unit {0}
+Suits (ask.Submit moment tenant kind declared job) (replies.Submitted (Err refused)) = refused.job ≡ job
+Suits (ask.Take moment worker) (replies.Took taken) = Unit {0}
+Suits (ask.Report moment worker used) (replies.Reported result) = Unit {0}
+Suits (ask.Done moment worker cost) (replies.Ended result) = Unit {0}
+Suits (ask.Close moment) (replies.Closed result) = Unit {0}
+Suits (ask.Weight moment tenant weight) (replies.Changed result) = Unit {0}
+Suits (ask.Workers moment count) (replies.Changed result) = Unit {0}
+Suits (ask.Withdraw moment request) (replies.Withdrawn result) = Unit {0}
 Suits _ _ = ⊥
 
 -- At P, which is legal and staffed, this caller makes this call, with this answer; the history is then P2
-pub record AnswersAsk {J : Type 0} (label : J → ℕ) (crew : Crew) (P : List Entry) (who : ℕ) (asked : Ask J) (reply : Told J) (P2 : List Entry) : Type 0 where
+pub record AnswersAsk {J : Type 0} (label : J → ℕ) (crew : Crew) (P : List Entry) (who : ℕ) (asked : Ask J) (reply : DeskReply J) (P2 : List Entry) : Type 0 where
   pub legal : IsLegal crew.config (history_of P)
   pub staffed : IsStaffed crew.submitters (history_of P)
   pub answers : Answers crew.config (history_of P) (call_of label who asked) (reply_of label reply) (history_of P2)

@@ -53,7 +53,7 @@ pub enum Ask<J> {
 
 /// The scheduler's answer to each kind of call.
 #[derive(Drop)]
-pub enum Told<J> {
+pub enum DeskReply<J> {
     Submitted(Result<u32, Refused<J>>),
     Took(Taken<J>),
     Reported(Result<(), Cause>),
