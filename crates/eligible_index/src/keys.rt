@@ -3,7 +3,7 @@ ghost use Rattle.std.specs.Prelude.{◌≡◌, ◌↔◌, ◌≤ℤ◌, IsTrue, 
 ghost use Rattle.eligible_index.specs.Trees.{later_key, Stands};
 
 use fq_model::config::Policy;
-use tag_rules::keys::Keys;
+use tag_rules::head_keys::Keys;
 use tag_rules::turn::Turn;
 use winner_tree::Key;
 

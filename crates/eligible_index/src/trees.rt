@@ -7,7 +7,7 @@ use crate::marked::Marked;
 use crate::noted::Noted;
 use std::alloc::{AllocError, Global};
 use std::marker::Model;
-use tag_rules::keys::Keys;
+use tag_rules::head_keys::Keys;
 use tag_rules::turn::Turn;
 use winner_tree::Tree;
 

@@ -10,7 +10,7 @@ use shared_order::chooser::SharedChooser;
 use std::alloc::{AllocError, Global};
 use tag_rules::chooser::Chooser;
 use tag_rules::foresees::{Foreseen, Foresees};
-use tag_rules::keys::Keys;
+use tag_rules::head_keys::Keys;
 
 /// The program's chooser: two trees a worker where there are few workers and few tenants, and else one order of heads.
 pub type ProgramChooser = FittedChooser<IndexChooser, SharedChooser>;

@@ -16,7 +16,7 @@ use program_model::explained::{ExplainRow, Explained};
 use sched_state::{Scheduler, answer};
 use std::alloc::{AllocError, Global};
 use tag_rules::chooser::Chooser;
-use tag_rules::keys::Keys;
+use tag_rules::head_keys::Keys;
 use tag_rules::turn::Turn;
 
 // A Take: at which entry it stands, counted from 0, that entry, and whose it is.

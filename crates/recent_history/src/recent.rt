@@ -24,7 +24,7 @@ use std::alloc::{AllocError, Global};
 use std::marker::Model;
 use tag_rules::chooser::Chooser;
 use tag_rules::foresees::Foresees;
-use tag_rules::keys::Keys;
+use tag_rules::head_keys::Keys;
 
 /// A scheduler and the last of its entries, as many as were asked for at its opening. Contracts see the view of a
 /// `Scheduler`, which has all entries, and how many of the last are kept. Each call has the promise of the call there.

@@ -7,7 +7,7 @@ use std::alloc::{AllocError, Global};
 use std::marker::Model;
 use tag_rules::chooser::Chooser;
 use tag_rules::foresees::{Foreseen, Foresees, foreseen_in};
-use tag_rules::keys::Keys;
+use tag_rules::head_keys::Keys;
 use tag_rules::scan::choice_in;
 use tag_rules::turn::Turn;
 

@@ -28,7 +28,7 @@ use std::alloc::{AllocError, Global};
 use std::marker::Model;
 use tag_rules::chooser::Chooser;
 use tag_rules::foresees::Foresees;
-use tag_rules::keys::Keys;
+use tag_rules::head_keys::Keys;
 
 /// One history, from its opening on, and the jobs of the requests that wait in it. Contracts see the entries in
 /// order of time, and the jobs by the numbers of their requests. Whoever makes a call names itself by `who`, which

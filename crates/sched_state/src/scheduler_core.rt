@@ -29,7 +29,7 @@ use std::alloc::{AllocError, Global};
 use std::marker::Model;
 use tag_rules::chooser::Chooser;
 use tag_rules::foresees::Foresees;
-use tag_rules::keys::Keys;
+use tag_rules::head_keys::Keys;
 use waiting_lists::item::Item;
 
 /// One history, from its opening on, and the jobs of the requests that wait in it. Contracts see the entries in

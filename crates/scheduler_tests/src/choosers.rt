@@ -9,8 +9,8 @@ use std::alloc::Global;
 use std::marker::Send;
 use std::process::Abort;
 use tag_rules::chooser::Chooser;
+use tag_rules::head_keys::Keys;
 use tag_rules::keys::keys;
-use tag_rules::keys::Keys;
 
 /// One virtual unit, in steps.
 pub const UNIT: i128 = 1048576;

@@ -8,7 +8,7 @@ use shared_order::chooser::SharedChooser;
 use std::alloc::Global;
 use std::process::Abort;
 use tag_rules::foresees::Foresees;
-use tag_rules::keys::Keys;
+use tag_rules::head_keys::Keys;
 use tag_rules::turn::Turn;
 use test_samples::sample_config;
 

@@ -8,8 +8,8 @@ use shared_order::chooser::SharedChooser;
 use std::alloc::Global;
 use std::process::Abort;
 use tag_rules::chooser::Chooser;
+use tag_rules::head_keys::Keys;
 use tag_rules::keys::keys;
-use tag_rules::keys::Keys;
 
 #[test]
 fn resized(rt: HostRuntime) {

@@ -12,7 +12,7 @@ use std::alloc::{AllocError, Global};
 use std::marker::Model;
 use tag_rules::chooser::Chooser;
 use tag_rules::foresees::{Foreseen, Foresees};
-use tag_rules::keys::Keys;
+use tag_rules::head_keys::Keys;
 use tag_rules::turn::Turn;
 
 /// Keeps the heads in one order for all workers. A change of one tenant's keys costs the search of its block and the

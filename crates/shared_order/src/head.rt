@@ -4,7 +4,7 @@ ghost use Rattle.tag_rules.specs.Keys.{IsInRange};
 ghost use Rattle.shared_order.specs.Heads.{head_of, HeadBefore};
 
 use std::marker::Model;
-use tag_rules::keys::Keys;
+use tag_rules::head_keys::Keys;
 
 /// The head of a tenant: its finish and its length by the estimate, both in steps of virtual time, and its number.
 /// Its start is its finish less its length; starts and lengths are in the range of `Keys`.

@@ -13,7 +13,7 @@ use fq_model::event::Act;
 use sched_state::Scheduler;
 use std::alloc::{AllocError, Global};
 use tag_rules::chooser::Chooser;
-use tag_rules::keys::Keys;
+use tag_rules::head_keys::Keys;
 
 /// The greatest length of a request at the prefixes so far, as a head or by its charge, in steps, and the tenant of each
 /// request by its number. An entry changes the lengths of one tenant's requests at most.

@@ -27,7 +27,7 @@ use tag_difference::fault::GapFault;
 use tag_difference::gap::Gap;
 use tag_difference::pair::tenant_fault;
 use tag_rules::chooser::Chooser;
-use tag_rules::keys::Keys;
+use tag_rules::head_keys::Keys;
 
 /// How far one tenant got ahead of another while both waited, in steps.
 #[derive(Clone, Copy, Debug, PartialEq, Eq)]

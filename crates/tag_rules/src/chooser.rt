@@ -2,7 +2,7 @@
 ghost use Rattle.std.specs.Prelude.{◌≡◌, ◌<◌, ◌≤◌, ◌≤ℤ◌, IfOk, IfSome, IfNone};
 ghost use Rattle.tag_rules.specs.Tables.{ChooserView, opened, with_keys, resized, asked_at, NoneHas, IsNewTo, IsTableChoice};
 
-use crate::keys::Keys;
+use crate::head_keys::Keys;
 use fq_model::config::Checked;
 use std::alloc::{AllocError, Global};
 

@@ -4,7 +4,7 @@ ghost use Rattle.tag_rules.specs.Tables.{RequestsDiffer};
 ghost use Rattle.tag_rules.specs.Foreseen.{IsForeseen, IsForeseenOver};
 
 use crate::chooser::Chooser;
-use crate::keys::Keys;
+use crate::head_keys::Keys;
 use crate::pass::Pass;
 use crate::scan::first_in;
 use crate::turn::Turn;

@@ -1,35 +1,12 @@
-//! The keys by which heads are compared.
+//! The keys of heads.
 ghost use Rattle.std.specs.Prelude.{◌≡◌, ◌≤◌, ◌<◌, pos, ◌-ℤ◌, ◌≤ℤ◌};
 ghost use Rattle.vt_fixed.specs.Rounding.{length_of};
 ghost use Rattle.fq_model.specs.Keys as spec;
 
+use crate::head_keys::Keys;
 use fq_model::config::Policy;
 use fq_model::limits::{GREATEST_COST, GREATEST_START, GREATEST_WEIGHT};
-use std::marker::Model;
 use vt_fixed::{length, part};
-
-/// The keys that the head of a tenant is compared by: its start and its length by the estimate, both in steps of
-/// virtual time, and its number. A start is 0 to `GREATEST_START`, a length 0 to `GREATEST_LENGTH`: `keys` keeps
-/// to these ranges.
-#[derive(Clone, Copy, Debug, PartialEq, Eq)]
-pub struct Keys {
-    pub start: i128,
-    pub len: i128,
-    pub request: u32,
-}
-
-impl Model for Keys {
-    ghost use Rattle.fq_model.specs.Keys.{HeadKeys};
-    ghost use Rattle.tag_rules.specs.Keys.{IsInRange};
-
-    ghost Value = { HeadKeys };
-
-    ghost view = { λ k. record { start = k.start; len = k.len; request = k.request } };
-
-    ghost invariant = { λ k. IsInRange k.start k.len };
-
-    ghost inverse = { λ k. record { start = k.start; len = k.len; request = k.request } };
-}
 
 impl Keys {
     /// Where the head finishes, in steps.

@@ -5,6 +5,7 @@
 pub mod accounts;
 pub mod chooser;
 pub mod foresees;
+pub mod head_keys;
 pub mod keys;
 pub mod pass;
 pub mod scan;

@@ -2,7 +2,7 @@
 ghost use Rattle.std.specs.Prelude.{◌↔◌, IsTrue};
 ghost use Rattle.tag_rules.specs.Passes.{GoesIn, BeforeIn};
 
-use crate::keys::Keys;
+use crate::head_keys::Keys;
 use crate::turn::{Turn, finishes_before};
 
 /// A pass over the tenants' heads. The second is made where the first finds none.

@@ -5,7 +5,7 @@ ghost use Rattle.tag_rules.specs.Tables.{Has, NoneHas, RequestsDiffer};
 ghost use Rattle.tag_rules.specs.Passes.{GoesIn, BeforeIn, IsFirstIn, NoneGoesIn};
 ghost use Rattle.tag_rules.specs.Scan.{TakesIn, ComesFirst};
 
-use crate::keys::Keys;
+use crate::head_keys::Keys;
 use crate::pass::Pass;
 use crate::turn::Turn;
 use fq_model::limits::MOST_TENANTS;

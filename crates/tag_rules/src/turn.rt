@@ -3,7 +3,8 @@ ghost use Rattle.std.specs.Prelude.{◌≡◌, ◌↔◌, IsTrue};
 ghost use Rattle.fq_model.specs.Keys.{finish, eligible_key, IsEligible, FinishBefore, EligibleBefore};
 ghost use Rattle.tag_rules.specs.Orders.{ComesBefore};
 
-use crate::keys::{Keys, eligible_key};
+use crate::head_keys::Keys;
+use crate::keys::eligible_key;
 use fq_model::config::Policy;
 use std::marker::Model;
 
