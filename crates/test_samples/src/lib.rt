@@ -1,11 +1,10 @@
-//! A configuration and a check that tests of several crates share.
+//! The configuration that tests of several crates begin with.
 #![tactic(auto)]
 
 ghost use Rattle.std.specs.Prelude.{◌≡◌};
 ghost use Rattle.test_samples.specs.Samples.{sample_config};
 
 use fq_model::config::{Config, Estimator, Policy, Weights};
-use std::process::Abort;
 
 /// Tenants of these weights and one worker, under 2DFQ and with costs as declared. A test that needs another number
 /// changes it.
@@ -22,12 +21,4 @@ pub fn sample_config(weights: Vec<u32>) -> Config
         estimate: Estimator::Declared,
         initial: 1000,
     }
-}
-
-/// A text was written, and is this one.
-pub fn expect_text<E: Drop, R: Abort>(rt: &R, told: Result<Vec<u8>, E>, wanted: &[u8]) {
-    let Ok(text) = told else {
-        panic!(rt; "no memory for a text")
-    };
-    assert_eq!(rt; text.as_slice(), wanted);
 }

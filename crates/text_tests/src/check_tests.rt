@@ -1,4 +1,5 @@
 //! Journals written by hand, and the verdicts on them.
+use crate::samples::expect_text;
 use eligible_index::index::IndexChooser;
 use journal_check::checking::check;
 use journal_check::explaining::explain;
@@ -9,7 +10,6 @@ use program_model::fault::ScriptKind;
 use program_model::verdict::Verdict;
 use std::alloc::Global;
 use std::process::Abort;
-use test_samples::expect_text;
 
 // One worker that serves two tenants of weight 1.
 const HEAD: &str =

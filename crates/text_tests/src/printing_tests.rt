@@ -1,4 +1,5 @@
 //! Texts written by hand, and their contents.
+use crate::samples::expect_text;
 use fq_model::event::{Act, Cause, Entry, Reply};
 use journal_text::calls::{Script, read_script};
 use journal_text::messages::placed_fault;
@@ -7,7 +8,6 @@ use journal_text::replies::{replies_text, reply_line};
 use program_model::fault::ScriptKind;
 use std::alloc::Global;
 use std::process::Abort;
-use test_samples::expect_text;
 
 // These replies and one more are printed so.
 fn expect_replies<R: Abort>(rt: &R, alloc: Global, replies: &[Reply], more: Reply, wanted: &str) {

@@ -3,18 +3,17 @@ ghost use Rattle.fq_model.specs.History.{history_of};
 ghost use Rattle.fq_model.specs.Rules.{IsLegal};
 ghost use Rattle.text_tests.specs.Worked.{worked_config};
 
-use crate::samples::two_tenants;
+use crate::samples::{expect_text, two_tenants};
 use fq_model::event::{Act, Entry};
 use lag_report::automatic::auto_slot;
 use lag_report::fault::ReportFault;
-use lag_report::report::Report;
 use lag_report::printing::{print, summary};
+use lag_report::report::Report;
 use lag_report::reporting::report;
 use std::alloc::Global;
 use std::process::Abort;
 use tenant_table::tenants::Tenants;
 use tenant_table::tenants_builder::TenantsBuilder;
-use test_samples::expect_text;
 
 // The names of two tenants.
 fn two_names<R: Abort>(rt: &R, alloc: Global) -> Tenants

@@ -1,4 +1,4 @@
-//! The configuration of worked histories.
+//! The configuration of worked histories, and a check of texts.
 ghost use Rattle.std.specs.Prelude.{◌≡◌};
 ghost use Rattle.text_tests.specs.Worked.{worked_config};
 
@@ -17,4 +17,12 @@ pub fn two_tenants<R: Abort>(rt: &R, alloc: Global, workers: u32) -> Checked
         ..sample_config(weights)
     };
     config.check().expect(rt, "numbers in their limits")
+}
+
+/// A text was written, and is this one.
+pub fn expect_text<E: Drop, R: Abort>(rt: &R, told: Result<Vec<u8>, E>, wanted: &[u8]) {
+    let Ok(text) = told else {
+        panic!(rt; "no memory for a text")
+    };
+    assert_eq!(rt; text.as_slice(), wanted);
 }

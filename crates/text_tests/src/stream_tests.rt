@@ -1,6 +1,7 @@
 //! Journals that are written while their scheduler runs.
 ghost use Rattle.std.specs.Prelude.{◌<◌};
 
+use crate::samples::expect_text;
 use eligible_index::index::IndexChooser;
 use fq_model::event::Call;
 use journal_check::checking::check;
@@ -11,7 +12,6 @@ use program_model::verdict::Verdict;
 use recent_history::{Recent, answer};
 use std::alloc::{AllocError, Global};
 use std::process::Abort;
-use test_samples::expect_text;
 
 // Three requests, of which two are taken in their turn, and one is withdrawn; a weight changes in between.
 const SCRIPT: &str =

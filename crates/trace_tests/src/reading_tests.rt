@@ -1,12 +1,11 @@
 //! Traces written by hand, with their contents or their faults by the grammar.
 ghost use Rattle.program_model.specs.TraceText.{IsLawfulTrace};
 
-use crate::samples::trace_in;
+use crate::samples::{expect_text, trace_in};
 use program_model::fault::TraceKind;
 use program_model::trace::TraceRow;
 use std::alloc::Global;
 use std::process::Abort;
-use test_samples::expect_text;
 use trace_reader::fault::{GenFault, TraceFault};
 use trace_reader::generating::generate;
 use trace_reader::printing::print;
