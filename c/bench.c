@@ -1,6 +1,7 @@
-// Times calls of the scheduler, bare and each under a mutex that nobody else wants: a first request of every tenant, then submits,
-// takes, reports and dones drawn with a seed, with about as many waiting at the end as at the start. The calls are drawn before
-// the clock starts. Then a thousand requests are withdrawn of full rooms of several sizes. Run it pinned to one processor.
+// Times calls of the scheduler, bare and each under a mutex that nobody else wants: a first request of every tenant,
+// then submits, takes, reports and dones drawn with a seed, with about as many requests waiting at the end as at the
+// start. The calls are drawn before the clock starts. Then a thousand requests are withdrawn of full rooms of several
+// sizes. Run it pinned to one processor.
 #include <pthread.h>
 #include <stdio.h>
 #include <stdlib.h>
@@ -96,7 +97,7 @@ static double time_calls(uint32_t tenants, uint32_t workers, pthread_mutex_t *lo
             if (lock) pthread_mutex_lock(lock);
             uint32_t kind = make(&scheduler, &calls[i], i);
             if (lock) pthread_mutex_unlock(lock);
-            if (kind > TWODFQ_ACCEPTED) exit(2); // each call is one that is accepted
+            if (kind > TWODFQ_ACCEPTED) exit(2); // each drawn call is accepted
         }
         double a_call = (nanoseconds() - began) / CALLS;
         if (a_call < least) least = a_call;
@@ -105,7 +106,7 @@ static double time_calls(uint32_t tenants, uint32_t workers, pthread_mutex_t *lo
     return least;
 }
 
-// Nanoseconds of a call that is refused at once: what a call costs beside the scheduler's own work is no more.
+// Nanoseconds of a call that is refused at once: the cost of a call beside the scheduler's own work is no more.
 static double time_refusals(void) {
     enum { TIMES = 10000000 };
     twodfq scheduler = TWODFQ_NONE;

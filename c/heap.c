@@ -1,5 +1,5 @@
-// The functions by which the archive takes and gives back memory, over malloc, realloc and free. A program may define the three
-// itself, over one allocator whose blocks are aligned to 16 where their size is a multiple of it.
+// The functions by which the archive takes and gives back memory, over malloc, realloc and free. A program may define
+// the three itself, over one allocator whose blocks are aligned to 16 where their size is a multiple of it.
 #include <stdbool.h>
 #include <stddef.h>
 #include <stdlib.h>

@@ -1,5 +1,6 @@
-// What memory the scheduler takes, by a heap that counts: all at the opening, each block given back, and a status, with nothing
-// lost, where any of the blocks is wanting. It defines the functions of the heap itself, in place of heap.c.
+// The memory that the scheduler takes, by a heap that counts: all at the opening, each block given back, and a status,
+// with nothing lost, where any of the blocks is wanting. It defines the functions of the heap itself, in place of
+// heap.c.
 #include <malloc.h>
 #include <stdio.h>
 #include <stdlib.h>
@@ -117,7 +118,7 @@ static void fail_each(long blocks, uint32_t tenants, uint32_t estimate) {
     }
 }
 
-// What a service takes that keeps 1,024 of as many entries as there may be, where 4,096 requests may wait.
+// The memory of a service that keeps 1,024 entries of the longest history, where 4,096 requests may wait.
 static void of_a_service(void) {
     twodfq scheduler = TWODFQ_NONE;
     twodfq_opening opening = opening_for(64, TWODFQ_PESSIMISTIC);
@@ -132,7 +133,7 @@ static void of_a_service(void) {
     want("all bytes come back", bytes == 0);
 }
 
-// Of too many tenants the weights are not read.
+// The weights of too many tenants are not read.
 static void too_many(void) {
     twodfq scheduler = TWODFQ_NONE;
     twodfq_opening opening = opening_for(64, TWODFQ_DECLARED);

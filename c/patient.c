@@ -1,7 +1,7 @@
 // Patience: where no waiting request is eligible for a free worker, it waits a little before it takes one before its
-// time, and takes at once what comes meanwhile and is eligible. Costly requests run, and one more waits for its time.
-// Cheap ones that come while workers are patient have to be served before it. It is served when patience ends, or at
-// once where nothing more comes.
+// time, and takes at once an eligible request that comes meanwhile. Costly requests run, and one more waits for its
+// time. Cheap requests that come while workers are patient have to be served before it. It is served when patience
+// ends, or at once where nothing more comes.
 #include <pthread.h>
 #include <stdio.h>
 #include <stdlib.h>
@@ -15,12 +15,12 @@ enum { LONG_REPORT = CHEAP, NEXT_REPORT, LONG_BACKUP, NEXT_BACKUP }; // the jobs
 enum { PART = 50, SHORTEST = 100 }; // a worker waits for a 50th of the estimate, if a sleep is not too late for it
 
 static twodfq scheduler = TWODFQ_NONE;
-static pthread_mutex_t lock = PTHREAD_MUTEX_INITIALIZER; // what follows is under it
-static pthread_cond_t news;                              // something has changed, for workers
-static pthread_cond_t seen = PTHREAD_COND_INITIALIZER;   // it has, or a worker is patient, for the main thread
+static pthread_mutex_t lock = PTHREAD_MUTEX_INITIALIZER; // of the variables below
+static pthread_cond_t news;                              // for workers: a change
+static pthread_cond_t seen = PTHREAD_COND_INITIALIZER;   // for the client: a change, or a worker is patient
 static uint32_t unfinished[TENANTS];                     // how many jobs wait or run
 static uint32_t begun, begun_at[JOBS];                   // how many jobs were begun, and the place of each, from 1 on
-static uint32_t patient;                                 // how many workers are
+static uint32_t patient;                                 // how many workers are patient
 static bool ended[JOBS], is_closed;
 static pthread_mutex_t gate = PTHREAD_MUTEX_INITIALIZER; // the client holds it, and two long jobs run until it doesn't
 
@@ -51,7 +51,7 @@ static bool is_one_tenant_alone(void) {
     return tenants <= 1;
 }
 
-// For how long the worker waits at most, from the moment at which it became free; 0 where it doesn't.
+// The longest wait of the worker, from the moment at which it became free, or 0.
 static uint64_t patience(uint32_t worker, uint64_t now) {
     if (is_closed || is_one_tenant_alone()) return 0; // nobody's request would be served sooner for it
     twodfq_reply due = twodfq_due(&scheduler, now, worker);
@@ -67,7 +67,7 @@ static void wait_until(uint64_t moment) {
     patient--;
 }
 
-// The next job of the worker, or what stands in for one at the end.
+// The next job of the worker, or drained at the end.
 static twodfq_reply next(uint32_t worker) {
     for (uint64_t since = microseconds();;) {
         uint64_t now = microseconds(), end = since + patience(worker, now);
@@ -98,7 +98,7 @@ static void *work(void *number) {
     while ((reply = next(worker)).kind == TWODFQ_RUN) {
         uint64_t job = reply.second, at = microseconds();
         begun_at[job] = ++begun;
-        tell(); // a take may make a request eligible for another worker, or leave none
+        tell(); // a take may make a request eligible for another worker, or leave none waiting
         run(job);
         uint64_t now = microseconds();
         want("a job is done", twodfq_done(&scheduler, worker, now, worker, now - at).kind == TWODFQ_ACCEPTED);
@@ -111,7 +111,7 @@ static void *work(void *number) {
     return NULL;
 }
 
-// What the client does is done under the lock, which it gives up while it waits.
+// The client runs under the lock, and gives it up while it waits.
 
 static void submit(uint64_t job, uint64_t declared) {
     uint32_t tenant = tenant_of(job);
@@ -159,7 +159,7 @@ static void client(void) {
     pthread_mutex_unlock(&gate);
 }
 
-// A timed wait of this condition ends by the clock that the scheduler's moments are of.
+// A timed wait of this condition ends by the clock of the scheduler's moments.
 static void begin_news(void) {
     pthread_condattr_t attributes;
     pthread_condattr_init(&attributes);

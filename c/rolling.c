@@ -1,6 +1,6 @@
-// A service without end: where a history has no more room the service closes its scheduler and opens the next. What comes goes to the
-// new one; workers take from the old ones until these are drained. Each keeps its last entries alone. A small room makes it roll over
-// a thousand times, and each job has to be run once.
+// A service without end: where a history has no more room the service closes its scheduler and opens the next. New jobs
+// go to the new one; workers take from the old ones until these are drained. Each keeps only its last entries. A small
+// room makes the service roll over a thousand times, and each job has to be run once.
 #include <pthread.h>
 #include <stdio.h>
 #include <stdlib.h>
@@ -11,7 +11,8 @@
 enum { WORKERS = 4, PRODUCERS = 2, TENANTS = 8, EACH = 10000, JOBS = PRODUCERS * EACH };
 enum { ENTRIES = 48, KEEP = 4, LIVE = 64 }; // entries of a history, those kept of it, and most schedulers at once
 
-// A scheduler, how many of its jobs are not done, and whether it is closed. Once it is, and none is left, it is given back.
+// A scheduler, how many of its jobs are not done, and whether it is closed. Once it is closed, and none of its jobs is
+// left, it is given back.
 typedef struct {
     twodfq scheduler;
     uint32_t left;
@@ -66,7 +67,8 @@ static void close_newest(void) {
     newest->is_closed = true;
 }
 
-// Submits to the newest scheduler. Where that has no more room it is closed, and the job goes to the next. The lock is held.
+// Submits to the newest scheduler. Where it has no more room it is closed, and the job goes to the next. The lock is
+// held.
 static void submit(uint32_t who, uint32_t job) {
     for (;;) {
         history *newest = at(opened - 1);
@@ -85,7 +87,7 @@ static void submit(uint32_t who, uint32_t job) {
     }
 }
 
-// Gives back the oldest schedulers, those of which nothing is left. The lock is held.
+// Gives back the oldest schedulers as long as they are closed and no job is left. The lock is held.
 static void give_back(void) {
     while (oldest < opened && at(oldest)->is_closed && !at(oldest)->left) {
         twodfq_free(&at(oldest)->scheduler);
@@ -94,8 +96,8 @@ static void give_back(void) {
     }
 }
 
-// The worker's next job and its scheduler: of the oldest that has one, or none at the end. It sleeps while nothing waits. The lock is
-// held.
+// The worker's next job, and the oldest scheduler that has a job for it; none at the end. The worker sleeps while
+// nothing waits. The lock is held.
 static history *next(uint32_t worker, twodfq_reply *run) {
     for (;;) {
         for (uint64_t number = oldest; number < opened; number++) {

@@ -1,8 +1,8 @@
-// Makes the calls of a script, which is read from standard input and is taken to be one (docs/FORMATS.md), and writes what
-// `twodfq script --print both` does: the replies, and the journal, by the entries of the history. These it reads after each call, on
-// from where it was.
+// Makes the calls of a script (docs/FORMATS.md), which is read from standard input and not checked, and writes the
+// output of `twodfq script --print both`: the replies, and the journal, by the entries of the history. It reads the new
+// entries after each call.
 //
-//   script [KEEP]            with so many of the last entries kept: 1 is enough
+//   script [KEEP]            with this number of the last entries kept: 1 is enough
 #include <stdlib.h>
 #include <string.h>
 
@@ -13,7 +13,7 @@ enum { MOST_TENANTS = 4096, WORDS = 8 };
 static char *head[MOST_TENANTS + 128]; // the lines of the head, for the journal
 static size_t head_lines;
 static uint32_t weights[MOST_TENANTS];
-static twodfq_line *entries; // what was read of the history
+static twodfq_line *entries; // the entries read so far
 static size_t entries_read, entries_room;
 
 static uint64_t number(const char *word) { return strtoull(word, NULL, 10); }
@@ -81,7 +81,7 @@ static void write_entry(twodfq_line e) {
     putchar('\n');
 }
 
-// Reads what came since it was read last.
+// Reads the new entries of the history.
 static void read_on(twodfq *scheduler) {
     twodfq_line line;
     while ((line = twodfq_entry(scheduler, entries_read)).kind != TWODFQ_ENTRY_NONE) {

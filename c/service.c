@@ -1,5 +1,5 @@
-// A service: producers submit jobs, and workers run them, over one scheduler. The lock is the service's own, and so is the
-// condition on which workers with nothing to do sleep. Each job has to be run once.
+// A service: producers submit jobs, and workers run them, over one scheduler. The lock is the service's own, and so is
+// the condition on which workers with nothing to do sleep. Each job has to be run once.
 #include <pthread.h>
 #include <stdio.h>
 #include <stdlib.h>
@@ -27,7 +27,7 @@ static void want(const char *what, bool is_so) {
     abort();
 }
 
-// The worker's next job, or what stands in for one at the end. It sleeps while nothing waits.
+// The worker's next job, or drained at the end. It sleeps while nothing waits.
 static twodfq_reply next(uint32_t worker) {
     twodfq_reply reply;
     pthread_mutex_lock(&lock);
@@ -99,7 +99,7 @@ int main(void) {
     pthread_mutex_lock(&lock);
     twodfq_close(&scheduler, 0, microseconds());
     pthread_mutex_unlock(&lock);
-    pthread_cond_broadcast(&news); // who sleeps has to learn that nothing more comes
+    pthread_cond_broadcast(&news); // workers that sleep have to learn that nothing more comes
     for (uint32_t i = 0; i < WORKERS; i++) pthread_join(workers[i], NULL);
 
     twodfq_free(&scheduler);

@@ -1,6 +1,6 @@
-// A service in C++, as service.c is one in C: producers submit jobs, and workers run them, over one scheduler. Each call
-// is made under the service's mutex, and workers with nothing to do sleep at its condition variable. Each job has to be
-// run once.
+// A service in C++, as service.c is one in C: producers submit jobs, and workers run them, over one scheduler. Each
+// call is made under the service's mutex, and workers with nothing to do sleep at its condition variable. Each job has
+// to be run once.
 #include <chrono>
 #include <condition_variable>
 #include <cstdint>
@@ -63,14 +63,14 @@ public:
         std::unique_lock<std::mutex> held(lock_);
         want("the service closes", scheduler_.close(0, microseconds()), ReplyKind::accepted);
         held.unlock();
-        news_.notify_all(); // who sleeps has to learn that nothing more comes
+        news_.notify_all(); // workers that sleep have to learn that nothing more comes
     }
 
     // How often a worker slept; called when no worker runs.
     std::uint64_t sleeps() const { return sleeps_; }
 
 private:
-    std::mutex lock_; // what follows is under it
+    std::mutex lock_; // of the members below
     std::condition_variable news_;
     two_dfq::Scheduler scheduler_;
     std::uint64_t sleeps_ = 0;

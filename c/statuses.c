@@ -1,4 +1,4 @@
-// What a handle that holds no scheduler answers, what a worker would find, and each status of an opening but want of memory
+// The answers of a handle that holds no scheduler, foreseen takes, and each status of an opening but want of memory
 // (memory.c): every number that has limits is given just outside them, and at them.
 #include <stdio.h>
 #include <stdlib.h>
@@ -62,8 +62,8 @@ static void no_scheduler(twodfq *handle) {
     twodfq_free(handle);
 }
 
-// What a worker would find, of each kind. Virtual time goes at 2 units a microsecond; the second request starts at 10 and has the
-// length 10, so worker 1 of 2 may take it from 5 on.
+// A foreseen take of each kind. Virtual time rises by 2 units a microsecond; the second request starts at 10 and has
+// the length 10, so it is eligible for worker 1 of 2 from virtual time 5 on.
 static void finds(void) {
     twodfq scheduler = TWODFQ_NONE;
     twodfq_opening opening = plain();

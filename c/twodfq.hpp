@@ -1,5 +1,5 @@
-// The calls of twodfq.h as a class of C++ that owns its scheduler. What each call takes, its units and ranges, and which
-// replies it gives stand in twodfq.h. Nothing here is proved.
+// The calls of twodfq.h as a class of C++ that owns its scheduler. The arguments of each call, their units and ranges,
+// and its replies stand in twodfq.h. Nothing here is proved.
 //
 // C++11 is enough, so that this header goes wherever twodfq.h goes. An opening that fails throws, so that there is no
 // Scheduler without a scheduler for callers to ask about. A refusal is a reply like others, and throws nothing.
@@ -25,15 +25,15 @@ enum class Policy : std::uint32_t {
     two_dfq_plus = TWODFQ_2DFQ_PLUS
 };
 
-/// What a request is thought to cost before it is done.
+/// How the cost of a request is estimated before it is done.
 enum class Estimator : std::uint32_t {
     declared = TWODFQ_DECLARED,
     recent = TWODFQ_RECENT,
     pessimistic = TWODFQ_PESSIMISTIC
 };
 
-/// What a scheduler is opened with, beside the weights: the numbers of twodfq_opening, with the ranges told there. The
-/// defaults are those of Rust and Go.
+/// The configuration of a scheduler without its weights: the numbers of twodfq_opening, with their ranges. The defaults
+/// are those of Rust and Go.
 struct Opening {
     std::uint32_t workers = 4;
     std::uint32_t kinds = 1;
@@ -72,7 +72,7 @@ private:
     OpenStatus status_;
 };
 
-/// What a call is answered.
+/// The kind of a reply.
 enum class ReplyKind : std::uint32_t {
     request = TWODFQ_REQUEST,
     run = TWODFQ_RUN,
@@ -100,7 +100,7 @@ enum class ReplyKind : std::uint32_t {
     no_scheduler = TWODFQ_NO_SCHEDULER ///< of a Scheduler from which another was moved, and of no other
 };
 
-/// A reply. At each kind twodfq.h tells what request, first and second are; numbers that a kind does not use are 0.
+/// A reply. The meaning of request, first and second stands at each kind in twodfq.h; numbers not used there are 0.
 struct Reply {
     ReplyKind kind;
     std::uint32_t request;
@@ -122,10 +122,10 @@ enum class EntryKind : std::uint32_t {
     weight = TWODFQ_ENTRY_WEIGHT,
     workers = TWODFQ_ENTRY_WORKERS,
     withdraw = TWODFQ_ENTRY_WITHDRAW,
-    none = TWODFQ_ENTRY_NONE ///< no entry that is kept has the index; amount: the first index of one that is
+    none = TWODFQ_ENTRY_NONE ///< no kept entry has the index; amount: the index of the first kept entry
 };
 
-/// An entry of the history. At each kind twodfq.h tells which numbers it has; the others are 0.
+/// An entry of the history. The numbers that it has stand at each kind in twodfq.h; the others are 0.
 struct Entry {
     EntryKind kind;
     std::uint32_t who;
@@ -135,11 +135,11 @@ struct Entry {
 };
 
 /// A scheduler, which is moved and not copied. As in C, one call at a time is made on it, also of those that change
-/// nothing: no call is const, and threads that share a scheduler keep it under a mutex. One from which another was moved
-/// answers no_scheduler.
+/// nothing: no call is const, and threads that share a scheduler keep it under a mutex. A Scheduler from which another
+/// was moved answers no_scheduler.
 class Scheduler {
 public:
-    /// Opens a scheduler with one weight a tenant, and throws OpenError where there is none. No later call takes memory.
+    /// Opens a scheduler with one weight a tenant, or throws an OpenError. No later call takes memory.
     Scheduler(const Opening &opening, const std::vector<std::uint32_t> &weights) {
         const auto policy = static_cast<std::uint32_t>(opening.policy);
         const auto estimate = static_cast<std::uint32_t>(opening.estimate);
@@ -171,7 +171,7 @@ public:
     Reply take(std::uint32_t who, std::uint64_t moment, std::uint32_t worker) noexcept {
         return reply(twodfq_take(&handle_, who, moment, worker));
     }
-    /// What the worker's request has used so far.
+    /// The worker names the use of its request so far.
     Reply report(std::uint32_t who, std::uint64_t moment, std::uint32_t worker, std::uint64_t used) noexcept {
         return reply(twodfq_report(&handle_, who, moment, worker, used));
     }
@@ -193,7 +193,7 @@ public:
     Reply withdraw(std::uint32_t who, std::uint64_t moment, std::uint32_t request) noexcept {
         return reply(twodfq_withdraw(&handle_, who, moment, request));
     }
-    /// What a worker would find that asked for work at this moment; it changes nothing.
+    /// Foresees a take by the worker at this moment; it changes nothing.
     Reply due(std::uint64_t moment, std::uint32_t worker) noexcept { return reply(twodfq_due(&handle_, moment, worker)); }
     /// The entry of the history with this index.
     Entry entry(std::uint64_t index) noexcept {
@@ -201,14 +201,14 @@ public:
         return { static_cast<EntryKind>(line.kind), line.who, line.moment, line.request, line.tenant, line.request_kind, line.worker,
             line.amount, line.label };
     }
-    /// How the scheduler stands after its last entry.
+    /// The status of the scheduler after its last entry.
     twodfq_standing status() noexcept { return twodfq_status(&handle_); }
 
 private:
     static Reply reply(const twodfq_reply &numbers) noexcept {
         return { static_cast<ReplyKind>(numbers.kind), numbers.request, numbers.first, numbers.second };
     }
-    // Of a handle that is copied one is used alone: the other holds none from here on.
+    // Of a handle and its copy only one is used: the other holds no scheduler from here on.
     void take_over(Scheduler &other) noexcept {
         handle_ = other.handle_;
         other.handle_ = TWODFQ_NONE;

@@ -1,9 +1,9 @@
-// A scheduler that keeps its last 1,024 entries, beside one that keeps all for as long as that has room: each reply is the same, and
-// a log that comes by every 1,024 entries finds each entry, as the other has it. An entry that is gone is told by the first that is
-// not. Before that each is timed by itself.
+// A scheduler that keeps its last 1,024 entries, beside one that keeps all for as long as that has room: each reply is
+// the same, and a log that comes by every 1,024 entries finds each entry, as the other has it. For an entry that is
+// gone the index of the first kept entry is answered. Before that each is timed by itself.
 //
-//   window [REQUESTS]        and what a call takes, from the first to the last of ten parts, or of millions of requests where there
-//                            are more of these (200,000 requests where none are named)
+//   window [REQUESTS]        with this number of requests (200,000 where none is given), and the time of a call in ten
+//                            parts, or in parts of a million requests where there are more of these
 #include <stdio.h>
 #include <stdlib.h>
 #include <string.h>
@@ -15,7 +15,7 @@
 enum { KEEP = 1024, TENANTS = 64, WORKERS = 8, SLOTS = 4096, WAITING = 1000, MOST_ENTRIES = 4194304, MILLION = 1000000, PARTS = 10 };
 
 static uint32_t weights[TENANTS];
-static uint64_t state = 7, read_on; // of the numbers drawn; up to which index the log has read
+static uint64_t state = 7, read_on; // of the numbers drawn; the index up to which the log has read
 
 static void want(const char *what, bool is_so) {
     if (is_so) return;
@@ -56,7 +56,7 @@ static void submit(twodfq *recent, twodfq *whole, uint64_t i) {
     if (whole) want("a submit is answered alike", is_same(twodfq_submit(whole, 0, i, tenant, kind, cost, i), reply));
 }
 
-// One more comes, and another is taken and done.
+// One more request comes, and another is taken and done.
 static void serve(twodfq *recent, twodfq *whole, uint64_t i) {
     uint32_t worker = (uint32_t)(i % WORKERS), cost = 1 + draw(5000);
     submit(recent, whole, i);
@@ -67,7 +67,7 @@ static void serve(twodfq *recent, twodfq *whole, uint64_t i) {
     want("a done is answered alike", is_same(twodfq_done(whole, 1, i, worker, cost), done));
 }
 
-// The log reads on, and finds what the other scheduler has.
+// The log reads on, and finds the entries of the other scheduler.
 static void read_log(twodfq *recent, twodfq *whole, uint64_t count) {
     for (; read_on < count; read_on++) {
         twodfq_line a = twodfq_entry(recent, read_on), b = twodfq_entry(whole, read_on);
@@ -78,13 +78,13 @@ static void read_log(twodfq *recent, twodfq *whole, uint64_t count) {
     want("the oldest is gone", gone.kind == TWODFQ_ENTRY_NONE && gone.amount == count - KEEP);
 }
 
-// As many requests as a scheduler that keeps all has room for, but no more than these.
+// The requests for which a scheduler that keeps all has room, at most this number.
 static uint64_t with_room(uint64_t requests) {
     uint64_t room = MOST_ENTRIES / 3 - WAITING - 2;
     return requests < room ? requests : room;
 }
 
-// What the two are answered, request by request. How many that were.
+// Compares the replies of the two, request by request. Returns the number of requests compared.
 static uint64_t beside(uint64_t requests) {
     twodfq recent = TWODFQ_NONE, whole = TWODFQ_NONE;
     uint64_t most = with_room(requests);
@@ -113,8 +113,8 @@ static long kilobytes(void) {
     return usage.ru_maxrss;
 }
 
-// A scheduler that keeps so many entries, by itself: what a call takes in the first part and in the last, and in the quickest and the
-// slowest; and how the peak of memory grows after the first.
+// Times a scheduler that keeps this number of entries, by itself: a call in the first part and in the last, and in the
+// quickest and the slowest; and how the peak of memory grows after the first.
 static void alone(uint64_t requests, uint32_t keep) {
     twodfq recent = TWODFQ_NONE;
     open_with(&recent, requests, keep);

@@ -21,7 +21,7 @@ func benchmarkPool(b *testing.B) (*Pool, []string) {
 	return pool, names
 }
 
-// A permit that is free, from its acquire to its release.
+// A permit of a free worker, from its acquire to its release.
 func BenchmarkAcquire(b *testing.B) {
 	pool, names := benchmarkPool(b)
 	for i := 0; i < b.N; i++ {
@@ -34,7 +34,7 @@ func BenchmarkAcquire(b *testing.B) {
 	pool.Close()
 }
 
-// An empty job, from its submit to its end, with up to 1,000 that wait.
+// An empty job, from its submit to its end, with up to 1,000 jobs that wait.
 func BenchmarkGo(b *testing.B) {
 	pool, names := benchmarkPool(b)
 	ended := make(chan struct{}, 1000)

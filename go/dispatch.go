@@ -61,7 +61,7 @@ func (p *Pool) freeFor(h *history) workerSet {
 
 // Chooses the worker of the next dispatch, or how long to wait for a better request. The lowest worker with an eligible
 // request is chosen, so that cheap requests stay on low workers and costly ones on high workers. Where no request is
-// eligible for the highest worker either, that one takes a request before its time, unless it is patient.
+// eligible for the highest worker either, that worker takes a request before its time, unless it is patient.
 func (p *Pool) choose(h *history, now time.Duration) (worker uint32, longest time.Duration) {
 	free := p.freeFor(h)
 	low, high := free.lowest(), free.highest()

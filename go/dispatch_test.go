@@ -2,9 +2,9 @@ package twodfq
 
 import "testing"
 
-// The first request of a tenant is eligible for every worker, and the lowest one takes it. The next one starts a length
-// later, so that it would begin before its time on each: the highest worker takes it. The first of another tenant is
-// again one for the lowest that is free.
+// The first request of a tenant is eligible for every worker, and the lowest takes it. The next request starts a length
+// later, so that it would begin before its time on each worker: the highest takes it. The first request of another
+// tenant is again for the lowest free worker.
 func TestWhichWorkerTakes(t *testing.T) {
 	pool := open(t, Options{Workers: 4, Tenants: tenantsOf(1, 1), Patience: -1})
 	for i, step := range []struct {

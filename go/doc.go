@@ -4,8 +4,8 @@
 // A service uses a Pool: it hands out permits to run requests, or runs jobs in goroutines, each in its tenant's turn.
 // Package httpfair makes HTTP middleware of it. A service that keeps its own queue uses a Scheduler, under a lock.
 //
-// The package links the archive libtwodfq.a, which c/build makes in c/out/lib of its repository. For an archive in another
-// folder set CGO_LDFLAGS=-L/that/folder.
+// The package links the archive libtwodfq.a, which c/build makes in c/out/lib of its repository. For an archive in
+// another folder set CGO_LDFLAGS=-L/that/folder.
 //
 // Moments and costs of a Scheduler are in microseconds. Its tenants, kinds, workers and requests are numbered from 0.
 package twodfq

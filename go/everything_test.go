@@ -44,7 +44,7 @@ func everythingAtOnce(t *testing.T, patience float64) {
 	})
 }
 
-// One of all things, whose refusals are those that it may have.
+// Makes one call of a pool, by lot. Its error has to be one that it may have.
 func doSomething(t *testing.T, pool *Pool, random *rand.Rand, ran *int64) {
 	tenant, kind := fmt.Sprint(random.Intn(8)), [...]string{"get", "scan"}[random.Intn(2)]
 	ctx, cancel := context.WithTimeout(background, time.Duration(random.Intn(3000))*time.Microsecond)
@@ -98,7 +98,7 @@ func mayBe(t *testing.T, err error) {
 	t.Error(err)
 }
 
-// What was submitted has ended in one of its ways, and was traced so; what ran has run once.
+// Each submitted request has ended in one of its ways, and was traced so; each job that ran has run once.
 func isAccountedFor(t *testing.T, status Status, ran int64, events [4]int64) {
 	t.Helper()
 	var submitted, done, withdrawn, begun, costs uint64

@@ -14,7 +14,7 @@ import (
 	twodfq "twodfq.example/go"
 )
 
-// A pool of the tenants that the examples have.
+// The pool of the examples.
 func open() *twodfq.Pool {
 	pool, err := twodfq.NewPool(twodfq.Options{
 		Workers: 8,
@@ -27,7 +27,7 @@ func open() *twodfq.Pool {
 	return pool
 }
 
-// A service with goroutines of its own has each wait for its turn. The context ends the waiting, too.
+// Each goroutine of a service waits for its tenant's turn. The end of the context ends the wait, too.
 func ExamplePool_Acquire() {
 	pool := open()
 	defer pool.Close()
@@ -42,7 +42,7 @@ func ExamplePool_Acquire() {
 	// Output: acme scans
 }
 
-// What can't run now is done without.
+// A service does without a request that can't run now.
 func ExamplePool_TryAcquire() {
 	pool, err := twodfq.NewPool(twodfq.Options{Workers: 1, Tenants: []twodfq.Tenant{{Name: "acme"}}})
 	if err != nil {
@@ -59,7 +59,7 @@ func ExamplePool_TryAcquire() {
 	// twodfq: a request of tenant "acme", kind "" is refused: no worker is free for it now
 }
 
-// By numbers no name is looked up. The number of a tenant that comes and goes is refused once its slot went to another.
+// A call by numbers looks up no name. The number of a tenant is refused once its slot has gone to another tenant.
 func ExamplePool_Tenant() {
 	pool := open()
 	defer pool.Close()
@@ -81,7 +81,7 @@ func ExamplePool_Tenant() {
 	// Output: twodfq: there is no such kind
 }
 
-// A request whose cost is not the time that it runs, such as the rows that a database read, names it at its end.
+// A cost that is not the time of running, such as the rows that a database has read, is given at the end.
 func ExamplePermit_ReleaseCost() {
 	pool, err := twodfq.NewPool(twodfq.Options{Tenants: []twodfq.Tenant{{Name: "acme"}}, Refresh: -1})
 	if err != nil {
@@ -91,7 +91,7 @@ func ExamplePermit_ReleaseCost() {
 	if err != nil {
 		log.Fatal(err)
 	}
-	defer permit.Release() // where what follows panics
+	defer permit.Release() // in case the code below panics
 	const rows = 1500
 	permit.ReleaseCost(rows * time.Microsecond)
 	pool.Close()
@@ -99,7 +99,7 @@ func ExamplePermit_ReleaseCost() {
 	// Output: 1.5ms
 }
 
-// A job is run in a goroutine of its own. Whoever wants its result waits for it.
+// A job runs in a goroutine of its own. Wait returns its result.
 func ExampleSubmit() {
 	pool := open()
 	defer pool.Close()
@@ -114,7 +114,7 @@ func ExampleSubmit() {
 	// Output: 3 <nil>
 }
 
-// A job that waits may be taken back.
+// A job that waits may be withdrawn.
 func ExampleHandle_Cancel() {
 	pool, err := twodfq.NewPool(twodfq.Options{Workers: 1, Tenants: []twodfq.Tenant{{Name: "acme"}}})
 	if err != nil {
@@ -138,7 +138,7 @@ func ExampleHandle_Cancel() {
 	// 0 context canceled
 }
 
-// A job that panics is an error where its result is asked for.
+// A job that panics has an error as its result.
 func ExampleDo() {
 	pool := open()
 	defer pool.Close()
@@ -150,7 +150,7 @@ func ExampleDo() {
 	// Output: true twodfq: a job panicked: no such row
 }
 
-// A job without a result. A long one tells on the way what it has used so far.
+// A job without a result. A long job reports its cost so far while it runs.
 func ExamplePool_Go() {
 	pool := open()
 	err := pool.Go(context.Background(), "acme", "scan", func(ctx context.Context) {
@@ -167,13 +167,13 @@ func ExamplePool_Go() {
 	// Output: 3s
 }
 
-// Tenants need not be known before: a name takes a slot where it comes, and leaves it where it hasn't come for long.
+// Tenants need no configuration: a new name takes a slot, and the tenant without requests for longest loses its slot.
 func ExampleOptions() {
 	pool, err := twodfq.NewPool(twodfq.Options{MostTenants: 100})
 	if err != nil {
 		log.Fatal(err)
 	}
-	if err := pool.SetWeight("acme", 5); err != nil { // whenever it comes
+	if err := pool.SetWeight("acme", 5); err != nil { // for the time when it comes
 		log.Fatal(err)
 	}
 	for i := 0; i < 1000; i++ {
@@ -189,7 +189,7 @@ func ExampleOptions() {
 	// Output: 100 900
 }
 
-// What is out of its range has its name and its range told.
+// The error names the field that is out of its range, and the range.
 func ExampleNewPool() {
 	_, err := twodfq.NewPool(twodfq.Options{Workers: 100, MostTenants: 10})
 	fmt.Println(err)
@@ -318,8 +318,8 @@ func ExampleTrace() {
 	// Output: globex waited for more than a millisecond
 }
 
-// The calls of a service that keeps its own queue: moments and costs are in microseconds, and the label is its number
-// of the job.
+// The calls of a service that keeps its own queue: moments and costs are in microseconds, and the label is the
+// service's number of the job.
 func ExampleScheduler() {
 	config := twodfq.Default(1, 2) // two tenants, of weights 1 and 2
 	scheduler, err := twodfq.Open(config)

@@ -8,7 +8,7 @@ import (
 	"testing"
 )
 
-// The header of this module is the one that the archive is made with.
+// The header of this module is that of the archive.
 func TestHeader(t *testing.T) {
 	of, err := os.ReadFile("../c/twodfq.h")
 	if errors.Is(err, fs.ErrNotExist) {

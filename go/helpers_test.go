@@ -11,7 +11,7 @@ import (
 
 var background = context.Background()
 
-// Tenants "0", "1" and so on, of these weights.
+// Tenants "0", "1" and so on, with these weights.
 func tenantsOf(weights ...int) []Tenant {
 	tenants := make([]Tenant, len(weights))
 	for i, weight := range weights {
@@ -29,14 +29,14 @@ func open(t *testing.T, options Options) *Pool {
 	return pool
 }
 
-// Runs the test with no patience, with the default's, and with the greatest.
+// Runs the test without patience, with the default, and with the greatest.
 func withPatience(t *testing.T, test func(t *testing.T, patience float64)) {
 	for _, patience := range []float64{-1, 0, 1} {
 		t.Run(fmt.Sprint("patience ", patience), func(t *testing.T) { test(t, patience) })
 	}
 }
 
-// What is long done where no wake-up is lost.
+// Waits for an event that comes long before the time limit where no wake-up is lost.
 func soon(t *testing.T, what string, happens <-chan struct{}) {
 	t.Helper()
 	select {
@@ -55,7 +55,7 @@ func hasHappened(event <-chan struct{}) bool {
 	}
 }
 
-// Hands in a job of the tenant, which has to be taken.
+// Hands in a job of the tenant, which has to be accepted.
 func hand(t *testing.T, pool *Pool, tenant string, job func()) {
 	t.Helper()
 	if err := pool.Go(background, tenant, "", func(context.Context) { job() }); err != nil {
@@ -72,7 +72,7 @@ func acquire(t *testing.T, pool *Pool, tenant string) *Permit {
 	return permit
 }
 
-// Acquires as many permits as there are workers, so that what comes waits.
+// Acquires as many permits as there are workers, so that later requests wait.
 func occupy(t *testing.T, pool *Pool, tenant string) (end func()) {
 	t.Helper()
 	var permits []*Permit
@@ -104,7 +104,7 @@ func statusOf(t *testing.T, pool *Pool, tenant string) TenantStatus {
 	return TenantStatus{}
 }
 
-// Waits until so many requests wait.
+// Waits until this number of requests wait.
 func waitUntilWaiting(t *testing.T, pool *Pool, count int) {
 	t.Helper()
 	for began := time.Now(); pool.Status().Waiting != count; time.Sleep(100 * time.Microsecond) {

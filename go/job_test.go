@@ -8,8 +8,8 @@ import (
 	"time"
 )
 
-// What a job gives comes out where it is asked: its value and error, its panic, or that it ended its goroutine. In each
-// way its request ends, and nobody else is touched.
+// Wait and Do return the result of a job: its value and error, its panic, or that it ended its goroutine. In each case
+// its request ends, and no other request is touched.
 func TestOutcomes(t *testing.T) {
 	ctx, cancel := context.WithCancel(background)
 	defer cancel()
@@ -25,7 +25,7 @@ func TestOutcomes(t *testing.T) {
 		outcomes(t, pool, func(job func(context.Context) (string, error)) (value string, err error) {
 			err = ErrExited
 			over := make(chan struct{})
-			go func() { // which a job may end
+			go func() { // a job may end this goroutine
 				defer close(over)
 				value, err = Do(ctx, pool, "0", "", job)
 			}()
@@ -59,7 +59,7 @@ func outcomes(t *testing.T, pool *Pool, run func(func(context.Context) (string, 
 	wants(t, err, ErrExited)
 }
 
-// A wait may end before its job, and be made once more. A job that runs can't be cancelled, but sees its context's end.
+// Wait may end before the job, and may be called again. A job that runs can't be cancelled, but sees its context's end.
 func TestHandles(t *testing.T) {
 	pool := open(t, Options{Workers: 1, Tenants: tenantsOf(1)})
 	ctx, cancel := context.WithCancel(background)
@@ -86,7 +86,7 @@ func TestHandles(t *testing.T) {
 	pool.Close()
 }
 
-// A job has its permit in its context: it may tell what it has used, and name its cost.
+// A job has its permit in its context: it may report its use so far, and name its cost.
 func TestAJobsPermit(t *testing.T) {
 	pool := open(t, Options{Workers: 1, Tenants: tenantsOf(1)})
 	_, err := Do(background, pool, "0", "", func(ctx context.Context) (none struct{}, err error) {

@@ -9,14 +9,14 @@ import (
 	"time"
 )
 
-// A pool of three workers, in which of each tenant two requests may run, and one scan.
+// A pool of three workers, on which two requests of each tenant may run, and one scan.
 func openLimited(t *testing.T) *Pool {
 	t.Helper()
 	return open(t, Options{Workers: 3, Tenants: tenantsOf(1, 1), MostRunning: 2,
 		Kinds: []Kind{{Name: "get"}, {Name: "scan", MostRunning: 1}}})
 }
 
-// Hands in a job which tells that it has begun, and ends when it is let.
+// A job that closes begun when it begins, and ends once end is closed.
 type heldJob struct {
 	handle     *Handle[struct{}]
 	begun, end chan struct{}
@@ -35,7 +35,8 @@ func handHeld(t *testing.T, ctx context.Context, pool *Pool, tenant, kind string
 	return job
 }
 
-// What is beyond a limit waits, though workers are free, and lets others by. Of what may go the first goes first.
+// A request beyond a limit waits, though workers are free, and others pass it. Of those within the limits the oldest
+// goes first.
 func TestLimits(t *testing.T) {
 	pool := openLimited(t)
 	scan, behind := handHeld(t, background, pool, "0", "scan"), handHeld(t, background, pool, "0", "scan")
@@ -82,7 +83,7 @@ func TestTheOldestHeldRequestGoesFirst(t *testing.T) {
 	pool.Close()
 }
 
-// What is held back may be withdrawn. A request that waits and is withdrawn lets one go that is held back.
+// A request that is held back may be withdrawn. The withdrawal of a waiting request lets a held one of its tenant go.
 func TestHeldRequestsAreWithdrawn(t *testing.T) {
 	pool := openLimited(t)
 	permits := []*Permit{acquireKind(t, pool, "1", "get"), acquireKind(t, pool, "1", "get"), acquireKind(t, pool, "0", "get")}
@@ -120,7 +121,7 @@ func acquireKind(t *testing.T, pool *Pool, tenant, kind string) *Permit {
 	return permit
 }
 
-// However many come, never do more run than may, and each is run. Of a tenant and kind they begin as they came.
+// However many jobs come, never do more run than may, and each is run. Those of a tenant and kind begin in order.
 func TestLimitsAreKept(t *testing.T) {
 	const each = 500
 	pool := open(t, Options{Workers: 8, Tenants: tenantsOf(1, 1, 1), MostRunning: 3, Entries: 500, Room: 9 * each,
@@ -159,8 +160,8 @@ func TestLimitsAreKept(t *testing.T) {
 	}
 }
 
-// Where there is no memory for the next scheduler a request is refused, and one that was held back ends. What waits in
-// the scheduler that there is goes on.
+// Where there is no memory for the next scheduler a request is refused, and a held request ends. The requests in the
+// present scheduler are served.
 func TestWantOfMemory(t *testing.T) {
 	pool := open(t, Options{Workers: 1, Tenants: tenantsOf(1, 1, 1), Entries: 16, MostRunning: 1})
 	permit := acquire(t, pool, "0")

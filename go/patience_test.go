@@ -10,16 +10,16 @@ import (
 	"time"
 )
 
-// What each request is thought to cost here.
+// The estimate of each request here.
 const thought = greatestCost
 
-// Eight tenants, so many workers, and each request thought to cost so much, whatever it costs.
+// Eight tenants, this number of workers, and one estimate for all requests, whatever they cost.
 func patientOptions(workers int, patience float64) Options {
 	return Options{Workers: workers, Tenants: tenantsOf(1, 1, 1, 1, 1, 1, 1, 1), Patience: patience, Estimate: Declared,
 		Initial: thought}
 }
 
-// A pool in which the bound of all waits together is far.
+// A pool in which the bound of all waits together is far away.
 func openPatient(t *testing.T, options Options) *Pool {
 	t.Helper()
 	pool := open(t, options)
@@ -27,9 +27,9 @@ func openPatient(t *testing.T, options Options) *Pool {
 	return pool
 }
 
-// A pool in which worker 0 runs a request of tenant 0, and worker 1 one of tenant 1, and in which another of tenant 0,
-// which closes ran, waits for its time. By these weights virtual time goes at 2 units a microsecond. The request starts
-// at one length, so worker 2 of 4 may take it after a quarter of the time that it is thought to take, and worker 3
+// A pool in which worker 0 runs a request of tenant 0, and worker 1 a request of tenant 1, while another request of
+// tenant 0, which closes ran, waits for its time. By these weights virtual time rises by 2 units a microsecond. The
+// request starts at one length, so it is eligible for worker 2 of 4 after a quarter of its estimate, and for worker 3
 // after an eighth: after minutes.
 type patientPool struct {
 	*Pool
@@ -50,7 +50,7 @@ func waitingIn(t *testing.T, pool *Pool) *patientPool {
 	return p
 }
 
-// Closes the pool while two requests run on: what waits is run all the same.
+// Closes the pool while two requests run on: the waiting request is run all the same.
 func (p *patientPool) end(t *testing.T) {
 	t.Helper()
 	closed := make(chan struct{})
@@ -76,8 +76,8 @@ func TestPatienceOutOfRange(t *testing.T) {
 	}
 }
 
-// What the free workers do at a moment where they have been free since these: for how long they wait at most, or who
-// takes.
+// The choice at a moment, for workers 2 and 3 that have been free since these moments: how long they wait at most, or
+// which of them takes.
 func (p *patientPool) chosen(since2, since3, now time.Duration) (worker uint32, longest time.Duration) {
 	p.lock.Lock()
 	defer p.lock.Unlock()
@@ -96,7 +96,7 @@ func TestHowLongAFreeWorkerWaits(t *testing.T) {
 	const s = time.Second
 	waits(5*s, 5*s, 5*s, thought/10-oversleep)
 	waits(5*s, 5*s, 12*s, thought/10-oversleep-7*s)
-	waits(9*s, 5*s, 12*s, thought/10-oversleep-7*s) // it counts from when the first became free
+	waits(9*s, 5*s, 12*s, thought/10-oversleep-7*s) // it counts from the moment at which the first became free
 	waits(5*s, 9*s, 12*s, thought/10-oversleep-7*s)
 	waits(0, 0, thought/10, -oversleep)
 	waits(thought*3/16, thought*3/16, thought*3/16, 0) // it is eligible for worker 3
@@ -110,8 +110,8 @@ func TestHowLongAFreeWorkerWaits(t *testing.T) {
 	p.end(t)
 }
 
-// The wait that is over is that of who became free first. The highest takes, and the other one waits on for as long as
-// that might have.
+// The wait of the worker that became free first is over. The highest worker takes, and the other waits on for the rest
+// of the highest worker's wait.
 func TestAWaitIsSpentOnce(t *testing.T) {
 	p := openWaiting(t, patientOptions(4, 0.1))
 	const later = 30 * time.Second
@@ -124,7 +124,7 @@ func TestAWaitIsSpentOnce(t *testing.T) {
 	p.end(t)
 }
 
-// No worker waits where one tenant alone has requests, while an older scheduler's wait, nor once the pool is closed.
+// No worker waits where a single tenant has requests, where requests wait in an older scheduler, or in a closed pool.
 func TestWhereNoWorkerWaits(t *testing.T) {
 	p := openWaiting(t, patientOptions(4, 1))
 	waits := func(wanted bool) {
@@ -144,7 +144,7 @@ func TestWhereNoWorkerWaits(t *testing.T) {
 		t.Error("patience goes by the newest scheduler")
 	}
 	p.lock.Unlock()
-	hand(t, p.Pool, "2", func() {}) // what happens has the older one served
+	hand(t, p.Pool, "2", func() {}) // this dispatch serves the older scheduler
 	soon(t, "the older scheduler's is run", p.ran)
 	p.end(t)
 }
@@ -163,8 +163,8 @@ func TestOneTenantAloneIsServedAtOnce(t *testing.T) {
 	p.end(t)
 }
 
-// What is done costs less than was thought, so that the next request of its tenant is eligible. By these weights
-// virtual time goes at 4 elevenths of a unit a microsecond.
+// A request costs less than its estimate, so that the next request of its tenant is eligible. By these weights virtual
+// time rises by 4 elevenths of a unit a microsecond.
 func TestADoneIsNews(t *testing.T) {
 	options := patientOptions(4, 1)
 	options.Tenants = tenantsOf(1, 10)
@@ -178,7 +178,7 @@ func TestADoneIsNews(t *testing.T) {
 	p.end(t)
 }
 
-// Who comes while workers are patient is served before the request for which they are, one after another.
+// Requests that come while workers are patient are served, one after another, before the one for which they wait.
 func TestPatientWorkersTakeWhatComes(t *testing.T) {
 	p := openWaiting(t, patientOptions(4, 1))
 	for i := 0; i < 300; i++ {
@@ -220,8 +220,8 @@ func TestNoWakeUpIsLost(t *testing.T) {
 	}
 }
 
-// The request is run when the part of its estimate has passed, and not before, and one wait is counted, of one worker:
-// there is but one request for which they wait.
+// The request is run when the part of its estimate has passed, and not before. One wait of one worker is counted, since
+// a single request waits.
 func TestPatienceEnds(t *testing.T) {
 	const part = 0.000_3
 	before := time.Now()
@@ -238,8 +238,8 @@ func TestPatienceEnds(t *testing.T) {
 	p.end(t)
 }
 
-// All waits together have their bound, however much is thought of what waits: a part of a second of each worker, and of
-// what requests cost.
+// All waits together have their bound, however great the estimates: a part of a second of each worker, and of the costs
+// of requests.
 func TestAllWaitsHaveTheirBound(t *testing.T) {
 	const part, bound = 0.05, 200 * time.Millisecond
 	before := time.Now()
@@ -265,7 +265,7 @@ func TestAllWaitsHaveTheirBound(t *testing.T) {
 	}
 }
 
-// Where as many requests wait as workers are free each of these waits.
+// Of the free workers no more lose time than requests wait, the highest. These share the budget.
 func TestWaitersAreWhoLoseTime(t *testing.T) {
 	for _, example := range []struct {
 		free     workerSet

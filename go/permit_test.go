@@ -11,7 +11,7 @@ import (
 	"time"
 )
 
-// A permit holds a worker until it is released, and once more does nothing.
+// A permit holds a worker until it is released. A second release does nothing.
 func TestPermits(t *testing.T) {
 	leavesNoGoroutine(t, func() {
 		pool := open(t, Options{Workers: 2, Tenants: tenantsOf(1, 1)})
@@ -98,7 +98,7 @@ func TestSetWorkers(t *testing.T) {
 	pool.Close()
 }
 
-// A try leaves nothing behind: nothing waits, and nothing but the refusal is counted.
+// A refused TryAcquire leaves no trace: no request waits, and nothing but the refusal is counted.
 func TestTryAcquire(t *testing.T) {
 	pool := open(t, Options{Workers: 1, Tenants: tenantsOf(1, 1)})
 	permit, err := pool.TryAcquire("0", "")
@@ -120,7 +120,7 @@ func TestTryAcquire(t *testing.T) {
 	pool.Close()
 }
 
-// Who waits while its context ends never runs, costs nothing, and leaves its place free.
+// A request whose context ends while it waits never runs, costs nothing, and leaves its place free.
 func TestCancelledContexts(t *testing.T) { withPatience(t, cancelledContexts) }
 
 func cancelledContexts(t *testing.T, patience float64) {
@@ -159,7 +159,7 @@ func cancelledContexts(t *testing.T, patience float64) {
 	})
 }
 
-// A context that has ended is told at once, and nothing is counted.
+// The error of a context that has ended is returned at once, and nothing is counted.
 func TestAContextThatHasEnded(t *testing.T) {
 	pool := open(t, Options{Tenants: tenantsOf(1)})
 	ctx, cancel := context.WithCancel(background)
@@ -176,7 +176,7 @@ func TestAContextThatHasEnded(t *testing.T) {
 	pool.Close()
 }
 
-// A permit that comes as its context ends goes back.
+// A permit that is granted while its context ends goes back.
 func TestAPermitThatNobodyWants(t *testing.T) {
 	pool := open(t, Options{Workers: 1, Tenants: tenantsOf(1)})
 	ctx, cancel := context.WithCancel(background)
@@ -194,7 +194,7 @@ func TestAPermitThatNobodyWants(t *testing.T) {
 	pool.Close()
 }
 
-// Of those that wait in a scheduler which is followed by others one is withdrawn there.
+// Every second job that waits is withdrawn, also from older schedulers. The others run in their order.
 func TestWithdrawFromAnOlderScheduler(t *testing.T) {
 	pool := open(t, Options{Workers: 1, Tenants: tenantsOf(1, 1), Entries: 16})
 	end := occupy(t, pool, "0")
@@ -238,7 +238,7 @@ func TestWithdrawFromAnOlderScheduler(t *testing.T) {
 	}
 }
 
-// A scheduler that drains learns of weights and workers, too, so that a worker that is added takes from it.
+// An older scheduler learns of weights and workers, too, so that an added worker takes from it.
 func TestChangesReachOlderSchedulers(t *testing.T) {
 	pool := open(t, Options{Workers: 1, MostWorkers: 2, Tenants: tenantsOf(1, 1)})
 	first, ran := acquire(t, pool, "0"), make(chan struct{})
@@ -260,7 +260,7 @@ func TestChangesReachOlderSchedulers(t *testing.T) {
 	pool.Close()
 }
 
-// Whose deadline passes while it waits is withdrawn, also where its context's timer is late: none begins after it.
+// A request whose deadline passes is withdrawn, also where the timer of its context is late: none begins after it.
 func TestDeadlines(t *testing.T) {
 	pool := open(t, Options{Workers: 1, Tenants: tenantsOf(1, 1)})
 	end := occupy(t, pool, "0")
@@ -281,7 +281,7 @@ func TestDeadlines(t *testing.T) {
 	}
 }
 
-// A context that never tells that its deadline has passed.
+// A context that does not end at its deadline.
 type lateContext struct {
 	context.Context
 	deadline time.Time
@@ -289,7 +289,7 @@ type lateContext struct {
 
 func (c lateContext) Deadline() (time.Time, bool) { return c.deadline, true }
 
-// What a request is charged: the time that it ran, the cost that is named, and what was told on the way.
+// The charge of a request: the time for which it ran, or the cost given to ReleaseCost, and at least the reported cost.
 func TestCosts(t *testing.T) {
 	pool := open(t, Options{Workers: 2, Tenants: tenantsOf(1, 1, 1, 1), Refresh: -1})
 	charged := func(tenant string, least, most time.Duration) {
@@ -324,17 +324,17 @@ func TestCosts(t *testing.T) {
 	pool.Close()
 }
 
-// A request that runs on is charged what it has used so far whenever another is chosen, but not more often than Refresh
-// says, and not where its holder tells it.
+// A request that runs on is charged its use so far at each dispatch, but not more often than by Refresh, and not where
+// its holder reports.
 func TestLongRequestsReport(t *testing.T) {
 	const refresh = 5 * time.Millisecond
 	pool := open(t, Options{Workers: 5, Tenants: tenantsOf(1, 1, 1, 1), Refresh: refresh})
 	began := time.Now()
 	long, telling := acquire(t, pool, "0"), acquire(t, pool, "1")
 	telling.Used(time.Microsecond)
-	time.Sleep(refresh / 2) // so that the two that are long are not due at the same times
+	time.Sleep(refresh / 2) // so that the reports of the two long requests are not due at once
 	later := acquire(t, pool, "3")
-	slow := uint64(0) // of the short ones
+	slow := uint64(0) // the time of the short requests, in refreshes
 	for time.Since(began) < 10*refresh {
 		before := time.Now()
 		short := acquire(t, pool, "2")
@@ -361,7 +361,7 @@ func TestLongRequestsReport(t *testing.T) {
 	pool.Close()
 }
 
-// A shutdown waits for what runs, but not for longer than its context.
+// A shutdown waits for the accepted requests, but not for longer than its context.
 func TestShutdown(t *testing.T) {
 	pool := open(t, Options{Workers: 1, Tenants: tenantsOf(1)})
 	permit := acquire(t, pool, "0")

@@ -14,7 +14,7 @@ import (
 	"time"
 )
 
-// Each job is run once, whoever hands it in, while schedulers of few entries follow one another.
+// Each job of many submitters is run once, while schedulers of few entries follow one another.
 func TestEachJobRunsOnce(t *testing.T) { withPatience(t, eachJobRunsOnce) }
 
 func eachJobRunsOnce(t *testing.T, patience float64) {
@@ -47,12 +47,12 @@ func eachJobRunsOnce(t *testing.T, patience float64) {
 	})
 }
 
-// A job beside a queue of another tenant's, whose jobs cost more, is served before that queue.
+// A job is served before another tenant's queue of costly jobs.
 func TestATenantIsServedInItsTurn(t *testing.T) { withPatience(t, aTenantIsServedInItsTurn) }
 
 func aTenantIsServedInItsTurn(t *testing.T, patience float64) {
 	pool := open(t, Options{Workers: 1, Tenants: tenantsOf(1, 1), Patience: patience})
-	var order []string // by the one worker
+	var order []string // of the single worker
 	begin := make(chan struct{})
 	hand(t, pool, "0", func() { <-begin })
 	for i := 0; i < 10; i++ {
@@ -103,7 +103,7 @@ func refusalsOf(t *testing.T, patience float64) {
 	}
 }
 
-// A job may end its goroutine, and may panic: all that waits is run, and who asks is told.
+// A job may end its goroutine, and may panic: all waiting jobs are run, and the log has each panic.
 func TestJobsThatDoNotReturn(t *testing.T) { withPatience(t, jobsThatDoNotReturn) }
 
 func jobsThatDoNotReturn(t *testing.T, patience float64) {
@@ -129,11 +129,11 @@ func jobsThatDoNotReturn(t *testing.T, patience float64) {
 	}
 }
 
-// The pool opens its schedulers with the weights that there were at its opening.
+// The pool opens its schedulers with the options of its opening.
 func TestOptionsAreCopied(t *testing.T) {
 	options := Options{Tenants: tenantsOf(1, 1), Kinds: []Kind{{Name: ""}}, Entries: 16}
 	pool := open(t, options)
-	options.Tenants[0].Weight = 0 // no tenant may have this
+	options.Tenants[0].Weight = 0 // no tenant may have this weight
 	options.Kinds[0].MostRunning = -1
 	for i := 0; i < 100; i++ {
 		hand(t, pool, string(rune('0'+i%2)), func() {})
@@ -160,8 +160,8 @@ func TestOneSchedulerServes(t *testing.T) {
 	}
 }
 
-// Of so many jobs of one tenant all wait at first, and half have been run when another tenant comes. How many more of
-// them are run before ten requests of the other one, which follow one another.
+// All jobs of a tenant wait at first, and half of them have run when another tenant comes. Returns how many more of
+// them run before ten requests of the other tenant, which follow one another.
 func jobsBeforeAVisitor(t *testing.T, jobs int32) int32 {
 	pool := open(t, Options{Workers: 2, Tenants: tenantsOf(1, 1), Room: int(jobs) + 10, RoomPerTenant: int(jobs),
 		Initial: 10 * time.Microsecond, Refresh: -1})
@@ -174,7 +174,7 @@ func jobsBeforeAVisitor(t *testing.T, jobs int32) int32 {
 			}
 		})
 	}
-	first.ReleaseCost(10 * time.Microsecond) // nobody is thought to be costly because of what came before
+	first.ReleaseCost(10 * time.Microsecond) // so that these two do not raise the estimates
 	second.ReleaseCost(10 * time.Microsecond)
 	<-half
 	waited := int32(0)
@@ -190,8 +190,8 @@ func jobsBeforeAVisitor(t *testing.T, jobs int32) int32 {
 	return waited
 }
 
-// All the time of a tenant's workers is charged, so whoever comes doesn't wait for all that the tenant has. A goroutine
-// that loses its processor in the midst of a job may spoil an attempt.
+// All the time of a tenant's workers is charged, so another tenant doesn't wait for all of its jobs. A goroutine that
+// loses its processor in the midst of a job may spoil an attempt.
 func TestAVisitorIsSoonServed(t *testing.T) {
 	for attempt := 0; attempt < 5; attempt++ {
 		if jobsBeforeAVisitor(t, 100_000) < 10_000 {

@@ -34,7 +34,7 @@ type request struct {
 	late     int           // its index in the heap of deadlines, or -1
 
 	stage   stage
-	place   *list.Element // among the held ones
+	place   *list.Element // among the held requests
 	history *history      // the scheduler in which it waits or runs
 	number  uint32        // its number in that scheduler
 
@@ -44,7 +44,7 @@ type request struct {
 	start  start // runs the job, where no goroutine waits for ready
 }
 
-// Tells the submitter that the request has begun, or the error for which it never will.
+// Gives the submitter the permit of the request, which has begun, or the error for which it never will.
 func (p *Pool) resolve(r *request, permit *Permit, err error) {
 	r.permit, r.err, r.stage = permit, err, stageGranted
 	if err != nil {

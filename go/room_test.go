@@ -11,8 +11,8 @@ import (
 	"time"
 )
 
-// Of 100 places four tenants have 12 each, and share 52. A flood gets its own and half of what is shared. The next one
-// gets half of the other half, and who comes then still has places of its own, and shared ones.
+// Of 100 places four tenants have 12 each, and share 52. A flood gets its own places and half of the shared ones. The
+// next tenant gets half of the other half, and the others still have places of their own, and shared ones.
 func TestPartsOfARoom(t *testing.T) {
 	pool := open(t, Options{Workers: 1, Tenants: tenantsOf(1, 1, 1, 1), Room: 100})
 	end := occupy(t, pool, "0")

@@ -14,10 +14,10 @@ type Policy uint32
 
 const (
 	WFQ        Policy = C.TWODFQ_WFQ + 1       // the least finish tag
-	WF2Q       Policy = C.TWODFQ_WF2Q + 1      // the least finish tag of those that have started in virtual time
+	WF2Q       Policy = C.TWODFQ_WF2Q + 1      // the least finish tag of the heads that have started in virtual time
 	MSF2Q      Policy = C.TWODFQ_MSF2Q + 1     // as WF2Q, with starts by the virtual time that passed while a tenant was idle
 	TwoDFQ     Policy = C.TWODFQ_2DFQ + 1      // as WF2Q, with starts that differ from worker to worker
-	TwoDFQPlus Policy = C.TWODFQ_2DFQ_PLUS + 1 // as TwoDFQ, with a virtual time that stays near what was served
+	TwoDFQPlus Policy = C.TWODFQ_2DFQ_PLUS + 1 // as TwoDFQ, with a virtual time that stays near the service
 )
 
 func (p Policy) number() C.uint32_t {
@@ -27,11 +27,11 @@ func (p Policy) number() C.uint32_t {
 	return C.uint32_t(p - 1)
 }
 
-// Estimator says what a request is thought to cost before it is done. Its zero value stands for Pessimistic.
+// Estimator says how the cost of a request is estimated before it is done. Its zero value stands for Pessimistic.
 type Estimator uint32
 
 const (
-	Declared    Estimator = C.TWODFQ_DECLARED + 1    // what its submit names
+	Declared    Estimator = C.TWODFQ_DECLARED + 1    // the cost that its submitter declared
 	Recent      Estimator = C.TWODFQ_RECENT + 1      // the mean of the last eight costs of its tenant and kind
 	Pessimistic Estimator = C.TWODFQ_PESSIMISTIC + 1 // the greatest of the costs of its tenant and kind, which decay
 )
@@ -43,8 +43,8 @@ func (e Estimator) number() C.uint32_t {
 	return C.uint32_t(e - 1)
 }
 
-// Config is what a scheduler is opened with. Entries is 4 to 4,194,304, and up to 4,000,000,000 where Keep is not 0. An
-// Entries of 0 stands for 1,000,000, and for 4,000,000,000 where Keep is not 0.
+// Config is the configuration of a scheduler. Entries is 4 to 4,194,304, and up to 4,000,000,000 where Keep is not 0.
+// An Entries of 0 stands for 1,000,000, and for 4,000,000,000 where Keep is not 0.
 type Config struct {
 	Workers  uint32   // 1 to 64
 	Weights  []uint32 // one a tenant, each 1 to 1,000; 1 to 4,096 tenants
@@ -54,7 +54,7 @@ type Config struct {
 	Policy   Policy
 	Estimate Estimator
 	Initial  uint64 // the estimate before any completion: 1 to 1,000,000,000
-	Keep     uint32 // for how many of the last entries memory is taken; 0, and any number above Entries, is all of them
+	Keep     uint32 // how many of the last entries can be read; 0, and any number above Entries, is all of them
 }
 
 // Default gives four workers, 0 for Entries and Keep, 10,000 requests, TwoDFQPlus, Pessimistic and 1,000 microseconds.
@@ -115,7 +115,7 @@ var refusals = map[Refusal]string{
 
 func (r Refusal) Error() string { return "refused: " + refusals[r] }
 
-// Taken is what a worker that asks for work is given.
+// Taken is the answer to a Take that is not refused: a request to run, or why there is none.
 type Taken struct {
 	Kind     TakenKind
 	Request  uint32 // these three are of a Run
@@ -133,7 +133,7 @@ const (
 	Retired TakenKind = C.TWODFQ_RETIRED // the worker is not among those that there are now; it may ask again
 )
 
-// Due is what a worker would find that asked for work.
+// Due is the foreseen answer to a Take.
 type Due struct {
 	Kind     DueKind
 	Request  uint32 // these two are of a DueEarly
@@ -146,15 +146,15 @@ type DueKind uint32
 const (
 	DueNothing  DueKind = C.TWODFQ_NOTHING  // nothing waits, whether or not more may come
 	DueEligible DueKind = C.TWODFQ_ELIGIBLE // some tenant's head is eligible for the worker
-	DueEarly    DueKind = C.TWODFQ_EARLY    // requests wait, none is eligible, and the worker would get this one before its time
+	DueEarly    DueKind = C.TWODFQ_EARLY    // requests wait, no head is eligible, and a Take would give this request
 	DueRetired  DueKind = C.TWODFQ_RETIRED  // the worker is not among those that there are now
 )
 
-// Request is one that comes.
+// Request is a request to submit.
 type Request struct {
 	Tenant, Kind uint32
 	Declared     uint64 // the cost that its submitter names
-	Label        uint64 // any number, which comes back when a worker runs it
+	Label        uint64 // any number, which comes back by Take or Withdraw
 }
 
 // Scheduler holds a C.twodfq. It may lie in Go's memory: no call keeps a pointer to it, and the pointer in it is to C's
@@ -170,7 +170,7 @@ func Open(config Config) (*Scheduler, error) {
 		entries: C.uint32_t(config.entries()), requests: C.uint32_t(config.Requests), policy: config.Policy.number(),
 		estimate: config.Estimate.number(), initial: C.uint64_t(config.Initial), keep: C.uint32_t(config.Keep)}
 	s := new(Scheduler)
-	first := (*C.uint32_t)(&weights[:1][0]) // there is one more than are said, so that none still have an address
+	first := (*C.uint32_t)(&weights[:1][0]) // the capacity is one more, so that an empty list has an address
 	status := C.twodfq_open(&s.handle, &opening, first, C.size_t(len(weights)))
 	if status != C.TWODFQ_OPENED {
 		return nil, OpenFault(status)
@@ -202,12 +202,12 @@ func (s *Scheduler) Take(who uint32, moment uint64, worker uint32) (Taken, error
 	return taken, refusal(reply)
 }
 
-// Report tells what the worker's request has used so far; it runs on.
+// Report names the use of the worker's request so far; it runs on.
 func (s *Scheduler) Report(who uint32, moment uint64, worker uint32, used uint64) error {
 	return refusal(C.twodfq_report(&s.handle, C.uint32_t(who), C.uint64_t(moment), C.uint32_t(worker), C.uint64_t(used)))
 }
 
-// Done tells that the worker's request has ended, and its measured cost.
+// Done names the measured cost of the worker's request, which has ended.
 func (s *Scheduler) Done(who uint32, moment uint64, worker uint32, cost uint64) error {
 	return refusal(C.twodfq_done(&s.handle, C.uint32_t(who), C.uint64_t(moment), C.uint32_t(worker), C.uint64_t(cost)))
 }
@@ -227,8 +227,8 @@ func (s *Scheduler) SetWorkers(who uint32, moment uint64, count uint32) error {
 	return refusal(C.twodfq_workers(&s.handle, C.uint32_t(who), C.uint64_t(moment), C.uint32_t(count)))
 }
 
-// Withdraw takes back a request that waits: it is never taken, and costs nothing. Its label comes back. It may come
-// after a close, too.
+// Withdraw withdraws a request that waits: it is never taken, and costs nothing. Its label comes back. The call may
+// come after a Close, too.
 func (s *Scheduler) Withdraw(who uint32, moment uint64, request uint32) (uint64, error) {
 	reply := C.twodfq_withdraw(&s.handle, C.uint32_t(who), C.uint64_t(moment), C.uint32_t(request))
 	if err := refusal(reply); err != nil {
@@ -237,8 +237,8 @@ func (s *Scheduler) Withdraw(who uint32, moment uint64, request uint32) (uint64,
 	return uint64(reply.second), nil
 }
 
-// Due says what a worker would find that asked for work at this moment. It changes nothing, and calls after it may be
-// at earlier moments. Refused as a Take would be.
+// Due foresees a Take by the worker at this moment. It changes nothing, and calls after it may be at earlier moments.
+// Refused as a Take would be.
 func (s *Scheduler) Due(moment uint64, worker uint32) (Due, error) {
 	reply := C.twodfq_due(&s.handle, C.uint64_t(moment), C.uint32_t(worker))
 	if err := refusal(reply); err != nil {
@@ -261,7 +261,7 @@ const (
 	Completed     Act = C.TWODFQ_ENTRY_DONE     // Request, Worker, Amount: the cost
 	Closed        Act = C.TWODFQ_ENTRY_CLOSE    // no number
 	WeightChanged Act = C.TWODFQ_ENTRY_WEIGHT   // Tenant, Amount: the weight
-	WorkersSet    Act = C.TWODFQ_ENTRY_WORKERS  // Amount: how many
+	WorkersSet    Act = C.TWODFQ_ENTRY_WORKERS  // Amount: the number of workers
 	Withdrawn     Act = C.TWODFQ_ENTRY_WITHDRAW // Request
 )
 
@@ -291,7 +291,7 @@ func (s *Scheduler) FirstKept() uint64 {
 	return uint64(C.twodfq_entry(&s.handle, math.MaxUint64).amount) // no history has this entry
 }
 
-// Standing is how a scheduler stands after its last entry.
+// Standing is the status of a scheduler after its last entry.
 type Standing struct {
 	Waiting, Running uint32 // how many requests wait, and how many run
 	VirtualSteps     uint32 // virtual time beyond its whole units, in steps, of which a unit has 1,048,576
@@ -300,7 +300,7 @@ type Standing struct {
 	Moment           uint64 // of the last entry, or 0
 }
 
-// Status tells how the scheduler stands; NoScheduler is its only refusal.
+// Status returns the status of the scheduler; NoScheduler is its only refusal.
 func (s *Scheduler) Status() (Standing, error) {
 	told := C.twodfq_status(&s.handle)
 	if told.kind != 0 {

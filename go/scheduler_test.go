@@ -29,8 +29,8 @@ func TestWithdraw(t *testing.T) {
 	}
 }
 
-// Virtual time goes at 2 units a microsecond; the second request starts at 10 and has the length 10, so worker 1 of 2
-// may take it from 5 on.
+// Virtual time rises by 2 units a microsecond; the second request starts at 10 and has the length 10, so it is eligible
+// for worker 1 of 2 from virtual time 5 on.
 func TestDue(t *testing.T) {
 	config := Default(1)
 	config.Workers, config.Policy, config.Estimate = 2, TwoDFQ, Declared
@@ -84,7 +84,7 @@ func TestStatus(t *testing.T) {
 	}
 }
 
-// The last two entries are kept, and told with their numbers.
+// The last two entries are kept, and returned with their numbers.
 func TestEntries(t *testing.T) {
 	config := Default(1, 2)
 	config.Keep, config.Estimate = 2, Declared
@@ -121,8 +121,8 @@ func TestEntries(t *testing.T) {
 	}
 }
 
-// A field that is left out stands for the policy and the estimator of Default. Under WFQ nothing is ever before its
-// time; under TwoDFQPlus the second request of a tenant is, for worker 0.
+// The zero values stand for the policy and the estimator of Default. Under WFQ no request is ever before its time;
+// under TwoDFQPlus the second request of a tenant is, for worker 0.
 func TestZeroPolicy(t *testing.T) {
 	for policy, wanted := range map[Policy]DueKind{0: DueEarly, TwoDFQPlus: DueEarly, WFQ: DueEligible} {
 		config := Default(1)

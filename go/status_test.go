@@ -12,7 +12,7 @@ import (
 )
 
 // The text of a status that is made by hand, as Prometheus reads it: each metric once under its head, each sample with
-// its labels, escaped, and the buckets of a histogram each with those below.
+// its labels, escaped, and each bucket of a histogram with the counts of those below it.
 func TestPrometheus(t *testing.T) {
 	status := Status{Workers: 4, Schedulers: 2, Early: 3, Waits: 5, Waited: 1500 * time.Microsecond,
 		Tenants: []TenantStatus{{Name: "a\"b\\c\nd", Weight: 7, Waiting: 3, Held: 2, Running: 1, Submitted: 9, Done: 5,
@@ -80,7 +80,7 @@ func TestCauses(t *testing.T) {
 	}
 }
 
-// Writes what it is told, in the order in which it is told.
+// Keeps the traced events as lines, in their order.
 type recorder struct {
 	lock  sync.Mutex
 	lines []string
@@ -94,7 +94,7 @@ func (r *recorder) tell(ctx context.Context, format string, words ...any) {
 
 type recorderKey struct{}
 
-// All that happens to requests is told, with their contexts, and without the pool's lock: who is told may ask the pool.
+// Each event of a request is traced with its context, without the pool's lock: functions of Trace may call the pool.
 func TestTrace(t *testing.T) {
 	var pool *Pool
 	var told recorder
@@ -135,7 +135,7 @@ func TestTrace(t *testing.T) {
 	}
 }
 
-// A pool has ended once all of its end is told.
+// Close returns after the functions of Trace.
 func TestCloseWaitsForTrace(t *testing.T) {
 	var told int32
 	pool := open(t, Options{Tenants: tenantsOf(1), Trace: &Trace{
@@ -150,7 +150,7 @@ func TestCloseWaitsForTrace(t *testing.T) {
 	}
 }
 
-// What is asked of a pool is what happened in it.
+// The status of a pool has the requests and events of the pool.
 func TestPoolStatus(t *testing.T) {
 	pool := open(t, Options{Workers: 2, Tenants: tenantsOf(3, 1)})
 	permit := acquire(t, pool, "0")

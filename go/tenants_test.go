@@ -7,7 +7,7 @@ import (
 	"testing"
 )
 
-// Names come and go by the ten thousand, and nothing is kept of those that went but what is counted together.
+// Names come and go by the ten thousand. Of those that went the pool keeps nothing but their counts, added up.
 func TestTenantsComeAndGo(t *testing.T) {
 	const names = 10_000
 	pool := open(t, Options{Workers: 2, Tenants: []Tenant{{"stays", 7}}, MostTenants: 4})
@@ -20,7 +20,7 @@ func TestTenantsComeAndGo(t *testing.T) {
 	if len(status.Tenants) != 4 || status.Tenants[0].Name != "stays" || status.Tenants[0].Weight != 7 {
 		t.Errorf("%+v", status.Tenants)
 	}
-	for i, tenant := range status.Tenants[1:] { // in the order in which they came, as each takes what was unused longest
+	for i, tenant := range status.Tenants[1:] { // in the order in which they came
 		if wanted := fmt.Sprint("name ", names-3+i); tenant.Done != 1 || !hasTenant(status, wanted) {
 			t.Errorf("%+v, and no %s", tenant, wanted)
 		}
@@ -43,7 +43,7 @@ func hasTenant(status Status, name string) bool {
 	return false
 }
 
-// A slot goes to another where its tenant has no request, and never while it has one.
+// A slot goes to another tenant where its own has no request, and never while it has one.
 func TestSlots(t *testing.T) {
 	pool := open(t, Options{Workers: 3, MostTenants: 2, DefaultWeight: 3})
 	if _, err := pool.Tenant("acme"); err != nil {
@@ -70,7 +70,7 @@ func TestSlots(t *testing.T) {
 	wants(t, err, ErrClosed)
 }
 
-// The number of a tenant is good while it has its slot, and is never taken for that of who comes next.
+// The number of a tenant is good while it has its slot, and is never taken for that of the slot's next tenant.
 func TestTenantIDs(t *testing.T) {
 	pool := open(t, Options{MostTenants: 1, Kinds: []Kind{{Name: "get"}, {Name: "scan"}}})
 	acme, err := pool.Tenant("acme")
@@ -107,8 +107,8 @@ func TestTenantIDs(t *testing.T) {
 	pool.Close()
 }
 
-// A weight that is set for a name is its own whenever it comes, in the scheduler, too: 5 permits of "acme" for one of
-// another, where costs are alike.
+// The weight that is set for a name is kept for each time when it comes, in the scheduler, too: 5 permits of "acme" for
+// one permit of another tenant, where costs are alike.
 func TestWeightsOfNames(t *testing.T) {
 	pool := open(t, Options{Workers: 1, MostTenants: 2, Room: 1000, RoomPerTenant: 500, Estimate: Declared, Refresh: -1})
 	wants(t, pool.SetWeight("acme", 5), nil)
@@ -144,7 +144,7 @@ func TestWeightsOfNames(t *testing.T) {
 	}
 }
 
-// Where only named tenants exist an unknown name is refused, and has no weight.
+// Where only Options.Tenants exist an unknown name is refused, and has no weight.
 func TestNamedTenantsAlone(t *testing.T) {
 	pool := open(t, Options{Tenants: []Tenant{{Name: "acme"}}})
 	_, err := pool.Acquire(background, "globex", "")

@@ -1,16 +1,16 @@
 /* A request scheduler that shares workers fairly among tenants (Two-Dimensional Fair Queuing, Mace and others, 2016).
 
-   Every function is proved to keep its promise, told at each, for all numbers that it may be given; version and messages
-   alone are not. What no proof can see is the caller's to keep:
-   - a handle begins as TWODFQ_NONE, nobody else writes its fields, and of a handle that is copied one is used alone;
-   - pointers are valid: to a handle, an opening, and as many weights as are said (with none, to anything but null);
-   - one call at a time is made on a handle: where threads share it, each call is made under one lock, the caller's own. A
-     handle may pass from one thread to another;
+   Every function is proved to keep its promise, which stands at its declaration, for all arguments; only version and
+   messages are not. The caller keeps these rules, which no proof can see:
+   - a handle begins as TWODFQ_NONE, nobody else writes its fields, and of a handle and its copies only one is used;
+   - pointers are valid: to a handle, to an opening, and to one weight a tenant (with no tenant, to anything but null);
+   - one call at a time is made on a handle: where threads share it, each call is made under one lock, the caller's own.
+     A handle may pass from one thread to another;
    - no call is made from a signal handler, or in a child that a process with threads forked.
 
-   Moments and costs are in microseconds. A moment is the caller's clock, and may be any number: a call takes effect at its
-   moment, but not before the last accepted one, and at 10^15 at most. `who` is a number that the caller gives itself; it is
-   written down and not looked at. Tenants, kinds, workers and requests are numbered from 0. */
+   Moments and costs are in microseconds. A moment is the caller's clock, and may be any number: a call takes effect at
+   its moment, but not before the last accepted one, and at 10^15 at most. `who` is a number that the caller gives
+   itself; it is written down and not looked at. Tenants, kinds, workers and requests are numbered from 0. */
 #ifndef TWODFQ_H
 #define TWODFQ_H
 
@@ -40,15 +40,15 @@ typedef struct {
 /* Which waiting request a worker takes. */
 enum {
     TWODFQ_WFQ,      /* the least finish tag */
-    TWODFQ_WF2Q,     /* the least finish tag of those that have started in virtual time */
+    TWODFQ_WF2Q,     /* the least finish tag of the heads that have started in virtual time */
     TWODFQ_MSF2Q,    /* as WF2Q, with starts by the virtual time that passed while a tenant was idle */
     TWODFQ_2DFQ,     /* as WF2Q, with starts that differ from worker to worker */
-    TWODFQ_2DFQ_PLUS /* as 2DFQ, with a virtual time that stays near what was served */
+    TWODFQ_2DFQ_PLUS /* as 2DFQ, with a virtual time that stays near the service */
 };
 
-/* What a request is thought to cost before it is done. */
+/* How the cost of a request is estimated before it is done. */
 enum {
-    TWODFQ_DECLARED,   /* what its submit names */
+    TWODFQ_DECLARED,   /* the cost that its submitter declared */
     TWODFQ_RECENT,     /* the mean of the last eight costs of its tenant and kind */
     TWODFQ_PESSIMISTIC /* the greatest of the costs of its tenant and kind, which decay */
 };
@@ -56,7 +56,7 @@ enum {
 typedef struct {
     uint32_t workers;  /* 1 to 64 */
     uint32_t kinds;    /* 1 to 64; tenants times kinds is at most 65,536 */
-    uint32_t entries;  /* how many entries the history may have: 4 to 4,194,304; where keep is not 0, 4 to 4,000,000,000 */
+    uint32_t entries;  /* how many entries the history may have: 4 to 4,194,304, or 4,000,000,000 where keep is not 0 */
     uint32_t requests; /* how many requests may wait at once: 1 to 262,144 */
     uint32_t policy;   /* TWODFQ_WFQ to TWODFQ_2DFQ_PLUS */
     uint32_t estimate; /* TWODFQ_DECLARED to TWODFQ_PESSIMISTIC */
@@ -64,7 +64,7 @@ typedef struct {
     uint32_t keep;     /* how many of the last entries can be read; 0 and any number above entries: all of them */
 } twodfq_opening;
 
-/* What twodfq_open gives: the first that is so, in this order. */
+/* The statuses of twodfq_open, which gives the first that is so, in this order. */
 enum {
     TWODFQ_OPENED,
     TWODFQ_OPEN_ALREADY,   /* the handle holds a scheduler */
@@ -81,35 +81,36 @@ enum {
     TWODFQ_OPEN_INITIAL
 };
 
-/* Opens a scheduler in a handle that holds none, with one weight a tenant; the weights are copied. It is the only call that takes
-   memory, and takes all that the scheduler will use. Where it does not give TWODFQ_OPENED, what the handle holds is unchanged. */
+/* Opens a scheduler in a handle that holds none, with one weight a tenant; the weights are copied. It is the only call
+   that takes memory, and takes all that the scheduler will use. A status other than TWODFQ_OPENED leaves the handle
+   unchanged. */
 uint32_t twodfq_open(twodfq *handle, const twodfq_opening *opening, const uint32_t *weights, size_t tenants);
 
-/* What a call is answered. The refusals name the first cause that is so, in the order told at the call. TWODFQ_NO_SCHEDULER is what
-   each call on a handle that holds none is answered. */
+/* The kinds of replies. A refusal names the first cause that is so, in the order that stands at the call. A call on a
+   handle without a scheduler is answered TWODFQ_NO_SCHEDULER. */
 enum {
     TWODFQ_REQUEST,     /* submitted: request has this number */
     TWODFQ_RUN,         /* the worker runs request from now on; first: its estimate, second: its label */
     TWODFQ_ACCEPTED,
     TWODFQ_IDLE,        /* nothing waits; more may come */
     TWODFQ_DRAINED,     /* nothing waits, and nothing more will come */
-    TWODFQ_RETIRED,     /* the worker is not among those that there are now; first: how many. It may ask again */
+    TWODFQ_RETIRED,     /* the worker is not among those that there are now; first: their number. It may ask again */
     TWODFQ_WITHDRAWN,   /* the request is withdrawn; second: its label */
-    TWODFQ_NOTHING,     /* found: nothing waits, whether or not more may come */
-    TWODFQ_ELIGIBLE,    /* found: some tenant's head is eligible for the worker */
-    TWODFQ_EARLY,       /* found: requests wait, and no head is eligible; it would get request before its time, first: its estimate */
+    TWODFQ_NOTHING,     /* foreseen: nothing waits, whether or not more may come */
+    TWODFQ_ELIGIBLE,    /* foreseen: some tenant's head is eligible for the worker */
+    TWODFQ_EARLY,       /* foreseen: requests wait, no head is eligible; a take gives request; first: its estimate */
     TWODFQ_REFUSED_CLOSED = 16, /* the history is closed */
-    TWODFQ_REFUSED_TENANT,      /* there is none of this number; first: the number */
-    TWODFQ_REFUSED_KIND,        /* there is none of this number; first: the number */
+    TWODFQ_REFUSED_TENANT,      /* no tenant has this number; first: the number */
+    TWODFQ_REFUSED_KIND,        /* no kind has this number; first: the number */
     TWODFQ_REFUSED_COST,        /* above 1,000,000,000, or declared as 0; first: the cost given */
     TWODFQ_REFUSED_SLOTS,       /* as many requests wait as may; first: how many may */
-    TWODFQ_REFUSED_FULL,        /* no room for the call and what must follow it; first: how many entries there may be */
-    TWODFQ_REFUSED_WORKER,      /* there is none of this number; first: the number */
+    TWODFQ_REFUSED_FULL,        /* no room for the call and all that must follow it; first: how many entries may be */
+    TWODFQ_REFUSED_WORKER,      /* no worker has this number; first: the number */
     TWODFQ_REFUSED_BUSY,        /* the worker runs request */
     TWODFQ_REFUSED_NOT_RUNNING, /* the worker runs nothing */
-    TWODFQ_REFUSED_FALLING,     /* less than was reported; first: what was reported, second: what is given */
+    TWODFQ_REFUSED_FALLING,     /* less than the greatest use reported; first: that use, second: the number given */
     TWODFQ_REFUSED_WEIGHT,      /* not 1 to 1,000; first: the weight given */
-    TWODFQ_REFUSED_WORKERS,     /* none, or more than at the opening; first: the number given */
+    TWODFQ_REFUSED_WORKERS,     /* 0, or more than at the opening; first: the number given */
     TWODFQ_REFUSED_NOT_WAITING, /* request was never submitted, or is taken or withdrawn */
     TWODFQ_NO_SCHEDULER = 255
 };
@@ -120,15 +121,15 @@ typedef struct {
     uint64_t first, second;
 } twodfq_reply;
 
-/* A request comes; it gets the next number. declared: the cost that its submitter names. label: any number, which comes back with
-   TWODFQ_RUN and TWODFQ_WITHDRAWN. Refused: CLOSED, TENANT, KIND, COST, SLOTS, FULL. */
+/* A request comes; it gets the next number. declared: the cost that its submitter names. label: any number, which comes
+   back with TWODFQ_RUN and TWODFQ_WITHDRAWN. Refused: CLOSED, TENANT, KIND, COST, SLOTS, FULL. */
 twodfq_reply twodfq_submit(twodfq *handle, uint32_t who, uint64_t moment, uint32_t tenant, uint32_t kind, uint64_t declared,
     uint64_t label);
 
 /* A worker asks for work: RUN, IDLE, DRAINED or RETIRED. Refused: WORKER, BUSY. */
 twodfq_reply twodfq_take(twodfq *handle, uint32_t who, uint64_t moment, uint32_t worker);
 
-/* What the worker's request has used so far; it runs on. Refused: WORKER, NOT_RUNNING, COST, FALLING, FULL. */
+/* The worker names the use of its request so far; it runs on. Refused: WORKER, NOT_RUNNING, COST, FALLING, FULL. */
 twodfq_reply twodfq_report(twodfq *handle, uint32_t who, uint64_t moment, uint32_t worker, uint64_t used);
 
 /* The worker's request has ended, and this is its measured cost. Refused: WORKER, NOT_RUNNING, COST, FALLING. */
@@ -140,13 +141,15 @@ twodfq_reply twodfq_close(twodfq *handle, uint32_t who, uint64_t moment);
 /* The tenant has this weight from now on. Refused: TENANT, WEIGHT, FULL. */
 twodfq_reply twodfq_weight(twodfq *handle, uint32_t who, uint64_t moment, uint32_t tenant, uint32_t weight);
 
-/* There are so many workers from now on, those with lower numbers; at most as many as at the opening. Refused: WORKERS, FULL. */
+/* There are `count` workers from now on, those with lower numbers; at most as many as at the opening. Refused: WORKERS,
+   FULL. */
 twodfq_reply twodfq_workers(twodfq *handle, uint32_t who, uint64_t moment, uint32_t count);
 
-/* A request that waits is withdrawn: it is never taken, and costs nothing. It may come after a close, too. Refused: NOT_WAITING. */
+/* A request that waits is withdrawn: it is never taken, and costs nothing. The call may come after a close, too.
+   Refused: NOT_WAITING. */
 twodfq_reply twodfq_withdraw(twodfq *handle, uint32_t who, uint64_t moment, uint32_t request);
 
-/* What a worker would find that asked for work at this moment: NOTHING, ELIGIBLE, EARLY or RETIRED. It changes nothing, and calls
+/* Foresees a take by the worker at this moment: NOTHING, ELIGIBLE, EARLY or RETIRED. It changes nothing, and calls
    after it may be at earlier moments. Refused as a take would be: WORKER, BUSY. */
 twodfq_reply twodfq_due(twodfq *handle, uint64_t moment, uint32_t worker);
 
@@ -158,7 +161,7 @@ enum {
     TWODFQ_ENTRY_DONE,     /* request, worker, amount: the cost */
     TWODFQ_ENTRY_CLOSE,
     TWODFQ_ENTRY_WEIGHT,   /* tenant, amount: the weight */
-    TWODFQ_ENTRY_WORKERS,  /* amount: how many */
+    TWODFQ_ENTRY_WORKERS,  /* amount: the number of workers */
     TWODFQ_ENTRY_WITHDRAW, /* request */
     TWODFQ_ENTRY_NONE = 255
 };
@@ -171,9 +174,10 @@ typedef struct {
     uint64_t amount, label;
 } twodfq_line;
 
-/* The entry with this index, in order of time; the first of all has 0. NONE where there is no such entry, where it is kept no longer,
-   or no scheduler is held; amount is then the least index of those that are kept, and how many entries there are where none is. A
-   log that comes by at least once every `keep` entries and reads on from where it was finds them all. */
+/* The entry with this index, in order of time; the first of all has 0. NONE where there is no such entry, where it is
+   kept no longer, or where the handle holds no scheduler; amount is then the least index of a kept entry, and the
+   number of entries where none is kept. A log that comes by at least once every `keep` entries, and reads on from the
+   index that it had come to, has them all. */
 twodfq_line twodfq_entry(twodfq *handle, uint64_t index);
 
 /* Numbers are 0 where there is no scheduler. Virtual time is in steps, of which a unit has 1,048,576. */
@@ -184,18 +188,18 @@ typedef struct {
     uint32_t virtual_steps; /* virtual time beyond its whole units */
     uint64_t virtual_units; /* virtual time at the last entry, in whole units */
     uint64_t entries;       /* how many entries the history has */
-    uint64_t moment;        /* the moment of the last one, or 0 */
+    uint64_t moment;        /* the moment of the last entry, or 0 */
 } twodfq_standing;
 
-/* How the scheduler stands after its last entry. */
+/* The status of the scheduler after its last entry. */
 twodfq_standing twodfq_status(twodfq *handle);
 
-/* Gives the scheduler's memory back. The handle holds none from here on; once more does nothing. */
+/* Gives the scheduler's memory back. The handle holds no scheduler from here on; a second call does nothing. */
 void twodfq_free(twodfq *handle);
 
 /* An English text for a status of an opening, or for a kind of a reply. It is never null: a number without a name has a
-   text, too. Texts are for people, and another version may word them otherwise. There are two functions since statuses and
-   kinds share numbers: 16 is TWODFQ_OPEN_WORKERS among the first, and TWODFQ_REFUSED_CLOSED among the second. */
+   text, too. Texts are for people, and another version may word them otherwise. There are two functions since statuses
+   and kinds share numbers: 16 is TWODFQ_OPEN_WORKERS of the statuses, and TWODFQ_REFUSED_CLOSED of the kinds. */
 const char *twodfq_open_message(uint32_t status);
 const char *twodfq_reply_message(uint32_t kind);
 

@@ -1,5 +1,5 @@
-// The library's headers, and every header of the standard library of this version of C++: a file of an include path that
-// has such a name would be read in its place.
+// The library's headers, and every header of the standard library of this version of C++: a file of an include path
+// that has such a name would be read in its place.
 #include "twodfq.hpp"
 
 #include <algorithm>

@@ -1,5 +1,5 @@
-// The version, and the texts: each status and each kind that the header names has a text of its own, and numbers without
-// a name have another. c/build writes the header's names into names.h.
+// The version, and the texts: each status and each kind that the header names has a text of its own, and numbers
+// without a name have another. c/build writes the header's names into names.h.
 #include <stdio.h>
 #include <stdlib.h>
 #include <string.h>

@@ -1,5 +1,5 @@
-// The class of twodfq.hpp: each call by its reply and its entry, openings that fail, and schedulers that are moved. That
-// none is lost or given back twice is seen under AddressSanitizer.
+// The class of twodfq.hpp: each call by its reply and its entry, openings that fail, and schedulers that are moved.
+// That none is lost or given back twice is seen under AddressSanitizer.
 #include <cstdlib>
 #include <cstring>
 #include <iostream>
@@ -39,7 +39,7 @@ static Opening opening() {
     return opening;
 }
 
-// Numbers differ from one another, so that none can stand in for another.
+// Numbers differ from one another, so that none can pass for another.
 static void calls() {
     Scheduler scheduler(opening(), { 1, 2, 3, 4 });
     want("submit", is(scheduler.submit(11, 100, 3, 1, 50, 42), ReplyKind::request, 0, 0, 0));

@@ -13,7 +13,7 @@ import (
 func ExampleMiddleware() {
 	pool, err := twodfq.NewPool(twodfq.Options{
 		Workers:     8,
-		MostTenants: 1000, // whoever comes is a tenant, by the name that the service has checked
+		MostTenants: 1000, // each name is a tenant; a service verifies the name first
 		Kinds:       []twodfq.Kind{{Name: "get"}, {Name: "scan", MostRunning: 2}},
 	})
 	if err != nil {
@@ -33,7 +33,7 @@ func ExampleMiddleware() {
 	hello := http.HandlerFunc(func(w http.ResponseWriter, r *http.Request) { fmt.Fprintln(w, "hello", r.Header.Get("X-Tenant")) })
 	mux := http.NewServeMux()
 	mux.Handle("/", fair.Handler(hello))
-	mux.Handle("/metrics", httpfair.Metrics(pool)) // which waits for nobody
+	mux.Handle("/metrics", httpfair.Metrics(pool)) // it waits for no turn
 
 	request := httptest.NewRequest("GET", "/scan", nil)
 	request.Header.Set("X-Tenant", "acme")
@@ -43,7 +43,7 @@ func ExampleMiddleware() {
 	// Output: 200 hello acme
 }
 
-// A service with bodies of its own for refused requests.
+// A service answers refused requests with bodies of its own.
 func ExampleStatus() {
 	refuse := func(w http.ResponseWriter, _ *http.Request, err error) {
 		w.Header().Set("Content-Type", "application/json")

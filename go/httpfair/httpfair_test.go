@@ -14,8 +14,8 @@ import (
 	twodfq "twodfq.example/go"
 )
 
-// A server of one worker with three places, of which each tenant may have two. Its handler tells that it has begun, and
-// ends when it is let.
+// A server of one worker with three places, of which each tenant may have two. Its handler sends to begun at its begin,
+// and ends once end is closed.
 type server struct {
 	*httptest.Server
 	pool       *twodfq.Pool
@@ -53,7 +53,7 @@ type answer struct {
 	err    error
 }
 
-// Sends a request of the tenant. Its answer comes by the channel.
+// Sends a request of the tenant. The answer comes by the channel.
 func (s *server) send(ctx context.Context, tenant, path string) <-chan answer {
 	answers := make(chan answer, 1)
 	go func() {
@@ -91,7 +91,7 @@ func wants(t *testing.T, given <-chan answer, status int, retry, body string) {
 	}
 }
 
-// Requests are handled one at a time, and beyond the places of a tenant, and of all, refused.
+// Requests are handled one at a time. Those beyond the places of a tenant, or of all tenants, are refused.
 func TestRequestsWaitAndAreRefused(t *testing.T) {
 	s, ctx := start(t), context.Background()
 	first := s.send(ctx, "acme", "/get")
@@ -121,8 +121,7 @@ func TestRequestsWaitAndAreRefused(t *testing.T) {
 	}
 }
 
-// A client that goes away takes its request back, which is never handled, and a handler that panics gives its permit
-// back.
+// The request of a client that disconnects is withdrawn and never handled. A handler that panics releases its permit.
 func TestClientsThatGoAndHandlersThatPanic(t *testing.T) {
 	s := start(t)
 	first := s.send(context.Background(), "acme", "/panic")
@@ -147,7 +146,7 @@ func TestClientsThatGoAndHandlersThatPanic(t *testing.T) {
 	}
 }
 
-// A service may answer refusals by itself.
+// A service may answer refusals by a function of its own.
 func TestRefuseOfTheServicesOwn(t *testing.T) {
 	s := start(t)
 	middleware := Middleware{Pool: s.pool, Tenant: func(*http.Request) string { return "hooli" },

@@ -51,7 +51,7 @@ func TestAnswers(t *testing.T) {
 	pool.Close()
 }
 
-// A server ends where its context does, and then takes nothing more; one that can't listen says so.
+// A server ends with its context, and then accepts no request. A server that can't listen returns an error.
 func TestServe(t *testing.T) {
 	pool, err := open(1)
 	if err != nil {
