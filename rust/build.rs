@@ -65,7 +65,7 @@ fn with_archive(folder: PathBuf) -> Result<PathBuf, String> {
     }
 }
 
-/// Proving keeps all processors busy for minutes, and editors run build scripts too: `TWODFQ_PROVE=0` keeps cargo from it.
+/// A proof keeps all processors busy for minutes, and editors run build scripts too: `TWODFQ_PROVE=0` prevents it.
 fn may_prove(build: &Path) -> bool {
     let is_allowed = env::var_os("TWODFQ_PROVE").is_none_or(|word| word != "0");
     let paths = env::var_os("PATH").unwrap_or_default();

@@ -1,13 +1,13 @@
-//! A crowd at the server of `server.rs`: six tenants flood its 16 workers with costly requests, and three send a cheap one
-//! now and then. For each way to serve them it prints how long the tenants' requests took, in milliseconds; those of the
-//! flood together.
+//! A crowd at the server of `server.rs`: six tenants flood its 16 workers with costly requests, and three send a cheap
+//! one now and then. For each way to serve them it prints the times of the tenants' requests in milliseconds, those of
+//! the flood together.
 //!
 //!     cargo build --release --examples
 //!     cargo run --release --example crowd -- 10 crowd.svg      # seconds for each, and a file for a picture,
 //!                                                              # then more ways to serve: 2dfq+ limited
 //!
-//! Each tenant of the flood keeps 20 requests under way. The others send one every 10 milliseconds, whether the last was
-//! answered or not, and a time counts from the moment at which its request was due.
+//! Each tenant of the flood keeps 20 requests under way. The others send one every 10 milliseconds, whether the last
+//! was answered or not, and a time counts from the moment at which its request was due.
 mod bars;
 
 use std::env;
@@ -25,7 +25,7 @@ const FLOOD: [&str; 6] = ["initech", "stark", "tyrell", "umbrella", "wayne", "wo
 const UNDER_WAY: usize = 20;
 const PAUSE: Duration = Duration::from_millis(10);
 
-/// What passes before times count: at first nothing is known of what requests cost.
+/// The time before times count: at first the estimator knows no costs.
 const WARM_UP: Duration = Duration::from_secs(1);
 
 /// When times count.
@@ -35,7 +35,7 @@ struct Turn {
     until: Instant,
 }
 
-/// A server of its own, which ends when its input does.
+/// A server in a process of its own, which ends when its input does.
 struct Server {
     child: Child,
     port: u16,

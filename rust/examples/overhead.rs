@@ -1,5 +1,5 @@
-//! What the pool costs beside a plain queue of closures: nanoseconds a job, from its submit to its end, of empty jobs and of jobs
-//! of 10 microseconds, by 1, 4 and 16 workers. One thread hands in batches, and waits for the end of each.
+//! The overhead of the pool beside a plain queue of closures: nanoseconds a job, from submit to end, of empty jobs
+//! and of jobs of 10 microseconds, by 1, 4 and 16 workers. One thread hands in batches, and waits for the end of each.
 //!
 //!     cargo run --release --example overhead
 mod batches;
@@ -15,7 +15,7 @@ fn compare(workers: u32, time: Duration, batches: usize) {
     let pool = batches::builder(workers).open().expect("a pool of sixteen tenants opens");
     let by_queue = |_: u32, job: Box<dyn FnOnce() + Send>| fifo.submit(job);
     let by_pool = |number: u32, job: Box<dyn FnOnce() + Send>| batches::submit(&pool, number, job);
-    // by turns, so that what else the machine does is in both, and the median of each
+    // by turns, so that other load of the machine is in both, and the median of each
     let turns = (0..5).map(|_| (nanoseconds(&by_queue, time, batches), nanoseconds(&by_pool, time, batches)));
     let (mut queue, mut fair): (Vec<u64>, Vec<u64>) = turns.unzip();
     queue.sort_unstable();

@@ -1,13 +1,13 @@
-//! What patience is worth (`Builder::patience`): cheap tenants at half their share beside costly ones that always want
-//! more. For each way to serve them it prints how long requests waited from submit to start, and what the workers did.
+//! The worth of patience (`Builder::patience`): cheap tenants at half their share beside costly tenants that always
+//! want more. For each way to serve them it prints waits from submit to start, rates, and the workers' load and waits.
 //!
 //!     cargo run --release --example patience -- 20          # seconds for each, and then any of these words:
 //!                                                           # workers 4, log-uniform, nine, alone, empty
 //!
 //! 50 tenants send a cheap request every so often, of which each takes a worker for about 0.3 milliseconds, asleep, so
-//! that together they use half of their share. 50 have two costly ones waiting all the time, of 100 milliseconds each,
-//! or with `log-uniform` of 1 to 1000. With `nine` 90 are cheap and 10 costly; with `alone` there is one costly tenant,
-//! and no other. `empty` measures empty jobs instead, by turns: nanoseconds from the submit of one to its end.
+//! that together they use half of their share. 50 have two costly requests waiting at all times, of 100 milliseconds,
+//! or with `log-uniform` of 1 to 1000. With `nine` 90 tenants are cheap and 10 costly; with `alone` there is one costly
+//! tenant, and no other. `empty` measures empty jobs instead, by turns: nanoseconds a job, from its submit to its end.
 mod batches;
 mod fifo;
 
@@ -29,7 +29,7 @@ const COSTLY: Duration = Duration::from_millis(100);
 /// How often each way has its turn.
 const TURNS: u32 = 2;
 
-/// What passes before a turn is measured: at first costly requests are thought cheap, and take all workers.
+/// The time before a turn is measured: at first the estimates of costly requests are low, and these take all workers.
 const WARM_UP: Duration = Duration::from_secs(3);
 
 /// A way to serve: under a policy with a patience, or by one queue.
@@ -57,7 +57,7 @@ const WAYS: [Way; 11] = [
     way("2dfq+ 0.05", Some(Policy::TwoDfqPlus), 0.05),
 ];
 
-/// Who asks for what.
+/// The tenants and their requests.
 #[derive(Clone, Copy)]
 struct Situation {
     workers: u32,
@@ -68,7 +68,7 @@ struct Situation {
     is_log_uniform: bool,
 }
 
-/// Numbers that look random, the same in each run.
+/// Numbers that look random, equal in each run.
 struct Random(u64);
 
 impl Random {
@@ -79,13 +79,13 @@ impl Random {
     }
 }
 
-/// What was seen of the requests that began in a turn's measured time.
+/// The record of the requests that began in a turn's measured time.
 struct Record {
     begun: Instant,
     over: Instant,
-    /// How long cheap and costly ones waited.
+    /// How long cheap and costly requests waited.
     waits: [Mutex<Vec<Duration>>; 2],
-    /// Nanoseconds for which workers ran something.
+    /// Nanoseconds for which workers ran requests.
     busy: AtomicU64,
 }
 
@@ -138,7 +138,7 @@ fn visit(service: &Service, situation: Situation, period: Duration, record: &Arc
     }
 }
 
-/// Sends a costly request of each tenant that it is told until the end: of those that have begun one.
+/// Sends the next costly request of a tenant whenever one has begun, until the end.
 fn flood(service: &Service, situation: Situation, record: &Arc<Record>, begins: Sender<u32>, begun: Receiver<u32>) {
     let mut random = Random(2);
     while let Ok(tenant) = begun.recv() {
@@ -155,7 +155,7 @@ fn flood(service: &Service, situation: Situation, record: &Arc<Record>, begins: 
     }
 }
 
-/// What a way has done in all its turns.
+/// The counts of a way in all its turns.
 #[derive(Default)]
 struct Measured {
     waits: [Vec<Duration>; 2],

@@ -1,7 +1,7 @@
-//! A server that many tenants share. It answers lines over TCP on the loopback address: `NAME cheap` and `NAME costly` do
-//! some work for the tenant of this name, which may be new, and are answered `done`; `metrics` is answered by what the pool
-//! counts, for Prometheus; all else is `refused`. A client may send many lines at once; an answer comes when its work is
-//! done, with the line's number before it. What waits for a client that is gone is cancelled.
+//! A server that many tenants share. It answers lines over TCP on the loopback address: `NAME cheap` and `NAME costly`
+//! do some work for the tenant of this name, which may be new, and are answered `done`; `metrics` is answered by the
+//! counts of a fair pool for Prometheus; all else is `refused`. A client may send many lines at once; an answer comes
+//! when its work is done, with the line's number before it. A fair pool cancels the waiting requests of a lost client.
 //!
 //!     cargo run --release --example server -- 2dfq      # or wfq, wf2q, msf2q, 2dfq+; or fifo: one queue for all
 //!     cargo run --release --example server -- limited   # 2dfq+, and at most two costly requests of a tenant at once
@@ -26,7 +26,7 @@ const WORKERS: u32 = 16;
 /// How many tenants may have requests at once.
 const TENANTS: u32 = 64;
 
-/// What a request asks for, and how many steps of work that is, and how long each: it waits for a disk, say.
+/// The kinds of requests, each with its steps of work and the time of a step, such as a wait for a disk.
 const KINDS: [(&str, u32, Duration); 2] =
     [("cheap", 1, Duration::from_micros(200)), ("costly", 10, Duration::from_millis(5))];
 
@@ -52,7 +52,7 @@ impl Service {
         Some(Service::Fair(builder.open().expect("a pool of two kinds opens")))
     }
 
-    /// Hands the job in, if it is taken. Only one of a fair pool has a handle.
+    /// Hands the job in; none where it is refused. Only a job of a fair pool has a handle.
     fn submit(&self, tenant: &str, kind: usize, job: impl FnOnce() + Send + 'static) -> Option<Option<Handle<()>>> {
         match self {
             Service::Fair(pool) => pool.submit(tenant, KindId::new(kind as u32), job).ok().map(Some),
@@ -71,7 +71,7 @@ impl Service {
     }
 }
 
-/// Does the work of a kind, and tells the pool on the way what it has used.
+/// Does the work of a kind, and reports its use on the way.
 fn work(kind: usize) {
     let (_, steps, time) = KINDS[kind];
     for _ in 0..steps {
@@ -100,7 +100,7 @@ impl Client {
     }
 }
 
-/// Answers a line; the handle of what then waits, if it has one.
+/// Answers a line, or submits its request; the handle of that, if it has one.
 fn respond(service: &Service, client: &Arc<Client>, number: usize, line: &str) -> Option<Handle<()>> {
     if let Some(text) = service.metrics().filter(|_| line == "metrics") {
         client.answer(number, &text);

@@ -1,6 +1,6 @@
-//! What calls on a scheduler say, and what is answered.
+//! The requests, replies, entries and status of a scheduler.
 
-/// A request that comes.
+/// A request that is submitted.
 ///
 /// ```
 /// use twodfq::{Config, Scheduler, Submit};
@@ -14,11 +14,11 @@ pub struct Submit {
     pub kind: u32,
     /// The cost that its submitter names.
     pub declared: u64,
-    /// Any number, which comes back with [`Taken::Run`], and from [`Scheduler::withdraw`](crate::Scheduler::withdraw).
+    /// Any number, which [`Taken::Run`] and [`Scheduler::withdraw`](crate::Scheduler::withdraw) return.
     pub label: u64,
 }
 
-/// What a worker that asks for work is given.
+/// The reply to a take.
 ///
 /// ```
 /// use twodfq::{Config, Scheduler, Taken};
@@ -30,15 +30,15 @@ pub struct Submit {
 pub enum Taken {
     /// The worker runs this request from now on.
     Run { request: u32, estimate: u64, label: u64 },
-    /// Nothing waits; more may come.
+    /// No request waits; more may come.
     Idle,
-    /// Nothing waits, and nothing more will come.
+    /// No request waits, and no more will come.
     Drained,
-    /// There are only so many workers now; this one may ask again.
+    /// The worker is not in the pool, which has this number of workers now; it may take again later.
     Retired { workers: u32 },
 }
 
-/// What a worker would find that asked for work.
+/// A take as [`Scheduler::due`](crate::Scheduler::due) foresees it.
 ///
 /// ```
 /// use twodfq::{Config, Due, Scheduler};
@@ -48,17 +48,17 @@ pub enum Taken {
 /// ```
 #[derive(Clone, Copy, Debug, PartialEq, Eq)]
 pub enum Due {
-    /// Nothing waits, whether or not more may come.
+    /// No request waits, whether or not more may come.
     Nothing,
     /// Some tenant's head is eligible for the worker.
     Eligible,
-    /// Requests wait, and no head is eligible for the worker: it would get this one before its time, charged this estimate.
+    /// Requests wait, and no head is eligible for the worker: it would take this request early, charged this estimate.
     Early { request: u32, estimate: u64 },
-    /// There are only so many workers now.
+    /// The worker is not in the pool, which has this number of workers now.
     Retired { workers: u32 },
 }
 
-/// What an accepted call did.
+/// The act of an accepted call.
 ///
 /// ```
 /// use twodfq::{Config, Scheduler, Act};
@@ -79,7 +79,7 @@ pub enum Act {
     Withdraw { request: u32 },
 }
 
-/// An entry of the history: who made the call, when it took effect, and what it did.
+/// An entry of the history: the caller, the moment at which its call took effect, and the act.
 ///
 /// ```
 /// use twodfq::{Config, Scheduler, Act, Entry};
@@ -95,7 +95,7 @@ pub struct Entry {
     pub act: Act,
 }
 
-/// How a scheduler stands after its last entry.
+/// The status of a scheduler after its last entry.
 ///
 /// ```
 /// use twodfq::{Config, Scheduler, Standing};
@@ -109,7 +109,7 @@ pub struct Entry {
 pub struct Standing {
     /// How many entries the history has.
     pub entries: u64,
-    /// The moment of the last one, or 0.
+    /// The moment of the last entry, or 0.
     pub moment: u64,
     /// Virtual time at that moment, in steps, of which a unit has 1,048,576.
     pub virtual_time: u128,

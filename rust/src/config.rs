@@ -1,4 +1,4 @@
-//! What a scheduler is opened with.
+//! The configuration of a scheduler.
 
 /// Which waiting request a worker takes.
 ///
@@ -12,18 +12,18 @@
 pub enum Policy {
     /// The least finish tag.
     Wfq,
-    /// The least finish tag of those that have started in virtual time.
+    /// The least finish tag of the heads that have started in virtual time.
     Wf2q,
-    /// As `Wf2q`, with starts by the virtual time that passed while a tenant was idle.
+    /// As `Wf2q`, with starts by the virtual charge and the idle time of a tenant.
     Msf2q,
-    /// As `Wf2q`, with starts that differ from worker to worker.
+    /// As `Wf2q`, with eligible keys that differ from worker to worker.
     TwoDfq,
-    /// As `TwoDfq`, with a virtual time that stays near what was served.
+    /// As `TwoDfq`, with a virtual time that has a cap, and that takes may lift.
     #[default]
     TwoDfqPlus,
 }
 
-/// What a request is thought to cost before it is done.
+/// The estimator of a request's cost.
 ///
 /// ```
 /// use twodfq::{Config, Estimator};
@@ -33,7 +33,7 @@ pub enum Policy {
 /// ```
 #[derive(Clone, Copy, Debug, PartialEq, Eq)]
 pub enum Estimator {
-    /// What its submit names.
+    /// The declared cost.
     Declared,
     /// The mean of the last eight costs of its tenant and kind.
     Recent,
@@ -41,7 +41,7 @@ pub enum Estimator {
     Pessimistic,
 }
 
-/// What a scheduler is opened with.
+/// The configuration of a scheduler.
 ///
 /// ```
 /// use twodfq::Config;

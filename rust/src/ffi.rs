@@ -1,5 +1,5 @@
-//! What Rust can't judge: the library for C, as its header has it, and its numbers as Rust's types; the processor time of a
-//! thread; and jobs that borrow.
+//! The code that Rust can't judge: the library for C, as its header has it, and its numbers as Rust's types; the
+//! processor time of a thread; and jobs that borrow.
 use std::ffi::{c_int, c_long, c_void};
 use std::marker::PhantomData;
 use std::mem;
@@ -52,7 +52,7 @@ pub(crate) struct Line {
 
 #[repr(C)]
 pub(crate) struct Standing {
-    /// 0, since a scheduler is held.
+    /// 0, since the handle holds a scheduler.
     _kind: u32,
     waiting: u32,
     running: u32,
@@ -101,7 +101,7 @@ const THREAD_TIME: c_int = 3;
 /// The processor time that the calling thread has used, in nanoseconds.
 pub(crate) fn thread_time() -> u64 {
     let mut time = Time { seconds: 0, nanoseconds: 0 };
-    // It writes the struct and nothing else, and a thread may always ask for its own clock.
+    // The call writes the struct and nothing else, and a thread may always read its own clock.
     unsafe { clock_gettime(THREAD_TIME, &mut time) };
     time.seconds as u64 * 1_000_000_000 + time.nanoseconds as u64
 }
@@ -112,7 +112,7 @@ impl Reply {
         Refusal::of_reply(&self).map_or(Ok(self), Err)
     }
 
-    /// What an accepted take was answered.
+    /// The reply to an accepted take.
     pub(crate) fn taken(self) -> Taken {
         match self.kind {
             1 => Taken::Run { request: self.request, estimate: self.first, label: self.second },
@@ -123,7 +123,7 @@ impl Reply {
         }
     }
 
-    /// What a worker would find, where the question is not refused.
+    /// The reply to a `due` that is not refused.
     pub(crate) fn due(self) -> Due {
         match self.kind {
             5 => Due::Retired { workers: self.first as u32 },
@@ -136,7 +136,7 @@ impl Reply {
 }
 
 impl Line {
-    /// Of a line that is no entry, the least index of the entries that are kept.
+    /// The least index of the entries that are kept, in a line that is no entry.
     pub(crate) fn first_kept(&self) -> u64 {
         self.amount
     }
@@ -190,7 +190,7 @@ impl Lent {
     }
 }
 
-/// Makes jobs that borrow for `'scope` into jobs of which nothing says so.
+/// Turns jobs that borrow for `'scope` into jobs of type `'static`.
 pub(crate) struct Lender<'scope, 'env: 'scope> {
     lent: Arc<Lent>,
     /// As in `std::thread::Scope`: neither time may be taken for another.
@@ -201,7 +201,7 @@ pub(crate) struct Lender<'scope, 'env: 'scope> {
 impl<'scope> Lender<'scope, '_> {
     pub(crate) fn lend(&'scope self, job: Box<dyn Job + 'scope>) -> Box<dyn Job> {
         // `lending` makes every lender, and does not end, by return or by panic, before each job that was lent has been
-        // dropped, and with it all that it borrows: it is gone before its guard counts it down. `'scope` outlives `lending`.
+        // dropped, with its borrows: the job is gone before its guard counts it down. `'scope` outlives `lending`.
         let job = unsafe { mem::transmute::<Box<dyn Job + 'scope>, Box<dyn Job + 'static>>(job) };
         self.lent.change(|count| *count += 1);
         Box::new(LentJob { job: Some(job), guard: Guard(self.lent.clone()) })
@@ -240,7 +240,7 @@ impl Job for LentJob {
     }
 }
 
-/// Calls the body with a lender, and waits until all that it lent is back.
+/// Calls the body with a lender, and waits until all lent jobs are gone.
 pub(crate) fn lending<'env, R>(body: impl for<'scope> FnOnce(&'scope Lender<'scope, 'env>) -> R) -> R {
     let lender = Lender { lent: Arc::default(), scope: PhantomData, env: PhantomData };
     let reply = panic::catch_unwind(AssertUnwindSafe(|| body(&lender)));

@@ -1,15 +1,15 @@
-//! A request scheduler that shares workers fairly among tenants (Two-Dimensional Fair Queuing, Mace and others, 2016), for
-//! Rust: safe calls over the library for C (`c/twodfq.h`), whose contracts are proved. What is here is not proved.
+//! A request scheduler that shares workers fairly among tenants (Two-Dimensional Fair Queuing, Mace and others, 2016),
+//! for Rust: safe calls over the library for C (`c/twodfq.h`), whose contracts are proved. This crate is not proved.
 //!
 //! A service that wants a thread pool takes a [`Pool`], and an asynchronous one takes [`Permits`]. Neither makes the
 //! scheduler's calls itself.
 //!
-//! A [`Scheduler`] goes from thread to thread and is not shared: threads keep it in a `Mutex`, and those with nothing to do
-//! wait at a `Condvar`.
+//! A [`Scheduler`] goes from thread to thread and is not shared: threads keep it in a `Mutex`, and workers with nothing
+//! to do wait at a `Condvar`.
 //!
-//! Moments and costs are in microseconds. A moment is the caller's clock: a call takes effect at its moment, but not before
-//! the last accepted one. `who` is a number that the caller gives itself, which is written down and not looked at. Tenants,
-//! kinds, workers and requests are numbered from 0.
+//! Moments and costs are in microseconds. Moments are by the caller's clock: a call takes effect at its moment, but not
+//! before that of the last entry. `who` is a number that the caller gives itself; the entry has it, and no reply
+//! depends on it. Tenants, kinds, workers and requests are numbered from 0.
 //!
 //! ```
 //! use twodfq::{Config, Estimator, Policy, Scheduler, Submit, Taken};

@@ -32,7 +32,7 @@ pub enum Refusal {
     Worker(u32),
     /// The worker runs this request already.
     Busy(u32),
-    /// The worker runs nothing.
+    /// The worker runs no request.
     NotRunning,
     /// The use or cost `given` is less than `last`, the greatest use reported so far.
     Falling { last: u64, given: u64 },
@@ -45,7 +45,7 @@ pub enum Refusal {
 }
 
 impl Refusal {
-    /// The refusal that the reply is, if it is one.
+    /// The reply as a refusal, if it is one.
     pub(crate) fn of_reply(reply: &Reply) -> Option<Refusal> {
         let Reply { kind, request, first, second } = *reply;
         Some(match kind {
@@ -92,7 +92,7 @@ impl fmt::Display for Refusal {
 
 impl Error for Refusal {}
 
-/// Why no scheduler is opened: memory was wanting, or which number is the first that is out of its limits.
+/// Why no scheduler is opened: the first number that is out of its limits, or the lack of memory.
 ///
 /// ```
 /// use twodfq::{Config, Scheduler, OpenFault};
@@ -115,7 +115,7 @@ pub enum OpenFault {
 }
 
 impl OpenFault {
-    /// The fault that the status is, if it is one.
+    /// The status as a fault, if it is one.
     pub(crate) fn of_status(status: u32) -> Option<OpenFault> {
         Some(match status {
             0 => return None,

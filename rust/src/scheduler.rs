@@ -49,7 +49,7 @@ impl Scheduler {
         OpenFault::of_status(status).map_or(Ok(scheduler), Err)
     }
 
-    /// A request comes; it gets the next number.
+    /// A request is submitted; it gets the next number.
     ///
     /// ```
     /// use twodfq::{Config, Scheduler, Refusal, Submit};
@@ -78,7 +78,7 @@ impl Scheduler {
         Ok(unsafe { ffi::twodfq_take(&mut self.handle, who, moment, worker) }.accepted()?.taken())
     }
 
-    /// What the worker's request has used so far; it runs on.
+    /// The use of the worker's request so far; it runs on.
     ///
     /// ```
     /// use twodfq::{Config, Scheduler, Refusal};
@@ -90,7 +90,7 @@ impl Scheduler {
         unsafe { ffi::twodfq_report(&mut self.handle, who, moment, worker, used) }.accepted().map(drop)
     }
 
-    /// The worker's request has ended, and this is its measured cost.
+    /// The worker's request has ended, at this measured cost.
     ///
     /// ```
     /// use twodfq::{Config, Scheduler, Submit};
@@ -104,7 +104,7 @@ impl Scheduler {
         unsafe { ffi::twodfq_done(&mut self.handle, who, moment, worker, cost) }.accepted().map(drop)
     }
 
-    /// Nothing more is submitted; workers that wait have to be woken to learn it.
+    /// Refuses further requests. The caller has to wake the workers that wait.
     ///
     /// ```
     /// use twodfq::{Config, Scheduler, Refusal, Taken};
@@ -131,7 +131,7 @@ impl Scheduler {
         unsafe { ffi::twodfq_weight(&mut self.handle, who, moment, tenant, weight) }.accepted().map(drop)
     }
 
-    /// There are so many workers from now on, those with lower numbers; 1 to as many as at the opening.
+    /// The number of workers from now on, 1 to that of the opening; the workers with the least numbers stay.
     ///
     /// ```
     /// use twodfq::{Config, Scheduler, Taken};
@@ -144,8 +144,8 @@ impl Scheduler {
         unsafe { ffi::twodfq_workers(&mut self.handle, who, moment, count) }.accepted().map(drop)
     }
 
-    /// A request that waits is withdrawn: it is never taken, and costs nothing. Its label comes back. It may come after a
-    /// close, too.
+    /// A request that waits is withdrawn: it is never taken, and costs nothing. Returns its label. A withdraw may come
+    /// after a close, too.
     ///
     /// ```
     /// use twodfq::{Config, Refusal, Scheduler, Submit, Taken};
@@ -160,7 +160,7 @@ impl Scheduler {
         Ok(unsafe { ffi::twodfq_withdraw(&mut self.handle, who, moment, request) }.accepted()?.second)
     }
 
-    /// What a worker would find that asked for work at this moment. It changes nothing, and calls after it may be at earlier
+    /// Foresees a take by the worker at this moment. The call changes nothing, and calls after it may be at earlier
     /// moments. Refused as a take would be.
     ///
     /// ```
@@ -214,7 +214,7 @@ impl Scheduler {
         unsafe { ffi::twodfq_entry(&mut self.handle, u64::MAX) }.first_kept() // no history has this entry
     }
 
-    /// How the scheduler stands after its last entry, whatever the length of its history.
+    /// The status after the last entry, whatever the length of the history.
     ///
     /// ```
     /// use twodfq::{Config, Scheduler, Submit};
@@ -241,8 +241,8 @@ impl Scheduler {
         (self.first_kept()..).map_while(|index| self.entry(index))
     }
 
-    /// The entries from this index on, in order of time. Where the entry with this index is kept no longer, the least index
-    /// of those that are.
+    /// The entries from this index on, in order of time. Where the entry with this index is kept no longer, the least
+    /// index that is kept.
     ///
     /// ```
     /// use twodfq::{Config, Scheduler};

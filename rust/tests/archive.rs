@@ -1,4 +1,4 @@
-//! Where the archive is wanting.
+//! A build without the archive.
 use std::env;
 use std::fs;
 use std::path::Path;

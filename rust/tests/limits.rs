@@ -1,4 +1,4 @@
-//! Limits on what runs: of each tenant, and of a kind of each tenant.
+//! Limits on the running requests: of each tenant, and of a kind of each tenant.
 use std::collections::HashMap;
 use std::sync::atomic::{AtomicU32, Ordering};
 use std::sync::{mpsc, Arc, Mutex};
@@ -177,7 +177,7 @@ fn a_closed_pool_runs_what_is_held_back() {
     }
 }
 
-/// Never does a journal have more of a tenant, or of a tenant's scans, that were submitted and have not ended.
+/// The open requests of a tenant, and of a tenant's scans, never exceed these limits in the journal.
 fn obeys(journal: &str, tenant_limit: i32, scan_limit: i32) {
     let (mut open, mut owners) = (HashMap::new(), HashMap::new());
     let numbers = |line: &str| line.split(' ').skip(1).map(|word| word.parse().unwrap()).collect::<Vec<u64>>();

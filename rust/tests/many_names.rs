@@ -1,4 +1,4 @@
-//! A million names in flat memory. The test measures its process, so it is the only one here.
+//! A million names in flat memory. The test measures its process, so it has its own file.
 use std::fs;
 
 use twodfq::{KindId, Permits};

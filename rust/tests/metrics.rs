@@ -1,4 +1,4 @@
-//! What is counted and told: refusals by cause, histograms, the text for Prometheus, and the hook.
+//! Counts and events: refusals by cause, histograms, the text for Prometheus, and the hook.
 use std::sync::{Arc, Mutex};
 use std::thread;
 use std::time::{Duration, Instant};
@@ -96,11 +96,11 @@ fn names_are_escaped_and_totals_stay() {
     let text = permits.status().prometheus();
     let wanted = ["twodfq_jobs_done_total{tenant=\"next\"} 1", "twodfq_jobs_done_total{tenant=\"\"} 1"];
     assert_eq!(lines(&text, "twodfq_jobs_done_total"), wanted);
-    assert_eq!(lines(&text, "twodfq_weight{"), ["twodfq_weight{tenant=\"next\"} 1"]); // nobody left has one
+    assert_eq!(lines(&text, "twodfq_weight{"), ["twodfq_weight{tenant=\"next\"} 1"]); // no tenant that has left has one
     assert_eq!(lines(&text, "twodfq_jobs_run_seconds_count").len(), 2);
 }
 
-/// What was told, in its order.
+/// The events, in the order of the hook's calls.
 #[derive(Clone, Default)]
 struct Told(Arc<Mutex<Vec<String>>>);
 

@@ -1,4 +1,4 @@
-//! Permits: who gets them and when, and that none is lost.
+//! Permits: which request gets one, and when, and that none is lost.
 use std::future::Future;
 use std::hint;
 use std::panic;
@@ -15,7 +15,7 @@ mod executor;
 
 use executor::block_on;
 
-/// How long a call may take that ends at once where its processor is its own.
+/// The time limit of a call that ends at once on a processor of its own.
 const LIMIT: Duration = Duration::from_secs(20);
 
 fn builder() -> Builder {
@@ -43,7 +43,7 @@ fn waiting(permits: &Permits, tenant: &str) -> (Acquire, Arc<Counts>) {
     (acquire, counts)
 }
 
-/// Takes as many permits, each of which comes soon, and no more are free.
+/// Takes this number of permits, each of which comes soon; then none is free.
 fn take_all(permits: &Permits, count: u32) {
     let take = |i| permits.acquire_timeout(TenantId::new(i % 3), KindId::FIRST, LIMIT).unwrap();
     let held: Vec<Permit> = (0..count).map(take).collect();
@@ -121,7 +121,7 @@ fn a_deadline_passes_for_futures_and_threads() {
     assert_eq!(block_on(permits.acquire_by("globex", KindId::FIRST, past)).unwrap_err(), Cause::Late);
     let status = permits.status();
     let globex = &status.tenants[1];
-    // one that loses its processor for so long is refused at once
+    // a request whose thread loses its processor until the deadline is refused at once
     assert_eq!((status.waiting, globex.late + globex.refused, globex.late), (0, 4, globex.submitted));
     assert!(globex.refused >= 1);
 }
@@ -156,7 +156,7 @@ fn the_number_of_permits_changes_at_any_time() {
     permits.workers(2).unwrap();
     let (mut late, counts) = waiting(&permits, "hooli");
     drop(given);
-    assert!(matches!(poll(&mut late, &counts), Poll::Ready(Ok(_)))); // of the two, one is free
+    assert!(matches!(poll(&mut late, &counts), Poll::Ready(Ok(_)))); // one of two permits is free
     drop((held, late));
     take_all(&permits, 2);
 }
@@ -204,7 +204,7 @@ fn a_permit_that_is_held_reports_before_the_next_is_given() {
     let (long, told) = (permits.try_acquire("acme", KindId::FIRST), permits.try_acquire("globex", KindId::FIRST));
     told.as_ref().unwrap().used(1);
     thread::sleep(Duration::from_millis(3));
-    assert_eq!((reports(0), reports(1)), (0, 1)); // nothing was to be chosen
+    assert_eq!((reports(0), reports(1)), (0, 1)); // no request waited
     drop(permits.try_acquire("hooli", KindId::FIRST));
     drop(permits.try_acquire("hooli", KindId::FIRST));
     assert_eq!((reports(0), reports(1)), (1, 1));

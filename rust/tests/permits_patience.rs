@@ -1,4 +1,4 @@
-//! Patience of permits: one that is free is kept a little for a cheap request, and for no longer than that.
+//! Patience of permits: a free permit is kept a little for a cheap request, and no longer.
 use std::task::Poll;
 use std::time::{Duration, Instant};
 
@@ -16,8 +16,8 @@ fn builder() -> Builder {
     builder.estimator(Estimator::Declared)
 }
 
-/// Permits of which all but so many are held. One is held by acme for what is thought to cost a thousand seconds, so that
-/// no further request of acme's is due for long; the other held ones are globex's.
+/// Permits of which some are held. Acme holds one, for a request with an estimate of a thousand seconds, so that no
+/// further request of acme's is due for long; globex holds the others.
 struct Scene {
     held: Vec<Permit>,
     permits: Permits,
@@ -101,7 +101,7 @@ fn the_end_of_a_request_ends_the_wait_where_it_cost_little() {
     drop(scene.ask("hooli", 1).wait());
     let mut costly = scene.ask("acme", seconds(15));
     assert!(poll(&mut costly).is_pending());
-    scene.held.remove(0).finish(1); // acme's, which was thought costly
+    scene.held.remove(0).finish(1); // acme's, whose estimate was high
     assert!(matches!(poll(&mut costly), Poll::Ready(Ok(_))));
 }
 

@@ -12,14 +12,14 @@ mod journals;
 use executor::{block_on, poll};
 use journals::{judge, Text};
 
-/// How long a call may take that ends at once where its processor is its own.
+/// The time limit of a call that ends at once on a processor of its own.
 const LIMIT: Duration = Duration::from_secs(20);
 
 fn builder() -> Builder {
     Permits::builder().workers(4).tenant("acme", 1).tenant("globex", 2).tenant("hooli", 3).kind("get").kind("scan")
 }
 
-/// Takes as many permits, each of which comes soon, and no more are free.
+/// Takes this number of permits, each of which comes soon; then none is free.
 fn take_all(permits: &Permits, count: u32) {
     let take = |i| permits.acquire_timeout(TenantId::new(i % 3), KindId::FIRST, LIMIT).unwrap();
     let held: Vec<Permit> = (0..count).map(take).collect();
@@ -48,7 +48,7 @@ impl Crowd<'_> {
         }
     }
 
-    /// One request, in one of the ways in which one asks.
+    /// One request, in one of the ways to ask.
     fn ask(&self, i: u32) {
         let (tenant, kind) = (TenantId::new(i % 3), KindId::new(i % 2));
         let reply = match i % 6 {

@@ -42,7 +42,7 @@ impl Flood {
         flood
     }
 
-    /// Fills up what waits, and notes who has a permit now. How many each tenant was given.
+    /// Fills up the waiting requests, and notes the permits that are granted. How many each tenant was given.
     fn turn(&mut self) -> Vec<usize> {
         let mut given = Vec::new();
         for (tenant, cost, waits) in &mut self.waits {
@@ -119,7 +119,7 @@ fn mean_workers(policy: Policy) -> [f64; 2] {
     let journal = permits.journal(text.clone()).unwrap();
     let mut flood = Flood::open(permits, &[("cheap", 10_000), ("costly", 1_000_000)]);
     for round in 0..4000 {
-        // cheap ones end a hundred times as often
+        // cheap requests end a hundred times as often
         let wanted = if round % 101 == 0 { "costly" } else { "cheap" };
         let place = flood.held.iter().position(|(tenant, ..)| *tenant == wanted).unwrap_or(0);
         flood.end(place);

@@ -157,13 +157,13 @@ fn a_job_is_dropped_once_it_has_run() {
     let counted = Counted(drops.clone());
     pool.submit("acme", KindId::FIRST, move || drop(counted)).unwrap();
     let counted = Counted(drops.clone());
-    drop(pool.submit("acme", KindId::FIRST, move || counted).unwrap()); // its result is nobody's
+    drop(pool.submit("acme", KindId::FIRST, move || counted).unwrap()); // no handle gets its result
     assert_eq!(pool.submit("globex", KindId::FIRST, || 42).unwrap().join().unwrap(), 42);
     pool.join();
     assert_eq!(drops.load(Ordering::SeqCst), 2);
 }
 
-/// What panics whenever it is dropped.
+/// A value that panics whenever it is dropped.
 struct PanicsWhenDropped;
 
 impl Drop for PanicsWhenDropped {

@@ -1,4 +1,4 @@
-//! What jobs are charged, as one sees it who comes back after a flood of them: a visitor is served soon, however short the
+//! The charges of jobs, as a visitor sees them that comes in the midst of a flood: it is served soon, however short the
 //! jobs of the flood are, and however little of their time is measured.
 use std::hint;
 use std::sync::atomic::{AtomicBool, AtomicUsize, Ordering};
@@ -46,7 +46,7 @@ impl Progress {
 }
 
 impl Flood {
-    /// Hands the jobs in while all workers are held, and lets go.
+    /// Hands the jobs in while all workers are held, and then frees the workers.
     fn begin(&self, pool: &Pool) -> Arc<Progress> {
         let barrier = Arc::new(Barrier::new(WORKERS as usize + 1));
         for _ in 0..WORKERS {
@@ -68,8 +68,8 @@ impl Flood {
         progress
     }
 
-    /// How many jobs of the flood are run while ten requests of a visitor wait, who comes once half of them are, and who sends
-    /// the next request when one is done.
+    /// How many jobs of the flood are run while ten requests of a visitor wait. The visitor comes once half of the jobs
+    /// are run, and sends the next request when the last is done.
     fn waits(&self, patience: f64) -> usize {
         static TURN: Mutex<()> = Mutex::new(()); // one flood at a time
         let _turn = TURN.lock().unwrap_or_else(PoisonError::into_inner);
@@ -96,8 +96,8 @@ impl Flood {
         waits
     }
 
-    /// Whether under each patience a visitor waits for fewer jobs than these in one of some attempts: where a worker loses its
-    /// processor in the midst of a job, the others may run many before that is charged.
+    /// Whether under each patience a visitor waits for fewer jobs than these in one of some attempts: where a worker
+    /// loses its processor in the midst of a job, the others may run many jobs before this one is charged.
     fn lets_a_visitor_in(&self, jobs: usize) -> bool {
         [0.0, 0.02, 1.0].into_iter().all(|patience| (0..5).any(|_| self.waits(patience) < jobs))
     }

@@ -11,14 +11,14 @@ use std::time::Duration;
 
 use twodfq::{Builder, Handle, KindId, Pool};
 
-/// How long a call may take that ends at once where its processor is its own.
+/// The time limit of a call that ends at once on a processor of its own.
 const LIMIT: Duration = Duration::from_secs(60);
 
 fn builder() -> Builder {
     Pool::builder().workers(2).tenant("acme", 1)
 }
 
-/// What the call gives on a thread of its own, or whether it panics there. A call that never ends fails.
+/// The result of the call on a thread of its own, or its panic. A call that never ends fails.
 fn ends<T: Send + 'static>(call: impl FnOnce() -> T + Send + 'static) -> thread::Result<T> {
     let (sender, receiver) = mpsc::channel();
     thread::spawn(move || _ = sender.send(panic::catch_unwind(AssertUnwindSafe(call))));
@@ -103,7 +103,7 @@ fn a_dropped_handle_lets_its_waker_go() {
     assert_eq!(waker.0.load(Ordering::SeqCst), 0);
 }
 
-/// What panics whenever it is dropped.
+/// A value that panics whenever it is dropped.
 struct PanicsWhenDropped;
 
 impl Drop for PanicsWhenDropped {

@@ -1,4 +1,4 @@
-//! An idle pool sleeps, and so does the timekeeper of permits. The test measures its process, so it is the only one here.
+//! An idle pool sleeps, and so does the timekeeper of permits. The test measures its process, so it has its own file.
 use std::fs;
 use std::thread;
 use std::time::{Duration, Instant};

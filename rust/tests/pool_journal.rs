@@ -21,7 +21,7 @@ fn lines(journal: &str, word: &str) -> Vec<Vec<u64>> {
     rows.map(|row| row.split(' ').map(|number| number.parse().unwrap()).collect()).collect()
 }
 
-/// What the jobs of a pool that rolls over leave in its journals under a policy, an estimator and a patience.
+/// The journals of a pool that rolls over, under a policy, an estimator and a patience.
 fn each_job_in_a_journal(policy: Policy, estimator: Estimator, patience: f64) {
     let text = Text::default();
     let builder = builder().policy(policy).estimator(estimator).patience(patience);

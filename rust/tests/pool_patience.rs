@@ -1,4 +1,4 @@
-//! Patience: who waits, for whom, how long, and what wakes it.
+//! Patience: which workers wait, for which jobs, for how long, and which events wake them.
 use std::sync::mpsc::{self, Sender};
 use std::sync::{Arc, Barrier, Mutex};
 use std::thread;
@@ -18,11 +18,11 @@ fn builder() -> Builder {
     builder.estimator(Estimator::Declared)
 }
 
-/// A pool some of whose workers are held. One runs a job of acme's that is thought to cost a thousand seconds, so that
-/// no further one of acme's is due for long; the other held ones run jobs of globex's.
+/// A pool some of whose workers are held. One runs a job of acme's with an estimate of a thousand seconds, so that no
+/// further job of acme's is due for long; the other held workers run jobs of globex's.
 struct Scene {
-    /// Dropped, they let the held workers go, that of acme's first. They are dropped before the pool, which waits for
-    /// these.
+    /// Dropped, they free the held workers, that of acme's job first. They are dropped before the pool, which waits for
+    /// these workers.
     holds: Vec<Sender<()>>,
     pool: Pool,
 }
@@ -57,7 +57,7 @@ impl Scene {
         self.pool.submit_with(HOOLI, KindId::FIRST, declared(1), Instant::now).unwrap()
     }
 
-    /// Has each of so many free workers run something, so that all have just become free.
+    /// Has each of these free workers run a job, so that all have just become free.
     fn refresh(&self, free: u32) {
         let barrier = Arc::new(Barrier::new(free as usize));
         let meet = |_| {
@@ -68,7 +68,7 @@ impl Scene {
         handles.into_iter().for_each(|handle| handle.join().unwrap());
     }
 
-    /// Waits until workers have begun to wait so often.
+    /// Waits until workers have begun this number of waits.
     fn until_waits(&self, count: u64) {
         let begun = Instant::now();
         while self.pool.status().waits < count {
@@ -159,7 +159,7 @@ fn all_waits_together_have_a_bound() {
     }
     let status = scene.pool.status();
     assert!(status.waits > 1, "{status:?}");
-    // a tenth of a second for each worker, and what the last sleep took too long
+    // a tenth of a second for each worker, and the excess of the last sleep
     assert!(status.waited < 2_000_000, "{status:?}");
 }
 
@@ -170,7 +170,7 @@ fn one_tenant_alone_never_waits() {
         (0..200).map(|_| pool.submit_with(ACME, KindId::FIRST, declared(seconds(1)), || ()).unwrap()).collect();
     handles.into_iter().for_each(|handle| handle.join().unwrap());
     assert_eq!((pool.status().early, pool.status().waits), (0, 0));
-    // another tenant's job that has ended keeps nobody waiting
+    // another tenant's job that has ended keeps no worker waiting
     pool.submit(GLOBEX, KindId::FIRST, || ()).unwrap().join().unwrap();
     while pool.status().running > 0 {
         thread::yield_now();
@@ -221,7 +221,7 @@ fn a_cheap_job_finds_one_of_many_that_wait() {
 
 #[test]
 fn a_wake_up_goes_on_where_its_worker_waits() {
-    // weighed so, virtual time is slow, and a job of 860 seconds that starts at 800 is due for the last worker alone
+    // by these weights virtual time is slow: a job of 860 seconds that starts at 800 is due for the last worker alone
     let builder = Pool::builder().tenant("acme", 1).tenant("globex", 1000).tenant("hooli", 1);
     let mut scene = Scene::open(builder.estimator(Estimator::Declared).patience(1.0).policy(Policy::TwoDfq), 16, 14);
     scene.holds.clear();
@@ -254,12 +254,12 @@ fn the_end_of_a_job_is_news() {
     (0..16).for_each(|_| scene.hold(GLOBEX, 1));
     scene.pool.workers(17).unwrap();
     scene.hold(ACME, GREATEST);
-    scene.pool.workers(16).unwrap(); // who runs acme's job takes nothing after it
+    scene.pool.workers(16).unwrap(); // the worker of acme's job takes nothing after it
     drop(scene.holds.remove(0));
     let costly = scene.costly(seconds(15));
     scene.until_waits(1);
     let begun = Instant::now();
-    drop(scene.holds.pop()); // acme's job has cost much less than was thought, so that the next is due
+    drop(scene.holds.pop()); // acme's job has cost much less than its estimate, so that the next is due
     costly.join().unwrap();
     assert!(begun.elapsed() < Duration::from_secs(7), "{:?}", begun.elapsed());
 }

@@ -1,4 +1,4 @@
-//! Room for each tenant: who floods the pool takes no place that is another's own, and not all that are shared.
+//! Room for each tenant: a flood takes no place of another tenant's own, and not all shared places.
 use std::sync::atomic::{AtomicBool, AtomicU64, Ordering};
 use std::sync::mpsc;
 use std::thread;
@@ -16,7 +16,7 @@ fn builder() -> Builder {
     NAMES.iter().fold(Pool::builder(), |builder, name| builder.tenant(name, 1)).workers(1)
 }
 
-/// Hands in jobs until one is refused: how many are taken, and why the next is not.
+/// Hands in jobs until one is refused: how many are accepted, and the cause of the refusal.
 fn fill(pool: &Pool, tenant: &str) -> (u32, Cause) {
     let mut taken = 0;
     loop {
@@ -27,7 +27,7 @@ fn fill(pool: &Pool, tenant: &str) -> (u32, Cause) {
     }
 }
 
-/// How many places a tenant gets beyond those of its own, where so many of the shared ones are free.
+/// How many shared places a tenant gets where this number of them are free.
 fn part(free: u32) -> u32 {
     (0..=free).find(|part| part + part >= free).unwrap()
 }

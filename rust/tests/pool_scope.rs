@@ -85,7 +85,7 @@ fn what_a_job_borrows_is_dropped_before_the_scope_ends() {
     pool.scope(|scope| {
         for _ in 0..20 {
             let (inside, result) = (Marks(&dropped), Marks(&dropped));
-            let job = move || (drop(inside), result); // the result is nobody's
+            let job = move || (drop(inside), result); // no handle gets the result
             scope.submit("acme", KindId::FIRST, job).unwrap();
         }
     });

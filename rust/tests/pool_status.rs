@@ -1,4 +1,4 @@
-//! What a status costs those who call the pool meanwhile, and what a look for a name costs, with as many tenants as may be.
+//! The cost of a status to other callers of the pool, and of a look for a name, with the most tenants there may be.
 use std::alloc::{GlobalAlloc, Layout, System};
 use std::cell::Cell;
 use std::fs;
@@ -10,7 +10,7 @@ use twodfq::{KindId, Pool, TenantId};
 
 const TENANTS: u32 = 4096;
 
-/// How long another call may take that nobody holds up.
+/// The time limit of another call that nothing holds up.
 const LIMIT: Duration = Duration::from_secs(20);
 
 static ASKED: AtomicUsize = AtomicUsize::new(0);

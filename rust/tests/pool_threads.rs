@@ -13,7 +13,7 @@ fn builder() -> Builder {
 /// None, the usual one, and the greatest.
 const PATIENCE: [f64; 3] = [0.0, 0.02, 1.0];
 
-/// How often each of so many jobs was run.
+/// How often each job was run.
 #[derive(Clone)]
 struct Runs(Arc<Vec<AtomicU8>>);
 
@@ -136,7 +136,7 @@ fn a_long_job_of_an_old_scheduler_runs_on() {
     assert_eq!(long.join(), Ok(true));
 }
 
-/// Jobs that go on only where so many run at once.
+/// Jobs that go on only where `meeting` of them run at once.
 fn hand_in_jobs_that_meet(pool: &Pool, meeting: usize, jobs: usize) -> Vec<Handle<()>> {
     let barrier = Arc::new(Barrier::new(meeting));
     let meet = |i: usize| {

@@ -1,4 +1,4 @@
-//! Jobs that are cancelled or come too late: they never run, their places are free at once, and who waits learns it.
+//! Jobs that are cancelled or come too late: they never run, their places are free at once, and their waiters learn it.
 use std::sync::atomic::{AtomicU32, AtomicU8, Ordering};
 use std::sync::mpsc;
 use std::sync::Arc;
@@ -24,7 +24,7 @@ fn within(time: Duration) -> Terms {
     Terms::default().deadline(Instant::now() + time)
 }
 
-/// What counts its drops.
+/// A value that counts its drops.
 struct Counted(Arc<AtomicU32>);
 
 impl Drop for Counted {

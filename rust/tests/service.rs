@@ -78,7 +78,7 @@ fn each_call_once() {
     assert_eq!(scheduler.entry(7), None);
 }
 
-/// A worker's life: it waits while nothing waits for it, and gives back the labels of what it ran.
+/// A worker's life: it sleeps while no request waits, and returns the labels of its requests.
 fn work(worker: u32, scheduler: &Mutex<Scheduler>, news: &Condvar) -> Vec<u64> {
     let mut ran = Vec::new();
     let mut held = scheduler.lock().unwrap();

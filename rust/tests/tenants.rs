@@ -56,7 +56,7 @@ fn who_has_a_request_keeps_its_slot() {
     let mut held = permits.acquire("runs", KIND);
     assert!(poll(&mut waits).is_pending() && poll(&mut held).is_pending());
     assert_eq!(permits.try_acquire("third", KIND).unwrap_err(), Cause::NoneFree);
-    assert_eq!(names(&permits.status()), ["runs", "waits"]); // who is refused takes no slot
+    assert_eq!(names(&permits.status()), ["runs", "waits"]); // a refused tenant takes no slot
     let mut last = permits.acquire("fourth", KIND);
     assert!(poll(&mut last).is_pending());
     assert_eq!(permits.acquire_blocking("fifth", KIND).unwrap_err(), Cause::NoSlot);

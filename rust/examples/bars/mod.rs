@@ -1,4 +1,4 @@
-//! A picture in SVG: a bar for each time, from its median to its 99th percentile, on an axis of milliseconds by powers of ten.
+//! A picture in SVG: a bar for each time, from median to 99th percentile, on a logarithmic axis of milliseconds.
 use std::fmt::Write;
 
 /// A bar: its group, its name, and two times in milliseconds.

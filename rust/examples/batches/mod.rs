@@ -13,7 +13,7 @@ const TENANTS: u32 = 16;
 /// A way to hand in a job with a number.
 pub type Submit<'a> = &'a dyn Fn(u32, Box<dyn FnOnce() + Send>);
 
-/// What a pool of sixteen tenants is opened with.
+/// The builder of a pool of sixteen tenants.
 pub fn builder(workers: u32) -> Builder {
     (0..TENANTS).fold(Pool::builder(), |builder, i| builder.tenant(&format!("t{i}"), 1)).workers(workers)
 }

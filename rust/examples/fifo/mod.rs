@@ -1,4 +1,4 @@
-//! A plain pool of threads over one queue, to compare with: who comes first is served first.
+//! A plain pool of threads over one queue, to compare with: the first job in the queue is run first.
 use std::collections::VecDeque;
 use std::sync::{Arc, Condvar, Mutex};
 use std::thread::{self, JoinHandle};

@@ -11,7 +11,7 @@ use crate::service::ids::{KindId, Tenant, TenantId, Terms};
 use crate::service::requests::Ticket;
 use crate::service::withdraw::Withdrawn;
 
-/// Whose the request is.
+/// The tenant of the request.
 enum Owner {
     Id(TenantId),
     Name(Box<str>),
@@ -32,8 +32,8 @@ enum Stage {
     Over,
 }
 
-/// A request for a permit, for any runtime. The first poll hands it in. Dropping it withdraws the request: its place is free
-/// at once, and a permit granted meanwhile goes back at once.
+/// A request for a permit, for any runtime. The first poll hands it in. Dropping it withdraws the request: its place is
+/// free at once, and a permit granted meanwhile goes back at once.
 ///
 /// ```
 /// use twodfq::{Acquire, KindId, Permits};

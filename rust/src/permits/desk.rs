@@ -1,9 +1,9 @@
-//! Grants of permits, and the charges of those that are held.
+//! Grants of permits, and the charges of held permits.
 //!
 //! Each call ends by granting free permits to waiting requests. A grant goes to the lowest free number for which some
-//! request is eligible. Where none is eligible for the highest free number, that permit waits for its patience, and is then
-//! granted before the request's time. Costly requests are eligible for high numbers first, so they leave the low ones to
-//! cheap requests.
+//! request is eligible. Where none is eligible for the highest free number, that permit waits for its patience, and is
+//! then granted before the request's time. Costly requests are eligible for high numbers first, so they leave the low
+//! ones to cheap requests.
 use std::mem;
 use std::sync::Arc;
 
@@ -72,7 +72,7 @@ impl Payload for Seat {
     type Effects = Vec<(Seat, u32)>;
 
     fn serve(state: &mut State<Self>, moment: u64) -> Vec<(Seat, u32)> {
-        state.fresh = 0; // nobody sleeps
+        state.fresh = 0; // no worker sleeps
         state.grant_all(moment);
         mem::take(&mut state.workers.granted)
     }
@@ -95,7 +95,7 @@ impl Payload for Seat {
 }
 
 impl State<Seat> {
-    /// Takes a request only where it gets a permit at once.
+    /// Admits a request only where it gets a permit at once.
     pub(crate) fn admit_at_once(
         &mut self,
         moment: u64,
@@ -130,7 +130,7 @@ impl State<Seat> {
         self.expire();
         self.report_held(moment);
         while let Some(worker) = self.next_worker(moment, free) {
-            // an old scheduler without room may not know this worker, and know the next
+            // an old scheduler that had no room for a change of workers may lack this worker, and have the next
             free &= !(1 << worker);
             if let Some(run) = self.take(Reading::wall(moment), worker) {
                 self.grant(run, worker);

@@ -23,16 +23,16 @@ use crate::service::shared::Shared;
 use crate::service::status::Status;
 use crate::service::withdraw::Withdrawn;
 
-/// Permits to run, shared fairly among tenants: a request asks for a permit, waits for its tenant's turn, runs where its
-/// caller runs it, and gives the permit back. They take the place of a semaphore in an asynchronous service. A
-/// [`Scheduler`](crate::Scheduler) decides whose turn it is, as in a [`Pool`](crate::Pool), and like a pool they have no
-/// end.
+/// Permits to run, shared fairly among tenants: a request asks for a permit, waits for its tenant's turn, runs where
+/// its caller runs it, and gives the permit back. They take the place of a semaphore in an asynchronous service. A
+/// [`Scheduler`](crate::Scheduler) decides whose turn it is, as in a [`Pool`](crate::Pool), and like a pool they have
+/// no end.
 ///
 /// Any runtime serves. The only thread is a timekeeper, for deadlines and for the patience (see [`Builder::patience`]).
 /// Clones share the permits, and dropping the last clone closes them.
 ///
-/// Permits are numbered. Cheap requests stay on low numbers and costly requests on high ones, so that a tenant with costly
-/// requests does not take all permits at once.
+/// Permits are numbered. Cheap requests stay on low numbers and costly requests on high ones, so that a tenant with
+/// costly requests does not take all permits at once.
 ///
 /// ```
 /// use twodfq::{Cause, KindId, Permits};
@@ -158,13 +158,13 @@ impl Permits {
         kind: KindId,
         time: Duration,
     ) -> Result<Permit, Cause> {
-        let deadline = Instant::now().checked_add(time); // else it is longer than the clock goes
+        let deadline = Instant::now().checked_add(time); // none beyond the clock's range
         let terms = deadline.map_or(Terms::default(), |deadline| Terms::default().deadline(deadline));
         self.block(tenant.into(), kind, terms)
     }
 
-    /// A permit at once, or [`Cause::NoneFree`]. It never waits. It refuses a costly request too while a free permit waits
-    /// for a cheap one (see [`Builder::patience`]).
+    /// A permit at once, or [`Cause::NoneFree`]. It never waits. It refuses a costly request too while a free permit
+    /// waits for a cheap one (see [`Builder::patience`]).
     ///
     /// ```
     /// use twodfq::{Cause, KindId, Permits};
@@ -179,7 +179,7 @@ impl Permits {
         let seat: Seat = Arc::new(Place::new());
         let request = self.shared().request(tenant.into(), kind, Terms::default());
         self.shared().call(|state, moment| state.admit_at_once(moment, &request, &mut || seat.clone()))?;
-        seat.wait() // it is there
+        seat.wait() // the permit is there
     }
 
     /// Hands a request in. Its permit is put at the seat.
@@ -198,7 +198,7 @@ impl Permits {
             return reply;
         }
         self.shared().call(|state, moment| state.withdraw(moment, ticket, Withdrawn::Late));
-        seat.wait() // the fault is there, or a permit came just before
+        seat.wait() // the cause is there, or a permit came just before
     }
 
     /// The number of the tenant of this name.
@@ -234,8 +234,8 @@ impl Permits {
         self.shared().weight(tenant.into(), weight)
     }
 
-    /// The number of permits from now on: 1 to [`Builder::most_workers`]. Where more are held, the highest numbers are not
-    /// granted again.
+    /// The number of permits from now on: 1 to [`Builder::most_workers`]. Where more are held, the highest numbers are
+    /// not granted again.
     ///
     /// ```
     /// use twodfq::{KindId, Permits};
@@ -262,7 +262,7 @@ impl Permits {
         self.shared().close();
     }
 
-    /// What waits and runs now, and what was counted since the opening.
+    /// The waiting and running requests now, and the counts since the opening.
     ///
     /// ```
     /// use twodfq::{KindId, Permits};
@@ -275,8 +275,8 @@ impl Permits {
         Status::of(self.shared())
     }
 
-    /// Writes the journals of the schedulers, as [`Pool::journal`](crate::Pool::journal) does. It ends when the permits are
-    /// closed and the last is back.
+    /// Writes the journals of the schedulers, as [`Pool::journal`](crate::Pool::journal) does. The last ends when the
+    /// permits are closed and all are back.
     ///
     /// ```
     /// use twodfq::{KindId, Permits};

@@ -26,7 +26,7 @@ pub struct Permit {
     worker: u32,
     /// The caller's cost in microseconds, in place of the time.
     cost: Option<u64>,
-    /// Whether its caller was gone before it came.
+    /// Whether its caller was gone before the grant.
     is_unseen: bool,
 }
 
@@ -35,8 +35,8 @@ impl Permit {
         Permit { shared, worker, cost: None, is_unseen: false }
     }
 
-    /// Reports the request's use so far, in microseconds. From then on the permit does not report by itself. A use that is
-    /// not above the last is ignored.
+    /// Reports the request's use so far, in microseconds. From then on the permit does not report by itself. A use not
+    /// above the last is ignored.
     ///
     /// ```
     /// use twodfq::{KindId, Permits};
@@ -65,7 +65,7 @@ impl Permit {
         self.cost = Some(cost);
     }
 
-    /// Gives it back where nobody saw it. A thread that panics meanwhile is not that of the request.
+    /// Gives back a permit that no caller got. A panic of this thread is not one of the request.
     pub(crate) fn give_back_unseen(mut self) {
         self.is_unseen = true;
     }

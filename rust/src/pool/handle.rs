@@ -1,4 +1,4 @@
-//! The result of a job, for who submitted it.
+//! The result of a job, for its submitter.
 use std::error::Error;
 use std::fmt;
 use std::future::Future;
@@ -27,7 +27,7 @@ use crate::service::withdraw::Withdrawn;
 #[derive(Clone, Debug, PartialEq, Eq)]
 #[non_exhaustive]
 pub enum JoinError {
-    /// It ended by a panic, which said this.
+    /// It ended by a panic with this message.
     Panicked(String),
     /// It was cancelled before it began.
     Cancelled,
@@ -62,8 +62,8 @@ impl Error for JoinError {}
 
 /// A job that was accepted. It is run whether its handle is kept or dropped, unless it is cancelled or too late.
 ///
-/// A handle is a future too, which any runtime may poll: it is woken by the worker. Once a poll has given the result, every
-/// other call that asks for it panics, as one more poll does.
+/// A handle is a future too, which any runtime may poll: it is woken by the worker. Once a poll has given the result,
+/// every other call that asks for it panics, as one more poll does.
 ///
 /// ```
 /// use twodfq::{Handle, KindId, Pool};
@@ -87,8 +87,8 @@ impl<T> Handle<T> {
         Handle { place, pool, ticket }
     }
 
-    /// Withdraws the job, if it waits: it never runs, costs its tenant nothing, and ends as [`JoinError::Cancelled`]. Returns
-    /// false, and changes nothing, where the job has begun or was withdrawn before.
+    /// Withdraws the job, if it waits: it never runs, costs its tenant nothing, and ends as [`JoinError::Cancelled`].
+    /// Returns false, and changes nothing, where the job has begun or was withdrawn before.
     ///
     /// ```
     /// use twodfq::{JoinError, KindId, Pool};
@@ -108,7 +108,7 @@ impl<T> Handle<T> {
         self.pool.upgrade().is_some_and(cancel)
     }
 
-    /// Waits for the job's end. A job that waits for another of its own pool holds a worker meanwhile.
+    /// Waits for the job's end. A job that waits for another job of its pool holds a worker meanwhile.
     ///
     /// ```
     /// use twodfq::{KindId, Pool};
@@ -152,7 +152,7 @@ impl<T> Handle<T> {
     pub fn join_timeout(self, time: Duration) -> Result<Result<T, JoinError>, Handle<T>> {
         match Instant::now().checked_add(time) {
             Some(until) => self.place.wait_until(until).ok_or(self),
-            None => Ok(self.place.wait()), // longer than the clock goes
+            None => Ok(self.place.wait()), // beyond the clock's range
         }
     }
 
@@ -170,9 +170,9 @@ impl<T> Handle<T> {
         self.place.is_done()
     }
 
-    /// Has the callback called with the result: by the worker at the job's end, as a part of the job, or here and at once
-    /// where it has ended. Where the job is withdrawn, the withdrawing thread calls it. A panic of the callback is printed,
-    /// as any, and goes no further: neither the worker nor the caller panics.
+    /// Has the callback called with the result: by the worker at the job's end, as a part of the job, or here and at
+    /// once where the job has ended. Where it is withdrawn, the withdrawing thread calls it. A panic of the callback is
+    /// printed, as any, and goes no further: neither the worker nor the caller panics.
     ///
     /// ```
     /// use std::sync::mpsc;

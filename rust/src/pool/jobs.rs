@@ -7,12 +7,12 @@ use crate::service::panics::{caught, panic_message};
 use crate::service::place::Place;
 use crate::service::withdraw::Withdrawn;
 
-/// What a worker runs.
+/// A job, as a worker runs it.
 pub(crate) trait Job: Send {
-    /// Runs the job and puts its result where its handle finds it. Whether it panicked.
+    /// Runs the job and puts its result in the place of its handle. Whether it panicked.
     fn run(self: Box<Self>) -> bool;
 
-    /// Drops the job, and tells its handle why.
+    /// Drops the job, and gives its handle the reason.
     fn withdraw(self: Box<Self>, why: Withdrawn);
 }
 
@@ -33,7 +33,7 @@ impl<T: Send, F: FnOnce() -> T + Send> Job for Work<T, F> {
                 false
             }
             Err(payload) => {
-                // told before the payload is dropped, since that may panic too
+                // put before the payload is dropped, since that may panic too
                 place.put(Err(JoinError::Panicked(panic_message(&*payload))));
                 true
             }

@@ -26,15 +26,15 @@ use crate::service::shared::Shared;
 use crate::service::status::Status;
 use jobs::Work;
 
-/// A thread pool that shares its workers fairly among tenants: who waits is served in its turn, however many jobs others
-/// hand in and however long these take. Which job a worker takes next is decided by a [`Scheduler`](crate::Scheduler).
+/// A thread pool that shares its workers fairly among tenants: each is served in its turn, however many jobs the others
+/// hand in and however long these take. A [`Scheduler`](crate::Scheduler) decides which job a worker takes next.
 ///
-/// The pool has no end: before the room of its scheduler ends it opens the next, and workers take from the old one until
-/// that is drained. Unless the caller names less room ([`Builder::entries`]) that is after 3,500,000,000 entries at the
-/// earliest, of which a job makes three.
+/// The pool has no end: before the room of its scheduler ends it opens the next, and workers take from the old
+/// scheduler until that is drained. Unless [`Builder::entries`] sets less room, the next takes over after 3,500,000,000
+/// entries at the earliest, of which a job makes three.
 ///
-/// Dropped, it closes, and waits until all accepted jobs are done. Dropped by a job of its own, or by its journal's writer,
-/// it closes and waits for nothing, since who drops it would wait for itself.
+/// Dropped, it closes, and waits until all accepted jobs are done. Dropped by a job of its own, or by its journal's
+/// writer, it closes and does not wait, since the dropping thread would wait for itself.
 ///
 /// ```
 /// use twodfq::Pool;
@@ -60,7 +60,7 @@ pub struct Pool {
 }
 
 impl Pool {
-    /// What a pool is opened with.
+    /// A builder of a pool, for [`Builder::open`].
     ///
     /// ```
     /// let pool = twodfq::Pool::builder().tenant("acme", 1).open().unwrap();
@@ -85,7 +85,7 @@ impl Pool {
         self.threads.lock().unwrap_or_else(PoisonError::into_inner).push(thread);
     }
 
-    /// Hands in a job for a tenant, of a kind. What it declares to cost is the initial estimate.
+    /// Hands in a job for a tenant, of a kind. It declares the initial estimate as its cost.
     ///
     /// ```
     /// use twodfq::{Cause, KindId, Pool};
@@ -182,8 +182,8 @@ impl Pool {
         self.shared.kind(name)
     }
 
-    /// The tenant has this weight from now on, 1 to 1,000. A scheduler that drains keeps the weights it has where it has no
-    /// room for another entry.
+    /// The tenant has this weight from now on, 1 to 1,000. A scheduler that drains keeps the weights it has where it
+    /// has no room for another entry.
     ///
     /// ```
     /// let pool = twodfq::Pool::builder().tenant("acme", 1).open().unwrap();
@@ -194,8 +194,8 @@ impl Pool {
         self.shared.weight(tenant.into(), weight)
     }
 
-    /// There are so many workers from now on: 1 to as many as the builder said. A worker that is no longer wanted ends what
-    /// it runs, and then sleeps.
+    /// The number of workers from now on: 1 to [`Builder::most_workers`]. A worker that is no longer wanted ends its
+    /// job, and then sleeps.
     ///
     /// ```
     /// let pool = twodfq::Pool::builder().tenant("acme", 1).workers(2).most_workers(8).open().unwrap();
@@ -206,7 +206,7 @@ impl Pool {
         self.shared.workers(count)
     }
 
-    /// No more jobs are taken. Those that were are run.
+    /// Refuses further jobs. Accepted jobs are still run.
     ///
     /// ```
     /// use twodfq::{Cause, KindId, Pool};
@@ -221,7 +221,7 @@ impl Pool {
         self.shared.close();
     }
 
-    /// What waits and runs now, and what was counted since the opening.
+    /// The waiting and running jobs now, and the counts since the opening.
     ///
     /// ```
     /// use twodfq::{KindId, Pool};
@@ -235,15 +235,15 @@ impl Pool {
     }
 
     /// Has the journals of the pool's schedulers written while it runs, in the format of `docs/FORMATS.md`: one after
-    /// another, each from its line `journal 3` on, and each to be judged by `twodfq check`. It begins with the scheduler
-    /// that serves now, or where the first entries of that are kept no longer, with its head alone and then the next; it ends
+    /// another, each from its line `journal 3` on, and each to be judged by `twodfq check`. The first is that of the
+    /// oldest scheduler that is not over, with its head alone where its first entries are kept no longer. The last ends
     /// with the pool. The writer has a thread of its own, and no worker ever waits for it.
     ///
-    /// A journal has at most 1,048,576 entries, so that `check` can read it, less what the jobs that wait may need. A little
-    /// before that, at the first submit at which nothing waits, the next scheduler takes over, and has the next journal.
-    /// Where something always waits the journal ends early, and the next begins at the first submit at which nothing does.
-    /// It ends early too where its writer is so slow that an entry is kept no longer when it comes to it (see
-    /// [`Builder::keep`]). Where five schedulers are over before it has come to them, the oldest of these is left out.
+    /// A journal has at most 1,048,576 entries, so that `check` can read it, less those that waiting jobs may need. A
+    /// little before that, at the first submit at which no job waits, the next scheduler takes over, and has the next
+    /// journal. Where jobs always wait the journal ends early, and the next begins at the first submit at which none
+    /// waits. It ends early too where its writer is so slow that it finds an entry kept no longer (see
+    /// [`Builder::keep`]). Where five schedulers are over before the writer has come to them, the oldest is left out.
     ///
     /// Fails where a journal is being written already, or its thread does not start.
     ///
@@ -263,8 +263,8 @@ impl Pool {
         Ok(journal)
     }
 
-    /// Closes, waits until all accepted jobs are done, and tells what was counted. Dropping the pool waits too. In a job of
-    /// the pool's own neither waits.
+    /// Closes the pool, waits until all accepted jobs are done, and returns the status. Dropping the pool waits too. In
+    /// a job of the pool's own neither waits.
     ///
     /// ```
     /// use twodfq::{KindId, Pool};

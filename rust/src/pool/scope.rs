@@ -7,7 +7,7 @@ use crate::ffi::{self, Lender};
 use crate::service::cause::Rejected;
 use crate::service::ids::{KindId, Tenant, Terms};
 
-/// Where jobs that borrow are handed in: all of them have ended when [`Pool::scope`] returns.
+/// A scope for jobs that borrow: all of them have ended when [`Pool::scope`] returns.
 ///
 /// ```
 /// use twodfq::{KindId, Pool};
@@ -21,7 +21,7 @@ use crate::service::ids::{KindId, Tenant, Terms};
 /// assert_eq!(total, 12);
 /// ```
 ///
-/// What a job borrows has to outlive the scope:
+/// A borrowed value has to outlive the scope:
 ///
 /// ```compile_fail
 /// use twodfq::{KindId, Pool};
@@ -45,10 +45,10 @@ impl fmt::Debug for Scope<'_, '_> {
 }
 
 impl Pool {
-    /// Calls the body, whose jobs may borrow what is around it, and waits for the end of all of them. The pool serves others
-    /// meanwhile. A job that panics tells its handle, and no one else.
+    /// Calls the body, whose jobs may borrow from around it, and waits for the end of all of them. The pool serves
+    /// other jobs meanwhile. The panic of a job goes to its handle, and no further.
     ///
-    /// A job of the pool that waits here for others holds its worker. Where every worker does, none is left for them.
+    /// A job of the pool that waits here for others holds its worker. With all workers held, none is left for them.
     ///
     /// ```
     /// use twodfq::{KindId, Pool};

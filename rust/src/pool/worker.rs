@@ -1,4 +1,4 @@
-//! The life of a worker, and what a job may tell while it runs.
+//! The life of a worker, and the reports of a running job.
 use std::cell::RefCell;
 use std::mem;
 use std::sync::{Arc, Condvar, MutexGuard, PoisonError};
@@ -17,20 +17,20 @@ use crate::service::withdraw::Withdrawn;
 pub(crate) struct Signals {
     /// Workers with nothing to do sleep here,
     news: Condvar,
-    /// here those that would take a job before its time,
+    /// here workers that would take a job early,
     patient: Condvar,
-    /// and here those that are not wanted at present.
+    /// and here workers that are not wanted at present.
     change: Condvar,
 }
 
-/// How many workers sleep that were not woken since. It may be too many, since a sleeper may wake by itself.
+/// How many workers sleep and were not woken since. The number may be too great, since a sleeper may wake by itself.
 #[derive(Default)]
 pub(crate) struct Sleeping(u32);
 
-/// Who is woken after a call.
+/// The workers that are woken after a call.
 #[derive(PartialEq, Eq)]
 pub(crate) enum Wakes {
-    /// All who sleep, wanted or not.
+    /// All that sleep, wanted or not.
     All,
     Some {
         workers: u32,
@@ -73,7 +73,7 @@ impl Payload for BoxedJob {
     }
 
     fn withdraw(self, why: Withdrawn) {
-        caught(|| Job::withdraw(self, why)); // what the job held may panic as it is dropped
+        caught(|| Job::withdraw(self, why)); // a value of the job may panic as it is dropped
     }
 }
 
@@ -86,10 +86,10 @@ impl Effects<BoxedJob> {
 }
 
 impl Shared<BoxedJob> {
-    /// Notes the job that the worker has ended, and gives it the next; none where the worker is to end. It sleeps while there
-    /// is nothing for it.
+    /// Notes the job that the worker has ended, and returns the next; none where the worker is to end. The worker
+    /// sleeps while there is no job for it.
     fn next(self: &Arc<Self>, worker: u32, ended: Option<(Reading, Ended)>) -> Option<Run<BoxedJob>> {
-        // where a job ends the next one is taken
+        // the next job is taken at the end of the last
         let mut at = ended.as_ref().map_or_else(|| self.reading(), |(at, _)| *at);
         let mut free = Free::new(worker, at.moment);
         let mut state = self.lock();
@@ -129,8 +129,8 @@ impl Shared<BoxedJob> {
         news.wait(state).unwrap_or_else(PoisonError::into_inner)
     }
 
-    /// Waits until there is news, and until this moment at most. All who wait so learn all news: they are few, and only the
-    /// scheduler knows whom a job suits.
+    /// Waits until there is news, and until this moment at most. All news wakes all patient workers: they are few, and
+    /// only the scheduler knows for which a job is eligible.
     fn wait<'a>(&'a self, mut state: MutexGuard<'a, State<BoxedJob>>, until: u64) -> MutexGuard<'a, State<BoxedJob>> {
         let left = Duration::from_micros(until.saturating_sub(self.moment()));
         state.patience.waiting += 1;
@@ -159,7 +159,7 @@ thread_local! {
     static COURSE: RefCell<Option<Course>> = const { RefCell::new(None) };
 }
 
-/// Notes which job the thread runs, and gives the one before.
+/// Notes the job that the thread runs, and returns the job before.
 fn exchange(job: Option<Current>) -> Option<Current> {
     COURSE.with_borrow_mut(|course| mem::replace(&mut course.as_mut()?.job, job))
 }
@@ -173,12 +173,12 @@ pub(crate) fn work(shared: Arc<Shared<BoxedJob>>, worker: u32) {
     }
 }
 
-/// Runs a job, and measures it from its take on. So what passes between a job's end and the next one's is charged, and a
-/// flood of short jobs pays for all the time that it keeps its workers busy.
+/// Runs a job, and measures it from its take on. So all the time between the ends of two jobs is charged, and a flood
+/// of short jobs pays for all the time that it keeps its workers busy.
 fn perform(shared: &Shared<BoxedJob>, run: Run<BoxedJob>) -> (Reading, Ended) {
     let Run { payload, request, begun } = run;
     exchange(Some(Current { request, begun, reported: 0, last: begun.moment }));
-    // the job catches its own panic; what it leaves behind may panic too
+    // the job catches its own panic; its result or the panic's payload may panic too as it is dropped
     let panicked = caught(|| payload.run()).unwrap_or(true);
     let reported = exchange(None).map_or(0, |current| current.reported);
     let at = shared.reading();
@@ -186,9 +186,9 @@ fn perform(shared: &Shared<BoxedJob>, run: Run<BoxedJob>) -> (Reading, Ended) {
     (at, Ended { request, moment: at.moment, cost, panicked })
 }
 
-/// Tells the pool what the job that calls it has used so far, so that a long job is charged while it runs and not only at
-/// its end. It may be called as often as one likes: most calls only look at the clock (see `Builder::refresh`). Outside of
-/// a job it does nothing.
+/// Reports the use so far of the job that calls it, so that a long job is charged while it runs and not only at its
+/// end. A job may call it as often as it likes: most calls only read the clock (see `Builder::refresh`). Outside of a
+/// job it does nothing.
 ///
 /// ```
 /// use twodfq::{KindId, Pool};

@@ -26,7 +26,7 @@ pub(crate) struct Request<'a> {
 }
 
 impl<P: Payload> State<P> {
-    /// The first cause against a request; `waiting` of its tenant wait.
+    /// The first cause against a request; `waiting` requests of its tenant wait.
     fn cause(&self, moment: u64, waiting: u32, request: &Request) -> Option<Cause> {
         let Request { kind, declared, deadline, .. } = *request;
         if kind.0 as usize >= self.rolling.settings.kinds.len() {
@@ -41,8 +41,8 @@ impl<P: Payload> State<P> {
         self.room.cause(self.waiting, waiting)
     }
 
-    /// The slot of the request's tenant, where no cause is against it; `last` is a cause that counts after all others. A new
-    /// tenant gets a slot.
+    /// The slot of the request's tenant, where no cause is against it; `last` is a cause that counts after all others.
+    /// A new tenant gets a slot.
     pub(crate) fn accept(&mut self, moment: u64, request: &Request, last: Option<Cause>) -> Result<u32, Cause> {
         let found = self.slots.find(request.tenant);
         if self.is_closed {
@@ -71,7 +71,7 @@ impl<P: Payload> State<P> {
         Ok(slot)
     }
 
-    /// Counts a refusal.
+    /// Counts a refusal, and notes it for the hook.
     pub(crate) fn refused(&mut self, slot: Option<u32>, request: &Request, cause: Cause) -> Cause {
         slot.map_or(&mut self.others, |slot| &mut self.counts[slot as usize]).refuse(cause);
         let number = self.requests.next().number;
@@ -84,7 +84,7 @@ impl<P: Payload> State<P> {
         cause
     }
 
-    /// Takes a request. Its payload is made once its place is sure.
+    /// Admits a request. Its payload is made once its place is sure.
     pub(crate) fn admit(
         &mut self,
         moment: u64,

@@ -5,8 +5,8 @@ impl Builder {
     /// How many requests may wait at once: 1 to 262,144, by default 10,000.
     ///
     /// Each of `n` tenants has `room / (2 * n)` of these places for itself, and at least one where the room has one for
-    /// each. All tenants share the rest, and a tenant takes at most as many shared places as it leaves free. So one flood
-    /// leaves half of the shared places to the others. A request beyond its tenant's part is refused with
+    /// each. All tenants share the rest, and a tenant takes at most as many shared places as it leaves free. So one
+    /// flood leaves half of the shared places to the others. A request beyond its tenant's part is refused with
     /// [`Cause::TenantFull`](crate::Cause::TenantFull). A single tenant has the whole room.
     ///
     /// ```
@@ -21,7 +21,7 @@ impl Builder {
         self
     }
 
-    /// How many requests of each tenant may wait, in place of its part by [`Builder::room`]. `room` still bounds the sum.
+    /// How many requests of each tenant may wait, in place of its part of [`Builder::room`], which bounds the sum.
     ///
     /// ```
     /// use twodfq::{Cause, KindId, Pool};
@@ -38,8 +38,8 @@ impl Builder {
         self
     }
 
-    /// How many requests of each tenant may run at once; by default as many as there are workers. A request beyond that is
-    /// held back until one of its tenant's ends. It counts as waiting, and held requests go in order of arrival.
+    /// How many requests of each tenant may run at once; by default as many as there are workers. A request beyond that
+    /// is held back until another of its tenant ends. It counts as waiting, and held requests go in order of arrival.
     ///
     /// The scheduler sees a held request as arriving when it may go.
     ///
@@ -56,8 +56,8 @@ impl Builder {
         self
     }
 
-    /// How many requests of this kind each tenant may run at once, as by [`Builder::most_running`]. Of several kinds that
-    /// may go, the oldest request goes first.
+    /// How many requests of this kind each tenant may run at once, as by [`Builder::most_running`]. Of several kinds
+    /// that may go, the oldest request goes first.
     ///
     /// ```
     /// use twodfq::{KindId, Permits};

@@ -1,4 +1,4 @@
-//! What a pool and permits are opened with.
+//! The builder of a pool and of permits.
 use std::sync::Arc;
 use std::time::Duration;
 
@@ -14,7 +14,7 @@ pub(crate) const MOST_ENTRIES: u32 = 4_000_000_000;
 /// The most entries of a history whose journal `twodfq check` reads.
 const MOST_JUDGED: u32 = 1_048_576;
 
-/// The bytes that `twodfq check` reads at most, of a journal with the longest head and the longest lines.
+/// A journal with the longest head and the longest lines fits in the bytes that `twodfq check` reads at most.
 const _: () = {
     const READ: usize = 64 << 20;
     const ENTRY: usize = "submit 64 1000000000000000 1048576 4095 63 1000000000 262143\n".len();
@@ -24,7 +24,7 @@ const _: () = {
     assert!(FIRST + 4096 * TENANT + 64 * KIND + MOST_JUDGED as usize * ENTRY <= READ);
 };
 
-/// What a pool is opened with. All but the tenants have a default.
+/// The options of a pool or of permits. All but the tenants have a default.
 ///
 /// ```
 /// use std::time::Duration;
@@ -109,8 +109,8 @@ impl Builder {
         self
     }
 
-    /// How many workers or permits there may ever be; by default as many as at first. Each worker of a pool has a thread from
-    /// the opening on.
+    /// How many workers or permits there may ever be; by default as many as at first. Each worker of a pool has a
+    /// thread from the opening on.
     ///
     /// ```
     /// let pool = twodfq::Pool::builder().tenant("acme", 1).workers(1).most_workers(8).open().unwrap();
@@ -136,11 +136,11 @@ impl Builder {
         self
     }
 
-    /// How many tenants there may be at once, 1 to 4,096, with those named at the opening; by default these alone.
+    /// How many tenants there may be at once, 1 to 4,096, with the tenants of the opening; by default these alone.
     ///
-    /// Further tenants come by name, any text of 1 to 256 bytes. A new tenant gets a free slot, or the slot of the tenant
-    /// that has been idle longest. Where every slot's tenant has a request that waits or runs, the call is refused with
-    /// [`Cause::NoSlot`](crate::Cause::NoSlot). So memory stays flat over any number of names.
+    /// Further tenants come by name, any text of 1 to 256 bytes. A new tenant gets a free slot, or the slot of the
+    /// tenant that has been idle longest. Where every slot's tenant has a request that waits or runs, the call is
+    /// refused with [`Cause::NoSlot`](crate::Cause::NoSlot). So memory stays flat over any number of names.
     ///
     /// A new tenant inherits the slot's estimates of costs and its place in virtual time. Under the default policy that
     /// place is close to where a new tenant would begin. The counts of a tenant that left go to
@@ -160,8 +160,8 @@ impl Builder {
         self
     }
 
-    /// The weight of tenants that come by name, 1 to 1,000; by default 1. A weight set later, by `weight`, is kept for the
-    /// tenant's return.
+    /// The weight of tenants that come by name, 1 to 1,000; by default 1. A weight set later, by `weight`, is kept for
+    /// the tenant's return.
     ///
     /// ```
     /// use twodfq::{KindId, Permits};
@@ -178,8 +178,8 @@ impl Builder {
         self
     }
 
-    /// One more kind of jobs, numbered from 0; by default there is one, `-`. At most 64, and 65,536 pairs of a tenant and
-    /// a kind. Costs are estimated for each tenant and kind.
+    /// One more kind of jobs, numbered from 0; by default there is one, `-`. At most 64, and 65,536 pairs of a tenant
+    /// and a kind. Costs are estimated for each tenant and kind.
     ///
     /// ```
     /// use twodfq::{KindId, Pool};
@@ -205,7 +205,7 @@ impl Builder {
         self
     }
 
-    /// What a job is thought to cost before it is done; by default [`Estimator::Pessimistic`].
+    /// The estimator of a job's cost; by default [`Estimator::Pessimistic`].
     ///
     /// ```
     /// use twodfq::{KindId, Pool};
@@ -218,7 +218,7 @@ impl Builder {
         self
     }
 
-    /// The estimate before any completion, and what `submit` declares: 1 to 1,000,000,000 microseconds, by default 1000.
+    /// The estimate before any completion, which `submit` declares: 1 to 1,000,000,000 microseconds, by default 1000.
     ///
     /// ```
     /// use twodfq::{KindId, Pool};
@@ -231,22 +231,22 @@ impl Builder {
         self
     }
 
-    /// What part of its time the pool may lose so that cheap jobs find a free worker: 0 to 1, by default 0.02. 0 turns
-    /// it off.
+    /// The part of its time that the pool may lose so that cheap jobs find a free worker: 0 to 1, by default 0.02. 0
+    /// turns patience off.
     ///
-    /// Where cheap tenants ask for less than their share there are moments with nothing cheap to do. Without patience
-    /// every worker then takes a costly job before its time, and the next cheap one waits until one of these ends. A
-    /// patient worker waits a little before that, and takes the cheap one that comes meanwhile.
+    /// Where cheap tenants ask for less than their share there are moments at which no cheap job waits. Without
+    /// patience every worker then takes a costly job before its time, and the next cheap job waits until one of these
+    /// ends. A patient worker waits a little before that, and takes the cheap job that comes meanwhile.
     ///
     /// A wait ends at the latest when `part` times the estimate of the job that would be taken has passed since the
     /// worker became free, by its last job's end or its start. The worker asks again whenever something changes, since
-    /// then there may be a job whose time has come. All waits together last at most `part` of what jobs have cost, and
-    /// of a second of every worker besides. So in the long run the pool keeps at least 1 / (1 + `part`) of its time. By
-    /// the first bound alone it would not, since a worker that was given a cheap job may wait anew after it.
+    /// then there may be a job whose time has come. All waits together last at most `part` of the jobs' cost so far,
+    /// and of a second of every worker besides. So in the long run the pool keeps at least 1 / (1 + `part`) of its
+    /// time. By the first bound alone it would not, since a worker may wait anew after each cheap job.
     ///
-    /// Nobody waits where one tenant alone has jobs in the pool, where a sleep would take longer than the wait (about
-    /// 60 microseconds), while an older scheduler has jobs that wait (see [`Builder::entries`]), or once the pool is
-    /// closed.
+    /// No worker waits where one tenant alone has jobs in the pool, where a sleep would take longer than the wait
+    /// (about 60 microseconds), while an older scheduler has jobs that wait (see [`Builder::entries`]), or once the
+    /// pool is closed.
     ///
     /// ```
     /// use twodfq::{BuildFault, KindId, Pool};
@@ -273,8 +273,8 @@ impl Builder {
         self
     }
 
-    /// After what time a running job reports once more where it calls [`tick`](crate::tick), and a held permit before the
-    /// next grant; by default 10 milliseconds.
+    /// The time after which a running job reports once more where it calls [`tick`](crate::tick), and a held permit
+    /// before the next grant; by default 10 milliseconds.
     ///
     /// ```
     /// use std::time::Duration;
@@ -289,9 +289,9 @@ impl Builder {
         self
     }
 
-    /// After how many entries the next scheduler takes over: 16 to 4,194,304, and up to 4,000,000,000 where `keep` is not 0;
-    /// by default 4,000,000,000, or 1,000,000 where `keep` is 0. A job makes three, and each report and change one. An entry
-    /// that is not kept takes no memory. What comes when the next scheduler takes over waits for all that waits then.
+    /// After how many entries the next scheduler takes over: 16 to 4,194,304, and up to 4,000,000,000 where `keep` is
+    /// not 0; by default 4,000,000,000, or 1,000,000 where `keep` is 0. A job makes three, and each report and change
+    /// one. An entry that is not kept takes no memory. The jobs of the next scheduler wait for the older waiting jobs.
     ///
     /// ```
     /// use twodfq::{KindId, Pool};
@@ -307,8 +307,8 @@ impl Builder {
         self
     }
 
-    /// How many of a scheduler's last entries are kept, for a journal to read: by default 65,536. Each takes 48 bytes. 0, and
-    /// any number above `entries`, keeps all, so that a journal of a scheduler is whole however slow its writer is.
+    /// How many of a scheduler's last entries are kept, for a journal to read: by default 65,536. Each takes 48 bytes.
+    /// 0, and any number above `entries`, keeps all, so that no journal ends early because its writer is slow.
     ///
     /// ```
     /// use twodfq::{KindId, Pool};
@@ -321,7 +321,7 @@ impl Builder {
         self
     }
 
-    /// A hook that hears of each request; by default there is none.
+    /// A hook for the events of requests; by default there is none.
     ///
     /// ```
     /// use twodfq::{Hook, Pool};

@@ -6,7 +6,7 @@ use std::io;
 use super::ids::KindId;
 use crate::{OpenFault, Refusal};
 
-/// Why a job is not taken, or a change not made. Nothing has changed then.
+/// Why a job or a change is refused. Nothing has changed then.
 ///
 /// ```
 /// use twodfq::{Cause, KindId, Pool};
@@ -25,11 +25,11 @@ pub enum Cause {
     Closed,
     /// As many requests wait as may, which is this number.
     TooManyWait(u32),
-    /// So many requests of the tenant wait, and no more of it may (see [`Builder::room`](crate::Builder::room)).
+    /// This number of the tenant's requests wait, and no more may (see [`Builder::room`](crate::Builder::room)).
     TenantFull(u32),
-    /// There is no tenant of this name or number, or its slot has gone to another.
+    /// There is no tenant of this name or number, or its slot has gone to another tenant.
     NoTenant,
-    /// All slots are in use, by tenants that have requests (see [`Builder::most_tenants`](crate::Builder::most_tenants)).
+    /// All slots are in use, by tenants with requests (see [`Builder::most_tenants`](crate::Builder::most_tenants)).
     NoSlot,
     /// A name that is not 1 to 256 bytes long.
     Name,
@@ -51,7 +51,7 @@ pub enum Cause {
     NoThread,
 }
 
-/// What the causes of refused requests are called where they are counted.
+/// The labels of the causes for which requests are refused, in the order of their counts.
 pub(crate) const LABELS: [&str; 11] = [
     "closed",
     "too_many_wait",
@@ -67,7 +67,7 @@ pub(crate) const LABELS: [&str; 11] = [
 ];
 
 impl Cause {
-    /// What the cause is called in the text for Prometheus, as the value of the label `cause`.
+    /// The value of the label `cause` in the text for Prometheus.
     ///
     /// ```
     /// assert_eq!(twodfq::Cause::TenantFull(20).label(), "tenant_full");
@@ -91,7 +91,7 @@ impl Cause {
         }
     }
 
-    /// The cause that a refusal of the library is. The pool asks in its own range, and keeps room for what it asks.
+    /// The cause of a refusal by the library. The pool calls it in range, and keeps room for its calls.
     pub(crate) fn of(refusal: Refusal) -> Cause {
         match refusal {
             Refusal::Closed => Cause::Closed,
@@ -130,7 +130,7 @@ impl fmt::Display for Cause {
 
 impl Error for Cause {}
 
-/// A job that was not taken, and why.
+/// A job that was refused, and the cause.
 ///
 /// ```
 /// use twodfq::{KindId, Pool};
@@ -144,7 +144,7 @@ impl Error for Cause {}
 pub struct Rejected<F> {
     /// The job, as it was handed in.
     pub job: F,
-    /// Why it was not taken.
+    /// The cause of the refusal.
     pub cause: Cause,
 }
 

@@ -1,10 +1,10 @@
-//! What time a job has used.
+//! The time that a job has used.
 use std::time::{Duration, Instant};
 
 use crate::ffi;
 
-/// By which clock a job's cost is measured, from the moment at which its worker takes it: at least one microsecond, and at
-/// most 1,000 seconds.
+/// By which clock a job's cost is measured, from the moment at which its worker takes it: at least one microsecond, and
+/// at most 1,000 seconds.
 ///
 /// ```
 /// use twodfq::{KindId, Measure, Pool};
@@ -16,7 +16,7 @@ use crate::ffi;
 pub enum Measure {
     /// The time that passes, so that a job which sleeps pays for the worker that it holds.
     Wall,
-    /// The processor time of the worker's thread, so that a job pays for what it computes, and not while it sleeps.
+    /// The processor time of the worker's thread, so that a job pays while it computes, and not while it sleeps.
     Processor,
 }
 
@@ -36,12 +36,12 @@ impl Clock {
         now.duration_since(self.start).as_micros() as u64
     }
 
-    /// The last moment by a deadline; none where no clock comes there.
+    /// The last moment by a deadline; none beyond the range of moments.
     pub(crate) fn deadline(&self, by: Instant) -> Option<u64> {
         u64::try_from(by.duration_since(self.start).as_micros()).ok().filter(|moment| *moment < u64::MAX)
     }
 
-    /// When a moment is, where the system's clock has it.
+    /// The time of a moment, where the system's clock has it.
     pub(crate) fn instant(&self, moment: u64) -> Option<Instant> {
         self.start.checked_add(Duration::from_micros(moment))
     }
@@ -55,7 +55,7 @@ impl Clock {
     }
 }
 
-/// The moment, and what the calling thread has used by then, in nanoseconds by the pool's measure.
+/// The moment, and the time that the calling thread has used by then, in nanoseconds by the pool's measure.
 #[derive(Clone, Copy, Debug)]
 pub(crate) struct Reading {
     pub(crate) moment: u64,
@@ -63,13 +63,13 @@ pub(crate) struct Reading {
 }
 
 impl Reading {
-    /// Of who is charged the time that passes.
+    /// A reading by the time that passes.
     pub(crate) fn wall(moment: u64) -> Reading {
         Reading { moment, used: moment * 1000 }
     }
 
-    /// What was used since an earlier reading of the same thread, in microseconds: at least one, since a tenant whose work
-    /// costs nothing would keep all others waiting.
+    /// The use since an earlier reading of the thread, in microseconds: at least one, since a tenant whose work costs
+    /// nothing would keep all others waiting.
     pub(crate) fn since(&self, begun: &Reading) -> u64 {
         self.used.saturating_sub(begun.used).div_ceil(1000).clamp(1, GREATEST_COST)
     }

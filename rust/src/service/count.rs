@@ -1,8 +1,8 @@
-//! What is counted of a tenant.
+//! The counts of a tenant.
 use super::cause::{Cause, LABELS};
 use super::histogram::Histogram;
 
-/// What was counted of a tenant since the opening.
+/// The counts of a tenant since the opening, or since it got its slot.
 #[derive(Clone, Copy, Default)]
 pub(crate) struct Count {
     pub(crate) waiting: u32,
@@ -34,12 +34,12 @@ impl Count {
         }
     }
 
-    /// The causes for which something was refused, by their labels, and how often.
+    /// The labels of the causes for which requests were refused, and how often.
     pub(crate) fn refused(&self) -> impl Iterator<Item = (&'static str, u64)> + '_ {
         LABELS.into_iter().zip(self.refused).filter(|(_, count)| *count > 0)
     }
 
-    /// Adds what was counted of a tenant that has left.
+    /// Adds the counts of a tenant that has left.
     pub(crate) fn add(&mut self, gone: &Count) {
         self.submitted += gone.submitted;
         self.refused.iter_mut().zip(gone.refused).for_each(|(count, more)| *count += more);

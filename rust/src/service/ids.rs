@@ -1,8 +1,8 @@
 //! Tenants and kinds by number or name, and the terms of a request.
 use std::time::Instant;
 
-/// A tenant by its number in a pool or permits, from [`Pool::tenant`](crate::Pool::tenant). The number of a tenant that came
-/// by name is refused after its slot went to another (see [`Builder::most_tenants`](crate::Builder::most_tenants)).
+/// A tenant by its number, from [`Pool::tenant`](crate::Pool::tenant). The number of a tenant that came by name is
+/// refused after its slot went to another (see [`Builder::most_tenants`](crate::Builder::most_tenants)).
 ///
 /// ```
 /// use twodfq::{Pool, TenantId};
@@ -123,8 +123,8 @@ impl Terms {
         self
     }
 
-    /// The request must begin by this time. After it the request is withdrawn: it never runs, and its handle or future says
-    /// so. A request whose deadline has passed already is refused.
+    /// The request must begin by this time. After it the request is withdrawn: it never runs, and its handle or future
+    /// returns `Late`. A request whose deadline has passed already is refused.
     ///
     /// ```
     /// use std::time::{Duration, Instant};

@@ -33,7 +33,7 @@ pub struct Journal {
     place: Arc<Place<io::Result<Written>>>,
 }
 
-/// What was written of a journal.
+/// The counts of the journals that were written.
 ///
 /// ```
 /// let pool = twodfq::Pool::builder().tenant("acme", 1).open().unwrap();
@@ -46,8 +46,8 @@ pub struct Journal {
 pub struct Written {
     /// How many journals were written whole, one for each scheduler.
     pub journals: u64,
-    /// How many journals end before their schedulers do: what came after was kept no longer when the writer came to it, or is
-    /// more than `twodfq check` reads.
+    /// How many journals end before their schedulers do: the next entry was kept no longer when the writer came to it,
+    /// or is beyond those that `twodfq check` reads.
     pub cut: u64,
     /// How many schedulers have no journal, since they were over before the earlier journals were written.
     pub missed: u64,
@@ -60,7 +60,7 @@ impl fmt::Debug for Journal {
 }
 
 impl Journal {
-    /// Starts the thread that writes it. Fails where one is being written already, or the thread does not start.
+    /// Starts the thread that writes it. Fails where a journal is being written already, or the thread does not start.
     pub(crate) fn start<P: Payload>(
         shared: &Arc<Shared<P>>,
         to: impl Write + Send + 'static,
@@ -80,7 +80,7 @@ impl Journal {
         Ok((Journal { place }, thread))
     }
 
-    /// Waits for the pool's end and the journal's, and tells what was written. The first fault of the writer ends the
+    /// Waits for the pool's end and the journal's, and returns the counts. The first fault of the writer ends the
     /// journal, and not the pool.
     ///
     /// ```
@@ -98,7 +98,7 @@ impl Journal {
     }
 }
 
-/// Where the journal is. While it is kept, so are histories for it.
+/// The place of the journal in the histories. While there is a journal, these are kept for it.
 pub(crate) struct Reader<P: Payload> {
     shared: Arc<Shared<P>>,
     /// The history that is read, or the least that may be read next.
@@ -119,7 +119,7 @@ impl<P: Payload> Drop for Reader<P> {
     }
 }
 
-/// What there is to write next.
+/// The next piece to write.
 enum Piece {
     Head(Vec<u32>),
     Entries(Vec<Entry>),
@@ -216,7 +216,7 @@ impl<P: Payload> Reader<P> {
         Piece::Head(weights)
     }
 
-    /// Sleeps until there is something to write, and then a little more, so that it is woken seldom.
+    /// Sleeps until there are entries to write, and then a little more, so that it is woken seldom.
     fn rest(&self) {
         let mut state = self.shared.lock();
         if self.is_behind(&state) {
@@ -233,7 +233,7 @@ impl<P: Payload> Reader<P> {
         }
     }
 
-    /// Whether something came since the last look.
+    /// Whether there is something to write.
     fn is_behind(&self, state: &State<P>) -> bool {
         if self.next >= state.rolling.opened {
             return state.rolling.is_closed; // the next is not opened yet, or will not be

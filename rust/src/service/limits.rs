@@ -10,11 +10,11 @@ use super::settings::Settings;
 pub(crate) struct Limits {
     /// How many requests of a tenant may be in the schedulers, waiting or running.
     tenant: Option<u32>,
-    /// The same for each kind.
+    /// How many of each kind may be there.
     kinds: Vec<Option<u32>>,
     /// How many requests of each tenant are in the schedulers. Empty where there is no limit.
     tenants: Vec<u32>,
-    /// The same for each tenant and kind.
+    /// How many of each tenant and kind are there.
     pairs: Vec<u32>,
     /// The held requests, by tenant and kind, in order of arrival.
     held: BTreeSet<(u32, u32, Ticket)>,

@@ -1,4 +1,4 @@
-//! What a pool and permits have in common: one state over the schedulers, and what is told and written of it.
+//! The common parts of a pool and permits: one state over the schedulers, its status, its journals and its events.
 pub(crate) mod admission;
 mod bounds;
 pub(crate) mod builder;

@@ -26,7 +26,7 @@ impl Names {
         self.names.iter()
     }
 
-    /// Sorts them once all are there. The first text that is no name, or the first of two equal names.
+    /// Sorts them once all are there. Fails with the first text that is no name, or the first of two equal names.
     pub(crate) fn sort(&mut self) -> Result<(), BuildFault> {
         let names = &self.names;
         if let Some(name) = names.iter().find(|name| !is_name(name)) {

@@ -13,17 +13,17 @@ use crate::permits::Desk;
 use crate::pool::{Signals, Sleeping};
 use crate::{OpenFault, Permits, Pool};
 
-/// The least room that a scheduler of a pool has: what its opening and one job take is surely less.
+/// The least room that a scheduler of a pool has: its opening and one job surely take less.
 const LEAST_ENTRIES: u32 = 16;
 
-/// How many entries a history has that is kept whole, unless the caller says otherwise: 48 megabytes of them.
+/// How many entries a history has that is kept whole, by default: 48 megabytes of them.
 const WHOLE_ENTRIES: u32 = 1_000_000;
 
 /// How many tenants a scheduler has at most.
 const MOST_TENANTS: u32 = 4096;
 
 impl Builder {
-    /// Fills in what the caller left out.
+    /// Fills in the settings that the caller left out.
     fn complete(&mut self) -> Result<(), BuildFault> {
         let settings = &mut self.settings;
         if settings.most_workers == 0 {
@@ -91,7 +91,7 @@ impl Builder {
         Pool::start(self.shared(|_| Sleeping::default(), Signals::default())?).map_err(BuildFault::Thread)
     }
 
-    /// Opens permits. They have no thread, but for the timekeeper where there is patience.
+    /// Opens permits. Their only thread is the timekeeper, which starts here where there is patience.
     ///
     /// ```
     /// use twodfq::{BuildFault, Measure, Permits};

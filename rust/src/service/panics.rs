@@ -3,15 +3,15 @@ use std::any::Any;
 use std::mem;
 use std::panic::{self, AssertUnwindSafe};
 
-/// What the call gives; none where it panics. The panic is printed, as any, and nobody else is told. What it says may panic
-/// too when it is dropped: then what that says is kept for good.
+/// The result of the call; none where it panics. The panic is printed, as any, and goes no further. Its payload may
+/// panic too when it is dropped: then the payload of that panic is kept for good.
 pub(crate) fn caught<T>(call: impl FnOnce() -> T) -> Option<T> {
     let outcome = panic::catch_unwind(AssertUnwindSafe(call));
     let dropped = |payload| panic::catch_unwind(AssertUnwindSafe(|| drop(payload))).unwrap_or_else(mem::forget);
     outcome.map_err(dropped).ok()
 }
 
-/// What a panic said.
+/// The message of a panic.
 pub(crate) fn panic_message(payload: &(dyn Any + Send)) -> String {
     let text = payload.downcast_ref::<&str>().map(|text| text.to_string());
     let message = text.or_else(|| payload.downcast_ref::<String>().cloned());

@@ -1,14 +1,14 @@
-//! Patience: a free worker that would have to take a job before its time waits a little, so that it takes a cheap one
+//! Patience: a free worker that would have to take a job before its time waits a little, so that it takes a cheap job
 //! that comes meanwhile.
 use super::clock::Reading;
 use super::shared::Payload;
 use super::state::{Run, State};
 
 /// How many microseconds longer a sleep lasts than it was asked to: the kernel's own slack of 50, and the waking.
-/// Nobody sleeps where less than that is left, and all others ask for that much less. By measurement 55 to 70.
+/// No worker sleeps where less than that is left, and each asks for that much less. By measurement 55 to 70.
 const SLEEP: u64 = 60;
 
-/// For how many microseconds of every worker's work the pool saves up what its workers may wait.
+/// For how many microseconds of every worker's work the pool saves up the time that its workers may wait.
 const SAVED: f64 = 1e6;
 
 /// A worker from the moment at which it became free.
@@ -17,7 +17,7 @@ pub(crate) struct Free {
     since: u64,
     /// Whether it has waited when it asked last,
     is_patient: bool,
-    /// and then since when, and what it may wait.
+    /// and then since when, and how long it may wait.
     wait: Option<(u64, u64)>,
 }
 
@@ -27,7 +27,7 @@ impl Free {
     }
 }
 
-/// What a free worker does next.
+/// The next step of a free worker.
 pub(crate) enum Step<P> {
     /// It runs a job, or ends where nothing more will come for it.
     Leave(Option<Run<P>>),
@@ -37,18 +37,18 @@ pub(crate) enum Step<P> {
     Sleep,
 }
 
-/// How patient the workers of a pool are, and what was counted of it since the opening.
+/// The patience of a pool's workers, and its counts since the opening.
 #[derive(Clone, Copy)]
 pub(crate) struct Patience {
-    /// What part of its time the pool may lose, and for what part of a job's estimate a worker waits before it takes it
-    /// early.
+    /// The part of its time that the pool may lose, and the part of a job's estimate that a worker waits before it
+    /// takes the job early.
     part: f64,
-    /// How long workers may still wait, in microseconds, less what those may who wait now. Each job that ends adds its
-    /// part.
+    /// How long workers may still wait, in microseconds, without the time of the workers that wait now. Each job that
+    /// ends adds its part.
     spare: f64,
     /// How many workers wait now.
     pub(crate) waiting: u32,
-    /// Whether one has begun to since the last look. Its wake-up is for another one then, who may find the job due.
+    /// Whether a worker began to wait in this call. Its wake-up then goes to another, which may find the job due.
     pub(crate) passes_on: bool,
     /// How many jobs were taken before their time.
     pub(crate) early: u64,
@@ -67,22 +67,21 @@ impl Patience {
         self.part > 0.0
     }
 
-    /// A job has ended.
+    /// A job of this cost has ended.
     pub(crate) fn earn(&mut self, cost: u64, workers: u32) {
         let most = self.part * SAVED * f64::from(workers);
         self.spare = most.min(self.spare + self.part * cost as f64);
     }
 
     /// How long the worker may wait from this moment on for another job than one of this estimate: none where that is
-    /// not worth a sleep. It counts from the moment at which the worker became free, whatever jobs it is told of
-    /// meanwhile.
+    /// not worth a sleep. It counts from the moment at which the worker became free, whatever jobs it finds meanwhile.
     fn allows(&self, moment: u64, since: u64, estimate: u64) -> Option<u64> {
         let last = since + (self.part * estimate as f64) as u64;
         let time = last.saturating_sub(moment).min(self.spare.max(0.0) as u64);
         (time > SLEEP).then_some(time)
     }
 
-    /// Until when the worker waits, where it would take a job of this estimate early, and may.
+    /// Until when the worker waits, where it would take a job of this estimate early, and may wait.
     pub(crate) fn wait(&mut self, free: &mut Free, moment: u64, early: Option<u64>) -> Option<u64> {
         let time = early.and_then(|estimate| self.allows(moment, free.since, estimate));
         match time {
@@ -113,7 +112,7 @@ impl Patience {
 }
 
 impl<P: Payload> State<P> {
-    /// What the free worker does at this moment.
+    /// The step of the free worker at this moment.
     pub(crate) fn step(&mut self, at: Reading, free: &mut Free) -> Step<P> {
         self.expire();
         self.patience.settle(free, at.moment);
@@ -132,8 +131,8 @@ impl<P: Payload> State<P> {
         }
     }
 
-    /// The estimate of the job that the worker would take before its time, where somebody may gain by its patience:
-    /// nobody does where one tenant alone has jobs in the pool.
+    /// The estimate of the job that the worker would take before its time, where a tenant may gain by its patience:
+    /// none does where one tenant alone has jobs in the pool.
     pub(crate) fn early(&mut self, moment: u64, worker: u32) -> Option<u64> {
         let may_gain = self.patience.is_on() && self.open_tenants > 1 && !self.is_closed;
         if may_gain {

@@ -6,7 +6,7 @@ use std::time::Instant;
 
 use super::panics::caught;
 
-/// What is done once there is a result.
+/// The action once there is a result.
 enum Then<R> {
     Nothing,
     Wake(Waker),
@@ -24,7 +24,7 @@ enum Stage<R> {
 }
 
 impl<R> Stage<R> {
-    /// The result, where it is there. It is given once: who asks again after a poll gave it would wait for ever.
+    /// The result, where it is there. It is given once: a caller that asks again after a poll would wait for ever.
     fn result(&mut self) -> Option<R> {
         match mem::replace(self, Stage::Given) {
             Stage::Ready(result) => Some(result),
@@ -36,8 +36,7 @@ impl<R> Stage<R> {
         }
     }
 
-    /// Has this done once there is a result. What was to be done before may be a caller's own, and is dropped without the
-    /// lock.
+    /// Sets the action. The action before is returned, to be dropped without the lock, since it may be a caller's own.
     fn replace(&mut self, next: Then<R>) -> Option<Then<R>> {
         match self {
             Stage::Pending { then, .. } => Some(mem::replace(then, next)),
@@ -65,7 +64,7 @@ impl<R> Place<R> {
         drop(self.offer(result));
     }
 
-    /// Puts the result there and tells who waits for it. Where nobody does any more it comes back.
+    /// Puts the result there and wakes the waiter. An abandoned place returns the result.
     pub(crate) fn offer(&self, result: R) -> Option<R> {
         let mut stage = self.lock();
         let Stage::Pending { then, someone_waits } = mem::replace(&mut *stage, Stage::Given) else {
@@ -82,7 +81,7 @@ impl<R> Place<R> {
             self.ready.notify_all();
         }
         if let Then::Wake(waker) = then {
-            caught(|| waker.wake()); // a runtime's own
+            caught(|| waker.wake()); // it is the runtime's code
         }
         None
     }
@@ -158,7 +157,7 @@ impl<R> Place<R> {
         Poll::Pending
     }
 
-    /// Nobody polls any more, so nobody is to be woken.
+    /// Drops the waker, since nobody polls any more.
     pub(crate) fn forget_waker(&self) {
         let mut stage = self.lock();
         let is_polled = matches!(*stage, Stage::Pending { then: Then::Wake(_), .. });

@@ -5,8 +5,8 @@ use super::histogram::Histogram;
 use super::status::{Status, TenantStatus};
 
 impl Status {
-    /// All of it in the text format of Prometheus. [`Status::others`] has an empty tenant's name, and is left out while it
-    /// has no counts.
+    /// The status in the text format of Prometheus. [`Status::others`] has an empty tenant's name, and is left out
+    /// while it has no counts.
     ///
     /// ```
     /// use twodfq::{KindId, Pool};

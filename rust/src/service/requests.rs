@@ -11,7 +11,7 @@ pub(crate) struct Ticket {
 impl Ticket {
     pub(crate) const FIRST: Ticket = Ticket { number: 0, place: 0 };
 
-    /// Its label in the scheduler. No two waiting requests have the same.
+    /// Its label in the scheduler. No other waiting request has it.
     pub(crate) fn label(&self) -> u64 {
         self.place.into()
     }

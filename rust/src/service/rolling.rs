@@ -1,5 +1,5 @@
-//! Schedulers one after another: before the room of one ends the next is opened, and takes what comes. Workers take from the
-//! older ones until these are drained.
+//! Schedulers one after another: before the room of one ends the next is opened, and gets the new requests. Workers
+//! take from the older schedulers until these are drained.
 use std::mem;
 use std::sync::Arc;
 
@@ -7,7 +7,7 @@ use super::requests::Submitted;
 use super::settings::{Settings, ONE_REQUEST_AND_CLOSE};
 use crate::{Due, OpenFault, Refusal, Scheduler, Submit, Taken};
 
-/// The caller whom entries name that no worker made.
+/// The caller in entries that no worker made.
 const CALLER: u32 = 64;
 
 /// A scheduler that was opened ahead, and the weights that it has.
@@ -16,7 +16,7 @@ pub(crate) struct Spare {
     pub(crate) weights: Vec<u32>,
 }
 
-/// A scheduler, and what of it is in use.
+/// A scheduler, and the counts of its entries and requests.
 pub(crate) struct History {
     /// How many schedulers of the pool were opened before it.
     pub(crate) number: u64,
@@ -52,7 +52,7 @@ impl History {
     }
 }
 
-/// A dispatch: which history it is of, and the number of its job.
+/// A dispatch: the number of its history, and the label of its request.
 pub(crate) struct Dispatch {
     pub(crate) history: u64,
     pub(crate) label: u64,
@@ -70,9 +70,9 @@ pub(crate) struct Rolling {
     pub(crate) journal: Option<u64>,
     pub(crate) spare: Option<Spare>,
     pub(crate) is_opening: bool,
-    /// Whether the journal of the newest has ended early, so that it goes on with the next.
+    /// Whether the journal of the newest scheduler has ended early, so that it goes on with the next.
     pub(crate) is_cut: bool,
-    /// Those that are over and that nobody has yet.
+    /// The histories that are over and not yet released.
     pub(crate) over: Vec<History>,
     pub(crate) is_closed: bool,
 }
@@ -96,7 +96,7 @@ impl Rolling {
         Ok(rolling)
     }
 
-    /// Opens the next scheduler, or takes the one that was opened ahead. With the present number of workers.
+    /// Opens the next scheduler, or uses the spare. It gets the present number of workers.
     fn open_next(&mut self, moment: u64) -> Result<(), OpenFault> {
         let spare = self.spare.take().filter(|spare| spare.weights == self.weights);
         let scheduler = match spare {
@@ -123,14 +123,14 @@ impl Rolling {
         Ok(())
     }
 
-    /// Puts a history aside that is over.
+    /// Puts a history aside if it is over.
     fn clear(&mut self, place: usize) {
         if self.histories[place].is_over() {
             self.over.push(self.histories.remove(place));
         }
     }
 
-    /// Virtual time of the newest, where not all is over.
+    /// Virtual time of the newest scheduler, where not all are over.
     pub(crate) fn virtual_time(&mut self) -> Option<u128> {
         self.histories.last_mut().map(|newest| newest.scheduler.status().virtual_time)
     }
@@ -139,14 +139,14 @@ impl Rolling {
         self.histories.last_mut().expect("there is one until the pool is closed")
     }
 
-    /// How many entries the newest has at most, or where a journal is written, that journal.
+    /// How many entries the newest history has at most, or its journal, where one is written.
     fn room(&self) -> u64 {
         self.journal.map_or(self.settings.entries.into(), |_| self.settings.journal_room())
     }
 
-    /// Whether the next job should begin the next scheduler: a sixteenth of the entries is kept for changes while this one
-    /// drains. Where nothing waits and the next was opened ahead an eighth of the room is left unused, so that no job waits for
-    /// those of this one; or more, where the journal waits for the next.
+    /// Whether the next job should begin the next scheduler: a sixteenth of the entries is kept for changes while this
+    /// one drains. Where nothing waits and there is a spare an eighth of the room is left unused, so that no job waits
+    /// for jobs of this scheduler; or more, where the journal waits for the next.
     fn is_time_to_roll(&self) -> bool {
         let Some(newest) = self.histories.last() else { return false };
         let entries = u64::from(self.settings.entries);
@@ -196,7 +196,7 @@ impl Rolling {
         self.clear(place);
     }
 
-    /// What the worker runs next, by the oldest scheduler that has something for it.
+    /// The worker's next request, by the oldest scheduler that has one for it.
     pub(crate) fn take(&mut self, moment: u64, worker: u32) -> Option<Dispatch> {
         for history in self.histories.iter_mut().filter(|history| history.waiting > 0) {
             if let Ok(Taken::Run { label, .. }) = history.scheduler.take(worker, moment, worker) {
@@ -209,19 +209,19 @@ impl Rolling {
         None
     }
 
-    /// Whether something waits in any of them.
+    /// Whether a request waits in any scheduler.
     pub(crate) fn has_waiting(&self) -> bool {
         self.histories.iter().any(|history| history.waiting > 0)
     }
 
-    /// Whether something is eligible for the worker in the scheduler that it would take from.
+    /// Whether a head is eligible for the worker in the scheduler that it would take from.
     pub(crate) fn is_eligible(&mut self, moment: u64, worker: u32) -> bool {
         let oldest = self.histories.iter_mut().find(|history| history.waiting > 0);
         oldest.is_some_and(|history| matches!(history.scheduler.due(moment, worker), Ok(Due::Eligible)))
     }
 
-    /// The estimate of the job that the worker would take before its time. None while an older scheduler has jobs that wait:
-    /// who comes waits for these anyway.
+    /// The estimate of the job that the worker would take before its time. None while an older scheduler has jobs that
+    /// wait: a new job waits for these anyway.
     pub(crate) fn early(&mut self, moment: u64, worker: u32) -> Option<u64> {
         let (newest, older) = self.histories.split_last_mut()?;
         if newest.waiting == 0 || older.iter().any(|history| history.waiting > 0) {
@@ -237,7 +237,7 @@ impl Rolling {
         self.histories.iter().position(|history| history.number == number)
     }
 
-    /// The worker's job has used so much. Whether that was noted: it is not where the history has no room for it.
+    /// Reports the use of the worker's job. Whether it was noted: it is not where the history has no room for it.
     pub(crate) fn report(&mut self, moment: u64, worker: u32, number: u64, used: u64) -> bool {
         let Some(place) = self.place(number) else { return false };
         let history = &mut self.histories[place];
@@ -281,7 +281,7 @@ impl Rolling {
         }
     }
 
-    /// Nothing more comes. A second close has nothing to change.
+    /// Closes the newest scheduler. A second close has nothing to change.
     pub(crate) fn close(&mut self, moment: u64) {
         if mem::replace(&mut self.is_closed, true) {
             return;
@@ -291,7 +291,7 @@ impl Rolling {
         self.spare = None;
     }
 
-    /// The weights of the scheduler that should be opened ahead, where it is time for that. Who asks opens it.
+    /// The weights of the scheduler that should be opened ahead, where it is time for that. The caller opens it.
     pub(crate) fn ahead(&mut self) -> Option<Vec<u32>> {
         let newest = self.histories.last()?;
         let is_time = self.is_cut || newest.entries * 4 >= self.room() * 3;

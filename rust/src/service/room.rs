@@ -1,11 +1,11 @@
-//! Places for requests that wait. Each tenant has places of its own, which no other tenant's flood takes, and all share the
-//! rest. A tenant takes at most as many shared places as it leaves free, so one flood leaves half of them (Choudhury and
-//! Hahne, 1998).
+//! Places for requests that wait. Each tenant has places of its own, which no other tenant's flood takes, and all share
+//! the rest. A tenant takes at most as many shared places as it leaves free, so one flood leaves half of them
+//! (Choudhury and Hahne, 1998).
 use super::cause::Cause;
 
 pub(crate) struct Room {
     all: u32,
-    /// How many requests of one tenant may wait, where the caller sets that.
+    /// How many requests of one tenant may wait, where the caller sets a number.
     most: Option<u32>,
     /// Places of each tenant's own.
     own: u32,
@@ -23,7 +23,7 @@ impl Room {
         Room { all, most, own, free: all - own * tenants }
     }
 
-    /// Why a tenant gets no further place. `all` requests wait, `waiting` of them its own.
+    /// Why a tenant gets no further place. `all` requests wait, of which `waiting` are its own.
     pub(crate) fn cause(&self, all: u32, waiting: u32) -> Option<Cause> {
         let has_place = match self.most {
             Some(most) => waiting < most,

@@ -1,4 +1,4 @@
-//! What all schedulers of a pool or of permits are opened with.
+//! The settings of all schedulers of a pool or of permits.
 use super::ids::TenantId;
 use super::names::Names;
 use super::trace::Hooked;
@@ -7,7 +7,7 @@ use crate::{Config, Estimator, OpenFault, Policy, Scheduler};
 /// The entries of one request more, and of the close.
 pub(crate) const ONE_REQUEST_AND_CLOSE: u64 = 4;
 
-/// What all schedulers are opened with, but for the weights.
+/// The settings of all schedulers, but for the weights.
 #[derive(Clone, Debug)]
 pub(crate) struct Settings {
     pub(crate) most_workers: u32,
@@ -36,18 +36,18 @@ pub(crate) struct Settings {
 }
 
 impl Settings {
-    /// The number of the tenant that was named so at the opening.
+    /// The number of the tenant of this name, where it was named at the opening.
     pub(crate) fn tenant(&self, name: &str) -> Option<TenantId> {
         self.tenants.number(name).filter(|number| *number < self.named).map(TenantId::new)
     }
 
-    /// How many entries the head of a journal says that its history may have.
+    /// How many entries a history may have by the head of its journal.
     pub(crate) fn journal_entries(&self) -> u32 {
         self.entries.min(self.judged)
     }
 
-    /// How many entries a journal has at most. Up to here a history of `journal_entries` has room for any call, so that the
-    /// first entries of a longer one are legal by that head.
+    /// How many entries a journal has at most. Up to here a history of `journal_entries` has room for any call, so that
+    /// the first entries of a longer one are legal by that head.
     pub(crate) fn journal_room(&self) -> u64 {
         let needed = 2 * u64::from(self.room) + u64::from(self.most_workers) + ONE_REQUEST_AND_CLOSE;
         let is_long = self.entries > self.judged;

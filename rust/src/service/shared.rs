@@ -1,4 +1,4 @@
-//! What the threads of a pool, or the callers of permits, share, and how a call is made.
+//! The part that the threads of a pool, or the callers of permits, share, and how a call is made.
 use std::hint;
 use std::io;
 use std::sync::{Arc, Condvar, Mutex, MutexGuard, PoisonError, TryLockError};
@@ -17,23 +17,23 @@ use super::withdraw::Withdrawn;
 /// How often a thread looks whether the lock is free before it sleeps.
 const LOOKS: u32 = 300;
 
-/// What a request carries, and with it how its workers are served: a job, whose workers are threads that come for it, or
-/// the place of a permit.
+/// The payload of a request, and with it how its workers are served: a job, whose workers are threads that come for it,
+/// or the place of a permit.
 pub(crate) trait Payload: Sized + Send + 'static {
-    /// What the state knows of the workers.
+    /// The state of the workers.
     type Workers: Send;
-    /// What the workers wait at.
+    /// The signals that the workers wait for.
     type Signals: Send + Sync;
-    /// What is left to do for workers after a call.
+    /// The effects of a call on the workers.
     type Effects: Send;
 
     /// Serves the workers that do not ask by themselves. It ends each call, under the lock.
     fn serve(state: &mut State<Self>, moment: u64) -> Self::Effects;
 
-    /// Does what is left to do for workers, without the lock.
+    /// Carries out the effects on the workers, without the lock.
     fn carry_out(shared: &Arc<Shared<Self>>, effects: Self::Effects);
 
-    /// Gives this as the request's result, without the lock.
+    /// Gives the reason as the request's result, without the lock.
     fn withdraw(self, why: Withdrawn);
 }
 
@@ -41,10 +41,10 @@ pub(crate) struct Shared<P: Payload> {
     state: Mutex<State<P>>,
     pub(crate) settings: Arc<Settings>,
     pub(crate) clock: Clock,
-    /// After what time a running request may report once more.
+    /// The time after which a running request may report once more.
     pub(crate) refresh: Duration,
     pub(crate) signals: P::Signals,
-    /// A journal that has written all that there is sleeps here.
+    /// A journal that has written all entries sleeps here.
     pub(crate) written: Condvar,
     timer: Arc<Timer>,
 }
@@ -81,8 +81,8 @@ impl<P: Payload> Shared<P> {
         self.clock.reading(Instant::now())
     }
 
-    /// Nothing of a caller's own runs under this lock, but for the allocator, so it is soon free: who finds it taken looks
-    /// again for about as long as a call takes, and only then sleeps, since a sleep and a wake cost several calls.
+    /// No caller's code runs under this lock, but for the allocator, so it is soon free: a thread that finds it taken
+    /// looks again for about as long as a call takes, and only then sleeps, since sleep and wake cost several calls.
     pub(crate) fn lock(&self) -> MutexGuard<'_, State<P>> {
         for _ in 0..LOOKS {
             match self.state.try_lock() {
@@ -94,7 +94,7 @@ impl<P: Payload> Shared<P> {
         self.state.lock().unwrap_or_else(PoisonError::into_inner)
     }
 
-    /// Makes a call at the present moment, and does what is left to do after it.
+    /// Makes a call at the present moment, and carries out its effects.
     pub(crate) fn call<R>(self: &Arc<Self>, call: impl FnOnce(&mut State<P>, u64) -> R) -> R {
         let moment = self.moment();
         let mut state = self.lock();
@@ -105,7 +105,7 @@ impl<P: Payload> Shared<P> {
         reply
     }
 
-    /// Does what is left to do after a call, without the lock.
+    /// Carries out the effects of a call, without the lock.
     pub(crate) fn carry_out(self: &Arc<Self>, effects: Effects<P>) {
         effects.events.iter().for_each(|event| event.trace(&self.settings));
         P::carry_out(self, effects.workers);
@@ -121,7 +121,7 @@ impl<P: Payload> Shared<P> {
         }
     }
 
-    /// Opens the next scheduler while the present one still has room, so that nobody waits for its opening.
+    /// Opens the next scheduler while the present one still has room, so that no caller waits for its opening.
     fn open_ahead(&self, weights: Vec<u32>) {
         let spare = self.settings.open(&weights).ok().map(|scheduler| Spare { scheduler, weights });
         let mut state = self.lock();

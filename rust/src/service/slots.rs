@@ -1,5 +1,5 @@
-//! The tenants' slots of the scheduler. The tenants of the opening keep theirs. A tenant that comes by name takes a free
-//! slot, or the slot of the one that was idle longest.
+//! The tenants' slots of the scheduler. The tenants of the opening keep theirs. A tenant that comes by name takes a
+//! free slot, or the slot of the tenant that was idle longest.
 use std::collections::{BTreeSet, HashMap};
 use std::sync::Arc;
 

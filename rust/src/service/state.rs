@@ -1,4 +1,4 @@
-//! What the threads of a pool, or the callers of permits, share under the lock.
+//! The state that the threads of a pool, or the callers of permits, share under the lock.
 use std::collections::BTreeSet;
 use std::mem;
 
@@ -29,7 +29,7 @@ pub(crate) struct Running {
     pub(crate) begun: u64,
 }
 
-/// A request that a worker has been given.
+/// A request that a worker has taken.
 pub(crate) struct Run<P> {
     pub(crate) payload: P,
     pub(crate) request: Running,
@@ -44,19 +44,19 @@ pub(crate) struct Ended {
     pub(crate) panicked: bool,
 }
 
-/// What is left to do once the lock is given back.
+/// The effects of a call, which are carried out without the lock.
 pub(crate) struct Effects<P: Payload> {
     pub(crate) wakes_journal: bool,
     pub(crate) ahead: Option<Vec<u32>>,
-    /// These give their memory back.
+    /// The histories whose memory is given back.
     pub(crate) over: Vec<History>,
-    /// These were withdrawn, and learn it.
+    /// The payloads of withdrawn requests, each with its reason.
     pub(crate) withdrawn: Vec<(P, Withdrawn)>,
-    /// A hook is told of these.
+    /// The events for the hook.
     pub(crate) events: Vec<Event>,
-    /// When the timekeeper is to come.
+    /// When the timekeeper is to wake.
     pub(crate) alarm: Option<u64>,
-    /// What there is to do for the workers.
+    /// The effects on the workers.
     pub(crate) workers: P::Effects,
 }
 
@@ -73,20 +73,20 @@ pub(crate) struct State<P: Payload> {
     pub(crate) room: Room,
     pub(crate) limits: Limits,
     pub(crate) slots: Slots,
-    /// What is counted of each slot's tenant,
+    /// The counts of each slot's tenant,
     pub(crate) counts: Vec<Count>,
-    /// and of no present tenant: of those that have left, and of calls that name none.
+    /// and those of no present tenant: of tenants that have left, and of calls that name none.
     pub(crate) others: Count,
     pub(crate) waiting: u32,
     pub(crate) running: u32,
     /// How many tenants have requests that wait or run.
     pub(crate) open_tenants: u32,
     pub(crate) patience: Patience,
-    /// Whether something has changed for those who wait patiently.
+    /// Whether something has changed for the patient workers.
     pub(crate) has_news: bool,
     /// Whether something has changed for all workers.
     pub(crate) has_changed: bool,
-    /// How many requests have come to the scheduler that nobody was woken for.
+    /// How many requests have come to the scheduler for which no worker was woken.
     pub(crate) fresh: u32,
     pub(crate) is_closed: bool,
     /// Whether the journal sleeps until there is news.
@@ -143,7 +143,7 @@ impl<P: Payload> State<P> {
         Some((ticket, waiting))
     }
 
-    /// What the worker runs next, from this reading on.
+    /// The worker's next request, which runs from this reading on.
     pub(crate) fn take(&mut self, begun: Reading, worker: u32) -> Option<Run<P>> {
         let Dispatch { history, label } = self.rolling.take(begun.moment, worker)?;
         let (ticket, waiting) = self.leave(label).expect("a label is that of a request which waits");
@@ -184,7 +184,7 @@ impl<P: Payload> State<P> {
         self.note_of(number, tenant, kind, What::Ended { cost, panicked });
     }
 
-    /// Notes what a hook is to be told, where there is one.
+    /// Notes an event for the hook, where there is one.
     pub(crate) fn note(&mut self, event: impl FnOnce(&Self) -> Event) {
         if self.rolling.settings.hook.0.is_some() {
             let event = event(self);
@@ -192,12 +192,12 @@ impl<P: Payload> State<P> {
         }
     }
 
-    /// Notes what has become of a request of a tenant.
+    /// Notes an event of a tenant's request.
     pub(crate) fn note_of(&mut self, number: u64, tenant: u32, kind: u32, what: What) {
         self.note(|state| Event { number, owner: state.slots.owner(tenant), kind, what });
     }
 
-    /// Notes it where the tenant has no request any more, after one has gone.
+    /// Notes that the tenant is idle, where its last open request has gone.
     pub(crate) fn rest(&mut self, slot: u32) {
         if !self.counts[slot as usize].is_open() {
             self.open_tenants -= 1;
@@ -213,7 +213,7 @@ impl<P: Payload> State<P> {
         reply
     }
 
-    /// What is left to do after a call. The scheduler is closed once nothing more is held back from it.
+    /// The effects of a call. The scheduler is closed once no request is held back from it.
     pub(crate) fn effects(&mut self, moment: u64) -> Effects<P> {
         if self.is_closed && self.limits.is_empty() {
             self.rolling.close(moment);
@@ -231,8 +231,8 @@ impl<P: Payload> State<P> {
         }
     }
 
-    /// The histories that are over and that no journal will read. Where a journal is too slow these are the oldest but the
-    /// one that it is at.
+    /// The histories that are over and that no journal will read. Where a journal is too slow the oldest are among
+    /// them, but for the history that it reads.
     fn released(&mut self) -> Vec<History> {
         let over = &mut self.rolling.over;
         let Some(at) = self.rolling.journal else { return mem::take(over) };

@@ -1,4 +1,4 @@
-//! What a pool has done and does, for those who watch it.
+//! The status of a pool or of permits.
 use std::sync::Arc;
 
 use super::count::Count;
@@ -6,7 +6,7 @@ use super::histogram::Histogram;
 use super::shared::{Payload, Shared};
 use super::state::State;
 
-/// A tenant of a pool at some moment. What is counted is counted since the opening.
+/// The status of a tenant at some moment. Its counts are since the opening, or since the tenant got its slot.
 ///
 /// ```
 /// let pool = twodfq::Pool::builder().tenant("acme", 5).open().unwrap();
@@ -33,13 +33,13 @@ pub struct TenantStatus {
     pub cancelled: u64,
     /// How many were withdrawn after their deadline.
     pub late: u64,
-    /// How many have ended, those that panicked among them.
+    /// How many have ended, with those that panicked.
     pub done: u64,
     /// How many ended by a panic.
     pub panicked: u64,
     /// How many reports of running jobs were noted.
     pub reports: u64,
-    /// What the jobs that have ended cost together.
+    /// The sum of the costs of the jobs that have ended.
     pub microseconds: u64,
     /// The waits of jobs that have begun, from submit to start.
     pub wait_times: Histogram,
@@ -47,7 +47,7 @@ pub struct TenantStatus {
     pub run_times: Histogram,
 }
 
-/// A pool at some moment. A result may be there a little before its worker has told the job's end.
+/// The status of a pool at some moment. A result may be there a little before its job counts as done.
 ///
 /// ```
 /// let pool = twodfq::Pool::builder().workers(2).tenant("acme", 1).open().unwrap();
@@ -66,18 +66,18 @@ pub struct Status {
     pub running: u32,
     /// How many schedulers were opened since the opening, one after another.
     pub schedulers: u64,
-    /// Virtual time of the newest of these, in steps, of which a unit has 1,048,576; it begins at 0 with each. None once the
-    /// pool is closed and all is done.
+    /// Virtual time of the newest of these, in steps, of which a unit has 1,048,576; it begins at 0 with each. None
+    /// once the pool is closed and all is done.
     pub virtual_time: Option<u128>,
     /// How many jobs were taken before their time, once the patience was over or where no wait was worth a sleep.
-    /// Nothing is counted where nobody looks: where patience is 0, one tenant alone has jobs in the pool, or an older
-    /// scheduler's wait.
+    /// No job is counted where no worker looks: where patience is 0, one tenant alone has jobs in the pool, or jobs of
+    /// an older scheduler wait.
     pub early: u64,
-    /// How often a worker waited for another job than the one that it would have taken (see `Builder::patience`).
+    /// How often a worker waited for another job than it would have taken (see `Builder::patience`).
     pub waits: u64,
-    /// How many microseconds these waits took together, of those that have ended.
+    /// The sum of these waits in microseconds, of those that have ended.
     pub waited: u64,
-    /// The tenants by their numbers, those that came by name after those that were named at the opening.
+    /// The tenants by their numbers: those of the opening, and then those that came by name.
     pub tenants: Vec<TenantStatus>,
     /// The counts of tenants that came by name and have left, and of refused calls without a known tenant. Its name is
     /// empty, and its weight 0.
@@ -85,8 +85,8 @@ pub struct Status {
 }
 
 impl Status {
-    /// Under the lock numbers alone are copied, into room that is there before, and names that came since are shared: to
-    /// copy names takes more than ten times as long.
+    /// Under the lock numbers alone are copied, into memory that was taken before, and names that came since are
+    /// shared: to copy names takes more than ten times as long.
     pub(crate) fn of<P: Payload>(shared: &Shared<P>) -> Status {
         let settings = &shared.settings;
         let (slots, named) = (settings.tenants.len(), settings.named as usize);
@@ -109,17 +109,17 @@ impl Status {
     }
 }
 
-/// What is copied of the tenants.
+/// The copy of the tenants' weights, counts and names.
 struct Copy {
     weights: Vec<u32>,
     counts: Vec<Count>,
-    /// Of those that came by name.
+    /// The names of the tenants that came by name.
     names: Vec<Option<Arc<str>>>,
     others: Count,
 }
 
 impl Copy {
-    /// Copies it, and all else.
+    /// Copies the tenants, and returns the rest of the status.
     fn fill<P: Payload>(&mut self, state: &mut State<P>) -> Status {
         self.weights.copy_from_slice(&state.rolling.weights);
         self.counts.copy_from_slice(&state.counts);

@@ -32,9 +32,9 @@ pub struct Traced<'a> {
     pub kind: &'a str,
 }
 
-/// Hears of each request, for tracing. The thread that causes an event calls the hook, and waits for it. Calls of two
-/// threads may come in another order than their events. A hook may call the pool itself. Its panic is printed, as any, and
-/// goes no further.
+/// A hook for the events of requests, for tracing. The thread that causes an event calls the hook, and waits for it.
+/// Calls of two threads may come in another order than their events. A hook may call the pool itself. Its panic is
+/// printed, as any, and goes no further.
 ///
 /// ```
 /// use std::sync::atomic::{AtomicU64, Ordering};

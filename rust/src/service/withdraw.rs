@@ -60,7 +60,7 @@ impl<P: Payload> State<P> {
         Some(waiting)
     }
 
-    /// Withdraws the requests whose deadline has passed. It reads the clock, since the call may have waited for the lock.
+    /// Withdraws the requests whose deadline has passed. Reads the clock, since the call may have waited for the lock.
     pub(crate) fn expire(&mut self) {
         if self.deadlines.is_empty() {
             return;

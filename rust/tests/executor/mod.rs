@@ -13,7 +13,7 @@ impl Wake for Unpark {
     }
 }
 
-/// One poll, by which nobody is woken.
+/// One poll, with a waker that wakes nobody.
 #[allow(dead_code, reason = "not each test needs it")]
 pub fn poll<F: Future + Unpin>(future: &mut F) -> Poll<F::Output> {
     struct Nobody;

@@ -1,4 +1,4 @@
-//! A pool whose one worker is kept busy, so that what is handed in waits.
+//! A pool whose one worker is kept busy, so that further jobs wait.
 use std::sync::mpsc::{self, Sender};
 
 use twodfq::{Builder, KindId, Pool};

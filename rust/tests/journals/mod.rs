@@ -1,4 +1,4 @@
-//! Journals that a test reads, and what the proved program says of them.
+//! Journals that a test reads, and that the proved program judges.
 use std::env;
 use std::io::{self, Write};
 use std::process::{Command, Stdio};
@@ -26,7 +26,7 @@ impl Text {
     }
 }
 
-/// The journal is legal to its last entry by the proved program, where `TWODFQ_PROGRAM` names that.
+/// The journal is legal to its last entry by the proved program, where `TWODFQ_PROGRAM` names the program.
 pub fn judge(journal: &str) {
     let Some(program) = env::var_os("TWODFQ_PROGRAM") else { return };
     let mut child = Command::new(program).arg("check").stdin(Stdio::piped()).stdout(Stdio::piped()).spawn().unwrap();

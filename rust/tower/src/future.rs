@@ -26,7 +26,7 @@ pin_project! {
     #[project = StageProjection]
     enum Stage<S, B, T> {
         Waits { acquire: Acquire, next: Option<(S, Request<B>)> },
-        // what runs is dropped before the permit goes back
+        // the inner future is dropped before the permit goes back
         Runs { #[pin] running: T, permit: Permit },
         Over,
     }

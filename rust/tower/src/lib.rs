@@ -55,10 +55,10 @@ use twodfq::{KindId, Permits, Tenant, Terms};
 pub use future::PermitFuture;
 pub use refused::status;
 
-/// Makes each request wait for a permit. The function `F` tells the tenant and the kind of a request.
+/// Makes each request wait for a permit. The function `F` returns the tenant and the kind of a request.
 ///
 /// A request that gets no permit is answered with the [`status`] of the cause and an empty body. The
-/// [`Cause`](twodfq::Cause) is among the extensions of the answer, for layers outside of this one.
+/// [`Cause`](twodfq::Cause) is among the extensions of the answer, for the layers around this layer.
 ///
 /// ```
 /// use http::Request;
@@ -116,7 +116,7 @@ impl<S, F: Clone> Layer<S> for PermitLayer<F> {
 }
 
 /// A service whose requests wait for a permit, as [`PermitLayer`] makes it. In axum a router or a route is the inner
-/// service, and the layer makes this one of it.
+/// service, and the layer wraps it in this service.
 #[derive(Clone, Debug)]
 pub struct PermitService<S, F> {
     inner: S,
@@ -143,7 +143,7 @@ where
         let deadline = longest_wait.and_then(|time| Instant::now().checked_add(time));
         let terms = deadline.map_or(Terms::default(), |deadline| Terms::default().deadline(deadline));
         let acquire = permits.acquire_with(tenant, kind, terms);
-        // the service that said that it is ready goes with the request; a clone of it has said nothing yet
+        // the service that was polled ready goes with the request; its clone was not polled yet
         let next = self.inner.clone();
         let ready = mem::replace(&mut self.inner, next);
         PermitFuture::new(acquire, ready, request)

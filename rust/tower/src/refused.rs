@@ -7,7 +7,7 @@ use twodfq::Cause;
 /// - 429 if the tenant's own requests fill its room;
 /// - 503 if the service as a whole can't take it: the permits are closed, the room or the slots for tenants are full,
 ///   the deadline has passed, or memory is short;
-/// - 403 if there is no such tenant, and 400 if its name is none;
+/// - 403 if there is no such tenant, and 400 if its name is not 1 to 256 bytes long;
 /// - 500 if the function of the layer named a kind that does not exist.
 ///
 /// ```

@@ -13,7 +13,7 @@ use tower::{service_fn, Layer, Service, ServiceExt};
 use twodfq::{Cause, KindId, Permits, Tenant, TenantStatus};
 use twodfq_tower::PermitLayer;
 
-/// What a request of the flood takes.
+/// The time of a request of the flood.
 const LONG: Duration = Duration::from_millis(30);
 
 fn owner(request: &Request<Body>) -> (Tenant<'_>, KindId) {
@@ -62,7 +62,7 @@ impl Caller {
     }
 }
 
-/// Waits until the tenant stands so.
+/// Waits until the tenant's status is so.
 async fn until(permits: &Permits, tenant: usize, stands: impl Fn(&TenantStatus) -> bool) {
     let begun = Instant::now();
     while !stands(&permits.status().tenants[tenant]) {
@@ -107,7 +107,7 @@ async fn a_flood_is_refused_and_a_trickle_beside_it_is_not() {
     }
     goes_on.store(false, Ordering::SeqCst);
 
-    let one_queue = LONG * WAITING / 2; // what one queue before two permits takes
+    let one_queue = LONG * WAITING / 2; // the wait in one queue before two permits
     assert!(longest < one_queue / 2, "{longest:?}, and one queue takes {one_queue:?}");
     let (mut answered, mut refused) = (0, 0);
     for flood in floods {
@@ -133,7 +133,7 @@ async fn a_client_that_goes_away_while_it_waits_is_withdrawn() {
     assert_eq!(permits.status().tenants[0].cancelled, 1);
     drop(held);
     assert_eq!(caller.call("/").await.unwrap(), StatusCode::OK);
-    until(&permits, 0, |acme| acme.done == 2).await; // what was held, and this request
+    until(&permits, 0, |acme| acme.done == 2).await; // the held request, and this one
 }
 
 #[tokio::test]
