@@ -16,7 +16,7 @@ const (
 	WFQ        Policy = C.TWODFQ_WFQ + 1       // the least finish tag
 	WF2Q       Policy = C.TWODFQ_WF2Q + 1      // the least finish tag of the heads that have started in virtual time
 	MSF2Q      Policy = C.TWODFQ_MSF2Q + 1     // as WF2Q, with starts by the virtual time that passed while a tenant was idle
-	TwoDFQ     Policy = C.TWODFQ_2DFQ + 1      // as WF2Q, with starts that differ from worker to worker
+	TwoDFQ     Policy = C.TWODFQ_2DFQ + 1      // as WF2Q, with eligible keys that differ from worker to worker
 	TwoDFQPlus Policy = C.TWODFQ_2DFQ_PLUS + 1 // as TwoDFQ, with a virtual time that stays near the service
 )
 

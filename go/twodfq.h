@@ -42,7 +42,7 @@ enum {
     TWODFQ_WFQ,      /* the least finish tag */
     TWODFQ_WF2Q,     /* the least finish tag of the heads that have started in virtual time */
     TWODFQ_MSF2Q,    /* as WF2Q, with starts by the virtual time that passed while a tenant was idle */
-    TWODFQ_2DFQ,     /* as WF2Q, with starts that differ from worker to worker */
+    TWODFQ_2DFQ,     /* as WF2Q, with eligible keys that differ from worker to worker */
     TWODFQ_2DFQ_PLUS /* as 2DFQ, with a virtual time that stays near the service */
 };
 

@@ -140,7 +140,8 @@ impl Builder {
     ///
     /// Further tenants come by name, any text of 1 to 256 bytes. A new tenant gets a free slot, or the slot of the
     /// tenant that has been idle longest. Where every slot's tenant has a request that waits or runs, the call is
-    /// refused with [`Cause::NoSlot`](crate::Cause::NoSlot). So memory stays flat over any number of names.
+    /// refused with [`Cause::NoSlot`](crate::Cause::NoSlot). So memory stays flat over any number of names,
+    /// but for an entry for each name whose weight was set.
     ///
     /// A new tenant inherits the slot's estimates of costs and its place in virtual time. Under the default policy that
     /// place is close to where a new tenant would begin. The counts of a tenant that left go to
