@@ -1,5 +1,5 @@
-"""Whether `bench/simulate` makes the history that the program makes of a trace, and reckons lags as its report does. In the trace
-all requests come at once, and the fluid ends those of all tenants in one moment."""
+"""Whether `bench/simulate` makes the program's history of a trace, and computes the lags of its report. In the trace all requests
+come at once, and the ideal server ends those of all tenants in one moment."""
 
 import subprocess
 import sys
@@ -28,7 +28,7 @@ def trace():
 
 
 def reported(program, file, policy, estimate):
-    """How many slots the program's report has, and the five ranks of each tenant's lags."""
+    """The number of slots in the program's report, and the five ranks of each tenant's lags."""
     words = [program, "run", "--workers", str(WORKERS), "--policy", policy, "--estimate", estimate]
     with open(file) as source:
         text = subprocess.run(
@@ -46,7 +46,7 @@ def simulated(simulator, slots, policy, estimate):
 
 
 def compared(simulator, program, room, is_quick):
-    """Ends with status 1 where a lag is another."""
+    """Ends with status 1 where a lag differs."""
     file = f"{room}/trace"
     with open(file, "w") as to:
         to.write(trace())

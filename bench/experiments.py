@@ -17,30 +17,30 @@ SECONDS_BEFORE = (10, 20, 40, 80, 160)
 NEAR_CHEAP, NEAR_COSTLY = Costs("near", CHEAP), Costs("near", COSTLY)
 # From 1 to 1000 milliseconds, and their mean.
 LOG_UNIFORM, MEAN_LOG_UNIFORM = Costs("log-uniform", 1, 1000), 144.6
-# One of ten near 100 milliseconds, the others near 1.
+# One cost of ten near 100 milliseconds, the others near 1.
 TWO_HUMPED, MEAN_TWO_HUMPED = Costs("two-humped", 1, COSTLY, 0.1), 10.9
-# Anything from a cheap request to a costly one.
+# Any cost from that of a cheap request to that of a costly request.
 ANY, MEAN_ANY = Costs("log-uniform", CHEAP, COSTLY), 17.16
 
 
 def backlogged(costly=50, cheap_costs=NEAR_CHEAP, costly_costs=NEAR_COSTLY):
-    """Tenants that want something all the time, this number of them costly."""
+    """Tenants with a backlog all the time, this number of them costly."""
     return (Tenants(TENANTS - costly, cheap_costs), Tenants(costly, costly_costs))
 
 
 def visited(load):
-    """Cheap tenants that ask for a part of their share, beside as many costly ones that want something all the time."""
+    """Cheap tenants that ask for a part of their share, beside as many costly tenants with a backlog all the time."""
     return (Tenants(50, NEAR_CHEAP, load=load * WORKERS / TENANTS), Tenants(50, NEAR_COSTLY))
 
 
 def unpredictable(tenants):
-    """This number of tenants of either sort may send anything."""
+    """This number of tenants of either sort may send requests of any cost."""
     steady = (Tenants(50 - tenants, NEAR_CHEAP, CHEAP), Tenants(50 - tenants, NEAR_COSTLY, COSTLY))
     return (*steady, Tenants(2 * tenants, ANY, MEAN_ANY))
 
 
-# Costs that nobody knows, by name. In each the first tenants are the cheap ones that are looked at, and declared is the mean of the
-# tenant.
+# Costs that nobody knows, by name. In each the first tenants are the cheap tenants of the table, and the declared cost is the mean
+# of the tenant.
 UNKNOWN = {
     "steady": (Tenants(50, NEAR_CHEAP, CHEAP), Tenants(50, NEAR_COSTLY, COSTLY)),
     "log-uniform": (Tenants(50, NEAR_CHEAP, CHEAP), Tenants(50, LOG_UNIFORM, MEAN_LOG_UNIFORM)),
@@ -108,14 +108,14 @@ def ranged(values):
 
 
 def least(values):
-    """The names of the least of values by name, and of those that are alike it."""
+    """The names of the least of these values, and of the values that are alike it."""
     best = min(values.values(), key=lambda one: one.middle)
     names = [f"`{name}`" for name, one in values.items() if one.is_alike(best)]
     return "all alike" if len(names) == len(values) else ", ".join(names) + (" alike" if len(names) > 1 else "")
 
 
 def by_policy(simulator, cells, situation):
-    """A row: how much a cheap tenant's lag spreads under each policy, and under which the least."""
+    """A row: the spread of a cheap tenant's lag under each policy, and the policy with the least."""
     values = {policy: simulator.values(situation(policy), spread) for policy in POLICIES}
     return [*cells, *(ranged(one) for one in values.values()), least(values)]
 
@@ -127,7 +127,7 @@ def policy_head(*words):
 # The experiments: each has its table, and some have more for their pictures.
 
 
-# How costs are known, and whether all tenants come in one moment or at random in the first second.
+# Estimates of costs, and whether all tenants come in one moment or at random in the first second.
 COMINGS = {
     "known": {"estimate": "declared"},
     "`pessimistic`": {"estimate": "pessimistic"},
@@ -201,7 +201,7 @@ def is_behind(simulator, way, load):
 
 
 def marked(values, is_in):
-    """The cells of a column: the least is bold, and those that are alike."""
+    """The cells of a column: the least value is bold, and the values that are alike it."""
     best = min((one for one, counts in zip(values, is_in) if counts), key=lambda one: one.middle)
     for one, counts in zip(values, is_in):
         text = ranged(one) if counts else "unbounded"
@@ -233,7 +233,7 @@ def rivals(simulator, loads=RIVAL_LOADS):
     return table(WAIT_HEAD, [row for load in loads for row in wait_rows(simulator, RIVALS, load)], 2)
 
 
-# As on the threads of `rust/examples/patience.rs`: all cheap requests take as long, and all costly ones.
+# As on the threads of `rust/examples/patience.rs`: all cheap requests have one cost, and all costly requests have one.
 EQUAL_WAYS = {"one queue": RIVALS["one queue"], **WAYS}
 SLEPT = 0.37
 
@@ -264,7 +264,7 @@ class Starving:
         compiled([f"{HERE}/starving.c"], library, self.binary)
 
     def pause(self, story, policy, seconds):
-        """For how many seconds one of the two waits and is not taken, at most."""
+        """The longest time in seconds for which one of the two tenants waits and is not taken."""
         key = (story, policy, seconds)
         if key not in self.seen:
             words = [self.binary, str(story), str(STARVING_POLICIES.index(policy)), str(seconds)]

@@ -1,6 +1,6 @@
 // Preloaded into the program by `bench/faults`: counts its allocations, its reads of standard input, its writes of standard output
-// and of messages, and the threads that it starts, and has one of them fail, or all from it on. Reads and writes can be cut down to
-// one byte each.
+// and of messages, and the threads that it starts, and has one of these calls fail, or all from it on. Reads and writes can be cut
+// down to one byte each.
 #define _GNU_SOURCE
 #include <dlfcn.h>
 #include <errno.h>
@@ -16,10 +16,10 @@
 
 enum { ALLOCATION, READ, WRITE, MESSAGE, START, KINDS };
 
-// Shared with `bench/faults`, which writes what is asked for and reads what was counted: all are numbers of 64 bits.
+// Shared with `bench/faults`, which writes the calls that fail and reads the counts: all are numbers of 64 bits.
 struct plan {
     int64_t kind, at, to;      // the calls from `at` to `to` of this kind fail, counted from 1
-    int64_t error;             // by this error; 0: they move no byte
+    int64_t error;             // with this error; 0: they move no byte
     int64_t one_byte;          // whether every read and write moves one byte at most
     _Atomic int64_t calls[KINDS];
     _Atomic int64_t failed;
@@ -30,7 +30,7 @@ static struct plan *plan;
 typedef int starts(pthread_t *, const pthread_attr_t *, void *(*)(void *), void *);
 static starts *start;
 
-// Whether this thread is starting another: what that takes inside the C library is no allocation of the program.
+// Whether this thread is starting another: memory that the C library takes for that is no allocation of the program.
 static _Thread_local int is_starting __attribute__((tls_model("initial-exec")));
 
 __attribute__((constructor)) static void begin(void) {
@@ -78,7 +78,7 @@ int pthread_create(pthread_t *made, const pthread_attr_t *how, void *(*body)(voi
     return answer;
 }
 
-// What a failed read or write answers.
+// The result of a failed read or write.
 static ssize_t failure(void) { return plan->error ? -1 : 0; }
 
 static size_t cut(size_t count) { return plan && plan->one_byte && count > 1 ? 1 : count; }
@@ -98,7 +98,7 @@ ssize_t write(int file, const void *from, size_t count) {
 ssize_t __read(int, void *, size_t) __attribute__((alias("read")));
 ssize_t __write(int, const void *, size_t) __attribute__((alias("write")));
 
-// The first piece that is not empty stands for all: a call may move less than it was asked to.
+// The first piece that is not empty is moved in place of all: a call may move less than it was asked to.
 static struct iovec first(const struct iovec *pieces, int count) {
     int at = 0;
     while (at + 1 < count && !pieces[at].iov_len) at++;

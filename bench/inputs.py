@@ -14,8 +14,8 @@ def entries_of(calls):
 
 
 def script_of(calls, tenants, workers, policy="2dfq", estimate="pessimistic", seed=7):
-    """A script in which each tenant submits one request at first; from then on about as many are submitted as are taken
-    and ended, of very uneven costs, and some are reported between. So about as many wait at the end as at the start."""
+    """A script in which each tenant submits one request at first; from then on about as many requests are submitted as are
+    taken and ended, of very uneven costs, and some are reported between. So about as many wait at the end as at the start."""
     draw = random.Random(seed)
     lines = [f"config {workers} {policy} {estimate} 1000 {entries_of(calls)} {min(calls, 262_144)}"]
     lines += [f"tenant t{t} {1 + t % 4}" for t in range(tenants)]
@@ -46,9 +46,9 @@ def script_of(calls, tenants, workers, policy="2dfq", estimate="pessimistic", se
 
 def takes_of(takes, tenants, workers, is_worst):
     """A script in which the last worker takes a head that is not eligible for it, ends its request at cost 0, and the tenant
-    submits it anew, again and again, while each tenant has a head. All moments are 0, and virtual time is. At worst each head
-    is as long as it can be with an eligible key of 1 for the last worker, by its finish, so that nothing but a look at each
-    head shows that none is eligible. Else heads are of uneven lengths."""
+    submits it anew, again and again, while each tenant has a head. All moments and virtual time are 0. At worst each head is,
+    for its finish, as long as an eligible key of 1 for the last worker allows, so that only a look at each head shows that
+    none is eligible. Else heads are of uneven lengths."""
     draw, last = random.Random(11), workers - 1
     finishes = [10_000 + 2 * t for t in range(tenants)]
     lengths = [(it - 1) * workers // (2 * workers - 1) if is_worst else draw.randrange(1, 5_000) for it in finishes]
@@ -56,10 +56,10 @@ def takes_of(takes, tenants, workers, is_worst):
     lines += [f"tenant t{t} 1" for t in range(tenants)]
     lines += ["kind get"]
     for t, (finish, length) in enumerate(zip(finishes, lengths)):
-        # (the cost that it has run by then is its start)
+        # (the tenant's start is the cost of its requests so far)
         lines += [f"submit 0 0 {t} 0 {finish - length} {t}", "take 1 0 0", f"done 1 0 0 {finish - length}"]
     heads = [f"submit 0 0 {t} 0 {length} {t}" for t, length in enumerate(lengths)]
-    # (no head is eligible at virtual time 0: then the least eligible key goes first, and of equal ones the least finish)
+    # (no head is eligible at virtual time 0: then the least eligible key goes first, and of equal keys the least finish)
     first = min(range(tenants), key=lambda t: (workers * (finishes[t] - lengths[t]) - last * lengths[t], finishes[t]))
     again = [f"take {1 + last} 0 {last}", f"done {1 + last} 0 {last} 0", heads[first]]
     return "\n".join(["script 1", *lines, *heads, *(again * takes)]) + "\n"
@@ -74,7 +74,7 @@ def backlog_of(tenants, seed=5):
 
 
 def calls_of(journal):
-    """The script whose calls leave this journal."""
+    """The script whose calls make this journal."""
     with open(journal) as lines:
         script = []
         for line in lines:
@@ -92,7 +92,7 @@ def calls_of(journal):
 
 
 def write(name, text_of, *numbers):
-    """Makes a text in a process of its own, so that this one, whose size a child's peak begins with, stays small."""
+    """Makes a text in a process of its own, so that this process stays small: a child's peak begins with its parent's size."""
     child = os.fork()
     if child == 0:
         with open(name, "w") as file:

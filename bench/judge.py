@@ -1,6 +1,6 @@
-"""The verdict on a journal, and why a request was taken, as `check` tells them, how far a tenant got ahead of another, as
-`lead` tells it, and the status after each entry, as `live --watch` tells it, reckoned without any of the program's own
-code. It looks at every tenant wherever a worker chooses, and reads no journal that has a fault."""
+"""The verdict on a journal and the reason of a take, as `check` writes them, the lead of a tenant over another, as `lead`
+writes it, and the status after each entry, as `live --watch` writes it, computed without any of the program's own code.
+It looks at every tenant wherever a worker chooses, and reads no journal that has a fault."""
 
 import collections
 
@@ -41,7 +41,7 @@ def line_of(entry):
 
 
 def length(cost, weight):
-    """What a cost takes in virtual time at a weight, rounded up."""
+    """The length of a cost at a weight, in steps, rounded up."""
     return -(-cost * UNIT // weight)
 
 
@@ -59,7 +59,7 @@ class Tenant:
 
 
 class History:
-    """What a scheduler has to go by after some entries. With fewer than all of the rules it is no scheduler of this project."""
+    """The state of a scheduler after some entries. With fewer than all of the rules it is no scheduler of this project."""
 
     def __init__(self, journal, rules=RULES):
         self.rules = rules
@@ -71,7 +71,7 @@ class History:
         self.length, self.waiting, self.closed = 0, 0, False
 
     def advance(self, moment):
-        """How far virtual time moves from the last entry to this moment."""
+        """The rise of virtual time from the last entry to this moment."""
         weights = sum(t.weight for t in self.tenants if t.open)
         return (moment - self.moment) * self.workers * UNIT // weights if weights else 0
 
@@ -81,7 +81,7 @@ class History:
         return min(by_clock, self.reached) if self.config.policy == "2dfq+" and "cap" in self.rules else by_clock
 
     def stagger(self, worker, lasts):
-        """By how much a worker may begin a head of this length before its start."""
+        """The stagger of a worker for a head of this length."""
         return worker * lasts // self.workers if self.config.policy in ("2dfq", "2dfq+") else 0
 
     def estimate(self, request):
@@ -191,7 +191,7 @@ class History:
         return reply, None if rest is None else Entry(entry.act, entry.who, moment, rest)
 
     def enter(self, entry):
-        """An entry that belongs here."""
+        """Adds an entry that is legal here."""
         moved, virtual = self.advance(entry.moment), self.time_at(entry.moment)
         for tenant in self.tenants:
             tenant.idle += 0 if tenant.open else moved
@@ -223,7 +223,7 @@ class History:
         if self.config.policy == "2dfq+":
             start = tenant.charged + tenant.base
             if "lift" in self.rules:
-                # to what makes the request eligible
+                # to the eligible key of the request
                 self.virtual = max(self.virtual, start - self.stagger(worker, lasts))
             self.reached = max(self.reached, start + lasts)
         tenant.waits.popleft()
@@ -238,7 +238,7 @@ class History:
         tenant.open, self.waiting = tenant.open - 1, self.waiting - 1
 
     def status(self):
-        """What a line `status` has: entries, the last moment, virtual time at it, and how many requests wait and run."""
+        """The numbers of a line `status`: entries, last moment, virtual time at it, waiting requests and running requests."""
         return self.length, self.moment, self.virtual, self.waiting, len(self.runs)
 
     def charge(self, act, worker, request, use):
@@ -265,7 +265,7 @@ def statuses(text):
 
 
 def turned_out(journal, tenant):
-    """How long the requests of a tenant turned out, at the entries that tell it, by number."""
+    """The lengths of a tenant's requests, by number, at the entries that set their charges."""
     history, found = History(journal), collections.defaultdict(list)
     for entry in journal.entries:
         before = history.runs.get(entry.rest[0]) if entry.act == "done" else None
@@ -278,7 +278,7 @@ def turned_out(journal, tenant):
 
 
 def enter_for_lengths(history, entry):
-    """Enters an entry, and gives the lengths at it: of each head, and by its charge of each request that runs or ended with it."""
+    """Adds an entry, and gives the lengths at it: of each head, and by its charge of each request that runs or ended with it."""
     ended = [history.runs[entry.rest[0]]] if entry.act == "done" else []
     history.enter(entry)
     heads = [(history.requests[tenant.waits[0]], tenant.weight) for tenant in history.tenants if tenant.waits]
@@ -295,19 +295,19 @@ def longest(journal):
 
 
 def furthest(workers, most):
-    """How far a tenant gets ahead of one that waits, at most, where no request is longer."""
+    """The greatest lead of a tenant over a tenant that waits, where no request is longer than `most`."""
     return (workers + workers // 2 + 1) * most + (workers - 1) * most // workers - 1
 
 
 def ever(journal):
-    """The words of the bound that asks nothing of the past, which a journal under 2dfq+ has."""
+    """The text of the bound `ever`, which `lead` writes for a journal under 2dfq+."""
     if journal.config.policy != "2dfq+":
         return ""
     return f" ever {furthest(journal.config.workers, longest(journal))}"
 
 
 def lead(text, of, over):
-    """What `lead` writes of a legal journal, and of two tenants of it."""
+    """The output of `lead` for a legal journal and two of its tenants."""
     journal = read(text)
     f, g = journal.tenants.index(of), journal.tenants.index(over)
     of_f, of_g = turned_out(journal, f), turned_out(journal, g)
@@ -351,7 +351,7 @@ def explained(journal, heads, take):
 
 
 def verdict(text, request=None):
-    """The status of `check`, and what it writes; with a request, of `check --explain`."""
+    """The status of `check`, and its output; with a request, of `check --explain`."""
     journal = read(text)
     history, why = History(journal), [f"request {request} was not taken"]
     for number, given in enumerate(journal.entries, 1):

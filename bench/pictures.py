@@ -31,7 +31,7 @@ def plain(name):
 
 
 def decades(panel):
-    """Lines at powers of ten, on an axis of logarithms, and the milliseconds that they are."""
+    """Lines at powers of ten, on an axis of logarithms, and their milliseconds."""
     low, high = panel.numbers
     for decade in range(math.ceil(low), math.floor(high) + 1):
         yield element("line", x1=panel.left, y1=panel.y(decade), x2=panel.right, y2=panel.y(decade), stroke=GRID)
@@ -39,12 +39,12 @@ def decades(panel):
 
 
 def height(panel, number):
-    """Where a number of milliseconds stands on an axis of logarithms; one below the axis stands at its foot."""
+    """The height of a number of milliseconds on an axis of logarithms; a number below the axis is at its foot."""
     return panel.y(max(panel.numbers[0], math.log10(max(number, 1e-9))))
 
 
 def line(panel, values, color, is_dashed=False):
-    """A line through the middles of values that stand side by side, and at each how far the seeds lie apart."""
+    """A line through the middles of values side by side, and at each the range of the seeds."""
     points = [(panel.x(place), values_at) for place, values_at in enumerate(values)]
     for x, one in points:
         if one.least < one.greatest:
@@ -138,7 +138,7 @@ def by_rank(simulator, names, least):
 
 
 def waits_by_rival(simulator):
-    """Of all ways under which waits are bounded."""
+    """Waits by rank, of all ways to serve with bounded waits."""
     return by_rank(simulator, RIVAL_COLORS, -2)
 
 

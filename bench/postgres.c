@@ -1,9 +1,10 @@
 // Sixteen connections to PostgreSQL, which permits of a scheduler give out, or one queue: 50 tenants send look-ups by a key now and
 // then, and 50 have two scans or sorts waiting all the time. Costs are measured, the use of running requests is reported every 10
-// milliseconds, and estimates are `pessimistic`. `bench/postgres` starts a server and runs it. Words: a folder with the server's
-// socket, seconds, seconds before these that are not counted, look-ups a second, a way to serve, a patience. Prints
-// the look-ups that were answered a second, their waits for a connection and their times from submit to answer at the 50th, 99th
-// and 99.9th percentile in milliseconds; scans and sorts a second; and the medians of cost and estimate of look-ups and of these.
+// milliseconds, and estimates are `pessimistic`. `bench/postgres` starts a server and runs it. Arguments: a folder with the
+// server's socket, seconds, seconds before these that are not counted, look-ups a second, a way to serve, a patience. Prints the
+// look-ups that were answered a second, their waits for a connection and their times from submit to answer at the 50th, 99th and
+// 99.9th percentile in milliseconds; scans and sorts a second; and the medians of cost and estimate of look-ups, and of scans and
+// sorts.
 #include <libpq-fe.h>
 #include <math.h>
 #include <pthread.h>
@@ -30,21 +31,21 @@ typedef struct {
     uint64_t submitted;
 } job;
 
-// Numbers that were measured.
+// Measured numbers.
 typedef struct {
     double *values;
     size_t count, room;
 } sample;
 
-static pthread_mutex_t lock = PTHREAD_MUTEX_INITIALIZER; // all that follows is under it
-static pthread_cond_t news, calm;                        // for workers that wait for a job; and that wait patiently
+static pthread_mutex_t lock = PTHREAD_MUTEX_INITIALIZER; // for all variables below
+static pthread_cond_t news, calm;                        // for workers that wait for a job; for workers that wait patiently
 static twodfq scheduler = TWODFQ_NONE;
 static bool is_queue, is_over;
 static job jobs[ROOM];
 static uint32_t free_job, first = NOBODY, last, idle, patient, unfinished[TENANTS], open_tenants;
-static double part, spare; // patience: of estimates; and how long workers may still wait, in microseconds
+static double part, spare; // patience: the part of an estimate; and the time that workers may still wait, in microseconds
 static uint64_t begin, end, state = 7;
-static uint64_t taken_at[WORKERS]; // of the job that a worker runs, or 0
+static uint64_t taken_at[WORKERS]; // the moment of the take of a worker's job, or 0
 static sample waits, times, costs[2], estimates[2];
 static uint64_t accounts;
 
@@ -89,7 +90,7 @@ static double at_rank(sample *of, size_t thousandths) {
     return of->values[(thousandths * of->count + 999) / 1000 - 1] / 1000;
 }
 
-// Jobs that come, and who wants to know it.
+// Jobs that come, and the signals to workers.
 
 static void submit(uint32_t tenant, uint32_t kind) {
     uint64_t moment = now();
@@ -128,7 +129,7 @@ static void come(double rate) {
 
 // Patience.
 
-// How long a worker that is free since a moment may wait for another job than the one that it would take before its time.
+// The time for which a worker that is free since a moment may still wait before it takes an early job.
 static uint64_t patience(uint32_t worker, uint64_t moment, uint64_t since) {
     if (is_queue || part <= 0 || open_tenants < 2) return 0;
     twodfq_reply due = twodfq_due(&scheduler, moment, worker);
@@ -142,7 +143,7 @@ static uint64_t patience(uint32_t worker, uint64_t moment, uint64_t since) {
 static void wait_patiently(uint64_t moment, uint64_t time) {
     struct timespec until = at(moment + time - SHORTEST);
     spare -= (double)time;
-    if (idle) pthread_cond_signal(&news); // for another worker the job may be due
+    if (idle) pthread_cond_signal(&news); // the job may be due for another worker
     patient++;
     pthread_cond_timedwait(&calm, &lock, &until);
     patient--;

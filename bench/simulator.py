@@ -10,7 +10,7 @@ import subprocess
 import sys
 
 HERE = os.path.dirname(os.path.abspath(__file__))
-# Costs in milliseconds of cheap requests and of costly ones.
+# Costs in milliseconds of cheap requests and of costly requests.
 CHEAP, COSTLY = 0.3, 100
 SLOT = 1_000
 # The length of a run, in microseconds of all its workers together, and the part of it that is left out, from its begin on.
@@ -20,7 +20,7 @@ SEEDS = (1, 2, 3)
 
 @dataclasses.dataclass(frozen=True)
 class Costs:
-    """How the costs of a request are drawn: `near` low by a normal distribution with a deviation of a tenth, `fixed` at low,
+    """The distribution of the costs of requests: `near` low by a normal distribution with a deviation of a tenth, `fixed` at low,
     `log-uniform` from low to high, or `two-humped`, where this part is near high and the others near low."""
 
     law: str
@@ -31,8 +31,8 @@ class Costs:
 
 @dataclasses.dataclass(frozen=True)
 class Tenants:
-    """Tenants of one sort. Two requests of each wait all the time; or where they have a load, their requests come at random, and ask
-    for this part of a worker. `declared` is the cost that submits name, or 0 for that of each request."""
+    """Tenants of one sort. Two requests of each wait all the time; or where they have a load, their requests come at random, and
+    ask for this part of a worker. `declared` is the declared cost, or 0 for the cost of each request."""
 
     count: int
     costs: Costs
@@ -49,7 +49,7 @@ class Tenants:
 
 @dataclasses.dataclass(frozen=True)
 class Situation:
-    """Who is served, how, and for how long."""
+    """The tenants that are served, the way to serve them, and the time."""
 
     tenants: tuple
     serve: str
@@ -74,9 +74,9 @@ class Situation:
 
 @dataclasses.dataclass
 class Seen:
-    """The outcome of a simulation, by group of tenants: the mean of the spreads of their lags, and their waits at the 50th, 90th,
-    99th and 99.9th percentile; how many requests were done a second; which part of their time workers ran something; the lags of the first
-    tenant, and five ranks of each tenant's, where they are asked for."""
+    """The outcome of a simulation, by group of tenants: the mean of the spreads of their lags, their waits at the 50th, 90th, 99th
+    and 99.9th percentile, and the requests done a second; the part of their time in which workers ran requests; the lags of the
+    first tenant, and five ranks of each tenant's lags, where they are asked for."""
 
     spread: dict = dataclasses.field(default_factory=dict)
     wait: dict = dataclasses.field(default_factory=dict)
@@ -111,7 +111,7 @@ class Values:
         self.middle, self.least, self.greatest = statistics.median(values), min(values), max(values)
 
     def is_alike(self, other):
-        """Whether the two differ by less than runs with other seeds do: the ranges of the seeds meet."""
+        """Whether the two values differ by less than runs with other seeds do: the ranges of the seeds meet."""
         return self.least <= other.greatest and other.least <= self.greatest
 
 
@@ -136,13 +136,13 @@ class Simulator:
         return Seen.of(subprocess.run([self.binary], **words).stdout)
 
     def run_all(self, situations):
-        """Runs those that were not run before."""
+        """Runs the situations that were not run before."""
         new = [situation for situation in dict.fromkeys(situations) if situation not in self.seen]
         with concurrent.futures.ThreadPoolExecutor(self.jobs) as runs:
             self.seen.update(zip(new, runs.map(self.run, new)))
 
     def values(self, situation, number):
-        """A number, which a function takes of an outcome, of runs with several seeds."""
+        """The values of `number`, a function of an outcome, in runs with several seeds."""
         runs = [dataclasses.replace(situation, seed=seed) for seed in SEEDS]
         self.run_all(runs)
         return Values([number(self.seen[run]) for run in runs])

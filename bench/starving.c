@@ -1,7 +1,7 @@
-// A simulated service of 16 workers and 4,096 tenants in which one tenant gets far ahead of another. Takes a story and a policy by
-// number, and writes the journal; on standard error the longest time in which one of the two waits and is not taken, in
-// milliseconds. `bench/starving` runs it under each policy, and has `twodfq lead` measure the journal. A third number is the seconds
-// before the second tenant comes, where not 40; the service then runs for as long again, and no journal is written.
+// A simulated service of 16 workers and 4,096 tenants in which one tenant gets far ahead of another. Its arguments are the numbers
+// of a story and of a policy. It writes the journal, and on standard error the longest time in which one of the two waits and is
+// not taken, in milliseconds. `bench/starving` runs it under each policy, and has `twodfq lead` measure the journal. With a third
+// argument, the seconds before the second tenant comes (else 40), the service runs for twice these, and no journal is written.
 #include <inttypes.h>
 #include <stdbool.h>
 #include <stdio.h>
@@ -12,13 +12,13 @@
 
 enum { WORKERS = 16, TENANTS = 4096, TICK = 1000, REQUEST = 10000, VISIT = 40000, TICKS = 60000, SECOND = 1000 };
 enum { SPARE, LITTLE, FLOODS, JUMP, OVERESTIMATE, ALONE, STORIES };
-enum { BUSY, VISITOR, THIRD, OTHERS }; // the tenants that the stories tell of, and the first of the others
+enum { BUSY, VISITOR, THIRD, OTHERS }; // the tenants of the stories, and the first of the others
 
 static twodfq scheduler = TWODFQ_NONE;
-static uint64_t ends[WORKERS], charged[WORKERS]; // when the request of a worker ends, and at what cost
+static uint64_t ends[WORKERS], charged[WORKERS]; // the end of a worker's request, and its cost
 static uint32_t runs[WORKERS], waits[TENANTS], running[TENANTS];
 static bool is_free[WORKERS];
-static uint64_t visit = VISIT, ticks = TICKS; // when the second tenant comes, and the end
+static uint64_t visit = VISIT, ticks = TICKS; // the tick at which the second tenant comes, and the number of ticks
 static uint64_t state = 7, last_take[TENANTS], longest[TENANTS];
 
 // A number below n, by a linear congruence.
@@ -32,12 +32,12 @@ static void submit(uint64_t moment, uint32_t tenant, uint64_t declared) {
     if (!waits[tenant]++) last_take[tenant] = moment;
 }
 
-// So many requests of the tenant wait.
+// Submits until `count` requests of the tenant wait.
 static void keep_waiting(uint64_t moment, uint32_t tenant, uint32_t count) {
     while (waits[tenant] < count) submit(moment, tenant, REQUEST);
 }
 
-// What is asked for at this moment.
+// The submits of this moment.
 static void come(int story, uint64_t tick, uint64_t moment) {
     bool is_visit = tick >= visit;
     for (int i = 0; i < 2 && story != ALONE; i++) // the others want a worker, more or less
@@ -54,7 +54,7 @@ static void come(int story, uint64_t tick, uint64_t moment) {
     if (is_visit) keep_waiting(moment, VISITOR, 2 * WORKERS);
 }
 
-// What a request of this tenant costs, of the time that it takes.
+// The cost of a request of this tenant, which may be less than its time.
 static uint64_t cost_of(int story, uint32_t tenant) {
     bool is_little = story == LITTLE || story == OVERESTIMATE || story == ALONE;
     return is_little && tenant == BUSY ? REQUEST / 10 : REQUEST;

@@ -1,14 +1,14 @@
-"""Whose requests ran while others waited, for `turnaround`."""
+"""The tenants whose requests ran while others waited, for `turnaround`."""
 
 import collections
 
 from tables import Column, Name, Part, Table, Time
 
-# In so many parts of a microsecond time is shared.
+# The parts of a microsecond in which time is shared.
 PARTS = 1 << 20
 SUBMIT, TAKE, DONE, WITHDRAW = range(4)
-# An event is one number, so that many are soon sorted: the moment, the request in so many bits, and what becomes of it
-# in two more.
+# An event is one number, so that many events are sorted fast: the moment, the request in this number of bits, and its
+# change in two bits more.
 BITS = 40
 
 
@@ -17,7 +17,7 @@ def coded(moment, number, what):
 
 
 def events(journal):
-    """What changes who waits or runs, in the order of moments."""
+    """The changes of waiting and running requests, in the order of moments."""
     found = [coded(moment, number, SUBMIT) for number, moment in enumerate(journal.submitted)]
     for moments, what in ((journal.taken, TAKE), (journal.done, DONE)):
         found += [coded(moment, number, what) for number, moment in enumerate(moments) if moment is not None]
@@ -27,18 +27,19 @@ def events(journal):
 
 
 class Waits:
-    """How long requests waited, by tenant: `waited` of its own, `held` of others while its own ran, `own` of its own
-    while its own ran; and `pairs`, of tenants that are asked for how long it waited while each ran. All but the first
-    are in parts of microseconds.
+    """The waits of requests, by tenant: `waited` of its own requests, `held` of those of others while its own ran,
+    `own` of its own while its own ran; and `pairs`, of each tenant that is asked for while requests of each tenant ran.
+    All but the first are in parts of microseconds.
 
-    Where w requests wait and r run, each that runs gets w/r of a microsecond in a microsecond. The sum of that over
-    time is `all`, and that of 1/r is `one`. So a request that runs gets what `all` grows by meanwhile; of that what its
-    own tenant waited is found anew whenever what waits or runs of this tenant changes, by what `one` grew since."""
+    Where w requests wait and r run, each running request gets w/r of a microsecond in a microsecond. The sum of w/r
+    over time is `all`, and that of 1/r is `one`. So a running request gets the growth of `all` meanwhile. The waits of
+    its own tenant in that are added whenever the waiting or running requests of this tenant change, by the growth of
+    `one` since."""
 
     def __init__(self, journal, asked=()):
         count = len(journal.tenants)
         self.waited, self.held, self.own = [0] * count, [0] * count, [0] * count
-        # what waits and what runs of each tenant, and `one` when that was changed last
+        # the numbers of waiting and of running requests of each tenant, and `one` at their last change
         self.waiting, self.running, self.since = [0] * count, [0] * count, [0] * count
         self.all = self.one = 0
         self.asked, self.pairs, self.pair_since = asked, collections.Counter(), collections.Counter()
@@ -50,12 +51,12 @@ class Waits:
             self.waited[tenant] += self.waiting[tenant] * journal.now
 
     def settle(self, tenant):
-        """Counts what the tenant waited for itself up to now."""
+        """Adds the time that the tenant waited for itself up to now."""
         self.own[tenant] += self.waiting[tenant] * self.running[tenant] * (self.one - self.since[tenant])
         self.since[tenant] = self.one
 
     def settle_pairs(self, tenant):
-        """The same for tenants that are asked for, where what waits or runs of this tenant is about to change."""
+        """Adds the times of pairs that are asked for, before the waiting or running requests of this tenant change."""
         for waits in self.asked:
             of_all = [it for it, count in enumerate(self.running) if count or it == tenant]
             for runs in of_all if waits == tenant else [tenant]:
@@ -123,7 +124,7 @@ def ranked(rows, place):
 
 
 def workers_table(journal, shown):
-    """Which part of each worker's time each tenant had."""
+    """The part of each worker's time that each tenant had."""
     span, rows = span_of(journal), []
     for name, own in zip(journal.tenants, busy(journal)):
         if shown(name):
@@ -133,7 +134,7 @@ def workers_table(journal, shown):
 
 
 def waits_table(journal, shown):
-    """Whose requests ran while those of others waited."""
+    """The tenants whose requests ran while those of others waited."""
     waits, ran = Waits(journal), [sum(own) for own in busy(journal)]
     held, weights = sum(waits.held), sum(journal.weights)
     rows = []
@@ -149,7 +150,7 @@ def waits_table(journal, shown):
 
 
 def pairs_table(journal, shown):
-    """For whom each tenant that is shown waited."""
+    """The tenants for whom each shown tenant waited."""
     asked = [tenant for tenant, name in enumerate(journal.tenants) if shown(name)]
     waits, rows = Waits(journal, asked), []
     for tenant in asked:

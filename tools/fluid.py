@@ -7,7 +7,7 @@ import operator
 
 from tool import Fault, percentile
 
-# A report has at most so many numbers, one for each slot and tenant.
+# The greatest number of cells of a report, one for each slot and tenant.
 MOST_CELLS = 4_000_000
 
 
@@ -19,7 +19,7 @@ class Setting:
         self.changes = collections.deque((-(-it.moment // slot), it) for it in journal.changes)
 
     def next_change(self):
-        """The first slot that has another one."""
+        """The first slot that has another setting."""
         return self.changes[0][0] if self.changes else MOST_CELLS
 
     def move_to(self, place):
@@ -32,9 +32,9 @@ class Setting:
 
 
 def level_of(capacity, backlogs):
-    """The greatest level whose gifts to backlogs (units and weights) fit. They have more units than that."""
+    """The greatest level whose gifts to backlogs (units and weights) fit the capacity, which is below their units."""
     low, high = 0, 1024 * (capacity + 1)
-    # backlogs that every level from here on gives all, by their units, and such that none does, by weight
+    # the units of the backlogs that every level from here on serves as a whole, and the weights of those that none does
     served, short = 0, collections.Counter()
     while high - low > 1:
         middle = (low + high) // 2
@@ -53,14 +53,14 @@ def level_of(capacity, backlogs):
 
 @functools.lru_cache(maxsize=1024)
 def unbounded(capacity, weights):
-    """What the greatest level gives by these weights where no backlog is given all, and what the next level would."""
+    """The gifts of the greatest level by these weights where no backlog is served as a whole, and of the next level."""
     level = level_of(capacity, [(capacity + 1, weight) for weight in weights if weight])
     return tuple([it * weight // 1024 for weight in weights] for it in (level, level + 1))
 
 
 def gifts(capacity, backlog, weights):
-    """What a slot gives to each tenant's backlog: all, or up to the greatest level whose gifts fit. And how many slots
-    give the same, one after another, where nothing joins and no setting changes."""
+    """The gifts of a slot to each tenant's backlog: all of it, or that of the greatest level whose gifts fit. And the
+    number of slots with equal gifts, one after another, where no request joins and no setting changes."""
     total = sum(backlog)
     if total <= capacity:
         return backlog, 1 if total else MOST_CELLS
@@ -74,15 +74,15 @@ def gifts(capacity, backlog, weights):
 
 
 def expect_done(journal):
-    """That all requests are done or withdrawn."""
+    """Refuses a journal with a request that is neither done nor withdrawn."""
     for number, cost in enumerate(journal.cost):
         if cost is None and number not in journal.withdrawn:
             raise Fault(f"{journal.name}: request {number} is not done")
 
 
 def fluid(journal, slot, slots):
-    """What the ideal server gives in each slot, a list for each tenant. A request joins at the first slot's start at or
-    after its submit."""
+    """The gifts of the ideal server in each slot, a list for each tenant. A request joins at the first slot's start at
+    or after its submit."""
     submitted, tenant_of, costs, setting = journal.submitted, journal.tenant, journal.cost, Setting(journal, slot)
     backlog, rows, place, number, count = [0] * len(journal.tenants), [[] for _ in journal.tenants], 0, 0, len(costs)
     while place < slots:
@@ -102,12 +102,11 @@ def fluid(journal, slot, slots):
 
 
 def take_work(rows, journal, slot):
-    """Takes what is done in each slot off what is given. The work on a request is spread evenly from its take to its
-    done."""
+    """Takes the work done in each slot off the gifts. The work on a request is spread evenly from take to done."""
     for tenant, begin, end, cost in zip(journal.tenant, journal.taken, journal.done, journal.cost):
         if cost is None:
             continue
-        # (what is done at the end of a slot is done in it, also where it took no time)
+        # (work at the end of a slot is done in it, also where it took no time)
         row, first, last, rest = rows[tenant], begin // slot, max(end - 1, 0) // slot, cost
         if last >= len(row):
             raise Fault(f"{journal.name}: its report ends before its entries")

@@ -1,7 +1,7 @@
 """Reads journals for the tools beside this file.
 
-What is read is what `script`, `run` and `live` write with `--print journal` or `both`: replies before a journal are
-passed over, and a lag report after it is left for who reads on. docs/FORMATS.md has the formats.
+It reads the outputs of `script`, `run` and `live` with `--print journal` or `both`: replies before a journal are passed
+over, and a lag report after it is left to the caller. docs/FORMATS.md has the formats.
 """
 
 import collections
@@ -16,7 +16,7 @@ POLICIES = ("wfq", "wf2q", "msf2q", "2dfq", "2dfq+")
 ESTIMATORS = ("declared", "recent", "pessimistic")
 REPLIES = ("request", "run", "ok", "retired", "idle", "drained", "refused", "withdrawn")
 VERSIONS = (["journal", "1"], ["journal", "2"], ["journal", "3"])
-# What of a journal its entries make, but for what waits.
+# The fields of a journal that its entries change, but for `waiting`.
 STATE = "tenant kind submitted label taken worker done cost since running numbers".split()
 STATE += "withdrawn pool changes now is_closed".split()
 WORKERS = {b"%d" % worker: worker for worker in range(64)}
@@ -32,16 +32,16 @@ def numbered(names):
 
 class Journal:
     """A journal. Its head is read at once, and its entries by `steps`: an entry that no scheduler could have written is
-    a fault, but whether its decisions were right is not asked.
+    a fault, but decisions are not judged.
 
-    What the entries so far say of requests stands in columns, by number: tenant, kind, submitted, taken, worker, done,
-    cost; and label as digits. What is not known yet is None. And there are `waiting` (the requests of each tenant,
-    of which the first waits), `since` (when a tenant last began to wait), `running` (the digits of requests, by those
-    of workers), `withdrawn` (when each was), `pool` (the number of workers), `changes`, and `now`, the moment of the
-    last entry."""
+    The requests of the entries so far are in columns, by number: tenant, kind, submitted, taken, worker, done, cost;
+    and label as digits. A value that is not known yet is None. Other fields are `waiting` (the requests of each tenant,
+    of which the first waits), `since` (the moment at which a tenant last began to wait), `running` (the digits of
+    requests, by those of workers), `withdrawn` (the moment of each withdraw), `pool` (the number of workers),
+    `changes`, and `now`, the moment of the last entry."""
 
     def __init__(self, file, name):
-        # (nothing that is kept here refers to itself)
+        # (no object that is kept here refers to itself)
         gc.disable()
         self.lines, self.name = Lines(file, name), name
         self.expect = self.lines.expect
@@ -50,7 +50,7 @@ class Journal:
         self.tenant, self.kind, self.submitted, self.label = [], [], [], []
         self.taken, self.worker, self.done, self.cost = [], [], [], []
         self.waiting, self.since = [collections.deque() for _ in self.tenants], [0] * len(self.tenants)
-        # (`numbers` has what runs on each worker, or did last)
+        # (`numbers` has the request of each worker, or its last request)
         self.running, self.numbers, self.withdrawn = {}, {}, {}
         self.pool, self.changes = self.workers, []
         self.now, self.is_closed = 0, False
@@ -110,7 +110,7 @@ class Journal:
         self.ahead = self.lines.words()
 
     def steps_of(self, text):
-        """The same of lines that come next."""
+        """Reads `text`, the lines that come next, in steps like `steps`."""
         block, fault = self.lines.block(text, self.now)
         for number in self.added(block):
             yield number, block
@@ -120,14 +120,14 @@ class Journal:
         self.now = block.moments[-1]
 
     def follow(self, other):
-        """Lets this journal stand where another does, whose entries so far are the same."""
+        """Takes over the state of another journal, whose entries so far are equal."""
         for it in STATE:
             setattr(self, it, copy.copy(getattr(other, it)))
         self.waiting = [numbers.copy() for numbers in other.waiting]
 
     def added(self, block):
-        """Adds the entries of a block, and stops after each take. Most of the time goes by here, so what most entries
-        need is done in place."""
+        """Adds the entries of a block, and stops after each take. Most of the time goes by here, so the work for most
+        entries is done in place."""
         running, numbers, taken, worker_of, done, cost = self.columns(block)
         for fields, moment in zip(block.fields, block.moments):
             word = fields[0]
@@ -155,7 +155,7 @@ class Journal:
                 self.add_other(block, fields, moment)
 
     def columns(self, block):
-        """What is written of running requests, with room for the requests of a block."""
+        """The columns of running requests, with room for the requests of a block."""
         count = sum(fields[0] == b"submit" for fields in block.fields)
         columns = self.taken, self.worker, self.done, self.cost
         for column in columns:
@@ -163,13 +163,13 @@ class Journal:
         return self.running, self.numbers, *columns
 
     def refuse(self, block, fields, why):
-        """Tells why no scheduler could have written this line of a block."""
+        """Raises the reason why no scheduler could have written this line of a block."""
         place = next(place for place, it in enumerate(block.fields) if it is fields)
         self.lines.number = block.before + place + 1
         raise self.lines.fault(why)
 
     def add_submit(self, moment, fields):
-        """Whether it could be written; if not, nothing is added."""
+        """Adds a submit, and gives whether a scheduler could have written it; if not, nothing is added."""
         _, _, _, number, tenant, kind, _, label = fields
         count, tenant, kind = len(self.submitted), self.tenant_of.get(tenant), self.kind_of.get(kind)
         if int(number) != count or tenant is None or kind is None:
@@ -204,7 +204,7 @@ class Journal:
         return True
 
     def pass_over(self, waiting):
-        """Lets the first of a tenant's requests be one that waits."""
+        """Drops withdrawn requests from the front of a tenant's requests."""
         while waiting and waiting[0] in self.withdrawn:
             waiting.popleft()
 
@@ -228,7 +228,7 @@ class Journal:
         if why:
             self.refuse(block, fields, why)
 
-    # These tell why not, or nothing.
+    # These give the reason why an entry could not be written, or None.
 
     def add_close(self, moment):
         if self.is_closed:

@@ -1,8 +1,8 @@
 """The lines of journals, one by one and by blocks of entries.
 
 Python takes half a microsecond for a split, and as long for a few numbers, so a long journal is not read line by line.
-A block of lines is split at once, looked over as a whole for whatever no line of entries has, and only where there is
-something is each of its lines looked at alone.
+A block of lines is split at once, and searched as a whole for anything that no line of entries has. Only where it has
+such a thing is each of its lines read alone.
 """
 
 import io
@@ -12,11 +12,11 @@ import re
 from tool import NUMBER, Fault, Progress
 
 GREATEST = 2**64 - 1
-# How many numbers follow each word.
+# The count of numbers behind each word.
 ENTRIES = {"submit": 7, "take": 5, "report": 5, "done": 5, "close": 2, "weight": 4, "workers": 3, "withdraw": 3}
-# What is left of a line without its digits.
+# The shapes of lines: their text without digits.
 SHAPES = {f"{word}{' ' * count}".encode() for word, count in ENTRIES.items()}
-# How many bytes are read at once.
+# The number of bytes that are read at once.
 SIZE = 1 << 15
 REPORT = b"report 1\n"
 LEADING_ZERO = re.compile(rb" 0[0-9]")
@@ -30,7 +30,7 @@ class Block:
 
     def __init__(self, before, lines):
         self.before, self.lines = before, lines
-        # (sooner than at single spaces, and in lines that are plain the same)
+        # (faster than at single spaces, and equal in lines that are plain)
         self.fields = [line.split() for line in lines]
 
     def read_moments(self):
@@ -94,7 +94,7 @@ class Lines:
         return line[:-1].decode(errors="surrogateescape").split(" ")
 
     def back(self, words):
-        """Lets these words, which were read last, be those of the next line; not so after the last line."""
+        """Puts the words of the line that was read last back as the next line; after the last line it does nothing."""
         if words:
             self.number -= 1
             self.at -= len(" ".join(words).encode(errors="surrogateescape")) + 1
@@ -136,12 +136,12 @@ class Lines:
         return text if end == len(text) else text[:end]
 
     def pass_over(self, text):
-        """Lets these lines, which come next, be read."""
+        """Passes over these lines, which come next."""
         self.at += len(text)
         self.number += text.count(b"\n")
 
     def block(self, text, now):
-        """Lines that come next as entries, up to a fault, and then the fault."""
+        """The next lines as entries, up to a fault, and then the fault."""
         block = Block(self.number, text[:-1].split(b"\n"))
         self.pass_over(text)
         if text.endswith(b"\n") and block.is_plain(text, now):
@@ -149,7 +149,7 @@ class Lines:
         return self.up_to_fault(block.before, text, now)
 
     def up_to_fault(self, before, text, now):
-        """The entries before the first line with a fault, and it."""
+        """The entries before the first line with a fault, and the fault."""
         self.number, good = before, []
         try:
             for line in io.BytesIO(text):

@@ -1,5 +1,5 @@
-"""Reads the lines of a service's logs as columns, for `from_log`: what web servers write, JSON, and CSV, packed by gzip
-or not."""
+"""Reads the lines of a service's logs as columns, for `from_log`: logs of web servers, JSON, and CSV, packed by gzip or
+not."""
 
 import contextlib
 import csv
@@ -18,7 +18,7 @@ ACCESS = re.compile(
     r'"(?P<method>\S+) (?P<path>\S+)(?: [^" ]*)?" (?P<status>\d{3}) (?P<size>\d+|-)(?P<more>(?: .*)?)'
 )
 AGENT = re.compile(r' "((?:[^"\\]|\\.)*)" "((?:[^"\\]|\\.)*)"')
-# A word behind, which may be quoted and have a name, as rt=0.125.
+# A word behind the agent, which may be quoted and have a name, as rt=0.125.
 WORD = re.compile(r'(?:(?P<name>[A-Za-z_]\w*)=)?(?:"(?P<quoted>(?:[^"\\]|\\.)*)"|(?P<bare>\S+))')
 # nginx writes `-` where it asked no other server, and a list where it asked several.
 UPSTREAM = re.compile(r"(?:.* )?(?P<duration>[\d.]+) (?P<upstream>(?:[\d.]+|-)(?:(?:, | : )(?:[\d.]+|-))*)")
@@ -31,12 +31,12 @@ ENVOY = re.compile(
 PART = re.compile(r"part([1-9][0-9]?)")
 # The columns of an access log that not every line has.
 BEHIND = re.compile(r"word[1-9][0-9]?|=[A-Za-z_]\w*|duration|referer|agent")
-# So much of a line is shown, and after so many letters it is asked whether to tell how far a file is read.
+# The greatest part of a line that is shown, and the number of letters after which progress is counted.
 MOST_SHOWN, MOST_UNTOLD = 160, 100_000
 
 
 class Unread(Exception):
-    """Why a line can't be read."""
+    """The reason why a line can't be read."""
 
 
 def access(line):
@@ -59,19 +59,19 @@ def access(line):
 
 
 def timed(line):
-    """The same with a duration behind."""
+    """The columns of a web server's line with a duration behind."""
     columns = access(line)
     return columns if columns and "duration" in columns else None
 
 
 def upstream(line):
-    """The same with two durations behind, the second of what another server did."""
+    """The columns of a web server's line with two durations behind, the second that of another server."""
     columns = access(line)
     times = columns and UPSTREAM.fullmatch(ACCESS.fullmatch(line)["more"].strip())
     if not times:
         return None
     parts = [it for it in re.split(", | : ", times["upstream"]) if it != "-"]
-    # (a sum of decimal numbers with at most so many places)
+    # (a sum of decimal numbers with at most six places)
     total = sum(round(float(it) * 1_000_000) for it in parts if it.replace(".", "", 1).isdigit())
     return {**columns, "duration": times["duration"], "upstream": f"{total // 1_000_000}.{total % 1_000_000:06}"}
 
@@ -98,8 +98,8 @@ def json_object(line):
 
 
 class Format:
-    """How a log is written: what reads a line, what a line has, its columns where they are known, and what options are
-    where none is given."""
+    """The format of a log: the function that reads a line, the description of a line, its columns where they are known,
+    and the defaults of options."""
 
     def __init__(self, read, expected, columns=None, **defaults):
         self.read, self.expected, self.columns = read, expected, columns
@@ -138,7 +138,7 @@ def parts_of(path):
 
 
 def member(columns, name):
-    """What a column has: by its name, or of JSON also by a path through objects, as http.request.path."""
+    """The value of a column by its name, or of JSON also by a path through objects, as http.request.path."""
     if name in columns:
         return columns[name]
     first, _, rest = name.partition(".")
@@ -160,7 +160,7 @@ def value(columns, name, path):
 
 @contextlib.contextmanager
 def opened_log(name):
-    """A log as text, what it is called in messages, and what tells how far it is read."""
+    """A log as text, its name in messages, and its progress."""
     called = "standard input" if name == "-" else name
     with sys.stdin.buffer if name == "-" else open(name, "rb") as raw:
         file = raw if hasattr(raw, "peek") else io.BufferedReader(raw)
@@ -174,7 +174,7 @@ def opened_log(name):
 
 
 def told_lines(file, progress):
-    """The lines of a file; now and then it is told how far it is read."""
+    """The lines of a file, whose progress is counted now and then."""
     count = 0
     for line in file:
         count += len(line)
@@ -185,7 +185,7 @@ def told_lines(file, progress):
 
 
 def csv_rows(file, needed, name):
-    """The number of each row's last line, its text, and its columns, or None where it has others."""
+    """The number of each row's last line, its text, and its columns, or None where it has too many or too few."""
     reader = csv.DictReader(file)
     try:
         for column in needed:
@@ -200,7 +200,7 @@ def csv_rows(file, needed, name):
 
 
 def rows_of(file, format_name, needed, name, progress):
-    """The same of each line of a log."""
+    """The number of each line of a log, its text, and its columns, or None where it can't be read."""
     if format_name == "csv":
         yield from csv_rows(told_lines(file, progress), needed, name)
         return
@@ -217,7 +217,7 @@ def shown(line):
 
 
 def count_lines(name):
-    """How many lines a file has; None where that can't be asked without reading it up."""
+    """The number of lines of a file; None for standard input, which can be read only once."""
     if name == "-":
         return None
     with opened_log(name) as (file, _, _):

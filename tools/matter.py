@@ -1,4 +1,4 @@
-"""Which tenants or kinds of a journal matter most, for the pictures of the tools beside this file."""
+"""The tenants or kinds of a journal that matter most, for the pictures of the tools beside this file."""
 
 import collections
 import itertools
@@ -9,7 +9,7 @@ from tool import within
 
 
 def busy(journal, column="tenant"):
-    """How long workers ran requests of each tenant or kind, by its number."""
+    """The time for which workers ran requests of each tenant or kind, by its number."""
     found = collections.Counter()
     for group, taken, done in zip(getattr(journal, column), journal.taken, journal.done):
         if taken is not None:
@@ -18,7 +18,7 @@ def busy(journal, column="tenant"):
 
 
 def waiting(journal, column="tenant"):
-    """How long requests of each waited in all."""
+    """The time for which requests of each tenant or kind waited, by its number."""
     found = collections.Counter()
     for number, (group, submitted, taken) in enumerate(zip(getattr(journal, column), journal.submitted, journal.taken)):
         found[group] += (journal.withdrawn.get(number, journal.now) if taken is None else taken) - submitted
@@ -29,7 +29,7 @@ BY = {"busy": busy, "waiting": waiting}
 
 
 def add_words(words, orders, default, has_most=False):
-    """The options of what has a color of its own. A tool may have an option --most already."""
+    """The options for the names that have colors of their own. A tool may have an option --most already."""
     words.add_argument(
         "--tenants", type=lambda it: it.split(","), metavar="NAME,..", help="these have colors, and all others are grey"
     )
@@ -52,7 +52,7 @@ def names(journal, column):
 
 
 def colored_names(journals, given, count):
-    """The names that have a color: those that are asked for, or so many at most, in the order of the journals' heads."""
+    """The names that have a color: those asked for, or at most `count`, in the order of the journals' heads."""
     if given.tenants:
         for journal in journals:
             expect_names(given.tenants, journal.tenants, "tenant", journal.name)
@@ -66,13 +66,13 @@ def colored_names(journals, given, count):
 
 
 def with_others(journals, column, color_of):
-    """The lines of a legend: the names that have a color, and how many have none."""
+    """The lines of a legend: the names that have a color, and the number of names that have none."""
     others = len({name for it in journals for name in names(it, column)} - set(color_of))
     return [*color_of.items(), *([(f"{others} others", OTHERS)] if others else [])]
 
 
 def most(sizes, count):
-    """So many names with the greatest of sizes, by turns of each kind of size. These are by file, kind and name."""
+    """At most `count` names with the greatest sizes, by turns of each kind of size. Sizes are by file, kind, name."""
     orders = []
     for kind in zip(*sizes):
         greatest = {}

@@ -1,20 +1,20 @@
-"""What the pictures of the tools beside this file share: SVG, axes with round numbers, colors and legends."""
+"""The common parts of the pictures of the tools beside this file: SVG, axes with round numbers, colors and legends."""
 
 import colorsys
 import html
 
-# Colors that most people tell apart (Okabe and Ito, 2008), and what all others are drawn in.
+# Colors that most people tell apart (Okabe and Ito, 2008), and the color of all others.
 COLORS = ("#0072b2", "#e69f00", "#009e73", "#d55e00", "#cc79a7", "#56b4e9", "#000000", "#f0e442")
 OTHERS = "#b3b3b3"
 GRID, ZERO, INK = "#dddddd", "#999999", "#333333"
-# The height of a line of a legend, and how many names it has at most.
+# The height of a line of a legend, and the greatest number of its names.
 LINE, MOST_NAMES = 16, 20
-# Microseconds, and what so many are called.
+# Units of time: their microseconds, and their names.
 UNITS = ((1_000_000, "seconds"), (1_000, "milliseconds"), (1, "microseconds"))
 
 
 def colors(count):
-    """So many colors."""
+    """This number of colors."""
     if count <= len(COLORS):
         return list(COLORS[:count])
     hues = (colorsys.hls_to_rgb(place / count, (0.45, 0.62)[place % 2], 0.65) for place in range(count))
@@ -50,7 +50,7 @@ def label(x, y, text, anchor="start"):
 
 
 def ticks(low, high, most):
-    """The multiples of 1, 2, 5, 10, 20 or so from low to high, of which there are about so many at most."""
+    """The multiples of 1, 2, 5, 10, 20 or so from low to high, about `most` of them at most."""
     step = 1
     while (high - low) / step > most:
         step = step * 5 // 2 if str(step)[0] == "2" else step * 2
@@ -78,7 +78,7 @@ class Panel:
         return self.bottom - (self.bottom - self.top) * (value - low) / (high - low)
 
     def time_axis(self, is_told=True):
-        """Lines at round moments, and below them what they are."""
+        """Lines at round moments, and their labels below."""
         low, high = self.moments
         unit, name = unit_of(low, high)
         for moment in ticks(low, high, 10):
@@ -89,7 +89,7 @@ class Panel:
             yield label((self.left + self.right) / 2, self.bottom + 32, name, "middle")
 
     def number_axis(self, unit=1):
-        """Lines at round numbers, and beside them how many of a unit they are; that of 0 is darker."""
+        """Lines at round numbers, and beside them their labels in a unit; the line of 0 is darker."""
         for value in ticks(*self.numbers, 5):
             place = {"x1": self.left, "y1": self.y(value), "x2": self.right, "y2": self.y(value)}
             yield element("line", **place, stroke=GRID if value else ZERO)
@@ -101,7 +101,7 @@ class Panel:
 
 
 def legend(left, top, names):
-    """A line for each pair of a name and a color, and one for those that there is no room for."""
+    """A line for each pair of a name and a color, and a line with the number of names for which there is no room."""
     for place, (name, color) in enumerate(names[:MOST_NAMES]):
         yield element("rect", x=left, y=top + LINE * place, width=10, height=10, fill=color)
         yield label(left + 15, top + LINE * place + 9, name)
@@ -110,7 +110,7 @@ def legend(left, top, names):
 
 
 def legend_height(count):
-    """How high the legend of so many names is."""
+    """The height of a legend of this number of names."""
     return LINE * min(count, MOST_NAMES + 1)
 
 

@@ -7,9 +7,9 @@ import time
 
 from tool import PATIENCE, TELLING, Fault, tool_name
 
-# (by the name that the tool was called by: beside a folder that is a link it is another one)
+# (by the path that the tool was called by: beside a folder that is a link there is another program)
 HERE = os.path.dirname(os.path.abspath(sys.argv[0]))
-# What is a fault of the journal that was given, and not of its form.
+# The status for a journal that has the right form and is not legal.
 ILLEGAL = 8
 
 
@@ -25,7 +25,7 @@ def add_word(words):
 
 
 def answer(program, words, name, **source):
-    """What the program writes for these words and an input: `input`, bytes, or `stdin`, a file."""
+    """The output of the program for these words and an input: `input`, bytes, or `stdin`, a file."""
     try:
         ran = subprocess.run([program, *words], stdout=subprocess.PIPE, stderr=subprocess.PIPE, check=False, **source)
     except OSError as error:
@@ -39,7 +39,7 @@ def answer(program, words, name, **source):
 
 
 class Count:
-    """How many pieces of work are done: told on standard error where it takes long, and every few seconds."""
+    """The number of pieces of work done: shown on standard error where it takes long, and every few seconds."""
 
     def __init__(self, whole, what):
         self.whole, self.what, self.done, self.next = whole, what, 0, time.monotonic() + PATIENCE

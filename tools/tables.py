@@ -12,7 +12,7 @@ UNITS = {"us": 1, "ms": 1_000, "s": 1_000_000}
 
 
 def digits(value):
-    """A number with three digits that count, and all that stand before the point."""
+    """A number with three significant digits, and all digits before the point."""
     size = abs(value)
     return f"{value:.0f}" if size >= 99.95 else f"{value:.1f}" if size >= 9.995 else f"{value:.2f}"
 
@@ -31,8 +31,8 @@ def in_unit(time, unit):
 
 
 class Column:
-    """A column: how its values stand in text, and how elsewhere. A value that is not known is None. A `key` is what CSV
-    and JSON call it where that is not its name."""
+    """A column: its values in text, and in CSV and JSON. A value that is not known is None. A `key` is the name in CSV
+    and JSON, where that is another."""
 
     is_name = False
 
@@ -46,7 +46,7 @@ class Column:
         return value
 
     def key(self, units):
-        """What CSV and JSON call it, with its unit."""
+        """The name of the column in CSV and JSON, with its unit."""
         return self.own_key
 
 
@@ -119,7 +119,7 @@ def aligned(column, cell, width):
 
 
 def add_words(words, tables=(), default=None):
-    """The options of what tables are written, and how."""
+    """The options for the tables that are written, and for their format."""
     if tables:
         words.add_argument(
             "--tables",
@@ -151,7 +151,7 @@ def chosen(parser, given, tables):
 
 
 def written(tables, given):
-    """Tables as it is asked for."""
+    """The text of tables in the format that is asked for."""
     for table in tables:
         table.rows = table.rows[: given.most]
     if given.format == "text":
@@ -163,7 +163,7 @@ def written(tables, given):
 
 
 def expect_names(asked, names, what, where):
-    """That all names which are asked for are there."""
+    """Refuses names that are asked for and are not there."""
     for name in asked:
         if name not in names:
             raise Fault(f"{where}: there is no {what} {name}")

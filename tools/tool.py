@@ -1,4 +1,4 @@
-"""What the tools beside this file share: their faults, percentiles, words, files, and `run`."""
+"""The common parts of the tools beside this file: faults, percentiles, words, files, and `run`."""
 
 import argparse
 import contextlib
@@ -9,16 +9,16 @@ import sys
 import time
 
 NUMBER = re.compile(r"0|[1-9][0-9]{0,19}")
-# After how many seconds what is read takes long, and how often it is told from then on.
+# The seconds after which work takes long, and the seconds between two messages about it from then on.
 PATIENCE, TELLING = 3, 2
 
 
 class Fault(Exception):
-    """What is wrong with an input, and where."""
+    """The fault of an input, and its place."""
 
 
 class Progress:
-    """How far a file is read: told on standard error where it takes long, and again every few seconds."""
+    """The bytes of a file that are read: shown on standard error where it takes long, and every few seconds."""
 
     def __init__(self, file, name):
         self.name, self.read, self.next = name, 0, time.monotonic() + PATIENCE
@@ -28,7 +28,7 @@ class Progress:
             self.size = 0
 
     def add(self, count):
-        """So many bytes more are read."""
+        """Adds bytes that are read."""
         self.read += count
         if time.monotonic() > self.next:
             self.next = time.monotonic() + TELLING
@@ -41,13 +41,13 @@ def tool_name():
 
 
 def percentile(ranked, percent):
-    """The one at rank percent/100 of their number, rounded up, as lag reports have it. They stand in order."""
+    """The value at rank percent/100 of their number, rounded up, as lag reports have it. Values are in order."""
     return ranked[max(1, -(-percent * len(ranked) // 100)) - 1]
 
 
 @contextlib.contextmanager
 def opened(name):
-    """A file as it is, or standard input for `-`, and what it is called in messages."""
+    """A file as it is, or standard input for `-`, and its name in messages."""
     how = {"encoding": "utf-8-sig", "errors": "surrogateescape", "newline": "\n"}
     if name == "-":
         sys.stdin.reconfigure(**how)
@@ -62,7 +62,7 @@ def processors():
 
 
 def words_by(text):
-    """What reads a tool's words; its page is the text at the top of the tool."""
+    """The parser of a tool's words; its page is the text at the top of the tool."""
     about, _, more = text.partition("\n\n")
     return argparse.ArgumentParser(
         description=about, epilog=more, formatter_class=argparse.RawDescriptionHelpFormatter, allow_abbrev=False
@@ -70,7 +70,7 @@ def words_by(text):
 
 
 def within(low, high):
-    """What reads a number of these from a tool's words."""
+    """The parser of numbers of this range."""
 
     def number(word):
         if not NUMBER.fullmatch(word) or not low <= int(word) <= high:
@@ -81,8 +81,8 @@ def within(low, high):
 
 
 def run(main):
-    """Runs a tool: `main` gives the whole text that it writes, and the status. A fault is told, with status 1. Where
-    nobody reads on, as behind `| head`, and where it is interrupted, it ends by the signal, without a word."""
+    """Runs a tool: `main` gives the whole text that it writes, and the status. A fault is printed, with status 1. Where
+    nobody reads on, as behind `| head`, and where it is interrupted, it ends by the signal, without a message."""
     try:
         text, status = main()
         signal.signal(signal.SIGPIPE, signal.SIG_DFL)
@@ -94,7 +94,7 @@ def run(main):
         signal.signal(signal.SIGINT, signal.SIG_DFL)
         os.kill(os.getpid(), signal.SIGINT)
     except OSError as error:
-        # (what could not be written is not tried again at the end)
+        # (text that could not be written is not tried again at the end)
         os.dup2(os.open(os.devnull, os.O_WRONLY), sys.stdout.fileno())
         sys.exit(f"{tool_name()}: {error.filename + ': ' if error.filename else ''}{error.strerror}")
     sys.exit(status)

@@ -1,4 +1,4 @@
-"""Makes a trace of the requests of a log, for `from_log`: moments, names, means, and what it tells of them."""
+"""Makes a trace of the requests of a log, for `from_log`: moments, names, means, and notes on the names."""
 
 import collections
 import itertools
@@ -10,12 +10,12 @@ from tool import Fault
 MOST_REQUESTS, MOST_TENANTS, MOST_KINDS, MOST_PAIRS = 262_144, 4_096, 64, 65_536
 GREATEST_MOMENT = 10**14
 SECOND = 1_000_000
-# Of so many names it is told that they are not those of the log.
+# The greatest number of names that are listed because they differ from the log.
 MOST_TOLD = 10
-# What the tenant of those is called who gave no name.
+# The name of the tenant of users who gave no name.
 ANONYMOUS = "anonymous"
 
-# A request: the time that its line has, whose it is, its kind, what it declared, and its cost.
+# A request: the time of its line, its user, its kind, its declared cost, and its cost.
 Row = collections.namedtuple("Row", "time user kind declared cost")
 
 
@@ -66,7 +66,7 @@ class Names:
         return self.found[text]
 
     def changes(self):
-        """Which names are not those of the log, as lines."""
+        """The names that differ from the log, as lines."""
         changed = [(text, name) for text, name in zip(self.found, self.names) if text != name]
         for text, name in changed[:MOST_TOLD]:
             text = text.encode(errors="surrogateescape").decode(errors="backslashreplace")
@@ -76,7 +76,7 @@ class Names:
 
 
 def are_coarse(rows):
-    """Whether all times are whole seconds, and two requests have one."""
+    """Whether all times are whole seconds, and two requests have an equal time."""
     times = [row.time for row in rows]
     return not any(time % SECOND for time in times) and len(set(times)) < len(times)
 
@@ -90,7 +90,7 @@ def spread(rows):
 
 
 def begun(rows, is_spread, time_is):
-    """The requests in order of when they came; their times are that then."""
+    """The requests in the order in which they came; their times are then those moments."""
     rows = spread(rows) if is_spread else rows
     if time_is == "end":
         rows = (row._replace(time=row.time - row.cost) for row in rows)
@@ -107,7 +107,7 @@ def means(rows):
 
 
 def trace(rows, name, given):
-    """The lines of the trace, and what is told of its names."""
+    """The lines of the trace, and the notes on its names."""
     tenants = Names("tenant", MOST_TENANTS, f"{name}: more than {MOST_TENANTS} tenants", {"-": ANONYMOUS})
     too_many = f"{name}: more than {MOST_KINDS} kinds: take less of the paths, or another column"
     kinds = Names("kind", MOST_KINDS, too_many)

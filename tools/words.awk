@@ -1,5 +1,5 @@
-# Tells what is wrong with the words of a command line, by tools/commands.txt ($TABLE), or nothing where they are one. A
-# file that was named is no more among the words ($INPUT). It has to be run by LC_ALL=C.
+# Prints the fault of a command line's arguments, by tools/commands.txt ($TABLE), or nothing where they have none. A
+# file that was named ($INPUT) is no longer among the arguments. It has to be run with LC_ALL=C.
 
 BEGIN {
     read_table()
@@ -26,7 +26,7 @@ function read_table(    line, cells, names, count, i) {
 
 function least(a, b) { return a < b ? a : b }
 
-# by how many letters two words differ
+# the number of letters by which two words differ
 function distance(one, other,    m, n, i, j, row, last, cost) {
     m = length(one); n = length(other)
     for (j = 0; j <= n; j++) last[j] = j
@@ -41,7 +41,7 @@ function distance(one, other,    m, n, i, j, row, last, cost) {
     return last[n]
 }
 
-# the nearest of some words, where one is near, or all of them, behind this text
+# the nearest of some words, if any is near, or else all of them, behind this text
 function nearest(word, names, before,    list, count, i, best, found, d) {
     count = split(names, list, " ")
     best = length(word)

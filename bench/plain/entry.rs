@@ -1,4 +1,4 @@
-//! What is kept of each call, and why one is refused.
+//! The entries of calls, and the causes of refusals.
 
 #[derive(Clone, Copy)]
 pub enum Act {

@@ -1,7 +1,7 @@
-//! What `twodfq script` does under `2dfq` and `pessimistic`, for scripts of the first version, written in Rust as one would
-//! without contracts: the same design, and memory that never runs out. With the word `journal` it prints the journal in place
-//! of the replies. With the words `run`, `journal` or `report`, and a number of workers, it does what `twodfq run` does of a
-//! trace. `bench/run` measures the program against it.
+//! `twodfq script` under `2dfq` and `pessimistic`, for scripts of the first version, in ordinary Rust without contracts: the same
+//! design, and memory that never runs out. With the argument `journal` it prints the journal in place of the replies. With the
+//! arguments `run`, `journal` or `report`, and a number of workers, it works like `twodfq run` on a trace. `bench/run` measures the
+//! program against it.
 mod entry;
 mod report;
 mod scheduler;
@@ -15,7 +15,7 @@ use std::io::{Read, Write};
 use std::process::exit;
 use text::{Cursor, fail, line_of, refused, row};
 
-/// A scheduler by the head of a script, and where its body begins.
+/// A scheduler by the head of a script, and the place of its body.
 fn open(input: &[u8]) -> (Scheduler, Cursor<'_>) {
     let mut c = Cursor {
         bytes: input,
@@ -68,7 +68,7 @@ fn names(c: &mut Cursor) -> (Vec<Tenant>, u32) {
     }
 }
 
-/// What is printed, and whether replies are.
+/// The printed text, and whether it has the replies.
 struct Output {
     text: Vec<u8>,
     replies: bool,
@@ -126,10 +126,10 @@ fn add_journal(out: &mut Vec<u8>, head: &[u8], s: &Scheduler) {
     s.past.iter().for_each(|entry| line_of(out, entry));
 }
 
-/// What `script` prints.
+/// The output of `script`.
 fn script(input: &[u8], journal: bool) -> Vec<u8> {
     let (mut s, mut c) = open(input);
-    // below their first lines the heads of a script and of its journal are the same
+    // below their first lines the heads of a script and of its journal are equal
     let head = &input[b"script 1\n".len()..c.at];
     let mut out = Output {
         text: Vec::new(),
@@ -145,7 +145,7 @@ fn script(input: &[u8], journal: bool) -> Vec<u8> {
     out.text
 }
 
-/// What `run` prints.
+/// The output of `run`.
 fn run(input: &[u8], journal: bool, workers: u32) -> Vec<u8> {
     let trace = trace::read(std::str::from_utf8(input).unwrap_or_else(|_| exit(3)));
     let s = trace::simulate(&trace, workers);

@@ -5,7 +5,7 @@ use std::io::Write;
 
 const MOST_CELLS: u64 = 4_000_000;
 
-/// A request: whose it is, when it came, was taken and was done, and what it cost.
+/// A request: its tenant, the moments of its submit, take and done, and its cost.
 #[derive(Clone, Copy, Default)]
 struct Course {
     tenant: u32,
@@ -21,7 +21,7 @@ struct Backlog {
     weight: u32,
 }
 
-/// What a slot gives: all that is wanted, or so many 1024ths of a unit for each weight.
+/// The level of a slot: each backlog as a whole, or at most this number of 1024ths of a unit for each weight of 1.
 #[derive(Clone, Copy)]
 enum Level {
     All,
@@ -101,7 +101,7 @@ fn levels(courses: &[Course], weights: &[u32], workers: u64, slot: u64, slots: u
     levels
 }
 
-/// What a tenant is served up to the end of each slot.
+/// The fluid service of a tenant up to the end of each slot.
 fn services(own: &[Course], weight: u32, levels: &[Level], slot: u64) -> Vec<u64> {
     let (mut joined, mut cost, mut served) = (0, 0, 0);
     let mut services = Vec::with_capacity(levels.len());

@@ -4,7 +4,7 @@ use crate::text::{fail, row};
 use crate::tree::{Key, Tree};
 use std::collections::HashMap;
 
-/// After how many microseconds each a running request is reported, and the estimate before any completion.
+/// The microseconds between two reports of a running request, and the estimate before any completion.
 const REFRESH: u64 = 10_000;
 const INITIAL: u64 = 1_000;
 
@@ -58,7 +58,7 @@ pub fn read(input: &str) -> Trace {
     trace
 }
 
-/// What a worker serves: when it began, the cost, and what is used at its next event.
+/// The request of a worker: its begin, its cost, and its use at its next event.
 #[derive(Clone, Copy)]
 struct Work {
     begun: u64,
@@ -66,7 +66,7 @@ struct Work {
     due: u64,
 }
 
-/// What workers do next, and which are idle.
+/// The next events of workers, and the idle workers.
 struct Staff {
     works: Vec<Option<Work>>,
     next: Tree,

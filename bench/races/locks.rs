@@ -141,7 +141,7 @@ impl Condvar {
         Ok(guard)
     }
 
-    /// The guard, and no word of whether the time has passed.
+    /// The guard alone: no caller asks whether the time has passed.
     pub fn wait_timeout<'a, T>(&self, guard: MutexGuard<'a, T>, time: Duration) -> LockResult<(MutexGuard<'a, T>, ())> {
         let mut until = Timespec { seconds: 0, nanoseconds: 0 };
         unsafe { clock_gettime(CLOCK_REALTIME, &mut until) };

@@ -26,7 +26,7 @@ void see_wait(record *in, uint32_t group, double wait) {
     in->waits[group][in->waits_count[group]++] = wait;
 }
 
-// The fluid serves up to a moment: each tenant that is there wants something all the time, so each gets as much.
+// The ideal server serves up to a moment: each tenant that is there has a backlog all the time, so all get equal parts.
 static void pour(record *in, const situation *of, uint64_t moment) {
     if (in->backlogged) in->fluid += (double)(moment - in->fluid_moment) * of->workers / in->backlogged;
     in->fluid_moment = moment;
@@ -38,7 +38,7 @@ void see_join(record *in, const situation *of, uint32_t tenant, uint64_t moment)
     in->backlogged++;
 }
 
-// Keeps a tenant's lag after a slot: its fluid service, which is at most all that it wants, less the work done for it.
+// Keeps a tenant's lag after a slot: its fluid service, which is at most the cost of its requests, less the work done for it.
 void see_lag(record *in, const situation *of, uint32_t tenant, uint64_t moment, double work) {
     pour(in, of, moment);
     double fluid = in->fluid - in->fluid_before[tenant];
@@ -65,7 +65,7 @@ static double spread(const double *lags, size_t count) {
     return sqrt(squares / (double)count);
 }
 
-// Lags are those of tenants that all want something all the time.
+// Lags are kept where all tenants have a backlog all the time.
 static bool has_lags(const situation *in) {
     for (uint32_t place = 0; place < in->groups_count; place++)
         if (!in->groups[place].backlog) return false;

@@ -1,4 +1,4 @@
-// Who is served next: by the library's scheduler, or by the queues that a service without it would have.
+// The choice of the next request: by the library's scheduler, or by the queues that a service without it would have.
 #include <stdlib.h>
 
 #include "simulate.h"
@@ -74,7 +74,7 @@ static uint32_t take_by_deficit(service *from) {
     }
 }
 
-// Workers that are kept take of the first queue alone, and the others the older of both heads.
+// Kept workers take from the first queue alone, and the others the older of both heads.
 static uint32_t take_by_lane(service *from, uint32_t worker) {
     queue *kept = &from->queues[0], *other = &from->queues[1];
     bool is_kept = worker < from->situation->lanes;
@@ -154,7 +154,7 @@ void done(service *to, uint64_t moment, uint32_t worker, uint32_t place) {
     to->free = place;
 }
 
-// Whether the worker would take a request before its time, and then its estimate.
+// Whether the worker's next request is early, and then its estimate.
 bool is_early(service *by, uint64_t moment, uint32_t worker, uint64_t *estimate) {
     if (!is_by_library(by) || !by->waiting) return false;
     twodfq_reply due = twodfq_due(&by->scheduler, moment, worker);

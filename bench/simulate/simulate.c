@@ -1,21 +1,21 @@
-// Simulates a pool of workers over a situation that stands on standard input, and prints its record. At one moment
-// come the reports, then the completions, by worker, then the submits, then the takes, by worker: as in `twodfq run`. A worker may be
-// patient, as those of the pool in rust/ are.
+// Simulates a pool of workers over a situation from standard input, and prints its record. At one moment the reports come first,
+// then the completions, by worker, then the submits, then the takes, by worker: as in `twodfq run`. A worker may be patient, like
+// the workers of the pool in rust/.
 #include <math.h>
 #include <stdlib.h>
 
 #include "simulate.h"
 
-// The interval between two reports of a running request; the shortest patient wait, and the work of each worker over which waits may
-// be saved up.
+// The interval between two reports of a running request; the shortest patient wait; and the work of each worker over which waits
+// may be saved up.
 enum { REFRESH = 10000, SLEEP = 60, SAVED = 1000000 };
 
 typedef struct {
     bool is_busy, is_patient;
-    uint32_t place;       // of the request that it runs
-    uint64_t begun, ends; // when that request was taken, and when it ends
-    uint64_t next;        // when it is reported next, or ends; or when the worker's patience does
-    uint64_t free_since, wait_begun, wait_time; // of a patient worker: the begin of its wait, and the longest time of it
+    uint32_t place;       // the place of its request
+    uint64_t begun, ends; // the moments of the take and the end of that request
+    uint64_t next;        // the moment of its next report or its end, or of the end of the worker's patience
+    uint64_t free_since, wait_begun, wait_time; // of a patient worker: the begin of its wait, and its longest time
 } worker;
 
 typedef struct {
@@ -23,10 +23,10 @@ typedef struct {
     service service;
     record record;
     worker workers[MOST_WORKERS];
-    double next_random[MOST_TENANTS]; // when the next request of a tenant comes at random, or when it joins
+    double next_random[MOST_TENANTS]; // the moment of a tenant's next random request, or of its join
     uint32_t submitted[MOST_TENANTS], open[MOST_TENANTS], open_tenants;
     double next_submit; // the least of next_random
-    double spare;       // for how long workers may still wait patiently
+    double spare;       // the time that workers may still wait patiently
     uint64_t slot, state; // the next moment at which lags are kept, and the state of the draws
 } pool;
 
@@ -73,7 +73,7 @@ static void begin(pool *in) {
     in->next_submit = 0;
 }
 
-// A tenant that always wants something comes, and from then on submits when it is taken.
+// A tenant with a backlog comes, and from then on submits a request at each take of one.
 static void join(pool *in, uint64_t moment, uint32_t tenant, uint32_t backlog) {
     see_join(&in->record, &in->situation, tenant, moment);
     for (uint32_t i = 0; i < backlog; i++) come(in, moment, tenant);
@@ -91,7 +91,7 @@ static void make_reports(pool *in, uint64_t moment) {
     }
 }
 
-// How much of the time up to a moment lies in the window, counted from its begin.
+// The part of the time up to a moment that lies in the window.
 static double within(const situation *of, uint64_t moment) {
     return moment <= of->from ? 0 : (double)((moment < of->to ? moment : of->to) - of->from);
 }
@@ -184,7 +184,7 @@ static uint64_t next_moment(const pool *in) {
     return in->next_submit < (double)next ? (uint64_t)in->next_submit : next;
 }
 
-// Looks at the lags after each slot that ends before a moment.
+// Keeps the lags after each slot that ends before a moment.
 static void look(pool *in, uint64_t before) {
     const situation *of = &in->situation;
     for (; in->slot < before && in->slot <= of->to; in->slot += of->slot) {
@@ -207,7 +207,7 @@ int main(void) {
     in.spare = of->patience * SAVED * of->workers;
     in.slot = of->from + of->slot;
     in.state = of->seed;
-    for (int i = 0; i < 4; i++) draw(&in); // seeds that are near give first numbers that are
+    for (int i = 0; i < 4; i++) draw(&in); // the first numbers of near seeds are near
     begin(&in);
     for (uint64_t moment = 0; moment < of->to; moment = next_moment(&in)) {
         look(&in, moment);

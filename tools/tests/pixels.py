@@ -1,5 +1,5 @@
-"""Counts the pixels of colors in parts of a PNG of 8 bits a channel: for each part a line, of how many are nearly of
-each color.
+"""Counts the pixels of colors in parts of a PNG of 8 bits a channel: for each part a line, with the number of pixels
+near each color.
 
 Usage: pixels.py LEFT,TOP,RIGHT,BOTTOM.. COLOR.. < PNG
 """
@@ -9,7 +9,7 @@ import struct
 import sys
 import zlib
 
-# By how much a part of a color may differ.
+# The greatest difference of a part of a color.
 MOST = 24
 
 
@@ -27,7 +27,7 @@ def paeth(left, up, corner):
 
 
 def unfiltered(line, kind, last, size):
-    """A line of bytes by the line above it, as the filter of this kind left it; a pixel has so many."""
+    """A line of bytes without the filter of this kind, by the line above it; a pixel has `size` bytes."""
     if kind == 2:
         return bytearray([one + up & 255 for one, up in zip(line, last)])
     for place in range(len(line)):

@@ -1,5 +1,5 @@
-"""Tells what a picture of `lags` or `timeline` has: the colors and names of its legend, those of its lines by their
-titles, and how many lines and areas have a title, or whether bars have one, by whether they are of the grey of others.
+"""Prints the parts of a picture of `lags` or `timeline`: the colors and names of its legend, those of its lines by
+their titles, and the numbers of lines and areas with a title, or whether bars have one, in the grey of others or not.
 
 Usage: shapes.py FILE
 """

@@ -1,4 +1,4 @@
-//! Workers and weights that change, and somebody who looks on.
+//! Changes of workers and weights, and reads of the status.
 use std::thread;
 use std::time::{Duration, Instant};
 
@@ -8,7 +8,7 @@ use crate::names::{returning, STAY};
 use crate::random::Random;
 use crate::{churn, permits, Fault};
 
-/// How often something changes.
+/// The time between two changes.
 const REST: Duration = Duration::from_millis(2);
 
 /// Changes the pool and the permits until the end.

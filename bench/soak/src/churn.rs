@@ -12,13 +12,13 @@ use crate::random::Random;
 use crate::tally::Tally;
 use crate::{Fault, LOST_AFTER};
 
-/// How many threads submit.
+/// The number of threads that submit.
 pub const THREADS: u64 = 16;
 
-/// How many workers there may be.
+/// The greatest number of workers.
 pub const MOST_WORKERS: u32 = 64;
 
-/// How many jobs a thread hands in before it looks what became of them.
+/// The number of jobs that a thread submits before it checks their results.
 const BATCH: usize = 32;
 
 /// A pool whose schedulers last for some thousand jobs each, and that refuses some jobs.
@@ -28,7 +28,7 @@ pub fn open() -> Result<Pool, Fault> {
     Ok(builder.workers(8).most_workers(MOST_WORKERS).room(400).entries(20_000).keep(0).open()?)
 }
 
-/// Hands jobs in until the end, and looks what became of each.
+/// Submits jobs until the end, and checks the result of each.
 pub fn submit(pool: &Pool, names: &Names, mut random: Random, end: Instant) -> Result<Tally, Fault> {
     let mut tally = Tally::default();
     while Instant::now() < end {
@@ -45,7 +45,7 @@ pub fn submit(pool: &Pool, names: &Names, mut random: Random, end: Instant) -> R
 
 struct Job {
     handle: Handle<()>,
-    /// How often it ran.
+    /// The number of times it ran.
     runs: Arc<AtomicU32>,
     is_cancelled: bool,
 }
@@ -76,7 +76,7 @@ impl Job {
         self.is_cancelled = self.handle.cancel();
     }
 
-    /// It ran once, or was cancelled or late and never ran.
+    /// Checks that it ran once, or was cancelled or late and never ran.
     fn check(self, tally: &mut Tally) -> Result<(), Fault> {
         let result = self.handle.join_timeout(LOST_AFTER).map_err(|handle| format!("a job waits on: {handle:?}"))?;
         let (count, wanted) = match result {
@@ -97,7 +97,7 @@ impl Job {
     }
 }
 
-/// What a job does, by a number below 100.
+/// The work of a job, by a number below 100.
 fn run(work: u64) {
     match work {
         0..70 => {}

@@ -9,7 +9,7 @@ use std::sync::{Arc, Mutex, MutexGuard, PoisonError};
 
 use crate::Fault;
 
-/// The program that judges: the one that `TWODFQ_PROGRAM` names, or the one that `./twodfq` builds.
+/// The program that judges: that of `TWODFQ_PROGRAM`, or else that built by `./twodfq`.
 pub fn program() -> Result<OsString, Fault> {
     let built = Path::new(env!("CARGO_MANIFEST_DIR")).join("../../crates/twodfq/out/twodfq");
     let program = env::var_os("TWODFQ_PROGRAM").unwrap_or_else(|| built.into());
@@ -20,10 +20,10 @@ pub fn program() -> Result<OsString, Fault> {
     Err(format!("there is no {program}: ./twodfq builds it, and TWODFQ_PROGRAM names another").into())
 }
 
-/// What was judged.
+/// The verdicts on all journals.
 #[derive(Clone, Copy, Debug, Default)]
 pub struct Verdicts {
-    /// How many journals were found legal.
+    /// The number of legal journals.
     pub legal: u64,
     /// The greatest cost in them, in microseconds.
     pub greatest_cost: u64,
@@ -42,7 +42,7 @@ impl Judge {
         self.0.lock().unwrap_or_else(PoisonError::into_inner)
     }
 
-    /// Ends the last journal, and tells what was judged. An illegal journal is an error, here or of the writer.
+    /// Ends the last journal, and returns all verdicts. An illegal journal is an error, here or of a write.
     pub fn verdicts(&self) -> io::Result<Verdicts> {
         let mut trial = self.trial();
         trial.end()?;
@@ -93,7 +93,7 @@ impl Trial {
         current.input.write_all(line.as_bytes())
     }
 
-    /// Ends the journal that is being written, where there is one, and hears the verdict.
+    /// Ends the journal that is being written, where there is one, and reads the verdict.
     fn end(&mut self) -> io::Result<()> {
         let Some(Current { child, input, entries }) = self.current.take() else { return Ok(()) };
         drop(input.into_inner()?); // closed, the program answers

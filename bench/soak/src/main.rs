@@ -32,7 +32,7 @@ use std::process::{self, Command};
 use std::thread;
 use std::time::Duration;
 
-/// What went wrong.
+/// The reason why the soak failed.
 pub type Fault = Box<dyn Error + Send + Sync>;
 
 /// The message of jobs that panic on purpose.
@@ -72,7 +72,7 @@ fn watch(time: Duration) {
     });
 }
 
-/// Has the C library keep one heap. Of the many that it keeps for a hundred threads each grows by its fragments, which
+/// Has the C library keep one heap. For a hundred threads it keeps many, each of which grows by its fragments; that
 /// would hide whether the services' own memory is flat.
 fn with_one_heap() -> Result<(), Fault> {
     const ARENAS: &str = "MALLOC_ARENA_MAX";

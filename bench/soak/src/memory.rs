@@ -1,4 +1,4 @@
-//! What memory the process has.
+//! The memory of the process.
 use std::fs;
 
 use crate::Fault;

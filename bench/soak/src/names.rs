@@ -3,13 +3,13 @@ use std::sync::atomic::{AtomicU64, Ordering};
 
 use crate::random::Random;
 
-/// Those that are named at the opening, with their weights.
+/// The tenants that are named at the opening, with their weights.
 pub const STAY: [(&str, u32); 2] = [("acme", 1), ("globex", 2)];
 
-/// How many come back now and then.
+/// The number of tenants that come back now and then.
 const RETURN: u64 = 500;
 
-/// How many requests one has that comes once.
+/// The number of requests of a tenant that comes once.
 const REQUESTS: u64 = 8;
 
 #[derive(Default)]
@@ -18,7 +18,7 @@ pub struct Names {
 }
 
 impl Names {
-    /// The name for a request: any text may be one.
+    /// The name of a request's tenant: any text may be a name.
     pub fn name(&self, random: &mut Random) -> String {
         match random.below(4) {
             0 => STAY[random.below(2) as usize].0.to_string(),
@@ -27,13 +27,13 @@ impl Names {
         }
     }
 
-    /// How many have come once.
+    /// The number of tenants that have come once.
     pub fn once(&self) -> u64 {
         self.requests.load(Ordering::Relaxed).div_ceil(REQUESTS)
     }
 }
 
-/// The name of one that comes back.
+/// The name of a tenant that comes back.
 pub fn returning(random: &mut Random) -> String {
     format!("again {}", random.below(RETURN))
 }

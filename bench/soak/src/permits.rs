@@ -1,4 +1,4 @@
-//! Permits that are asked for in every way, and held by the threads that asked.
+//! Permits that are asked for in every way, and held by the threads that asked for them.
 use std::future::Future;
 use std::panic::{self, AssertUnwindSafe};
 use std::pin::Pin;
@@ -14,10 +14,10 @@ use crate::random::Random;
 use crate::tally::Tally;
 use crate::Fault;
 
-/// How many threads ask.
+/// The number of threads that ask for permits.
 pub const THREADS: u64 = 8;
 
-/// How many permits there may be, less than threads, so that some wait.
+/// The greatest number of permits, fewer than threads, so that some threads wait.
 pub const MOST_PERMITS: u32 = 6;
 
 pub fn open() -> Result<Permits, Fault> {

@@ -1,4 +1,4 @@
-//! Numbers that look random, from a seed of each thread (SplitMix64; Steele, Lea and Flood, 2014).
+//! Pseudorandom numbers, from a seed of each thread (SplitMix64; Steele, Lea and Flood, 2014).
 use std::time::Duration;
 
 pub struct Random(u64);
@@ -15,17 +15,17 @@ impl Random {
         mixed ^ (mixed >> 31)
     }
 
-    /// A number below this one.
+    /// A number below `end`.
     pub fn below(&mut self, end: u64) -> u64 {
         self.next() % end
     }
 
-    /// True in so many of a hundred.
+    /// True in `part` of a hundred cases.
     pub fn percent(&mut self, part: u64) -> bool {
         self.below(100) < part
     }
 
-    /// A time below this one, in microseconds.
+    /// A time below `end`, in microseconds.
     pub fn microseconds(&mut self, end: u64) -> Duration {
         Duration::from_micros(self.below(end))
     }

@@ -1,4 +1,4 @@
-//! All of it at once, and what is asked of it at the end.
+//! All services under load at once, and the checks at the end.
 use std::io;
 use std::sync::atomic::AtomicU32;
 use std::sync::Arc;
@@ -14,13 +14,13 @@ use crate::tally::Tally;
 use crate::visitors::{self, Times};
 use crate::{changes, churn, memory, permits, Fault};
 
-/// What the resident set may be above that of a fifth of the time: a tenth, and this many kilobytes.
+/// The resident set may grow after a fifth of the time by a tenth, and by this number of kilobytes.
 const GROWTH: u64 = 8192;
 
-/// The heap of a hundred threads grows for half a minute. In a run that is shorter than this nothing is asked of it.
+/// The heap of a hundred threads grows for half a minute. A run that is shorter than this does not check it.
 const WARM: Duration = Duration::from_secs(60);
 
-/// What is under load, and the journals of each.
+/// The services under load, and the journal of each.
 struct Soak {
     pool: Pool,
     permits: Permits,
@@ -31,7 +31,7 @@ struct Soak {
     journals: [(Judge, Journal); 3],
 }
 
-/// What the callers saw, and the resident set at a fifth of the time and at the end.
+/// The callers' counts, and the resident set at a fifth of the time and at the end.
 struct Seen {
     pool: Tally,
     permits: Tally,
@@ -42,7 +42,7 @@ struct Seen {
 /// Threads of one kind.
 type Threads<'scope> = Vec<ScopedJoinHandle<'scope, Result<Tally, Fault>>>;
 
-/// Runs it for this time. The line that tells what became of it, or the first fault.
+/// Runs the soak for this time. Returns the line of its results, or the first fault.
 pub fn run(time: Duration) -> Result<String, Fault> {
     let soak = Soak::open()?;
     let seen = thread::scope(|scope| soak.load(scope, time))?;

@@ -1,4 +1,4 @@
-//! What became of requests, as those who submitted them saw it, beside what the status counts.
+//! The outcomes of requests by the counts of their callers, beside the counts of the status.
 use std::fmt;
 use std::iter::Sum;
 use std::ops::Add;
@@ -15,11 +15,11 @@ pub struct Tally {
     pub panicked: u64,
     /// Withdrawn by the caller.
     pub cancelled: u64,
-    /// Withdrawn or refused since the deadline passed.
+    /// Withdrawn or refused because the deadline passed.
     pub late: u64,
     /// Refused for another cause.
     pub refused: u64,
-    /// Futures that were dropped before they told of a permit: each was withdrawn, or got a permit, which went back.
+    /// Futures that were dropped before they returned a permit: each was withdrawn, or got a permit, which went back.
     pub dropped: u64,
 }
 
@@ -44,7 +44,7 @@ impl Sum for Tally {
     }
 }
 
-/// What there was, each with its number.
+/// The outcomes that there were, each with its number.
 impl fmt::Display for Tally {
     fn fmt(&self, f: &mut fmt::Formatter<'_>) -> fmt::Result {
         let Tally { done, panicked, cancelled, late, refused, dropped } = self;
@@ -56,7 +56,7 @@ impl fmt::Display for Tally {
 }
 
 impl Tally {
-    /// Whether the status counts what the callers saw, with nothing left.
+    /// Checks that the counts of the status are those of the callers, with nothing left.
     pub fn compare(&self, status: &Status) -> Result<(), Fault> {
         let count = |of: fn(&TenantStatus) -> u64| status.tenants.iter().chain([&status.others]).map(of).sum::<u64>();
         let ended = count(|tenant| tenant.done + tenant.cancelled + tenant.late);

@@ -14,18 +14,18 @@ use crate::{Fault, LOST_AFTER};
 const WORKERS: u32 = 4;
 const FLOODS: u32 = 3;
 
-/// How many threads make floods: two for each.
+/// The number of threads that make floods: two for each flood.
 pub const FLOOD_THREADS: u64 = 2 * FLOODS as u64;
 
-/// How many threads are visitors, each with a tenant of its own.
+/// The number of threads that are visitors, each with a tenant of its own.
 pub const VISITORS: u64 = 2;
 
 const TENANTS: u32 = FLOODS + VISITORS as u32;
 
-/// How many requests a thread of a flood has in the pool.
+/// The number of requests that a thread of a flood has in the pool.
 const BACKLOG: usize = 1000;
 
-/// How late a thread may be that is woken.
+/// The longest delay of a thread that is woken.
 const WAKE: Duration = Duration::from_millis(20);
 
 /// Four workers, and tenants of equal weight.
@@ -35,17 +35,17 @@ pub fn open() -> Result<Pool, Fault> {
     Ok(builder.keep(16_384).open()?)
 }
 
-/// The longest wait of a visitor, if no request is longer than this.
+/// The longest wait of a visitor, if no request is longer than `greatest`.
 ///
 /// Under `2dfq+`, on n workers, a tenant that waits is behind no other by floor(3n/2) + 2 requests of the greatest
 /// length. So while the one request of a visitor waits, each other tenant gets twice that at most: it was behind by
-/// that, and gets ahead by that. All workers serve them meanwhile. One length more is for the requests that run then.
+/// that, and gets ahead by that. All workers serve them meanwhile. One length more is for the requests that run at first.
 pub fn bound(greatest: Duration) -> Duration {
     let lead = 3 * WORKERS / 2 + 2;
     greatest * (2 * lead * (TENANTS - 1) / WORKERS + 1) + WAKE
 }
 
-/// What the requests took at most.
+/// The greatest times of the requests.
 #[derive(Default)]
 pub struct Times {
     greatest: AtomicU64,
@@ -64,7 +64,7 @@ impl Times {
     }
 }
 
-/// A request that sleeps for a while. Its result is how long it waited.
+/// Submits a request that sleeps for a while. Its result is its wait.
 fn submit(pool: &Pool, tenant: u32, time: Duration, times: &Arc<Times>) -> Result<Handle<Duration>, Fault> {
     let (asked, times) = (Instant::now(), times.clone());
     let job = move || {
