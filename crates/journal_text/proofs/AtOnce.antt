@@ -1,17 +1,13 @@
 -- Lines that are read in one pass.
-use Rattle.std.proofs.Common.{ℕ, zero, suc, ◌+◌, ◌-◌, ◌*◌, ◌<◌, ◌≤◌, ◌≡◌, ◌≢◌, ◌==◌, ◌∙◌, Bool, true, false, nat_le, nat_lt, List, [], ◌∷◌, ◌++◌, length, take, drop, append-nil, length-append, add-one, drop-cons, take-append-drop, codes, slice_index, Some, None, Ok, sym, ap, arith, refl}
-use Rattle.std.proofs.lemmas.Bool.{le-ltb, ne_eqb}
-use Rattle.fq_model.specs.declared.event.Call.{Call}
-use Rattle.fq_model.specs.declared.event.Call.TheVariants as calls
+use Rattle.std.proofs.Common.{ℕ, zero, suc, ◌+◌, ◌-◌, ◌*◌, ◌<◌, ◌≤◌, ◌≡◌, ◌≢◌, ◌==◌, ◌∙◌, Bool, true, false, nat_le, List, [], ◌∷◌, ◌++◌, map, length, take, drop, get_or, slice_set, slice_index_or, append-nil, append_assoc, length-append, add-one, drop-cons, take-append-drop, slice_index, Some, None, Ok, sym, ap, subst, arith, refl}
+use Rattle.std.proofs.lemmas.Bool.{ne_eqb}
+use Rattle.std.proofs.lemmas.List.{map-append, length-take-le, get_or-take, take_more_set}
+use Rattle.std.proofs.Math.Seq.{take-append_seam}
 use Rattle.fq_model.specs.Spelling.{is_digit}
-use Rattle.program_model.specs.declared.version.Version.{Version}
-use Rattle.program_model.specs.declared.version.Version.TheVariants.{First, Second, Third}
-use Rattle.program_model.specs.Document.{LineReader}
 use Rattle.program_model.specs.Numbers.{with_digits, number_of}
-use Rattle.program_model.specs.Lines.{Words, lines_of, words_of, word, index_at, ranged_at, number_at}
-use Rattle.program_model.specs.Script.{call_of_words, submit_of, take_of, report_of, done_of, fixed_call_of, changing_call_of, withdrawing_call_of}
-use Rattle.journal_text.specs.Reading.{IsFirstLine}
-use Rattle.journal_text.specs.AtOnce.{BeginsWithNumber, TellsFirst}
+use Rattle.program_model.specs.Lines.{Words, lines_of, words_of, number_at}
+pub use Rattle.journal_text.specs.FirstLine.{IsWord}
+use Rattle.journal_text.specs.FirstLine.{IsFirstLine, HasFirstWords, BeginsWithNumber, AreRead}
 
 -- a byte of a text divides it
 pub divided : (text : List ℕ) (at byte : ℕ) → at < length text → slice_index text at ≡ byte → text ≡ take at text ++ (byte ∷ drop (at + 1) text)
@@ -36,11 +32,6 @@ number_ended text at n end so_far inside here some first =
       split = divided text at end inside here;
       spelled = number_from text at n digits some (omega arith) first;
     }
-
--- no byte of it is a space or an LF
-abbrev pub IsWord : List ℕ → Type 0
-IsWord [] = Unit {0}
-IsWord (b ∷ bs) = (((b == 32) ≡ false) × ((b == 10) ≡ false)) × IsWord bs
 
 digits_are_a_word : (digits : List ℕ) (n m : ℕ) → with_digits n digits ≡ Some m → IsWord digits
 digits_are_a_word [] n m e = tt
@@ -76,11 +67,12 @@ word_alone : (word : List ℕ) → IsWord word → words_of word ≡ word ∷ []
 word_alone [] w = refl
 word_alone (b ∷ bs) w = rw (w.0.0, word_alone bs w.1) refl
 
--- the first line of a text has these words, and this is the text below it
+-- the first line of a text has these words and ends with an LF, and below it stands the rest
 pub record HasWords (text : List ℕ) (words : Words) (below : List ℕ) : Type 0 where
   pub line : List ℕ
   pub first : IsFirstLine text line below
   pub split : words_of line ≡ words
+  pub ended : text ≡ line ++ (10 ∷ below)
 
 pub last_word : (text word below : List ℕ) → IsWord word → text ≡ word ++ (10 ∷ below) → HasWords text (word ∷ []) below
 last_word text word below w e = record {
@@ -90,6 +82,7 @@ last_word text word below w e = record {
     shorter = omega (arith, ap length e, length-append word (10 ∷ below));
   };
   split = word_alone word w;
+  ended = e;
 }
 
 pub one_word_more : (text word rest below : List ℕ) (words : Words) → IsWord word → text ≡ word ++ (32 ∷ rest) → HasWords rest words below → HasWords text (word ∷ words) below
@@ -100,6 +93,7 @@ one_word_more text word rest below words w e h = record {
     shorter = omega (arith, ap length e, length-append word (32 ∷ rest), h.first.shorter);
   };
   split = word_first word h.line w ∙ ap (λ (later : Words). word ∷ later) h.split;
+  ended = e ∙ ap (λ (later : List ℕ). word ++ (32 ∷ later)) h.ended ∙ sym (append_assoc word (32 ∷ h.line) (10 ∷ below));
 }
 
 pub last_number : (text below : List ℕ) (n : ℕ) (b : BeginsWithNumber text n (10 ∷ below)) → HasWords text (b.first ∷ []) below
@@ -108,179 +102,90 @@ last_number text below n b = last_word text b.first below (number_is_a_word b.fi
 pub one_number_more : (text rest below : List ℕ) (n : ℕ) (words : Words) (b : BeginsWithNumber text n (32 ∷ rest)) → HasWords rest words below → HasWords text (b.first ∷ words) below
 one_number_more text rest below n words b h = one_word_more text b.first rest below words (number_is_a_word b.first n b.spelled) b.split h
 
-pub told : {A : Type 0} (reader : Version → LineReader A) (text below : List ℕ) (words : Words) (said : A) → HasWords text words below → ((version : Version) → reader version words ≡ Ok said) → TellsFirst reader text said below
-told reader text below words said h says version = record { line = h.line; first = h.first; says = ap (reader version) h.split ∙ says version }
+-- The numbers so far were read from a text, and this rest is left: whatever words the first line of the rest has, the
+-- line of the text has the words of those numbers before them.
+pub record IsPassed (text : List ℕ) (numbers : List ℕ) (rest : List ℕ) : Type 0 where
+  pub words : Words
+  pub spelled : map number_of words ≡ map Some numbers
+  pub more : (later : Words) (below : List ℕ) → HasWords rest later below → HasWords text (words ++ later) below
 
--- single words of a line
-pub number_is : (words : Words) (k n : ℕ) → number_of (word words k) ≡ Some n → number_at words k ≡ Ok n
+pub none_passed : (text : List ℕ) → IsPassed text [] text
+none_passed text = record { words = []; spelled = refl; more = λ later below h. h }
+
+spelled_more : (words : Words) (numbers word : List ℕ) (n : ℕ) → map number_of words ≡ map Some numbers → number_of word ≡ Some n
+    → map number_of (words ++ word ∷ []) ≡ map Some (numbers ++ n ∷ [])
+spelled_more words numbers word n so_far e =
+    map-append number_of words (word ∷ []) ∙ rw (so_far, e) (sym (map-append Some numbers (n ∷ [])))
+
+-- one number more is read
+pub one_passed : (text numbers rest behind : List ℕ) (read n end : ℕ) → IsPassed text (take read numbers) rest → BeginsWithNumber rest n (end ∷ behind) → end ≡ 32 → read < length numbers
+    → IsPassed text (take (read + 1) (slice_set numbers read n)) behind
+one_passed text numbers rest behind read n end past b space inside =
+    let here : BeginsWithNumber rest n (32 ∷ behind) = rw space at b in
+    rw (take_more_set numbers read n inside) (record {
+      words = past.words ++ here.first ∷ [];
+      spelled = spelled_more past.words (take read numbers) here.first n past.spelled here.spelled;
+      more = λ later below h. subst (λ (ws : Words). HasWords text ws below) (sym (append_assoc past.words (here.first ∷ []) later))
+          (past.more (here.first ∷ later) below (one_number_more rest behind below n later here h));
+    })
+
+-- the line that ends with the last number
+pub record IsNumbers (text numbers below : List ℕ) : Type 0 where
+  pub words : Words
+  pub spelled : map number_of words ≡ map Some numbers
+  pub has : HasWords text words below
+
+-- the last number is read
+pub all_passed : (text numbers rest below : List ℕ) (read n end : ℕ) → IsPassed text (take read numbers) rest → BeginsWithNumber rest n (end ∷ below) → end ≡ 10 → read < length numbers
+    → IsNumbers text (take (read + 1) (slice_set numbers read n)) below
+all_passed text numbers rest below read n end past b lf inside =
+    let here : BeginsWithNumber rest n (10 ∷ below) = rw lf at b in
+    rw (take_more_set numbers read n inside) (record {
+      words = past.words ++ here.first ∷ [];
+      spelled = spelled_more past.words (take read numbers) here.first n past.spelled here.spelled;
+      has = past.more (here.first ∷ []) below (last_number rest below n here);
+    })
+
+line_before : (text : List ℕ) (words : Words) (below : List ℕ) → HasWords text words below → words_of (take (length text - length below - 1) text) ≡ words
+line_before text words below h =
+    let at : length text - length below - 1 ≡ length h.line = omega (arith, ap length h.ended, length-append h.line (10 ∷ below)) in
+    rw at (ap words_of (ap (take (length h.line)) h.ended ∙ take-append_seam h.line (10 ∷ below)) ∙ h.split)
+
+-- a word and the numbers of the line behind it are the words of a text's first line
+pub whole_line : (text word start below numbers : List ℕ) → text ≡ word ++ (32 ∷ start) → IsWord word → IsNumbers start numbers below
+    → HasFirstWords text (word ∷ words_of (take (length start - length below - 1) start)) below
+whole_line text word start below numbers is w all =
+    let has = one_word_more text word start below all.words w is all.has in
+    record { line = has.line; first = has.first; split = has.split ∙ ap (λ (ws : Words). word ∷ ws) (sym (line_before start all.words below all.has)) }
+
+pub all_known : (start below numbers : List ℕ) (read : ℕ) → IsNumbers start (take read numbers) below → read ≤ length numbers
+    → AreRead read numbers (words_of (take (length start - length below - 1) start))
+all_known start below numbers read all fits = record {
+  fits = fits;
+  spelled = λ some. subst (λ (ws : Words). map number_of ws ≡ map Some (take read numbers)) (sym (line_before start all.words below all.has)) all.spelled;
+}
+
+-- the numbers of words by their places
+pub number_is_at : (words : Words) (numbers : List ℕ) (k : ℕ) → map number_of words ≡ map Some numbers → k < length numbers
+    → number_of (slice_index_or words k []) ≡ Some (get_or numbers k 0)
+number_is_at [] [] k e inside = absurd (omega arith)
+number_is_at [] (n ∷ numbers) k e inside = absurd (cc)
+number_is_at (word ∷ words) [] k e inside = absurd (cc)
+number_is_at (word ∷ words) (n ∷ numbers) zero e inside = cc
+number_is_at (word ∷ words) (n ∷ numbers) (suc k) e inside = number_is_at words numbers k (cc) (omega arith)
+
+-- a number that was read with its line
+pub number_known : (first : List ℕ) (words : Words) (read k : ℕ) (numbers : List ℕ) → AreRead read numbers words → 0 < k → k ≤ read
+    → number_at (first ∷ words) k ≡ Ok (get_or numbers (k - 1) 0)
 unfolding number_at
-number_is words k n e = rw e refl
+number_known first words read zero numbers known some most = absurd (omega arith)
+number_known first words read (suc k) numbers known some most =
+    let is : number_of (slice_index_or words k []) ≡ Some (get_or (take read numbers) k 0) =
+    number_is_at words (take read numbers) k (known.spelled (omega arith)) (omega (arith, length-take-le read numbers known.fits)) in
+    let before : suc k - 1 ≡ k = omega arith in
+    rw (is, get_or-take read numbers k 0 (omega arith), before) refl
 
-pub index_is : (words : Words) (k n : ℕ) → number_of (word words k) ≡ Some n → n < 4294967296 → index_at words k ≡ Ok n
-unfolding index_at ranged_at
-index_is words k n e lt =
-    let low : nat_lt n 0 ≡ false = le-ltb _ _ (omega arith) in
-    let high : nat_lt 4294967295 n ≡ false = le-ltb _ _ (omega arith) in
-    rw (number_is words k n e, low, high) refl
-
--- a line of a call's word and its numbers is that call
-take_said : (word1 word2 word3 : List ℕ) (who moment worker : ℕ) → number_of word1 ≡ Some who → who < 4294967296 → number_of word2 ≡ Some moment → number_of word3 ≡ Some worker → worker < 4294967296
-    → (version : Version) → call_of_words version (codes "take" ∷ word1 ∷ word2 ∷ word3 ∷ []) ≡ Ok (calls.Take who moment worker)
-unfolding take_of fixed_call_of changing_call_of withdrawing_call_of
-take_said word1 word2 word3 who moment worker spelled1 small1 spelled2 spelled3 small3 = by_version
-  where
-    words : Words
-    words = codes "take" ∷ word1 ∷ word2 ∷ word3 ∷ []
-
-    read : take_of words ≡ Ok (calls.Take who moment worker)
-    read = rw (index_is words 1 who spelled1 small1, number_is words 2 moment spelled2, index_is words 3 worker spelled3 small3) refl
-
-    by_version : (version : Version) → call_of_words version words ≡ Ok (calls.Take who moment worker)
-    by_version First = read
-    by_version Second = read
-    by_version Third = read
-
-pub take_told : (rest after1 after2 below : List ℕ) (who moment worker : ℕ)
-    → BeginsWithNumber rest who (32 ∷ after1) → who < 4294967296
-    → BeginsWithNumber after1 moment (32 ∷ after2)
-    → BeginsWithNumber after2 worker (10 ∷ below) → worker < 4294967296
-    → TellsFirst call_of_words (codes "take" ++ (32 ∷ rest)) (calls.Take who moment worker) below
-take_told rest after1 after2 below who moment worker begins1 small1 begins2 begins3 small3 =
-    told call_of_words (word ++ (32 ∷ rest)) below (word ∷ numbers) (calls.Take who moment worker) (one_word_more (word ++ (32 ∷ rest)) word rest below numbers is_word refl has) says
-  where
-    word : List ℕ
-    word = codes "take"
-
-    is_word : IsWord word
-    is_word = ((refl, refl), ((refl, refl), ((refl, refl), ((refl, refl), tt))))
-
-    numbers : Words
-    numbers = begins1.first ∷ begins2.first ∷ begins3.first ∷ []
-
-    has : HasWords rest numbers below
-    has = one_number_more rest after1 below who (begins2.first ∷ begins3.first ∷ []) begins1 (one_number_more after1 after2 below moment (begins3.first ∷ []) begins2 (last_number after2 below worker begins3))
-
-    says : (version : Version) → call_of_words version (word ∷ numbers) ≡ Ok (calls.Take who moment worker)
-    says = take_said begins1.first begins2.first begins3.first who moment worker begins1.spelled small1 begins2.spelled begins3.spelled small3
-
-report_said : (word1 word2 word3 word4 : List ℕ) (who moment worker used : ℕ) → number_of word1 ≡ Some who → who < 4294967296 → number_of word2 ≡ Some moment → number_of word3 ≡ Some worker → worker < 4294967296 → number_of word4 ≡ Some used
-    → (version : Version) → call_of_words version (codes "report" ∷ word1 ∷ word2 ∷ word3 ∷ word4 ∷ []) ≡ Ok (calls.Report who moment worker used)
-unfolding report_of fixed_call_of changing_call_of withdrawing_call_of
-report_said word1 word2 word3 word4 who moment worker used spelled1 small1 spelled2 spelled3 small3 spelled4 = by_version
-  where
-    words : Words
-    words = codes "report" ∷ word1 ∷ word2 ∷ word3 ∷ word4 ∷ []
-
-    read : report_of words ≡ Ok (calls.Report who moment worker used)
-    read = rw (index_is words 1 who spelled1 small1, number_is words 2 moment spelled2, index_is words 3 worker spelled3 small3, number_is words 4 used spelled4) refl
-
-    by_version : (version : Version) → call_of_words version words ≡ Ok (calls.Report who moment worker used)
-    by_version First = read
-    by_version Second = read
-    by_version Third = read
-
-pub report_told : (rest after1 after2 after3 below : List ℕ) (who moment worker used : ℕ)
-    → BeginsWithNumber rest who (32 ∷ after1) → who < 4294967296
-    → BeginsWithNumber after1 moment (32 ∷ after2)
-    → BeginsWithNumber after2 worker (32 ∷ after3) → worker < 4294967296
-    → BeginsWithNumber after3 used (10 ∷ below)
-    → TellsFirst call_of_words (codes "report" ++ (32 ∷ rest)) (calls.Report who moment worker used) below
-report_told rest after1 after2 after3 below who moment worker used begins1 small1 begins2 begins3 small3 begins4 =
-    told call_of_words (word ++ (32 ∷ rest)) below (word ∷ numbers) (calls.Report who moment worker used) (one_word_more (word ++ (32 ∷ rest)) word rest below numbers is_word refl has) says
-  where
-    word : List ℕ
-    word = codes "report"
-
-    is_word : IsWord word
-    is_word = ((refl, refl), ((refl, refl), ((refl, refl), ((refl, refl), ((refl, refl), ((refl, refl), tt))))))
-
-    numbers : Words
-    numbers = begins1.first ∷ begins2.first ∷ begins3.first ∷ begins4.first ∷ []
-
-    has : HasWords rest numbers below
-    has = one_number_more rest after1 below who (begins2.first ∷ begins3.first ∷ begins4.first ∷ []) begins1 (one_number_more after1 after2 below moment (begins3.first ∷ begins4.first ∷ []) begins2 (one_number_more after2 after3 below worker (begins4.first ∷ []) begins3 (last_number after3 below used begins4)))
-
-    says : (version : Version) → call_of_words version (word ∷ numbers) ≡ Ok (calls.Report who moment worker used)
-    says = report_said begins1.first begins2.first begins3.first begins4.first who moment worker used begins1.spelled small1 begins2.spelled begins3.spelled small3 begins4.spelled
-
-done_said : (word1 word2 word3 word4 : List ℕ) (who moment worker cost : ℕ) → number_of word1 ≡ Some who → who < 4294967296 → number_of word2 ≡ Some moment → number_of word3 ≡ Some worker → worker < 4294967296 → number_of word4 ≡ Some cost
-    → (version : Version) → call_of_words version (codes "done" ∷ word1 ∷ word2 ∷ word3 ∷ word4 ∷ []) ≡ Ok (calls.Done who moment worker cost)
-unfolding done_of fixed_call_of changing_call_of withdrawing_call_of
-done_said word1 word2 word3 word4 who moment worker cost spelled1 small1 spelled2 spelled3 small3 spelled4 = by_version
-  where
-    words : Words
-    words = codes "done" ∷ word1 ∷ word2 ∷ word3 ∷ word4 ∷ []
-
-    read : done_of words ≡ Ok (calls.Done who moment worker cost)
-    read = rw (index_is words 1 who spelled1 small1, number_is words 2 moment spelled2, index_is words 3 worker spelled3 small3, number_is words 4 cost spelled4) refl
-
-    by_version : (version : Version) → call_of_words version words ≡ Ok (calls.Done who moment worker cost)
-    by_version First = read
-    by_version Second = read
-    by_version Third = read
-
-pub done_told : (rest after1 after2 after3 below : List ℕ) (who moment worker cost : ℕ)
-    → BeginsWithNumber rest who (32 ∷ after1) → who < 4294967296
-    → BeginsWithNumber after1 moment (32 ∷ after2)
-    → BeginsWithNumber after2 worker (32 ∷ after3) → worker < 4294967296
-    → BeginsWithNumber after3 cost (10 ∷ below)
-    → TellsFirst call_of_words (codes "done" ++ (32 ∷ rest)) (calls.Done who moment worker cost) below
-done_told rest after1 after2 after3 below who moment worker cost begins1 small1 begins2 begins3 small3 begins4 =
-    told call_of_words (word ++ (32 ∷ rest)) below (word ∷ numbers) (calls.Done who moment worker cost) (one_word_more (word ++ (32 ∷ rest)) word rest below numbers is_word refl has) says
-  where
-    word : List ℕ
-    word = codes "done"
-
-    is_word : IsWord word
-    is_word = ((refl, refl), ((refl, refl), ((refl, refl), ((refl, refl), tt))))
-
-    numbers : Words
-    numbers = begins1.first ∷ begins2.first ∷ begins3.first ∷ begins4.first ∷ []
-
-    has : HasWords rest numbers below
-    has = one_number_more rest after1 below who (begins2.first ∷ begins3.first ∷ begins4.first ∷ []) begins1 (one_number_more after1 after2 below moment (begins3.first ∷ begins4.first ∷ []) begins2 (one_number_more after2 after3 below worker (begins4.first ∷ []) begins3 (last_number after3 below cost begins4)))
-
-    says : (version : Version) → call_of_words version (word ∷ numbers) ≡ Ok (calls.Done who moment worker cost)
-    says = done_said begins1.first begins2.first begins3.first begins4.first who moment worker cost begins1.spelled small1 begins2.spelled begins3.spelled small3 begins4.spelled
-
-submit_said : (word1 word2 word3 word4 word5 word6 : List ℕ) (who moment tenant kind declared label : ℕ) → number_of word1 ≡ Some who → who < 4294967296 → number_of word2 ≡ Some moment → number_of word3 ≡ Some tenant → tenant < 4294967296 → number_of word4 ≡ Some kind → kind < 4294967296 → number_of word5 ≡ Some declared → number_of word6 ≡ Some label
-    → (version : Version) → call_of_words version (codes "submit" ∷ word1 ∷ word2 ∷ word3 ∷ word4 ∷ word5 ∷ word6 ∷ []) ≡ Ok (calls.Submit who moment tenant kind declared label)
-unfolding submit_of fixed_call_of changing_call_of withdrawing_call_of
-submit_said word1 word2 word3 word4 word5 word6 who moment tenant kind declared label spelled1 small1 spelled2 spelled3 small3 spelled4 small4 spelled5 spelled6 = by_version
-  where
-    words : Words
-    words = codes "submit" ∷ word1 ∷ word2 ∷ word3 ∷ word4 ∷ word5 ∷ word6 ∷ []
-
-    read : submit_of words ≡ Ok (calls.Submit who moment tenant kind declared label)
-    read = rw (index_is words 1 who spelled1 small1, number_is words 2 moment spelled2, index_is words 3 tenant spelled3 small3, index_is words 4 kind spelled4 small4, number_is words 5 declared spelled5, number_is words 6 label spelled6) refl
-
-    by_version : (version : Version) → call_of_words version words ≡ Ok (calls.Submit who moment tenant kind declared label)
-    by_version First = read
-    by_version Second = read
-    by_version Third = read
-
-pub submit_told : (rest after1 after2 after3 after4 after5 below : List ℕ) (who moment tenant kind declared label : ℕ)
-    → BeginsWithNumber rest who (32 ∷ after1) → who < 4294967296
-    → BeginsWithNumber after1 moment (32 ∷ after2)
-    → BeginsWithNumber after2 tenant (32 ∷ after3) → tenant < 4294967296
-    → BeginsWithNumber after3 kind (32 ∷ after4) → kind < 4294967296
-    → BeginsWithNumber after4 declared (32 ∷ after5)
-    → BeginsWithNumber after5 label (10 ∷ below)
-    → TellsFirst call_of_words (codes "submit" ++ (32 ∷ rest)) (calls.Submit who moment tenant kind declared label) below
-submit_told rest after1 after2 after3 after4 after5 below who moment tenant kind declared label begins1 small1 begins2 begins3 small3 begins4 small4 begins5 begins6 =
-    told call_of_words (word ++ (32 ∷ rest)) below (word ∷ numbers) (calls.Submit who moment tenant kind declared label) (one_word_more (word ++ (32 ∷ rest)) word rest below numbers is_word refl has) says
-  where
-    word : List ℕ
-    word = codes "submit"
-
-    is_word : IsWord word
-    is_word = ((refl, refl), ((refl, refl), ((refl, refl), ((refl, refl), ((refl, refl), ((refl, refl), tt))))))
-
-    numbers : Words
-    numbers = begins1.first ∷ begins2.first ∷ begins3.first ∷ begins4.first ∷ begins5.first ∷ begins6.first ∷ []
-
-    has : HasWords rest numbers below
-    has = one_number_more rest after1 below who (begins2.first ∷ begins3.first ∷ begins4.first ∷ begins5.first ∷ begins6.first ∷ []) begins1 (one_number_more after1 after2 below moment (begins3.first ∷ begins4.first ∷ begins5.first ∷ begins6.first ∷ []) begins2 (one_number_more after2 after3 below tenant (begins4.first ∷ begins5.first ∷ begins6.first ∷ []) begins3 (one_number_more after3 after4 below kind (begins5.first ∷ begins6.first ∷ []) begins4 (one_number_more after4 after5 below declared (begins6.first ∷ []) begins5 (last_number after5 below label begins6)))))
-
-    says : (version : Version) → call_of_words version (word ∷ numbers) ≡ Ok (calls.Submit who moment tenant kind declared label)
-    says = submit_said begins1.first begins2.first begins3.first begins4.first begins5.first begins6.first who moment tenant kind declared label begins1.spelled small1 begins2.spelled begins3.spelled small3 begins4.spelled small4 begins5.spelled begins6.spelled
+-- a word with a byte more
+pub IsWord-push : (word : List ℕ) (b : ℕ) → IsWord word → b ≢ 32 → b ≢ 10 → IsWord (word ++ b ∷ [])
+IsWord-push [] b w space lf = ((ne_eqb b 32 space, ne_eqb b 10 lf), tt)
+IsWord-push (c ∷ word) b w space lf = (w.0, IsWord-push word b w.1 space lf)

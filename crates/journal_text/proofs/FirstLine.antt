@@ -7,7 +7,7 @@ use Rattle.std.proofs.lemmas.List.Sums.{position_or_len_is}
 use Rattle.std.proofs.lemmas.Bool.{false_from_ne_true, cond_below, cond_above}
 use Rattle.memchr.specs.Find.{IsFirstByte, is_byte}
 use Rattle.program_model.specs.Lines.{lines_of}
-use Rattle.journal_text.specs.Reading.{IsFirstLine}
+use Rattle.journal_text.specs.FirstLine.{IsFirstLine}
 
 abbrev pub end_of : List ℕ → ℕ
 end_of text = position_or_len (λ b. b == 10) text

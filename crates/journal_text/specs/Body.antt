@@ -1,6 +1,5 @@
 -- The body of a document, which is read one line at a time below its head.
 use Rattle.std.specs.Prelude.{ℕ, ◌+◌, ◌≡◌, List, [], ◌∷◌, ◌++◌, length, Option, Some, None, Result, Ok, Err}
-use Rattle.std.specs.Borrow.{Bor}
 use Rattle.program_model.specs.declared.fault.ScriptKind.{ScriptKind}
 use Rattle.program_model.specs.declared.version.Version.{Version}
 use Rattle.program_model.specs.Document.{Document, LineReader, config_of, version_of, document_of_lines}
@@ -8,7 +7,7 @@ use Rattle.fq_model.specs.Limits.{config_fault}
 use Rattle.program_model.specs.Lines.{lines_of, words_of}
 use Rattle.program_model.specs.Reading.{◌>>=◌, at_line}
 use Rattle.journal_text.specs.declared.fault.ScriptFault.{ScriptFault}
-use Rattle.journal_text.specs.Reading.{IsFirstFault, IsFirstLine}
+use Rattle.journal_text.specs.Reading.{IsFirstFault}
 
 -- the lines of a body that are still to be read, with the version of the text and the place of the first of them in it
 pub record Below : Type 0 where
@@ -72,26 +71,6 @@ pub record DividesText {A : Type 0} (title text : List ℕ) (head : Document A) 
 -- this is the first fault however the lines of the body are read, so it is one of the head; unless memory ran out
 abbrev pub IsHeadFault : {A : Type 0} → ScriptFault → Reads A → Type 0
 IsHeadFault fault read = (reader : Version → LineReader _) → IsFirstFault fault (read reader)
-
--- the first line of a text has this value, and this is the text below it
-pub record FirstLineSays {A : Type 0} (reader : LineReader A) (text : List ℕ) (said : A) (below : List ℕ) : Type 0 where
-  pub line : List ℕ
-  pub first : IsFirstLine text line below
-  pub says : reader (words_of line) ≡ Ok said
-
--- a text has a first line, and this is its fault
-pub record FirstLineFails {A : Type 0} (reader : LineReader A) (text : List ℕ) (fault : ScriptKind) : Type 0 where
-  pub line : List ℕ
-  pub below : List ℕ
-  pub first : IsFirstLine text line below
-  pub fails : reader (words_of line) ≡ Err fault
-
--- the result of reading the first line of a text: the value of the line and the text below it, None where the text is
--- empty, or the line's fault
-abbrev pub ReadsFirst : {A : Type 0} → LineReader A → List ℕ → Result (Option (A × Bor (List ℕ))) ScriptKind → Type 0
-ReadsFirst reader text (Ok (Some (said, below))) = FirstLineSays reader text said below.now
-ReadsFirst reader text (Ok None) = text ≡ []
-ReadsFirst reader text (Err fault) = FirstLineFails reader text fault
 
 -- the first line of a body has this value, and was taken off
 pub record SaysFirst {A : Type 0} (reader : Version → LineReader A) (old : Below) (said : A) (new : Below) : Type 0 where

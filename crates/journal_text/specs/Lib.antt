@@ -1,4 +1,4 @@
 pub mod Reading
 pub mod Body
 pub mod Printing
-pub mod AtOnce
+pub mod FirstLine

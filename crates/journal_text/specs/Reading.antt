@@ -6,7 +6,7 @@ use Rattle.fq_model.specs.declared.limits.TheConstants.{MOST_TENANTS, MOST_KINDS
 use Rattle.program_model.specs.Document.{Settings, Document, with_tenant, with_kind, config_line}
 use Rattle.program_model.specs.declared.fault.ScriptKind.TheVariants.{Word}
 use Rattle.program_model.specs.Reading.{begins_with, is_empty}
-use Rattle.program_model.specs.Lines.{Words, lines_of}
+use Rattle.program_model.specs.Lines.{Words}
 use Rattle.tenant_table.specs.Names.{names_of, weights_of}
 use Rattle.journal_text.specs.declared.fault.LineError.{LineError}
 use Rattle.journal_text.specs.declared.fault.LineError.TheVariants as errors
@@ -31,11 +31,6 @@ IsFirstFault faults.NoMemory read = Unit {0}
 abbrev pub fault_at : ℕ → LineError → ScriptFault
 fault_at line (errors.Fault kind) = faults.At line kind
 fault_at line errors.NoMemory = faults.NoMemory
-
--- the lines of the text are this one and those of the text below, which is shorter
-pub record IsFirstLine (text line below : List ℕ) : Type 0 where
-  pub lines : lines_of text ≡ line ∷ lines_of below
-  pub shorter : length below < length text
 
 -- the settings in the config line of a document with this configuration
 abbrev pub settings_in : Config → Settings

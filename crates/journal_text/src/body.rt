@@ -5,9 +5,11 @@ ghost use Rattle.program_model.specs.declared.version.Version.{Version};
 ghost use Rattle.program_model.specs.Lines.{Words, lines_of};
 ghost use Rattle.program_model.specs.Document.{version_of};
 ghost use Rattle.journal_text.specs.Reading.{IsFirstFault};
-ghost use Rattle.journal_text.specs.Body.{ReadsFirst, ReadsNext, below_at, said_below};
+ghost use Rattle.journal_text.specs.Body.{ReadsNext, below_at, said_below};
 
 use crate::fault::ScriptFault;
+use crate::lines::first_words;
+use crate::words::Words;
 use program_model::fault::ScriptKind;
 use program_model::version::Version;
 use std::alloc::Global;
@@ -25,10 +27,9 @@ pub trait Line: Drop + Sized {
     fn version(line: &[u8]) -> Option<Version>
         ensures { result ≡ version_of title line.now };
 
-    /// Reads the first line of a text: the value that the line spells, and the text below it; None where the text is
-    /// empty. The error is the line's fault.
-    fn read_first(version: Version, text: &[u8]) -> Result<Option<(Self, &[u8])>, ScriptKind>
-        ensures { ReadsFirst (reader version) text.now result };
+    /// Reads a line of these words, or names its fault.
+    fn read(version: Version, words: &Words) -> Result<Self, ScriptKind>
+        ensures { result ≡ reader version words.now };
 }
 
 /// The lines of a body that are still to be read.
@@ -72,13 +73,15 @@ impl<'a, A: Line> Body<'a, A> {
     pub fn read_next(&mut self) -> Result<Option<A>, ScriptFault>
         ensures { ReadsNext A.reader self.old result self.new }
     {
-        match A::read_first(self.version, self.rest) {
-            Ok(Some((said, below))) => {
+        let Some((words, below)) = first_words(self.rest) else {
+            return Ok(None);
+        };
+        match A::read(self.version, &words) {
+            Ok(said) => {
                 self.rest = below;
                 self.place += 1;
                 Ok(Some(said))
             }
-            Ok(None) => Ok(None),
             Err(kind) => Err(ScriptFault::At {
                 line: self.place,
                 kind,

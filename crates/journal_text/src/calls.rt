@@ -2,14 +2,12 @@
 ghost use Rattle.std.specs.Prelude.{◌≡◌, ◌<◌, codes, Ok, IfOk, IfErr};
 ghost use Rattle.program_model.specs.Document.{document_of};
 ghost use Rattle.program_model.specs.Script.{submit_of, take_of, report_of, done_of, close_of, weight_of, workers_of, withdraw_of, fixed_call_of, changing_call_of, withdrawing_call_of, call_of_words, script_of};
-ghost use Rattle.journal_text.specs.Body.{ReadsFirst, IsOpened, IsHeadFault, DividesText};
+ghost use Rattle.journal_text.specs.Body.{IsOpened, IsHeadFault, DividesText};
 ghost use Rattle.journal_text.specs.Reading.{IsFirstFault};
 
-use crate::at_once::call_at_once;
 use crate::body::Line;
 use crate::document::Document;
 use crate::fault::ScriptFault;
-use crate::lines::next_line;
 use crate::reading::{Opened, open_document, read_document};
 use crate::words::Words;
 use fq_model::event::Call;
@@ -200,17 +198,6 @@ fn call(version: Version, words: &Words) -> Result<Call, ScriptKind>
     }
 }
 
-// Reads the first line of a text by its words.
-fn read_by_words(version: Version, text: &[u8]) -> Result<Option<(Call, &[u8])>, ScriptKind>
-    ensures { ReadsFirst (call_of_words version) text.now result }
-{
-    let Some((line, below)) = next_line(text) else {
-        return Ok(None);
-    };
-    let said = call(version, &Words::of(line))?;
-    Ok(Some((said, below)))
-}
-
 impl Line for Call {
     ghost title = { codes "script" };
 
@@ -228,11 +215,8 @@ impl Line for Call {
         }
     }
 
-    fn read_first(version: Version, text: &[u8]) -> Result<Option<(Call, &[u8])>, ScriptKind> {
-        if let Some(read) = call_at_once(text) {
-            return Ok(Some(read));
-        }
-        read_by_words(version, text)
+    fn read(version: Version, words: &Words) -> Result<Call, ScriptKind> {
+        call(version, words)
     }
 }
 

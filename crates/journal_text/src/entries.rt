@@ -1,14 +1,11 @@
 //! Journals, whose lines below the head are entries.
 ghost use Rattle.std.specs.Prelude.{◌≡◌, ◌<◌, codes, Ok, IfOk, IfErr, length};
 ghost use Rattle.program_model.specs.Journal.{submit_act, take_act, report_act, done_act, close_act, weight_act, workers_act, withdraw_act, entry_with, fixed_entry_of, changing_entry_of, withdrawing_entry_of, entry_of_words, journal_of};
-ghost use Rattle.journal_text.specs.Body.{ReadsFirst};
 ghost use Rattle.journal_text.specs.Reading.{IsFirstFault};
 
 use crate::body::Line;
 use crate::document::Document;
-use crate::entries_at_once::entry_at_once;
 use crate::fault::ScriptFault;
-use crate::lines::next_line;
 use crate::reading::read_document;
 use crate::words::Words;
 use fq_model::event::{Act, Entry};
@@ -200,17 +197,6 @@ fn entry(version: Version, words: &Words) -> Result<Entry, ScriptKind>
     }
 }
 
-// Reads the first line of a text by its words.
-fn read_by_words(version: Version, text: &[u8]) -> Result<Option<(Entry, &[u8])>, ScriptKind>
-    ensures { ReadsFirst (entry_of_words version) text.now result }
-{
-    let Some((line, below)) = next_line(text) else {
-        return Ok(None);
-    };
-    let said = entry(version, &Words::of(line))?;
-    Ok(Some((said, below)))
-}
-
 impl Line for Entry {
     ghost title = { codes "journal" };
 
@@ -228,11 +214,8 @@ impl Line for Entry {
         }
     }
 
-    fn read_first(version: Version, text: &[u8]) -> Result<Option<(Entry, &[u8])>, ScriptKind> {
-        if let Some(read) = entry_at_once(text) {
-            return Ok(Some(read));
-        }
-        read_by_words(version, text)
+    fn read(version: Version, words: &Words) -> Result<Entry, ScriptKind> {
+        entry(version, words)
     }
 }
 

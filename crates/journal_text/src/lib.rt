@@ -6,7 +6,6 @@ pub mod body;
 pub mod calls;
 pub mod document;
 pub mod entries;
-mod entries_at_once;
 pub mod fault;
 mod head;
 mod lines;

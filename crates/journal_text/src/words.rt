@@ -1,7 +1,8 @@
 //! The words of a line. The first word is word 0; faults count from 1.
-ghost use Rattle.std.specs.Prelude.{◌≡◌, ◌<◌, ◌≤◌, IsTrue, length, IfOk, Ok, Err, MatchResult};
+ghost use Rattle.std.specs.Prelude.{◌≡◌, ◌∷◌, ◌<◌, ◌≤◌, IsTrue, length, IfOk, Ok, Err, MatchResult};
 ghost use Rattle.program_model.specs.Reading.{begins_with};
 ghost use Rattle.fq_model.specs.Spelling.{is_name};
+ghost use Rattle.journal_text.specs.FirstLine.{AreRead};
 ghost use Rattle.program_model.specs.Lines.{words_of, word, with_count, number_at, ranged_at, index_at, name_at, policy_at, estimator_at};
 
 use crate::lines::find;
@@ -11,22 +12,31 @@ use program_model::fault::ScriptKind;
 use program_model::numbers::number;
 use std::marker::Model;
 
-/// The words of a line. Each is found where it is asked for, so that they take no memory, however many there are.
+/// The greatest number of numbers that are read with a line: no line of a script or a journal has more.
+pub const MOST_NUMBERS: usize = 7;
+
+/// The words of a line. A word is found where it is asked for, so that they take no memory, however many there are.
 #[derive(Drop)]
 pub struct Words<'a> {
     first: &'a [u8],
     // the line behind the space that ends the first word
     rest: Option<&'a [u8]>,
+    // the numbers of the words behind the first, where they were read with the line
+    numbers: [u64; MOST_NUMBERS],
+    // how many were read: each of these words, or none
+    read: usize,
 }
 
 impl<'a> Model for Words<'a> {
-    ghost use Rattle.std.specs.Prelude.{◌∷◌, []};
-    ghost use Rattle.std.specs.Option.{option_map_or};
-    ghost use Rattle.program_model.specs.Lines.{Words, words_of};
+    ghost use Rattle.std.specs.Prelude.{◌∷◌};
+    ghost use Rattle.program_model.specs.Lines.{Words};
+    ghost use Rattle.journal_text.specs.FirstLine.{words_behind, AreRead};
 
     ghost Value = { Words };
 
-    ghost view = { λ w. w.first.now ∷ option_map_or (λ rest. words_of rest.now) w.rest [] };
+    ghost view = { λ w. w.first.now ∷ words_behind w.rest };
+
+    ghost invariant = { λ w. AreRead w.read w.numbers (words_behind w.rest) };
 }
 
 impl<'a> Words<'a> {
@@ -38,11 +48,35 @@ impl<'a> Words<'a> {
             Some(end) => Words {
                 first: &line[..end],
                 rest: Some(&line[end + 1..]),
+                numbers: [0; MOST_NUMBERS],
+                read: 0,
             },
             None => Words {
                 first: line,
                 rest: None,
+                numbers: [0; MOST_NUMBERS],
+                read: 0,
             },
+        }
+    }
+
+    /// The words of a line of this word, a space, and this text, whose words are these numbers, of which there are
+    /// `read`.
+    #[inline(always)]
+    pub fn of_numbers(
+        first: &'a [u8],
+        rest: &'a [u8],
+        numbers: [u64; MOST_NUMBERS],
+        read: usize,
+    ) -> Words<'a>
+        requires { AreRead read numbers (words_of rest.now) }
+        ensures { result ≡ first.now ∷ words_of rest.now }
+    {
+        Words {
+            first,
+            rest: Some(rest),
+            numbers,
+            read,
         }
     }
 
@@ -50,6 +84,9 @@ impl<'a> Words<'a> {
     fn count(&self) -> usize
         ensures { result ≡ length self.now }
     {
+        if self.read > 0 {
+            return self.read + 1;
+        }
         match self.rest {
             Some(rest) => rest.iter().filter(|b| **b == b' ').count() + 2,
             None => 1,
@@ -94,6 +131,9 @@ impl<'a> Words<'a> {
         requires { k < 8 }
         ensures { result ≡ number_at self.now k }
     {
+        if 0 < k && k as usize <= self.read {
+            return Ok(self.numbers[k as usize - 1]);
+        }
         number(self.word(k)).ok_or(ScriptKind::Number(k + 1))
     }
 

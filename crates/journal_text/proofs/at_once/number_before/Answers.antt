@@ -28,5 +28,5 @@ loop-at-preserved c =
 
 pub returns-then-is_spelled : goal.returns-then-is_spelled
 returns-then-is_spelled c =
-    rw take_rest (number_ended c.args.text.now c.loop-at.at c.loop-at.number c.args.end c.loop-at.invariant.so_far (omega arith) c.if-byte-end.true
+    rw take_rest (number_ended c.args.text.now c.loop-at.at c.loop-at.number (slice_index c.args.text.now c.loop-at.at) c.loop-at.invariant.so_far (omega arith) refl
     (c.if-is_spelled.ensures.0 refl).0 (c.if-is_spelled.ensures.0 refl).1)
