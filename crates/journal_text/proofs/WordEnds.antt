@@ -1,5 +1,5 @@
 -- A line's first word ends at its first space, or with the line.
-use Rattle.std.proofs.Common.{ℕ, suc, ◌+◌, ◌-◌, ◌<◌, ◌≤◌, ◌≡◌, ◌==◌, Bool, true, false, nat_lt, List, [], ◌∷◌, length, take, drop, refl, sym, arith, Some, None, subst}
+use Rattle.std.proofs.Common.{ℕ, suc, ◌+◌, ◌-◌, ◌≤◌, ◌≡◌, ◌==◌, Bool, true, false, nat_lt, List, [], ◌∷◌, length, take, drop, refl, arith, Some, None, subst}
 use Rattle.std.specs.List.{position_or_len, position}
 use Rattle.std.proofs.lemmas.List.{take_rest}
 use Rattle.std.proofs.lemmas.List.Splits.{slice_split_first}

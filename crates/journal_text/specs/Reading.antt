@@ -1,5 +1,5 @@
 -- The reader's results and the definitions of texts.
-use Rattle.std.specs.Prelude.{ℕ, ◌*◌, ◌<◌, ◌≡◌, nat_lt, Bool, not, ◌&&◌, ◌||◌, if◌then◌else◌, codes, List, ◌∷◌, length, Result, Ok, Err}
+use Rattle.std.specs.Prelude.{ℕ, ◌*◌, ◌≡◌, nat_lt, Bool, not, ◌&&◌, ◌||◌, if◌then◌else◌, codes, List, length, Result, Ok, Err}
 use Rattle.program_model.specs.declared.fault.ScriptKind.{ScriptKind}
 use Rattle.fq_model.specs.declared.config.Config.{Config}
 use Rattle.fq_model.specs.declared.limits.TheConstants.{MOST_TENANTS, MOST_KINDS, MOST_PAIRS}

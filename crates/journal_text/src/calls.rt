@@ -161,7 +161,7 @@ fn fixed_call(words: &Words) -> Result<Call, ScriptKind>
     }
 }
 
-// The call of a line, where they may change.
+// The call of a line, where weights and the number of workers may change.
 #[tactic(auto, unfolding(program_model::specs::Script::changing_call_of))]
 fn changing_call(words: &Words) -> Result<Call, ScriptKind>
     ensures { result ≡ changing_call_of words.now }
@@ -175,7 +175,7 @@ fn changing_call(words: &Words) -> Result<Call, ScriptKind>
     }
 }
 
-// The call of a line, where they may change and requests may be withdrawn.
+// The call of a line, where these may change and requests may be withdrawn.
 #[tactic(auto, unfolding(program_model::specs::Script::withdrawing_call_of))]
 fn withdrawing_call(words: &Words) -> Result<Call, ScriptKind>
     ensures { result ≡ withdrawing_call_of words.now }

@@ -160,7 +160,7 @@ fn fixed_entry(words: &Words) -> Result<Entry, ScriptKind>
     }
 }
 
-// The entry of a line, where they may change.
+// The entry of a line, where weights and the number of workers may change.
 #[tactic(auto, unfolding(program_model::specs::Journal::changing_entry_of))]
 fn changing_entry(words: &Words) -> Result<Entry, ScriptKind>
     ensures { result ≡ changing_entry_of words.now }
@@ -174,7 +174,7 @@ fn changing_entry(words: &Words) -> Result<Entry, ScriptKind>
     }
 }
 
-// The entry of a line, where they may change and requests may be withdrawn.
+// The entry of a line, where these may change and requests may be withdrawn.
 #[tactic(auto, unfolding(program_model::specs::Journal::withdrawing_entry_of))]
 fn withdrawing_entry(words: &Words) -> Result<Entry, ScriptKind>
     ensures { result ≡ withdrawing_entry_of words.now }

@@ -12,18 +12,18 @@ use program_model::fault::ScriptKind;
 use program_model::numbers::number;
 use std::marker::Model;
 
-/// The greatest number of numbers that are read with a line: no line of a script or a journal has more.
+/// The most numbers in a line of a script or a journal.
 pub const MOST_NUMBERS: usize = 7;
 
-/// The words of a line. A word is found where it is asked for, so that they take no memory, however many there are.
+/// The words of a line. Each is found by a scan when it is asked for, so that no line takes memory.
 #[derive(Drop)]
 pub struct Words<'a> {
     first: &'a [u8],
     // the line behind the space that ends the first word
     rest: Option<&'a [u8]>,
-    // the numbers of the words behind the first, where they were read with the line
+    // the numbers that the words behind the first spell, where they were read with the line
     numbers: [u64; MOST_NUMBERS],
-    // how many were read: each of these words, or none
+    // how many numbers were read: one for each of these words, or 0
     read: usize,
 }
 
@@ -60,8 +60,7 @@ impl<'a> Words<'a> {
         }
     }
 
-    /// The words of a line of this word, a space, and this text, whose words are these numbers, of which there are
-    /// `read`.
+    /// The words of a line that is this word, a space and this text. The text's words are the first `read` numbers.
     #[inline(always)]
     pub fn of_numbers(
         first: &'a [u8],

@@ -1,5 +1,5 @@
 use Rattle.std.proofs.Common.{◌+◌, rules, arith, take, slice_set, length-set}
-use Rattle.journal_text.proofs.AtOnce.{IsNumbers, none_passed, one_passed, all_passed, whole_line, all_known}
+use Rattle.journal_text.proofs.AtOnce.{none_passed, one_passed, all_passed, whole_line, all_known}
 use Rattle.journal_text.proofs.at_once.numbers_at_once.Goals as goal
 
 pub loop-read-init : goal.loop-read-init

@@ -1,4 +1,4 @@
-use Rattle.std.proofs.Common.{◌+◌, ◌≡◌, ◌==◌, ◌∷◌, rules, arith, ap, length}
+use Rattle.std.proofs.Common.{◌≡◌, ◌==◌, ◌∷◌, rules, arith, ap, length}
 use Rattle.std.specs.List.{count_by}
 use Rattle.std.proofs.lemmas.List.Splits.{length-slice_split}
 use Rattle.program_model.specs.Lines.{words_of}
