@@ -1,4 +1,4 @@
--- An entry that may follow a legal history is what its call is answered by.
+-- An entry that may follow a legal history is the entry that its call adds.
 use Rattle.std.proofs.Common.{ℕ, ◌<◌, ◌≡◌, ◌∷◌, None, arith, refl}
 use Rattle.fq_model.specs.declared.config.Config.{Config}
 use Rattle.fq_model.specs.declared.event.Act.{Act}
@@ -19,7 +19,7 @@ use Rattle.fq_laws.proofs.Rules.Refusals.{request_on_is}
 use Rattle.program_model.specs.Journal.{call_of_act, call_of}
 use Rattle.sched_state.proofs.CallLemmas.{not_refused, answered_submit, took, answered_close, answered_weight, answered_workers, answered_withdraw}
 
--- an act that fits at a moment in order is what its call adds
+-- the call of an act that fits at a moment in order adds this act
 fits_at : (C : Config) (P : History) (who m : ℕ) (act : Act) → InLimits C → IsLegal C P → m ≡ effective_moment P m → Fits C P m act
     → (reply : Reply) × Answers C P (call_of_act who m act) reply (one_more who m act P)
 fits_at C P who m (Submit request tenant kind declared label) limits legal now f =
@@ -48,7 +48,7 @@ fits_at C P who m (Withdraw request) limits legal now f =
 entry_answers : (C : Config) (P : History) (e : Entry) → InLimits C → IsLegal C (e ∷ P) → (reply : Reply) × Answers C P (call_of e) reply (e ∷ P)
 entry_answers C P e limits legal = fits_at C P e.who e.moment e.act limits legal.0 (in_order P e.moment legal.1 legal.2) legal.3
 
--- and nothing else is
+-- and by no other
 pub call_enters : (C : Config) (P Q : History) (e : Entry) (reply : Reply) → InLimits C → IsLegal C (e ∷ P) → Answers C P (call_of e) reply Q → Q ≡ e ∷ P
 call_enters C P Q e reply limits legal answers =
     let fits = entry_answers C P e limits legal in

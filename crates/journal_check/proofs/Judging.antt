@@ -1,7 +1,7 @@
 -- The entries of a journal, judged one after another.
-use Rattle.std.proofs.Common.{ℕ, zero, suc, ◌+◌, ◌<◌, ◌≤◌, ◌≡◌, ◌⊎◌, ◌∙◌, List, [], ◌∷◌, ◌++◌, length, Option, Some, None, arith, refl, sym, ap, subst, inl, inr, take, drop, get_or, add-one}
+use Rattle.std.proofs.Common.{ℕ, ◌+◌, ◌<◌, ◌≤◌, ◌≡◌, ◌≢◌, ◌⊎◌, ◌∙◌, List, [], ◌∷◌, ◌++◌, length, Option, Some, None, arith, refl, sym, ap, subst, inl, inr, take, drop, get_or, add-one, append_assoc}
 use Rattle.std.specs.Prelude.{slice_get}
-use Rattle.std.proofs.Math.Seq.{take-suc, drop-cons}
+use Rattle.std.proofs.Math.Seq.{take-suc}
 use Rattle.std.proofs.lemmas.List.{reverse-append, reverse-reverse, take-append-drop, take_all}
 use Rattle.std.proofs.lemmas.Option.{slice_get_past}
 use Rattle.fq_model.specs.declared.config.Config.{Config}
@@ -13,12 +13,14 @@ use Rattle.fq_model.specs.Rules.{Answers, IsLegal}
 use Rattle.fq_laws.specs.Words.{Extends}
 use Rattle.fq_laws.proofs.Rules.Answers.{answer_extends}
 use Rattle.program_model.specs.Journal.{call_of}
-use Rattle.program_model.specs.Verdicts.{with_gained, IsFirstBad}
+use Rattle.program_model.specs.declared.verdict.Verdict.{Verdict}
+use Rattle.program_model.specs.declared.verdict.Verdict.TheVariants.{Legal, Bad}
+use Rattle.program_model.specs.Verdicts.{with_gained, IsFirstBad, IsVerdict}
 use Rattle.journal_check.proofs.Fitting.{call_enters}
 
--- ---- what a call adds
+-- ---- the entry that a call adds
 
--- entries with one history are the same
+-- entries with one history are equal
 pub same_entries : (old new : List Entry) → history_of new ≡ history_of old → new ≡ old
 same_entries old new same = sym (reverse-reverse new) ∙ ap history_of same ∙ reverse-reverse old
 
@@ -56,58 +58,72 @@ gained_is : (old new : List Entry) (wanted : Option Entry) → Added old new wan
 gained_is old new None same = ap history_of same
 gained_is old new (Some e) grown = ap history_of grown ∙ reverse-append old (e ∷ [])
 
--- ---- the entries so far
+-- ---- the call of one entry
 
--- the scheduler has made the calls of the first k entries, and they are its own
-pub record IsJudged (C : Config) (entries : List Entry) (k : ℕ) (past : List Entry) : Type 0 where
-  pub limits : InLimits C
-  pub past_is : past ≡ take k entries
-  pub legal : IsLegal C (history_of past)
-
-pub none_judged : (C D : Config) (entries past : List Entry) → C ≡ D → past ≡ [] → InLimits D → IsJudged C entries 0 past
-none_judged C D entries past same none limits = rw same (record { limits = limits; past_is = none; legal = rw none tt })
-
-length_take : (k : ℕ) (l : List Entry) → k ≤ length l → length (take k l) ≡ k
-length_take zero l h = refl
-length_take (suc k) [] h = absurd (omega arith)
-length_take (suc k) (x ∷ l) h = ap suc (length_take k l (omega arith))
-
-module _ (C : Config) (entries : List Entry) (k : ℕ) (old new : List Entry) (given none : Entry) (reply : Reply) (wanted : Option Entry)
-    (judged : IsJudged C entries k old) (there : k < length entries) (is : given ≡ get_or entries k none)
-    (answers : Answers C (history_of old) (call_of given) reply (history_of new)) (told : wanted ≡ slice_get new k) where
-  counted : length old ≡ k
-  counted = ap length judged.past_is ∙ length_take k entries (omega (arith, there))
-
+module _ (C : Config) (old new : List Entry) (given : Entry) (reply : Reply) (wanted : Option Entry)
+    (answers : Answers C (history_of old) (call_of given) reply (history_of new)) (is : wanted ≡ slice_get new (length old)) where
   adds : Added old new wanted
-  adds = subst (Added old new) (ap (slice_get new) counted ∙ sym told) (call_adds C old new given reply answers)
+  adds = subst (Added old new) (sym is) (call_adds C old new given reply answers)
 
-  -- the call of the given entry adds another, or none
-  pub first_bad : ¬ (wanted ≡ Some given) → IsFirstBad C entries (k + 1) reply wanted
-  first_bad other = record {
+  -- it adds another entry, or none
+  pub first_bad : InLimits C → IsLegal C (history_of old) → ¬ (wanted ≡ Some given) → IsFirstBad C (old ++ given ∷ []) (length old + 1) reply wanted
+  first_bad limits before other = record {
     before = old;
     given = given;
-    after = drop (suc k) entries;
-    split = sym (take-append-drop k entries) ∙ ap (λ l. take k entries ++ l) (drop-cons entries k none there) ∙ ap (λ l. l ++ get_or entries k none ∷ drop (suc k) entries) (sym judged.past_is) ∙ ap (λ (e : Entry). old ++ e ∷ drop (suc k) entries) (sym is);
-    counted = omega (arith, counted);
-    legal_before = judged.legal;
+    after = [];
+    split = refl;
+    counted = refl;
+    legal_before = before;
     not_legal = λ legal. (
-        let grown : history_of new ≡ given ∷ history_of old = call_enters C (history_of old) (history_of new) given reply judged.limits legal answers in
-        let last : slice_get new k ≡ Some given = ap (slice_get new) (sym counted) ∙ ap (λ (l : List Entry). slice_get l (length old)) (added_last old new given grown) ∙ last_is old given in
-        other (told ∙ last)
+        let grown : history_of new ≡ given ∷ history_of old = call_enters C (history_of old) (history_of new) given reply limits legal answers in
+        let last : slice_get new (length old) ≡ Some given = ap (λ (l : List Entry). slice_get l (length old)) (added_last old new given grown) ∙ last_is old given in
+        other (is ∙ last)
         );
     answered = subst (Answers C (history_of old) (call_of given) reply) (gained_is old new wanted adds) answers;
   }
 
-  -- or it adds the given one
-  pub one_more_judged : (D : Config) → D ≡ C → wanted ≡ Some given → IsLegal D (history_of new) → IsJudged D entries (k + 1) new
-  one_more_judged D same wants legal =
-      let grown : new ≡ old ++ given ∷ [] = subst (Added old new) wants adds in
-      rw same (record {
-        limits = judged.limits;
-        past_is = grown ∙ ap (λ l. l ++ given ∷ []) judged.past_is ∙ ap (λ (e : Entry). take k entries ++ e ∷ []) is ∙ rw add-one (sym (take-suc entries k none there));
-        legal = subst (λ (B : Config). IsLegal B (history_of new)) same legal;
-      })
+  -- or it adds the entry
+  pub added_given : wanted ≡ Some given → new ≡ old ++ given ∷ []
+  added_given wants = subst (Added old new) wants adds
+
+pub legal_given : (C D : Config) (old new : List Entry) (given : Entry) → D ≡ C → new ≡ old ++ given ∷ [] → IsLegal D (history_of new) → IsLegal C (history_of (old ++ given ∷ []))
+legal_given C D old new given same grown legal = subst (λ (B : Config). IsLegal B (history_of (old ++ given ∷ []))) same (subst (λ (l : List Entry). IsLegal D (history_of l)) grown legal)
+
+-- ---- the entries so far
+
+-- a verdict on the first entries, if it is not Legal, is one on all
+bad_stays : (C : Config) (entries more : List Entry) (v : Verdict) → v ≢ Legal → IsVerdict C entries v → IsVerdict C (entries ++ more) v
+bad_stays C entries more Legal ne is = absurd (ne refl)
+bad_stays C entries more (Bad place reply wanted) ne is = record {
+  before = is.before;
+  given = is.given;
+  after = is.after ++ more;
+  split = ap (λ l. l ++ more) is.split ∙ append_assoc is.before (is.given ∷ is.after) more;
+  counted = is.counted;
+  legal_before = is.legal_before;
+  not_legal = is.not_legal;
+  answered = is.answered;
+}
+
+-- the scheduler has made the calls of the first k entries, and they are its own
+pub record IsJudged (C : Config) (entries : List Entry) (k : ℕ) (past : List Entry) : Type 0 where
+  pub past_is : past ≡ take k entries
+  pub legal : IsLegal C (history_of past)
+
+pub none_judged : (C : Config) (entries past : List Entry) → past ≡ [] → IsJudged C entries 0 past
+none_judged C entries past none = record { past_is = none; legal = rw none tt }
+
+module _ (C : Config) (entries : List Entry) (k : ℕ) (old : List Entry) (given none : Entry) (judged : IsJudged C entries k old) (there : k < length entries) (is : given ≡ get_or entries k none) where
+  up_to : old ++ given ∷ [] ≡ take (k + 1) entries
+  up_to = ap (λ l. l ++ given ∷ []) judged.past_is ∙ ap (λ (e : Entry). take k entries ++ e ∷ []) is ∙ rw add-one (sym (take-suc entries k none there))
+
+  pub bad_among : (v : Verdict) → v ≢ Legal → IsVerdict C (old ++ given ∷ []) v → IsVerdict C entries v
+  bad_among v ne bad =
+      subst (λ (l : List Entry). IsVerdict C l v) (take-append-drop (k + 1) entries) (bad_stays C (take (k + 1) entries) (drop (k + 1) entries) v ne (subst (λ (l : List Entry). IsVerdict C l v) up_to bad))
+
+  pub one_more_judged : (new : List Entry) → new ≡ old ++ given ∷ [] → IsLegal C (history_of (old ++ given ∷ [])) → IsJudged C entries (k + 1) new
+  one_more_judged new grown legal = record { past_is = grown ∙ up_to; legal = rw grown legal }
 
 -- all are judged
-pub all_judged : (C D : Config) (entries : List Entry) (k : ℕ) (past : List Entry) → C ≡ D → length entries ≤ k → IsJudged C entries k past → IsLegal D (history_of entries)
-all_judged C D entries k past same all judged = rw (← same) (subst (λ (l : List Entry). IsLegal C (history_of l)) (judged.past_is ∙ take_all k entries all) judged.legal)
+pub all_judged : (C : Config) (entries : List Entry) (k : ℕ) (past : List Entry) → length entries ≤ k → IsJudged C entries k past → IsLegal C (history_of entries)
+all_judged C entries k past all judged = subst (λ (l : List Entry). IsLegal C (history_of l)) (judged.past_is ∙ take_all k entries all) judged.legal

@@ -1,4 +1,4 @@
--- What explains a request of legal entries has one text.
+-- The explanations of a request of legal entries have one text.
 use Rattle.std.proofs.Common.{ℕ, ◌≡◌, ◌∙◌, refl, sym, ap, subst, Bool, true, false, ◌||◌, List, [], ◌∷◌, ◌++◌, Some, None, pos, inl, inr}
 use Rattle.std.proofs.lemmas.Bool.{false≢true, eq-eqb}
 use Rattle.fq_model.specs.declared.config.Config.{Config}
@@ -35,7 +35,7 @@ unfolding is_taken
 taken_later [] P r is = is
 taken_later (e ∷ newer) P r is = or_true (is_take_of r e.act) _ (taken_later newer P r is)
 
--- what is taken at one of the entries is taken after all of them
+-- a request that one of the entries takes is taken after all of them
 taken_among : (xs zs : List Entry) (x : Entry) (r : ℕ) → is_take_of r x.act ≡ true → is_taken (history_of (xs ++ x ∷ zs)) r ≡ true
 taken_among xs zs x r is = rw (history_among xs zs x) (taken_later (history_of zs) (x ∷ history_of xs) r (taken_here x (history_of xs) r is))
 
@@ -45,7 +45,7 @@ taken_twice C xs ys zs x y r first again split legal =
     let there : is_taken (history_of ys) r ≡ true = rw split (taken_among xs zs x r first) in
     false≢true (sym (taken_new C (history_of ys) y r legal again) ∙ there)
 
--- ---- rows for the same heads have the same texts
+-- ---- rows for equal heads have equal texts
 
 eligible_same : (a b : Bool) → (a ≡ true → b ≡ true) → (b ≡ true → a ≡ true) → a ≡ b
 eligible_same true true to back = refl

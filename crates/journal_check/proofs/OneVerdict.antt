@@ -13,7 +13,7 @@ use Rattle.program_model.specs.Verdicts.{with_gained, IsFirstBad}
 use Rattle.journal_check.specs.Laws.{OneVerdict, LegalIsLegal}
 use Rattle.journal_check.proofs.Turns.{legal_before}
 
--- two ways to part the same entries at one of them: at the same one, or at one before the other
+-- two ways to part a list of entries at one of them: at one place, or at one place before the other
 pub record Same (xs ys : List Entry) (x y : Entry) : Type 0 where
   pub before : xs ≡ ys
   pub given : x ≡ y
@@ -45,7 +45,7 @@ legal_among C xs zs x legal = legal_before C (history_of zs) (x ∷ history_of x
 not_all : (C : Config) (entries : List Entry) (place : ℕ) (reply : Reply) (wanted : Option Entry) → IsFirstBad C entries place reply wanted → ¬ IsLegal C (history_of entries)
 not_all C entries place reply wanted bad legal = bad.not_legal (legal_among C bad.before bad.after bad.given (subst (λ (l : List Entry). IsLegal C (history_of l)) bad.split legal))
 
--- what was gained is told by the history that is left
+-- the entry that was gained follows from the history after the call
 same_gain : (P : History) (v w : Option Entry) → with_gained v P ≡ with_gained w P → v ≡ w
 same_gain P None None same = refl
 same_gain P (Some e) (Some f) same = let one : e ≡ f = cc in ap Some one

@@ -27,7 +27,7 @@ use Rattle.program_model.specs.Explanations.{IsRow, AreRows, with_head, heads_be
 
 -- ---- the first entries
 
--- what is read past the last entry
+-- the entry that a read past the last entry gives
 abbrev pub no_entry : Entry
 no_entry = record { who = 0; moment = 0; act = Submit 0 0 0 0 0 }
 
@@ -37,7 +37,7 @@ history_more entries k none there =
     let longer : take (k + 1) entries ≡ take k entries ++ get_or entries k none ∷ [] = rw add-one (take-suc entries k none there) in
     ap history_of longer ∙ reverse-append (take k entries) (get_or entries k none ∷ [])
 
--- what stands before newer entries is legal
+-- the entries before newer ones are legal
 pub legal_before : (C : Config) (newer P : History) → IsLegal C (newer ++ P) → IsLegal C P
 legal_before C [] P legal = legal
 legal_before C (e ∷ newer) P legal = legal_before C newer P legal.0
@@ -147,7 +147,7 @@ module _ (C : Config) (P : History) (given : Entry) (worker : ℕ) (legal : IsLe
         rows_are = subst (λ (l : List (ℕ × HeadKeys)). AreRows (turn_at C P given.moment worker) l x.rows.items) heads_are (subst (λ (t : Turn). AreRows t heads x.rows.items) turn rows);
       }
 
--- what is of a scheduler with this configuration, to which the first of these entries have come
+-- a scheduler with this configuration, to which the first of these entries have come
 module _ (C D : Config) (entries given past : List Entry) (place : ℕ) (same : D ≡ C) (read : given ≡ entries) (came : past ≡ take place given) where
   came_first : past ≡ take place entries
   came_first = came ∙ ap (λ (l : List Entry). take place l) read

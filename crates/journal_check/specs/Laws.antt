@@ -1,4 +1,4 @@
--- What follows from the definitions of verdicts and explanations.
+-- Consequences of the definitions of verdicts and explanations.
 use Rattle.std.specs.Prelude.{ℕ, ◌≡◌, ◌↔◌, List, Option}
 use Rattle.fq_model.specs.declared.config.Config.{Config}
 use Rattle.fq_model.specs.declared.event.Entry.{Entry}
@@ -21,7 +21,7 @@ LegalIsLegal =
     (C : Config) (entries : List Entry) (v : Verdict) → IsVerdict C entries v
     → (v ≡ Legal) ↔ IsLegal C (history_of entries)
 
--- what explains a request of legal entries has one text
+-- the explanations of a request of legal entries have one text
 abbrev pub OneExplanation : Type 0
 OneExplanation = (C : Config) (entries : List Entry) (names : List (List ℕ)) (request : ℕ) (x y : Option Explained)
     → IsLegal C (history_of entries) → Explains C entries request x → Explains C entries request y

@@ -1,4 +1,4 @@
--- A worker's turn in a journal, and what is told of it.
+-- A worker's turn in a journal, and its explanation.
 use Rattle.std.specs.Prelude.{ℕ, ◌≡◌, List, Some, slice_get, pos}
 use Rattle.fq_model.specs.declared.config.Config.{Config}
 use Rattle.fq_model.specs.declared.event.Act.TheVariants.{Take}
@@ -22,7 +22,7 @@ pub record IsTakeBy (worker : ℕ) (e : Entry) : Type 0 where
   pub estimate : ℕ
   pub takes : e.act ≡ Take worker request estimate
 
--- what is told of the turn of this worker at m
+-- the explanation of the turn of this worker at m
 pub record IsTurn (C : Config) (P : History) (m worker : ℕ) (x : Explained) : Type 0 where
   pub worker_is : x.worker ≡ worker
   pub moment_is : x.moment ≡ m

@@ -1,10 +1,11 @@
 //! The verdict on a journal.
-ghost use Rattle.std.specs.Prelude.{◌≡◌, ◌↔◌, [], ◌∷◌, IsTrue, Some, IfOk, slice_get};
+ghost use Rattle.std.specs.Prelude.{◌≡◌, ◌↔◌, [], ◌∷◌, ◌++◌, IsTrue, Some, IfOk, slice_get};
 ghost use Rattle.fq_model.specs.History.{history_of};
 ghost use Rattle.fq_model.specs.Limits.{InLimits};
 ghost use Rattle.fq_model.specs.Rules.{IsLegal};
 ghost use Rattle.program_model.specs.Document.{config_of};
 ghost use Rattle.program_model.specs.Journal.{call_of};
+ghost use Rattle.program_model.specs.declared.verdict.Verdict.TheVariants.{Legal};
 ghost use Rattle.program_model.specs.Verdicts.{IsVerdict};
 
 use fq_model::config::{Checked, Config, Weights};
@@ -15,8 +16,8 @@ use sched_state::{Scheduler, answer};
 use std::alloc::{AllocError, Global};
 use tag_rules::chooser::Chooser;
 
-/// Whether each entry of a journal is the one that its call adds to those before it. The calls are made on a scheduler
-/// over any chooser, once each, up to the first that isn't answered by its entry.
+/// Whether each entry of a journal is the entry that its call adds to the entries before it. The calls are made on a
+/// scheduler over any chooser, once each, up to the first that isn't answered by its entry.
 pub fn check<X: Chooser + Drop>(alloc: Global, journal: &Journal) -> Result<Verdict, AllocError>
     ensures { IfOk result (IsVerdict (config_of journal.now) journal.now.body) }
 {
@@ -33,18 +34,35 @@ fn judge<X: Chooser>(scheduler: &mut Scheduler<u64, X>, entries: &[Entry]) -> Ve
     requires limits { InLimits scheduler.old.config }
     ensures { IsVerdict scheduler.old.config entries.now result }
 {
-    for (k, given) in entries.iter().enumerate() {
-        let reply = answer(scheduler, call_of(*given));
-        let wanted = entry_at(scheduler.past(), k);
-        if !is_given(wanted, *given) {
-            return Verdict::Bad {
-                entry: k as u64 + 1,
-                reply,
-                wanted,
-            };
+    for entry in entries {
+        match judge_next(scheduler, *entry) {
+            Verdict::Legal => {}
+            bad => return bad,
         }
     }
     Verdict::Legal
+}
+
+/// Makes the call of an entry, and judges the scheduler's entries with this entry after them: it is the first that is
+/// not legal where its call adds another entry, or none.
+pub fn judge_next<X: Chooser>(scheduler: &mut Scheduler<u64, X>, given: Entry) -> Verdict
+    requires { InLimits scheduler.old.config }
+    ensures config { scheduler.new.config ≡ scheduler.old.config }
+    ensures verdict { IsVerdict scheduler.old.config (scheduler.old.past ++ given ∷ []) result }
+    ensures past { result ≡ Legal → scheduler.new.past ≡ scheduler.old.past ++ given ∷ [] }
+{
+    let k = scheduler.past().len();
+    let reply = answer(scheduler, call_of(given));
+    let wanted = entry_at(scheduler.past(), k);
+    if is_given(wanted, given) {
+        Verdict::Legal
+    } else {
+        Verdict::Bad {
+            entry: k as u64 + 1,
+            reply,
+            wanted,
+        }
+    }
 }
 
 /// The entry with this number, counted from 0, if there is one.
@@ -54,7 +72,7 @@ pub(crate) fn entry_at(entries: &[Entry], k: usize) -> Option<Entry>
     entries.get(k).copied()
 }
 
-// Whether the entry that is wanted is the one that is given.
+// Whether the wanted entry is the given entry.
 fn is_given(wanted: Option<Entry>, given: Entry) -> bool
     ensures { IsTrue result ↔ (wanted ≡ Some given) }
 {
@@ -124,7 +142,7 @@ pub(crate) fn call_of(entry: Entry) -> Call
     }
 }
 
-/// The same configuration once more.
+/// A copy of a configuration.
 pub fn copy_of(alloc: Global, config: &Checked) -> Result<Checked, AllocError>
     ensures copy { IfOk result (λ copy. copy ≡ config.now) }
     ensures limits { IfOk result (λ copy. InLimits copy) }

@@ -27,8 +27,8 @@ struct TakenAt {
     worker: u32,
 }
 
-/// Which heads a worker chose from when it took this request, and what they were compared by; None where the request
-/// was not taken. The calls of the entries up to the Take are made on a scheduler over any chooser, once each.
+/// The heads that a worker chose from when it took this request, and the keys that they were compared by; None where
+/// the request was not taken. The calls of the entries up to the Take are made on a scheduler over any chooser, once each.
 pub fn explain<X: Chooser + Drop>(
     alloc: Global,
     journal: &Journal,

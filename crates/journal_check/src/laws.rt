@@ -11,7 +11,7 @@ pub fn legal_is_legal()
     ensures { LegalIsLegal }
 {}
 
-/// What explains a request of legal entries has one text.
+/// The explanations of a request of legal entries have one text.
 pub fn one_explanation()
     ensures { OneExplanation }
 {}

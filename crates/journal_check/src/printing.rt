@@ -70,7 +70,7 @@ fn add_wanted(reply: Reply, wanted: Option<Entry>, text: &mut Vec<u8>) -> Result
     }
 }
 
-/// What explains a request, as a text; None where it was not taken.
+/// The explanation of a request as a text; None where the request was not taken.
 pub fn explanation_text(
     alloc: Global,
     tenants: &Tenants,

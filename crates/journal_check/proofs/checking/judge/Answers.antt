@@ -1,33 +1,36 @@
-use Rattle.std.proofs.Common.{◌∙◌, refl, sym, ap, subst, arith}
-use Rattle.std.specs.Prelude.{List, slice_get}
-use Rattle.std.proofs.lemmas.Bool.{false≢true}
-use Rattle.fq_model.specs.declared.event.Call.{Call}
+use Rattle.std.proofs.Common.{◌++◌, ◌∷◌, [], ◌∙◌, refl, subst, get_or}
+use Rattle.fq_model.specs.declared.config.Config.{Config}
 use Rattle.fq_model.specs.declared.event.Entry.{Entry}
 use Rattle.fq_model.specs.History.{history_of}
-use Rattle.fq_model.specs.Rules.{Answers}
-use Rattle.journal_check.proofs.Judging.{none_judged, first_bad, one_more_judged, all_judged}
+use Rattle.fq_model.specs.Rules.{IsLegal}
+use Rattle.program_model.specs.Verdicts.{IsVerdict}
+use Rattle.journal_check.proofs.Judging.{none_judged, bad_among, one_more_judged, all_judged}
+use Rattle.journal_check.proofs.Turns.{no_entry}
 use Rattle.journal_check.proofs.checking.judge.Goals as goal
 
-pub loop-k-init : goal.loop-k-init
-loop-k-init g c = record { judged = none_judged _ c.args.scheduler.now.config _ _ refl c.requires.opened c.requires.limits; config_is = refl }
+pub loop-entry-init : goal.loop-entry-init
+loop-entry-init g c = record { config_is = refl; judged = none_judged c.args.scheduler.now.config c.args.entries.now c.args.scheduler.now.past c.requires.opened }
 
-pub returns-then-not-is_given : goal.returns-then-not-is_given
-returns-then-not-is_given g c =
-    let answers = subst (λ (a : Call). Answers c.loop-k.scheduler.config (history_of c.loop-k.scheduler.past) a c.answer-reply.result (history_of c.answer-reply.new.scheduler.past)) c.call_of.ensures c.answer-reply.ensures.answers in
-    let told = c.entry_at-wanted.ensures ∙ ap (λ (l : List Entry). slice_get l c.loop-k.k) c.past.ensures.entries in
-    rw (← c.loop-k.invariant.config_is) (first_bad c.loop-k.scheduler.config c.args.entries.now c.loop-k.k c.loop-k.scheduler.past c.answer-reply.new.scheduler.past _ _ c.answer-reply.result c.entry_at-wanted.result
-    c.loop-k.invariant.judged c.loop-k-test.true refl answers told (λ is. false≢true (sym c.if-not-is_given.true ∙ c.is_given.ensures.1 is)))
+pub judge_next-requires : goal.judge_next-requires
+judge_next-requires g c = rw c.loop-entry.invariant.config_is c.requires.limits
 
-pub loop-k-preserved : goal.loop-k-preserved
-loop-k-preserved g c =
-    let answers = subst (λ (a : Call). Answers c.loop-k.scheduler.config (history_of c.loop-k.scheduler.past) a c.answer-reply.result (history_of c.answer-reply.new.scheduler.past)) c.call_of.ensures c.answer-reply.ensures.answers in
-    let told = c.entry_at-wanted.ensures ∙ ap (λ (l : List Entry). slice_get l c.loop-k.k) c.past.ensures.entries in
+pub returns-in_default : goal.returns-in_default
+returns-in_default g c =
+    let old = c.loop-entry.scheduler in
+    let given : Entry = get_or c.args.entries.now c.loop-entry.entry-index no_entry in
+    bad_among c.args.scheduler.now.config c.args.entries.now c.loop-entry.entry-index old.past given no_entry c.loop-entry.invariant.judged c.loop-entry-test.true refl c.judge_next.result c.in_default.not-Legal
+    (subst (λ (C : Config). IsVerdict C (old.past ++ given ∷ []) c.judge_next.result) c.loop-entry.invariant.config_is c.judge_next.ensures.verdict)
+
+pub loop-entry-preserved : goal.loop-entry-preserved
+loop-entry-preserved g c =
+    let old = c.loop-entry.scheduler in
+    let given : Entry = get_or c.args.entries.now c.loop-entry.entry-index no_entry in
     record {
-      judged = one_more_judged c.loop-k.scheduler.config c.args.entries.now c.loop-k.k c.loop-k.scheduler.past c.answer-reply.new.scheduler.past _ _ c.answer-reply.result c.entry_at-wanted.result
-          c.loop-k.invariant.judged c.loop-k-test.true refl answers told c.answer-reply.new.scheduler.config c.answer-reply.ensures.config_is (c.is_given.ensures.0 c.if-not-is_given.false)
-          c.past.ensures.legal;
-      config_is = c.answer-reply.ensures.config_is ∙ c.loop-k.invariant.config_is;
+      config_is = c.judge_next.ensures.config ∙ c.loop-entry.invariant.config_is;
+      judged = one_more_judged c.args.scheduler.now.config c.args.entries.now c.loop-entry.entry-index old.past given no_entry c.loop-entry.invariant.judged c.loop-entry-test.true refl c.judge_next.new.scheduler.past
+          (c.in-Legal.ensures.past refl)
+          (subst (λ (C : Config). IsLegal C (history_of (old.past ++ given ∷ []))) c.loop-entry.invariant.config_is c.in-Legal.ensures.verdict);
     }
 
 pub returns : goal.returns
-returns g c = all_judged _ c.args.scheduler.now.config c.args.entries.now c.loop-k.k _ c.loop-k.invariant.config_is (omega arith) c.loop-k.invariant.judged
+returns g c = all_judged c.args.scheduler.now.config c.args.entries.now c.loop-entry.entry-index c.loop-entry.scheduler.past c.loop-entry-test.false c.loop-entry.invariant.judged
