@@ -29,11 +29,11 @@ no_reports [] h = refl
 no_reports (e ∷ P) h = let x = or_parts (is_other e.act) (has_act is_other P) h in omega (arith, report_other e.act x.0, no_reports P x.1)
 
 module _ (T : Trace) (O : RunOptions) (Tells : ℕ → Type 0) (H : History) (p : PoolParts T O Tells H) where
-  -- what is no act of a worker is nowhere in the entries of workers
+  -- an act that no worker makes is not in the entries of workers
   pub no_worker_does : (test : Act → Bool) → ((i : ℕ) → MakesNothing (tally test) i) → (j : ℕ) → submitters T.rows ≤ j → has_act test (own_entries H j) ≡ false
   no_worker_does test nothing j h = has_is test (own_entries H j) ∙ tally_none test (acts (own_entries H j)) (no_worker_sum T O Tells H (tally test) nothing p j h)
 
-  -- and where submitters have none of it, it is not there
+  -- and where no submitter makes it either, it is not in the history
   pub nobody_does : (test : Act → Bool) → ((i : ℕ) → MakesNothing (tally test) i) → ((j : ℕ) → j < submitters T.rows → has_act test (own_entries H j) ≡ false) → has_act test H ≡ false
   nobody_does test nothing none = has_none test H (λ j. elim (who_is (submitters T.rows) O.workers j) [
     | inl h ↦ none j h

@@ -1,4 +1,4 @@
--- How many entries a legal history has, and what its Takes come to.
+-- The number of entries of a legal history, and the weight of its Takes.
 use Rattle.std.proofs.Common.{◌≡◌, ◌<◌, ◌≤◌, ◌+◌, ◌*◌, ◌^◌, ◌==◌, ℕ, suc, true, false, cond, [], ◌∷◌, ◌++◌, length, refl, sym, ap, arith, Option, Some, None, if◌then◌else◌, ◌≢◌}
 use Rattle.std.proofs.lemmas.Bool.{eq-eqb, ne_eqb, or_parts, or_left, and_left, and_right, and_from, not_from_false, false≢true}
 use Rattle.fq_model.specs.declared.config.Config.{Config}
@@ -24,7 +24,7 @@ legal_older C (e ∷ newer) P l = legal_older C newer P l.0
 abbrev pub reports : History → ℕ
 reports P = act_sum report_weight (acts P)
 
--- three entries a Submit where those that are owed are counted, and one a Report and a Close
+-- three entries for each Submit, where the entries to come are counted, and one for each Report and Close
 abbrev pub Balanced : History → Type 0
 Balanced P = length P + 2 * waiting P + running P ≡ 3 * submits P + reports P + count_acts is_close P
 
@@ -48,16 +48,16 @@ balanced C (e ∷ P) lim l n =
     let x = or_parts (is_change e.act) (has_act is_change P) n in
     balanced_at C P e.who e.moment e.act lim l.0 l.3 x.0 (balanced C P lim l.0 x.1)
 
--- ---- what is taken or waits is submitted
+-- ---- a request that is taken or waits is submitted
 
--- what is made of the numbers of the requests that wait
+-- the weight of request r, if it waits
 abbrev waits : (ℕ → ℕ) → History → ℕ → ℕ
 waits h P r = cond (is_waiting P r) (h r) 0
 
 abbrev waiting_sum : (ℕ → ℕ) → History → ℕ
 waiting_sum h P = sum_below (waits h P) (2 ^ 32)
 
--- no more is made of those that are taken and of those that wait than of those that are submitted
+-- the taken and the waiting requests weigh no more than the submitted requests
 abbrev Covered : (ℕ → ℕ) → History → Type 0
 Covered h P = act_sum (take_weight h) (acts P) + waiting_sum h P ≤ act_sum (number_weight h) (acts P)
 
@@ -79,7 +79,7 @@ sum_submit C h P who m request tenant kind declared label lim l n =
           (λ s ne. let no : (request == s) ≡ false = ne_eqb request s (λ e. ne (sym e)) in rw no refl),
     )
 
--- where one that waited does not, and each other waits or not as before
+-- where one waiting request no longer waits, and each other waits or not as before
 sum_gone : (h : ℕ → ℕ) (P Q : History) (request : ℕ) → request < 2 ^ 32 → is_waiting P request ≡ true → is_waiting Q request ≡ false → ((s : ℕ) → s ≢ request → is_waiting P s ≡ is_waiting Q s) → waiting_sum h P ≡ waiting_sum h Q + h request
 sum_gone h P Q request small old new same =
     let before : waits h P request ≡ h request = rw old refl in
@@ -117,13 +117,13 @@ unfolding is_waiting is_submitted is_removed
 covered C h [] lim l = omega (arith, sum_zero (waits h []) (2 ^ 32) (λ r. refl))
 covered C h (e ∷ P) lim l = covered_at C h P e.who e.moment e.act lim l.0 l.3 (covered C h P lim l.0)
 
--- what is made of the requests that are taken is at most what is made of those that are submitted
+-- the taken requests weigh no more than the submitted requests
 pub taken_covered : (C : Config) (h : ℕ → ℕ) (P : History) → InLimits C → IsLegal C P → act_sum (take_weight h) (acts P) ≤ act_sum (number_weight h) (acts P)
 taken_covered C h P lim l = omega (arith, covered C h P lim l)
 
--- ---- what a request asked
+-- ---- the weight of a request
 
--- what is made of what is known of a request
+-- the weight of a request, if it is known
 abbrev pub known_weight : (Request → ℕ) → Option Request → ℕ
 known_weight g None = 0
 known_weight g (Some q) = g q
@@ -139,7 +139,7 @@ asked_within : (C : Config) (g : Request → ℕ) (H P : History) → IsLegal C 
 asked_within C g H [] l stays = refl
 asked_within C g H (e ∷ P) l stays = omega (arith, asked_at g H P e.act stays, asked_within C g H P l.0 (λ r q h. stays r q (asked_stays C P e r q l h)))
 
--- what is made of the numbers of Submits is what is made of what they say
+-- the numbers of the Submits weigh as much as their requests
 pub asked_sum : (C : Config) (g : Request → ℕ) (H : History) → IsLegal C H → act_sum (number_weight (λ r. known_weight g (request_at H r))) (acts H) ≡ act_sum (submit_weight g) (acts H)
 asked_sum C g H l = asked_within C g H H l (λ r q h. h)
 

@@ -1,4 +1,4 @@
--- The entries of one caller, and what they tell of all.
+-- The entries of one caller, and facts about all entries that follow from them.
 use Rattle.std.proofs.Common.{◌≡◌, ◌≢◌, ◌<◌, ◌≤◌, ◌+◌, ◌-◌, ◌||◌, ◌==◌, ◌⊎◌, ℕ, true, false, Bool, List, [], ◌∷◌, ◌++◌, length, length-append, reverse, refl, sym, ap, ◌∙◌, subst, arith, inl, inr}
 use Rattle.std.proofs.lemmas.List.{reverse-append, nil_from_length}
 use Rattle.std.proofs.lemmas.Bool.{eq-eqb, ne_eqb, cases_eq, cases_lt, or_parts, or_from, or_left, or_right, or_cases, false≢true}
@@ -20,7 +20,7 @@ own_else e P j h = rw (ne_eqb e.who j h) refl
 pub own_split : (newer P : History) (j : ℕ) → own_entries (newer ++ P) j ≡ own_entries newer j ++ own_entries P j
 own_split newer P j = filter-append (λ (e : Entry). e.who == j) newer P
 
--- who has no entry has made none of them
+-- a caller with no entry has made no entry
 pub not_by : (e : Entry) (P : History) (j : ℕ) → own_entries (e ∷ P) j ≡ [] → e.who ≢ j
 not_by e P j none h = let k : e ∷ own_entries P j ≡ [] = sym (own_here e P j h) ∙ none in cc
 
@@ -35,7 +35,7 @@ all_known n (e ∷ P) none = (
   elim (cases_lt e.who n) [ inl h ↦ h | inr h ↦ absurd (not_by e P e.who (none e.who h) refl) ],
 )
 
--- an act that nobody has done is not there
+-- an act that no caller has made is not there
 pub has_none : (test : Act → Bool) (H : History) → ((j : ℕ) → has_act test (own_entries H j) ≡ false) → has_act test H ≡ false
 has_none test [] none = refl
 has_none test (e ∷ P) none = or_from (test e.act) (has_act test P) (here e.who refl).0 (has_none test P older)
@@ -56,7 +56,7 @@ has_here test e P j by = ap (has_act test) (own_here e P j by)
 has_else : (test : Act → Bool) (e : Entry) (P : History) (j : ℕ) → e.who ≢ j → has_act test (own_entries (e ∷ P) j) ≡ has_act test (own_entries P j)
 has_else test e P j other = ap (has_act test) (own_else e P j other)
 
--- what somebody has done is there
+-- an act that a caller has made is there
 pub has_own : (test : Act → Bool) (H : History) (j : ℕ) → has_act test (own_entries H j) ≡ true → has_act test H ≡ true
 has_own test [] j h = h
 has_own test (e ∷ P) j h = elim (cases_eq e.who j) [
@@ -67,14 +67,14 @@ has_own test (e ∷ P) j h = elim (cases_eq e.who j) [
   | inr other ↦ or_right (test e.act) (has_act test P) (has_own test P j (sym (has_else test e P j other) ∙ h))
 ]
 
--- what was done before is done
+-- an older act of a caller is an act of the caller
 own_older : (test : Act → Bool) (e : Entry) (P : History) (j : ℕ) → has_act test (own_entries P j) ≡ true → has_act test (own_entries (e ∷ P) j) ≡ true
 own_older test e P j was = elim (cases_eq e.who j) [
   | inl by ↦ has_here test e P j by ∙ or_right (test e.act) (has_act test (own_entries P j)) was
   | inr other ↦ has_else test e P j other ∙ was
 ]
 
--- and what is there somebody has done
+-- and some caller has made an act that is there
 pub has_owner : (test : Act → Bool) (H : History) → has_act test H ≡ true → (j : ℕ) × (has_act test (own_entries H j) ≡ true)
 has_owner test [] h = absurd (false≢true h)
 has_owner test (e ∷ P) h = elim (or_cases (test e.act) (has_act test P) h) [
@@ -82,7 +82,7 @@ has_owner test (e ∷ P) h = elim (or_cases (test e.act) (has_act test P) h) [
   | inr was ↦ (let x = has_owner test P was in (x.0, own_older test e P x.0 x.1))
 ]
 
--- ---- front parts
+-- ---- prefixes
 
 pub own_turns : (past mine : List Entry) (j : ℕ) → own_entries past j ≡ mine → own_entries (history_of past) j ≡ history_of mine
 own_turns past mine j h = own_turned past j ∙ ap reverse h
@@ -90,16 +90,16 @@ own_turns past mine j h = own_turned past j ∙ ap reverse h
 pub front_turns : (front past : List Entry) → IsPrefix front past → (newer : History) × (history_of past ≡ newer ++ history_of front)
 front_turns front past (rest, is) = (reverse rest, ap reverse is ∙ reverse-append front rest)
 
--- who has as many entries in a front part as in all has none that are newer
+-- a caller with as many entries in a prefix as in all has no newer entry
 pub none_newer : (newer P : History) (j : ℕ) → own_entries (newer ++ P) j ≡ own_entries P j → own_entries newer j ≡ []
 none_newer newer P j h =
     let e : own_entries newer j ++ own_entries P j ≡ own_entries P j = sym (own_split newer P j) ∙ h in
     let n : length (own_entries newer j) + length (own_entries P j) ≡ length (own_entries P j) = sym (length-append (own_entries newer j) (own_entries P j)) ∙ ap length e in
     nil_from_length (own_entries newer j) (omega (arith, n))
 
--- ---- who a caller is
+-- ---- the roles of callers
 
--- one of s submitters, one of n workers, or nobody
+-- number j is one of s submitters, one of n workers, or no caller
 pub who_is : (s n j : ℕ) → (j < s) ⊎ (((i : ℕ) × (i < n) × (j ≡ s + i)) ⊎ (s + n ≤ j))
 who_is s n j = elim (cases_lt j s) [
   | inl h ↦ inl h

@@ -28,7 +28,7 @@ use Rattle.trace_pool.proofs.Rows.{from_sum, from_parts, rows_count}
 use Rattle.trace_pool.proofs.Submitted.{IsStopped, submitters_sum, none_submitted}
 use Rattle.trace_pool.proofs.Sums.{own_sum, counted, has_within, submit_weight, submitted_sum, submits_are, request_sum, request_sum_turned, one_each}
 
--- ---- what is submitted
+-- ---- submitted requests
 
 submitted_at : (C : Config) (P : History) (m r : ℕ) (a : Act) → Fits C P m a → (r < submits P → is_submitted P r ≡ true) → r < with_submit a (submits P) → (is_submit_of r a || is_submitted P r) ≡ true
 submitted_at C P m r (Submit request tenant kind declared label) f ih h = elim (cases_eq request r) [
@@ -37,7 +37,7 @@ submitted_at C P m r (Submit request tenant kind declared label) f ih h = elim (
 ]
 submitted_at C P m r _ f ih h = ih h
 
--- each number below that of the Submits is that of one
+-- each number below the number of Submits is the number of a submitted request
 submitted_above : (C : Config) (P : History) (r : ℕ) → IsLegal C P → r < submits P → is_submitted P r ≡ true
 unfolding is_submitted
 submitted_above C [] r l h = absurd (omega arith)
@@ -47,7 +47,7 @@ submitters_some : (rows : List TraceRow) → 0 < submitters rows
 submitters_some [] = omega arith
 submitters_some (row ∷ rows) = omega (arith, submitters_some rows)
 
--- what implies something that is somewhere is there
+-- an act that an act of the history implies is there
 pub has_more : (p q : Act → Bool) → ((a : Act) → p a ≡ true → q a ≡ true) → (P : History) → has_act p P ≡ true → has_act q P ≡ true
 has_more p q h [] some = some
 has_more p q h (e ∷ P) some = elim (or_cases (p e.act) (has_act p P) some) [

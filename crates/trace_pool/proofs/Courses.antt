@@ -40,7 +40,7 @@ uses_reported course step i r (suc k) (u ∷ uses) older kept are at =
     let more : with_uses i r uses older ≡ with_reports i r step k older = uses_reported course step i r k uses older kept.1 rest (λ n h. at n (omega arith)) in
     rw kept.0 (ap (λ n. Report i r n ∷ with_uses i r uses older) now ∙ ap (λ l. Report i r (suc k * step) ∷ l) more)
 
--- the use that is reported after slice n is so many steps
+-- the use that is reported after slice n is n + 1 steps
 use_at : (step cost n : ℕ) → cost ≤ GREATEST_COST → CountsUp step cost → n < reports_below step cost → work_cost (counters_after (step_course step cost) n) ≡ suc n * step
 use_at step cost n high c h =
     let is : counters_after (step_course step cost) n ≡ work_only (suc n * step) = c.reported n h in

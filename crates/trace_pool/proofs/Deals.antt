@@ -9,7 +9,7 @@ use Rattle.program_model.specs.PoolHistory.{requests_from}
 use Rattle.gate_rules.specs.declared.rows.Row.{Row}
 use Rattle.trace_pool.specs.PoolEnd.{row_asks}
 
--- what was dealt of the rows before row r, and what is left to be dealt of row r and the rows after it, are all rows
+-- the rows that were dealt before row r, and those that are left from row r on, are all rows of submitter j
 abbrev pub IsDealtTo : List TraceRow → ℕ → ℕ → List (Row ℕ) → Type 0
 IsDealtTo rows j r queue = map row_asks queue ++ requests_from j r (drop r rows) ≡ requests_from j 0 rows
 
@@ -26,7 +26,7 @@ deals_row rows j r d queue x here dealt own same =
     let next : IsDealtTo rows j (suc r) (queue ++ x ∷ []) = split ∙ (ap (λ q. map row_asks queue ++ q ∷ rest) same ∙ (ap (λ l. map row_asks queue ++ l) (sym there) ∙ dealt)) in
     rw add-one next
 
--- a row of another
+-- a row of another submitter
 pub passes_row : (rows : List TraceRow) (j r : ℕ) (d : TraceRow) (queue : List (Row ℕ)) → r < length rows → IsDealtTo rows j r queue → ((get_or rows r d).submitter == j) ≡ false → IsDealtTo rows j (r + 1) queue
 passes_row rows j r d queue here dealt other =
     let rest : List Request = requests_from j (suc r) (drop (suc r) rows) in

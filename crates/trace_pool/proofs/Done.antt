@@ -45,7 +45,7 @@ module _ {A : Type 0} (Becomes : A → A → Type 0) where
       let r = in_a_row xs second ys did.1 in
       record { one = y ∷ r.one; two = r.two; both = ap (λ l. y ∷ l) r.both; becomes_one = (did.0, r.becomes_one); becomes_two = r.becomes_two }
 
-  -- what each is, each that it becomes is in another way
+  -- a fact about each item becomes another about the item that it becomes
   pub holds_of_new : (P Q : ℕ → A → Type 0) → ((n : ℕ) (x y : A) → P n x → Becomes x y → Q n y) → (n : ℕ) (xs ys : List A) → HoldsFrom P n xs → EachBecomes xs ys → HoldsFrom Q n ys
   holds_of_new P Q f n [] [] h did = tt
   holds_of_new P Q f n [] (y ∷ ys) h did = absurd did
@@ -163,11 +163,11 @@ module _ (rows : List TraceRow) (lock : LockView Crew) (shared : Option BoardVie
   pub hands_of : (feeds works : ℕ) (hands : List TraceHand) → AreHands rows lock feeds works hands → All (IsHandOf lock shared) hands
   hands_of feeds works hands a = subst (All (IsHandOf lock shared)) (sym a.both) (All-append (IsHandOf lock shared) a.first a.second (feeds_of 0 a.first a.are_feeds) (works_of 0 a.second a.are_works))
 
-  -- so is one more
+  -- so is one hand more
   pub hands_with : (feeds works : ℕ) (hands : List TraceHand) (other : TraceHand) → AreHands rows lock feeds works hands → IsHandOf lock shared other → All (IsHandOf lock shared) (hands ++ other ∷ [])
   hands_with feeds works hands other a is = All-push (IsHandOf lock shared) hands other (hands_of feeds works hands a) is
 
-  -- what a pool over the rows' gate leaves in the vector that it was given
+  -- the hands that a pool over the rows' gate leaves in the vector that it was given
   pub back_done : (refresh : ℕ) (Tells : ℕ → Type 0) (feeds works len : ℕ) (hands : List TraceHand) (other : TraceHand) (olds given news : List TraceHand) (gate_refresh : ℕ) (gate_rows : List TraceRow) → AreHands rows lock feeds works hands → olds ≡ hands ++ other ∷ [] → given ≡ olds → length given ≡ len
       → gate_refresh ≡ refresh → gate_rows ≡ rows → HandsDid (λ (n : ℕ). n) lock shared (trace_course gate_refresh gate_rows) work_cost Tells given news
       → PoolDid rows lock shared refresh Tells feeds works other (take len (news ++ drop (length news) olds))

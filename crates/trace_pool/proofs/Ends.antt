@@ -1,4 +1,4 @@
--- What follows at the end of a pool.
+-- The proofs of a pool's laws.
 use Rattle.std.proofs.Common.{ℕ}
 use Rattle.fq_model.specs.History.{history_of}
 use Rattle.trace_pool.specs.Laws.{PoolHistoryIs, PoolMomentsAre}

@@ -19,7 +19,7 @@ split_first [] x rest some is others = absurd (omega (arith, some))
 split_first (y ∷ ys) x rest some is others = let same : rest ≡ ys = others in sym (ap (λ z. z ∷ rest) is ∙ ap (λ l. y ∷ l) same)
 
 module _ (lock : LockView Crew) where
-  -- the first submitter knows how many there are
+  -- the first submitter knows the number of callers
   pub knows_all : (n : ℕ) (t : Submitter) (ts : List Submitter) → (n ≡ 0 → HasMade (lock.frame.submitters + lock.frame.config.workers) (t ∷ ts)) → KnowsAll lock n t
   knows_all n t ts made zeroth = (made zeroth).0
 

@@ -35,7 +35,7 @@ counted_at g P (Submit request tenant kind declared label) r n q ih h = elim (ca
 ]
 counted_at g P _ r n q ih h = omega (arith, ih h)
 
--- what is made of a request that was submitted is part of the sum
+-- the weight of a submitted request is part of the sum
 pub asked_counted : (g : Request → ℕ) (P : History) (r : ℕ) (q : Request) → request_at P r ≡ Some q → g q ≤ act_sum (submit_weight g) (acts P)
 asked_counted g [] r q h = absurd (cc)
 asked_counted g (e ∷ P) r q h = counted_at g P e.act r (act_sum (submit_weight g) (acts P)) q (asked_counted g P r q) h
@@ -52,7 +52,7 @@ no_rows_nameless : (rows : List TraceRow) → sum_over (λ row. nameless (Some r
 no_rows_nameless [] = refl
 no_rows_nameless (row ∷ rows) = omega (arith, no_rows_nameless rows)
 
--- how many times the request of such a row is reported
+-- the number of Reports of the row's request
 abbrev pub named_reports : ℕ → Option TraceRow → ℕ
 named_reports refresh None = 0
 named_reports refresh (Some row) = row_reports refresh row
@@ -73,7 +73,7 @@ module _ (T : Trace) (O : RunOptions) (Tells : ℕ → Type 0) (H : History) whe
 
 -- ---- runs
 
--- what a run's request asked, and the row that it came from
+-- the request of a run, and its row
 pub record RunRow (T : Trace) (O : RunOptions) (H : History) (run : JobRun) : Type 0 where
   pub asked : Request
   pub asked_is : request_at H run.request ≡ Some asked
@@ -85,7 +85,7 @@ abbrev pub AllRunRows : Trace → RunOptions → History → List JobRun → Typ
 AllRunRows T O H [] = Unit {0}
 AllRunRows T O H (run ∷ runs) = RunRow T O H run × AllRunRows T O H runs
 
--- a label that names a row tells the row's course
+-- the course of a label that names a row is the row's course
 told_so : (T : Trace) (refresh : ℕ) (row : TraceRow) (label : ℕ) (run : JobRun) → slice_get T.rows label ≡ Some row → IsAsTold work_cost (trace_course refresh T.rows label) run → FollowsCourse work_cost (step_course (step_of refresh row.cost) row.cost) run
 told_so T refresh row label run is h = rw is at h
 
@@ -114,7 +114,7 @@ pub runs_where_room : (C : Config) (number i : ℕ) (course_of : ℕ → Option 
 runs_where_room C number i course_of cost_of seen [] w = tt
 runs_where_room C number i course_of cost_of seen (run ∷ runs) w = (w.0.kept, runs_where_room C number i course_of cost_of seen runs w.1)
 
--- ---- how many uses a run names
+-- ---- the number of uses that a run names
 
 uses_count : (cost_of : Counters → ℕ) (course : List Counters) (k : ℕ) → length (uses_after cost_of course k) ≡ k
 uses_count cost_of course zero = refl
@@ -131,7 +131,7 @@ run_uses : (step cost : ℕ) (run : JobRun) → FollowsCourse work_cost (step_co
 run_uses step cost run f =
     omega (arith, used_count run.uses, ap length f.uses_are, uses_count work_cost (step_course step cost) f.last, follows_few step cost run f)
 
--- the Reports that are made of the number of a request
+-- the number of Reports of request r
 abbrev pub number_reports : Trace → RunOptions → History → ℕ → ℕ
 number_reports T O H r = known_weight (label_reports O.refresh T.rows) (request_at H r)
 

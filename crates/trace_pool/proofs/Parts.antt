@@ -29,13 +29,13 @@ use Rattle.trace_pool.proofs.Moments.{told_beyond, told_of_nobody, told_of_all}
 abbrev pub acts : History → List Act
 acts H = map (λ e. e.act) H
 
--- a history that begins with what somebody has seen, who had no entry since
+-- a history of which the history that a caller has seen is a prefix, and the caller had no entry since
 pub record Sees (H : History) (j : ℕ) (seen : History) : Type 0 where
   pub newer : History
   pub begins : H ≡ newer ++ seen
   pub none_since : own_entries newer j ≡ []
 
--- the entries of submitter j, who has seen so much: Submits of those of its rows that were sent
+-- the entries of submitter j, who has seen this history: Submits of those of its rows that were sent
 pub record FeedPart (T : Trace) (O : RunOptions) (Tells : ℕ → Type 0) (H : History) (j : ℕ) : Type 0 where
   pub seen : History
   pub sees : Sees H j seen
@@ -50,7 +50,7 @@ pub record FeedPart (T : Trace) (O : RunOptions) (Tells : ℕ → Type 0) (H : H
   pub refused : IsRefused (λ n. n) (λ row. row.kind) (pool_config T O) Tells j seen stopped
   pub moments : HasToldMomentsFrom Tells j 0 seen
 
--- the entries of worker i, who has seen so much: what it makes of its runs
+-- the entries of worker i, who has seen this history: the acts of its runs
 pub record WorkPart (T : Trace) (O : RunOptions) (Tells : ℕ → Type 0) (H : History) (i : ℕ) : Type 0 where
   pub seen : List Entry
   pub sees : Sees H (worker_caller T.rows i) (history_of seen)
@@ -70,14 +70,14 @@ sees past seen mine j front in_seen in_past =
     let same : own_entries (history_of past) j ≡ own_entries (history_of seen) j = own_turns past mine j in_past ∙ sym (own_turns seen mine j in_seen) in
     record { newer = x.0; begins = x.1; none_since = none_newer x.0 (history_of seen) j (sym (ap (λ P. own_entries P j) x.1) ∙ same) }
 
--- what was added to nothing
+-- the entries that were added to none
 added : (mine old more : List Entry) → mine ≡ old ++ more → old ≡ [] → mine ≡ more
 added mine old more is none = is ∙ ap (λ l. l ++ more) none
 
 -- ---- runs
 
 module _ (T : Trace) (O : RunOptions) where
-  -- they are the same where the configuration, the caller and the worker are equal
+  -- the runs are runs where the configuration, the caller and the worker are equal
   runs_same : (C C2 : Config) (n n2 i i2 : ℕ) (seen : List Entry) (older : List Act) (runs : List JobRun) → C ≡ C2 → n ≡ n2 → i ≡ i2
       → AreRuns C n i (trace_course O.refresh T.rows) work_cost seen older runs → AreRuns C2 n2 i2 (trace_course O.refresh T.rows) work_cost seen older runs
   runs_same C C2 n n2 i i2 seen older runs config number worker are =
@@ -85,7 +85,7 @@ module _ (T : Trace) (O : RunOptions) where
       (subst (λ m. AreRuns C2 m i (trace_course O.refresh T.rows) work_cost seen older runs) number
       (subst (λ D. AreRuns D n i (trace_course O.refresh T.rows) work_cost seen older runs) config are))
 
-  -- onto nothing, where the worker began with nothing
+  -- onto no acts, where the worker began with no entry
   runs_begun : (C : Config) (n i : ℕ) (seen mine : List Entry) (runs : List JobRun) → mine ≡ []
       → AreRuns C n i (trace_course O.refresh T.rows) work_cost seen (acts_of mine) runs → AreRuns C n i (trace_course O.refresh T.rows) work_cost seen [] runs
   runs_begun C n i seen mine runs none are = subst (λ l. AreRuns C n i (trace_course O.refresh T.rows) work_cost seen (acts_of l) runs) none are
@@ -141,7 +141,7 @@ module _ (T : Trace) (O : RunOptions) (lock : LockView Crew) (Tells : ℕ → Ty
 
 -- ---- all parts
 
--- the parts of all that have entries in a legal history
+-- the parts of all callers that have entries in a legal history
 pub record PoolParts (T : Trace) (O : RunOptions) (Tells : ℕ → Type 0) (H : History) : Type 0 where
   pub legal : IsLegal (pool_config T O) H
   pub fed : (j : ℕ) → j < submitters T.rows → FeedPart T O Tells H j

@@ -1,4 +1,4 @@
--- Lists whose items are so by their numbers.
+-- Facts about the items of a list, by their numbers.
 use Rattle.std.proofs.Common.{ℕ, suc, ◌+◌, ◌≡◌, List, [], ◌∷◌, ◌++◌, length, subst, sym, arith}
 use Rattle.trace_pool.specs.Places.{HoldsFrom}
 
@@ -7,6 +7,6 @@ module _ {A : Type 0} (Holds : ℕ → A → Type 0) where
   holds_more n m [] y h is x = let same : m ≡ n = omega (arith, is) in (subst (λ k. Holds k y) same x, tt)
   holds_more n m (z ∷ xs) y h is x = let more : m ≡ suc n + length xs = omega (arith, is) in (h.0, holds_more (suc n) m xs y h.1 more x)
 
-  -- where one more was pushed
+  -- where one item more was pushed
   pub holds_pushed : (m : ℕ) (xs ys : List A) (y : A) → HoldsFrom Holds 0 xs → ys ≡ xs ++ y ∷ [] → m ≡ length xs → Holds m y → HoldsFrom Holds 0 ys
   holds_pushed m xs ys y h more is x = subst (HoldsFrom Holds 0) (sym more) (holds_more 0 m xs y h (omega (arith, is)) x)

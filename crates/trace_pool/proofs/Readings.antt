@@ -1,4 +1,4 @@
--- What was read of a board while a past grew, as readings of that past.
+-- The statuses that were read of a board while a past grew, as readings of that past.
 use Rattle.std.proofs.Common.{◌≡◌, ◌≤◌, ℕ, List, [], ◌∷◌, ◌++◌, length, take, Option, Some, Global, refl, sym, ap, ◌∙◌, subst, arith}
 use Rattle.std.specs.declared.vec.Vec.{Vec}
 use Rattle.std.proofs.Math.Seq.{take-append_seam}
@@ -25,7 +25,7 @@ entries_of : (C : Config) (P : List Entry) (status : Status) → status ≡ stat
 unfolding status_of
 entries_of C P status told = ap (λ (s : Status). s.entries) told ∙ length-reverse P
 
--- a status of a front part of the past is one in the past
+-- a status of a prefix of the past is a status in the past
 status_in_past : (C : Config) (P past : List Entry) (status : Status) → IsPrefix P past → status ≡ status_of C (history_of P) → IsStatusIn C past status
 status_in_past C P past status (rest, whole) told =
     let entries : status.entries ≡ length P = entries_of C P status told in
@@ -34,7 +34,7 @@ status_in_past C P past status (rest, whole) told =
       is_status = told ∙ ap (λ l. status_of C (history_of l)) (sym front);
     }
 
--- answers are readings of each past that goes on from what was seen at last
+-- answers are readings of each past of which the history that was seen last is a prefix
 pub readings_of : (C : Config) (seen : List Entry) (answers : List Status) (seen2 past : List Entry) → AreAnswers C seen answers seen2 → IsPrefix seen2 past → AreReadings C past (length seen) answers
 readings_of C seen [] seen2 past same on = tt
 readings_of C seen (status ∷ later) seen2 past (P, (newer, longer), told, more) on =
@@ -45,7 +45,7 @@ readings_of C seen (status ∷ later) seen2 past (P, (newer, longer), told, more
       subst (λ n. AreReadings C past n later) (sym entries) (readings_of C P later seen2 past more on),
     )
 
--- what one reader, who had seen nothing, read of a board of this configuration
+-- the statuses that a reader, who had seen no entry, read of a board of this configuration
 pub readings_watched : (board : BoardView) (times : ℕ) (old new : ReaderView) (given statuses : List Status) (C : Config) (past : List Entry) → Watched board times old new given statuses → given ≡ [] → old.seen ≡ [] → board.config ≡ C → IsPrefix new.seen past
     → (length statuses ≡ times) × AreReadings C past 0 statuses
 readings_watched board times old new given statuses C past w none unseen config on =
@@ -55,11 +55,11 @@ readings_watched board times old new given statuses C past w none unseen config 
       subst (AreReadings C past 0) (sym all) (readings_of C [] w.answers new.seen past answers on),
     )
 
--- the reader of the last hand of all has seen a front part of the past
+-- the reader of the last hand has seen a prefix of the past
 pub reader_front : (past : List Entry) (none readers : List ReaderView) (reader : ReaderView) → none ≡ [] → readers ≡ none ++ reader ∷ [] → HaveSeen past readers → IsPrefix reader.seen past
 reader_front past none readers reader empty is seen = (subst (HaveSeen past) (is ∙ ap (λ l. l ++ reader ∷ []) empty) seen).0
 
--- what such a hand read is read of the past
+-- the statuses that the watcher's hand read are readings of the past
 pub watch_read : (rows : List TraceRow) (lock : LockView Crew) (shared : Option BoardView) (refresh : ℕ) (Tells : ℕ → Type 0) (board : BoardView) (reader reader2 : ReaderView) (times left expected expected2 : ℕ) (given seen : Vec Status Global) (C : Config) (past : List Entry)
     → TraceHandDid rows lock shared refresh Tells (Watch reader times expected given) (Watch reader2 left expected2 seen) → shared ≡ Some board → board.config ≡ C → given.items ≡ [] → reader.seen ≡ [] → IsPrefix reader2.seen past
     → (length seen.items ≡ times) × AreReadings C past 0 seen.items

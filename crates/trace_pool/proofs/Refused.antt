@@ -35,7 +35,7 @@ use Rattle.trace_pool.proofs.Sums.{none_within}
 
 -- ---- a request of a row is known
 
--- it holds of each request
+-- the fact holds of each request
 abbrev pub EachAsked : (Request → Type 0) → List Request → Type 0
 EachAsked Holds [] = Unit {0}
 EachAsked Holds (q ∷ more) = Holds q × EachAsked Holds more
@@ -54,7 +54,7 @@ each_of : (Holds : Request → Type 0) (sent rest : List (Row ℕ)) (row : Row �
 each_of Holds [] rest row h = h.0
 each_of Holds (x ∷ sent) rest row h = each_of Holds sent rest row h.1
 
--- what is at a place is one of the list
+-- the item at a place is an item of the list
 sliced : (rows : List TraceRow) (k : ℕ) (row : TraceRow) → slice_get rows k ≡ Some row → (k < length rows) × (get_or rows k row ≡ row)
 sliced [] k row h = absurd (cc)
 sliced (x ∷ rows) zero row h = (omega arith, (let e : x ≡ row = cc in e))
@@ -71,7 +71,7 @@ below_is a b h = grind (arith, nat_tests)
 at_least_is : (a b : ℕ) → b ≤ a → nat_lt a b ≡ false
 at_least_is a b h = grind (arith, nat_tests)
 
--- what a request needs
+-- the needs of a request that fits
 record HasPlace (C : Config) (P : History) (q : Request) : Type 0 where
   open_still : is_closed P ≡ false
   known : IsKnown C q
@@ -92,7 +92,7 @@ accepted : (C : Config) (P : History) (who m : ℕ) (why : Cause) (q : Request) 
 accepted C P who m why q None e h = let k : answer.Refused why ≡ answer.Request (submits P) = h.0 in cc
 accepted C P who m why q (Some c) e h = cc
 
--- ---- how many wait
+-- ---- the number of waiting requests
 
 waiting_at : (C : Config) (P : History) (who m : ℕ) (a : Act) → InLimits C → IsLegal C P → Fits C P m a → waiting P ≤ submits P → waiting (one_more who m a P) ≤ submits (one_more who m a P)
 waiting_at C P who m (Submit request tenant kind declared label) lim l f h = omega (arith, h, waiting_submitted C P who m request tenant kind declared label lim l f)

@@ -10,12 +10,12 @@ use Rattle.fq_model.specs.Sums.{sum_below}
 use Rattle.fq_laws.proofs.Sums.{sum_at, sum_zero}
 use Rattle.trace_pool.proofs.Sums.{request_sum, one_each}
 
--- what is made of the requests of all rows, where the first row is row r
+-- the weight of the requests of all rows, where the first row is row r
 abbrev pub rows_sum : (Request → ℕ) → ℕ → List TraceRow → ℕ
 rows_sum g r [] = 0
 rows_sum g r (row ∷ rows) = g (row_request r row) + rows_sum g (suc r) rows
 
--- and of those of submitter j
+-- the weight of the requests of submitter j
 abbrev pub from_sum : (Request → ℕ) → ℕ → List TraceRow → ℕ → ℕ
 from_sum g r rows j = request_sum g (requests_from j r rows)
 
@@ -25,7 +25,7 @@ from_here g r row rows j by = rw (eq-eqb row.submitter j by) refl
 from_else : (g : Request → ℕ) (r : ℕ) (row : TraceRow) (rows : List TraceRow) (j : ℕ) → row.submitter ≢ j → from_sum g r (row ∷ rows) j ≡ from_sum g (suc r) rows j
 from_else g r row rows j other = rw (ne_eqb row.submitter j other) refl
 
--- each row is one of a submitter
+-- each row is a row of one submitter
 pub from_parts : (g : Request → ℕ) (n r : ℕ) (rows : List TraceRow) → submitters rows ≤ n → sum_below (from_sum g r rows) n ≡ rows_sum g r rows
 from_parts g n r [] h = sum_zero (from_sum g r []) n (λ j. refl)
 from_parts g n r (row ∷ rows) h =
@@ -38,7 +38,7 @@ pub rows_count : (r : ℕ) (rows : List TraceRow) → rows_sum one_each r rows �
 rows_count r [] = refl
 rows_count r (row ∷ rows) = omega (arith, rows_count (suc r) rows)
 
--- what is made of the row that a label names
+-- the weight of the requests, where a request weighs as much as the row that its label names
 pub rows_named : (F : Option TraceRow → ℕ) (all : List TraceRow) (r : ℕ) (rows : List TraceRow) → ((k : ℕ) → slice_get all (r + k) ≡ slice_get rows k) → rows_sum (λ q. F (slice_get all q.label)) r rows ≡ sum_over (λ row. F (Some row)) rows
 rows_named F all r [] same = refl
 rows_named F all r (row ∷ rows) same =

@@ -1,4 +1,4 @@
--- The acts of a worker: what it makes of its runs.
+-- The acts of a worker, as its runs make them.
 use Rattle.std.proofs.Common.{◌≡◌, ◌<◌, ◌≤◌, ◌+◌, ◌||◌, ◌⊎◌, ◌==◌, ℕ, Bool, true, false, cond, List, [], ◌∷◌, length, refl, sym, ◌∙◌, arith, inl, inr}
 use Rattle.std.proofs.lemmas.Bool.{cases_Bool, false≢true, or_left, or_right, or_cases}
 use Rattle.fq_model.specs.declared.config.Config.{Config}
@@ -13,7 +13,7 @@ use Rattle.trace_pool.proofs.Sums.{act_sum, any_act, take_weight, report_weight}
 
 -- ---- acts that a worker doesn't do
 
--- it makes nothing of what worker i does
+-- the weight of each act of worker i is 0
 pub record MakesNothing (f : Act → ℕ) (i : ℕ) : Type 0 where
   pub takes : (r estimate : ℕ) → f (Take i r estimate) ≡ 0
   pub reports : (r used : ℕ) → f (Report i r used) ≡ 0
@@ -42,7 +42,7 @@ tally_none test (a ∷ more) h = elim (cases_Bool (test a)) [
   | inr e ↦ rw e (tally_none test more (omega (arith, h)))
 ]
 
--- ---- what is taken is done
+-- ---- a taken request is done
 
 uses_has : (test : Act → Bool) (i r : ℕ) (uses : List Use) (older : List Act) → any_act test older ≡ true → any_act test (with_uses i r uses older) ≡ true
 uses_has test i r [] older h = h
@@ -108,7 +108,7 @@ uses_takes h i r (u ∷ uses) older = elim (cases_Bool u.is_kept) [
   | inr e ↦ rw e (uses_takes h i r uses older)
 ]
 
--- at some moment of what was seen there was no room for a Report
+-- at some prefix of the seen history there was no room for a Report
 abbrev pub WasFull : Config → List Entry → Type 0
 WasFull C seen = (P : List Entry) × IsPrefix P seen × (C.entries < needed_room (history_of P) 2)
 
@@ -129,7 +129,7 @@ kept_or_full C number i r seen older (u ∷ uses) h = elim (cases_Bool u.is_kept
   | inr e ↦ (let less : kept (u ∷ uses) < length (u ∷ uses) = rw e (omega (arith, kept_low uses)) in inr (was_full C number seen (with_uses i r uses older) (h.0 e), less))
 ]
 
--- each run names at most so many uses as are made of its request
+-- each run names no more uses than its request weighs
 abbrev pub FewUses : (ℕ → ℕ) → List JobRun → Type 0
 FewUses h [] = Unit {0}
 FewUses h (run ∷ runs) = (length run.uses ≤ h run.request) × FewUses h runs
@@ -146,12 +146,12 @@ reports_at i run runs = omega (arith, uses_reports i run.request run.uses (Take 
 takes_at : (h : ℕ → ℕ) (i : ℕ) (run : JobRun) (runs : List JobRun) → runs_takes h i (run ∷ runs) ≡ h run.request + runs_takes h i runs
 takes_at h i run runs = omega (arith, uses_takes h i run.request run.uses (Take i run.request run.estimate ∷ with_runs i runs []))
 
--- a worker's Reports are at most what is made of the requests that it takes
+-- a worker's Reports are no more than the weight of the requests that it takes
 pub reports_low : (h : ℕ → ℕ) (i : ℕ) (runs : List JobRun) → FewUses h runs → runs_reports i runs ≤ runs_takes h i runs
 reports_low h i [] few = omega arith
 reports_low h i (run ∷ runs) few = omega (arith, reports_at i run runs, takes_at h i run runs, kept_low run.uses, few.0, reports_low h i runs few.1)
 
--- and where one is not kept, they are fewer
+-- and where a use is not kept, they are fewer
 pub all_kept_or_full : (C : Config) (number : ℕ) (seen : List Entry) (h : ℕ → ℕ) (i : ℕ) (runs : List JobRun) → FewUses h runs → AllWhereRoom C number i seen runs → AllKept runs ⊎ (WasFull C seen × (runs_reports i runs < runs_takes h i runs))
 all_kept_or_full C number seen h i [] few k = inl tt
 all_kept_or_full C number seen h i (run ∷ runs) few k = elim (kept_or_full C number i run.request seen (Take i run.request run.estimate ∷ with_runs i runs []) run.uses k.0) [

@@ -62,13 +62,13 @@ over_taken : (C : Config) (P : History) (who m i : ℕ) (reply : Reply) (o : Opt
 over_taken C P who m i reply None known h ends = over_free C P who m i reply (nat_le (pool_at C P) i) refl known h ends
 over_taken C P who m i reply (Some c) known h ends = absurd (subst EndsWork h.0 ends)
 
--- ---- what is over stays so
+-- ---- a history that is over stays over
 
 late_at : (C : Config) (P : History) (m r : ℕ) (a : Act) → Fits C P m a → is_closed P ≡ true → is_submit_of r a ≡ false
 late_at C P m r (Submit request tenant kind declared label) f h = absurd (both_ways (is_closed P) f.open_still h)
 late_at C P m r _ f h = refl
 
--- what is submitted was submitted before the history closed
+-- a submitted request was submitted before the history closed
 submitted_before : (C : Config) (newer P : History) (r : ℕ) → IsLegal C (newer ++ P) → is_closed P ≡ true → is_submitted (newer ++ P) r ≡ true → is_submitted P r ≡ true
 unfolding is_submitted is_closed
 submitted_before C [] P r l closed h = h
@@ -81,7 +81,7 @@ waits_so : (P : History) (r : ℕ) → has_act is_change P ≡ false → is_subm
 unfolding is_waiting
 waits_so P r still s t = and_from (is_submitted P r) (not (is_removed P r)) s (not_from_false (is_removed P r) (untaken_unremoved P r still t))
 
--- where nothing waits and nothing was changed, what is submitted is taken
+-- where no request waits and nothing was changed, each submitted request is taken
 taken_where_none_waits : (C : Config) (P : History) (r : ℕ) → InLimits C → IsLegal C P → has_act is_change P ≡ false → waiting P ≡ 0 → is_submitted P r ≡ true → is_taken P r ≡ true
 unfolding waiting request_bound
 taken_where_none_waits C P r lim l still none h = elim (cases_Bool (is_taken P r)) [
@@ -90,11 +90,11 @@ taken_where_none_waits C P r lim l still none h = elim (cases_Bool (is_taken P r
 ]
 
 module _ (T : Trace) (O : RunOptions) (Tells : ℕ → Type 0) (H : History) (range : AreInRange O) (lim : InLimits (pool_config T O)) (p : PoolParts T O Tells H) where
-  -- in what worker i has seen nothing was changed
+  -- nothing was changed in the history that worker i has seen
   seen_still : (i : ℕ) (w : WorkPart T O Tells H i) → has_act is_change (history_of w.seen) ≡ false
   seen_still i w = none_within is_change w.sees.newer (history_of w.seen) (ap (has_act is_change) (sym w.sees.begins) ∙ no_change T O Tells H p)
 
-  -- and it is over
+  -- and that history is over
   seen_over : (i : ℕ) → i < O.workers → (w : WorkPart T O Tells H i) → IsOver (history_of w.seen)
   seen_over i h w =
       let C : Config = pool_config T O in

@@ -1,4 +1,4 @@
--- What submitters hand in is what the rows ask, and no more.
+-- The submitters submit the requests of the rows, and no others.
 use Rattle.std.proofs.Common.{◌≡◌, ◌<◌, ◌≤◌, ◌+◌, ℕ, List, [], ◌∷◌, ◌++◌, map, length, refl, sym, ap, ◌∙◌, subst, arith, inl, inr, Option, Some, None}
 use Rattle.fq_model.specs.declared.event.Act.{Act}
 use Rattle.fq_model.specs.declared.event.Cause.{Cause}
@@ -47,7 +47,7 @@ module _ (T : Trace) (O : RunOptions) (Tells : ℕ → Type 0) (H : History) whe
   own_lower : (j : ℕ) (f : FeedPart T O Tells H j) → IsStopped f.stopped → own_sum (submit_weight one_each) H j < from_sum one_each 0 T.rows j
   own_lower j f is = omega (arith, own_submits one_each j f, fewer_sent f.rows f.sent f.rest f.stopped f.split is, ap (request_sum one_each) f.rows_are)
 
-  -- what is made of no act of a worker is made of submitters' acts alone
+  -- where workers' acts weigh 0, a worker's sum is 0
   pub no_worker_sum : (f : Act → ℕ) → ((i : ℕ) → MakesNothing f i) → PoolParts T O Tells H → (j : ℕ) → submitters T.rows ≤ j → own_sum f H j ≡ 0
   no_worker_sum f nothing p j h = elim (who_is (submitters T.rows) O.workers j) [
     | inl k ↦ absurd (omega arith)
@@ -60,14 +60,14 @@ module _ (T : Trace) (O : RunOptions) (Tells : ℕ → Type 0) (H : History) whe
   pub whole_sum : (f : Act → ℕ) → PoolParts T O Tells H → act_sum f (acts H) ≡ sum_below (own_sum f H) (submitters T.rows + O.workers)
   whole_sum f p = sum_parts f H (submitters T.rows + O.workers) p.no_other
 
-  -- and so is its sum over the history
+  -- and the sum over the history is the sum over the submitters
   pub submitters_sum : (f : Act → ℕ) → ((i : ℕ) → MakesNothing f i) → PoolParts T O Tells H → act_sum f (acts H) ≡ sum_below (own_sum f H) (submitters T.rows)
   submitters_sum f nothing p = whole_sum f p ∙ sum_cut (own_sum f H) (submitters T.rows) O.workers (no_worker_sum f nothing p)
 
   pub none_submitted : (g : Request → ℕ) (i : ℕ) → MakesNothing (submit_weight g) i
   none_submitted g i = record { takes = λ r estimate. refl; reports = λ r used. refl; dones = λ r cost. refl }
 
-  -- what is made of the requests that are submitted is at most what is made of all rows
+  -- the submitted requests weigh no more than the requests of all rows
   pub submitted_low : (g : Request → ℕ) → PoolParts T O Tells H → act_sum (submit_weight g) (acts H) ≤ rows_sum g 0 T.rows
   submitted_low g p = omega (
     arith,

@@ -19,7 +19,7 @@ abbrev pub act_sum : (Act → ℕ) → List Act → ℕ
 act_sum f [] = 0
 act_sum f (a ∷ more) = f a + act_sum f more
 
--- over the entries of one caller
+-- the sum over the entries of one caller
 abbrev pub own_sum : (Act → ℕ) → History → ℕ → ℕ
 own_sum f H j = act_sum f (acts (own_entries H j))
 
@@ -81,14 +81,14 @@ pub has_is : (test : Act → Bool) (P : History) → has_act test P ≡ any_act 
 has_is test [] = refl
 has_is test (e ∷ P) = ap (λ b. test e.act || b) (has_is test P)
 
--- what implies something that is nowhere is nowhere
+-- an act that implies an absent act is absent
 pub has_less : (p q : Act → Bool) → ((a : Act) → p a ≡ true → q a ≡ true) → (P : History) → has_act q P ≡ false → has_act p P ≡ false
 has_less p q h [] none = refl
 has_less p q h (e ∷ P) none =
     let x = or_parts (q e.act) (has_act q P) none in
     or_from (p e.act) (has_act p P) (false_from_ne_true (p e.act) (λ y. both_ways (q e.act) x.0 (h e.act y))) (has_less p q h P x.1)
 
--- what is there is counted
+-- an act that is there is counted
 pub counted : (test : Act → Bool) (P : History) → has_act test P ≡ true → 1 ≤ count_acts test P
 counted test [] h = absurd (false≢true h)
 counted test (e ∷ P) h = elim (cases_Bool (test e.act)) [
@@ -105,17 +105,17 @@ none_within test newer P h = false_from_ne_true (has_act test P) (λ y. both_way
 
 -- ---- requests, as weights
 
--- what is made of the request that an act submits
+-- the weight of the request that an act submits
 abbrev pub submit_weight : (Request → ℕ) → Act → ℕ
 submit_weight g (Submit request tenant kind declared label) = g (record { tenant = tenant; kind = kind; declared = declared; label = label })
 submit_weight g _ = 0
 
--- what is made of its number
+-- the weight of its number
 abbrev pub number_weight : (ℕ → ℕ) → Act → ℕ
 number_weight h (Submit request tenant kind declared label) = h request
 number_weight h _ = 0
 
--- what is made of the number of the request that an act takes
+-- the weight of the number of the request that an act takes
 abbrev pub take_weight : (ℕ → ℕ) → Act → ℕ
 take_weight h (Take worker request estimate) = h request
 take_weight h _ = 0
@@ -143,7 +143,7 @@ submitted_at : (g : Request → ℕ) (a : Act) (older : List Request) → reques
 submitted_at g (Submit request tenant kind declared label) older = refl
 submitted_at g _ older = omega arith
 
--- a sum over Submits is one over what they say
+-- a sum over Submits is a sum over their requests
 pub submitted_sum : (g : Request → ℕ) (P : History) → act_sum (submit_weight g) (acts P) ≡ request_sum g (submitted_requests P)
 submitted_sum g [] = refl
 submitted_sum g (e ∷ P) = omega (arith, submitted_sum g P, submitted_at g e.act (submitted_requests P))

@@ -26,7 +26,7 @@ module _ {A : Type 0} (Holds : ℕ → A → Type 0) where
   of_some Q zero n m (x ∷ xs) here is f h = let same : m ≡ n = omega (arith, is) in inl (f x (subst (λ j. Holds j x) (sym same) h.0))
   of_some Q (suc k) n m (x ∷ xs) here is f h = inr (of_some Q k (suc n) m xs (omega (arith, here)) (omega (arith, is)) f h.1)
 
-  -- the one at a place, which is so as each is too
+  -- the item at a place, with both facts
   pub found_at : (Q : A → Type 0) (k n m : ℕ) (xs : List A) → k < length xs → m ≡ n + k → HoldsFrom Holds n xs → HoldsOfEach Q xs → (x : A) × Holds m x × Q x
   found_at Q k n m [] here is h q = absurd (omega (arith, here))
   found_at Q zero n m (x ∷ xs) here is h q = let same : m ≡ n = omega (arith, is) in (x, subst (λ j. Holds j x) (sym same) h.0, q.0)
@@ -105,7 +105,7 @@ module _ (rows : List TraceRow) (lock : LockView Crew) (refresh : ℕ) (Tells : 
   hold_tokens j (Work slot log ∷ hands) second h w = absurd h.0
   hold_tokens j (Watch reader left expected seen ∷ hands) second h w = absurd h.0
 
-  -- what is taken back of hands that have done their parts
+  -- the tokens that are taken back of hands that have done their parts
   pub have_done : {feeds works : ℕ} (hands : List TraceHand) (submitters : List Submitter) (workers : List Worker) → AreDone rows lock refresh Tells feeds works hands → feeds ≡ lock.frame.submitters → works ≡ lock.frame.config.workers → submitters ≡ submitters_in hands → workers ≡ workers_in hands
       → HaveDone rows lock refresh Tells submitters workers
   have_done {feeds} {works} hands submitters workers d all_feeds all_works first second =
@@ -117,7 +117,7 @@ module _ (rows : List TraceRow) (lock : LockView Crew) (refresh : ℕ) (Tells : 
         worker_count = ap length others ∙ (worker_count 0 d.first d.second d.have_fed d.have_worked ∙ (d.work_count ∙ all_works));
       }
 
-  -- and how many tokens these are
+  -- and the number of these tokens
   pub counts_done : (feeds works : ℕ) (hands : List TraceHand) → AreDone rows lock refresh Tells feeds works hands → (length (submitters_in hands) ≡ feeds) × (length (workers_in hands) ≡ works) × All HoldsToken hands
   counts_done feeds works hands d = (
     ap (λ l. length (submitters_in l)) d.both ∙ (submitter_count 0 d.first d.second d.have_fed d.have_worked ∙ d.feed_count),

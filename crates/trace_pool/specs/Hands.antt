@@ -14,7 +14,7 @@ use Rattle.trace_pool.specs.PoolEnd.{trace_course}
 abbrev pub TraceHand : Type 0
 TraceHand = Hand ℕ TraceGate
 
--- what the hand is there for it has done, over these rows
+-- the hand has done its part, over these rows
 abbrev pub TraceHandDid : List TraceRow → LockView Crew → Option BoardView → (refresh : ℕ) → (ℕ → Type 0) → TraceHand
     → TraceHand → Type 0
 TraceHandDid rows lock shared refresh Tells old new =

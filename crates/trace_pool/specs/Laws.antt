@@ -1,4 +1,4 @@
--- What follows at the end of a pool.
+-- The laws of a pool at its end.
 use Rattle.std.specs.Prelude.{ℕ, List}
 use Rattle.fq_model.specs.declared.event.Entry.{Entry}
 use Rattle.program_model.specs.declared.trace.RunOptions.{RunOptions}
@@ -18,7 +18,7 @@ PoolHistoryIs Tells =
     (T : Trace) (O : RunOptions) (lock : LockView Crew) (past : List Entry) → IsLawfulTrace T → AreInRange O
     → InLimits (pool_config T O) → PoolEnds T O lock Tells past → IsPoolHistory T O (history_of past)
 
--- and each of its entries stands at the effective moment of one that the clock tells
+-- and each of its entries is at the effective moment of a moment that the clock tells
 abbrev pub PoolMomentsAre : (ℕ → Type 0) → Type 0
 PoolMomentsAre Tells =
     (T : Trace) (O : RunOptions) (lock : LockView Crew) (past : List Entry) → PoolEnds T O lock Tells past

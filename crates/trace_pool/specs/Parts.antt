@@ -27,11 +27,11 @@ AreRowsOf rows j queue = map row_asks queue ≡ requests_from j 0 rows
 abbrev pub IsCrewOf : List TraceRow → LockView Crew → Type 0
 IsCrewOf rows lock = lock.frame.submitters ≡ submitters rows
 
--- the first submitter knows how many callers there are
+-- the first submitter knows the number of callers
 abbrev pub KnowsAll : LockView Crew → ℕ → Submitter → Type 0
 KnowsAll lock j who = j ≡ 0 → who.pass.made + 1 ≡ lock.frame.submitters + lock.frame.config.workers
 
--- the submitters' tokens that the hands hold, in order
+-- the submitters' tokens of the hands, in order
 abbrev pub submitters_in : List TraceHand → List Submitter
 submitters_in [] = []
 submitters_in (Feed who queue total stopped ∷ hands) = who ∷ submitters_in hands
@@ -42,13 +42,13 @@ abbrev pub with_worker : Option Worker → List Worker → List Worker
 with_worker None workers = workers
 with_worker (Some worker) workers = worker ∷ workers
 
--- the workers' tokens that the hands hold, in order
+-- the workers' tokens of the hands, in order
 abbrev pub workers_in : List TraceHand → List Worker
 workers_in [] = []
 workers_in (Work slot log ∷ hands) = with_worker slot (workers_in hands)
 workers_in (_ ∷ hands) = workers_in hands
 
--- the hand holds a token
+-- the hand has a token
 abbrev pub HoldsToken : TraceHand → Type 0
 HoldsToken (Feed who queue total stopped) = Unit {0}
 HoldsToken (Work slot log) = (worker : Worker) × (slot ≡ Some worker)
@@ -68,7 +68,7 @@ module _ (rows : List TraceRow) (lock : LockView Crew) where
       (worker : Worker) × (slot ≡ Some worker) × IsNew lock (worker_caller rows i) worker.pass × (worker.worker ≡ i)
   IsWorkOf i _ = ⊥
 
-  -- the hands of so many submitters, and then those of so many workers
+  -- the hands of `feeds` submitters, and then those of `works` workers
   pub record AreHands (feeds works : ℕ) (hands : List TraceHand) : Type 0 where
     pub first : List TraceHand
     pub second : List TraceHand
@@ -99,7 +99,7 @@ module _ (rows : List TraceRow) (lock : LockView Crew) where
       pub log2 : List Asked
       pub worked : Worked lock (trace_course refresh rows) work_cost Tells begun ended log log2
 
-    -- the same of hands
+    -- the hand's submitter or worker has done its part
     abbrev pub HasFedHand : ℕ → TraceHand → Type 0
     HasFedHand j (Feed who queue total stopped) = HasFed j who
     HasFedHand j _ = ⊥

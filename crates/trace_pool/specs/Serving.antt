@@ -1,4 +1,4 @@
--- What a pool that serves a trace needs.
+-- The room of a pool that serves a trace.
 use Rattle.std.specs.Prelude.{ℕ, ◌≡◌, ◌≤◌, ◌<◌, [], vec_capacity}
 use Rattle.fq_model.specs.declared.limits.TheConstants.{MOST_ENTRIES}
 use Rattle.program_model.specs.declared.trace.RunOptions.{RunOptions}
@@ -15,7 +15,7 @@ IsTooLong T O = MOST_ENTRIES < needed_pool_entries T.rows O.refresh
 abbrev pub too_long : Trace → RunOptions → PoolFault
 too_long T O = TooManyEntries (needed_pool_entries T.rows O.refresh)
 
--- nothing stands in the room yet, and there is some for so many hands and one more, for so many statuses, and a reader
+-- the room is empty, and has place for `hands` hands and the watcher's, for `times` statuses, and for a reader
 pub record HasRoom (hands times : ℕ) (room : Room) : Type 0 where
   pub hands_are : room.hands.items ≡ []
   pub hands_fit : hands < vec_capacity room.hands

@@ -1,4 +1,4 @@
-//! Whose rows are whose.
+//! The rows of each submitter.
 ghost use Rattle.std.specs.Prelude.{◌≡◌, ◌<◌, length, IfOk};
 ghost use Rattle.trace_pool.specs.Parts.{AreRowsOf};
 ghost use Rattle.trace_pool.specs.Places.{HoldsFrom};
@@ -8,7 +8,7 @@ use program_model::trace::TraceRow;
 use std::alloc::{AllocError, Global};
 use std::collections::VecDeque;
 
-/// The rows of each of so many submitters, in order. A row's job is its number.
+/// The rows of each submitter, in order. A row's job is its number.
 pub fn deal(
     alloc: Global,
     rows: &[TraceRow],

@@ -8,7 +8,7 @@ use std::alloc::AllocError;
 /// Why a trace is not served.
 #[derive(Clone, Copy, Debug, PartialEq, Eq, thiserror::Error)]
 pub enum PoolFault {
-    /// The history would have so many entries; there may be 4,194,304.
+    /// The history might have this number of entries; there may be 4,194,304.
     #[error("the history would have {0} entries, and there may be {MOST_ENTRIES}")]
     TooManyEntries(u64),
     /// There was no memory.

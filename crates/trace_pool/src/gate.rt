@@ -10,7 +10,7 @@ use gate_rules::gate::{Gate, Slice};
 use gate_rules::steps::Steps;
 use program_model::trace::TraceRow;
 
-/// Counts the cost of the row that a job names up, by its step. A job is a row's number.
+/// Counts up the cost of a job's row, by its step. A job is a row's number.
 #[derive(Drop)]
 pub struct TraceGate<'a> {
     rows: &'a [TraceRow],
@@ -30,7 +30,7 @@ impl<'a> TraceGate<'a> {
         TraceGate { rows, refresh }
     }
 
-    // The cost of the row that a job is the number of, if there is such a row.
+    // The cost of the job's row, if there is such a row.
     fn cost(&self, job: u64) -> Option<u64>
         ensures cost { result ≡ option_map (λ row. row.cost) (slice_get self.now.rows.now job) }
         ensures range { IfSome result (IsWithin 1 GREATEST_COST) }

@@ -1,4 +1,4 @@
-//! Tokens as hands, and back.
+//! Hands are made of tokens, and give them back.
 ghost use Rattle.std.specs.Prelude.{◌≡◌, ◌≤◌, ◌+◌, [], length, All, vec_capacity};
 ghost use Rattle.fq_model.specs.declared.limits.TheConstants.{MOST_ROWS};
 ghost use Rattle.desk.specs.Opening.{AreSubmitters, AreWorkers, HasMade};
@@ -14,7 +14,7 @@ use std::collections::VecDeque;
 use tag_rules::chooser::Chooser;
 use worker_gate::pool::Hand;
 
-/// Each submitter with its rows, and then each worker with a log of its own.
+/// Makes a hand of each submitter with its rows, and then of each worker with a log of its own.
 pub fn hand_out<'a, X: Chooser>(
     desk: &DeskOf<Floor<u64, X>>,
     rows: &[TraceRow],

@@ -1,4 +1,4 @@
-//! A pool of threads that serves a trace: the submitters hand in its rows, in whatever order they come to it, and
+//! A pool of threads that serves a trace: the submitters submit its rows, in whatever order they come to it, and the
 //! workers count their costs up.
 #![tactic(auto)]
 

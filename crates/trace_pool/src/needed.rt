@@ -1,4 +1,4 @@
-//! How many entries the history of a pool may need.
+//! The number of entries that the history of a pool may need.
 ghost use Rattle.std.specs.Prelude.{◌≡◌, ◌≤◌, ◌*◌, length};
 ghost use Rattle.vt_fixed.specs.declared.limits.TheConstants.{GREATEST_COST};
 ghost use Rattle.fq_model.specs.declared.limits.TheConstants.{MOST_ROWS, MOST_SLICES};
@@ -24,7 +24,7 @@ pub fn needed(trace: &Trace, refresh: u64) -> u64
     3 * rows.len() as u64 + 2 + reports(rows, refresh)
 }
 
-// How many Reports all rows have.
+// The number of Reports of all rows.
 fn reports(rows: &[TraceRow], refresh: u64) -> u64
     requires few { length rows.now ≤ MOST_ROWS }
     requires costs { AreCosts rows.now }

@@ -43,23 +43,23 @@ use trace_reader::opening::{config_of, submitters};
 use trace_reader::trace::Trace;
 use worker_gate::pool::{Hand, pool};
 
-/// What a pool made of a trace.
+/// The history that a pool made of a trace.
 #[derive(Drop)]
 pub struct Served {
     pub history: History,
-    /// The scheduler's status, each time that it was read.
+    /// The scheduler's status at each read, the oldest first.
     pub statuses: Vec<Status>,
 }
 
-// Room for what the hands of a pool hold.
+// Room for the hands of a pool, for its statuses and for a reader.
 struct Room<'a> {
     hands: Vec<Hand<u64, TraceGate<'a>>>,
     statuses: Vec<Status>,
     readers: Vec<Reader>,
 }
 
-// The callers of all tokens serve the rows, each in a thread of its own, while one more hand does its part. The tokens
-// and that hand come back.
+// The callers of all tokens serve the rows, each in a thread of its own, while one more hand does its part. Gives the
+// tokens and that hand back.
 fn serve_rows<'a, X: Chooser + Drop + Send, K: Clock + Sync, R: Threads + Wait + Sync>(
     rt: &R,
     desk: &DeskOf<Floor<u64, X>>,
@@ -98,8 +98,7 @@ fn serve_rows<'a, X: Chooser + Drop + Send, K: Clock + Sync, R: Threads + Wait +
     other
 }
 
-// Opens a desk, has the callers of all its tokens serve the trace's rows while its status is read so often, and gives
-// what they made.
+// Opens a desk, has its callers serve the trace's rows while its status is read `times` times, and answers the history.
 fn serve_at_desk<'a, X: Chooser + Drop + Send, K: Clock + Sync, R: Threads + Wait + Sync>(
     rt: &R,
     alloc: Global,
@@ -172,7 +171,7 @@ fn serve_at_desk<'a, X: Chooser + Drop + Send, K: Clock + Sync, R: Threads + Wai
     })
 }
 
-// Room for so many hands, for as many statuses, and for one reader.
+// Room for `hands` hands and the watcher's, for `times` statuses, and for one reader.
 fn make_room<'a>(alloc: Global, hands: u32, times: u32) -> Result<Room<'a>, PoolFault>
     ensures room { IfOk result (HasRoom hands times) }
     ensures fault { IfErr result (λ f. f ≡ faults.NoMemory) }
@@ -192,11 +191,11 @@ fn make_room<'a>(alloc: Global, hands: u32, times: u32) -> Result<Room<'a>, Pool
     }
 }
 
-/// Serves a trace by a pool of threads, one for each submitter and one for each worker, and gives the history that
-/// they made. Rows come when their submitter comes to them: their moments are not used. The clock is asked by the
-/// threads alone, before each call that they make, and labels are the rows' numbers from 0. One more thread reads the
-/// scheduler's status so often meanwhile, spread over the entries that are to come, and no other waits for it. All
-/// memory is taken before the first call, and none where there would be too many entries.
+/// Serves a trace by a pool of threads, one for each submitter and one for each worker, and answers the history of
+/// their calls. Rows come when their submitter comes to them: their moments are not used. Only the threads ask the
+/// clock, before each call, and labels are the rows' numbers from 0. One more thread reads the scheduler's status
+/// `times` times meanwhile, spread over the expected entries, and no other thread waits for it. All memory is taken
+/// before the first call, and none where there would be too many entries.
 pub fn serve<X: Chooser + Drop + Send, K: Clock + Sync, R: Threads + Wait + Sync>(
     rt: &R,
     alloc: Global,

@@ -16,7 +16,7 @@ use Rattle.worker_gate.specs.Watching.{Watched}
 use Rattle.worker_gate.specs.Hands.{HandDid, HandsDid}
 
 module _ {J G : Type 0} (label : J → ℕ) (lock : LockView Crew) (shared : Option BoardView) (course_of : ℕ → Option (List Counters)) (cost_of : Counters → ℕ) (Tells : ℕ → Type 0) where
-  -- what a hand that is seen so has done
+  -- a hand has done its part, where an equal hand has
   pub did_so : (hand known new : Hand J G) → hand ≡ known → HandDid label lock shared course_of cost_of Tells known new → HandDid label lock shared course_of cost_of Tells hand new
   did_so hand known new is did = subst (λ h. HandDid label lock shared course_of cost_of Tells h new) (sym is) did
 
@@ -30,7 +30,7 @@ module _ {J G : Type 0} (label : J → ℕ) (lock : LockView Crew) (shared : Opt
   did_watch hand board reader reader2 left left2 expected seen seen2 is shown none w =
       did_so hand (Watch reader left expected seen) (Watch reader2 left2 expected seen2) is (board, reader2, seen2, shown, ap (λ n. let h : Hand J G = Watch reader2 n expected seen2 in h) none, w)
 
-  -- what a call with a `&mut` to a hand has made of it
+  -- a hand has done its part, where the argument of a call with a `&mut` to it has
   pub did_at : (hand argument after new : Hand J G) → argument ≡ hand → after ≡ new → HandDid label lock shared course_of cost_of Tells argument after → HandDid label lock shared course_of cost_of Tells hand new
   did_at hand argument after new is left did = subst (λ h. HandDid label lock shared course_of cost_of Tells h new) is (subst (HandDid label lock shared course_of cost_of Tells argument) left did)
 

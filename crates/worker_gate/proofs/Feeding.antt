@@ -1,4 +1,4 @@
--- What a submitter has done so far, one call after another.
+-- The entries of a submitter so far, one call after another.
 use Rattle.std.proofs.Common.{◌≡◌, ℕ, suc, ◌⊎◌, Bool, true, false, List, [], ◌∷◌, ◌++◌, length, reverse, Option, Some, None, sym, ap, ◌∙◌, subst, refl, inl, inr, arith, append-nil, append_assoc}
 use Rattle.std.proofs.lemmas.Bool.{or_parts, or_right, false≢true, false_from_ne_true}
 use Rattle.std.proofs.lemmas.List.{reverse-append}
@@ -32,7 +32,7 @@ has_over : (test : Act → Bool) (R H : History) → has_act test H ≡ true →
 has_over test [] H h = h
 has_over test (e ∷ R) H h = or_right (test e.act) (has_act test (R ++ H)) (has_over test R H h)
 
--- what is closed stays so
+-- a closed history stays closed
 pub closed_on : (P Q : List Entry) → IsPrefix P Q → is_closed (history_of P) ≡ true → is_closed (history_of Q) ≡ true
 unfolding is_closed
 closed_on P Q (rest, is) h = subst (λ H. has_act is_close H ≡ true) (sym (ap reverse is ∙ reverse-append P rest)) (has_over is_close (history_of rest) (history_of P) h)
@@ -47,7 +47,7 @@ abbrev newest_or : Entry → History → Entry
 newest_or e [] = e
 newest_or e (f ∷ P) = f
 
--- what a caller gains is the newest entry
+-- the newest entry is the entry that a caller gains
 gained : (who : ℕ) (P P2 mine mine2 : List Entry) (e : Entry) → history_of P2 ≡ e ∷ history_of P → Gains who P P2 mine mine2 → mine2 ≡ mine ++ e ∷ []
 gained who P P2 mine mine2 e is (inl (same, mine_same)) =
     let n : length (history_of P) ≡ suc (length (history_of P)) = ap (λ l. length (history_of l)) (sym same) ∙ ap length is in
@@ -56,7 +56,7 @@ gained who P P2 mine mine2 e is (inr (f, more, mine_more, by)) =
     let turned : f ∷ history_of P ≡ e ∷ history_of P = sym (ap history_of more ∙ reverse-append P (f ∷ [])) ∙ is in
     mine_more ∙ ap (λ x. mine ++ x ∷ []) (ap (newest_or f) turned)
 
--- where the history stays, so do its own entries
+-- where the history stays, so do the caller's own entries
 kept : (who : ℕ) (P P2 mine mine2 : List Entry) → history_of P2 ≡ history_of P → Gains who P P2 mine mine2 → mine2 ≡ mine
 kept who P P2 mine mine2 is (inl (same, mine_same)) = mine_same
 kept who P P2 mine mine2 is (inr (f, more, mine_more, by)) =
@@ -81,12 +81,12 @@ submitted_at None P who m r tenant kind declared label Q x =
     x.1 ∙ ap (λ n. one_more who (effective_moment P m) (Submit n tenant kind declared label) P) same
 submitted_at (Some c) P who m r tenant kind declared label Q x = let no : answer.Request r ≡ answer.Refused c = x.0 in absurd (cc)
 
--- a Submit that gets a number stands in the history then
+-- a Submit that gets a number is in the history then
 submitted : (C : Config) (P : History) (who m r tenant kind declared label : ℕ) (Q : History) → Answers C P (call.Submit who m tenant kind declared label) (answer.Request r) Q
     → Q ≡ one_more who (effective_moment P m) (Submit r tenant kind declared label) P
 submitted C P who m r tenant kind declared label Q x = submitted_at (submit_refusal C P tenant kind declared) P who m r tenant kind declared label Q x
 
--- a Close stands in the history then, or the history was closed already and stays
+-- a Close is in the history then, or the history was closed already and stays
 closes : (C : Config) (P : History) (who m : ℕ) (reply : Reply) (Q : History) → Answers C P (call.Close who m) reply Q
     → ((is_closed P ≡ true) × (Q ≡ P)) ⊎ ((is_closed P ≡ false) × (Q ≡ one_more who (effective_moment P m) Close P))
 closes C P who m reply Q x = go (is_closed P) refl x
@@ -117,9 +117,9 @@ module _ (total number : ℕ) (asked : List Request) (own : History) (f : IsFeed
     close_place = (f.close_place, λ _. place);
   }
 
--- ---- what was done so far
+-- ---- the entries so far
 
--- a submitter has submitted what was asked, and these are its new entries
+-- a submitter has submitted these requests, and these are its new entries
 pub record HasFed (lock : LockView Crew) (Tells : ℕ → Type 0) (total : ℕ) (old new : PassView Crew) (asked : List Request) (more : List Entry) : Type 0 where
   pub stays : Stays lock old new
   pub seen : IsPrefix old.seen new.seen
@@ -190,7 +190,7 @@ module _ (lock : LockView Crew) (Tells : ℕ → Type 0) (total : ℕ) (old : Pa
               (subst (λ H. Answers C H c (answer.Refused why) (history_of w.seen)) (sym same) a.answers),
         )
 
-    -- it has closed, or was told that it is closed already
+    -- it has closed, or the history was closed already
     pub fed_close : (m : ℕ) (reply : Reply) → Tells m → ClosesAt total old.number (history_of more) → IsAnswered lock.frame v (call.Close v.number m) reply w
         → (more2 : List Entry) × HasFed lock Tells total old w asked more2 × (is_closed (history_of w.seen) ≡ true)
     fed_close m reply tells place a =

@@ -1,4 +1,4 @@
--- A row of a kind that there is is not refused for its kind.
+-- A row whose kind the configuration has is not refused for its kind.
 use Rattle.std.proofs.Common.{◌≡◌, ℕ, ◌≤◌, ◌<◌, nat_le, Bool, true, false, [], ◌∷◌, Some, sym, arith}
 use Rattle.std.proofs.lemmas.Bool.{false≢true}
 use Rattle.std.proofs.lemmas.Bool.Decides.{nat_tests}
@@ -12,7 +12,7 @@ use Rattle.fq_model.specs.Rules.{IsAccepted, RefusedOrElse, first_true}
 use Rattle.gate_rules.specs.declared.rows.Row.{Row}
 use Rattle.worker_gate.specs.Feeding.{IsRefused, NotByKind}
 
--- of these rows the one of the kind is not the first that is true
+-- of these causes the cause of the kind is not the first that is true
 never_by_kind : (a b c d e f : Bool) (tenant kind declared slots entries k n : ℕ) (P Q : History) (who m : ℕ) (act : Act) → c ≡ false
     → RefusedOrElse (first_true ((a, cause.Closed) ∷ (b, cause.Tenant tenant) ∷ (c, cause.Kind kind) ∷ (d, cause.Cost declared) ∷ (e, cause.Slots slots) ∷ (f, cause.Full entries) ∷ []))
     P (answer.Refused (cause.Kind k)) Q (IsAccepted P who m act (answer.Request n) (answer.Refused (cause.Kind k)) Q)
@@ -29,7 +29,7 @@ kind_test : (kinds kind : ℕ) → kind < kinds → nat_le kinds kind ≡ false
 kind_test kinds kind low = grind (arith, nat_tests)
 
 module _ {J : Type 0} (label : J → ℕ) (kind_for : Row J → ℕ) (C : Config) (Tells : ℕ → Type 0) (number : ℕ) (seen : History) (row : Row J) where
-  -- a row of a kind that there is was not refused for it
+  -- a row whose kind the configuration has was not refused for it
   pub not_by_kind : (kinds : ℕ) (why : Cause) → kind_for row < kinds → kinds ≤ C.kinds → IsRefused label kind_for C Tells number seen (Some (row, why)) → NotByKind (Some (row, why))
   not_by_kind kinds (cause.Kind kind) low few r =
       never_by_kind _ _ _ _ _ _ _ _ _ _ _ _ _ _ _ _ _ _ (kind_test C.kinds (kind_for row) (omega (arith, low, few))) r.2

@@ -1,4 +1,4 @@
--- What a caller has seen after its calls.
+-- The entries that a caller has seen after its calls.
 use Rattle.std.proofs.Common.{◌≡◌, ℕ, suc, ◌+◌, ◌≤◌, eqb, cond, Bool, true, false, List, [], ◌∷◌, ◌++◌, length, reverse, sym, ap, ◌∙◌, subst, refl, inl, inr, arith, eq-eqb, length-append}
 use Rattle.std.proofs.lemmas.List.{reverse-append, length-reverse, nil_from_length}
 use Rattle.std.proofs.lemmas.List.Elements.{filter-append}
@@ -18,13 +18,13 @@ use Rattle.desk.specs.Tokens.{IsAnswered}
 use Rattle.desk.proofs.Own.{own_gained}
 use Rattle.worker_gate.specs.Moments.{HasToldMomentsFrom}
 
--- ---- what was seen stays
+-- ---- seen entries stay
 
 gained_on : (who : ℕ) (P P2 mine mine2 : List Entry) → Gains who P P2 mine mine2 → IsPrefix P P2
 gained_on who P P2 mine mine2 (inl same) = ([], same.0 ∙ sym (Rattle.std.proofs.Common.append-nil P))
 gained_on who P P2 mine mine2 (inr (e, more, mine_more, by)) = (e ∷ [], more)
 
--- the history at which a call is answered is a front part of what was seen then
+-- the history at which a call is answered is a prefix of the history that was seen then
 pub answered_on : (crew : Crew) (old new : PassView Crew) (c : Call) (reply : Reply) (a : IsAnswered crew old c reply new) → IsPrefix a.P new.seen
 answered_on crew old new c reply a = gained_on old.number a.P new.seen old.mine new.mine a.gains
 
@@ -34,7 +34,7 @@ seen_on crew old new c reply a = prefix_through old.seen a.P new.seen a.begins (
 pub prefix_same : (P : List Entry) → IsPrefix P P
 prefix_same P = ([], sym (Rattle.std.proofs.Common.append-nil P))
 
--- after a call a caller's own entries are all of its entries in what it has seen
+-- after a call a caller's own entries are all of its entries in the history that it has seen
 pub own_after : (crew : Crew) (old new : PassView Crew) (c : Call) (reply : Reply) → IsAnswered crew old c reply new → own_entries new.seen old.number ≡ new.mine
 own_after crew old new c reply a = own_gained old.number a.P new.seen old.mine new.mine a.own a.gains
 
@@ -65,7 +65,7 @@ own_fewer n e P = go (eqb e.who n)
 
 -- ---- moments
 
--- before its first call nothing is said of a caller
+-- a caller has no entry before its first call
 told_none : (Tells : ℕ → Type 0) (number before : ℕ) (H : History) → length H ≤ before → HasToldMomentsFrom Tells number before H
 told_none Tells number before [] few = tt
 told_none Tells number before (e ∷ P) few = (told_none Tells number before P (omega (arith, few)), λ by past. absurd (omega (arith, few, past)))
@@ -74,7 +74,7 @@ pub moments_begin : (Tells : ℕ → Type 0) (number : ℕ) (seen : List Entry) 
 moments_begin Tells number seen = told_none Tells number (length seen) (history_of seen) (omega (arith, length-reverse seen))
 
 module _ (Tells : ℕ → Type 0) (number before : ℕ) where
-  -- others' entries change nothing
+  -- entries of others change nothing
   told_others : (R H : History) → own_entries R number ≡ [] → HasToldMomentsFrom Tells number before H → HasToldMomentsFrom Tells number before (R ++ H)
   told_others [] H none told = told
   told_others (e ∷ R) H none told =
@@ -95,7 +95,8 @@ module _ (Tells : ℕ → Type 0) (number before : ℕ) where
       let turned : history_of P ≡ history_of rest ++ history_of seen = ap history_of is ∙ reverse-append seen rest in
       subst (HasToldMomentsFrom Tells number before) (sym turned) (told_others (history_of rest) (history_of seen) (turned_none number rest none) told)
 
-  -- a call at a moment that is told, by a caller whose own entries are all of its number in what it has seen
+  -- a call at a moment that the clock tells, by a caller whose own entries are all entries of its number that it has
+  -- seen
   pub moments_on : (crew : Crew) (old new : PassView Crew) (c : Call) (reply : Reply) → IsAnswered crew old c reply new → old.number ≡ number → old.mine ≡ own_entries old.seen old.number → Tells (named_moment c) → HasToldMomentsFrom Tells number before (history_of old.seen) → HasToldMomentsFrom Tells number before (history_of new.seen)
   moments_on crew old new c reply a is own tells told =
       let low : own_entries old.seen number ≡ old.mine = ap (own_entries old.seen) (sym is) ∙ sym own in

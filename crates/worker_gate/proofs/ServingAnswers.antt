@@ -1,4 +1,4 @@
--- What the replies to a worker's calls mean.
+-- The meaning of the replies to a worker's calls.
 use Rattle.std.proofs.Common.{◌≡◌, ℕ, ◌<◌, ◌≤◌, ◌==◌, ◌⊎◌, Bool, true, false, cond, Option, Some, None, ◌∷◌, [], sym, ap, ◌∙◌, subst, refl, inl, inr, arith, nat_lt}
 use Rattle.std.specs.Prelude.{MatchBool, nat_le, is_none}
 use Rattle.std.proofs.lemmas.Bool.Decides.{nat_tests}
@@ -33,7 +33,7 @@ abbrev pub IsStill : Reply → Type 0
 IsStill (answer.Run request estimate label) = ⊥
 IsStill _ = Unit {0}
 
--- the worker is given none, and the history stays, or it takes the chosen one
+-- the worker is given no request, and the history stays, or it takes the chosen request
 abbrev pub TakeMeans : Config → History → ℕ → ℕ → ℕ → Reply → History → Type 0
 TakeMeans C P who m i reply Q =
     ((Q ≡ P) × IsStill reply) ⊎ ((x : RunsChosen C P who m i reply Q) × FitsTake C P (effective_moment P m) i x.request x.estimate)

@@ -16,7 +16,7 @@ module _ (cost_of : Counters → ℕ) where
     pub last_is : last ≡ counters_before course k
     pub uses_are : map (λ u. u.used) uses ≡ uses_after cost_of course k
 
-  -- the same where the course is told
+  -- so it is where the gate tells the course
   abbrev pub IsAtIfTold : Option (List Counters) → ℕ → Counters → List Use → Type 0
   IsAtIfTold None k last uses = Unit {0}
   IsAtIfTold (Some course) k last uses = IsAt course k last uses
@@ -43,7 +43,7 @@ module _ (cost_of : Counters → ℕ) where
       let on : GoesOn course k (End counters) = goes_so course k last run.uses (End counters) f at in
       record { is_course = f.is_course; last = k; last_is = on.0; uses_are = at.uses_are; cost_is = is ∙ ap cost_of on.1 }
 
-  -- the last slice that there may be is the end, whatever it says
+  -- the last slice that there may be is the end, whatever the gate answers
   pub at_most : (course : Option (List Counters)) (k : ℕ) (last counters : Counters) (run : JobRun) → suc k ≡ MOST_SLICES → FollowsIfTold course k last (More counters) → IsAtIfTold course k last run.uses → run.cost ≡ cost_of counters → IsAsTold cost_of course run
   at_most None k last counters run most f at is = tt
   at_most (Some course) k last counters run most f at is =

@@ -16,7 +16,7 @@ use Rattle.worker_gate.proofs.ServingRuns.{worked}
 use Rattle.worker_gate.proofs.ServingSteps.{rest_step}
 
 module _ {J : Type 0} (label : J → ℕ) (lock : LockView Crew) (Tells : ℕ → Type 0) (course_of : ℕ → Option (List Counters)) (cost_of : Counters → ℕ) where
-  -- what a Take ensures
+  -- the answer to a Take
   pub record HasTaken (old : Worker) (m : ℕ) (answer : Took J) : Type 0 where
     pub stays : Stays lock old.pass (took_pass answer)
     pub answers : IsAnswered lock.frame old.pass (call.Take old.pass.number m old.worker) (took_reply label answer) (took_pass answer)

@@ -25,7 +25,7 @@ use Rattle.worker_gate.specs.Serving.{run_of, Goes, HasNamed, HasRunSlices, HasR
 use Rattle.worker_gate.proofs.Seen.{prefix_same, moments_begin}
 use Rattle.worker_gate.proofs.ServingSteps.{Ended, Takes, Rests}
 
--- ---- what holds of a history holds as it grows
+-- ---- facts about a history hold as it grows
 
 lacked_on : (C : Config) (number : ℕ) (seen seen2 : List Entry) (acts : List Act) → IsPrefix seen seen2 → LackedRoom C number seen acts → LackedRoom C number seen2 acts
 lacked_on C number seen seen2 acts on (P, begins, at, room) = (P, prefix_through P seen seen2 begins on, at, room)
@@ -35,12 +35,12 @@ kept_on C number i r seen seen2 older [] on kept = tt
 kept_on C number i r seen seen2 older (use_ ∷ uses) on kept =
     (λ no. lacked_on C number seen seen2 (with_uses i r uses older) on (kept.0 no), kept_on C number i r seen seen2 older uses on kept.1)
 
--- the same where the caller, the worker and the acts are equal
+-- the uses are kept, where the caller, the worker and the acts are equal
 kept_same : (C : Config) (n n2 i i2 r : ℕ) (seen : List Entry) (older older2 : List Act) (uses : List Use) → n ≡ n2 → i ≡ i2 → older ≡ older2 → AreKeptWhereRoom C n i r seen older uses → AreKeptWhereRoom C n2 i2 r seen older2 uses
 kept_same C n n2 i i2 r seen older older2 uses number worker acts kept =
     subst (λ l. AreKeptWhereRoom C n2 i2 r seen l uses) acts (subst (λ w. AreKeptWhereRoom C n2 w r seen older uses) worker (subst (λ m. AreKeptWhereRoom C m i r seen older uses) number kept))
 
--- what a request asked stays as a legal history grows
+-- a request's Submit stays as a legal history grows
 asked_on : (C : Config) (R H : History) (r : ℕ) (asked : Request) → IsLegal C (R ++ H) → request_at H r ≡ Some asked → request_at (R ++ H) r ≡ Some asked
 asked_on C [] H r asked l is = is
 asked_on C (e ∷ R) H r asked l is = asked_stays C (R ++ H) e r asked l (asked_on C R H r asked l.0 is)
@@ -88,7 +88,7 @@ module _ (lock : LockView Crew) (Tells : ℕ → Type 0) where
     rising = omega (arith, unused);
   }
 
-  -- one more after others
+  -- one more use after others
   more_uses : (i r : ℕ) (use_ : Use) (uses : List Use) (older : List Act) → with_uses i r (use_ ∷ []) (with_uses i r uses older) ≡ with_uses i r (use_ ∷ uses) older
   more_uses i r use_ uses older = refl
 
@@ -112,7 +112,7 @@ module _ (lock : LockView Crew) (Tells : ℕ → Type 0) where
         rising = subst (λ r. last_use (history_of new.pass.mine) r ≤ use_.used) x.run.request y.rising;
       }
 
-  -- the same uses, under a greater bound
+  -- these uses are named, under a greater bound
   pub named_up : (start new : Running) (uses : List Use) (most more : ℕ) → most ≤ more → HasNamed lock Tells start new uses most → HasNamed lock Tells start new uses more
   named_up start new uses most more up x = record { goes = x.goes; run = x.run; acts_are = x.acts_are; kept = x.kept; rising = omega (arith, x.rising, up) }
 
@@ -155,7 +155,7 @@ module _ (lock : LockView Crew) (Tells : ℕ → Type 0) where
       runs_are = runs_on lock.frame.config start.pass.number start.worker course_of cost_of old.pass.seen new.pass.seen (acts_of start.pass.mine) x.runs y.goes.seen y.legal x.runs_are;
     }
 
-    -- what a worker has made when it is given one more
+    -- the acts of a worker when it is given one more request
     taken_acts : (start old : Worker) (running : Running) (label : ℕ) {asked asked2 : List Asked} (s : Serves lock Tells course_of cost_of start old asked asked2) → Takes lock Tells label old running
         → acts_of running.pass.mine ≡ Take start.worker running.request running.estimate ∷ with_runs start.worker s.runs (acts_of start.pass.mine)
     taken_acts start old running label s t =
@@ -169,7 +169,7 @@ module _ (lock : LockView Crew) (Tells : ℕ → Type 0) where
         h.acts_are ∙ (ap (λ i. Done i running.request h.cost ∷ with_uses i running.request h.uses (acts_of running.pass.mine)) i_is
         ∙ ap (λ acts. Done start.worker running.request h.cost ∷ with_uses start.worker running.request h.uses acts) (taken_acts start old running label s t))
 
-    -- a Take that gives one, and the run of it
+    -- a Take that gives a request, and its run
     pub serves_run : (start old new : Worker) (running : Running) (label : ℕ) (asked asked2 asked3 : List Asked) → Serves lock Tells course_of cost_of start old asked asked2 → Takes lock Tells label old running → running.worker ≡ old.worker → HasRun lock Tells course_of cost_of label running new asked2 asked3
         → Serves lock Tells course_of cost_of start new asked asked3
     serves_run start old new running label asked asked2 asked3 s t worker h =

@@ -28,7 +28,7 @@ use Rattle.worker_gate.proofs.ServingCourses.{IsAtIfTold, at_first, at_next, at_
 use Rattle.worker_gate.proofs.ServingRuns.{named_none, named_more, named_up, run_ends}
 use Rattle.worker_gate.proofs.ServingSteps.{Ended, done_step}
 
--- one slice more, after those of a job that were asked for so far
+-- one slice more, after the slices of a job that were asked for so far
 one_asked : (label k : ℕ) (last : Counters) (answer : Slice) (mores : List Counters) (asked log log2 : List Asked) → last ≡ newest mores → length mores ≡ k → log ≡ with_more label mores asked
     → log2 ≡ asked_for label k last answer ∷ log → log2 ≡ asked_next label mores answer ∷ with_more label mores asked
 one_asked label k last answer mores asked log log2 last_is count is noted =
@@ -101,7 +101,7 @@ module _ (lock : LockView Crew) (Tells : ℕ → Type 0) (course_of : ℕ → Op
     asked_are = one_asked label k last (End counters) x.mores asked log log2 x.last_is x.count x.asked_are noted;
   }
 
-  -- the last slice that there may be is the end, whatever it says
+  -- the last slice that there may be is the end, whatever the gate answers
   along_full : (now : Running) (n cost : ℕ) (last counters : Counters) (log log2 : List Asked) → suc n ≡ MOST_SLICES → IsAlong now n last log → NeverFalls cost_of → IsAtMost last counters → FollowsIfTold (course_of label) n last (More counters)
       → log2 ≡ asked_for label n last (More counters) ∷ log → cost ≡ cost_of counters → HasRunSlices lock Tells course_of cost_of label start now asked log2 cost
   along_full now n cost last counters log log2 most x rises up f noted is = record {

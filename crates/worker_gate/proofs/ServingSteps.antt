@@ -1,12 +1,11 @@
--- What a worker's calls leave it.
-use Rattle.std.proofs.Common.{◌≡◌, ℕ, suc, ◌+◌, ◌<◌, ◌≤◌, Bool, true, false, max, cond, List, [], ◌∷◌, ◌++◌, map, length, Some, Result, Err, sym, ap, ◌∙◌, subst, refl, inl, inr, arith, length-append, eq-eqb}
+-- A worker's token after each of its calls.
+use Rattle.std.proofs.Common.{◌≡◌, ℕ, suc, ◌+◌, ◌<◌, ◌≤◌, Bool, true, false, max, cond, List, [], ◌∷◌, ◌++◌, map, length, Some, sym, ap, ◌∙◌, subst, refl, inl, inr, arith, length-append, eq-eqb}
 use Rattle.std.proofs.lemmas.List.{reverse-append}
 use Rattle.vt_fixed.specs.declared.limits.TheConstants.{GREATEST_COST}
 use Rattle.fq_model.specs.declared.config.Config.{Config}
 use Rattle.fq_model.specs.declared.event.Act.TheVariants.{Take, Report, Done}
 use Rattle.fq_model.specs.declared.event.Call.{Call}
 use Rattle.fq_model.specs.declared.event.Call.TheVariants as call
-use Rattle.fq_model.specs.declared.event.Cause.TheVariants as cause
 use Rattle.fq_model.specs.declared.event.Entry.{Entry}
 use Rattle.fq_model.specs.declared.event.Reply.{Reply}
 use Rattle.fq_model.specs.declared.event.Reply.TheVariants as answer
@@ -22,9 +21,7 @@ use Rattle.history_lock.specs.Passes.{LockView, PassView, IsOf}
 use Rattle.desk.specs.declared.floor.Crew.{Crew}
 use Rattle.desk.specs.declared.tokens.Running.{Running}
 use Rattle.desk.specs.declared.tokens.Worker.{Worker}
-use Rattle.desk.specs.declared.refusals.LiveRefusal.{LiveRefusal}
-use Rattle.desk.specs.declared.refusals.LiveRefusal.TheVariants as live
-use Rattle.desk.specs.Replies.{SameRun, live_reply}
+use Rattle.desk.specs.Replies.{SameRun}
 use Rattle.desk.specs.Tokens.{Stays, IsAnswered, submitters_of, workers_of}
 use Rattle.desk.proofs.Own.{runs_by_own}
 use Rattle.worker_gate.specs.Running.{acts_of, HasLabel}
@@ -33,7 +30,7 @@ use Rattle.worker_gate.proofs.Seen.{answered_on, seen_on, moments_on}
 use Rattle.worker_gate.proofs.ServingUses.{untaken_unused, own_below, own_history, use_by_own}
 use Rattle.worker_gate.proofs.ServingAnswers.{IsStill, TakeMeans, take_means, take_legal, report_means, done_means, done_legal}
 
--- ---- what a caller has gained
+-- ---- the entries that a caller has gained
 
 longer_no : (P : List Entry) (e : Entry) → P ≡ P ++ e ∷ [] → ⊥
 longer_no P e is = let n : length P ≡ length P + 1 = ap length is ∙ length-append P (e ∷ []) in omega (arith, n)
@@ -44,7 +41,7 @@ history_more P e = reverse-append P (e ∷ [])
 history_same : (P Q : List Entry) → history_of Q ≡ history_of P → Q ≡ P
 history_same P Q is = sym (Rattle.std.proofs.lemmas.List.reverse-reverse Q) ∙ (ap history_of is ∙ Rattle.std.proofs.lemmas.List.reverse-reverse P)
 
--- nothing where the history stays
+-- no entry, where the history stays
 gains_none : (who : ℕ) (P P2 mine mine2 : List Entry) → Gains who P P2 mine mine2 → history_of P2 ≡ history_of P → mine2 ≡ mine
 gains_none who P P2 mine mine2 (inl same) is = same.1
 gains_none who P P2 mine mine2 (inr (e, more, mine_more, by)) is = absurd (longer_no P e (sym (history_same P P2 is) ∙ more))
@@ -52,7 +49,7 @@ gains_none who P P2 mine mine2 (inr (e, more, mine_more, by)) is = absurd (longe
 head_same : (e f : Entry) (P : History) → e ∷ P ≡ f ∷ P → e ≡ f
 head_same e f P is = cc
 
--- the new entry where there is one
+-- the new entry, where there is one
 gains_one : (who : ℕ) (P P2 mine mine2 : List Entry) (e : Entry) → Gains who P P2 mine mine2 → history_of P2 ≡ e ∷ history_of P → history_of mine2 ≡ e ∷ history_of mine
 gains_one who P P2 mine mine2 e (inl same) is =
     let n : length (history_of P) ≡ suc (length (history_of P)) = ap length (sym (ap history_of same.0) ∙ is) in absurd (omega (arith, n))
@@ -64,7 +61,7 @@ module _ (lock : LockView Crew) (Tells : ℕ → Type 0) where
   abbrev C : Config
   C = lock.frame.config
 
-  -- a call at a moment that is told
+  -- a call at a moment that the clock tells
   pub goes_by : (old new : PassView Crew) (c : Call) (reply : Reply) → Stays lock old new → old.mine ≡ own_entries old.seen old.number → IsAnswered lock.frame old c reply new → Tells (named_moment c) → Goes lock Tells old new
   goes_by old new c reply stays own a tells = record {
     stays = stays;
@@ -78,7 +75,7 @@ module _ (lock : LockView Crew) (Tells : ℕ → Type 0) where
   known_by : (pass : PassView Crew) (i : ℕ) → IsOf lock pass → i < workers_of pass.frame → i < lock.frame.config.workers
   known_by pass i own known = subst (λ f. i < workers_of f) own.1 known
 
-  -- what a worker that runs a request knows of the history at which it is answered
+  -- the knowledge of a worker that runs a request about the history at which it is answered
   record Knows (running : Running) (P : List Entry) (used : ℕ) : Type 0 where
     known : running.worker < lock.frame.config.workers
     runs : running_on (history_of P) running.worker ≡ Some running.request
@@ -100,67 +97,51 @@ module _ (lock : LockView Crew) (Tells : ℕ → Type 0) where
   use_at_most : (i r used older : ℕ) → older ≤ used → max (use_in r (Report i r used)) older ≤ used
   use_at_most i r used older low = let is : use_in r (Report i r used) ≡ used = ap (λ b. cond b used 0) (eq-eqb r r refl) in omega (arith, is, low)
 
-  -- a report is told that it is accepted, or that there is no room
-  abbrev pub IsReported : Reply → Type 0
-  IsReported answer.Accepted = Unit {0}
-  IsReported (answer.Refused (cause.Full entries)) = Unit {0}
-  IsReported _ = ⊥
-
-  -- what a report leaves: whether it is kept is told by its reply
-  pub record Reported (used : ℕ) (old new : Running) (reply : Reply) : Type 0 where
-    pub is_reported : IsReported reply
-    pub is_kept : Bool
-    pub named : HasNamed lock Tells old new (record { used = used; is_kept = is_kept } ∷ []) used
+  -- after a report the use is named, and its Report is kept or not
+  abbrev pub HasReported : ℕ → Running → Running → Type 0
+  HasReported used old new = (is_kept : Bool) × HasNamed lock Tells old new (record { used = used; is_kept = is_kept } ∷ []) used
 
   left_out : (used : ℕ) (old new : Running) (m : ℕ) (reply : Reply) → Goes lock Tells old.pass new.pass → SameRun old new → last_use (history_of old.pass.mine) old.request ≤ used → (a : IsAnswered lock.frame old.pass (call.Report old.pass.number m old.worker used) reply new.pass)
-      → reply ≡ answer.Refused (cause.Full lock.frame.config.entries) → history_of new.pass.seen ≡ history_of a.P → lock.frame.config.entries < needed_room (history_of a.P) 2 → Reported used old new reply
-  left_out used old new m reply goes run low a is same room =
-      let mine : new.pass.mine ≡ old.pass.mine = gains_none old.pass.number a.P new.pass.seen old.pass.mine new.pass.mine a.gains same in record {
-        is_reported = subst IsReported (sym is) tt;
-        is_kept = false;
-        named = record {
+      → history_of new.pass.seen ≡ history_of a.P → lock.frame.config.entries < needed_room (history_of a.P) 2 → HasReported used old new
+  left_out used old new m reply goes run low a same room =
+      let mine : new.pass.mine ≡ old.pass.mine = gains_none old.pass.number a.P new.pass.seen old.pass.mine new.pass.mine a.gains same in (
+        false,
+        record {
           goes = goes;
           run = run;
           acts_are = ap acts_of mine;
           kept = (λ _. (a.P, answered_on lock.frame old.pass new.pass _ reply a, ap acts_of a.own, room), tt);
           rising = subst (λ l. last_use (history_of l) old.request ≤ used) (sym mine) low;
-        };
-      }
+        },
+      )
 
   made : (used : ℕ) (old new : Running) (m : ℕ) (reply : Reply) → Goes lock Tells old.pass new.pass → SameRun old new → last_use (history_of old.pass.mine) old.request ≤ used → (a : IsAnswered lock.frame old.pass (call.Report old.pass.number m old.worker used) reply new.pass)
-      → reply ≡ answer.Accepted → history_of new.pass.seen ≡ one_more old.pass.number (effective_moment (history_of a.P) m) (Report old.worker old.request used) (history_of a.P) → Reported used old new reply
-  made used old new m reply goes run low a is more =
-      let mine = gains_one old.pass.number a.P new.pass.seen old.pass.mine new.pass.mine _ a.gains more in record {
-        is_reported = subst IsReported (sym is) tt;
-        is_kept = true;
-        named = record {
+      → history_of new.pass.seen ≡ one_more old.pass.number (effective_moment (history_of a.P) m) (Report old.worker old.request used) (history_of a.P) → HasReported used old new
+  made used old new m reply goes run low a more =
+      let mine = gains_one old.pass.number a.P new.pass.seen old.pass.mine new.pass.mine _ a.gains more in (
+        true,
+        record {
           goes = goes;
           run = run;
           acts_are = ap (map (λ e. e.act)) mine;
           kept = (λ no. absurd (Rattle.std.proofs.lemmas.Bool.false≢true (sym no)), tt);
           rising = subst (λ h. last_use h old.request ≤ used) (sym mine) (use_at_most old.worker old.request used (last_use (history_of old.pass.mine) old.request) low);
-        };
-      }
+        },
+      )
 
   pub report_step : (used : ℕ) (old new : Running) (m : ℕ) (reply : Reply) → IsOf lock old.pass → Stays lock old.pass new.pass → SameRun old new → Tells m → last_use (history_of old.pass.mine) old.request ≤ used → used ≤ GREATEST_COST
-      → IsAnswered lock.frame old.pass (call.Report old.pass.number m old.worker used) reply new.pass → Reported used old new reply
+      → IsAnswered lock.frame old.pass (call.Report old.pass.number m old.worker used) reply new.pass → HasReported used old new
   report_step used old new m reply own stays run tells low limit a =
       let k = knows old new.pass (call.Report old.pass.number m old.worker used) reply used own low a in
       let goes : Goes lock Tells old.pass new.pass = goes_by old.pass new.pass (call.Report old.pass.number m old.worker used) reply stays old.own a tells in
       elim (report_means lock.frame.config (history_of a.P) old.pass.number m old.worker old.request used k.known k.runs k.low limit reply (history_of new.pass.seen) a.answers) [
-        | inl x ↦ left_out used old new m reply goes run low a x.0 x.1 x.2
-        | inr x ↦ made used old new m reply goes run low a x.0 x.1
+        | inl x ↦ left_out used old new m reply goes run low a x.1 x.2
+        | inr x ↦ made used old new m reply goes run low a x.1
       ]
-
-  -- so no report is refused but for want of room
-  pub only_full : (result : Result (Unit {0}) LiveRefusal) (why : LiveRefusal) → IsReported (live_reply result) → result ≡ Err why → ((entries : ℕ) → why ≡ live.Full entries → ⊥) → ⊥
-  only_full result (live.Cost used) told is other = let no : IsReported (live_reply (Err (live.Cost used))) = subst (λ x. IsReported (live_reply x)) is told in no
-  only_full result (live.Falling last given) told is other = let no : IsReported (live_reply (Err (live.Falling last given))) = subst (λ x. IsReported (live_reply x)) is told in no
-  only_full result (live.Full entries) told is other = other entries refl
 
   -- ---- a Done
 
-  -- what a completion leaves
+  -- the worker's pass after its Done
   pub record Ended (cost : ℕ) (old : Running) (new : PassView Crew) (reply : Reply) : Type 0 where
     pub is_accepted : reply ≡ answer.Accepted
     pub goes : Goes lock Tells old.pass new
@@ -181,7 +162,7 @@ module _ (lock : LockView Crew) (Tells : ℕ → Type 0) where
 
   -- ---- a Take
 
-  -- what a Take leaves a worker that is given no request
+  -- the pass of a worker that its Take gives no request
   pub record Rests (old new : PassView Crew) (m i : ℕ) (reply : Reply) : Type 0 where
     pub goes : Goes lock Tells old new
     pub legal : IsLegal lock.frame.config (history_of new.seen)
@@ -209,7 +190,7 @@ module _ (lock : LockView Crew) (Tells : ℕ → Type 0) where
         answers = subst (λ n. Answers C (history_of new.seen) (call.Take n m old.worker) reply (history_of new.seen)) (sym stays.number) at;
       }
 
-  -- what a Take leaves a worker that is given a request
+  -- the token of a worker that its Take gives a request
   pub record Takes (label : ℕ) (old : Worker) (new : Running) : Type 0 where
     pub goes : Goes lock Tells old.pass new.pass
     pub start : IsAtStart lock new
@@ -227,7 +208,7 @@ module _ (lock : LockView Crew) (Tells : ℕ → Type 0) where
   zero_or : (n : ℕ) → n ≡ 0 → max 0 n ≡ 0
   zero_or n is = omega (arith, is)
 
-  -- the reply names what was chosen
+  -- the reply names the chosen request
   record IsGiven (C : Config) (P : History) (who m i r estimate label : ℕ) (Q : History) : Type 0 where
     more : Q ≡ one_more who (effective_moment P m) (Take i r estimate) P
     fits : FitsTake C P (effective_moment P m) i r estimate

@@ -1,4 +1,4 @@
--- The uses that are reported of a request stand in the entries of the worker that runs it.
+-- The uses that are reported of a request are in the entries of the worker that runs it.
 use Rattle.std.proofs.Common.{◌≡◌, ℕ, ◌+◌, ◌≤◌, ◌==◌, max, eqb, cond, Bool, true, false, List, [], ◌∷◌, Some, sym, ap, ◌∙◌, subst, refl, arith}
 use Rattle.std.proofs.lemmas.Bool.{eqb-true, eqb-false, or_right, or_parts, both_ways}
 use Rattle.fq_model.specs.declared.config.Config.{Config}
@@ -42,7 +42,7 @@ own_below n r (e ∷ P) = go (own_below n r P) (eqb e.who n)
     go ih true = omega (arith, ih)
     go ih false = omega (arith, ih)
 
--- ---- a worker alone reports of what it runs
+-- ---- only a request's worker reports its uses
 
 -- no other worker took the request
 abbrev IsTaker : History → ℕ → ℕ → Type 0
@@ -73,7 +73,7 @@ own_uses C (e ∷ P) s i r l st only =
 pub own_history : (n : ℕ) (P mine : List Entry) → own_entries P n ≡ mine → own_entries (history_of P) n ≡ history_of mine
 own_history n P mine own = own_turned P n ∙ ap history_of own
 
--- the greatest use of what a worker runs is one of its own entries
+-- the greatest use of a worker's request is in one of its own entries
 pub use_by_own : (C : Config) (s i who r : ℕ) (P mine : List Entry) → who ≡ s + i → own_entries P who ≡ mine → IsLegal C (history_of P) → IsStaffed s (history_of P) → running_on (history_of P) i ≡ Some r → last_use (history_of P) r ≤ last_use (history_of mine) r
 use_by_own C s i who r P mine by own l st runs =
     let w : Runs (history_of P) i r = running_runs C (history_of P) i r l runs in

@@ -1,4 +1,4 @@
--- What a reader answered, with one answer more.
+-- A reader's answers, with one answer more.
 use Rattle.std.proofs.Common.{◌≡◌, ℕ, suc, ◌+◌, List, [], ◌∷◌, ◌++◌, length, refl, sym, ap, ◌∙◌, subst, arith, append_assoc, append-nil}
 use Rattle.std.proofs.lemmas.List.{length-append}
 use Rattle.fq_model.specs.declared.config.Config.{Config}
@@ -12,7 +12,7 @@ use Rattle.status_board.specs.Boards.{BoardView, ReaderView, IsReaderOf}
 use Rattle.worker_gate.specs.Watching.{AreAnswers, Watched}
 
 module _ (C : Config) where
-  -- what a reader has seen goes on from what it had seen
+  -- the history that a reader had seen is a prefix of the history that it has seen
   pub answers_on : (seen : List Entry) (answers : List Status) (seen2 : List Entry) → AreAnswers C seen answers seen2 → IsPrefix seen seen2
   answers_on seen [] seen2 same = ([], same ∙ sym (append-nil seen))
   answers_on seen (status ∷ later) seen2 (P, front, told, more) = prefix_through seen P seen2 front (answers_on P later seen2 more)
@@ -22,11 +22,11 @@ module _ (C : Config) where
   answers_end seen (status ∷ later) seen2 seen3 last (P, front, told, more) on is = (P, front, told, answers_end P later seen2 seen3 last more on is)
 
 module _ (board : BoardView) where
-  -- nothing is read
+  -- no status is read
   pub watched_none : (reader : ReaderView) (seen : List Status) → IsReaderOf board reader → Watched board 0 reader reader seen seen
   watched_none reader seen own = record { own = own; answers = []; are_its = sym (append-nil reader.answers); are_answers = refl; count = refl; added = sym (append-nil seen) }
 
-  -- one time more
+  -- one status more is read
   pub watched_more : (times times2 : ℕ) (old new newer : ReaderView) (seen seen2 seen3 : List Status) (last : Status) → times2 ≡ suc times → Watched board times old new seen seen2
       → IsReaderOf board newer → newer.answers ≡ new.answers ++ last ∷ [] → IsPrefix new.seen newer.seen → last ≡ status_of board.config (history_of newer.seen) → seen3 ≡ seen2 ++ last ∷ []
       → Watched board times2 old newer seen seen3

@@ -1,4 +1,4 @@
--- What a submitter does with its rows.
+-- A submitter and its rows.
 use Rattle.std.specs.Prelude.{◌≡◌, ℕ, suc, ◌==◌, ◌≤◌, Bool, true, false, not, List, [], ◌∷◌, ◌++◌, map, length, reverse, Option, Some, None}
 use Rattle.fq_model.specs.declared.config.Config.{Config}
 use Rattle.fq_model.specs.declared.event.Act.{Act}
@@ -22,7 +22,7 @@ use Rattle.gate_rules.specs.declared.rows.Fed.TheVariants.{All, Stopped}
 use Rattle.gate_rules.specs.declared.rows.Row.{Row}
 use Rattle.worker_gate.specs.Moments.{HasToldMomentsFrom}
 
--- the act is the Submit of the last of so many requests
+-- the act is the Submit of the last of `total` requests
 abbrev pub is_last_submit : ℕ → Act → Bool
 is_last_submit total (Submit request tenant kind declared label) = suc request == total
 is_last_submit total _ = false
@@ -41,7 +41,7 @@ pub record IsFeed (total number : ℕ) (asked : List Request) (own : History) : 
   pub one_close : count_acts is_close own ≤ 1
   pub close_place : Each (λ P e. is_close e.act ≡ true → ClosesAt total number P) own
 
--- where the submitter was to close, what it has seen is closed
+-- where the submitter was to close, the history that it has seen is closed
 pub record HasClosed (total number : ℕ) (own seen : History) : Type 0 where
   pub after_last : has_act (is_last_submit total) own ≡ true → is_closed seen ≡ true
   pub at_once : total ≡ 0 → number ≡ 0 → is_closed seen ≡ true
@@ -52,7 +52,7 @@ module _ {J : Type 0} where
   Splits rows sent None rest = (rows ≡ sent) × (rest ≡ [])
   Splits rows sent (Some (row, why)) rest = rows ≡ sent ++ row ∷ rest
 
-  -- what was refused, and what is left
+  -- the refused row with its cause, and the rows that are left
   abbrev pub fed_stopped : Fed J → Option (Row J × Cause)
   fed_stopped All = None
   fed_stopped (Stopped row rest why) = Some (row, why)
@@ -66,19 +66,19 @@ module _ {J : Type 0} where
   NotByKind (Some (row, cause.Kind kind)) = ⊥
   NotByKind _ = Unit {0}
 
-  -- labels are those of jobs, and kind_for says of which kind a row is submitted
+  -- `label` gives the label of a job, and `kind_for` the kind that a row is submitted with
   module _ (label : J → ℕ) (kind_for : Row J → ℕ) where
     abbrev pub request_of : Row J → Request
     request_of row = record { tenant = row.tenant; kind = kind_for row; declared = row.declared; label = label row.job }
 
-    -- the row that was refused, if one was, is answered so at what was seen
+    -- the refused row, if there is one, is refused with this cause at the history that was seen
     abbrev pub IsRefused : Config → (ℕ → Type 0) → ℕ → History → Option (Row J × Cause) → Type 0
     IsRefused C Tells number seen None = Unit {0}
     IsRefused C Tells number seen (Some (row, why)) = (m : ℕ) × Tells m
         × Answers C seen (call.Submit number m row.tenant (kind_for row) row.declared (label row.job)) (answer.Refused why) seen
 
-    -- What the submitter has done: it has submitted its rows in order up to the first that was refused, and has closed
-    -- where it was to, at moments that the clock tells
+    -- The submitter has submitted its rows in order up to the first that was refused, and has closed where it was to
+    -- close, at moments that the clock tells
     pub record Feeds (lock : LockView Crew) (Tells : ℕ → Type 0) (total : ℕ) (rows : List (Row J)) (old new : Submitter) (stopped : Option (Row J × Cause)) (rest : List (Row J)) : Type 0 where
       pub stays : Stays lock old.pass new.pass
       pub seen : IsPrefix old.pass.seen new.pass.seen

@@ -1,4 +1,4 @@
--- What the hands of a pool do.
+-- The hands of a pool, before and after they run.
 use Rattle.std.specs.Prelude.{◌≡◌, ℕ, ◌+◌, ◌<◌, ◌≤◌, List, length, slice_index_or, vec_capacity, All, Option, Some}
 use Rattle.history_lock.specs.Passes.{LockView, IsOf}
 use Rattle.status_board.specs.Boards.{BoardView, ReaderView, IsReaderOf}
@@ -13,8 +13,7 @@ use Rattle.worker_gate.specs.Running.{Worked}
 use Rattle.worker_gate.specs.Watching.{Watched}
 
 module _ {J G : Type 0} where
-  -- the hand holds a token of this lock, or it holds a reader of the board that is shared, and has room for what it
-  -- reads
+  -- the hand has a token of this lock, or it has a reader of the shared board, and room for the statuses that it reads
   abbrev pub IsHandOf : LockView Crew → (shared : Option BoardView) → Hand J G → Type 0
   IsHandOf lock shared (Feed who rows total stopped) = IsOf lock who.pass
   IsHandOf lock shared (Work slot log) = (worker : Worker) × (slot ≡ Some worker) × IsOf lock worker.pass
@@ -25,7 +24,7 @@ module _ {J G : Type 0} where
   AreHandsOf lock shared hands = All (IsHandOf lock shared) hands
 
   module _ (label : J → ℕ) (lock : LockView Crew) (shared : Option BoardView) (course_of : ℕ → Option (List Counters)) (cost_of : Counters → ℕ) (Tells : ℕ → Type 0) where
-    -- the hand has its token or its reader back, and has done what it is there for
+    -- the hand has its token or its reader back, and has done its part
     abbrev pub HandDid : Hand J G → Hand J G → Type 0
     HandDid (Feed who rows total stopped) new =
         (who2 : Submitter) × (rows2 : _) × (stopped2 : _) × (new ≡ Feed who2 rows2 total stopped2)
@@ -38,7 +37,7 @@ module _ {J G : Type 0} where
         × (new ≡ Watch reader2 0 expected seen2)
         × Watched board left reader reader2 seen.items seen2.items
 
-    -- each hand has, in its place
+    -- each hand has done its part, in its place
     abbrev pub HandsDid : List (Hand J G) → List (Hand J G) → Type 0
     HandsDid olds news = (length news ≡ length olds)
         × ((i : ℕ) (d : Hand J G) → i < length olds → HandDid (slice_index_or olds i d) (slice_index_or news i d))

@@ -1,4 +1,4 @@
--- What a worker does with the jobs that it takes.
+-- A worker and the jobs that it takes.
 use Rattle.std.specs.Prelude.{◌≡◌, ℕ, zero, suc, ◌<◌, Bool, false, if◌then◌else◌, List, [], ◌∷◌, map, length, Option, Some, None}
 use Rattle.fq_model.specs.declared.config.Config.{Config}
 use Rattle.fq_model.specs.declared.event.Act.{Act}
@@ -23,7 +23,7 @@ use Rattle.gate_rules.specs.declared.logged_gate.Asked.{Asked}
 use Rattle.gate_rules.specs.Asking.{with_slices, IsLast}
 use Rattle.gate_rules.specs.Slices.{counters_after, counters_of, total, IsCourse}
 
--- a use that a worker named of a request, and whether its Report stands in the history
+-- a use that a worker named of a request, and whether its Report is in the history
 pub record Use : Type 0 where
   pub used : ℕ
   pub is_kept : Bool
@@ -48,18 +48,18 @@ with_uses i request (use_ ∷ uses) older =
     then Report i request use_.used ∷ with_uses i request uses older
     else with_uses i request uses older
 
--- what worker i makes of a job, the newest act first, onto older acts: a Take, its Reports and a Done
+-- the acts of worker i for a job, the newest first, onto older acts: a Take, its Reports and a Done
 abbrev pub with_run : ℕ → JobRun → List Act → List Act
 with_run i run older =
     Done i run.request run.cost ∷ with_uses i run.request run.uses (Take i run.request run.estimate ∷ older)
 
--- what it makes of one job after another, the newest first
+-- its acts for one job after another, the newest first
 abbrev pub with_runs : ℕ → List JobRun → List Act → List Act
 with_runs i [] older = older
 with_runs i (run ∷ runs) older = with_run i run (with_runs i runs older)
 
--- what it asks the gate for one job after another, the newest first, onto an older log: slices 0, 1 and so on of each,
--- each of them once
+-- the slices that it asks the gate for, of one job after another, the newest first, onto an older log: slices 0, 1 and
+-- so on of each, each of them once
 abbrev pub with_asks : List JobRun → List Asked → List Asked
 with_asks [] older = older
 with_asks (run ∷ runs) older = with_slices run.label run.mores run.last (with_asks runs older)
@@ -68,20 +68,20 @@ with_asks (run ∷ runs) older = with_slices run.label run.mores run.last (with_
 abbrev pub acts_of : List Entry → List Act
 acts_of entries = map (λ e. e.act) (history_of entries)
 
--- The run is charged what the gate answered: the uses that it named are what the rule makes of each slice but the last,
--- and its cost is what the rule makes of the last, which is an End or slice 9,999
+-- The run is charged by the gate's answers: the uses that it named are the rule's costs of all slices but the last, and
+-- its cost is the rule's cost of the last, which is an End or slice 9,999
 pub record IsCharged (cost_of : Counters → ℕ) (run : JobRun) : Type 0 where
   pub uses_are : map (λ u. u.used) run.uses ≡ map cost_of run.mores
   pub cost_is : run.cost ≡ cost_of (counters_of run.last)
   pub ends : IsLast (length run.mores) run.last
 
--- what a rule makes of the first k slices of a course, the newest first
+-- the rule's costs of the first k slices of a course, the newest first
 abbrev pub uses_after : (Counters → ℕ) → List Counters → ℕ → List ℕ
 uses_after cost_of course zero = []
 uses_after cost_of course (suc k) = cost_of (counters_after course k) ∷ uses_after cost_of course k
 
--- The run follows the course: the uses that it named are what the rule makes of each slice but the last, and its cost
--- is what the rule makes of the total
+-- The run follows the course: the uses that it named are the rule's costs of all slices but the last, and its cost is
+-- the rule's cost of the total
 pub record FollowsCourse (cost_of : Counters → ℕ) (course : List Counters) (run : JobRun) : Type 0 where
   pub is_course : IsCourse course
   pub last : ℕ
@@ -93,15 +93,15 @@ abbrev pub IsAsTold : (Counters → ℕ) → Option (List Counters) → JobRun �
 IsAsTold cost_of None run = Unit {0}
 IsAsTold cost_of (Some course) run = FollowsCourse cost_of course run
 
--- At some moment of what was seen there was no room for a Report, and the caller of this number had made these acts,
--- the newest first, and no others
+-- At some prefix of the seen history there was no room for a Report, and the caller of this number had made these
+-- acts, the newest first, and no others
 abbrev pub LackedRoom : Config → ℕ → List Entry → List Act → Type 0
 LackedRoom C number seen made =
     (P : List Entry) × IsPrefix P seen × (acts_of (own_entries P number) ≡ made)
     × (C.entries < needed_room (history_of P) 2)
 
--- Each use is kept, or there was no room for its Report while the worker had made just what it makes before that use:
--- the older acts, and the Reports of the uses before it that are kept
+-- Each use is kept, or there was no room for its Report while the worker had made just the acts before that use: the
+-- older acts, and the Reports of the uses before it that are kept
 abbrev pub AreKeptWhereRoom : Config → ℕ → ℕ → ℕ → List Entry → List Act → List Use → Type 0
 AreKeptWhereRoom C number i request seen older [] = Unit {0}
 AreKeptWhereRoom C number i request seen older (use_ ∷ uses) =
@@ -112,12 +112,11 @@ AreKeptWhereRoom C number i request seen older (use_ ∷ uses) =
 abbrev pub HasLabel : History → ℕ → ℕ → Type 0
 HasLabel H request label = (asked : Request) × (request_at H request ≡ Some asked) × (asked.label ≡ label)
 
--- The worker is worker i, calls by this number, and has seen so much; course_of gives the course of a label, where that
--- is told
+-- The worker is worker i, calls by this number, and has seen these entries; `course_of` gives the course of a label,
+-- where the gate tells it
 module _ (C : Config) (number i : ℕ)
     (course_of : ℕ → Option (List Counters)) (cost_of : Counters → ℕ) (seen : List Entry) where
-  -- What is true of a run that its worker makes onto older acts. Of the slices that a request may have, each but the
-  -- last may be reported
+  -- A run that its worker makes onto older acts. Each slice that a request may have, but the last, may be reported
   pub record IsRun (older : List Act) (run : JobRun) : Type 0 where
     pub labelled : HasLabel (history_of seen) run.request run.label
     pub few : length run.uses < MOST_SLICES
@@ -125,7 +124,7 @@ module _ (C : Config) (number i : ℕ)
     pub charged : IsCharged cost_of run
     pub follows : IsAsTold cost_of (course_of run.label) run
 
-  -- it is true of each, the newest first: a run is made onto the older acts and those of the runs before it
+  -- each run, the newest first, is made onto the older acts and those of the runs before it
   abbrev pub AreRuns : List Act → List JobRun → Type 0
   AreRuns older [] = Unit {0}
   AreRuns older (run ∷ runs) = IsRun (with_runs i runs older) run × AreRuns older runs
@@ -136,14 +135,13 @@ EndsWork answer.Drained = Unit {0}
 EndsWork (answer.Retired workers) = Unit {0}
 EndsWork _ = ⊥
 
--- at what it has seen, the worker is answered one of the two
+-- at the history that it has seen, the worker gets one of the two replies
 abbrev pub IsTurnedAway : Config → Worker → Type 0
 IsTurnedAway C worker = (moment : ℕ) × (reply : Reply) × EndsWork reply
     × Answers C (history_of worker.pass.seen) (call.Take worker.pass.number moment worker.worker) reply (history_of worker.pass.seen)
 
--- What the worker has done: it is turned away now, and what it has added to its own entries are the Take, the Reports
--- and the Done of one job after another, at moments that the clock tells. What it has added to the log are the slices
--- of these jobs
+-- The worker is turned away now, and has added to its own entries the Take, the Reports and the Done of one job after
+-- another, at moments that the clock tells. It has added the slices of these jobs to the log
 pub record Worked (lock : LockView Crew) (course_of : ℕ → Option (List Counters)) (cost_of : Counters → ℕ) (Tells : ℕ → Type 0) (old new : Worker) (asked asked2 : List Asked) : Type 0 where
   pub stays : Stays lock old.pass new.pass
   pub worker : new.worker ≡ old.worker

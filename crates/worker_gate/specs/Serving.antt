@@ -1,4 +1,4 @@
--- How a worker serves, step by step.
+-- A worker, step by step.
 use Rattle.std.specs.Prelude.{◌≡◌, ℕ, ◌≤◌, ◌<◌, List, ◌∷◌, length, Option}
 use Rattle.fq_model.specs.declared.event.Act.TheVariants.{Done}
 use Rattle.fq_model.specs.declared.limits.TheConstants.{MOST_SLICES}
@@ -15,12 +15,12 @@ use Rattle.gate_rules.specs.declared.counters.Counters.{Counters}
 use Rattle.gate_rules.specs.declared.gate.Slice.{Slice}
 use Rattle.gate_rules.specs.declared.logged_gate.Asked.{Asked}
 use Rattle.gate_rules.specs.Asking.{with_slices}
-use Rattle.worker_gate.specs.declared.work.Turn.{Turn}
-use Rattle.worker_gate.specs.declared.work.Turn.TheVariants.{On, Over}
+use Rattle.worker_gate.specs.declared.work.AfterTake.{AfterTake}
+use Rattle.worker_gate.specs.declared.work.AfterTake.TheVariants.{On, Over}
 use Rattle.worker_gate.specs.Moments.{HasToldMomentsFrom}
 use Rattle.worker_gate.specs.Running.{Use, JobRun, with_uses, with_runs, acts_of, with_asks, AreKeptWhereRoom, IsCharged, IsAsTold, AreRuns, Worked}
 
--- the request's course as its worker ran it
+-- the run of the request by its worker
 abbrev pub run_of : Running → ℕ → List Counters → Slice → List Use → ℕ → JobRun
 run_of running label mores last uses cost =
     record { request = running.request; estimate = running.estimate; label = label; mores = mores; last = last; uses = uses; cost = cost }
@@ -31,14 +31,14 @@ pub record IsAtStart (lock : LockView Crew) (running : Running) : Type 0 where
   pub unused : last_use (history_of running.pass.mine) running.request ≡ 0
 
 module _ (lock : LockView Crew) (Tells : ℕ → Type 0) where
-  -- after calls of its caller a pass has seen what it had seen and more, and they were made at moments that are told
+  -- after calls of its caller a pass has seen its history grow, and the calls were made at moments that the clock tells
   pub record Goes (old new : PassView Crew) : Type 0 where
     pub stays : Stays lock old new
     pub seen : IsPrefix old.seen new.seen
     pub moments : (before : ℕ) → HasToldMomentsFrom Tells old.number before (history_of old.seen)
         → HasToldMomentsFrom Tells old.number before (history_of new.seen)
 
-  -- these uses of the request were named, and the history has none above `most`
+  -- these uses of the request were named, and the history has no use of it above `most`
   pub record HasNamed (old new : Running) (uses : List Use) (most : ℕ) : Type 0 where
     pub goes : Goes old.pass new.pass
     pub run : SameRun old new
@@ -89,7 +89,7 @@ module _ (lock : LockView Crew) (Tells : ℕ → Type 0) where
           AreRuns lock.frame.config old.pass.number old.worker course_of cost_of
           new.pass.seen (acts_of old.pass.mine) runs
 
-    -- after a turn the worker goes on, and has served so, or it has worked to the end
-    abbrev pub HasTurned : Worker → Turn → List Asked → List Asked → Type 0
+    -- after its turn the worker goes on, and has run jobs so far, or it has worked to the end
+    abbrev pub HasTurned : Worker → AfterTake → List Asked → List Asked → Type 0
     HasTurned begun (On free) asked asked2 = Serves begun free asked asked2
     HasTurned begun (Over ended) asked asked2 = Worked lock course_of cost_of Tells begun ended asked asked2

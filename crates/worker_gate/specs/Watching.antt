@@ -8,14 +8,14 @@ use Rattle.fq_model.specs.Status.{status_of}
 use Rattle.history_lock.specs.Histories.{IsPrefix}
 use Rattle.status_board.specs.Boards.{BoardView, ReaderView, IsReaderOf}
 
--- A reader answered these, one after another: each is the status of what it had then seen, which begins with what it
--- had seen before. It had seen `seen` at first, and has seen `seen2` now
+-- A reader gave these answers, one after another: each is the status of the history that it had then seen, of which the
+-- history that it had seen before is a prefix. It had seen `seen` at first, and has seen `seen2` now
 abbrev pub AreAnswers : Config → (seen : List Entry) → List Status → (seen2 : List Entry) → Type 0
 AreAnswers C seen [] seen2 = seen2 ≡ seen
 AreAnswers C seen (status ∷ later) seen2 =
     (P : List Entry) × IsPrefix seen P × (status ≡ status_of C (history_of P)) × AreAnswers C P later seen2
 
--- the reader has been read so often and no more, and its answers stand after the older ones
+-- the reader has read the status `times` times, and its answers are behind the older statuses
 pub record Watched (board : BoardView) (times : ℕ) (old new : ReaderView) (seen seen2 : List Status) : Type 0 where
   pub own : IsReaderOf board new
   pub answers : List Status

@@ -1,4 +1,4 @@
-//! How a submitter hands in its rows.
+//! How a submitter submits its rows.
 ghost use Rattle.std.specs.Prelude.{ℕ, suc, ◌≡◌, ◌≤◌, ◌==◌};
 ghost use Rattle.fq_model.specs.declared.event.Call.TheVariants as call;
 ghost use Rattle.fq_model.specs.declared.event.Reply.{Reply};
@@ -18,7 +18,7 @@ use std::collections::VecDeque;
 use std::sync::Wait;
 use tag_rules::chooser::Chooser;
 
-// Of which kind a row is submitted.
+// The kind that a row is submitted with.
 pub(crate) trait KindFor<J> {
     ghost kind_for: { Self → Row J → ℕ };
 
@@ -26,7 +26,7 @@ pub(crate) trait KindFor<J> {
         ensures { result ≡ kind_for self.now row.now };
 }
 
-// Of its own.
+// The kind that the row names.
 pub(crate) struct OwnKind;
 
 impl<J> KindFor<J> for OwnKind {
@@ -45,14 +45,14 @@ impl<J, F: Kind<J>> KindFor<J> for KindRule<J, F> {
     }
 }
 
-// Whether a request of this number is the last of so many.
+// Whether the request is the last of `total` requests.
 fn is_last(request: u32, total: u32) -> bool
     ensures { result ≡ (suc request == total) }
 {
     total > 0 && request == total - 1
 }
 
-// Closes. That it is closed already is no fault.
+// Closes. It is no fault that the scheduler is closed already.
 fn close_now<J: Job + Drop, X: Chooser, K: Clock, R: Wait>(
     desk: &DeskOf<Floor<J, X>>,
     rt: &R,
@@ -67,7 +67,7 @@ fn close_now<J: Job + Drop, X: Chooser, K: Clock, R: Wait>(
     let _closed = desk.close(rt, who, clock.now());
 }
 
-// Submits the rows in order, up to the first that is refused, and takes them out of the queue. Gives what was refused.
+// Submits the rows in order, up to the first that is refused, and takes them out of the queue. Answers the refused row.
 pub(crate) fn feed_rows<J: Job + Drop, X: Chooser, K: Clock, R: Wait, N: KindFor<J>>(
     desk: &DeskOf<Floor<J, X>>,
     rt: &R,
@@ -104,8 +104,8 @@ pub(crate) fn feed_rows<J: Job + Drop, X: Chooser, K: Clock, R: Wait, N: KindFor
 }
 
 /// Submits the rows in order, up to the first that is refused. After the Submit of request `total - 1` it closes; where
-/// `total` is 0, the submitter of number 0 closes before its rows. That another has closed before it is no fault. It
-/// asks the clock before each call.
+/// `total` is 0, submitter 0 closes before its rows. It is no fault that another submitter has closed before. The clock
+/// is asked before each call.
 pub fn feed<J: Job + Drop, X: Chooser, K: Clock, R: Wait>(
     desk: &DeskOf<Floor<J, X>>,
     rt: &R,
@@ -128,7 +128,7 @@ pub fn feed<J: Job + Drop, X: Chooser, K: Clock, R: Wait>(
     }
 }
 
-/// Submits the rows in order as `feed` does, each with the kind that the rule answers for its job: the kind that a row
+/// Submits the rows in order as `feed` does, each with the kind that the rule answers for its job. The kind that a row
 /// names is not read.
 pub fn feed_by<J: Job + Drop, X: Chooser, K: Clock, R: Wait, F: Kind<J>>(
     desk: &DeskOf<Floor<J, X>>,

@@ -22,21 +22,21 @@ use std::thread;
 use std::thread::Threads;
 use tag_rules::chooser::Chooser;
 
-/// What one thread of a pool does, and what is left of it then.
+/// The work of one thread of a pool, before and after.
 pub enum Hand<J, G> {
-    /// A submitter hands in rows, of so many in all. Afterwards `rows` are those that are left, and `stopped` is the
-    /// row before them that was refused, with its cause, if one was.
+    /// A submitter submits its rows; `total` rows are submitted by all submitters together. Afterwards `rows` are those
+    /// that are left, and `stopped` is the refused row before them, if there is one, with its cause.
     Feed {
         who: Submitter,
         rows: VecDeque<Row<J>>,
         total: u32,
         stopped: Option<(Row<J>, Cause)>,
     },
-    /// A worker serves. It stands here before and afterwards, with a log of the slices that it asks for.
+    /// A worker serves; its token is there before and afterwards, with a log of the slices that it asks for.
     Work(Option<Worker>, SliceLog<G>),
-    /// The status of a desk that shows its past is read, as often as is left. Afterwards nothing is left, and `seen`,
-    /// which has room for them, has the answers behind the older ones. The reads are spread over the entries that the
-    /// history is expected to come to, as long as some come.
+    /// A watcher reads the status of a desk that shows its past, `left` times. Afterwards `left` is 0, and `seen`,
+    /// which has room for them, has the statuses behind its older ones. The reads are spread over the `expected`
+    /// entries of the history, as long as entries come.
     Watch {
         reader: Reader,
         left: u32,
@@ -88,8 +88,8 @@ fn run<J: Job + Drop, X: Chooser, G: Gate<J>, K: Clock, F: Cost, R: Wait>(
 }
 
 /// Each hand does its part in a thread of its own, and has its token back at the end. Where threads cannot be started
-/// the caller does those parts itself, in the order of the hands; so the submitters are to stand before the workers,
-/// and those who watch after them.
+/// the caller does those parts itself, in the order of the hands; so the submitters are to come before the workers, and
+/// the watchers after them.
 pub fn pool<
     J: Job + Drop + Send,
     X: Chooser + Send,
@@ -111,7 +111,7 @@ pub fn pool<
 {
     let threads = hands.len();
     if threads > 0 {
-        // Of the parts for which no thread can be started the last one is done first.
+        // Of the parts for which no thread can be started the last part is done first.
         hands.reverse();
         thread::for_each_mut(
             rt,

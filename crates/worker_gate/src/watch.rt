@@ -1,4 +1,4 @@
-//! How the status of a desk is read by one who waits for nobody.
+//! How a watcher reads the status of a desk from its board, without the desk's lock.
 ghost use Rattle.std.specs.Prelude.{◌≡◌, ◌≤◌, ◌<◌, ◌+◌, ◌*◌, ◌/◌, length, vec_capacity, IfSome};
 ghost use Rattle.status_board.specs.Boards.{IsReaderOf};
 ghost use Rattle.worker_gate.specs.Watching.{Watched};
@@ -7,10 +7,10 @@ use fq_model::parts::Status;
 use status_board::{Board, Reader};
 use std::thread::yield_now;
 
-// How often it lets others run while no entry comes.
+// The number of times that a watcher yields while no entry comes.
 const PATIENCE: u32 = 200000;
 
-// Lets others run until more entries are shown. How many there are then, if any came.
+// Yields until the board shows more than `shown` entries. Answers their number, if entries came.
 fn grown(board: &Board, reader: &mut Reader, shown: u64) -> Option<u64>
     requires own { IsReaderOf board.now reader.old }
     ensures same { reader.new ≡ reader.old }
@@ -26,7 +26,7 @@ fn grown(board: &Board, reader: &mut Reader, shown: u64) -> Option<u64>
     None
 }
 
-// Lets others run until so many entries are shown, as long as some come. Afterwards it waits no more.
+// Yields until the board shows `due` entries. Where no entry comes `waits` is cleared, and later calls return at once.
 fn await_entries(board: &Board, reader: &mut Reader, due: u64, waits: &mut bool)
     requires own { IsReaderOf board.now reader.old }
     ensures same { reader.new ≡ reader.old }
@@ -44,7 +44,7 @@ fn await_entries(board: &Board, reader: &mut Reader, due: u64, waits: &mut bool)
     }
 }
 
-// How many of the expected entries are to be there for the next read, after some of so many.
+// The number of entries that the board is to show before the next read, after `done` of `times` reads.
 fn due(expected: u32, done: u32, times: u32) -> u64
     requires some { 0 < times }
     ensures { result ≡ expected * done / times }
@@ -52,7 +52,7 @@ fn due(expected: u32, done: u32, times: u32) -> u64
     expected as u64 * done as u64 / times as u64
 }
 
-// Reads as often as is left, spread over the expected entries.
+// Reads the status `left` times, spread over the expected entries.
 pub(crate) fn watch(
     board: &Board,
     reader: &mut Reader,

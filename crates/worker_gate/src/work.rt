@@ -7,7 +7,7 @@ ghost use Rattle.desk.specs.declared.tokens.Worker.{Worker};
 ghost use Rattle.gate_rules.specs.declared.logged_gate.Asked.{Asked};
 ghost use Rattle.worker_gate.specs.Serving.{IsAtStart, HasNamed, HasRunSlices, HasRun, Serves, HasTurned};
 
-use desk::{DeskOf, Floor, LiveRefusal, Running, Took, Worker};
+use desk::{DeskOf, Floor, Running, Took, Worker};
 use fq_io::Clock;
 use fq_model::job::Job;
 use fq_model::limits::{GREATEST_COST, MOST_SLICES};
@@ -18,7 +18,7 @@ use gate_rules::logged_gate::{LoggedGate, SliceLog};
 use std::sync::Wait;
 use tag_rules::chooser::Chooser;
 
-// Reports what the request has used so far, or lets it go where the history has no room for it.
+// Reports the request's use so far. It is refused only where the history has no room for it.
 fn report_use<J: Job + Drop, X: Chooser, K: Clock, R: Wait>(
     desk: &DeskOf<Floor<J, X>>,
     rt: &R,
@@ -32,14 +32,10 @@ fn report_use<J: Job + Drop, X: Chooser, K: Clock, R: Wait>(
     ensures { (is_kept : Bool) × HasNamed desk.now.lock (K.tells clock.now) running.old running.new
         (record { used = used; is_kept = is_kept } ∷ []) used }
 {
-    if let Err(refusal) = desk.report(rt, running, clock.now(), used) {
-        let LiveRefusal::Full(_) = refusal else {
-            unreachable!()
-        };
-    }
+    let _ = desk.report(rt, running, clock.now(), used);
 }
 
-// Runs the job's slices up to its end, and reports each use but the last. Gives the last one, the job's cost.
+// Runs the job's slices up to its end, and reports each use but the last. Answers the last use, the job's cost.
 fn run_slices<J: Job + Drop, X: Chooser, G: Gate<J>, K: Clock, F: Cost, R: Wait>(
     desk: &DeskOf<Floor<J, X>>,
     rt: &R,
@@ -91,9 +87,9 @@ fn run_job<J: Job + Drop, X: Chooser, G: Gate<J>, K: Clock, F: Cost, R: Wait>(
     worker
 }
 
-// What comes of one take.
-enum Turn {
-    // The worker goes on.
+// The worker after its turn to take a job.
+enum AfterTake {
+    // It goes on.
     On(Worker),
     // Nothing waits and nothing more will come, or the pool has no place for the worker.
     Over(Worker),
@@ -108,7 +104,7 @@ fn take_turn<J: Job + Drop, X: Chooser, G: Gate<J>, K: Clock, F: Cost, R: Wait>(
     log: &mut SliceLog<G>,
     clock: &K,
     rule: &CostRule<F>,
-) -> Turn
+) -> AfterTake
     requires { IsOf desk.now.lock free.pass }
     ensures { (begun : Worker) (asked : List Asked)
         → Serves desk.now.lock (K.tells clock.now) (G.course gate.now) (F.cost_of rule.now) begun free asked log.old
@@ -118,21 +114,21 @@ fn take_turn<J: Job + Drop, X: Chooser, G: Gate<J>, K: Clock, F: Cost, R: Wait>(
     let heard = desk.heard();
     match desk.take(rt, free, clock.now()) {
         Took::Run(running, job) => {
-            Turn::On(run_job(desk, rt, running, &job, gate, log, clock, rule))
+            AfterTake::On(run_job(desk, rt, running, &job, gate, log, clock, rule))
         }
         Took::Idle(back) => {
             desk.await_news(rt, heard);
-            Turn::On(back)
+            AfterTake::On(back)
         }
-        Took::Drained(back) | Took::Retired(back, _) => Turn::Over(back),
+        Took::Drained(back) | Took::Retired(back, _) => AfterTake::Over(back),
     }
 }
 
 /// Takes one job after another and runs each to its end, until nothing waits and nothing more will come, or the pool
 /// has no place for the worker. The gate is asked for each slice of a job once, in order and up to the first End, and
-/// the log gains these slices and no others; what a slice has used is reported, at the cost that the rule makes of it,
-/// and is let go where the history has no room for it. Slice 9,999 is the last, whatever the gate says. It asks the
-/// clock before each call, and sleeps while nothing waits.
+/// the log gains these slices and no others. After each slice but the last the use is reported, which is the rule's
+/// cost of the counters; where the history has no room, no entry is added. Slice 9,999 is the last, whatever the gate
+/// answers. The clock is asked before each call, and the worker sleeps while nothing waits.
 pub fn work<J: Job + Drop, X: Chooser, G: Gate<J>, K: Clock, F: Cost, R: Wait>(
     desk: &DeskOf<Floor<J, X>>,
     rt: &R,
@@ -149,8 +145,8 @@ pub fn work<J: Job + Drop, X: Chooser, G: Gate<J>, K: Clock, F: Cost, R: Wait>(
     let mut free = worker;
     for _ in rt.forever() {
         match take_turn(desk, rt, free, gate, log, clock, rule) {
-            Turn::On(next) => free = next,
-            Turn::Over(back) => return back,
+            AfterTake::On(next) => free = next,
+            AfterTake::Over(back) => return back,
         }
     }
     free
