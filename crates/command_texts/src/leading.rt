@@ -1,15 +1,14 @@
-//! `lead`: how far one tenant of a journal got ahead of another, and a bound of that, by what its requests became.
-ghost use Rattle.std.specs.Prelude.{◌≡◌, ◌<◌, ◌≢◌, ◌++◌, codes, Some, None, IfOk, IfSome, length, string_bytes};
-ghost use Rattle.fq_model.specs.History.{history_of};
+//! `lead`: how far one tenant of a journal got ahead of another, and a bound of that, by the lengths of the requests.
+ghost use Rattle.std.specs.Prelude.{◌≡◌, ◌<◌, ◌≢◌, ◌++◌, codes, Some, None, IfOk, IfErr, IfSome, length, string_bytes};
 ghost use Rattle.fq_model.specs.Names.{number_among};
-ghost use Rattle.fq_model.specs.Rules.{IsLegal};
 ghost use Rattle.program_model.specs.declared.verdict.Verdict.TheVariants.{Legal};
-ghost use Rattle.program_model.specs.Document.{config_of};
-ghost use Rattle.program_model.specs.LeadCommand.{lead_text, measured_text, unknown_answer, same_answer, lead_answer, IsLeadTold, IsLeadAnswer};
+ghost use Rattle.program_model.specs.Answer.{Text};
+ghost use Rattle.program_model.specs.CheckCommand.{verdict_status};
+ghost use Rattle.program_model.specs.LeadCommand.{lead_text, unknown_answer, same_answer, lead_answer, IsLeadTold, IsLeadAnswer};
+ghost use Rattle.program_model.specs.VerdictTexts.{verdict_text};
 ghost use Rattle.tag_difference.specs.Pairs.{told};
-ghost use Rattle.tag_lead.specs.Leads.{IsLead};
 ghost use Rattle.tenant_table.specs.Names.{names_of};
-ghost use Rattle.command_texts.specs.Leading.{IsLineOf};
+ghost use Rattle.command_texts.specs.Leading.{ArePair, IsLineOf};
 ghost use Rattle.command_texts.specs.Making.{Makes, IsStop};
 
 use crate::messages::{document_stop, told};
@@ -22,10 +21,11 @@ use program_model::name::Name;
 use program_model::verdict::Verdict;
 use std::alloc::{AllocError, Global};
 use tag_difference::gap::Gap;
+use tag_lead::fault::LeadFault;
 use tag_lead::leads::{Lead, lead_of};
 use tenant_table::tenants::Tenants;
 
-/// What `lead` answers to its input, which is given up before the journal is judged.
+/// The answer of `lead` to its input, which is given up before the journal is judged.
 pub fn answer(alloc: Global, of: Name, over: Name, input: Vec<u8>) -> Result<Output, Stop>
     ensures { Makes (IsLeadAnswer of over input.items) result }
 {
@@ -41,24 +41,23 @@ pub fn answer(alloc: Global, of: Name, over: Name, input: Vec<u8>) -> Result<Out
     }
 }
 
-// What is answered of a journal.
+// The answer to a journal.
 fn judged(alloc: Global, of: &str, over: &str, journal: &Journal) -> Result<Output, Stop>
     ensures { Makes (IsLeadTold of.now over.now journal.now) result }
 {
-    let verdict = check::<ProgramChooser>(alloc, journal)?;
-    match verdict {
-        Verdict::Legal => of_pair(alloc, of, over, journal),
-        Verdict::Bad { .. } => {
-            let text = verdict_text(alloc, journal.body(), verdict)?;
-            Ok(Output { status: 8, text })
-        }
+    match pair_of(alloc, of, over, journal) {
+        Ok((f, g)) => of_pair(alloc, of, over, journal, f, g),
+        Err(stop) => match check::<ProgramChooser>(alloc, journal)? {
+            Verdict::Legal => Err(stop),
+            bad => not_legal(alloc, journal, bad),
+        },
     }
 }
 
-// What is answered of two tenants of a legal journal, by their names.
-fn of_pair(alloc: Global, of: &str, over: &str, journal: &Journal) -> Result<Output, Stop>
-    requires { IsLegal (config_of journal.now) (history_of journal.now.body) }
-    ensures { Makes (λ answer. answer ≡ lead_answer of.now over.now journal.now Legal) result }
+// The numbers of the two tenants, by their names; or the answer to a legal journal that has no two tenants so named.
+fn pair_of(alloc: Global, of: &str, over: &str, journal: &Journal) -> Result<(u32, u32), Stop>
+    ensures pair { IfOk result (λ pair. ArePair of.now over.now journal.now pair.0 pair.1) }
+    ensures stop { IfErr result (IsStop (λ answer. answer ≡ lead_answer of.now over.now journal.now Legal)) }
 {
     let f = number_of(journal.tenants(), of);
     let g = number_of(journal.tenants(), over);
@@ -66,11 +65,39 @@ fn of_pair(alloc: Global, of: &str, over: &str, journal: &Journal) -> Result<Out
         (None, _) => Err(unknown(alloc, of)),
         (Some(_), None) => Err(unknown(alloc, over)),
         (Some(f), Some(g)) if f == g => Err(same(alloc, of)),
-        (Some(f), Some(g)) => {
-            let text = measured_text(alloc, of, over, journal, f, g)?;
+        (Some(f), Some(g)) => Ok((f, g)),
+    }
+}
+
+// The answer to a journal that has the two tenants.
+fn of_pair(
+    alloc: Global,
+    of: &str,
+    over: &str,
+    journal: &Journal,
+    f: u32,
+    g: u32,
+) -> Result<Output, Stop>
+    requires { ArePair of.now over.now journal.now f g }
+    ensures { Makes (IsLeadTold of.now over.now journal.now) result }
+{
+    match lead_of::<ProgramChooser>(alloc, journal.body(), journal.config(), f, g) {
+        Ok(lead) => {
+            let text = lead_text(alloc, of, over, lead)?;
             Ok(Output::success(text))
         }
+        Err(LeadFault::NotLegal(bad)) => not_legal(alloc, journal, bad),
+        Err(LeadFault::NoMemory) => Err(Stop::NoMemory),
     }
+}
+
+// The answer to a journal that is not legal, by this verdict.
+fn not_legal(alloc: Global, journal: &Journal, verdict: Verdict) -> Result<Output, Stop>
+    requires { verdict ≢ Legal }
+    ensures { Makes (λ answer. answer ≡ Text (verdict_status verdict) (verdict_text journal.now.body verdict)) result }
+{
+    let text = verdict_text(alloc, journal.body(), verdict)?;
+    Ok(Output { status: 8, text })
 }
 
 // The number of the tenant with this name, if there is one.
@@ -86,39 +113,7 @@ fn number_of(tenants: &Tenants, name: &str) -> Option<u32>
     None
 }
 
-// The line of what was measured of two tenants of a legal journal.
-fn measured_text(
-    alloc: Global,
-    of: &str,
-    over: &str,
-    journal: &Journal,
-    f: u32,
-    g: u32,
-) -> Result<Vec<u8>, AllocError>
-    requires legal { IsLegal (config_of journal.now) (history_of journal.now.body) }
-    requires f { f < length journal.now.weights }
-    requires g { g < length journal.now.weights }
-    requires apart { f ≢ g }
-    ensures { IfOk result (λ text. text.items ≡
-        measured_text of.now over.now (config_of journal.now) (history_of journal.now.body) f g) }
-{
-    let lead = lead_in(alloc, journal, f, g)?;
-    lead_text(alloc, of, over, lead)
-}
-
-// How far one tenant of a legal journal got ahead of another, and what bounds that.
-fn lead_in(alloc: Global, journal: &Journal, f: u32, g: u32) -> Result<Option<Lead>, AllocError>
-    requires legal { IsLegal (config_of journal.now) (history_of journal.now.body) }
-    requires f { f < length journal.now.weights }
-    requires g { g < length journal.now.weights }
-    requires apart { f ≢ g }
-    ensures { IfOk result (IsLead (config_of journal.now) (history_of journal.now.body) f g) }
-{
-    let lead = lead_of::<ProgramChooser>(alloc, journal.body(), journal.config(), f, g)?;
-    Ok(lead)
-}
-
-// The line of what was measured, in steps.
+// The line of a lead, in steps.
 fn lead_text(alloc: Global, of: &str, over: &str, lead: Option<Lead>) -> Result<Vec<u8>, AllocError>
     ensures { IfOk result (λ text. IsLineOf of.now over.now lead text.items) }
 {
@@ -151,7 +146,7 @@ fn gap_line(alloc: Global, of: &str, over: &str, gap: Gap) -> Result<String, All
     format!(in alloc; "lead of {of} over {over} largest {largest} bound {bound}\n")
 }
 
-// The same with the bound that asks nothing of the past.
+// Where the policy has a bound for any past, too.
 fn ever_line(
     alloc: Global,
     of: &str,

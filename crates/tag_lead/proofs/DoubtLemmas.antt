@@ -1,4 +1,4 @@
--- What can still come of the workers, one after another.
+-- The doubt about the requests of the workers, one after another.
 use Rattle.std.proofs.Common.{ℕ, ◌+◌, ◌-◌, ◌<◌, ◌≤◌, ◌≡◌, ◌==◌, ◌∙◌, cond, Bool, false, refl, sym, ap, ap₂, subst, arith, inl, inr, List, length, Option, Some, None, add-one}
 use Rattle.std.specs.Prelude.{slice_index, IfSome}
 use Rattle.std.proofs.lemmas.Bool.{cases_eq, eq-eqb, ne_eqb}
@@ -35,14 +35,14 @@ same_part v own mine c k w z e f g = rw (e, f, g) refl
 no_part : (own mine : Bool) (x y : ℕ) → own ≡ false → mine ≡ false → cond own x 0 ≡ cond mine y 0
 no_part own mine x y e f = rw (e, f) refl
 
--- what is made of a request by its length, where it is one of tenant t
+-- a number reckoned from the length of a request, where it is one of tenant t
 row_part : (v : ℕ → ℕ) (C : Config) (P : History) (i r t : ℕ) (x : RowIs C P i r) → cond (x.what.tenant == t) (v (length_of (row_charge (run_row C P r x.what)) (taken_weight C P x.what.tenant r))) 0 ≡ cond (is_of_tenant t (request_at P r)) (v (request_length C P t r)) 0
 row_part v C P i r t x = elim (cases_eq x.what.tenant t) [
   | inl own ↦ same_part v _ _ _ (charge P r) _ _ (eq-eqb x.what.tenant t own ∙ sym (of_own P t r x.what x.was own)) (sym x.charge_was) (ap (λ (u : ℕ). taken_weight C P u r) own)
   | inr other ↦ no_part _ _ _ _ (ne_eqb x.what.tenant t other) (of_other P t r x.what x.was other)
 ]
 
--- what a worker's row tells is what it adds
+-- the doubt by a worker's row is the doubt that the worker adds
 pub part_is : (C : Config) (P : History) (longest shortest : List ℕ) (f g i : ℕ) (row : Option RunRow) → IsLegal C P → row ≡ row_of_worker C P i → part_of longest shortest f g row ≡ rise_on C P longest f i + fall_on C P shortest g i
 part_is C P longest shortest f g i row l is = ap (part_of longest shortest f g) is ∙ go (running_on P i) refl
   where
@@ -50,7 +50,7 @@ part_is C P longest shortest f g i row l is = ap (part_of longest shortest f g) 
     go None on = rw (of_worker_none C P i on) refl
     go (Some r) on = let x : RowIs C P i r = row_is C P i r l on in rw x.row_is (ap₂ (λ (a : ℕ) b. a + b) (row_part (λ n. slice_index longest r - n) C P i r f x) (row_part (λ n. n - slice_index shortest r) C P i r g x))
 
--- what is asked of that row
+-- the row fits the lists
 pub can_doubt : (C : Config) (P : History) (n m i : ℕ) (row : Option RunRow) → InLimits C → IsLegal C P → length P ≤ n → length P ≤ m → row ≡ row_of_worker C P i → IfSome row (CanDoubt n m)
 can_doubt C P n m i row lim l few less is = subst (λ o. IfSome o (CanDoubt n m)) (sym is) (go (running_on P i) refl)
   where
@@ -62,7 +62,7 @@ can_doubt C P n m i row lim l few less is = subst (λ o. IfSome o (CanDoubt n m)
 
 -- ---- all workers
 
--- what the first n workers add
+-- the doubt about the first n workers
 abbrev pub doubt_below : Config → History → List ℕ → List ℕ → ℕ → ℕ → ℕ → ℕ
 doubt_below C P longest shortest f g n = sum_below (rise_on C P longest f) n + sum_below (fall_on C P shortest g) n
 
@@ -78,7 +78,7 @@ pub doubt_all : (C : Config) (P : History) (longest shortest : List ℕ) (f g : 
 unfolding over_running
 doubt_all C P longest shortest f g = refl
 
--- ---- by what became of the requests in a longer history
+-- ---- by the lengths of the requests in a longer history
 
 over_same : (C : Config) (P : History) (t : ℕ) (x y : ℕ → ℕ) → ((i r : ℕ) → running_on P i ≡ Some r → x r ≡ y r) → over_running C P t x ≡ over_running C P t y
 unfolding over_running

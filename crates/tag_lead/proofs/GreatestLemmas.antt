@@ -26,11 +26,12 @@ use Rattle.fq_laws.proofs.Rules.Limits.{submits_low}
 use Rattle.fq_laws.proofs.Rules.Takes.{take_waits}
 use Rattle.fq_laws.proofs.Sums.{max_same, max_at, max_under}
 use Rattle.gap_laws.proofs.Runs.{head_nil}
-use Rattle.tag_lead.specs.declared.spans.Told.{Told}
-use Rattle.tag_lead.specs.Greatest.{TenantsAre, IsAmong, tenant_of_act, tenants_with, told_length, head_length_if, length_by}
+use Rattle.tag_lead.specs.declared.limits.TheConstants.{GREATEST_LENGTH}
+use Rattle.tag_lead.specs.declared.spans.MeasuredLength.{MeasuredLength}
+use Rattle.tag_lead.specs.Greatest.{TenantsAre, IsAmong, tenant_of_act, tenants_with, charge_length, head_length_if, length_by}
 use Rattle.tag_lead.proofs.LeadLemmas.{HeadIs, head_is, headless}
 use Rattle.tag_lead.proofs.SpanLemmas.{longest_stays}
-use Rattle.tag_lead.proofs.Telling.{Tells, TellsIf}
+use Rattle.tag_lead.proofs.LengthLemmas.{Measures, MeasuresIf}
 
 -- ---- the length of a head
 
@@ -154,41 +155,41 @@ raises : (C : Config) (P : History) (e : Entry) (t r len : ℕ) → charged C (e
 unfolding longest_of
 raises C P e t r len now = omega (arith, now)
 
-module _ (C : Config) (P : History) (e : Entry) (x : Told) (lim : InLimits C) (l : IsLegal C (e ∷ P)) (tells : Tells C P (e ∷ P) x) where
+module _ (C : Config) (P : History) (e : Entry) (x : MeasuredLength) (lim : InLimits C) (l : IsLegal C (e ∷ P)) (measures : Measures C P (e ∷ P) x) where
   -- a request of another tenant is charged as before
   foreign : (t : ℕ) → t ≢ x.tenant → (r : ℕ) → charged C (e ∷ P) t r ≡ charged C P t r
   foreign t ne r = elim (cases_eq r x.request) [
-    | inr other ↦ tells.others t r other
-    | inl own ↦ rw own (tells.foreign t ne)
+    | inr other ↦ measures.others t r other
+    | inl own ↦ rw own (measures.foreign t ne)
   ]
 
   own_raised : own_charges C (e ∷ P) x.tenant ≡ max x.len (own_charges C P x.tenant)
   unfolding is_taken_of
   own_raised =
       max_at (longest_of C P x.tenant) (longest_of C (e ∷ P) x.tenant) x.request x.len request_bound
-      (number_low C (e ∷ P) x.request lim l (and_parts _ _ tells.taken).1)
-      (raises C P e x.tenant x.request x.len tells.own)
-      (λ r b ne. longest_stays C P e x.tenant r (tells.others x.tenant r ne))
+      (number_low C (e ∷ P) x.request lim l (and_parts _ _ measures.taken).1)
+      (raises C P e x.tenant x.request x.len measures.own)
+      (λ r b ne. longest_stays C P e x.tenant r (measures.others x.tenant r ne))
 
   all_raised : all_charges C (e ∷ P) ≡ max x.len (all_charges C P)
   unfolding is_taken_of
   all_raised =
       max_at (own_charges C P) (own_charges C (e ∷ P)) x.tenant x.len (length C.weights)
-      (tenant_below C (e ∷ P) x.tenant x.request l (and_parts _ _ tells.taken).0)
+      (tenant_below C (e ∷ P) x.tenant x.request l (and_parts _ _ measures.taken).0)
       own_raised
       (λ t known ne. charges_same C P e t (foreign t ne))
 
-charges_on : (C : Config) (P : History) (e : Entry) (o : Option Told) → InLimits C → IsLegal C (e ∷ P) → TellsIf C P (e ∷ P) o → all_charges C (e ∷ P) ≡ max (told_length o) (all_charges C P)
-charges_on C P e None lim l tells =
-    let same : all_charges C (e ∷ P) ≡ all_charges C P = max_same (own_charges C (e ∷ P)) (own_charges C P) (length C.weights) (λ t known. charges_same C P e t (tells t)) in
+charges_on : (C : Config) (P : History) (e : Entry) (o : Option MeasuredLength) → InLimits C → IsLegal C (e ∷ P) → MeasuresIf C P (e ∷ P) o → all_charges C (e ∷ P) ≡ max (charge_length o) (all_charges C P)
+charges_on C P e None lim l measures =
+    let same : all_charges C (e ∷ P) ≡ all_charges C P = max_same (own_charges C (e ∷ P)) (own_charges C P) (length C.weights) (λ t known. charges_same C P e t (measures t)) in
     omega (arith, same)
-charges_on C P e (Some x) lim l tells = all_raised C P e x lim l tells
+charges_on C P e (Some x) lim l measures = all_raised C P e x lim l measures
 
 -- ---- both
 
-pub greatest_on : (C : Config) (P : History) (e : Entry) (xs : List ℕ) (o : Option Told) (before : ℕ) → InLimits C → IsLegal C (e ∷ P) → TenantsAre P xs → TellsIf C P (e ∷ P) o → before ≡ longest_of_all C P → max (max before (told_length o)) (head_length_if C (e ∷ P) (tenant_of_act xs e.act)) ≡ longest_of_all C (e ∷ P)
-greatest_on C P e xs o before lim l are tells is =
-    omega (arith, is, in_two C P, in_two C (e ∷ P), charges_on C P e o lim l tells, heads_on C P e (tenant_of_act xs e.act) lim l (concerned C P e xs l are))
+pub greatest_on : (C : Config) (P : History) (e : Entry) (xs : List ℕ) (o : Option MeasuredLength) (before : ℕ) → InLimits C → IsLegal C (e ∷ P) → TenantsAre P xs → MeasuresIf C P (e ∷ P) o → before ≡ longest_of_all C P → max (max before (charge_length o)) (head_length_if C (e ∷ P) (tenant_of_act xs e.act)) ≡ longest_of_all C (e ∷ P)
+greatest_on C P e xs o before lim l are measures is =
+    omega (arith, is, in_two C P, in_two C (e ∷ P), charges_on C P e o lim l measures, heads_on C P e (tenant_of_act xs e.act) lim l (concerned C P e xs l are))
 
 nothing_waits : (C : Config) (t : ℕ) → head_length C [] t ≡ 0
 nothing_waits C t = ap (length_of_head C [] t) (head_nil t)
@@ -225,26 +226,26 @@ tenants_on C P e xs l are = tenants_at C P e.who e.moment e.act xs l.3 are
 
 -- ---- limits
 
-head_short : (C : Config) (P : History) (t : ℕ) → InLimits C → IsLegal C P → t < length C.weights → head_length C P t ≤ 1048576000000000
+head_short : (C : Config) (P : History) (t : ℕ) → InLimits C → IsLegal C P → t < length C.weights → head_length C P t ≤ GREATEST_LENGTH
 head_short C P t lim l known = go (keys_at C P (last_moment P) t) refl
   where
-    go : (o : Option HeadKeys) → keys_at C P (last_moment P) t ≡ o → head_length C P t ≤ 1048576000000000
+    go : (o : Option HeadKeys) → keys_at C P (last_moment P) t ≡ o → head_length C P t ≤ GREATEST_LENGTH
     go None is = omega (arith, keyed_length C P t None lim l known (sym is))
     go (Some k) is = (head_is C P t k lim l known is).length_short
 
-heads_short : (C : Config) (P : History) (t : ℕ) → InLimits C → IsLegal C P → t < length C.weights → longest_head C P t ≤ 1048576000000000
+heads_short : (C : Config) (P : History) (t : ℕ) → InLimits C → IsLegal C P → t < length C.weights → longest_head C P t ≤ GREATEST_LENGTH
 unfolding longest_head
 heads_short C [] t lim l known = head_short C [] t lim l known
 heads_short C (e ∷ P) t lim l known = omega (arith, head_short C (e ∷ P) t lim l known, heads_short C P t lim l.0 known)
 
-charges_short : (C : Config) (P : History) (t r : ℕ) → InLimits C → IsLegal C P → longest_of C P t r ≤ 1048576000000000
+charges_short : (C : Config) (P : History) (t r : ℕ) → InLimits C → IsLegal C P → longest_of C P t r ≤ GREATEST_LENGTH
 unfolding longest_of
 charges_short C [] t r lim l = omega arith
 charges_short C (e ∷ P) t r lim l = omega (arith, charged_low C (e ∷ P) t r lim l, charges_short C P t r lim l.0)
 
-pub longest_short : (C : Config) (P : History) → InLimits C → IsLegal C P → longest_of_all C P ≤ 1048576000000000
+pub longest_short : (C : Config) (P : History) → InLimits C → IsLegal C P → longest_of_all C P ≤ GREATEST_LENGTH
 unfolding longest_of_all longest_request
 longest_short C P lim l =
-    let each : max_below (longest_request C P) (length C.weights) ≤ 1048576000000000 = max_under (longest_request C P) (length C.weights) 1048576000000000
-    (λ t known. omega (arith, heads_short C P t lim l known, max_under (longest_of C P t) request_bound 1048576000000000 (λ r b. charges_short C P t r lim l))) in
+    let each : max_below (longest_request C P) (length C.weights) ≤ GREATEST_LENGTH = max_under (longest_request C P) (length C.weights) GREATEST_LENGTH
+    (λ t known. omega (arith, heads_short C P t lim l known, max_under (longest_of C P t) request_bound GREATEST_LENGTH (λ r b. charges_short C P t r lim l))) in
     omega arith

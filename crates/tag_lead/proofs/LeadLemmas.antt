@@ -1,4 +1,4 @@
--- How far one tenant is ahead of another at a prefix, and what the prefixes come to.
+-- The difference of two starts at a prefix, and the greatest numbers at the prefixes.
 use Rattle.std.proofs.Common.{ℕ, ◌+◌, ◌*◌, ◌<◌, ◌≤◌, ◌≡◌, ◌≢◌, ◌∙◌, ◌&&◌, max, Bool, true, false, refl, sym, ap, subst, arith, inl, inr, List, [], ◌∷◌, length, Option, Some, None, ℤ, pos, ◌≤ℤ◌}
 use Rattle.std.specs.Prelude.{is_some, option_map, IfSome, ◌+ℤ◌, ◌-ℤ◌, unsigned_abs, if◌then◌else◌}
 use Rattle.std.proofs.lemmas.Bool.{cases_Bool, cases_eq, eq-eqb, ne_eqb, and_parts}
@@ -29,18 +29,19 @@ use Rattle.tag_difference.specs.Pairs.{told}
 use Rattle.tag_difference.specs.Pairs.{difference_at}
 use Rattle.tag_difference.proofs.FoundLemmas.{at_least_is, gap_is, found_nil, found_next}
 use Rattle.tag_difference.proofs.Prefixes.{first_entries, next_entry, one_on, all_entries}
-use Rattle.tag_lead.specs.declared.found.Leads.{Leads}
-use Rattle.tag_lead.specs.Found.{no_leads, asks_doubt, first_with, longest_with, doubt_with, leads_with, heads_in_bound, lead_from, LeadsIn}
+use Rattle.tag_lead.specs.declared.limits.TheConstants.{GREATEST_LENGTH, GREATEST_DOUBT}
+use Rattle.tag_lead.specs.declared.maxima.Leads.{Leads}
+use Rattle.tag_lead.specs.Maxima.{no_leads, asks_doubt, first_with, longest_with, doubt_with, leads_with, heads_in_bound, lead_from, LeadsIn}
 use Rattle.tag_lead.specs.Leads.{difference_by, taken_by, taken_at}
 
 -- ---- keys of heads
 
--- what keys say of the tenant's head
+-- the tenant's head has these keys
 pub record HeadIs (C : Config) (P : History) (t : ℕ) (k : HeadKeys) : Type 0 where
   pub is_head : head P t ≡ Some k.request
   pub start_is : k.start ≡ pos (start_now C P t)
   pub length_is : k.len ≡ pos (head_length C P t)
-  pub length_short : head_length C P t ≤ 1048576000000000
+  pub length_short : head_length C P t ≤ GREATEST_LENGTH
 
 pub head_is : (C : Config) (P : History) (t : ℕ) (k : HeadKeys) → InLimits C → IsLegal C P → t < length C.weights → keys_at C P (last_moment P) t ≡ Some k → HeadIs C P t k
 head_is C P t k lim l known h =
@@ -61,7 +62,7 @@ headless C P t h = go (head P t) refl
     go None is = refl
     go (Some r) is = let x = head_has_keys C P (last_moment P) t r is in let same : None ≡ Some x.0 = sym h ∙ x.1 in absurd (cc)
 
--- ---- what the keys of two heads tell
+-- ---- the difference and the Take by the keys of two heads
 
 neither : (b : Bool) → (b && false) ≡ false
 neither true = refl
@@ -140,21 +141,21 @@ module _ (C : Config) (P : History) (m f g : ℕ) (lim : InLimits C) (legal : Is
         | inl same ↦ rw (eq-eqb r i.request same) (some_if (is_lead_take P (Take w r c) f g) _ _ (take_own P f g w r c shared (x.is_head ∙ ap Some (sym same))) (lengths_are C P f g i.len j.len x.length_is y.length_is))
       ]
 
-  -- the keys tell what a Take tells
+  -- the greater length at a Take, by the keys
   pub taken_is : (a : Act) (k l : Option HeadKeys) → Fits C P m a → k ≡ keys_at C P (last_moment P) f → l ≡ keys_at C P (last_moment P) g → taken_by a k l ≡ taken_at C P a f g
   taken_is (Take worker request estimate) k l fits is_k is_l = take_is worker request estimate k l fits is_k is_l
   taken_is a k l fits is_k is_l = rw (neither (is_shared P f g)) refl
 
 -- that is no more than the greatest length
-pub taken_short : (C : Config) (P : History) (a : Act) (f g : ℕ) (k l : Option HeadKeys) → InLimits C → IsLegal C P → f < length C.weights → g < length C.weights → k ≡ keys_at C P (last_moment P) f → l ≡ keys_at C P (last_moment P) g → IfSome (taken_by a k l) (λ x. x ≤ 1048576000000000)
+pub taken_short : (C : Config) (P : History) (a : Act) (f g : ℕ) (k l : Option HeadKeys) → InLimits C → IsLegal C P → f < length C.weights → g < length C.weights → k ≡ keys_at C P (last_moment P) f → l ≡ keys_at C P (last_moment P) g → IfSome (taken_by a k l) (λ x. x ≤ GREATEST_LENGTH)
 taken_short C P (Take worker request estimate) f g (Some i) (Some j) lim legal f_known g_known is_k is_l =
     let x : HeadIs C P f i = head_is C P f i lim legal f_known (sym is_k) in
     let y : HeadIs C P g j = head_is C P g j lim legal g_known (sym is_l) in
-    let short : max (unsigned_abs i.len) (unsigned_abs j.len) ≤ 1048576000000000 = omega (arith, lengths_are C P f g i.len j.len x.length_is y.length_is, x.length_short, y.length_short) in
+    let short : max (unsigned_abs i.len) (unsigned_abs j.len) ≤ GREATEST_LENGTH = omega (arith, lengths_are C P f g i.len j.len x.length_is y.length_is, x.length_short, y.length_short) in
     elim (cases_eq request i.request) [ inl same ↦ rw (eq-eqb request i.request same) short | inr ne ↦ rw (ne_eqb request i.request ne) tt ]
 taken_short C P a f g k l lim legal f_known g_known is_k is_l = tt
 
--- ---- what the prefixes come to
+-- ---- the greatest numbers at the prefixes
 
 pub leads_nil : (C : Config) (H : History) (f g : ℕ) → LeadsIn C H [] f g no_leads
 unfolding first_leads take_lengths take_doubts
@@ -202,16 +203,16 @@ module _ (C : Config) (H P : History) (e : Entry) (f g : ℕ) (leads : Leads) (i
     | inr now ↦ rw now is.doubt_is
   ]
 
-  longest_stays_low : (o : Option ℕ) → IfSome o (λ x. x ≤ 1048576000000000) → longest_with leads.longest o ≤ 1048576000000000
+  longest_stays_low : (o : Option ℕ) → IfSome o (λ x. x ≤ GREATEST_LENGTH) → longest_with leads.longest o ≤ GREATEST_LENGTH
   longest_stays_low None low = is.longest_low
   longest_stays_low (Some x) low = omega (arith, is.longest_low, low)
 
-  doubt_stays_low : (o : Option ℕ) → d ≤ 2361183241434822606720 → doubt_with leads.doubt o d ≤ 2361183241434822606720
+  doubt_stays_low : (o : Option ℕ) → d ≤ GREATEST_DOUBT → doubt_with leads.doubt o d ≤ GREATEST_DOUBT
   doubt_stays_low None low = is.doubt_low
   doubt_stays_low (Some x) low = omega (arith, is.doubt_low, low)
 
   -- one entry on
-  pub leads_next : IfSome (taken_at C P e.act f g) (λ x. x ≤ 1048576000000000) → d ≤ 2361183241434822606720 → LeadsIn C H (e ∷ P) f g (leads_with leads (difference_at C (e ∷ P) f g) (taken_at C P e.act f g) d)
+  pub leads_next : IfSome (taken_at C P e.act f g) (λ x. x ≤ GREATEST_LENGTH) → d ≤ GREATEST_DOUBT → LeadsIn C H (e ∷ P) f g (leads_with leads (difference_at C (e ∷ P) f g) (taken_at C P e.act f g) d)
   leads_next short few = record {
     starts_in = found_next C P e f g leads.starts is.starts_in;
     first_is = firsts;
@@ -222,9 +223,9 @@ module _ (C : Config) (H P : History) (e : Entry) (f g : ℕ) (leads : Leads) (i
   }
 
 -- at the end they are the lead
-pub leads_told : (C : Config) (H : History) (f g : ℕ) (leads : Leads) (p : Policy) → p ≡ C.policy → LeadsIn C H H f g leads → option_map told (lead_from leads p) ≡ measured_gap C H f g
+pub leads_measured : (C : Config) (H : History) (f g : ℕ) (leads : Leads) (p : Policy) → p ≡ C.policy → LeadsIn C H H f g leads → option_map told (lead_from leads p) ≡ measured_gap C H f g
 unfolding measured_gap largest_difference lead_bound
-leads_told C H f g leads p same is =
+leads_measured C H f g leads p same is =
     let takes : heads_in_bound p leads.longest + leads.doubt ≡ lengths_in_bound C.policy * greatest (take_lengths C H f g) + greatest (take_doubts C H H f g) = rw (same, is.longest_is, is.doubt_is) refl in
     let bound : at_least (pos (heads_in_bound p leads.longest + leads.doubt)) leads.first ≡ lead_bound C H f g = ap (λ (n : ℕ). at_least (pos n) leads.first) takes ∙ ap (at_least _) is.first_is ∙ at_least_is _ (first_leads C H H f g) in
     rw is.starts_in.largest_is (gap_is (greatest_of (shared_differences C H f g)) _ _ bound)
@@ -238,14 +239,14 @@ lead_bounded C H f g (Some x) ne lim l is = measured_bounded C H f g (told x) ne
 
 pub leads_on : (C : Config) (past : List Entry) (i f g d : ℕ) (leads n : Leads) (difference : Option ℤ) (taken : Option ℕ) → i < length past
     → LeadsIn C (history_of past) (first_entries past i) f g leads
-    → (asks_doubt leads difference taken ≡ true → d ≡ doubt (longest_of C (history_of past) f) (shortest_of C (history_of past) g) C (next_entry past i ∷ first_entries past i) f g) → d ≤ 2361183241434822606720
-    → taken ≡ taken_at C (first_entries past i) (next_entry past i).act f g → IfSome taken (λ x. x ≤ 1048576000000000)
+    → (asks_doubt leads difference taken ≡ true → d ≡ doubt (longest_of C (history_of past) f) (shortest_of C (history_of past) g) C (next_entry past i ∷ first_entries past i) f g) → d ≤ GREATEST_DOUBT
+    → taken ≡ taken_at C (first_entries past i) (next_entry past i).act f g → IfSome taken (λ x. x ≤ GREATEST_LENGTH)
     → difference ≡ difference_at C (next_entry past i ∷ first_entries past i) f g → n ≡ leads_with leads difference taken d
     → LeadsIn C (history_of past) (first_entries past (i + 1)) f g n
 leads_on C past i f g d leads n difference taken b is d_is few taken_is short difference_is n_is =
     let e = next_entry past i in
     let P = first_entries past i in
-    let low = subst (λ (o : Option ℕ). IfSome o (λ x. x ≤ 1048576000000000)) taken_is short in
+    let low = subst (λ (o : Option ℕ). IfSome o (λ x. x ≤ GREATEST_LENGTH)) taken_is short in
     let counts = λ (h : asks_doubt leads (difference_at C (e ∷ P) f g) (taken_at C P e.act f g) ≡ true). d_is (rw (difference_is, taken_is) h) in
     let next = leads_next C (history_of past) P e f g leads is d counts low few in
     rw (n_is, difference_is, taken_is) (subst (λ (Q : History). LeadsIn C (history_of past) Q f g (leads_with leads (difference_at C (e ∷ P) f g) (taken_at C P e.act f g) d)) (sym (one_on past i b)) next)

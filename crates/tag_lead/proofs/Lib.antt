@@ -1,5 +1,5 @@
 pub mod Rows
-pub mod Telling
+pub mod LengthLemmas
 pub mod Entering
 pub mod SpanLemmas
 pub mod DoubtLemmas

@@ -1,4 +1,4 @@
--- What the row of a worker says of the request that it runs.
+-- The row of a worker, and the request that it runs.
 use Rattle.std.proofs.Common.{ℕ, ◌<◌, ◌≤◌, ◌≡◌, true, arith, inl, inr, [], ◌∷◌, length, Some}
 use Rattle.std.proofs.lemmas.Bool.{cases_Bool}
 use Rattle.vt_fixed.specs.declared.limits.TheConstants.{GREATEST_WEIGHT}
@@ -33,7 +33,7 @@ taken_weight_high C (e ∷ P) t r lim l = elim (cases_Bool (is_take_of r e.act))
 pub asked_below : (C : Config) (P : History) (r : ℕ) (q : Request) → IsLegal C P → request_at P r ≡ Some q → r < length P
 asked_below C P r q l was = omega (arith, submitted_below C P r l (asked_submitted P r q was), submits_le_length P)
 
--- ---- what a worker runs
+-- ---- the request that a worker runs
 
 -- the row is of this request
 pub record RowIs (C : Config) (P : History) (i r : ℕ) : Type 0 where

@@ -1,4 +1,4 @@
--- What can still come of what one worker runs.
+-- The doubt about the request that one worker runs.
 use Rattle.std.specs.Prelude.{ℕ, ◌+◌, ◌-◌, ◌<◌, ◌==◌, if◌then◌else◌, List, slice_index, Option, Some, None}
 use Rattle.vt_fixed.specs.Rounding.{length_of}
 use Rattle.charge_book.specs.declared.row.RunRow.{RunRow}
@@ -11,15 +11,15 @@ pub record CanDoubt (n m : ℕ) (row : RunRow) : Type 0 where
   pub among_longest : row.request < n
   pub among_shortest : row.request < m
 
--- by how much a request of tenant t that is so long may become longer, where these are the greatest
+-- the rise of a request of tenant t from this length to its greatest
 abbrev pub rise_of : RunRow → ℕ → List ℕ → ℕ → ℕ
 rise_of row len longest t = if row.tenant == t then slice_index longest row.request - len else 0
 
--- and shorter, where these are the least
+-- the fall of a request of tenant t from this length to its least
 abbrev pub fall_of : RunRow → ℕ → List ℕ → ℕ → ℕ
 fall_of row len shortest t = if row.tenant == t then len - slice_index shortest row.request else 0
 
--- both together, of what a worker runs, to the gain of f over g
+-- both, of the request that a worker runs, in the lead of f over g
 abbrev pub part_of : List ℕ → List ℕ → ℕ → ℕ → Option RunRow → ℕ
 part_of longest shortest f g None = 0
 part_of longest shortest f g (Some row) =

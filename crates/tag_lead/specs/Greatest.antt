@@ -6,7 +6,7 @@ use Rattle.fq_model.specs.declared.event.Act.TheVariants.{Submit, Take, Report, 
 use Rattle.fq_model.specs.History.{History, request_at, is_of_tenant, submits}
 use Rattle.fq_model.specs.Keys.{HeadKeys}
 use Rattle.fq_model.specs.Lead.{head_length}
-use Rattle.tag_lead.specs.declared.spans.Told.{Told}
+use Rattle.tag_lead.specs.declared.spans.MeasuredLength.{MeasuredLength}
 
 -- whose each request is, of all that are submitted
 pub record TenantsAre (P : History) (xs : List ℕ) : Type 0 where
@@ -36,17 +36,17 @@ abbrev pub tenants_with : List ℕ → Act → List ℕ
 tenants_with xs (Submit request tenant kind declared label) = xs ++ tenant ∷ []
 tenants_with xs _ = xs
 
--- the length that an entry makes known of a request that is taken, or 0
-abbrev pub told_length : Option Told → ℕ
-told_length None = 0
-told_length (Some x) = x.len
+-- the length that an act measures, or 0
+abbrev pub charge_length : Option MeasuredLength → ℕ
+charge_length None = 0
+charge_length (Some x) = x.len
 
 -- the length of the head of a tenant, if there is one, or 0
 abbrev pub head_length_if : Config → History → Option ℕ → ℕ
 head_length_if C P None = 0
 head_length_if C P (Some t) = head_length C P t
 
--- the same by the keys of the head
+-- the length of a head by its keys
 abbrev pub length_by : Option HeadKeys → ℕ
 length_by None = 0
 length_by (Some k) = unsigned_abs k.len

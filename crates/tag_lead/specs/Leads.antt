@@ -1,4 +1,4 @@
--- What the keys of two heads tell, and the lead of one tenant over another.
+-- The difference of two heads by their keys, and the lead of one tenant over another.
 use Rattle.std.specs.Prelude.{ℕ, ℤ, ◌≡◌, ◌==◌, max, if◌then◌else◌, Option, Some, None, option_map, IfSome, unsigned_abs, ◌-ℤ◌}
 use Rattle.fq_model.specs.declared.config.Config.{Config}
 use Rattle.fq_model.specs.declared.event.Act.{Act}
@@ -20,7 +20,7 @@ abbrev pub taken_at : Config → History → Act → ℕ → ℕ → Option ℕ
 taken_at C P a f g =
     if is_lead_take P a f g then Some (max (head_length C P f) (head_length C P g)) else None
 
--- the same by the keys of their heads: what is taken of f is its head
+-- the greater length by the keys of their heads: a Take of a request of f takes its head
 abbrev pub taken_by : Act → Option HeadKeys → Option HeadKeys → Option ℕ
 taken_by (Take worker request estimate) (Some k) (Some l) =
     if request == k.request then Some (max (unsigned_abs k.len) (unsigned_abs l.len)) else None

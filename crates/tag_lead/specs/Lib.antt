@@ -1,6 +1,7 @@
+pub mod Faults
 pub mod Spans
 pub mod Greatest
 pub mod Measured
 pub mod Doubts
-pub mod Found
+pub mod Maxima
 pub mod Leads

@@ -5,18 +5,20 @@ ghost use Rattle.fq_model.specs.Ever.{under_plus, ever_bound};
 ghost use Rattle.fq_model.specs.History.{history_of};
 ghost use Rattle.fq_model.specs.Limits.{InLimits};
 ghost use Rattle.fq_model.specs.Rules.{IsLegal};
-ghost use Rattle.tag_lead.specs.Greatest.{IsAmong, tenant_of_act, tenants_with, told_length, head_length_if, length_by};
+ghost use Rattle.tag_lead.specs.Greatest.{IsAmong, tenant_of_act, tenants_with, charge_length, head_length_if, length_by};
 
-use crate::spans::Told;
+use crate::limits::{GREATEST_BOUND, GREATEST_LENGTH, GREATEST_SUM, MOST_COUNTED};
+use crate::spans::MeasuredLength;
 use fq_model::config::{Checked, Policy};
 use fq_model::event::Act;
+use fq_model::limits::MOST_WORKERS;
 use sched_state::Scheduler;
 use std::alloc::{AllocError, Global};
 use tag_rules::chooser::Chooser;
 use tag_rules::head_keys::Keys;
 
-/// The greatest length of a request at the prefixes so far, as a head or by its charge, in steps, and the tenant of each
-/// request by its number. An entry changes the lengths of one tenant's requests at most.
+/// The greatest length of a request at the prefixes so far, as a head or by its charge, in steps; and the tenant of
+/// each request, by its number. An entry changes the lengths of one tenant's requests at most.
 #[derive(Drop)]
 pub struct Greatest {
     pub length: u128,
@@ -53,25 +55,25 @@ impl Greatest {
         }
     }
 
-    /// With the length that an act makes known of a request, and that of the head of its tenant after it.
-    pub fn note(&mut self, act: Act, told: Option<Told>, head: u128)
+    /// With the length that an act measures, and the length of the head of its tenant after the act.
+    pub fn note(&mut self, act: Act, measured: Option<MeasuredLength>, head: u128)
         requires { length self.old.tenants.items < vec_capacity self.old.tenants }
-        ensures length { self.new.length ≡ max (max self.old.length (told_length told)) head }
+        ensures length { self.new.length ≡ max (max self.old.length (charge_length measured)) head }
         ensures tenants { self.new.tenants.items ≡ tenants_with self.old.tenants.items act }
         ensures room { vec_capacity self.new.tenants ≡ vec_capacity self.old.tenants }
     {
-        self.length = self.length.max(told_length(told)).max(head);
+        self.length = self.length.max(charge_length(measured)).max(head);
         if let Act::Submit { tenant, .. } = act {
             self.tenants.push_reserved(tenant);
         }
     }
 }
 
-fn told_length(told: Option<Told>) -> u128
-    ensures { result ≡ told_length told }
+fn charge_length(measured: Option<MeasuredLength>) -> u128
+    ensures { result ≡ charge_length measured }
 {
-    match told {
-        Some(told) => told.len as u128,
+    match measured {
+        Some(measured) => measured.len as u128,
         None => 0,
     }
 }
@@ -100,7 +102,7 @@ fn length_by(keys: Option<Keys>) -> u128
 
 /// Under 2dfq+, the bound of each lead over a tenant that waits, in steps, where no request is longer.
 pub fn ever_bound(config: &Checked, longest: u128) -> Option<i128>
-    requires { longest ≤ 1048576000000000 }
+    requires { longest ≤ GREATEST_LENGTH }
     ensures { result ≡ under_plus config.now.policy (ever_bound config.now longest) }
 {
     match config.policy() {
@@ -112,19 +114,19 @@ pub fn ever_bound(config: &Checked, longest: u128) -> Option<i128>
 // A request for each worker, for every second one, and one more, and the greatest part of a length.
 fn most_lead(workers: u32, longest: u128) -> u128
     requires some { 1 ≤ workers }
-    requires few { workers ≤ 64 }
-    requires short { longest ≤ 1048576000000000 }
+    requires few { workers ≤ MOST_WORKERS }
+    requires short { longest ≤ GREATEST_LENGTH }
     ensures value { result ≡ (workers + workers / 2 + 1) * longest + part_of longest (workers - 1) workers }
-    ensures low { result ≤ 203423744000000000 }
+    ensures low { result ≤ GREATEST_BOUND }
 {
     times(workers + workers / 2 + 1, longest) + times(workers - 1, longest) / workers as u128
 }
 
 fn times(count: u32, longest: u128) -> u128
-    requires few { count ≤ 97 }
-    requires short { longest ≤ 1048576000000000 }
+    requires few { count ≤ MOST_COUNTED }
+    requires short { longest ≤ GREATEST_LENGTH }
     ensures value { result ≡ count * longest }
-    ensures low { result ≤ 101711872000000000 }
+    ensures low { result ≤ GREATEST_SUM }
 {
     count as u128 * longest
 }

@@ -8,13 +8,16 @@ ghost use Rattle.fq_model.specs.Rules.{IsLegal};
 ghost use Rattle.tag_difference.specs.Pairs.{difference_at, tenant_fault};
 ghost use Rattle.tag_difference.specs.declared.fault.GapFault.{GapFault};
 ghost use Rattle.tag_difference.specs.declared.fault.GapFault.TheVariants as faults;
-ghost use Rattle.tag_lead.specs.Found.{LeadsIn};
+ghost use Rattle.tag_lead.specs.Faults.{IsLeadFault};
+ghost use Rattle.tag_lead.specs.Maxima.{LeadsIn};
 ghost use Rattle.tag_lead.specs.Leads.{difference_by, taken_by, taken_at, IsLead};
 ghost use Rattle.tag_lead.specs.Spans.{LongestAre, ShortestAre};
 
 use crate::doubts::doubt;
-use crate::found::Leads;
+use crate::fault::LeadFault;
 use crate::greatest::ever_bound;
+use crate::limits::{GREATEST_DOUBT, GREATEST_LENGTH};
+use crate::maxima::Leads;
 use crate::measuring::{Measured, measure};
 use crate::spans::Spans;
 use fq_model::config::Checked;
@@ -43,8 +46,8 @@ pub struct Lead {
 /// the greatest lead with which both began to wait, and one length of a head, or two under 2dfq and 2dfq+, with the
 /// doubt of the requests that ran: each may turn out as long, or as short, as it did in this past. Nothing is asked of
 /// the past but that it is legal. The faults of the tenants are found before any memory is taken, and no request is a
-/// fault. The past's calls are made twice on a scheduler over any chooser, and what runs on each worker is looked at
-/// after each.
+/// fault. The past's calls are made twice on a scheduler over any chooser, and after each the doubt is read from the
+/// workers.
 pub fn tag_lead<X: Chooser + Drop>(
     alloc: Global,
     past: &[Entry],
@@ -62,27 +65,32 @@ pub fn tag_lead<X: Chooser + Drop>(
     if let Some(fault) = tenant_fault(config, f, g) {
         return Err(fault);
     }
-    let lead = lead_of::<X>(alloc, past, config, f, g)?;
-    Ok(lead)
+    match lead_of::<X>(alloc, past, config, f, g) {
+        Ok(lead) => Ok(lead),
+        Err(LeadFault::NoMemory) => Err(GapFault::NoMemory),
+        Err(LeadFault::NotLegal(_)) => unreachable!(),
+    }
 }
 
-/// The same of two tenants that are known, and are two.
+/// The lead of one tenant over another in entries, or the verdict where the entries are not legal. The calls of the
+/// entries are made once to judge them, and once more where they are legal.
 pub fn lead_of<X: Chooser + Drop>(
     alloc: Global,
-    past: &[Entry],
+    entries: &[Entry],
     config: &Checked,
     f: u32,
     g: u32,
-) -> Result<Option<Lead>, AllocError>
-    requires legal { IsLegal config.now (history_of past.now) }
+) -> Result<Option<Lead>, LeadFault>
     requires f_known { f < length config.now.weights }
     requires g_known { g < length config.now.weights }
     requires apart { f ≢ g }
-    ensures lead { IfOk result (IsLead config.now (history_of past.now) f g) }
+    ensures lead { IfOk result (λ lead. IsLegal config.now (history_of entries.now)
+        × IsLead config.now (history_of entries.now) f g lead) }
     ensures bounded { IfOk result (λ lead. IfSome lead (λ x. x.gap.largest ≤ℤ x.gap.bound)) }
+    ensures fault { IfErr result (IsLeadFault config.now entries.now) }
 {
-    let Measured { spans, longest } = measure::<X>(alloc, past, config, f, g)?;
-    let leads = leads_of::<X>(alloc, past, config, &spans, f, g);
+    let Measured { spans, longest } = measure::<X>(alloc, entries, config, f, g)?;
+    let leads = leads_of::<X>(alloc, entries, config, &spans, f, g);
     drop(spans);
     let ever = ever_bound(config, longest);
     match leads?.lead(config.policy()) {
@@ -91,7 +99,7 @@ pub fn lead_of<X: Chooser + Drop>(
     }
 }
 
-// What the leads come to, where all turned out as it is known.
+// The greatest leads, by the lengths of the requests in the whole past.
 fn leads_of<X: Chooser + Drop>(
     alloc: Global,
     past: &[Entry],
@@ -114,7 +122,7 @@ fn leads_of<X: Chooser + Drop>(
     Ok(leads)
 }
 
-// The same by a scheduler that was just opened.
+// The greatest leads, by a scheduler that was just opened.
 fn leads_in<X: Chooser>(
     scheduler: &mut Scheduler<u64, X>,
     past: &[Entry],
@@ -144,7 +152,7 @@ fn leads_in<X: Chooser>(
     leads
 }
 
-// What can still come of what runs, where that is asked for: each worker is looked at.
+// The doubt about the requests that run, where it is asked for: it reads each worker.
 fn doubt_where<X: Chooser>(
     asked: bool,
     scheduler: &Scheduler<u64, X>,
@@ -158,7 +166,7 @@ fn doubt_where<X: Chooser>(
     requires shortest { length scheduler.now.past ≤ length spans.now.shortest.items }
     ensures value { IsTrue asked → result ≡ doubt (slice_index spans.now.longest.items)
         (slice_index spans.now.shortest.items) scheduler.now.config (history_of scheduler.now.past) f g }
-    ensures low { result ≤ 2361183241434822606720 }
+    ensures low { result ≤ GREATEST_DOUBT }
 {
     if asked {
         doubt(scheduler, spans, f, g)
@@ -167,7 +175,7 @@ fn doubt_where<X: Chooser>(
     }
 }
 
-// How far the start of f is above that of g now, where both wait.
+// The difference of the starts of f and g, where both wait.
 fn difference<X: Chooser>(scheduler: &Scheduler<u64, X>, f: u32, g: u32) -> Option<i128>
     requires limits { InLimits scheduler.now.config }
     requires legal { IsLegal scheduler.now.config (history_of scheduler.now.past) }
@@ -179,7 +187,7 @@ fn difference<X: Chooser>(scheduler: &Scheduler<u64, X>, f: u32, g: u32) -> Opti
     difference_by(scheduler.keys(f), scheduler.keys(g))
 }
 
-// The same by the keys of their heads.
+// The difference, by the keys of their heads.
 fn difference_by(first: Option<Keys>, second: Option<Keys>) -> Option<i128>
     ensures value { result ≡ difference_by first second }
     ensures high { IfSome result (λ d. d ≤ℤ GREATEST_START) }
@@ -197,12 +205,12 @@ fn taken<X: Chooser>(scheduler: &Scheduler<u64, X>, entry: Entry, f: u32, g: u32
     requires f_known { f < length scheduler.now.config.weights }
     requires g_known { g < length scheduler.now.config.weights }
     ensures value { result ≡ taken_at scheduler.now.config (history_of scheduler.now.past) entry.act f g }
-    ensures low { IfSome result (λ x. x ≤ 1048576000000000) }
+    ensures low { IfSome result (λ x. x ≤ GREATEST_LENGTH) }
 {
     taken_by(entry.act, scheduler.keys(f), scheduler.keys(g))
 }
 
-// The same by the keys of their heads: what is taken of f is its head.
+// The greater length, by the keys of their heads: a Take of a request of f takes its head.
 fn taken_by(act: Act, first: Option<Keys>, second: Option<Keys>) -> Option<u128>
     ensures { result ≡ taken_by act first second }
 {

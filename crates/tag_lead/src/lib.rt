@@ -2,8 +2,10 @@
 #![tactic(auto)]
 
 mod doubts;
-mod found;
+pub mod fault;
 mod greatest;
 pub mod leads;
+mod limits;
+mod maxima;
 mod measuring;
 mod spans;

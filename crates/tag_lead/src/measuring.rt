@@ -1,72 +1,79 @@
-//! A past read for how long its requests turned out to be.
-ghost use Rattle.std.specs.Prelude.{◌≡◌, [], IfOk, length};
+//! Entries judged, and the lengths of their requests measured.
+ghost use Rattle.std.specs.Prelude.{◌≡◌, ◌<◌, [], IfOk, IfErr, length};
 ghost use Rattle.fq_model.specs.History.{history_of};
 ghost use Rattle.fq_model.specs.Limits.{InLimits};
-ghost use Rattle.fq_model.specs.Rules.{IsLegal};
+ghost use Rattle.charge_book.specs.Histories.{row_of_worker};
+ghost use Rattle.tag_lead.specs.Faults.{IsLeadFault};
 ghost use Rattle.tag_lead.specs.Measured.{IsMeasured};
 ghost use Rattle.tag_lead.specs.Spans.{HasWorker, row_of_act};
 
+use crate::fault::LeadFault;
 use crate::greatest::{Greatest, head_length};
-use crate::spans::{Spans, telling};
+use crate::spans::{Spans, measured_by};
 use charge_book::row::RunRow;
 use fq_model::config::Checked;
 use fq_model::event::{Act, Entry};
-use journal_check::checking::{copy_of, enter};
+use journal_check::checking::{copy_of, judge_next};
+use program_model::verdict::Verdict;
 use sched_state::Scheduler;
-use std::alloc::{AllocError, Global};
+use std::alloc::Global;
 use tag_rules::chooser::Chooser;
 
-/// How long requests turned out to be in a past.
+/// The lengths of the requests of a history, in steps.
 #[derive(Drop)]
 pub struct Measured {
     /// Those of two tenants.
     pub spans: Spans,
-    /// All requests at most, as heads or by their charges, in steps; 1 at least.
+    /// The greatest length of any request, as a head or by its charge; 1 at least.
     pub longest: u128,
 }
 
-/// How long the requests of tenant f turned out to be at most in a past, and those of tenant g at least, and the
-/// greatest length of any request in it. The calls of its entries are made on a scheduler over any chooser, once each.
+/// The greatest lengths of the requests of tenant f, the least lengths of those of tenant g, and the greatest length of
+/// any request; the verdict where the entries are not legal. The calls of the entries are made on a scheduler over any
+/// chooser, once each, up to the first entry that is not legal.
 pub fn measure<X: Chooser + Drop>(
     alloc: Global,
-    past: &[Entry],
+    entries: &[Entry],
     config: &Checked,
     f: u32,
     g: u32,
-) -> Result<Measured, AllocError>
-    requires { IsLegal config.now (history_of past.now) }
-    ensures { IfOk result (IsMeasured config.now (history_of past.now) f g (length past.now)) }
+) -> Result<Measured, LeadFault>
+    ensures measured { IfOk result (IsMeasured config.now (history_of entries.now) f g (length entries.now)) }
+    ensures fault { IfErr result (IsLeadFault config.now entries.now) }
 {
     let config = copy_of(alloc, config)?;
     let mut scheduler = Scheduler::<u64, X>::open(alloc, config)?;
-    let measured = measured_in(alloc, &mut scheduler, past, f, g);
+    let measured = measured_in(alloc, &mut scheduler, entries, f, g);
     drop(scheduler);
     measured
 }
 
-// The same by a scheduler that was just opened.
+// The lengths, by a scheduler that was just opened.
 fn measured_in<X: Chooser>(
     alloc: Global,
     scheduler: &mut Scheduler<u64, X>,
-    past: &[Entry],
+    entries: &[Entry],
     f: u32,
     g: u32,
-) -> Result<Measured, AllocError>
+) -> Result<Measured, LeadFault>
     requires opened { scheduler.old.past ≡ [] }
     requires limits { InLimits scheduler.old.config }
-    requires legal { IsLegal scheduler.old.config (history_of past.now) }
-    ensures { IfOk result (IsMeasured scheduler.old.config (history_of past.now) f g (length past.now)) }
+    ensures measured { IfOk result (IsMeasured scheduler.old.config (history_of entries.now) f g (length entries.now)) }
+    ensures fault { IfErr result (IsLeadFault scheduler.old.config entries.now) }
 {
-    let mut spans = Spans::open(alloc, past.len())?;
-    let mut greatest = Greatest::open(alloc, past.len())?;
-    for entry in past {
+    let mut spans = Spans::open(alloc, entries.len())?;
+    let mut greatest = Greatest::open(alloc, entries.len())?;
+    for entry in entries {
         let before = row_of(scheduler, entry.act);
-        enter(scheduler, *entry);
+        match judge_next(scheduler, *entry) {
+            Verdict::Legal => {}
+            bad => return Err(LeadFault::NotLegal(bad)),
+        }
         let after = row_of(scheduler, entry.act);
-        let told = telling(entry.act, before, after);
-        spans.note(f, g, told);
+        let length = measured_by(entry.act, before, after);
+        spans.note(f, g, length);
         let head = head_length(scheduler, greatest.tenant(entry.act));
-        greatest.note(entry.act, told, head);
+        greatest.note(entry.act, length, head);
     }
     Ok(Measured {
         spans,
@@ -74,15 +81,27 @@ fn measured_in<X: Chooser>(
     })
 }
 
-// What the worker of the act runs, if the act has one.
+// The request that the worker of the act runs, if the act has a worker.
 fn row_of<X: Chooser>(scheduler: &Scheduler<u64, X>, act: Act) -> Option<RunRow>
-    requires { HasWorker scheduler.now.config act }
-    ensures { result ≡ row_of_act scheduler.now.config (history_of scheduler.now.past) act }
+    ensures { HasWorker scheduler.now.config act
+        → result ≡ row_of_act scheduler.now.config (history_of scheduler.now.past) act }
 {
     match act {
-        Act::Take { worker, .. } => scheduler.running(worker),
-        Act::Report { worker, .. } => scheduler.running(worker),
-        Act::Done { worker, .. } => scheduler.running(worker),
+        Act::Take { worker, .. } => running(scheduler, worker),
+        Act::Report { worker, .. } => running(scheduler, worker),
+        Act::Done { worker, .. } => running(scheduler, worker),
         _ => None,
+    }
+}
+
+// The request that the worker runs. An entry that is not legal may name a worker that is not one of the configuration.
+fn running<X: Chooser>(scheduler: &Scheduler<u64, X>, worker: u32) -> Option<RunRow>
+    ensures { worker < scheduler.now.config.workers
+        → result ≡ row_of_worker scheduler.now.config (history_of scheduler.now.past) worker }
+{
+    if worker < scheduler.config().workers() {
+        scheduler.running(worker)
+    } else {
+        None
     }
 }

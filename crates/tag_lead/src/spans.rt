@@ -1,7 +1,7 @@
-//! How long the requests of two tenants turned out to be.
+//! The lengths of the requests of two tenants, by their charges.
 ghost use Rattle.std.specs.Prelude.{◌≡◌, ◌<◌, ◌≤◌, IfOk, IfSome, length, replicate};
 ghost use Rattle.vt_fixed.specs.Rounding.{length_of};
-ghost use Rattle.tag_lead.specs.Spans.{Measurable, CanTell, told_of, told_by, lesser, longest_with, shortest_with};
+ghost use Rattle.tag_lead.specs.Spans.{Measurable, CanMeasure, measured_length, measured_by, lesser, longest_with, shortest_with};
 
 use charge_book::row::RunRow;
 use fq_model::event::Act;
@@ -9,17 +9,17 @@ use fq_model::limits::{GREATEST_COST, GREATEST_WEIGHT};
 use std::alloc::{AllocError, Global};
 use vt_fixed::length;
 
-/// How long requests turned out to be, by their numbers, in steps: those of one tenant at most, and those of another at
-/// least, from the Take on. 0 at each other request.
+/// The greatest length of each request of one tenant and the least length of each request of another, from its Take on,
+/// in steps, by the numbers of the requests. 0 at each other request.
 #[derive(Drop)]
 pub struct Spans {
     pub longest: Vec<u64>,
     pub shortest: Vec<u64>,
 }
 
-/// How long an entry makes a request.
+/// The length of a request by its charge after an entry.
 #[derive(Clone, Copy, Debug, PartialEq, Eq)]
-pub struct Told {
+pub struct MeasuredLength {
     pub request: u32,
     pub tenant: u32,
     /// In steps.
@@ -29,7 +29,7 @@ pub struct Told {
 }
 
 impl Spans {
-    /// Of so many requests, of which none is taken yet. All its memory is taken here.
+    /// For this number of requests, none taken yet. All its memory is taken here.
     pub fn open(alloc: Global, requests: usize) -> Result<Spans, AllocError>
         ensures longest { IfOk result (λ spans. spans.longest.items ≡ replicate requests 0) }
         ensures shortest { IfOk result (λ spans. spans.shortest.items ≡ replicate requests 0) }
@@ -40,76 +40,80 @@ impl Spans {
         })
     }
 
-    /// With what an entry tells: of tenant f where it is the greatest, and of tenant g where it is the least.
-    pub fn note(&mut self, f: u32, g: u32, told: Option<Told>)
-        requires longest { IfSome told (λ x. x.request < length self.old.longest.items) }
-        requires shortest { IfSome told (λ x. x.request < length self.old.shortest.items) }
-        ensures longest { self.new.longest.items ≡ longest_with self.old.longest.items f told }
-        ensures shortest { self.new.shortest.items ≡ shortest_with self.old.shortest.items g told }
+    /// With the length that an entry measures: the greatest counts of tenant f, and the least of tenant g.
+    pub fn note(&mut self, f: u32, g: u32, measured: Option<MeasuredLength>)
+        requires longest { IfSome measured (λ x. x.request < length self.old.longest.items) }
+        requires shortest { IfSome measured (λ x. x.request < length self.old.shortest.items) }
+        ensures longest { self.new.longest.items ≡ longest_with self.old.longest.items f measured }
+        ensures shortest { self.new.shortest.items ≡ shortest_with self.old.shortest.items g measured }
     {
-        raise(&mut self.longest, f, told);
-        lower(&mut self.shortest, g, told);
+        raise(&mut self.longest, f, measured);
+        lower(&mut self.shortest, g, measured);
     }
 }
 
-// Of a request of the tenant the greater of what was known and what is told.
-fn raise(longest: &mut Vec<u64>, tenant: u32, told: Option<Told>)
-    requires { IfSome told (λ x. x.request < length longest.old.items) }
-    ensures { longest.new.items ≡ longest_with longest.old.items tenant told }
+// With the greater of the length so far and this one, for a request of the tenant.
+fn raise(longest: &mut Vec<u64>, tenant: u32, measured: Option<MeasuredLength>)
+    requires { IfSome measured (λ x. x.request < length longest.old.items) }
+    ensures { longest.new.items ≡ longest_with longest.old.items tenant measured }
 {
-    match told {
-        Some(told) if told.tenant == tenant => {
-            let before = longest[told.request as usize];
-            longest[told.request as usize] = before.max(told.len);
+    match measured {
+        Some(measured) if measured.tenant == tenant => {
+            let before = longest[measured.request as usize];
+            longest[measured.request as usize] = before.max(measured.len);
         }
         _ => {}
     }
 }
 
-// Of a request of the tenant the lesser of what was known and what is told; at its Take nothing was known.
-fn lower(shortest: &mut Vec<u64>, tenant: u32, told: Option<Told>)
-    requires { IfSome told (λ x. x.request < length shortest.old.items) }
-    ensures { shortest.new.items ≡ shortest_with shortest.old.items tenant told }
+// With the lesser of the length so far and this one, for a request of the tenant; with this one at its Take.
+fn lower(shortest: &mut Vec<u64>, tenant: u32, measured: Option<MeasuredLength>)
+    requires { IfSome measured (λ x. x.request < length shortest.old.items) }
+    ensures { shortest.new.items ≡ shortest_with shortest.old.items tenant measured }
 {
-    match told {
-        Some(told) if told.tenant == tenant => {
-            let before = shortest[told.request as usize];
-            shortest[told.request as usize] = lesser(told, before);
+    match measured {
+        Some(measured) if measured.tenant == tenant => {
+            let before = shortest[measured.request as usize];
+            shortest[measured.request as usize] = lesser(measured, before);
         }
         _ => {}
     }
 }
 
-// What is told at a Take, and later the lesser of this and what was known.
-fn lesser(told: Told, before: u64) -> u64
-    ensures { result ≡ lesser told before }
+// The length at a Take, and later the lesser of this length and the one before.
+fn lesser(measured: MeasuredLength, before: u64) -> u64
+    ensures { result ≡ lesser measured before }
 {
-    if told.taken {
-        told.len
+    if measured.taken {
+        measured.len
     } else {
-        before.min(told.len)
+        before.min(measured.len)
     }
 }
 
-/// How long an act makes the request that it takes, reports or ends: by what ran on its worker before it, and after it.
-pub fn telling(act: Act, before: Option<RunRow>, after: Option<RunRow>) -> Option<Told>
-    requires { CanTell act before after }
-    ensures { result ≡ told_by act before after }
+/// The length of the request that an act takes, reports or ends, by the rows of its worker before the act and after it.
+pub fn measured_by(
+    act: Act,
+    before: Option<RunRow>,
+    after: Option<RunRow>,
+) -> Option<MeasuredLength>
+    requires { CanMeasure act before after }
+    ensures { result ≡ measured_by act before after }
 {
     match (act, before, after) {
-        (Act::Take { .. }, _, Some(row)) => Some(told_of(row, row.charge(), true)),
-        (Act::Report { .. }, _, Some(row)) => Some(told_of(row, row.charge(), false)),
-        (Act::Done { cost, .. }, Some(row), _) => Some(told_of(row, cost, false)),
+        (Act::Take { .. }, _, Some(row)) => Some(measured_length(row, row.charge(), true)),
+        (Act::Report { .. }, _, Some(row)) => Some(measured_length(row, row.charge(), false)),
+        (Act::Done { cost, .. }, Some(row), _) => Some(measured_length(row, cost, false)),
         _ => None,
     }
 }
 
-// Its length at this charge, in microseconds.
-fn told_of(row: RunRow, charge: u64, taken: bool) -> Told
+// The length of the row's request at this charge, in microseconds.
+fn measured_length(row: RunRow, charge: u64, taken: bool) -> MeasuredLength
     requires { Measurable row charge }
-    ensures { result ≡ told_of row charge taken }
+    ensures { result ≡ measured_length row charge taken }
 {
-    Told {
+    MeasuredLength {
         request: row.request,
         tenant: row.tenant,
         len: steps(charge, row.weight),

@@ -1,7 +1,7 @@
 use Rattle.std.proofs.Common.{◌≡◌}
 use Rattle.fq_model.specs.History.{history_of}
 use Rattle.tag_difference.proofs.Prefixes.{first_entries}
-use Rattle.tag_lead.specs.Found.{LeadsIn}
+use Rattle.tag_lead.specs.Maxima.{LeadsIn}
 use Rattle.tag_lead.proofs.leads.leads_in.Given as goal
 
 abbrev pub invariant-loop-entry : goal.invariant-loop-entry

@@ -1,4 +1,4 @@
--- What the leads of one tenant over another come to.
+-- The greatest leads of one tenant over another, and the greatest numbers that bound them.
 use Rattle.std.specs.Prelude.{ℕ, ℤ, ◌+◌, ◌*◌, ◌≤◌, ◌≡◌, max, Bool, not, ◌&&◌, ◌||◌, if◌then◌else◌, Option, Some, None, is_some, option_map, pos, ◌+ℤ◌}
 use Rattle.fq_model.specs.declared.config.Config.{Config}
 use Rattle.fq_model.specs.declared.config.Policy.{Policy}
@@ -8,7 +8,8 @@ use Rattle.fq_model.specs.Gap.{greatest_of, lengths_in_bound}
 use Rattle.fq_model.specs.Lead.{first_leads, take_lengths, take_doubts}
 use Rattle.tag_difference.specs.declared.gap.Gap.{Gap}
 use Rattle.tag_difference.specs.Found.{nothing, at_least, with_difference, FoundIn}
-use Rattle.tag_lead.specs.declared.found.Leads.{Leads}
+use Rattle.tag_lead.specs.declared.limits.TheConstants.{GREATEST_LENGTH, GREATEST_DOUBT}
+use Rattle.tag_lead.specs.declared.maxima.Leads.{Leads}
 
 -- no prefix yet
 abbrev pub no_leads : Leads
@@ -21,7 +22,8 @@ asks_doubt leads difference taken = is_some taken || (is_some difference && not 
 -- the greatest lead with which both begin to wait, with one prefix more
 abbrev pub first_with : Leads → Option ℤ → ℕ → Option ℤ
 first_with leads None doubt = leads.first
-first_with leads (Some d) doubt = if leads.starts.shared then leads.first else Some (at_least (d +ℤ pos doubt) leads.first)
+first_with leads (Some d) doubt =
+    if leads.starts.shared then leads.first else Some (at_least (d +ℤ pos doubt) leads.first)
 
 -- the greatest length with that of a Take, if there is one
 abbrev pub longest_with : ℕ → Option ℕ → ℕ
@@ -52,11 +54,11 @@ lead_from leads policy =
     (λ x. record { largest = x; bound = at_least (pos (heads_in_bound policy leads.longest + leads.doubt)) leads.first })
     leads.starts.largest
 
--- what was found at the prefixes of P is that of P, where all turned out as in H
+-- these are the greatest numbers at the prefixes of P, by the lengths of the requests in H
 pub record LeadsIn (C : Config) (H P : History) (f g : ℕ) (leads : Leads) : Type 0 where
   pub starts_in : FoundIn C P f g leads.starts
   pub first_is : leads.first ≡ greatest_of (first_leads C H P f g)
   pub longest_is : leads.longest ≡ greatest (take_lengths C P f g)
   pub doubt_is : leads.doubt ≡ greatest (take_doubts C H P f g)
-  pub longest_low : leads.longest ≤ 1048576000000000
-  pub doubt_low : leads.doubt ≤ 2361183241434822606720
+  pub longest_low : leads.longest ≤ GREATEST_LENGTH
+  pub doubt_low : leads.doubt ≤ GREATEST_DOUBT

@@ -1,4 +1,4 @@
--- What an entry tells of the length of its request.
+-- The length that an entry measures.
 use Rattle.std.proofs.Common.{ℕ, ◌<◌, ◌≡◌, ◌≢◌, ◌∙◌, cond, Bool, true, false, not, refl, sym, ap, arith, ◌∷◌, length, Option, Some, None}
 use Rattle.std.proofs.lemmas.Bool.{eq-eqb, false≢true}
 use Rattle.vt_fixed.specs.Rounding.{length_of}
@@ -18,11 +18,11 @@ use Rattle.fq_laws.proofs.History.Workers.{runs_running}
 use Rattle.fq_laws.proofs.Rules.Takes.{take_waits}
 use Rattle.charge_book.specs.Rows.{row_charge}
 use Rattle.charge_book.specs.Histories.{run_row, row_of_worker}
-use Rattle.tag_lead.specs.declared.spans.Told.{Told}
-use Rattle.tag_lead.specs.Spans.{CanTell, told_of, told_by, row_of_act}
+use Rattle.tag_lead.specs.declared.spans.MeasuredLength.{MeasuredLength}
+use Rattle.tag_lead.specs.Spans.{CanMeasure, measured_length, measured_by, row_of_act}
 use Rattle.tag_lead.proofs.Rows.{RowIs, row_is, measurable, own_measurable}
 
--- ---- what one request is charged
+-- ---- the length of one charge
 
 same_length : (a b : Bool) (x y v w : ℕ) → a ≡ b → x ≡ y → v ≡ w → cond a (length_of x v) 0 ≡ cond b (length_of y w) 0
 same_length a b x y v w e f g = rw (e, f, g) refl
@@ -42,10 +42,10 @@ charged_own C P r q was taken = charged_taken C P q.tenant r taken ∙ ap (λ (b
 taken_own : (P : History) (r : ℕ) (q : Request) → request_at P r ≡ Some q → is_taken P r ≡ true → is_taken_of P q.tenant r ≡ true
 taken_own P r q was taken = taken_of P q.tenant r taken ∙ of_own P q.tenant r q was refl
 
--- ---- what an entry tells
+-- ---- the length that an entry measures
 
--- what is told of a request is so after the entry, and all others are charged what they were
-pub record Tells (C : Config) (P Q : History) (x : Told) : Type 0 where
+-- x is the length of its request by its charge after the entry, and the charges of all others stay
+pub record Measures (C : Config) (P Q : History) (x : MeasuredLength) : Type 0 where
   pub within : x.request < length Q
   pub others : (t r : ℕ) → r ≢ x.request → charged C Q t r ≡ charged C P t r
   pub foreign : (t : ℕ) → t ≢ x.tenant → charged C Q t x.request ≡ charged C P t x.request
@@ -53,13 +53,13 @@ pub record Tells (C : Config) (P Q : History) (x : Told) : Type 0 where
   pub first : is_taken_of P x.tenant x.request ≡ not x.taken
   pub taken : is_taken_of Q x.tenant x.request ≡ true
 
-abbrev pub TellsIf : Config → History → History → Option Told → Type 0
-TellsIf C P Q None = (t r : ℕ) → charged C Q t r ≡ charged C P t r
-TellsIf C P Q (Some x) = Tells C P Q x
+abbrev pub MeasuresIf : Config → History → History → Option MeasuredLength → Type 0
+MeasuresIf C P Q None = (t r : ℕ) → charged C Q t r ≡ charged C P t r
+MeasuresIf C P Q (Some x) = Measures C P Q x
 
--- what the row of a request tells
-row_tells : (C : Config) (P Q : History) (i r : ℕ) (x : RowIs C Q i r) (first : Bool) → request_at P r ≡ Some x.what → ((t s : ℕ) → s ≢ r → charged C Q t s ≡ charged C P t s) → is_taken_of P x.what.tenant r ≡ not first → Tells C P Q (told_of (run_row C Q r x.what) (row_charge (run_row C Q r x.what)) first)
-row_tells C P Q i r x first before others was = record {
+-- the length by the row of a request
+row_measures : (C : Config) (P Q : History) (i r : ℕ) (x : RowIs C Q i r) (first : Bool) → request_at P r ≡ Some x.what → ((t s : ℕ) → s ≢ r → charged C Q t s ≡ charged C P t s) → is_taken_of P x.what.tenant r ≡ not first → Measures C P Q (measured_length (run_row C Q r x.what) (row_charge (run_row C Q r x.what)) first)
+row_measures C P Q i r x first before others was = record {
   within = x.below;
   others = others;
   foreign = λ t ne. charged_foreign C Q t r x.what x.was ne ∙ sym (charged_foreign C P t r x.what before ne);
@@ -72,31 +72,31 @@ quiet_weight : (C : Config) (P : History) (who m t r : ℕ) (a : Act) → is_qui
 quiet_weight C P who m t r (Take worker request estimate) q = absurd (false≢true q)
 quiet_weight C P who m t r _ q = refl
 
-quiet_tells : (C : Config) (P : History) (who m : ℕ) (a : Act) → is_quiet a ≡ true → (t r : ℕ) → charged C (one_more who m a P) t r ≡ charged C P t r
-quiet_tells C P who m a q = λ t r. charged_same C P (one_more who m a P) t r (taken_of_quiet P who m t r a q) (charge_quiet P who m r a q) (quiet_weight C P who m t r a q)
+quiet_measures : (C : Config) (P : History) (who m : ℕ) (a : Act) → is_quiet a ≡ true → (t r : ℕ) → charged C (one_more who m a P) t r ≡ charged C P t r
+quiet_measures C P who m a q = λ t r. charged_same C P (one_more who m a P) t r (taken_of_quiet P who m t r a q) (charge_quiet P who m r a q) (quiet_weight C P who m t r a q)
 
-take_tells : (C : Config) (P : History) (who m w r c : ℕ) → InLimits C → IsLegal C (one_more who m (Take w r c) P) → TellsIf C P (one_more who m (Take w r c) P) (told_by (Take w r c) (row_of_worker C P w) (row_of_worker C (one_more who m (Take w r c) P) w))
-take_tells C P who m w r c lim l =
+take_measures : (C : Config) (P : History) (who m w r c : ℕ) → InLimits C → IsLegal C (one_more who m (Take w r c) P) → MeasuresIf C P (one_more who m (Take w r c) P) (measured_by (Take w r c) (row_of_worker C P w) (row_of_worker C (one_more who m (Take w r c) P) w))
+take_measures C P who m w r c lim l =
     let Q : History = one_more who m (Take w r c) P in
     let f : FitsTake C P m w r c = l.3 in
     let on : running_on Q w ≡ Some r = rw (eq-eqb w w refl) refl in
     let x : RowIs C Q w r = row_is C Q w r l on in
-    rw x.row_is (row_tells C P Q w r x true x.was
+    rw x.row_is (row_measures C P Q w r x true x.was
     (λ t s ne. charged_same C P Q t s (taken_of_take_other P who m t s w r c (λ e. ne (sym e))) (charge_take_other P who m s w r c (λ e. ne (sym e))) (taken_weight_take_other C P who m t s w r c (λ e. ne (sym e))))
     (untaken_of P x.what.tenant r (waits_untaken P r (take_waits C P m w r c f))))
 
-report_tells : (C : Config) (P : History) (who m w r used : ℕ) → InLimits C → IsLegal C (one_more who m (Report w r used) P) → TellsIf C P (one_more who m (Report w r used) P) (told_by (Report w r used) (row_of_worker C P w) (row_of_worker C (one_more who m (Report w r used) P) w))
-report_tells C P who m w r used lim l =
+report_measures : (C : Config) (P : History) (who m w r used : ℕ) → InLimits C → IsLegal C (one_more who m (Report w r used) P) → MeasuresIf C P (one_more who m (Report w r used) P) (measured_by (Report w r used) (row_of_worker C P w) (row_of_worker C (one_more who m (Report w r used) P) w))
+report_measures C P who m w r used lim l =
     let Q : History = one_more who m (Report w r used) P in
     let f : FitsUse P w r used = l.3.0 in
     let before : RowIs C P w r = row_is C P w r l.0 (runs_running C P w r l.0 f.runs) in
     let x : RowIs C Q w r = row_is C Q w r l (runs_running C P w r l.0 f.runs) in
-    rw x.row_is (row_tells C P Q w r x false x.was
+    rw x.row_is (row_measures C P Q w r x false x.was
     (λ t s ne. charged_same C P Q t s (taken_of_report P who m t s w r used) (charge_report_other P who m s w r used (λ e. ne (sym e))) refl)
     (taken_own P r x.what x.was before.taken))
 
-done_tells : (C : Config) (P : History) (who m w r cost : ℕ) → InLimits C → IsLegal C (one_more who m (Done w r cost) P) → TellsIf C P (one_more who m (Done w r cost) P) (told_by (Done w r cost) (row_of_worker C P w) (row_of_worker C (one_more who m (Done w r cost) P) w))
-done_tells C P who m w r cost lim l =
+done_measures : (C : Config) (P : History) (who m w r cost : ℕ) → InLimits C → IsLegal C (one_more who m (Done w r cost) P) → MeasuresIf C P (one_more who m (Done w r cost) P) (measured_by (Done w r cost) (row_of_worker C P w) (row_of_worker C (one_more who m (Done w r cost) P) w))
+done_measures C P who m w r cost lim l =
     let Q : History = one_more who m (Done w r cost) P in
     let f : FitsUse P w r cost = l.3 in
     let x : RowIs C P w r = row_is C P w r l.0 (runs_running C P w r l.0 f.runs) in
@@ -110,24 +110,24 @@ done_tells C P who m w r cost lim l =
       taken = now;
     })
 
-tells_at : (C : Config) (P : History) (who m : ℕ) (a : Act) → InLimits C → IsLegal C (one_more who m a P) → TellsIf C P (one_more who m a P) (told_by a (row_of_act C P a) (row_of_act C (one_more who m a P) a))
-tells_at C P who m (Submit request tenant kind declared label) lim l =
+measures_at : (C : Config) (P : History) (who m : ℕ) (a : Act) → InLimits C → IsLegal C (one_more who m a P) → MeasuresIf C P (one_more who m a P) (measured_by a (row_of_act C P a) (row_of_act C (one_more who m a P) a))
+measures_at C P who m (Submit request tenant kind declared label) lim l =
     λ t r. charged_same C P (one_more who m (Submit request tenant kind declared label) P) t r (taken_of_submit C P who m t r request tenant kind declared label l.0 l.3.numbered) (charge_submit P who m r request tenant kind declared label) refl
-tells_at C P who m (Take worker request estimate) lim l = take_tells C P who m worker request estimate lim l
-tells_at C P who m (Report worker request used) lim l = report_tells C P who m worker request used lim l
-tells_at C P who m (Done worker request cost) lim l = done_tells C P who m worker request cost lim l
-tells_at C P who m (Withdraw request) lim l =
+measures_at C P who m (Take worker request estimate) lim l = take_measures C P who m worker request estimate lim l
+measures_at C P who m (Report worker request used) lim l = report_measures C P who m worker request used lim l
+measures_at C P who m (Done worker request cost) lim l = done_measures C P who m worker request cost lim l
+measures_at C P who m (Withdraw request) lim l =
     λ t r. charged_same C P (one_more who m (Withdraw request) P) t r (taken_of_withdraw P who m t r request) (charge_withdraw P who m r request) refl
-tells_at C P who m Close lim l = quiet_tells C P who m Close refl
-tells_at C P who m (Weight tenant weight) lim l = quiet_tells C P who m (Weight tenant weight) refl
-tells_at C P who m (Workers count) lim l = quiet_tells C P who m (Workers count) refl
+measures_at C P who m Close lim l = quiet_measures C P who m Close refl
+measures_at C P who m (Weight tenant weight) lim l = quiet_measures C P who m (Weight tenant weight) refl
+measures_at C P who m (Workers count) lim l = quiet_measures C P who m (Workers count) refl
 
-pub tells : (C : Config) (P : History) (e : Entry) → InLimits C → IsLegal C (e ∷ P) → TellsIf C P (e ∷ P) (told_by e.act (row_of_act C P e.act) (row_of_act C (e ∷ P) e.act))
-tells C P e lim l = tells_at C P e.who e.moment e.act lim l
+pub measures : (C : Config) (P : History) (e : Entry) → InLimits C → IsLegal C (e ∷ P) → MeasuresIf C P (e ∷ P) (measured_by e.act (row_of_act C P e.act) (row_of_act C (e ∷ P) e.act))
+measures C P e lim l = measures_at C P e.who e.moment e.act lim l
 
--- ---- what it asks for
+-- ---- the limits that it needs
 
-can_at : (C : Config) (P : History) (who m : ℕ) (a : Act) → InLimits C → IsLegal C (one_more who m a P) → CanTell a (row_of_act C P a) (row_of_act C (one_more who m a P) a)
+can_at : (C : Config) (P : History) (who m : ℕ) (a : Act) → InLimits C → IsLegal C (one_more who m a P) → CanMeasure a (row_of_act C P a) (row_of_act C (one_more who m a P) a)
 can_at C P who m (Take worker request estimate) lim l =
     let Q : History = one_more who m (Take worker request estimate) P in
     let on : running_on Q worker ≡ Some request = rw (eq-eqb worker worker refl) refl in
@@ -142,5 +142,5 @@ can_at C P who m (Done worker request cost) lim l =
     rw x.row_is (measurable C P request cost x.what lim l.0 x.was x.taken l.3.in_range)
 can_at C P who m a lim l = tt
 
-pub can_tell : (C : Config) (P : History) (e : Entry) → InLimits C → IsLegal C (e ∷ P) → CanTell e.act (row_of_act C P e.act) (row_of_act C (e ∷ P) e.act)
-can_tell C P e lim l = can_at C P e.who e.moment e.act lim l
+pub can_measure : (C : Config) (P : History) (e : Entry) → InLimits C → IsLegal C (e ∷ P) → CanMeasure e.act (row_of_act C P e.act) (row_of_act C (e ∷ P) e.act)
+can_measure C P e lim l = can_at C P e.who e.moment e.act lim l

@@ -1,18 +1,19 @@
-//! What the leads of one tenant over another come to.
+//! The greatest leads of one tenant over another, and the greatest numbers that bound them.
 ghost use Rattle.std.specs.Prelude.{◌≡◌, ◌≤◌, ◌≤ℤ◌, IfSome};
-ghost use Rattle.tag_lead.specs.Found.{no_leads, asks_doubt, first_with, longest_with, doubt_with, leads_with, heads_in_bound};
-ghost use Rattle.tag_lead.specs.Found.{lead_from};
+ghost use Rattle.tag_lead.specs.Maxima.{no_leads, asks_doubt, first_with, longest_with, doubt_with, leads_with, heads_in_bound};
+ghost use Rattle.tag_lead.specs.Maxima.{lead_from};
 
+use crate::limits::{GREATEST_DOUBT, GREATEST_LENGTH, GREATEST_PAIR};
 use fq_model::config::Policy;
 use fq_model::limits::GREATEST_START;
 use tag_difference::found::{Found, at_least};
 use tag_difference::gap::Gap;
 
-/// What the prefixes of a history come to, in steps. A Take counts where it takes a request of the first tenant while
-/// both wait.
+/// The greatest numbers at the prefixes of a history, in steps. A Take counts where it takes a request of the first
+/// tenant while both wait.
 #[derive(Clone, Copy, Debug, PartialEq, Eq)]
 pub struct Leads {
-    /// What the differences of the starts come to.
+    /// The greatest differences of the starts.
     pub starts: Found,
     /// The greatest lead at a prefix with which both begin to wait.
     pub first: Option<i128>,
@@ -42,11 +43,11 @@ impl Leads {
         taken.is_some() || difference.is_some() && !self.starts.shared
     }
 
-    /// With one entry more: how far the start of the first is above the other's after it, where both wait; the greater
-    /// length of their heads before it, where it is a Take that counts; and the doubt after it.
+    /// With one entry more: the difference of the starts after it, where both wait; the greater length of their heads
+    /// before it, where it is a Take that counts; and the doubt after it.
     pub fn with(&self, difference: Option<i128>, taken: Option<u128>, doubt: u128) -> Leads
         requires difference { IfSome difference (λ d. d ≤ℤ GREATEST_START) }
-        requires doubt { doubt ≤ 2361183241434822606720 }
+        requires doubt { doubt ≤ GREATEST_DOUBT }
         ensures { result ≡ leads_with self.now difference taken doubt }
     {
         Leads {
@@ -57,10 +58,10 @@ impl Leads {
         }
     }
 
-    // The greatest lead with which both begin to wait: the difference of the starts and what is in doubt.
+    // The greatest lead with which both begin to wait: the difference of the starts and the doubt.
     fn first_with(&self, difference: Option<i128>, doubt: u128) -> Option<i128>
         requires difference { IfSome difference (λ d. d ≤ℤ GREATEST_START) }
-        requires doubt { doubt ≤ 2361183241434822606720 }
+        requires doubt { doubt ≤ GREATEST_DOUBT }
         ensures { result ≡ first_with self.now difference doubt }
     {
         match difference {
@@ -71,8 +72,8 @@ impl Leads {
 
     /// The largest difference and its bound under the policy, if both waited at some prefix.
     pub fn lead(&self, policy: Policy) -> Option<Gap>
-        requires longest { self.now.longest ≤ 1048576000000000 }
-        requires doubt { self.now.doubt ≤ 2361183241434822606720 }
+        requires longest { self.now.longest ≤ GREATEST_LENGTH }
+        requires doubt { self.now.doubt ≤ GREATEST_DOUBT }
         ensures { result ≡ lead_from self.now policy }
     {
         let largest = self.starts.largest?;
@@ -82,7 +83,7 @@ impl Leads {
     }
 }
 
-// The greatest length with that of a Take, if there is one.
+// The greatest length, with the length at a Take, if there is one.
 fn longest_with(longest: u128, taken: Option<u128>) -> u128
     ensures { result ≡ longest_with longest taken }
 {
@@ -92,7 +93,7 @@ fn longest_with(longest: u128, taken: Option<u128>) -> u128
     }
 }
 
-// The greatest doubt with that after a Take, if there is one.
+// The greatest doubt, with the doubt after a Take, if there is one.
 fn doubt_with(greatest: u128, taken: Option<u128>, doubt: u128) -> u128
     ensures { result ≡ doubt_with greatest taken doubt }
 {
@@ -104,9 +105,9 @@ fn doubt_with(greatest: u128, taken: Option<u128>, doubt: u128) -> u128
 
 // One length of a head, or two under 2dfq and 2dfq+.
 fn heads_in_bound(policy: Policy, longest: u128) -> u128
-    requires { longest ≤ 1048576000000000 }
+    requires { longest ≤ GREATEST_LENGTH }
     ensures value { result ≡ heads_in_bound policy longest }
-    ensures low { result ≤ 2097152000000000 }
+    ensures low { result ≤ GREATEST_PAIR }
 {
     match policy {
         Policy::TwoDfq | Policy::TwoDfqPlus => 2 * longest,
