@@ -80,7 +80,7 @@ fn answer_all<'a, X: Chooser>(
     ensures same { scheduler.new.config ≡ scheduler.old.config }
     ensures fault { IfErr result (λ f. IsFirstFault f (said_below call_of_words body.entry)) }
 {
-    while let Some(call) = body.read_next()? {
+    'calls: while let Some(call) = body.read_next()? {
         let reply = answer(scheduler, call);
         if tells && reply_line(reply, text).is_err() {
             return Err(ScriptFault::NoMemory);
