@@ -1,4 +1,4 @@
--- What is answered of a trace that was compared.
+-- The answer for a trace that was compared.
 use Rattle.std.proofs.Common.{ℕ, ◌≤◌, ◌≡◌, ap, subst, refl, arith, false, true, Bool, List, length, inl, inr, ◌⊎◌, Result, Ok, Err}
 use Rattle.std.proofs.lemmas.Bool.{ltb-true}
 use Rattle.std.proofs.lemmas.Slice.Zip.{AllZip-long}

@@ -1,4 +1,4 @@
--- What is answered of a history of a pool, which leaves no request undone.
+-- The answer for a history of a pool, which leaves no request undone.
 use Rattle.std.proofs.Common.{ℕ, ◌≡◌, ◌∙◌, sym, ap, subst, refl, arith, List, ◌++◌, length, false, None}
 use Rattle.std.specs.String.{string_bytes}
 use Rattle.std.proofs.lemmas.Bool.{ltb-false}
@@ -26,11 +26,11 @@ use Rattle.trace_runner.proofs.Finished.{none_is_unfinished}
 pub none_unfinished : (T : Trace) (O : RunOptions) (H : History) → IsPoolHistory T O H → unfinished H ≡ None
 none_unfinished T O H s = none_is_unfinished H (λ r is. (s.served r is).done)
 
--- it may be kept whole
+-- the history may be kept whole
 pub short_pool : (T : Trace) (O : RunOptions) (C : Config) → C ≡ pool_config T O → has_many_entries (needed_pool_entries T.rows O.refresh) ≡ false → HasShortHistory C
 short_pool T O C same few = subst HasShortHistory (sym same) (omega (arith, ltb-false MOST_ENTRIES (needed_pool_entries T.rows O.refresh) few))
 
--- a history of the pool, and what was read while it grew
+-- a history of the pool, and the statuses that were read while it grew
 pub record IsServed (Told : ℕ → Type 0) (T : Trace) (o : LiveOptions) (past : List Entry) (statuses : List Status) : Type 0 where
   pub few : has_many_entries (needed_pool_entries T.rows o.run.refresh) ≡ false
   pub makes : PoolMakes Told T o.run (history_of past)
@@ -38,7 +38,7 @@ pub record IsServed (Told : ℕ → Type 0) (T : Trace) (o : LiveOptions) (past 
   pub readings : AreReadings (pool_config T o.run) past 0 statuses
 
 module _ (Told : ℕ → Type 0) (T : Trace) (o : LiveOptions) (C : Config) (past : List Entry) (statuses : List Status) (s : IsServed Told T o past statuses) (config : C ≡ pool_config T o.run) where
-  -- what is answered of that past alone, in order of time
+  -- the answer for that past alone, in order of time
   abbrev OfPast : Answer → Type 0
   OfPast answer = answer ≡ history_answer o.print o.slot C T.tenants T.kinds past
 
@@ -54,11 +54,11 @@ module _ (Told : ℕ → Type 0) (T : Trace) (o : LiveOptions) (C : Config) (pas
         answer_is = lines ∙ ap (after_lines (status_lines statuses)) (is ∙ ap (λ D. history_answer o.print o.slot D T.tenants T.kinds past) config);
       })
 
-  -- a text, with their lines before it
+  -- a text, with the lines of the statuses before it
   pub watched_text : (status : ℕ) (text more : List ℕ) → OfPast (Text status text) → more ≡ status_lines statuses ++ text → IsPoolAnswer Told o T (Text status more)
   watched_text status text more is lines = with_them (Text status more) (Text status text) is (ap (Text status) lines)
 
-  -- a message has none
+  -- a message, with no lines
   pub watched_stop : (stop : Stop) → IsStop OfPast stop → IsStop (IsPoolAnswer Told o T) stop
   watched_stop (stops.Message status message) is = with_them (Message status (string_bytes message)) (Message status (string_bytes message)) is refl
   watched_stop stops.NoMemory is = tt

@@ -1,4 +1,4 @@
--- How a command ends by its input, and by what was made of it.
+-- The end of a command, by its input and its output.
 use Rattle.std.proofs.Common.{ℕ, sym, subst, List, Result, Ok, Err}
 use Rattle.std.specs.String.{string_bytes}
 use Rattle.command_texts.specs.Making.{IsStop, Makes}
@@ -15,7 +15,7 @@ use Rattle.twodfq_main.specs.Ends.{EndsWith}
 use Rattle.twodfq_main.specs.Inputs.{IsInput, IsNoInput}
 
 module _ (Told : ℕ → Type 0) (command : Command) (source sink : Move) where
-  -- its input was not read
+  -- the input was not read
   pub no_input_ends : (failure : Failure) → IsNoInput (reads_input command) source failure → Stays sink → EndsCommand Told command source sink (Err failure)
   no_input_ends Words none stays = none
   no_input_ends TooLong none stays = (none, stays)
@@ -32,7 +32,7 @@ module _ (Told : ℕ → Type 0) (command : Command) (source sink : Move) where
     stopped (stops.Message status message) x stays = (answered (Message status (string_bytes message)) x, stays)
     stopped stops.NoMemory x stays = (is.taken, stays)
 
-    -- its input was read, and this was made of it and written
+    -- the input was read, and its output was made and written
     pub output_ends : (made : Result Output Stop) (end : Result ℕ Failure) → Makes (IsAnswer Told command input) made → EndsWith made sink end → EndsCommand Told command source sink end
     output_ends (Ok output) (Ok status) x wrote = record {
       text = output.text.items;

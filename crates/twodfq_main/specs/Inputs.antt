@@ -1,4 +1,4 @@
--- The input of a command, as it was read from its source, and why it was not.
+-- The input of a command, as it was read from its source, and the causes for which it was not read.
 use Rattle.std.specs.Prelude.{ℕ, ◌≤◌, Bool, List, length}
 use Rattle.program_model.specs.declared.ending.Failure.{Failure}
 use Rattle.program_model.specs.declared.ending.Failure.TheVariants.{Words, TooLong, Reading, Writing, Stopped}

@@ -16,7 +16,7 @@ use std::alloc::Global;
 use std::thread::Threads;
 use trace_reader::trace::Trace;
 
-/// What `compare` answers to its input, which is given up before the trace is simulated. It always returns.
+/// The answer of `compare` to its input, which is dropped before the trace is simulated. It always returns.
 pub fn answer<T: Threads + Sync>(
     rt: &T,
     alloc: Global,
@@ -32,7 +32,7 @@ pub fn answer<T: Threads + Sync>(
     output
 }
 
-// What is answered of a trace.
+// The answer for a trace.
 fn compared<T: Threads + Sync>(
     rt: &T,
     alloc: Global,

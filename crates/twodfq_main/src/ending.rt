@@ -1,4 +1,4 @@
-//! How a command ends: what is written of its output, what is told where it has none, and the status.
+//! The end of a command: it writes the output, or the message where there is no output, and gives the status.
 ghost use Rattle.std.specs.Prelude.{◌≡◌, ◌≤◌};
 ghost use Rattle.program_model.specs.Ending.{status_of, failure_status, failure_message};
 ghost use Rattle.program_model.specs.Program.{Says, TellsEnd, moved};
@@ -7,7 +7,7 @@ ghost use Rattle.twodfq_main.specs.Ends.{EndsWith};
 use fq_io::{Sink, write_all};
 use program_model::ending::{Failure, Output, Stop};
 
-/// Says why the program ends short of its output, if it does, and gives the status of its end.
+/// Writes the message of a failed end, if the end failed, and gives the status of the end.
 pub fn told<E: Sink>(errs: &mut E, end: Result<u8, Failure>) -> u8
     ensures status { result ≡ status_of end }
     ensures told { TellsEnd (moved E.written E.faults errs.old errs.new) end }
@@ -29,7 +29,7 @@ pub fn tell<E: Sink>(errs: &mut E, failure: Failure) -> u8
     failure.status()
 }
 
-/// Writes the text that was made, and gives its status; or says why there is none, or that a write failed.
+/// Writes the text of an output, and gives its status; or gives the failure: no output was made, or a write failed.
 pub fn written<W: Sink>(sink: &mut W, made: Result<Output, Stop>) -> Result<u8, Failure>
     ensures ends { EndsWith made (moved W.written W.faults sink.old sink.new) result }
     ensures later { W.faults sink.old ≤ W.faults sink.new }

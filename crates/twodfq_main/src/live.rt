@@ -1,4 +1,4 @@
-//! `live`: what is asked for of one history of a pool of threads that serves a trace.
+//! `live`: one history of a pool of threads that serves a trace, in the forms that are asked for.
 ghost use Rattle.std.specs.Prelude.{◌≤◌};
 ghost use Rattle.fq_model.specs.declared.limits.TheConstants.{GREATEST_SLOT};
 ghost use Rattle.program_model.specs.LiveCommand.{IsLiveAnswer, IsPoolAnswer};
@@ -21,8 +21,7 @@ use trace_pool::fault::PoolFault;
 use trace_pool::serving::{Served, serve};
 use trace_reader::trace::Trace;
 
-/// What `live` answers to its input, which is given up before the pool begins. The clock is asked by the pool's threads
-/// alone.
+/// The answer of `live` to its input, which is dropped before the pool begins. Only the pool's threads ask the clock.
 pub fn answer<T: Wait + Threads + Sync, K: Clock + Sync>(
     rt: &T,
     alloc: Global,
@@ -39,7 +38,7 @@ pub fn answer<T: Wait + Threads + Sync, K: Clock + Sync>(
     output
 }
 
-// What is answered of one history of a pool that serves a trace.
+// The answer for one history of a pool that serves the trace.
 fn served<T: Wait + Threads + Sync, K: Clock + Sync>(
     rt: &T,
     alloc: Global,

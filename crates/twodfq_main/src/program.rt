@@ -1,11 +1,11 @@
-//! The program, over any source, sinks and clock: it reads what a command reads, has it answered, and writes the
+//! The program, over any source, sinks and clock: it reads the input of a command, has it answered, and writes the
 //! answer.
-ghost use Rattle.std.specs.Prelude.{◌≡◌, ◌≤◌, map, is_some, IfSome};
+ghost use Rattle.std.specs.Prelude.{◌≡◌, map, is_some, IfSome};
 ghost use Rattle.std.specs.String.{string_bytes};
 ghost use Rattle.program_model.specs.CommandLimits.{IsInRange};
 ghost use Rattle.program_model.specs.Commands.{Untold, is_plain, is_live, is_compare};
-ghost use Rattle.program_model.specs.Program.{asked, if_served, is_any, Ends, IsRun, moved};
-ghost use Rattle.program_model.specs.Statuses.{StatusMeans};
+ghost use Rattle.program_model.specs.Program.{if_served, is_any, moved};
+ghost use Rattle.twodfq_main.specs.Runs.{Runs, EndsAs};
 
 use crate::ending::{told, written};
 use crate::reading::{read_input, reads_input};
@@ -19,9 +19,8 @@ use std::alloc::Global;
 use std::sync::Wait;
 use std::thread::Threads;
 
-/// The program: does what the words say, without the program's name before them, as `live`,
-/// `compare` or `plain` would.
-/// The answer is the exit status: 0, or 2 to 8.
+/// The program: runs the command of the words, which come without the program's name, as `live`, `compare` or `plain`
+/// would. The answer is the exit status: 0, or 2 to 8.
 pub fn twodfq<T: Wait + Threads + Sync, R: Source, W: Sink, E: Sink, K: Clock + Sync>(
     rt: &T,
     alloc: Global,
@@ -31,12 +30,9 @@ pub fn twodfq<T: Wait + Threads + Sync, R: Source, W: Sink, E: Sink, K: Clock + 
     errs: &mut E,
     clock: &K,
 ) -> u8
-    ensures run { IsRun (K.tells clock.now) (asked is_any (map string_bytes words.now))
+    ensures { Runs is_any (K.tells clock.now) (map string_bytes words.now)
         (moved R.left R.faults source.old source.new) (moved W.written W.faults sink.old sink.new)
-        (moved E.written E.faults errs.old errs.new) result }
-    ensures status { StatusMeans (K.tells clock.now) (asked is_any (map string_bytes words.now))
-        (moved R.left R.faults source.old source.new) (moved W.written W.faults sink.old sink.new) result }
-    ensures sink_room { W.room sink.new ≡ W.room sink.old }
+        (moved E.written E.faults errs.old errs.new) (W.room sink.old) (W.room sink.new) result }
 {
     let ask = command(words);
     if is_to_wait(&ask) {
@@ -51,27 +47,27 @@ pub fn twodfq<T: Wait + Threads + Sync, R: Source, W: Sink, E: Sink, K: Clock + 
     told(errs, end)
 }
 
-// Whether a command is asked for that waits for threads.
+// Whether the command waits for threads.
 fn is_to_wait(ask: &Option<Command>) -> bool
     ensures { result ≡ is_some (if_served is_live ask.now) }
 {
     matches!(ask, Some(Command::Live { .. }))
 }
 
-// Whether a comparison is asked for.
+// Whether the command is `compare`.
 fn is_to_compare(ask: &Option<Command>) -> bool
     ensures { result ≡ is_some (if_served is_compare ask.now) }
 {
     matches!(ask, Some(Command::Compare { .. }))
 }
 
-/// The command `live`, which serves a trace by a pool of threads; words for another are no command line here. The
-/// answer is the exit status.
+/// The command `live`, which serves a trace by a pool of threads; the words of another command are no command line
+/// here. The answer is the exit status.
 ///
-/// What it prints is what is asked for of one history that the pool's calls formed. It is legal. It holds each
-/// submitter's rows once and in their order; each request is taken once and done at its row's cost, by a worker for
-/// which it was the policy's choice. And each entry stands at a moment that the clock told, or at that of the entry
-/// before it where this is later.
+/// It prints one history that the pool's calls formed, in the forms that are asked for. The history is legal. It has
+/// each submitter's rows once and in their order; each request is taken once and done at its row's cost, by a worker
+/// for which it was the policy's choice. And each entry is at a moment that the clock told, or at the moment of the
+/// entry before it where this is later.
 pub fn live<T: Wait + Threads + Sync, R: Source, W: Sink, E: Sink, K: Clock + Sync>(
     rt: &T,
     alloc: Global,
@@ -81,20 +77,17 @@ pub fn live<T: Wait + Threads + Sync, R: Source, W: Sink, E: Sink, K: Clock + Sy
     errs: &mut E,
     clock: &K,
 ) -> u8
-    ensures run { IsRun (K.tells clock.now) (asked is_live (map string_bytes words.now))
+    ensures { Runs is_live (K.tells clock.now) (map string_bytes words.now)
         (moved R.left R.faults source.old source.new) (moved W.written W.faults sink.old sink.new)
-        (moved E.written E.faults errs.old errs.new) result }
-    ensures status { StatusMeans (K.tells clock.now) (asked is_live (map string_bytes words.now))
-        (moved R.left R.faults source.old source.new) (moved W.written W.faults sink.old sink.new) result }
-    ensures sink_room { W.room sink.new ≡ W.room sink.old }
+        (moved E.written E.faults errs.old errs.new) (W.room sink.old) (W.room sink.new) result }
 {
     let end = live_end(rt, alloc, command(words), source, sink, clock);
     told(errs, end)
 }
 
-/// The command `compare`, which simulates a trace under the published policies and all estimators; words for another
-/// are no command line here. Threads work for it, but it waits for nobody: it always returns. The answer is the exit
-/// status.
+/// The command `compare`, which simulates a trace under the published policies and all estimators; the words of another
+/// command are no command line here. Threads work for it, but it does not wait: it always returns. The answer is the
+/// exit status.
 pub fn compare<T: Threads + Sync, R: Source, W: Sink, E: Sink>(
     rt: &T,
     alloc: Global,
@@ -103,19 +96,16 @@ pub fn compare<T: Threads + Sync, R: Source, W: Sink, E: Sink>(
     sink: &mut W,
     errs: &mut E,
 ) -> u8
-    ensures run { IsRun Untold (asked is_compare (map string_bytes words.now))
+    ensures { Runs is_compare Untold (map string_bytes words.now)
         (moved R.left R.faults source.old source.new) (moved W.written W.faults sink.old sink.new)
-        (moved E.written E.faults errs.old errs.new) result }
-    ensures status { StatusMeans Untold (asked is_compare (map string_bytes words.now))
-        (moved R.left R.faults source.old source.new) (moved W.written W.faults sink.old sink.new) result }
-    ensures sink_room { W.room sink.new ≡ W.room sink.old }
+        (moved E.written E.faults errs.old errs.new) (W.room sink.old) (W.room sink.new) result }
 {
     let end = compare_end(rt, alloc, command(words), source, sink);
     told(errs, end)
 }
 
-/// The commands that need no threads; words for another are no command line here. It always returns; the answer is the
-/// exit status.
+/// The commands that need no threads; the words of another command are no command line here. It always returns. The
+/// answer is the exit status.
 pub fn plain<R: Source, W: Sink, E: Sink>(
     alloc: Global,
     words: &[String],
@@ -123,18 +113,15 @@ pub fn plain<R: Source, W: Sink, E: Sink>(
     sink: &mut W,
     errs: &mut E,
 ) -> u8
-    ensures run { IsRun Untold (asked is_plain (map string_bytes words.now))
+    ensures { Runs is_plain Untold (map string_bytes words.now)
         (moved R.left R.faults source.old source.new) (moved W.written W.faults sink.old sink.new)
-        (moved E.written E.faults errs.old errs.new) result }
-    ensures status { StatusMeans Untold (asked is_plain (map string_bytes words.now))
-        (moved R.left R.faults source.old source.new) (moved W.written W.faults sink.old sink.new) result }
-    ensures sink_room { W.room sink.new ≡ W.room sink.old }
+        (moved E.written E.faults errs.old errs.new) (W.room sink.old) (W.room sink.new) result }
 {
     let end = plain_end(alloc, command(words), source, sink);
     told(errs, end)
 }
 
-// Does what is asked, if it is `live`, or says why not.
+// Runs the command, if it is `live`; other words are no command line.
 fn live_end<T: Wait + Threads + Sync, R: Source, W: Sink, K: Clock + Sync>(
     rt: &T,
     alloc: Global,
@@ -144,11 +131,8 @@ fn live_end<T: Wait + Threads + Sync, R: Source, W: Sink, K: Clock + Sync>(
     clock: &K,
 ) -> Result<u8, Failure>
     requires range { IfSome ask IsInRange }
-    ensures ends { Ends (K.tells clock.now) (if_served is_live ask) (moved R.left R.faults source.old source.new)
-        (moved W.written W.faults sink.old sink.new) result }
-    ensures source_later { R.faults source.old ≤ R.faults source.new }
-    ensures sink_later { W.faults sink.old ≤ W.faults sink.new }
-    ensures sink_room { W.room sink.new ≡ W.room sink.old }
+    ensures { EndsAs (K.tells clock.now) (if_served is_live ask) (moved R.left R.faults source.old source.new)
+        (moved W.written W.faults sink.old sink.new) (W.room sink.old) (W.room sink.new) result }
 {
     match ask {
         Some(Command::Live { options }) => {
@@ -160,7 +144,7 @@ fn live_end<T: Wait + Threads + Sync, R: Source, W: Sink, K: Clock + Sync>(
     }
 }
 
-// Does what is asked, if it is `compare`, or says why not.
+// Runs the command, if it is `compare`; other words are no command line.
 fn compare_end<T: Threads + Sync, R: Source, W: Sink>(
     rt: &T,
     alloc: Global,
@@ -169,11 +153,8 @@ fn compare_end<T: Threads + Sync, R: Source, W: Sink>(
     sink: &mut W,
 ) -> Result<u8, Failure>
     requires range { IfSome ask IsInRange }
-    ensures ends { Ends Untold (if_served is_compare ask) (moved R.left R.faults source.old source.new)
-        (moved W.written W.faults sink.old sink.new) result }
-    ensures source_later { R.faults source.old ≤ R.faults source.new }
-    ensures sink_later { W.faults sink.old ≤ W.faults sink.new }
-    ensures sink_room { W.room sink.new ≡ W.room sink.old }
+    ensures { EndsAs Untold (if_served is_compare ask) (moved R.left R.faults source.old source.new)
+        (moved W.written W.faults sink.old sink.new) (W.room sink.old) (W.room sink.new) result }
 {
     match ask {
         Some(Command::Compare { options }) => {
@@ -185,7 +166,7 @@ fn compare_end<T: Threads + Sync, R: Source, W: Sink>(
     }
 }
 
-// Does what is asked, if it needs no threads, or says why not.
+// Runs the command, if it needs no threads; other words are no command line.
 fn plain_end<R: Source, W: Sink>(
     alloc: Global,
     ask: Option<Command>,
@@ -193,11 +174,8 @@ fn plain_end<R: Source, W: Sink>(
     sink: &mut W,
 ) -> Result<u8, Failure>
     requires range { IfSome ask IsInRange }
-    ensures ends { Ends Untold (if_served is_plain ask) (moved R.left R.faults source.old source.new)
-        (moved W.written W.faults sink.old sink.new) result }
-    ensures source_later { R.faults source.old ≤ R.faults source.new }
-    ensures sink_later { W.faults sink.old ≤ W.faults sink.new }
-    ensures sink_room { W.room sink.new ≡ W.room sink.old }
+    ensures { EndsAs Untold (if_served is_plain ask) (moved R.left R.faults source.old source.new)
+        (moved W.written W.faults sink.old sink.new) (W.room sink.old) (W.room sink.new) result }
 {
     match ask {
         Some(Command::Plain(command)) => {

@@ -1,4 +1,4 @@
-//! What is read of a source.
+//! Reads the input of a command from a source.
 ghost use Rattle.std.specs.Prelude.{◌≡◌, ◌≤◌, IfOk, IfErr};
 ghost use Rattle.program_model.specs.declared.command.Command.TheVariants.{Plain};
 ghost use Rattle.program_model.specs.Commands.{reads_input};

@@ -1,4 +1,4 @@
-//! The lines of what was read of a scheduler's status.
+//! The lines of the statuses that were read of a scheduler.
 ghost use Rattle.std.specs.Prelude.{◌≡◌, ◌++◌, IfOk, OnOk, string_bytes};
 ghost use Rattle.program_model.specs.Readings.{status_line, status_lines};
 
@@ -6,7 +6,7 @@ use fq_model::parts::Status;
 use program_model::ending::Output;
 use std::alloc::{AllocError, Global};
 
-/// The same output, with a line for each status before its text.
+/// The output, with a line for each status before its text.
 pub(crate) fn after_lines(
     alloc: Global,
     statuses: Vec<Status>,
