@@ -1,11 +1,11 @@
 -- The view of a floor, and its invariant.
-use Rattle.std.specs.Prelude.{ℕ, refl, [], Option}
+use Rattle.std.specs.Prelude.{ℕ, refl, Option}
 use Rattle.std.specs.Coded.{Coded, code_by, coded×, coded_option, coded_ℕ}
-use Rattle.std.specs.FinMap as map
 use Rattle.fq_model.specs.declared.config.Config.{Config}
 use Rattle.fq_model.specs.Limits.{InLimits}
 use Rattle.fq_model.specs.History.{history_of}
 use Rattle.fq_model.specs.Rules.{IsLegal}
+use Rattle.sched_state.specs.Scheduler as scheduler
 use Rattle.sched_state.specs.Scheduler.{SchedulerView, scheduler_code}
 use Rattle.status_board.specs.Boards.{BoardView}
 use Rattle.desk.specs.declared.floor.Crew.{Crew}
@@ -35,7 +35,7 @@ crew_of f = crew_for f.scheduler.config f.submitters f.board
 -- a floor with no past
 abbrev pub opened : {J : Type 0} → Config → ℕ → Option BoardView → FloorView J
 opened config submitters board =
-    record { scheduler = record { config = config; past = []; jobs = map.empty }; submitters = submitters; board = board }
+    record { scheduler = scheduler.opened config; submitters = submitters; board = board }
 
 -- its past is legal, and each entry of it is made by the caller that may make it
 pub record KeepsFloor {J : Type 0} (scheduler : SchedulerView J) (submitters : ℕ) : Type 0 where

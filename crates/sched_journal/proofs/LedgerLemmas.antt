@@ -1,5 +1,5 @@
 -- A ledger at one entry more.
-use Rattle.std.proofs.Common.{ℕ, ◌<◌, ◌≤◌, ◌≡◌, ◌+◌, ◌^◌, arith, refl, ap, List, [], ◌∷◌, ◌++◌, Option, Some, None}
+use Rattle.std.proofs.Common.{ℕ, ◌<◌, ◌≤◌, ◌≡◌, ◌+◌, ◌^◌, arith, refl, sym, ap, length, List, [], ◌∷◌, ◌++◌, Option, Some, None}
 use Rattle.std.proofs.lemmas.List.{length-reverse, length-append}
 use Rattle.fq_model.specs.declared.config.Config.{Config}
 use Rattle.fq_model.specs.declared.event.Entry.{Entry}
@@ -45,3 +45,7 @@ newest_none (x ∷ P) is = absurd (cc)
 -- no more entries than the configuration has room for
 pub within_entries : (C : Config) (past : List Entry) (count : ℕ) (last : Option Entry) (t : Tally) → KeepsLedger C past count last t → count ≤ C.entries
 within_entries C past count last t k = omega (arith, length_entries C (history_of past) k.limits k.legal, k.count_is, length-reverse past)
+
+-- nor is the list longer
+pub length_within : (C : Config) (past : List Entry) (count : ℕ) (last : Option Entry) (t : Tally) → KeepsLedger C past count last t → length past ≤ C.entries
+length_within C past count last t k = rw (sym k.count_is) (within_entries C past count last t k)

@@ -1,3 +1,4 @@
 pub mod TallyLemmas
 pub mod JournalLemmas
 pub mod LedgerLemmas
+pub mod StoreLemmas

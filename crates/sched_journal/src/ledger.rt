@@ -4,7 +4,7 @@ ghost use Rattle.fq_model.specs.Limits.{InLimits};
 ghost use Rattle.fq_model.specs.History.{is_closed, running, submits};
 ghost use Rattle.fq_model.specs.Time.{last_moment, effective_moment};
 ghost use Rattle.fq_model.specs.Rules.{IsLegal};
-ghost use Rattle.sched_journal.specs.Journal.{history, newest, with_entry, IsRoomFor};
+ghost use Rattle.sched_journal.specs.Journal.{history, with_entry, IsRoomFor};
 
 use crate::tally::Tally;
 use fq_model::config::Checked;
@@ -67,13 +67,6 @@ impl Ledger {
         self.count
     }
 
-    /// The last entry.
-    pub fn last(&self) -> Option<Entry>
-        ensures { result ≡ newest (history self.now) }
-    {
-        self.last
-    }
-
     /// Whether nothing more is submitted.
     pub fn is_closed(&self) -> bool
         ensures { result ≡ is_closed (history self.now) }
@@ -128,7 +121,8 @@ impl Ledger {
     /// One entry more.
     pub fn enter(&mut self, entry: Entry)
         requires { IsLegal self.old.config (entry ∷ history self.old) }
-        ensures { self.new ≡ with_entry self.old entry }
+        ensures journal { self.new ≡ with_entry self.old entry }
+        ensures within { length self.new.past ≤ self.new.config.entries }
     {
         self.tally.count(entry.act);
         self.count += 1;

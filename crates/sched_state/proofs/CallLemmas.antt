@@ -1,8 +1,9 @@
 -- The calls of a scheduler: the rows that they read, and their replies.
-use Rattle.std.proofs.Common.{ℕ, ◌<◌, ◌≤◌, ◌≡◌, ◌≢◌, Bool, true, false, cond, arith, refl, sym, ap, subst, ◌∙◌, ◌∷◌, ◌++◌, Option, Some, None}
+use Rattle.std.proofs.Common.{ℕ, ◌<◌, ◌≤◌, ◌≡◌, ◌≢◌, Bool, true, false, cond, arith, refl, sym, ap, subst, ◌∙◌, [], ◌∷◌, ◌++◌, length, Option, Some, None}
 use Rattle.std.specs.Prelude.{nat_le, Result, Ok, Err}
 use Rattle.std.specs.Result.{IsErrAnd}
 use Rattle.std.proofs.lemmas.Bool.{ne_eqb}
+use Rattle.std.proofs.lemmas.List.{length-append}
 use Rattle.std.proofs.lemmas.Bool.Decides.{nat_tests}
 use Rattle.vt_fixed.specs.declared.limits.TheConstants.{GREATEST_MOMENT}
 use Rattle.fq_model.specs.declared.config.Config.{Config}
@@ -27,6 +28,7 @@ use Rattle.charge_book.proofs.Refusals.{row_of}
 use Rattle.tag_rules.specs.Tables.{ChooserView}
 use Rattle.sched_state.specs.declared.tracker.Tracker.{Tracker}
 use Rattle.sched_journal.specs.Journal.{JournalView, history, with_entry}
+use Rattle.sched_journal.specs.Stores.{StoreView, with_one}
 use Rattle.sched_state.specs.Lists.{JobMap}
 use Rattle.sched_state.specs.declared.replies.AlreadyClosed.{AlreadyClosed}
 use Rattle.sched_state.specs.declared.replies.Taken.{Taken}
@@ -34,29 +36,38 @@ use Rattle.sched_state.specs.declared.replies.Taken.TheVariants as taken
 use Rattle.sched_state.specs.Refusals.{HasNoJob}
 use Rattle.sched_state.specs.Replies.{AnswersCall, HandsOut, HandsBack, change_reply, withdraw_reply, close_reply}
 use Rattle.sched_state.specs.Scheduler.{SchedulerView}
+use Rattle.sched_state.specs.Kept.{IsStored, KeepsScheduler}
 use Rattle.sched_state.specs.Tracker.{Tracks}
 use Rattle.sched_journal.proofs.JournalLemmas.{history_with}
 use Rattle.sched_state.proofs.RefusalLemmas.{room_row}
 
 -- ---- the scheduler after a call
 
-abbrev with_jobs : {J : Type 0} → JournalView → JobMap J → SchedulerView J
-with_jobs j jobs = record { config = j.config; past = j.past; jobs = jobs }
+abbrev with_jobs : {J : Type 0} → JournalView → JobMap J → ℕ → SchedulerView J
+with_jobs j jobs keep = record { config = j.config; past = j.past; jobs = jobs; keep = keep }
 
 -- a call that changes nothing
-pub unmoved : {J : Type 0} (j : JournalView) (jobs : JobMap J) (now : SchedulerView J) (a : Call) (reply : Reply) → with_jobs j jobs ≡ now → Answers j.config (history j) a reply (history j) → AnswersCall now a reply now
-unmoved j jobs now a reply is x = subst (λ s. AnswersCall s a reply s) is (record { answers = x; config_is = refl })
+pub unmoved : {J : Type 0} (j : JournalView) (jobs : JobMap J) (keep : ℕ) (now : SchedulerView J) (a : Call) (reply : Reply) → with_jobs j jobs keep ≡ now → Answers j.config (history j) a reply (history j) → AnswersCall now a reply now
+unmoved j jobs keep now a reply is x = subst (λ v. AnswersCall v a reply v) is (record { answers = x; config_is = refl; keep_is = refl })
 
 -- a call that adds this entry
-pub moved : {J : Type 0} (j k : JournalView) (e : Entry) (jobs more : JobMap J) (now : SchedulerView J) (a : Call) (reply : Reply) → with_jobs j jobs ≡ now → k ≡ with_entry j e → Answers j.config (history j) a reply (e ∷ history j) → AnswersCall now a reply (with_jobs k more)
-moved j k e jobs more now a reply is new x = subst (λ s. AnswersCall s a reply (with_jobs k more)) is (rw new (record {
+pub moved : {J : Type 0} (j k : JournalView) (s t : StoreView) (e : Entry) (jobs more : JobMap J) (now : SchedulerView J) (a : Call) (reply : Reply) → with_jobs j jobs s.keep ≡ now → k ≡ with_entry j e → t ≡ with_one s e → Answers j.config (history j) a reply (e ∷ history j) → AnswersCall now a reply (with_jobs k more t.keep)
+moved j k s t e jobs more now a reply is new stored x = subst (λ v. AnswersCall v a reply (with_jobs k more t.keep)) is (rw (new, stored) (record {
   answers = rw (history_with j.past e) x;
   config_is = refl;
+  keep_is = refl;
 }))
 
 -- all that is kept is of the journal with the entry
-pub entered : {J X : Type 0} (label : J → ℕ) (seen : X → ChooserView) (j k : JournalView) (e : Entry) (t : Tracker J X) → k ≡ with_entry j e → Tracks label seen j.config (e ∷ history j) t → Tracks label seen k.config (history k) t
-entered label seen j k e t new x = rw new (rw (history_with j.past e) x)
+pub entered : {J X : Type 0} (label : J → ℕ) (seen : X → ChooserView) (j k : JournalView) (s t : StoreView) (e : Entry) (tracker : Tracker J X) → k ≡ with_entry j e → t ≡ with_one s e → IsStored j s → Tracks label seen j.config (e ∷ history j) tracker → KeepsScheduler label seen k tracker t
+entered label seen j k s t e tracker new more stored x = rw (new, more) (record {
+  tracks = rw (history_with j.past e) x;
+  stored = record { past_is = ap (λ l. l ++ e ∷ []) stored.past_is; room = stored.room };
+})
+
+-- the store has room for an entry that came
+pub has_room : (j k : JournalView) (s : StoreView) (e : Entry) → IsStored j s → k ≡ with_entry j e → length k.past ≤ k.config.entries → length s.past < s.room
+has_room j k s e stored new within = omega (arith, ap (λ (v : JournalView). length v.past) new, ap (λ (v : JournalView). v.config.entries) new, length-append j.past (e ∷ []), within, ap length stored.past_is, stored.room)
 
 -- refused for this cause
 pub refused : (o : Option Cause) (c : Cause) (P : History) (Accepted : Type 0) → o ≡ Some c → RefusedOrElse o P (answer.Refused c) P Accepted

@@ -7,5 +7,4 @@ pub mod ChargeLemmas
 pub mod KeyLemmas
 pub mod TrackerLemmas
 pub mod CallLemmas
-pub mod KeptLemmas
 pub mod DueLemmas

@@ -1,13 +1,17 @@
--- The kept entries of a scheduler.
-use Rattle.std.specs.Prelude.{ℕ, ◌≡◌, ◌≤◌, ◌⊎◌, List, [], ◌∷◌, ◌++◌}
-use Rattle.fq_model.specs.declared.config.Config.{Config}
-use Rattle.fq_model.specs.declared.event.Entry.{Entry}
+-- All that a scheduler keeps.
+use Rattle.std.specs.Prelude.{ℕ, ◌≡◌, ◌≤◌}
+use Rattle.tag_rules.specs.Tables.{ChooserView}
+use Rattle.sched_journal.specs.Journal.{JournalView, history}
+use Rattle.sched_journal.specs.Stores.{StoreView}
+use Rattle.sched_state.specs.declared.tracker.Tracker.{Tracker}
+use Rattle.sched_state.specs.Tracker.{Tracks}
 
--- the past is the kept entries, or those and one entry more
-abbrev pub IsBehind : List Entry → List Entry → Type 0
-IsBehind kept past = (past ≡ kept) ⊎ ((e : Entry) × (past ≡ kept ++ e ∷ []))
+-- the entries of the journal came to the store, which has room for all that may come
+pub record IsStored (j : JournalView) (s : StoreView) : Type 0 where
+  pub past_is : s.past ≡ j.past
+  pub room : j.config.entries ≤ s.room
 
--- all of the past is kept, and there is capacity for all entries of the configuration
-pub record HoldsAll (C : Config) (past kept : List Entry) (capacity : ℕ) : Type 0 where
-  pub kept_is : kept ≡ past
-  pub room : C.entries ≤ capacity
+-- the tracker keeps the consequences of the journal's entries, and the store those entries
+pub record KeepsScheduler {J X : Type 0} (label : J → ℕ) (seen : X → ChooserView) (j : JournalView) (k : Tracker J X) (s : StoreView) : Type 0 where
+  pub tracks : Tracks label seen j.config (history j) k
+  pub stored : IsStored j s

@@ -5,10 +5,14 @@ ghost use Rattle.sched_state.specs.Replies.{AnswersCall, submit_reply, take_repl
 use crate::replies::{AlreadyClosed, Refused, Taken};
 use crate::scheduler::Scheduler;
 use fq_model::event::{Call, Cause, Reply};
+use sched_journal::Store;
 use tag_rules::chooser::Chooser;
 
 /// The scheduler's reply to a call. The label of a submit is the job of its request.
-pub fn answer<X: Chooser>(scheduler: &mut Scheduler<u64, X>, call: Call) -> Reply
+pub fn answer<X: Chooser, S: Store + Drop>(
+    scheduler: &mut Scheduler<u64, X, S>,
+    call: Call,
+) -> Reply
     ensures { AnswersCall scheduler.old call result scheduler.new }
 {
     match call {

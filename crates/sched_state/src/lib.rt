@@ -2,13 +2,12 @@
 #![tactic(auto)]
 
 pub mod answering;
+mod entries;
 mod refusals;
 mod replies;
 mod scheduler;
-mod scheduler_core;
 mod tracker;
 
 pub use answering::answer;
 pub use replies::{AlreadyClosed, Refused, Taken};
-pub use scheduler::Scheduler;
-pub use scheduler_core::Core;
+pub use scheduler::{Recent, Scheduler};

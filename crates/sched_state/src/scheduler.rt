@@ -1,5 +1,5 @@
 //! A scheduler.
-ghost use Rattle.std.specs.Prelude.{ℕ, ◌≡◌, ◌<◌, ◌≤◌, [], IfOk, IfErr, OnErr, length, pos, ◌≤ℤ◌, vec_capacity};
+ghost use Rattle.std.specs.Prelude.{ℕ, ◌≡◌, ◌<◌, ◌≤◌, [], ◌∷◌, IfOk, IfErr, OnErr, length, pos, ◌≤ℤ◌};
 ghost use Rattle.std.specs.FinMap as map;
 ghost use Rattle.fq_model.specs.declared.event.Call.TheVariants as call;
 ghost use Rattle.fq_model.specs.Due.{IsDue};
@@ -10,59 +10,83 @@ ghost use Rattle.fq_model.specs.Status.{status_of};
 ghost use Rattle.fq_model.specs.Time.{effective_moment};
 ghost use Rattle.fq_model.specs.Pace.{virtual_time};
 ghost use Rattle.charge_book.specs.Histories.{row_of_worker};
-ghost use Rattle.sched_state.specs.Kept.{IsBehind};
+ghost use Rattle.sched_journal.specs.Journal.{history, with_entry};
+ghost use Rattle.sched_journal.specs.Stores.{with_one};
+ghost use Rattle.sched_state.specs.Kept.{IsStored};
 ghost use Rattle.sched_state.specs.Lists.{HoldsWaiting};
-ghost use Rattle.sched_state.specs.Scheduler.{virtual_time_now};
+ghost use Rattle.sched_state.specs.Scheduler.{opened_keeping, virtual_time_now};
 ghost use Rattle.sched_state.specs.Replies.{submit_reply, take_reply, change_reply, withdraw_reply, close_reply, AnswersCall, HandsOut, HandsBack};
 
-use crate::replies::{AlreadyClosed, Refused, Taken};
-use crate::scheduler_core::Core;
+use crate::refusals;
+use crate::replies::{AlreadyClosed, Refused, Taken, due_of};
+use crate::tracker::Tracker;
 use charge_book::row::RunRow;
 use fq_model::config::Checked;
-use fq_model::event::{Cause, Due, Entry};
+use fq_model::event::{Act, Cause, Due, Entry};
 use fq_model::job::Job;
 use fq_model::limits::GREATEST_VIRTUAL_TIME;
 use fq_model::parts::Status;
-use sched_journal::History;
+use sched_journal::{AllEntries, LastEntries, Ledger, Store};
 use std::alloc::{AllocError, Global};
 use std::marker::Model;
 use tag_rules::chooser::Chooser;
 use tag_rules::foresees::Foresees;
 use tag_rules::head_keys::Keys;
+use waiting_lists::item::Item;
 
 /// One history, from its opening on, and the jobs of the requests that wait in it. Contracts see the entries in
-/// order of time, and the jobs by the numbers of their requests. Whoever makes a call names itself by `who`, which
-/// is written down and not looked at, and its clock by `moment`, in microseconds. A call that is answered by
-/// a refusal, by `Idle`, `Drained` or `Retired` changes nothing; each other call adds one entry. No call looks back at
-/// the entries: a tracker keeps their consequences, and `X` chooses among the heads of the tenants.
+/// order of time, and the jobs by the numbers of their requests; at run time the store `S` keeps the entries, all of
+/// them where it is not named. Whoever makes a call names itself by `who`, which is written down and not looked at, and
+/// its clock by `moment`, in microseconds. A call that is answered by a refusal, by `Idle`, `Drained` or `Retired`
+/// changes nothing; each other call adds one entry. No call looks back at the entries: a tracker keeps their
+/// consequences, and `X` chooses among the heads of the tenants.
 #[derive(Drop)]
-pub struct Scheduler<J: Job, X: Chooser> {
-    core: Core<J, X>,
-    entries: Vec<Entry>,
+pub struct Scheduler<J: Job, X: Chooser, S: Store = AllEntries> {
+    pub(crate) journal: Ledger,
+    pub(crate) tracker: Tracker<J, X>,
+    pub(crate) store: S,
 }
 
-impl<J: Job, X: Chooser> Model for Scheduler<J, X> {
-    ghost use Rattle.std.specs.Prelude.{vec_capacity};
-    ghost use Rattle.sched_state.specs.Kept.{HoldsAll};
+/// A scheduler that keeps the last of its entries, as many as were asked for at its opening.
+pub type Recent<J, X> = Scheduler<J, X, LastEntries>;
+
+impl<J: Job, X: Chooser, S: Store> Model for Scheduler<J, X, S> {
     ghost use Rattle.sched_state.specs.Scheduler.{SchedulerView, scheduler_code};
+    ghost use Rattle.sched_state.specs.Lists.{jobs_in};
+    ghost use Rattle.sched_state.specs.Kept.{KeepsScheduler};
 
     ghost Value = { SchedulerView J };
 
     ghost coded = { scheduler_code J.code };
 
-    ghost view = { λ s. s.core };
+    ghost view = { λ s. record {
+      config = s.journal.config;
+      past = s.journal.past;
+      jobs = jobs_in s.tracker.lists.lists;
+      keep = (S.seen s.store).keep;
+    } };
 
-    ghost invariant = { λ s. HoldsAll s.core.config s.core.past s.entries.items (vec_capacity s.entries) };
+    ghost invariant = { λ s. KeepsScheduler J.label_of X.seen s.journal s.tracker (S.seen s.store) };
 }
 
-impl<J: Job + Drop, X: Chooser> Scheduler<J, X> {
-    /// Takes all the memory that the scheduler will use.
-    pub fn open(alloc: Global, config: Checked) -> Result<Scheduler<J, X>, AllocError>
-        ensures { IfOk result (λ s. s ≡ record { config = config; past = []; jobs = map.empty }) }
+impl<J: Job + Drop, X: Chooser, S: Store + Drop> Scheduler<J, X, S> {
+    // Takes all the memory that the scheduler will use beside its store, which has no entry yet.
+    pub(crate) fn over(
+        alloc: Global,
+        config: Checked,
+        store: S,
+    ) -> Result<Scheduler<J, X, S>, AllocError>
+        requires empty { (S.seen store).past ≡ [] }
+        requires room { config.entries ≤ (S.seen store).room }
+        ensures { IfOk result (λ s. s ≡ opened_keeping (S.seen store).keep config) }
     {
-        let entries = Vec::with_capacity(alloc, config.entries() as usize)?;
-        let core = Core::open(alloc, config)?;
-        Ok(Scheduler { core, entries })
+        let journal = Ledger::open(config);
+        let tracker = Tracker::open(alloc, journal.config())?;
+        Ok(Scheduler {
+            journal,
+            tracker,
+            store,
+        })
     }
 
     /// A request of this tenant and kind comes, with the cost that its submitter names for it, in microseconds.
@@ -82,9 +106,33 @@ impl<J: Job + Drop, X: Chooser> Scheduler<J, X> {
         ensures job_back { IfErr result (λ f. f.job ≡ job) }
         ensures unchanged { OnErr result (self.new ≡ self.old) }
     {
-        let outcome = self.core.submit(who, moment, tenant, kind, declared, job);
-        keep_newest(&mut self.entries, &self.core);
-        outcome
+        let allowed = refusals::submit(&self.journal, &self.tracker, tenant, kind, declared);
+        if let Err(cause) = allowed {
+            return Err(Refused { job, cause });
+        }
+        let moment = self.journal.effective(moment);
+        let request = self.journal.submits();
+        let label = job.label();
+        let item = Item {
+            request,
+            kind,
+            declared,
+            job,
+        };
+        self.tracker.submit(&self.journal, moment, tenant, item);
+        let act = Act::Submit {
+            request,
+            tenant,
+            kind,
+            declared,
+            label,
+        };
+        enter(
+            &mut self.journal,
+            &mut self.store,
+            Entry { who, moment, act },
+        );
+        Ok(request)
     }
 
     /// A worker asks for work, and gets the job of the chosen request, if one waits and the worker is below the number
@@ -93,9 +141,27 @@ impl<J: Job + Drop, X: Chooser> Scheduler<J, X> {
         ensures answers { AnswersCall self.old (call.Take who moment worker) (take_reply J.label_of result) self.new }
         ensures jobs { HandsOut self.old result self.new }
     {
-        let outcome = self.core.take(who, moment, worker);
-        keep_newest(&mut self.entries, &self.core);
-        outcome
+        if let Some(told) = refusals::take(&self.journal, &self.tracker, worker) {
+            return told;
+        }
+        let moment = self.journal.effective(moment);
+        let (item, estimate) = self.tracker.take(&self.journal, moment, worker);
+        let request = item.request;
+        let act = Act::Take {
+            worker,
+            request,
+            estimate,
+        };
+        enter(
+            &mut self.journal,
+            &mut self.store,
+            Entry { who, moment, act },
+        );
+        Taken::Run {
+            request,
+            estimate,
+            job: item.job,
+        }
     }
 
     /// The worker's request has come to this use, in microseconds, and runs on. Its charge is from now on the greater
@@ -107,9 +173,21 @@ impl<J: Job + Drop, X: Chooser> Scheduler<J, X> {
         ensures jobs { self.new.jobs ≡ self.old.jobs }
         ensures unchanged { OnErr result (self.new ≡ self.old) }
     {
-        let outcome = self.core.report(who, moment, worker, used);
-        keep_newest(&mut self.entries, &self.core);
-        outcome
+        let row = refusals::report(&self.journal, &self.tracker, worker, used)?;
+        let moment = self.journal.effective(moment);
+        self.tracker
+            .report(&self.journal, moment, worker, row, used);
+        let act = Act::Report {
+            worker,
+            request: row.request,
+            used,
+        };
+        enter(
+            &mut self.journal,
+            &mut self.store,
+            Entry { who, moment, act },
+        );
+        Ok(())
     }
 
     /// The worker's request has ended, and this is its measured cost, in microseconds.
@@ -118,9 +196,20 @@ impl<J: Job + Drop, X: Chooser> Scheduler<J, X> {
         ensures jobs { self.new.jobs ≡ self.old.jobs }
         ensures unchanged { OnErr result (self.new ≡ self.old) }
     {
-        let outcome = self.core.done(who, moment, worker, cost);
-        keep_newest(&mut self.entries, &self.core);
-        outcome
+        let row = refusals::done(&self.journal, &self.tracker, worker, cost)?;
+        let moment = self.journal.effective(moment);
+        self.tracker.done(&self.journal, moment, worker, row, cost);
+        let act = Act::Done {
+            worker,
+            request: row.request,
+            cost,
+        };
+        enter(
+            &mut self.journal,
+            &mut self.store,
+            Entry { who, moment, act },
+        );
+        Ok(())
     }
 
     /// Nothing more is submitted from here on.
@@ -129,9 +218,16 @@ impl<J: Job + Drop, X: Chooser> Scheduler<J, X> {
         ensures jobs { self.new.jobs ≡ self.old.jobs }
         ensures unchanged { OnErr result (self.new ≡ self.old) }
     {
-        let outcome = self.core.close(who, moment);
-        keep_newest(&mut self.entries, &self.core);
-        outcome
+        refusals::close(&self.journal)?;
+        let moment = self.journal.effective(moment);
+        self.tracker.close(&self.journal, moment);
+        let act = Act::Close;
+        enter(
+            &mut self.journal,
+            &mut self.store,
+            Entry { who, moment, act },
+        );
+        Ok(())
     }
 
     /// The tenant has this weight from here on, 1 to 1,000. Its running requests stay charged at the weight that it had
@@ -143,9 +239,16 @@ impl<J: Job + Drop, X: Chooser> Scheduler<J, X> {
         ensures jobs { self.new.jobs ≡ self.old.jobs }
         ensures unchanged { OnErr result (self.new ≡ self.old) }
     {
-        let outcome = self.core.weight(who, moment, tenant, weight);
-        keep_newest(&mut self.entries, &self.core);
-        outcome
+        refusals::weight(&self.journal, &self.tracker, tenant, weight)?;
+        let moment = self.journal.effective(moment);
+        self.tracker.reweigh(&self.journal, moment, tenant, weight);
+        let act = Act::Weight { tenant, weight };
+        enter(
+            &mut self.journal,
+            &mut self.store,
+            Entry { who, moment, act },
+        );
+        Ok(())
     }
 
     /// There are `count` workers from here on, those with lower numbers: 1 to the number at the opening. A worker above
@@ -157,9 +260,16 @@ impl<J: Job + Drop, X: Chooser> Scheduler<J, X> {
         ensures jobs { self.new.jobs ≡ self.old.jobs }
         ensures unchanged { OnErr result (self.new ≡ self.old) }
     {
-        let outcome = self.core.workers(who, moment, count);
-        keep_newest(&mut self.entries, &self.core);
-        outcome
+        refusals::workers(&self.journal, &self.tracker, count)?;
+        let moment = self.journal.effective(moment);
+        self.tracker.staff(&self.journal, moment, count);
+        let act = Act::Workers { count };
+        enter(
+            &mut self.journal,
+            &mut self.store,
+            Entry { who, moment, act },
+        );
+        Ok(())
     }
 
     /// A request that waits is withdrawn: it is never taken, and its job comes back. May be called after a close, too.
@@ -169,27 +279,33 @@ impl<J: Job + Drop, X: Chooser> Scheduler<J, X> {
             self.new }
         ensures jobs { HandsBack self.old request result self.new }
     {
-        let outcome = self.core.withdraw(who, moment, request);
-        keep_newest(&mut self.entries, &self.core);
-        outcome
+        refusals::withdraw(&self.tracker, request)?;
+        let moment = self.journal.effective(moment);
+        let job = self.tracker.withdraw(&self.journal, moment, request);
+        let act = Act::Withdraw { request };
+        enter(
+            &mut self.journal,
+            &mut self.store,
+            Entry { who, moment, act },
+        );
+        Ok(job)
     }
 
-    /// The entries, in order of time. Each request that waits has its job here, and no other has.
-    pub fn past(&self) -> &[Entry]
-        ensures entries { result.now ≡ self.now.past }
+    /// How many entries there are. Each request that waits has its job here, and no other has.
+    pub fn len(&self) -> u32
+        ensures value { result ≡ length self.now.past }
+        ensures within { result ≤ self.now.config.entries }
         ensures legal { IsLegal self.now.config (history_of self.now.past) }
         ensures held { HoldsWaiting J.label_of (history_of self.now.past) self.now.jobs }
     {
-        // its clauses speak of all entries
-        self.core.len();
-        self.entries.as_slice()
+        self.journal.len()
     }
 
     /// The configuration, as at the opening.
     pub fn config(&self) -> &Checked
         ensures { result.now ≡ self.now.config }
     {
-        self.core.config()
+        self.journal.config()
     }
 
     /// The keys of the tenant's head, if it has one. They are the same at any moment until the next entry.
@@ -197,7 +313,7 @@ impl<J: Job + Drop, X: Chooser> Scheduler<J, X> {
         requires { tenant < length self.now.config.weights }
         ensures { (m : ℕ) → result ≡ keys_at self.now.config (history_of self.now.past) m tenant }
     {
-        self.core.keys(tenant)
+        self.tracker.keys_of(self.journal.config(), tenant)
     }
 
     /// Virtual time at the last entry, in steps.
@@ -206,7 +322,7 @@ impl<J: Job + Drop, X: Chooser> Scheduler<J, X> {
         ensures low { pos 0 ≤ℤ result }
         ensures high { result ≤ℤ GREATEST_VIRTUAL_TIME }
     {
-        self.core.virtual_time()
+        self.tracker.times().now()
     }
 
     /// Virtual time at a moment, in steps, where no call is accepted before. A moment before the last entry's counts as
@@ -217,14 +333,14 @@ impl<J: Job + Drop, X: Chooser> Scheduler<J, X> {
         ensures low { pos 0 ≤ℤ result }
         ensures high { result ≤ℤ GREATEST_VIRTUAL_TIME }
     {
-        self.core.virtual_time_at(moment)
+        self.tracker.times().at(self.journal.effective(moment))
     }
 
     /// How many workers there are now: 1 to as many as at the opening.
     pub fn pool(&self) -> u32
         ensures { result ≡ pool_at self.now.config (history_of self.now.past) }
     {
-        self.core.pool()
+        self.tracker.times().workers()
     }
 
     /// The request that runs on the worker, and the numbers that decide its charge.
@@ -232,47 +348,42 @@ impl<J: Job + Drop, X: Chooser> Scheduler<J, X> {
         requires { worker < self.now.config.workers }
         ensures { result ≡ row_of_worker self.now.config (history_of self.now.past) worker }
     {
-        self.core.running(worker)
+        self.tracker.book().running(worker)
     }
 
     /// The status of the history at its last entry.
     pub fn status(&self) -> Status
         ensures { result ≡ status_of self.now.config (history_of self.now.past) }
     {
-        self.core.status()
+        Status {
+            entries: self.journal.len() as u64,
+            moment: self.journal.last_moment(),
+            vtime: self.tracker.times().now(),
+            waiting: self.tracker.lists().len(),
+            running: self.journal.running(),
+        }
     }
 }
 
-impl<J: Job + Drop, X: Foresees> Scheduler<J, X> {
+impl<J: Job + Drop, X: Foresees, S: Store + Drop> Scheduler<J, X, S> {
     /// Foresees a take by the worker at this moment. Nothing changes, and later calls may be at earlier moments.
     pub fn due(&self, moment: u64, worker: u32) -> Due
         ensures { IsDue self.now.config (history_of self.now.past) moment worker result }
     {
-        self.core.due(moment, worker)
-    }
-}
-
-impl<J: Job + Drop, X: Chooser + Drop> Scheduler<J, X> {
-    /// Its history, to which nothing is added any more. The jobs of the requests that still wait are dropped.
-    pub fn into_history(self) -> History
-        ensures past { result.past ≡ self.past }
-        ensures config { result.config ≡ self.config }
-    {
-        let Scheduler { core, entries } = self;
-        History::of(core.into_config(), entries)
-    }
-}
-
-// Keeps the core's last entry, where it is not kept yet.
-fn keep_newest<J: Job + Drop, X: Chooser>(entries: &mut Vec<Entry>, core: &Core<J, X>)
-    requires behind { IsBehind entries.old.items core.now.past }
-    requires room { core.now.config.entries ≤ vec_capacity entries.old }
-    ensures entries { entries.new.items ≡ core.now.past }
-    ensures room { vec_capacity entries.new ≡ vec_capacity entries.old }
-{
-    if entries.len() < core.len() as usize {
-        if let Some(entry) = core.last() {
-            entries.push_reserved(entry);
+        match refusals::take(&self.journal, &self.tracker, worker) {
+            Some(told) => due_of(told),
+            None => self.tracker.due(&self.journal, moment, worker),
         }
     }
+}
+
+// One entry more, in the journal and in the store.
+fn enter<S: Store>(journal: &mut Ledger, store: &mut S, entry: Entry)
+    requires legal { IsLegal journal.old.config (entry ∷ history journal.old) }
+    requires stored { IsStored journal.old (S.seen store.old) }
+    ensures journal { journal.new ≡ with_entry journal.old entry }
+    ensures store { S.seen store.new ≡ with_one (S.seen store.old) entry }
+{
+    journal.enter(entry);
+    store.push(entry);
 }

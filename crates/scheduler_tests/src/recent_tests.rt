@@ -1,6 +1,5 @@
 use fq_model::config::Checked;
 use fq_model::event::{Call, Cause, Due, Reply};
-use recent_history::Recent;
 use rival_policies::plain::PlainChooser;
 use sched_state::Scheduler;
 use std::alloc::Global;
@@ -108,13 +107,13 @@ fn is_same(a: Reply, b: Reply) -> bool {
 // in all.
 fn expect_last<R: Abort>(rt: &R, alloc: Global, keep: u32, calls: &[Call], entries: u32) {
     let whole = Scheduler::<u64, PlainChooser>::open(alloc, short_history(rt, alloc));
-    let recent = Recent::<u64, PlainChooser>::open(alloc, short_history(rt, alloc), keep);
+    let recent = Recent::<u64, PlainChooser>::open_keeping(alloc, short_history(rt, alloc), keep);
     let (Ok(mut whole), Ok(mut recent)) = (whole, recent) else {
         panic!(rt; "no memory for schedulers")
     };
     for call in calls {
         let reply = sched_state::answer(&mut whole, *call);
-        assert!(rt; is_same(recent_history::answer(&mut recent, *call), reply));
+        assert!(rt; is_same(sched_state::answer(&mut recent, *call), reply));
         expect_kept(rt, &whole, &recent, keep);
     }
     assert_eq!(rt; recent.len(), entries);
@@ -170,13 +169,13 @@ fn one_is_withdrawn_where_two_are_kept(rt: HostRuntime) {
 // The second of two requests is eligible once its tenant's charge of 4 has passed in virtual time, from the moment 1 on.
 #[test]
 fn a_worker_that_asks_what_it_would_find(rt: HostRuntime) {
-    let recent = Recent::<u64, PlainChooser>::open(rt.alloc(), short_history(&rt, rt.alloc()), 1);
+    let recent = Recent::<u64, PlainChooser>::open_keeping(rt.alloc(), short_history(&rt, rt.alloc()), 1);
     let Ok(mut recent) = recent else {
         panic!(rt; "no memory for a scheduler")
     };
     assert!(rt; matches!(recent.due(1, 0), Due::Nothing));
     for call in [submit(1, 0), submit(1, 0), take(1), done(2)] {
-        recent_history::answer(&mut recent, call);
+        sched_state::answer(&mut recent, call);
     }
     for moment in [0, 4] {
         let early = recent.due(moment, 0);

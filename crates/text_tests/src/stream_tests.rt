@@ -9,7 +9,7 @@ use journal_check::read_journal;
 use journal_text::calls::read_script;
 use journal_text::printing::{begin_journal, entry_line};
 use program_model::verdict::Verdict;
-use recent_history::{Recent, answer};
+use sched_state::{Recent, answer};
 use std::alloc::{AllocError, Global};
 use std::process::Abort;
 

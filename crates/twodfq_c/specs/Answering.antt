@@ -2,20 +2,19 @@
 use Rattle.std.specs.Prelude.{◌≡◌, ℕ, Some, None}
 use Rattle.fq_model.specs.declared.event.Call.{Call}
 use Rattle.fq_model.specs.declared.event.Reply.{Reply}
-use Rattle.recent_history.specs.Views.{RecentView}
 use Rattle.sched_state.specs.Replies.{AnswersCall}
+use Rattle.sched_state.specs.Scheduler.{SchedulerView}
 use Rattle.twodfq_c.specs.declared.reply.PlainReply.{PlainReply}
 use Rattle.twodfq_c.specs.Held.{Held}
 use Rattle.twodfq_c.specs.Replies.{plain_reply, no_scheduler}
 
--- the scheduler answers the call, the numbers are its reply's, and the new scheduler is held; as many entries are kept
-pub record AnswersInNumbers (old : RecentView ℕ) (call : Call) (plain : PlainReply) (new : Held) : Type 0 where
+-- the scheduler answers the call, the numbers are its reply's, and the new scheduler is held
+pub record AnswersInNumbers (old : SchedulerView ℕ) (call : Call) (plain : PlainReply) (new : Held) : Type 0 where
   pub reply : Reply
-  pub left : RecentView ℕ
+  pub left : SchedulerView ℕ
   pub numbers : plain ≡ plain_reply reply
   pub held : new ≡ Some left
-  pub answers : AnswersCall old.scheduler call reply left.scheduler
-  pub keep : left.keep ≡ old.keep
+  pub answers : AnswersCall old call reply left
 
 -- where no scheduler is held the reply says so, and none is held afterwards
 abbrev pub AnswersHeld : Held → Call → PlainReply → Held → Type 0

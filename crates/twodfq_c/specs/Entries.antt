@@ -5,7 +5,7 @@ use Rattle.fq_model.specs.declared.event.Act.{Act}
 use Rattle.fq_model.specs.declared.event.Act.TheVariants as act
 use Rattle.fq_model.specs.History.{history_of}
 use Rattle.fq_model.specs.Rules.{IsLegal}
-use Rattle.recent_history.specs.Kept.{kept_entry}
+use Rattle.sched_journal.specs.Stores.{kept_entry}
 use Rattle.twodfq_c.specs.declared.entry.PlainEntry.{PlainEntry}
 use Rattle.twodfq_c.specs.Held.{Held}
 
@@ -65,5 +65,4 @@ plain_found first (Some entry) = plain_entry entry
 abbrev pub ReadsHeld : Held → ℕ → PlainEntry → Type 0
 ReadsHeld None index plain = plain ≡ no_entry 0
 ReadsHeld (Some s) index plain =
-    (plain ≡ plain_found (length s.scheduler.past - s.keep) (kept_entry s.keep s.scheduler.past index))
-    × IsLegal s.scheduler.config (history_of s.scheduler.past)
+    (plain ≡ plain_found (length s.past - s.keep) (kept_entry s.keep s.past index)) × IsLegal s.config (history_of s.past)

@@ -1,7 +1,7 @@
 -- The scheduler that a handle holds, if it holds one.
 use Rattle.std.specs.Prelude.{ℕ, Option}
-use Rattle.recent_history.specs.Views.{RecentView}
+use Rattle.sched_state.specs.Scheduler.{SchedulerView}
 
--- a scheduler and how many of its last entries are kept, or none; its jobs are the labels of the requests that wait
+-- a scheduler, or none; its jobs are the labels of the requests that wait
 abbrev pub Held : Type 0
-Held = Option (RecentView ℕ)
+Held = Option (SchedulerView ℕ)

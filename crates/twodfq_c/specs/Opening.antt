@@ -84,10 +84,7 @@ pub record HoldsOpened (o : Opening) (weights : List ℕ) (new : Held) : Type 0 
   pub config_is : IsConfigOf o weights config
   pub in_limits : InLimits config
   pub faultless : opening_fault o config ≡ None
-  pub held : new ≡ Some (record {
-    scheduler = record { config = config; past = []; jobs = map.empty };
-    keep = kept_of o;
-  })
+  pub held : new ≡ Some (opened_keeping (kept_of o) config)
 
 -- why no scheduler was opened: one is there; else it is the numbers
 abbrev pub WhyNotOpened : Held → Opening → List ℕ → Refusal → Type 0

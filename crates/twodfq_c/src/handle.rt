@@ -10,7 +10,7 @@ use crate::reply::PlainReply;
 use crate::slot::{Served, Slot};
 use crate::status::{PlainStatus, status_of};
 use fq_model::event::Call;
-use recent_history::answer;
+use sched_state::answer;
 use std::alloc::Global;
 use std::marker::Send;
 

@@ -10,7 +10,7 @@ ghost use Rattle.twodfq_c.specs.Opening.{status, fault_status, policy_number, es
 use crate::handle::Handle;
 use fq_model::config::{Checked, Config, ConfigFault, Estimator, Policy, Weights};
 use fq_model::limits::{MOST_TENANTS, MOST_WORKERS};
-use recent_history::Recent;
+use sched_state::Recent;
 use std::alloc::{AllocError, Global};
 
 /// A configuration without its weights. `policy` is 0 for wfq, 1 for wf2q, 2 for msf2q, 3 for 2dfq, 4 for 2dfq+;
@@ -79,7 +79,7 @@ fn opened(alloc: Global, opening: &Opening, weights: &[u32]) -> Result<Handle, R
         Ok(checked) => checked,
         Err(fault) => return Err(Refusal::Config(fault)),
     };
-    let scheduler = Recent::open(alloc, checked, opening.kept())?;
+    let scheduler = Recent::open_keeping(alloc, checked, opening.kept())?;
     let Ok(served) = Box::new(alloc, scheduler) else {
         return Err(Refusal::NoMemory);
     };

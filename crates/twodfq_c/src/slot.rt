@@ -4,7 +4,7 @@ ghost use Rattle.std.specs.Coded.{coded_option};
 ghost use Rattle.twodfq_c.specs.Owned.{served, slot_owns};
 
 use crate::loose::Loose;
-use recent_history::Recent;
+use sched_state::Recent;
 use shared_order::chooser::SharedChooser;
 use std::alloc::Global;
 use std::marker::{Model, Send};
