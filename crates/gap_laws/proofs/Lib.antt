@@ -13,5 +13,3 @@ pub mod Service
 pub mod Takes
 pub mod Told
 pub mod Bounds
-pub mod Computed
-pub mod ComputedLeads

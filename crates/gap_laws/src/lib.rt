@@ -2,5 +2,4 @@
 //! change: whatever the costs, and where every cost is as declared.
 #![tactic(auto)]
 
-pub mod examples;
 pub mod laws;

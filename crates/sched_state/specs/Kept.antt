@@ -11,7 +11,8 @@ pub record IsStored (j : JournalView) (s : StoreView) : Type 0 where
   pub past_is : s.past ≡ j.past
   pub room : j.config.entries ≤ s.room
 
--- the tracker keeps the consequences of the journal's entries, and the store those entries
-pub record KeepsScheduler {J X : Type 0} (label : J → ℕ) (seen : X → ChooserView) (j : JournalView) (k : Tracker J X) (s : StoreView) : Type 0 where
-  pub tracks : Tracks label seen j.config (history j) k
-  pub stored : IsStored j s
+module _ {J X : Type 0} (label : J → ℕ) (seen : X → ChooserView) where
+  -- the tracker keeps the consequences of the journal's entries, and the store those entries
+  pub record KeepsScheduler (j : JournalView) (k : Tracker J X) (s : StoreView) : Type 0 where
+    pub tracks : Tracks label seen j.config (history j) k
+    pub stored : IsStored j s

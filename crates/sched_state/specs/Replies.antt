@@ -50,11 +50,12 @@ abbrev pub close_reply : Result (Unit {0}) AlreadyClosed → Reply
 close_reply (Ok closed) = answer.Accepted
 close_reply (Err closed) = answer.Refused cause.Closed
 
--- the call is answered so, and leaves this
-pub record AnswersCall {J : Type 0} (old : SchedulerView J) (call : Call) (reply : Reply) (new : SchedulerView J) : Type 0 where
-  pub answers : Answers old.config (history_of old.past) call reply (history_of new.past)
-  pub config_is : new.config ≡ old.config
-  pub keep_is : new.keep ≡ old.keep
+module _ {J : Type 0} where
+  -- the call is answered so, and leaves this
+  pub record AnswersCall (old : SchedulerView J) (call : Call) (reply : Reply) (new : SchedulerView J) : Type 0 where
+    pub answers : Answers old.config (history_of old.past) call reply (history_of new.past)
+    pub config_is : new.config ≡ old.config
+    pub keep_is : new.keep ≡ old.keep
 
 -- a job that is handed out is its request's, and is kept no longer; else nothing changes
 abbrev pub HandsOut : {J : Type 0} → SchedulerView J → Taken J → SchedulerView J → Type 0

@@ -24,7 +24,12 @@ pub record SchedulerView (J : Type 0) : Type 0 where
 -- as the tuple of its fields
 abbrev pub scheduler_code : {J : Type 0} → Coded J → Coded (SchedulerView J)
 scheduler_code {J} c =
-    code_by (Config × (List Entry × (JobMap J × ℕ))) (coded× config_type.the_row.coded (coded× (coded_list entry_type.the_row.coded) (coded× (map.code {R = nat_cmp} coded_ℕ c) coded_ℕ))) (λ s. (s.config, (s.past, (s.jobs, s.keep)))) (λ p. record { config = p.0; past = p.1.0; jobs = p.1.1.0; keep = p.1.1.1 }) (λ _. refl)
+    code_by (Config × (List Entry × (JobMap J × ℕ)))
+    (coded× config_type.the_row.coded (coded× (coded_list entry_type.the_row.coded)
+    (coded× (map.code {R = nat_cmp} coded_ℕ c) coded_ℕ)))
+    (λ s. (s.config, (s.past, (s.jobs, s.keep))))
+    (λ p. record { config = p.0; past = p.1.0; jobs = p.1.1.0; keep = p.1.1.1 })
+    (λ _. refl)
 
 -- a scheduler that keeps this number of its last entries, and that no call came to
 abbrev pub opened_keeping : {J : Type 0} → ℕ → Config → SchedulerView J

@@ -33,26 +33,6 @@ pub record Mirrors {J X : Type 0} (label : J → ℕ) (C : Config) (P : History)
   pub costs_are : CostsAre C P k.costs
   pub times_are : TimesAre C P k.times
 
--- and so are the keys of all heads
-pub record Tracks {J X : Type 0} (label : J → ℕ) (seen : X → ChooserView) (C : Config) (P : History) (k : Tracker J X) : Type 0 where
-  pub mirrors : Mirrors label C P k
-  pub chooser_is : ChooserIs C P (seen k.chooser)
-
--- and so are the keys of all heads but that of this tenant, who is one of the configuration
-pub record TracksBut {J X : Type 0} (label : J → ℕ) (seen : X → ChooserView) (tenant : ℕ) (C : Config) (P : History) (k : Tracker J X) : Type 0 where
-  pub mirrors : Mirrors label C P k
-  pub tenant_known : tenant < length C.weights
-  pub chooser_is : ChooserIsBut tenant C P (seen k.chooser)
-
--- the tracker is so for some history
-pub record TracksSomeBut {J X : Type 0} (label : J → ℕ) (seen : X → ChooserView) (tenant : ℕ) (C : Config) (k : Tracker J X) : Type 0 where
-  pub past : History
-  pub tracks : TracksBut label seen tenant C past k
-
--- all is of the journal with one entry more, of the moment m and with this act, whoever makes the call
-abbrev pub TracksAfter : {J X : Type 0} → (J → ℕ) → (X → ChooserView) → JournalView → ℕ → Act → Tracker J X → Type 0
-TracksAfter label seen j m act k = (who : ℕ) → Tracks label seen j.config (one_more who m act (history j)) k
-
 -- the Submit of an item
 abbrev pub submit_act : {J : Type 0} → (J → ℕ) → ℕ → Item J → Act
 submit_act label tenant i = Submit i.request tenant i.kind i.declared (label i.job)
@@ -67,12 +47,33 @@ pub record MayBegin (j : JournalView) (m worker : ℕ) : Type 0 where
   pub in_range : m ≤ GREATEST_MOMENT
   pub gets : GetsWork j.config (history j) worker
 
--- the worker takes this item, which is chosen at m, at this estimate: it waits no longer, and all else follows its
--- Take
-pub record Begins {J X : Type 0} (label : J → ℕ) (seen : X → ChooserView) (j : JournalView) (m worker : ℕ) (old : Tracker J X) (i : Item J) (estimate : ℕ) (new : Tracker J X) : Type 0 where
-  pub asked : Request
-  pub label_is : asked.label ≡ label i.job
-  pub chosen : IsChosen j.config (history j) m worker i.request estimate asked
-  pub tracks : TracksAfter label seen j m (Take worker i.request estimate) new
-  pub job_is : map.get (jobs_in old.lists.lists) i.request ≡ Some i.job
-  pub jobs_are : jobs_in new.lists.lists ≡ map.remove (jobs_in old.lists.lists) i.request
+module _ {J X : Type 0} (label : J → ℕ) (seen : X → ChooserView) where
+  -- all that is kept is the history's own, the keys of all heads too
+  pub record Tracks (C : Config) (P : History) (k : Tracker J X) : Type 0 where
+    pub mirrors : Mirrors label C P k
+    pub chooser_is : ChooserIs C P (seen k.chooser)
+
+  -- the keys of all heads but that of this tenant, who is one of the configuration
+  pub record TracksBut (tenant : ℕ) (C : Config) (P : History) (k : Tracker J X) : Type 0 where
+    pub mirrors : Mirrors label C P k
+    pub tenant_known : tenant < length C.weights
+    pub chooser_is : ChooserIsBut tenant C P (seen k.chooser)
+
+  -- the tracker is so for some history
+  pub record TracksSomeBut (tenant : ℕ) (C : Config) (k : Tracker J X) : Type 0 where
+    pub past : History
+    pub tracks : TracksBut tenant C past k
+
+  -- all is of the journal with one entry more, of the moment m and with this act, whoever makes the call
+  abbrev pub TracksAfter : JournalView → ℕ → Act → Tracker J X → Type 0
+  TracksAfter j m act k = (who : ℕ) → Tracks j.config (one_more who m act (history j)) k
+
+  -- the worker takes this item, which is chosen at m, at this estimate: it waits no longer, and all else follows its
+  -- Take
+  pub record Begins (j : JournalView) (m worker : ℕ) (old : Tracker J X) (i : Item J) (estimate : ℕ) (new : Tracker J X) : Type 0 where
+    pub asked : Request
+    pub label_is : asked.label ≡ label i.job
+    pub chosen : IsChosen j.config (history j) m worker i.request estimate asked
+    pub tracks : TracksAfter j m (Take worker i.request estimate) new
+    pub job_is : map.get (jobs_in old.lists.lists) i.request ≡ Some i.job
+    pub jobs_are : jobs_in new.lists.lists ≡ map.remove (jobs_in old.lists.lists) i.request

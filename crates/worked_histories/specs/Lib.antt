@@ -1,3 +1,4 @@
 pub mod Examples
 pub mod Paced
 pub mod Withdrawn
+pub mod Gaps

@@ -2,5 +2,6 @@
 #![tactic(auto)]
 
 pub mod examples;
+pub mod gaps;
 pub mod paced;
 pub mod withdrawn;

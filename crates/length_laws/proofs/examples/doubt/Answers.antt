@@ -5,7 +5,7 @@ use Rattle.fq_model.specs.Rules.{IsLegal}
 use Rattle.worked_histories.specs.Examples.{units}
 use Rattle.worked_histories.proofs.Computed.Histories.{IsShort, computing}
 use Rattle.worked_histories.proofs.Computed.Legal.{legal_is, limits_are}
-use Rattle.gap_laws.specs.Examples.{doubt_config, doubt_history}
+use Rattle.worked_histories.specs.Gaps.{doubt_config, doubt_history}
 use Rattle.gap_laws.specs.Words.{AreNoLonger}
 use Rattle.length_laws.specs.Laws.{KeepLimits}
 use Rattle.length_laws.proofs.Foretold.{lengths_foretold}

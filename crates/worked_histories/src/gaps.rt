@@ -9,8 +9,8 @@ ghost use Rattle.fq_model.specs.Rules.{IsLegal};
 ghost use Rattle.fq_model.specs.Gap.{longest_length, tag_gap};
 ghost use Rattle.worked_histories.specs.Examples.{units};
 ghost use Rattle.gap_laws.specs.Words.{HasDeclaredCosts, takes_after};
-ghost use Rattle.gap_laws.specs.Examples.{gap_of, stagger_config, stagger_history, begun_config, begun_history, weights_config, weights_history};
-ghost use Rattle.gap_laws.specs.Examples.{doubt_config, doubt_history, free_begun, free_newer};
+ghost use Rattle.worked_histories.specs.Gaps.{gap_of, stagger_config, stagger_history, begun_config, begun_history, weights_config, weights_history};
+ghost use Rattle.worked_histories.specs.Gaps.{doubt_config, doubt_history, free_begun, free_newer};
 
 /// Under the staggered policy one longest length is not enough. At 4 tenant 0 starts at 8, and worker 1 of 2 takes half
 /// of its 8 off: it is eligible at 4. Tenant 1 starts at 6 and is eligible at 6 - 1/2, so tenant 0 is chosen and goes

@@ -1,9 +1,9 @@
 use Rattle.std.proofs.Common.{refl, arith, ◌++◌}
-use Rattle.gap_laws.specs.Examples.{doubt_config, free_begun, free_newer}
+use Rattle.worked_histories.specs.Gaps.{doubt_config, free_begun, free_newer}
 use Rattle.worked_histories.proofs.Computed.Histories.{IsShort, computing}
 use Rattle.worked_histories.proofs.Computed.Legal.{legal_is, limits_are}
-use Rattle.gap_laws.proofs.ComputedLeads.{measured_is, computing_lead}
-use Rattle.gap_laws.proofs.examples.free.Goals as goal
+use Rattle.worked_histories.proofs.ComputedLeads.{measured_is, computing_lead}
+use Rattle.worked_histories.proofs.gaps.free.Goals as goal
 
 short : IsShort 4 2 (free_newer ++ free_begun)
 unfolding free_begun free_newer

@@ -1,8 +1,8 @@
 use Rattle.std.proofs.Common.{refl, arith}
-use Rattle.gap_laws.specs.Examples.{weights_config, weights_history}
+use Rattle.worked_histories.specs.Gaps.{weights_config, weights_history}
 use Rattle.worked_histories.proofs.Computed.Histories.{IsShort, computing}
-use Rattle.gap_laws.proofs.Computed.{premises_are, gap_is, computing_gap}
-use Rattle.gap_laws.proofs.examples.weights.Goals as goal
+use Rattle.worked_histories.proofs.ComputedGaps.{premises_are, gap_is, computing_gap}
+use Rattle.worked_histories.proofs.gaps.weights.Goals as goal
 
 short : IsShort 4 2 weights_history
 unfolding weights_history

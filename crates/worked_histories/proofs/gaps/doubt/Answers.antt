@@ -1,9 +1,9 @@
 use Rattle.std.proofs.Common.{refl, arith}
-use Rattle.gap_laws.specs.Examples.{doubt_config, doubt_history}
+use Rattle.worked_histories.specs.Gaps.{doubt_config, doubt_history}
 use Rattle.worked_histories.proofs.Computed.Histories.{IsShort, computing}
 use Rattle.worked_histories.proofs.Computed.Legal.{legal_is, limits_are}
-use Rattle.gap_laws.proofs.ComputedLeads.{measured_is, computing_lead}
-use Rattle.gap_laws.proofs.examples.doubt.Goals as goal
+use Rattle.worked_histories.proofs.ComputedLeads.{measured_is, computing_lead}
+use Rattle.worked_histories.proofs.gaps.doubt.Goals as goal
 
 short : IsShort 6 2 doubt_history
 unfolding doubt_history

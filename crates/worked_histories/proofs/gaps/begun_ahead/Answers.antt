@@ -1,8 +1,8 @@
 use Rattle.std.proofs.Common.{refl, arith}
-use Rattle.gap_laws.specs.Examples.{begun_config, begun_history}
+use Rattle.worked_histories.specs.Gaps.{begun_config, begun_history}
 use Rattle.worked_histories.proofs.Computed.Histories.{IsShort}
-use Rattle.gap_laws.proofs.ComputedLeads.{measured_is, computing_lead}
-use Rattle.gap_laws.proofs.examples.begun_ahead.Goals as goal
+use Rattle.worked_histories.proofs.ComputedLeads.{measured_is, computing_lead}
+use Rattle.worked_histories.proofs.gaps.begun_ahead.Goals as goal
 
 short : IsShort 4 2 begun_history
 unfolding begun_history

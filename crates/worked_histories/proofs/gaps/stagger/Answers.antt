@@ -1,8 +1,8 @@
 use Rattle.std.proofs.Common.{refl, arith}
-use Rattle.gap_laws.specs.Examples.{stagger_config, stagger_history}
+use Rattle.worked_histories.specs.Gaps.{stagger_config, stagger_history}
 use Rattle.worked_histories.proofs.Computed.Histories.{IsShort, computing}
-use Rattle.gap_laws.proofs.Computed.{premises_are, gap_is, computing_gap}
-use Rattle.gap_laws.proofs.examples.stagger.Goals as goal
+use Rattle.worked_histories.proofs.ComputedGaps.{premises_are, gap_is, computing_gap}
+use Rattle.worked_histories.proofs.gaps.stagger.Goals as goal
 
 short : IsShort 5 2 stagger_history
 unfolding stagger_history

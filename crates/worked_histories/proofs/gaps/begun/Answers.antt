@@ -1,8 +1,8 @@
 use Rattle.std.proofs.Common.{refl, arith}
-use Rattle.gap_laws.specs.Examples.{begun_config, begun_history}
+use Rattle.worked_histories.specs.Gaps.{begun_config, begun_history}
 use Rattle.worked_histories.proofs.Computed.Histories.{IsShort, computing}
-use Rattle.gap_laws.proofs.Computed.{premises_are, gap_is, computing_gap}
-use Rattle.gap_laws.proofs.examples.begun.Goals as goal
+use Rattle.worked_histories.proofs.ComputedGaps.{premises_are, gap_is, computing_gap}
+use Rattle.worked_histories.proofs.gaps.begun.Goals as goal
 
 short : IsShort 4 2 begun_history
 unfolding begun_history

@@ -9,7 +9,7 @@ use Rattle.fq_model.specs.Charge.{greatest}
 use Rattle.fq_model.specs.Gap.{lengths_in_bound, greatest_with, greatest_of, largest_difference, TagGap}
 use Rattle.fq_model.specs.Lead.{may_rise, may_fall, doubt, head_length, length_of_head, takes_of, is_lead_take, longest_of, shortest_of, measured_lead, first_leads, take_lengths, take_doubts, lead_bound, measured_gap, over_running}
 use Rattle.worked_histories.proofs.Computed.Histories.{IsShort, shorter, head_within, head_is, start_within, start_is, computing}
-use Rattle.gap_laws.proofs.Computed.{is_shared_within, is_shared_is, shared_within, shared_is, computing_gap}
+use Rattle.worked_histories.proofs.ComputedGaps.{is_shared_within, is_shared_is, shared_within, shared_is, computing_gap}
 
 -- ---- leads
 
