@@ -1,6 +1,5 @@
 -- Opening a scheduler from plain numbers.
-use Rattle.std.specs.Prelude.{◌≡◌, ◌==◌, ◌||◌, ℕ, nat_le, nat_lt, if◌then◌else◌, List, [], Option, Some, None, IsSome, Result, Ok, Err}
-use Rattle.std.specs.FinMap as map
+use Rattle.std.specs.Prelude.{◌≡◌, ◌==◌, ◌||◌, ℕ, nat_le, nat_lt, if◌then◌else◌, List, Option, Some, None, IsSome, Result, Ok, Err}
 use Rattle.fq_model.specs.declared.config.Config.{Config}
 use Rattle.fq_model.specs.declared.config.Policy.{Policy}
 use Rattle.fq_model.specs.declared.config.Policy.TheVariants as policy
@@ -9,6 +8,7 @@ use Rattle.fq_model.specs.declared.config.Estimator.TheVariants as estimator
 use Rattle.fq_model.specs.declared.config.ConfigFault.{ConfigFault}
 use Rattle.fq_model.specs.declared.config.ConfigFault.TheVariants as fault
 use Rattle.fq_model.specs.Limits.{InLimits, config_fault, long_config_fault}
+use Rattle.sched_state.specs.Scheduler.{opened_keeping}
 use Rattle.twodfq_c.specs.declared.opening.Opening.{Opening}
 use Rattle.twodfq_c.specs.declared.opening.Refusal.{Refusal}
 use Rattle.twodfq_c.specs.declared.opening.Refusal.TheVariants as refusal

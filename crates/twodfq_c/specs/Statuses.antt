@@ -24,4 +24,4 @@ no_status = record { kind = 255; waiting = 0; running = 0; steps = 0; units = 0;
 -- the numbers are of the history that is held
 abbrev pub TellsHeld : Held → PlainStatus → Type 0
 TellsHeld None plain = plain ≡ no_status
-TellsHeld (Some s) plain = TellsStatus (status_of s.scheduler.config (history_of s.scheduler.past)) plain
+TellsHeld (Some s) plain = TellsStatus (status_of s.config (history_of s.past)) plain

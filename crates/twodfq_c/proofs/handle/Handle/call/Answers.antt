@@ -1,4 +1,4 @@
-use Rattle.std.proofs.Common.{◌≡◌, ℕ, subst}
+use Rattle.std.proofs.Common.{ℕ, subst}
 use Rattle.sched_state.specs.Replies.{AnswersCall}
 use Rattle.sched_state.specs.Scheduler.{SchedulerView}
 use Rattle.twodfq_c.specs.Answering.{AnswersHeld}
