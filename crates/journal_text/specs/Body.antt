@@ -7,6 +7,7 @@ use Rattle.fq_model.specs.Limits.{config_fault}
 use Rattle.program_model.specs.Lines.{lines_of, words_of}
 use Rattle.program_model.specs.Reading.{◌>>=◌, at_line}
 use Rattle.journal_text.specs.declared.fault.ScriptFault.{ScriptFault}
+use Rattle.journal_text.specs.declared.fault.ScriptFault.TheVariants.{At}
 use Rattle.journal_text.specs.Reading.{IsFirstFault}
 
 -- the lines of a body that are still to be read, with the version of the text and the place of the first of them in it
@@ -79,12 +80,14 @@ pub record SaysFirst {A : Type 0} (reader : Version → LineReader A) (old : Bel
   pub says : reader old.version (words_of line) ≡ Ok said
   pub left : new ≡ record { version = old.version; place = old.place + 1; lines = new.lines }
 
--- the first line of a body has this fault, unless memory ran out, and is still there
+-- the first line of a body has this fault, and is still there
 pub record IsStuck {A : Type 0} (reader : Version → LineReader A) (old : Below) (fault : ScriptFault) (new : Below) : Type 0 where
   pub line : List ℕ
   pub more : List (List ℕ)
+  pub kind : ScriptKind
   pub there : old.lines ≡ line ∷ more
-  pub fails : IsFirstFault fault (at_line old.place (reader old.version (words_of line)))
+  pub fails : reader old.version (words_of line) ≡ Err kind
+  pub fault_is : fault ≡ At old.place kind
   pub same : new ≡ old
 
 -- the result of reading the next line of a body: the value of the line, None where no line is left, or the line's fault
