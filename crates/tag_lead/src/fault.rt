@@ -22,7 +22,7 @@ pub enum LeadFault {
 // (a verdict has an entry, which has no `Debug`)
 impl fmt::Debug for LeadFault {
     fn fmt<W: fmt::Write>(&self, f: &mut fmt::Formatter<W>) -> fmt::Result {
-        write!(f, "{self}")
+        fmt::Display::fmt(self, f)
     }
 }
 
