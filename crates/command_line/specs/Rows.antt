@@ -8,7 +8,8 @@ use Rattle.command_line.specs.declared.options.Absent.TheVariants as absent
 use Rattle.command_line.specs.declared.options.OptionRow as code_row
 use Rattle.program_model.specs.declared.argument.Argument.{Argument}
 use Rattle.program_model.specs.declared.argument.Argument.TheVariants.{Number, Name}
-use Rattle.program_model.specs.Options.{Values, Within, Among, Named, Absent, Required, Nothing, Default, OptionRow, Value, absent_value}
+use Rattle.program_model.specs.Options.{Values, Within, Among, Named}
+use Rattle.program_model.specs.Options.{Absent, Required, Nothing, Default, OptionRow, Value, absent_value}
 
 -- the texts that may be written as a value
 abbrev pub seen_values : code_values.Values → Values

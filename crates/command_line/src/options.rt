@@ -1,5 +1,6 @@
 //! The options of a command, and their values by words.
-ghost use Rattle.std.specs.Prelude.{◌≡◌, IsTrue, IfSome, if◌then◌else◌, length, map, option_and_then, position, bytes_eq, Some, None};
+ghost use Rattle.std.specs.Prelude.{◌≡◌, IsTrue, IfSome, if◌then◌else◌, length, map};
+ghost use Rattle.std.specs.Prelude.{option_and_then, position, bytes_eq, Some, None};
 ghost use Rattle.std.specs.String.{string_bytes};
 ghost use Rattle.fq_model.specs.Spelling.{is_name};
 ghost use Rattle.program_model.specs.Numbers.{number_of};

@@ -9,7 +9,6 @@ use Rattle.fq_model.specs.declared.config.Config.{Config}
 use Rattle.fq_model.specs.declared.event.Call.{Call}
 use Rattle.fq_model.specs.declared.event.Entry.{Entry}
 use Rattle.fq_model.specs.declared.event.Reply.{Reply}
-use Rattle.program_model.specs.declared.fault.ScriptKind.{ScriptKind}
 use Rattle.program_model.specs.Document.{config_of, document_of}
 use Rattle.fq_model.specs.History.{history_of}
 use Rattle.program_model.specs.JournalText.{journal_text}
@@ -28,18 +27,14 @@ use Rattle.program_model.specs.Answer.{Answer, Text, IsReadAnswer}
 use Rattle.program_model.specs.FaultTexts.{script_fault_text}
 use Rattle.program_model.specs.ScriptCommand.{script_output_text, AreCallsMade, IsScriptAnswer}
 use Rattle.command_texts.specs.Making.{Makes, IsStop, TellsDocumentFault}
-use Rattle.command_texts.specs.Serving.{tells_replies, tells_journal, told_text, AreAnswered, IsBodyAnswered, OpensAs, IsCallsAnswer, IsBodyAnswer}
+use Rattle.command_texts.specs.Serving.{Said, tells_replies, tells_journal, told_text, AreServed, IsBodyAnswered, OpensAs, IsCallsAnswer, IsBodyAnswer}
 use Rattle.command_texts.proofs.Making.{stop_as, makes_as, document_stop}
-
--- the calls of a body, or its first fault
-abbrev pub Said : Type 0
-Said = Result (List Call) (ℕ × ScriptKind)
 
 -- the first calls of a body were answered, and the rest is left
 pub record IsPartAnswered (C : Config) (tells : Bool) (said left : Said) (text : List ℕ) (past : List Entry) : Type 0 where
   pub calls : List Call
   pub means : said ≡ with_more calls left
-  pub answered : AreAnswered C tells calls text past
+  pub answered : AreServed C tells calls text past
 
 with_none : (later : Said) → with_more [] later ≡ later
 with_none (Ok more) = refl
@@ -109,7 +104,7 @@ output_is Both replies journal = refl
 served_is : (what : ScriptPrint) (head : Script) (calls : List Call) (C : Config) (names kinds : List (List ℕ)) (answer : Answer)
     → C ≡ config_of head → names ≡ head.tenants → kinds ≡ head.kinds → IsCallsAnswer what C names kinds calls answer → AreCallsMade what (record head { body = calls }) answer
 served_is what head calls C names kinds answer c n k x =
-    let answered : AreAnswered (config_of head) (tells_replies what) calls x.told x.past = subst (λ (D : Config). AreAnswered D (tells_replies what) calls x.told x.past) c x.answered in
+    let answered : AreServed (config_of head) (tells_replies what) calls x.told x.past = subst (λ (D : Config). AreServed D (tells_replies what) calls x.told x.past) c x.answered in
     let journal : journal_text C names kinds x.past ≡ journal_text (config_of head) head.tenants head.kinds x.past =
     ap (λ (D : Config). journal_text D names kinds x.past) c
     ∙ (ap (λ (ns : List (List ℕ)). journal_text (config_of head) ns kinds x.past) n ∙ ap (λ (ks : List (List ℕ)). journal_text (config_of head) head.tenants ks x.past) k) in

@@ -16,6 +16,10 @@ use Rattle.journal_text.specs.Body.{Below, IsOpened}
 use Rattle.program_model.specs.Answer.{Answer, Text, fault_answer}
 use Rattle.program_model.specs.FaultTexts.{script_fault_text}
 
+-- the calls of a body, or its first fault
+abbrev pub Said : Type 0
+Said = Result (List Call) (ℕ × ScriptKind)
+
 -- whether replies are asked for, and whether the journal is
 abbrev pub tells_replies : ScriptPrint → Bool
 tells_replies Journal = false
@@ -35,7 +39,7 @@ told_text tells replies = if tells then replies_text replies else []
 
 -- The calls were made in order on a scheduler that was just opened. This text is kept of the replies, and these are
 -- the scheduler's entries, in order of time.
-pub record AreAnswered (C : Config) (tells : Bool) (calls : List Call) (text : List ℕ) (past : List Entry) : Type 0 where
+pub record AreServed (C : Config) (tells : Bool) (calls : List Call) (text : List ℕ) (past : List Entry) : Type 0 where
   pub replies : List Reply
   pub outcome : Outcome C calls replies (history_of past)
   pub told : text ≡ told_text tells replies
@@ -44,17 +48,16 @@ pub record AreAnswered (C : Config) (tells : Bool) (calls : List Call) (text : L
 pub record IsCallsAnswer (what : ScriptPrint) (C : Config) (tenants kinds : List (List ℕ)) (calls : List Call) (answer : Answer) : Type 0 where
   pub told : List ℕ
   pub past : List Entry
-  pub answered : AreAnswered C (tells_replies what) calls told past
+  pub answered : AreServed C (tells_replies what) calls told past
   pub answer_is : answer ≡ Text 0 (told ++ (if tells_journal what then journal_text C tenants kinds past else []))
 
 -- the body of a script is calls that were answered so
-pub record IsBodyAnswered (C : Config) (said : Result (List Call) (ℕ × ScriptKind)) (tells : Bool) (text : List ℕ) (past : List Entry) : Type 0 where
+pub record IsBodyAnswered (C : Config) (said : Said) (tells : Bool) (text : List ℕ) (past : List Entry) : Type 0 where
   pub calls : List Call
   pub read : said ≡ Ok calls
-  pub answered : AreAnswered C tells calls text past
+  pub answered : AreServed C tells calls text past
 
 -- the answer to a script with this configuration and with these tenants and kinds, by the contents of its body
-abbrev pub IsBodyAnswer : ScriptPrint → Config → (tenants kinds : List (List ℕ)) → Result (List Call) (ℕ × ScriptKind)
-    → Answer → Type 0
+abbrev pub IsBodyAnswer : ScriptPrint → Config → (tenants kinds : List (List ℕ)) → Said → Answer → Type 0
 IsBodyAnswer what C tenants kinds (Ok calls) answer = IsCallsAnswer what C tenants kinds calls answer
 IsBodyAnswer what C tenants kinds (Err (line, fault)) answer = answer ≡ fault_answer line (script_fault_text fault)

@@ -1,5 +1,6 @@
 -- The result for a pair of a policy and an estimator, and the rows of the first pairs.
-use Rattle.std.specs.Prelude.{ℕ, ◌+◌, ◌<◌, ◌≡◌, true, false, List, take, length, slice_get, slice_index_or, All, Some, Result, Ok, Err}
+use Rattle.std.specs.Prelude.{ℕ, ◌+◌, ◌<◌, ◌≡◌, true, false, List, take, length}
+use Rattle.std.specs.Prelude.{slice_get, slice_index_or, All, Some, Result, Ok, Err}
 use Rattle.std.specs.List.{AllZip}
 use Rattle.fq_model.specs.declared.config.Config.{Config}
 use Rattle.fq_model.specs.declared.config.Policy.{Policy}

@@ -28,7 +28,8 @@ struct TakenAt {
 }
 
 /// The heads that a worker chose from when it took this request, and the keys that they were compared by; None where
-/// the request was not taken. The calls of the entries up to the Take are made on a scheduler over any chooser, once each.
+/// the request was not taken. The calls of the entries up to the Take are made on a scheduler over any chooser, once
+/// each.
 pub fn explain<X: Chooser + Drop>(
     alloc: Global,
     journal: &Journal,

@@ -1,7 +1,8 @@
 //! Verdicts and explanations as texts.
 ghost use Rattle.std.specs.Prelude.{◌≡◌, ◌<◌, ◌++◌, All, IfOk, OnOk, IfSome, length, string_bytes};
 ghost use Rattle.tenant_table.specs.Names.{names_of};
-ghost use Rattle.program_model.specs.VerdictTexts.{given_text, wanted_text, verdict_text, eligible_word, start_text, finish_text, row_line, rows_text, taken_line, explanation_text};
+ghost use Rattle.program_model.specs.VerdictTexts.{given_text, wanted_text, verdict_text, eligible_word, start_text};
+ghost use Rattle.program_model.specs.VerdictTexts.{finish_text, row_line, rows_text, taken_line, explanation_text};
 
 use crate::checking::entry_at;
 use fq_model::event::{Entry, Reply};

@@ -263,9 +263,7 @@ fewer_left reader old said new first = rw first.there (omega arith)
 -- the fault of a first line is the first fault
 pub first_fault : {A : Type 0} (reader : Version → LineReader A) (old : Below) (fault : ScriptFault) (new : Below) → IsStuck reader old fault new
     → IsFirstFault fault (said_below reader old)
-first_fault reader old (faults.At line kind) new stuck =
-    rw stuck.there (ap (λ read. read >>= λ said. with_first said (body_of (reader old.version) (old.place + 1) stuck.more)) stuck.fails)
-first_fault reader old faults.NoMemory new stuck = tt
+first_fault reader old fault new stuck = rw (stuck.fault_is, stuck.there, stuck.fails) refl
 
 -- the first line of a text was not read
 pub stays_at_first : {A : Type 0} (reader : Version → LineReader A) (version : Version) (place : ℕ) (rest line below : List ℕ) (old new : Below) (kind : ScriptKind)
@@ -274,8 +272,10 @@ pub stays_at_first : {A : Type 0} (reader : Version → LineReader A) (version :
 stays_at_first reader version place rest line below old new kind was is first fails = rw (sym was, sym is) (record {
   line = line;
   more = lines_of below;
+  kind = kind;
   there = first;
-  fails = ap (at_line place) fails;
+  fails = fails;
+  fault_is = refl;
   same = refl;
 })
 

@@ -7,6 +7,7 @@ use Rattle.fq_model.specs.Limits.{config_fault}
 use Rattle.program_model.specs.Lines.{lines_of, words_of}
 use Rattle.program_model.specs.Reading.{◌>>=◌, at_line}
 use Rattle.journal_text.specs.declared.fault.ScriptFault.{ScriptFault}
+use Rattle.journal_text.specs.declared.fault.ScriptFault.TheVariants.{At}
 use Rattle.journal_text.specs.Reading.{IsFirstFault}
 
 -- the lines of a body that are still to be read, with the version of the text and the place of the first of them in it
@@ -14,6 +15,10 @@ pub record Below : Type 0 where
   pub version : Version
   pub place : ℕ
   pub lines : List (List ℕ)
+
+-- the meaning of a line of a body, by the version of its document
+abbrev pub Readers : Type 0 → Type 0
+Readers A = Version → LineReader A
 
 -- the body of a document of this version whose lines are those of this text, from line `place` of the document on
 abbrev pub below_at : Version → ℕ → List ℕ → Below
@@ -30,7 +35,7 @@ body_of reader place (line ∷ lines) =
     at_line place (reader (words_of line)) >>= λ said. with_first said (body_of reader (place + 1) lines)
 
 -- the values of the lines that are left of a body, in order, or their first fault
-abbrev pub said_below : {A : Type 0} → (Version → LineReader A) → Below → Result (List A) (ℕ × ScriptKind)
+abbrev pub said_below : {A : Type 0} → Readers A → Below → Result (List A) (ℕ × ScriptKind)
 said_below reader below = body_of (reader below.version) below.place below.lines
 
 -- the document with this head and the values of its body, or the body's fault
@@ -40,12 +45,12 @@ with_body_lines head said = said >>= λ body. Ok (record head { body = body })
 
 -- the document that a text spells, or its first fault, as a function of how the lines of its body are read
 abbrev pub Reads : Type 0 → Type 0
-Reads A = (Version → LineReader A) → Result (Document A) (ℕ × ScriptKind)
+Reads A = Readers A → Result (Document A) (ℕ × ScriptKind)
 
 -- However the lines of the body are read, the text spells this head with this body: so the head has no fault. The head
 -- by itself is a document that a scheduler can be opened with.
 pub record IsOpened {A : Type 0} (read : Reads A) (head : Document A) (below : Below) : Type 0 where
-  pub means : (reader : Version → LineReader A) → read reader ≡ with_body_lines head (said_below reader below)
+  pub means : (reader : Readers A) → read reader ≡ with_body_lines head (said_below reader below)
   pub bodyless : head.body ≡ []
   pub fits : config_fault (config_of head) ≡ None
 
@@ -54,7 +59,7 @@ pub record IsOpened {A : Type 0} (read : Reads A) (head : Document A) (below : B
 pub record Divides {A : Type 0} (spelled : List (List ℕ) → Reads A) (place : ℕ) (lines : List (List ℕ)) (head : Document A) (below : Below) : Type 0 where
   pub above : List (List ℕ)
   pub split : lines ≡ above ++ below.lines
-  pub spells : (reader : Version → LineReader A) → spelled above reader ≡ Ok head
+  pub spells : (reader : Readers A) → spelled above reader ≡ Ok head
   pub counted : below.place ≡ place + length above
 
 -- the version that the first of these lines names
@@ -70,25 +75,27 @@ pub record DividesText {A : Type 0} (title text : List ℕ) (head : Document A) 
 
 -- this is the first fault however the lines of the body are read, so it is one of the head; unless memory ran out
 abbrev pub IsHeadFault : {A : Type 0} → ScriptFault → Reads A → Type 0
-IsHeadFault fault read = (reader : Version → LineReader _) → IsFirstFault fault (read reader)
+IsHeadFault fault read = (reader : Readers _) → IsFirstFault fault (read reader)
 
 -- the first line of a body has this value, and was taken off
-pub record SaysFirst {A : Type 0} (reader : Version → LineReader A) (old : Below) (said : A) (new : Below) : Type 0 where
+pub record SaysFirst {A : Type 0} (reader : Readers A) (old : Below) (said : A) (new : Below) : Type 0 where
   pub line : List ℕ
   pub there : old.lines ≡ line ∷ new.lines
   pub says : reader old.version (words_of line) ≡ Ok said
   pub left : new ≡ record { version = old.version; place = old.place + 1; lines = new.lines }
 
--- the first line of a body has this fault, unless memory ran out, and is still there
-pub record IsStuck {A : Type 0} (reader : Version → LineReader A) (old : Below) (fault : ScriptFault) (new : Below) : Type 0 where
+-- the first line of a body has this fault, and is still there
+pub record IsStuck {A : Type 0} (reader : Readers A) (old : Below) (fault : ScriptFault) (new : Below) : Type 0 where
   pub line : List ℕ
   pub more : List (List ℕ)
+  pub kind : ScriptKind
   pub there : old.lines ≡ line ∷ more
-  pub fails : IsFirstFault fault (at_line old.place (reader old.version (words_of line)))
+  pub fails : reader old.version (words_of line) ≡ Err kind
+  pub fault_is : fault ≡ At old.place kind
   pub same : new ≡ old
 
 -- the result of reading the next line of a body: the value of the line, None where no line is left, or the line's fault
-abbrev pub ReadsNext : {A : Type 0} → (Version → LineReader A) → Below → Result (Option A) ScriptFault → Below → Type 0
+abbrev pub ReadsNext : {A : Type 0} → Readers A → Below → Result (Option A) ScriptFault → Below → Type 0
 ReadsNext reader old (Ok (Some said)) new = SaysFirst reader old said new
 ReadsNext reader old (Ok None) new = (old.lines ≡ []) × (new ≡ old)
 ReadsNext reader old (Err fault) new = IsStuck reader old fault new

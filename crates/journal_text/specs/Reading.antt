@@ -1,5 +1,6 @@
 -- The reader's results and the definitions of texts.
-use Rattle.std.specs.Prelude.{ℕ, ◌*◌, ◌≡◌, nat_lt, Bool, not, ◌&&◌, ◌||◌, if◌then◌else◌, codes, List, length, Result, Ok, Err}
+use Rattle.std.specs.Prelude.{ℕ, ◌*◌, ◌≡◌, nat_lt, Bool, not, ◌&&◌, ◌||◌}
+use Rattle.std.specs.Prelude.{if◌then◌else◌, codes, List, length, Result, Ok, Err}
 use Rattle.program_model.specs.declared.fault.ScriptKind.{ScriptKind}
 use Rattle.fq_model.specs.declared.config.Config.{Config}
 use Rattle.fq_model.specs.declared.limits.TheConstants.{MOST_TENANTS, MOST_KINDS, MOST_PAIRS}
@@ -34,8 +35,14 @@ fault_at line errors.NoMemory = faults.NoMemory
 
 -- the settings in the config line of a document with this configuration
 abbrev pub settings_in : Config → Settings
-settings_in c =
-    record { workers = c.workers; policy = c.policy; estimate = c.estimate; initial = c.initial; entries = c.entries; requests = c.requests }
+settings_in c = record {
+  workers = c.workers;
+  policy = c.policy;
+  estimate = c.estimate;
+  initial = c.initial;
+  entries = c.entries;
+  requests = c.requests;
+}
 
 -- a scheduler with this configuration has these tenants and kinds
 pub record IsAbout (config : Config) (tenants : List (List ℕ × ℕ)) (kinds : List (List ℕ)) : Type 0 where

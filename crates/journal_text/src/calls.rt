@@ -1,7 +1,9 @@
 //! Scripts, whose lines below the head are calls.
 ghost use Rattle.std.specs.Prelude.{◌≡◌, ◌<◌, codes, Ok, IfOk, IfErr};
 ghost use Rattle.program_model.specs.Document.{document_of};
-ghost use Rattle.program_model.specs.Script.{submit_of, take_of, report_of, done_of, close_of, weight_of, workers_of, withdraw_of, fixed_call_of, changing_call_of, withdrawing_call_of, call_of_words, script_of};
+ghost use Rattle.program_model.specs.Script.{submit_of, take_of, report_of, done_of, close_of, weight_of};
+ghost use Rattle.program_model.specs.Script.{workers_of, withdraw_of, fixed_call_of, changing_call_of};
+ghost use Rattle.program_model.specs.Script.{withdrawing_call_of, call_of_words, script_of};
 ghost use Rattle.journal_text.specs.Body.{IsOpened, IsHeadFault, DividesText};
 ghost use Rattle.journal_text.specs.Reading.{IsFirstFault};
 

@@ -1,6 +1,8 @@
 //! Journals, whose lines below the head are entries.
 ghost use Rattle.std.specs.Prelude.{◌≡◌, ◌<◌, codes, Ok, IfOk, IfErr, length};
-ghost use Rattle.program_model.specs.Journal.{submit_act, take_act, report_act, done_act, close_act, weight_act, workers_act, withdraw_act, entry_with, fixed_entry_of, changing_entry_of, withdrawing_entry_of, entry_of_words, journal_of};
+ghost use Rattle.program_model.specs.Journal.{submit_act, take_act, report_act, done_act, close_act, weight_act};
+ghost use Rattle.program_model.specs.Journal.{workers_act, withdraw_act, entry_with, fixed_entry_of, changing_entry_of};
+ghost use Rattle.program_model.specs.Journal.{withdrawing_entry_of, entry_of_words, journal_of};
 ghost use Rattle.journal_text.specs.Reading.{IsFirstFault};
 
 use crate::body::Line;

@@ -5,7 +5,8 @@ ghost use Rattle.std.specs.List.{list_any};
 ghost use Rattle.fq_model.specs.History.{is_change, is_withdraw};
 ghost use Rattle.fq_model.specs.Spelling.{policy_word, estimator_word};
 ghost use Rattle.program_model.specs.declared.version.Version.TheVariants.{Third};
-ghost use Rattle.program_model.specs.JournalText.{entry_line, entries_text, version_for, header_line, tenants_text, kinds_text, head_text, journal_text};
+ghost use Rattle.program_model.specs.JournalText.{entry_line, entries_text, version_for, header_line};
+ghost use Rattle.program_model.specs.JournalText.{tenants_text, kinds_text, head_text, journal_text};
 ghost use Rattle.tenant_table.specs.Names.{names_of};
 ghost use Rattle.journal_text.specs.Printing.{row_text, top_text, IsKept};
 

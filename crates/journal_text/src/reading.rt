@@ -2,11 +2,13 @@
 ghost use Rattle.std.specs.Prelude.{◌≡◌, ◌+◌, ◌≤◌, length, None, Ok, IfOk, IfErr};
 ghost use Rattle.program_model.specs.declared.version.Version.{Version};
 ghost use Rattle.program_model.specs.Lines.{lines_of};
-ghost use Rattle.program_model.specs.Document.{new_among, with_tenant, with_kind, with_lines, opened, config_line, below_header, config_of, document_of};
+ghost use Rattle.program_model.specs.Document.{new_among, with_tenant, with_kind, with_lines, opened};
+ghost use Rattle.program_model.specs.Document.{config_line, below_header, config_of, document_of};
 ghost use Rattle.fq_model.specs.Limits.{config_fault};
 ghost use Rattle.fq_model.specs.Names.{number_among};
 ghost use Rattle.tenant_table.specs.Names.{names_of};
-ghost use Rattle.journal_text.specs.Reading.{Gives, IsFirstFault, are_too_many, ends_before, with_head_line, IsOfConfigLine};
+ghost use Rattle.journal_text.specs.Reading.{Gives, IsFirstFault, are_too_many};
+ghost use Rattle.journal_text.specs.Reading.{ends_before, with_head_line, IsOfConfigLine};
 ghost use Rattle.journal_text.specs.Body.{IsOpened, IsHeadFault, Divides, DividesText, below_at};
 
 use crate::body::{Body, Line};

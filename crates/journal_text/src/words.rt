@@ -3,7 +3,8 @@ ghost use Rattle.std.specs.Prelude.{◌≡◌, ◌∷◌, ◌<◌, ◌≤◌, Is
 ghost use Rattle.program_model.specs.Reading.{begins_with};
 ghost use Rattle.fq_model.specs.Spelling.{is_name};
 ghost use Rattle.journal_text.specs.FirstLine.{AreRead};
-ghost use Rattle.program_model.specs.Lines.{words_of, word, with_count, number_at, ranged_at, index_at, name_at, policy_at, estimator_at};
+ghost use Rattle.program_model.specs.Lines.{words_of, word, with_count, number_at, ranged_at};
+ghost use Rattle.program_model.specs.Lines.{index_at, name_at, policy_at, estimator_at};
 
 use crate::lines::find;
 use crate::named::{estimator, name, policy};

@@ -1,4 +1,3 @@
 pub mod ByTenant
 pub mod NumberedHeads
 pub mod GapPasts
-pub mod LeadPasts

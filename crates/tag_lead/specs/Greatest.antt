@@ -1,5 +1,6 @@
 -- The greatest length of a request so far, and the tenants of the requests.
-use Rattle.std.specs.Prelude.{ℕ, ◌<◌, ◌≡◌, ◌∷◌, ◌++◌, true, [], List, length, slice_index, Option, Some, None, unsigned_abs}
+use Rattle.std.specs.Prelude.{ℕ, ◌<◌, ◌≡◌, ◌∷◌, ◌++◌, true, [], List, length}
+use Rattle.std.specs.Prelude.{slice_index, Option, Some, None, unsigned_abs}
 use Rattle.fq_model.specs.declared.config.Config.{Config}
 use Rattle.fq_model.specs.declared.event.Act.{Act}
 use Rattle.fq_model.specs.declared.event.Act.TheVariants.{Submit, Take, Report, Done, Weight, Withdraw}

@@ -1,5 +1,6 @@
 -- The greatest leads of one tenant over another, and the greatest numbers that bound them.
-use Rattle.std.specs.Prelude.{ℕ, ℤ, ◌+◌, ◌*◌, ◌≤◌, ◌≡◌, max, Bool, not, ◌&&◌, ◌||◌, if◌then◌else◌, Option, Some, None, is_some, option_map, pos, ◌+ℤ◌}
+use Rattle.std.specs.Prelude.{ℕ, ℤ, ◌+◌, ◌*◌, ◌≤◌, ◌≡◌, max, Bool, not, ◌&&◌, ◌||◌, if◌then◌else◌}
+use Rattle.std.specs.Prelude.{Option, Some, None, is_some, option_map, pos, ◌+ℤ◌}
 use Rattle.fq_model.specs.declared.config.Config.{Config}
 use Rattle.fq_model.specs.declared.config.Policy.{Policy}
 use Rattle.fq_model.specs.Charge.{greatest}
@@ -47,12 +48,13 @@ leads_with leads difference taken doubt = record {
 abbrev pub heads_in_bound : Policy → ℕ → ℕ
 heads_in_bound policy longest = lengths_in_bound policy * longest
 
+-- the bound of the largest difference
+abbrev pub bound_from : Leads → Policy → ℤ
+bound_from leads policy = at_least (pos (heads_in_bound policy leads.longest + leads.doubt)) leads.first
+
 -- the largest difference and its bound, if some prefix is shared
 abbrev pub lead_from : Leads → Policy → Option Gap
-lead_from leads policy =
-    option_map
-    (λ x. record { largest = x; bound = at_least (pos (heads_in_bound policy leads.longest + leads.doubt)) leads.first })
-    leads.starts.largest
+lead_from leads policy = option_map (λ x. record { largest = x; bound = bound_from leads policy }) leads.starts.largest
 
 -- these are the greatest numbers at the prefixes of P, by the lengths of the requests in H
 pub record LeadsIn (C : Config) (H P : History) (f g : ℕ) (leads : Leads) : Type 0 where

@@ -1,5 +1,6 @@
 -- The lengths of the requests of two tenants, by their charges.
-use Rattle.std.specs.Prelude.{ℕ, ◌≤◌, ◌<◌, ◌≡◌, ◌==◌, max, min, Bool, true, false, if◌then◌else◌, List, length, slice_index, slice_set, Option, Some, None}
+use Rattle.std.specs.Prelude.{ℕ, ◌≤◌, ◌<◌, ◌≡◌, ◌==◌, max, min, Bool, true, false, if◌then◌else◌}
+use Rattle.std.specs.Prelude.{List, length, slice_index, slice_set, Option, Some, None}
 use Rattle.vt_fixed.specs.Rounding.{length_of}
 use Rattle.vt_fixed.specs.declared.limits.TheConstants.{GREATEST_COST, GREATEST_WEIGHT}
 use Rattle.fq_model.specs.declared.config.Config.{Config}

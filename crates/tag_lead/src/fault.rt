@@ -4,14 +4,26 @@ ghost use Rattle.tag_lead.specs.declared.fault.LeadFault.TheVariants as faults;
 
 use program_model::verdict::Verdict;
 use std::alloc::AllocError;
+use std::fmt;
+use tag_difference::fault::GapFault;
+use thiserror::Error;
 
 /// Why entries have no lead of one tenant over another.
-#[derive(Clone, Copy)]
+#[derive(Clone, Copy, Error)]
 pub enum LeadFault {
     /// They are not a legal history: the verdict on them.
+    #[error("the entries are not a legal history")]
     NotLegal(Verdict),
     /// There was no memory.
+    #[error("out of memory")]
     NoMemory,
+}
+
+// (a verdict has an entry, which has no `Debug`)
+impl fmt::Debug for LeadFault {
+    fn fmt<W: fmt::Write>(&self, f: &mut fmt::Formatter<W>) -> fmt::Result {
+        fmt::Display::fmt(self, f)
+    }
 }
 
 impl From<AllocError> for LeadFault {
@@ -20,4 +32,15 @@ impl From<AllocError> for LeadFault {
     fn from(_fault: AllocError) -> LeadFault {
         LeadFault::NoMemory
     }
+}
+
+/// Why entries have no lead of two tenants that are given by any numbers.
+#[derive(Clone, Copy, Debug, Error)]
+pub enum PairFault {
+    /// No entries have one: a tenant is unknown, or the two are one.
+    #[error("{0}")]
+    Tenants(GapFault),
+    /// These entries have none.
+    #[error("{0}")]
+    Entries(LeadFault),
 }

@@ -5,7 +5,8 @@ ghost use Rattle.fq_model.specs.Ever.{under_plus, ever_bound};
 ghost use Rattle.fq_model.specs.History.{history_of};
 ghost use Rattle.fq_model.specs.Limits.{InLimits};
 ghost use Rattle.fq_model.specs.Rules.{IsLegal};
-ghost use Rattle.tag_lead.specs.Greatest.{IsAmong, tenant_of_act, tenants_with, charge_length, head_length_if, length_by};
+ghost use Rattle.tag_lead.specs.Greatest.{IsAmong, tenant_of_act, tenants_with};
+ghost use Rattle.tag_lead.specs.Greatest.{charge_length, head_length_if, length_by};
 
 use crate::limits::{GREATEST_BOUND, GREATEST_LENGTH, GREATEST_SUM, MOST_COUNTED};
 use crate::spans::MeasuredLength;

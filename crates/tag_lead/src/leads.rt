@@ -1,20 +1,20 @@
 //! How far one tenant got ahead of another while both waited.
-ghost use Rattle.std.specs.Prelude.{◌≡◌, ◌≢◌, ◌<◌, ◌≤◌, ◌⊎◌, ◌∷◌, [], length, slice_index, IsTrue, IfOk, IfErr, IfSome, Err};
-ghost use Rattle.std.specs.Prelude.{Some, None, ◌≤ℤ◌};
+ghost use Rattle.std.specs.Prelude.{◌≡◌, ◌≢◌, ◌<◌, ◌≤◌, ◌≤ℤ◌, ◌∷◌, [], length, slice_index};
+ghost use Rattle.std.specs.Prelude.{IsTrue, IfOk, IfErr, IfSome, Err, Some, None};
 ghost use Rattle.fq_model.specs.History.{history_of};
 ghost use Rattle.fq_model.specs.Lead.{doubt};
 ghost use Rattle.fq_model.specs.Limits.{InLimits};
 ghost use Rattle.fq_model.specs.Rules.{IsLegal};
 ghost use Rattle.tag_difference.specs.Pairs.{difference_at, tenant_fault};
 ghost use Rattle.tag_difference.specs.declared.fault.GapFault.{GapFault};
-ghost use Rattle.tag_difference.specs.declared.fault.GapFault.TheVariants as faults;
-ghost use Rattle.tag_lead.specs.Faults.{IsLeadFault};
+ghost use Rattle.tag_lead.specs.Faults.{IsLeadFault, IsPairFault};
 ghost use Rattle.tag_lead.specs.Maxima.{LeadsIn};
 ghost use Rattle.tag_lead.specs.Leads.{difference_by, taken_by, taken_at, IsLead};
 ghost use Rattle.tag_lead.specs.Spans.{LongestAre, ShortestAre};
+ghost use Rattle.tag_lead.specs.declared.fault.PairFault.TheVariants.{Tenants};
 
 use crate::doubts::doubt;
-use crate::fault::LeadFault;
+use crate::fault::{LeadFault, PairFault};
 use crate::greatest::ever_bound;
 use crate::limits::{GREATEST_DOUBT, GREATEST_LENGTH};
 use crate::maxima::Leads;
@@ -26,7 +26,6 @@ use fq_model::limits::GREATEST_START;
 use journal_check::checking::{copy_of, enter};
 use sched_state::Scheduler;
 use std::alloc::{AllocError, Global};
-use tag_difference::fault::GapFault;
 use tag_difference::gap::Gap;
 use tag_difference::pair::tenant_fault;
 use tag_rules::chooser::Chooser;
@@ -44,36 +43,32 @@ pub struct Lead {
 /// How far the start of tenant f was above that of tenant g at most, at the prefixes of a past in which both wait, and
 /// what bounds it, whatever requests cost; none where they never wait both. The bound is the greater of two numbers:
 /// the greatest lead with which both began to wait, and one length of a head, or two under 2dfq and 2dfq+, with the
-/// doubt of the requests that ran: each may turn out as long, or as short, as it did in this past. Nothing is asked of
-/// the past but that it is legal. The faults of the tenants are found before any memory is taken, and no request is a
-/// fault. The past's calls are made twice on a scheduler over any chooser, and after each the doubt is read from the
-/// workers.
+/// doubt of the requests that ran: each may turn out as long, or as short, as it did in this past. The faults of the
+/// tenants are found before any memory is taken, and no request is a fault.
 pub fn tag_lead<X: Chooser + Drop>(
     alloc: Global,
     past: &[Entry],
     config: &Checked,
     f: u32,
     g: u32,
-) -> Result<Option<Lead>, GapFault>
-    requires legal { IsLegal config.now (history_of past.now) }
+) -> Result<Option<Lead>, PairFault>
     ensures lead { IfOk result (λ lead. (tenant_fault config.now f g ≡ None)
-        × IsLead config.now (history_of past.now) f g lead) }
-    ensures tenants { (x : GapFault) → tenant_fault config.now f g ≡ Some x → result ≡ Err x }
+        × IsLegal config.now (history_of past.now) × IsLead config.now (history_of past.now) f g lead) }
+    ensures tenants { (x : GapFault) → tenant_fault config.now f g ≡ Some x → result ≡ Err (Tenants x) }
     ensures bounded { IfOk result (λ lead. IfSome lead (λ x. x.gap.largest ≤ℤ x.gap.bound)) }
-    ensures fault { IfErr result (λ x. (x ≡ faults.NoMemory) ⊎ (tenant_fault config.now f g ≡ Some x)) }
+    ensures fault { IfErr result (IsPairFault config.now past.now f g) }
 {
     if let Some(fault) = tenant_fault(config, f, g) {
-        return Err(fault);
+        return Err(PairFault::Tenants(fault));
     }
     match lead_of::<X>(alloc, past, config, f, g) {
         Ok(lead) => Ok(lead),
-        Err(LeadFault::NoMemory) => Err(GapFault::NoMemory),
-        Err(LeadFault::NotLegal(_)) => unreachable!(),
+        Err(fault) => Err(PairFault::Entries(fault)),
     }
 }
 
 /// The lead of one tenant over another in entries, or the verdict where the entries are not legal. The calls of the
-/// entries are made once to judge them, and once more where they are legal.
+/// entries are made on a scheduler over any chooser: once to judge them, and once more where they are legal.
 pub fn lead_of<X: Chooser + Drop>(
     alloc: Global,
     entries: &[Entry],

@@ -1,6 +1,7 @@
 //! The greatest leads of one tenant over another, and the greatest numbers that bound them.
 ghost use Rattle.std.specs.Prelude.{◌≡◌, ◌≤◌, ◌≤ℤ◌, IfSome};
-ghost use Rattle.tag_lead.specs.Maxima.{no_leads, asks_doubt, first_with, longest_with, doubt_with, leads_with, heads_in_bound};
+ghost use Rattle.tag_lead.specs.Maxima.{no_leads, asks_doubt, first_with, longest_with};
+ghost use Rattle.tag_lead.specs.Maxima.{doubt_with, leads_with, heads_in_bound};
 ghost use Rattle.tag_lead.specs.Maxima.{lead_from};
 
 use crate::limits::{GREATEST_DOUBT, GREATEST_LENGTH, GREATEST_PAIR};

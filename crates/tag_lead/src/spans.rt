@@ -1,7 +1,8 @@
 //! The lengths of the requests of two tenants, by their charges.
 ghost use Rattle.std.specs.Prelude.{◌≡◌, ◌<◌, ◌≤◌, IfOk, IfSome, length, replicate};
 ghost use Rattle.vt_fixed.specs.Rounding.{length_of};
-ghost use Rattle.tag_lead.specs.Spans.{Measurable, CanMeasure, measured_length, measured_by, lesser, longest_with, shortest_with};
+ghost use Rattle.tag_lead.specs.Spans.{Measurable, CanMeasure, measured_length};
+ghost use Rattle.tag_lead.specs.Spans.{measured_by, lesser, longest_with, shortest_with};
 
 use charge_book::row::RunRow;
 use fq_model::event::Act;
