@@ -11,8 +11,16 @@ use Rattle.worked_histories.specs.Examples.{entry}
 -- ---- two workers
 
 unfoldable pub pair_config : Config
-pair_config =
-    record { workers = 2; weights = 1 ∷ 1 ∷ 1 ∷ []; kinds = 1; entries = 100; requests = 10; policy = TwoDfqPlus; estimate = Declared; initial = 4 }
+pair_config = record {
+  workers = 2;
+  weights = 1 ∷ 1 ∷ 1 ∷ [];
+  kinds = 1;
+  entries = 100;
+  requests = 10;
+  policy = TwoDfqPlus;
+  estimate = Declared;
+  initial = 4;
+}
 
 -- tenant 0 is taken by both workers, and its first request turns out to be long; so its third one starts late
 unfoldable pub most_history : History
@@ -66,8 +74,16 @@ lead_history =
 -- ---- three workers
 
 unfoldable pub three_config : Config
-three_config =
-    record { workers = 3; weights = 1 ∷ 1 ∷ 1 ∷ []; kinds = 1; entries = 100; requests = 10; policy = TwoDfqPlus; estimate = Declared; initial = 3 }
+three_config = record {
+  workers = 3;
+  weights = 1 ∷ 1 ∷ 1 ∷ [];
+  kinds = 1;
+  entries = 100;
+  requests = 10;
+  policy = TwoDfqPlus;
+  estimate = Declared;
+  initial = 3;
+}
 
 -- workers 0 and 1 run requests of tenant 1 while worker 2 takes three of tenant 2, the last of which starts late; then
 -- tenant 1 waits

@@ -35,7 +35,8 @@ all_and_part C M = C.workers * M + greatest_part C M
 -- the most of a tenant is above virtual time by no more than these
 abbrev pub MostStaysNear : Type 0
 MostStaysNear =
-    (C : Config) (H : History) (t M : ℕ) → IsPacedWithin C H M → most_of M C H t ≤ℤ pos (time_now C H + all_and_part C M)
+    (C : Config) (H : History) (t M : ℕ) → IsPacedWithin C H M
+    → most_of M C H t ≤ℤ pos (time_now C H + all_and_part C M)
 
 -- and the cap is above the least of a tenant that waits by no more
 abbrev pub CapStaysNear : Type 0

@@ -32,8 +32,15 @@ IsPlaceAt place table = (place ≡ table) × (table.words ≡ word_count)
 
 module _ {F : Type 0} where
   abbrev pub held : TableId → View F → PassView F
-  held table v =
-      record { table = table; frame = v.frame; number = v.number; seen = v.seen; mine = v.mine; made = v.made; ended = v.ended }
+  held table v = record {
+    table = table;
+    frame = v.frame;
+    number = v.number;
+    seen = v.seen;
+    mine = v.mine;
+    made = v.made;
+    ended = v.ended;
+  }
 
   -- the pass is of this lock
   abbrev pub IsOf : LockView F → PassView F → Type 0

@@ -53,4 +53,5 @@ module _ {M F : Type 0} where
   -- the seen history has this number's own entries, and both histories seen before the last join are prefixes of it
   abbrev pub noted : At M → Holding M F → ℕ → Holding M F → Type 0
   noted at me found me2 = (me2 ≡ me) × (own_entries me.0.seen me.0.number ≡ me.0.mine)
-      × (me.0.seen ≡ longer me.0.seen_before me.0.seen_by_other → IsPrefix me.0.seen_before me.0.seen × IsPrefix me.0.seen_by_other me.0.seen)
+      × (me.0.seen ≡ longer me.0.seen_before me.0.seen_by_other
+      → IsPrefix me.0.seen_before me.0.seen × IsPrefix me.0.seen_by_other me.0.seen)

@@ -73,7 +73,9 @@ module _ {M F : Type 0} (past : M → List Entry) (frame : M → F) (like : F) w
   abbrev pub Slot : List Entry → List (maybe.Option (Option M)) → List (View F) → Type 0
   Slot history homes views =
       ((m : M) × (homes ≡ some (Some m) ∷ []) × (past m ≡ history) × (frame m ≡ like))
-      ⊎ ((homes ≡ none ∷ []) × ((seat : ℕ) × (v : View F) × (turn : ℕ) × (P : List Entry) × (get_elem? views seat ≡ some v) × (v.stage ≡ Served turn P)))
+      ⊎ ((homes ≡ none ∷ [])
+      × ((seat : ℕ) × (v : View F) × (turn : ℕ) × (P : List Entry)
+      × (get_elem? views seat ≡ some v) × (v.stage ≡ Served turn P)))
 
   -- The words count the turns drawn and served, modulo 2^64
   pub record Kept (s : State (Option M) (View F)) : Type 0 where

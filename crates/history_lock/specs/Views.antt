@@ -24,13 +24,31 @@ module _ {F : Type 0} where
 
   -- the first pass of a lock over a machine with this frame
   abbrev pub newcomer : F → View F
-  newcomer like =
-      record { number = 0; frame = Some like; seen = []; mine = []; stage = Idle; made = 0; seen_before = []; seen_by_other = []; ended = [] }
+  newcomer like = record {
+    number = 0;
+    frame = Some like;
+    seen = [];
+    mine = [];
+    stage = Idle;
+    made = 0;
+    seen_before = [];
+    seen_by_other = [];
+    ended = [];
+  }
 
   -- a view that is no pass's any more
   abbrev pub spent_view : View F
-  spent_view =
-      record { number = 0; frame = None; seen = []; mine = []; stage = Spent; made = 0; seen_before = []; seen_by_other = []; ended = [] }
+  spent_view = record {
+    number = 0;
+    frame = None;
+    seen = [];
+    mine = [];
+    stage = Spent;
+    made = 0;
+    seen_before = [];
+    seen_by_other = [];
+    ended = [];
+  }
 
   -- the only view of a badge
   abbrev pub view_of : List (View F) → View F
@@ -49,10 +67,23 @@ module _ {F : Type 0} where
   parent v = record v { made = v.made + 1 }
 
   abbrev pub child : View F → View F
-  child v =
-      record { number = v.made + 1; frame = v.frame; seen = v.seen; mine = []; stage = Idle; made = 0; seen_before = []; seen_by_other = []; ended = [] }
+  child v = record {
+    number = v.made + 1;
+    frame = v.frame;
+    seen = v.seen;
+    mine = [];
+    stage = Idle;
+    made = 0;
+    seen_before = [];
+    seen_by_other = [];
+    ended = [];
+  }
 
   -- number 0's view after a join
   abbrev pub joined : View F → View F → View F
-  joined v w =
-      record v { seen = longer v.seen w.seen; seen_before = v.seen; seen_by_other = w.seen; ended = v.ended ++ (w.number, w.mine) ∷ [] }
+  joined v w = record v {
+    seen = longer v.seen w.seen;
+    seen_before = v.seen;
+    seen_by_other = w.seen;
+    ended = v.ended ++ (w.number, w.mine) ∷ [];
+  }

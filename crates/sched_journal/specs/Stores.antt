@@ -3,7 +3,7 @@ use Rattle.std.specs.Prelude.{ℕ, ◌-◌, ◌≡◌, nat_le, List, [], ◌∷�
 use Rattle.fq_model.specs.declared.event.Entry.{Entry}
 use Rattle.circular_buffer.specs.Buffer.{Buffer, buffer, keep_last}
 
--- all entries that came, in order of time; how many of the last are kept; and how many may come in all
+-- all entries that came, in order of time; how many of the last are kept at least; and how many may come in all
 pub record StoreView : Type 0 where
   pub past : List Entry
   pub keep : ℕ

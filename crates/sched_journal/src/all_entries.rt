@@ -1,5 +1,5 @@
 //! A store that keeps all entries.
-ghost use Rattle.std.specs.Prelude.{◌≡◌, ◌≤◌, [], IfOk};
+ghost use Rattle.std.specs.Prelude.{◌≡◌, [], IfOk};
 ghost use Rattle.fq_model.specs.declared.limits.TheConstants.{MOST_LONG_ENTRIES};
 
 use crate::store::Store;
@@ -30,9 +30,7 @@ impl Model for AllEntries {
 impl AllEntries {
     /// Takes the memory for this number of entries.
     pub fn open(alloc: Global, most: u32) -> Result<AllEntries, AllocError>
-        ensures past { IfOk result (λ s. s.past ≡ []) }
-        ensures keep { IfOk result (λ s. s.keep ≡ MOST_LONG_ENTRIES) }
-        ensures room { IfOk result (λ s. most ≤ s.room) }
+        ensures { IfOk result (λ s. s ≡ record { past = []; keep = MOST_LONG_ENTRIES; room = most }) }
     {
         let entries = Vec::with_capacity(alloc, most as usize)?;
         Ok(AllEntries { entries })

@@ -10,7 +10,7 @@ use ghost_list::GhostList;
 use std::alloc::{AllocError, Global};
 use std::marker::Model;
 
-/// The last of the entries that came. Contracts see all of them.
+/// The last of the entries that came. Contracts see all that came.
 #[derive(Drop)]
 pub struct LastEntries {
     keep: u32,
@@ -46,7 +46,7 @@ impl LastEntries {
         self.keep
     }
 
-    /// The entry with this index, the first of all having 0, if it is kept. `count` is the number of all entries that came.
+    /// The entry with this index, the first of all having 0, if it is kept. `count` is the number of all that came.
     pub fn entry(&self, count: u32, index: u64) -> Option<Entry>
         requires { count ≡ length self.now.past }
         ensures { result ≡ kept_entry self.now.keep self.now.past index }

@@ -4,9 +4,10 @@ ghost use Rattle.sched_journal.specs.Stores.{StoreView, with_one};
 
 use fq_model::event::Entry;
 
-/// A store of entries, which keeps the last of those that come.
+/// A store of entries, which keeps the last of those that come. What can be read of it, each store's own calls say.
 pub trait Store {
-    /// Its view in contracts: all entries that came, in order of time, and how many of the last are kept.
+    /// Its view in contracts: all entries that came, in order of time, how many of the last are kept at least, and how
+    /// many may come in all.
     ghost seen: { Self → StoreView };
 
     /// One entry more. It takes no memory.

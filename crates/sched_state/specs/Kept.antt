@@ -12,7 +12,7 @@ pub record IsStored (j : JournalView) (s : StoreView) : Type 0 where
   pub room : j.config.entries ≤ s.room
 
 module _ {J X : Type 0} (label : J → ℕ) (seen : X → ChooserView) where
-  -- the tracker keeps the consequences of the journal's entries, and the store those entries
+  -- the tracker keeps the consequences of the journal's entries, and those entries came to the store
   pub record KeepsScheduler (j : JournalView) (k : Tracker J X) (s : StoreView) : Type 0 where
     pub tracks : Tracks label seen j.config (history j) k
     pub stored : IsStored j s

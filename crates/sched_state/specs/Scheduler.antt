@@ -35,7 +35,7 @@ scheduler_code {J} c =
 abbrev pub opened_keeping : {J : Type 0} → ℕ → Config → SchedulerView J
 opened_keeping keep config = record { config = config; past = []; jobs = map.empty; keep = keep }
 
--- one that keeps all
+-- one that keeps all, since no history has more entries
 abbrev pub opened : {J : Type 0} → Config → SchedulerView J
 opened = opened_keeping MOST_LONG_ENTRIES
 

@@ -53,7 +53,8 @@ module _ {J X : Type 0} (label : J → ℕ) (seen : X → ChooserView) where
     pub mirrors : Mirrors label C P k
     pub chooser_is : ChooserIs C P (seen k.chooser)
 
-  -- the keys of all heads but that of this tenant, who is one of the configuration
+  -- all that is kept is the history's own, the keys of all heads too but that of this tenant, who is one of the
+  -- configuration
   pub record TracksBut (tenant : ℕ) (C : Config) (P : History) (k : Tracker J X) : Type 0 where
     pub mirrors : Mirrors label C P k
     pub tenant_known : tenant < length C.weights
@@ -70,7 +71,8 @@ module _ {J X : Type 0} (label : J → ℕ) (seen : X → ChooserView) where
 
   -- the worker takes this item, which is chosen at m, at this estimate: it waits no longer, and all else follows its
   -- Take
-  pub record Begins (j : JournalView) (m worker : ℕ) (old : Tracker J X) (i : Item J) (estimate : ℕ) (new : Tracker J X) : Type 0 where
+  pub record Begins (j : JournalView) (m worker : ℕ) (old : Tracker J X) (i : Item J) (estimate : ℕ)
+      (new : Tracker J X) : Type 0 where
     pub asked : Request
     pub label_is : asked.label ≡ label i.job
     pub chosen : IsChosen j.config (history j) m worker i.request estimate asked

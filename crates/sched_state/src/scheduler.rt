@@ -291,7 +291,8 @@ impl<J: Job + Drop, X: Chooser, S: Store + Drop> Scheduler<J, X, S> {
         Ok(job)
     }
 
-    /// How many entries there are. Each request that waits has its job here, and no other has.
+    /// How many entries the history has, also those that are kept no longer. Each request that waits has its job here,
+    /// and no other has.
     pub fn len(&self) -> u32
         ensures value { result ≡ length self.now.past }
         ensures within { result ≤ self.now.config.entries }

@@ -6,5 +6,13 @@ use Rattle.fq_model.specs.declared.config.Estimator.{Estimator}
 
 -- this number of workers, and two tenants, the first of weight 1
 abbrev pub gap_config : ℕ → ℕ → Policy → Estimator → Config
-gap_config workers weight policy estimate =
-    record { workers = workers; weights = 1 ∷ weight ∷ []; kinds = 2; entries = 100; requests = 10; policy = policy; estimate = estimate; initial = 990 }
+gap_config workers weight policy estimate = record {
+  workers = workers;
+  weights = 1 ∷ weight ∷ [];
+  kinds = 2;
+  entries = 100;
+  requests = 10;
+  policy = policy;
+  estimate = estimate;
+  initial = 990;
+}

@@ -166,10 +166,15 @@ fn one_is_withdrawn_where_two_are_kept(rt: HostRuntime) {
     expect_last(&rt, rt.alloc(), 2, &withdrawals(), 6);
 }
 
-// The second of two requests is eligible once its tenant's charge of 4 has passed in virtual time, from the moment 1 on.
+// The second of two requests is eligible once its tenant's charge of 4 has passed in virtual time, from the moment 1
+// on.
 #[test]
 fn a_worker_that_asks_what_it_would_find(rt: HostRuntime) {
-    let recent = Recent::<u64, PlainChooser>::open_keeping(rt.alloc(), short_history(&rt, rt.alloc()), 1);
+    let recent = Recent::<u64, PlainChooser>::open_keeping(
+        rt.alloc(),
+        short_history(&rt, rt.alloc()),
+        1,
+    );
     let Ok(mut recent) = recent else {
         panic!(rt; "no memory for a scheduler")
     };

@@ -16,7 +16,9 @@ At = Step (Unit {0})
 -- an even version is that of the shown history, which is noted
 abbrev pub looked : At → Holding → ℕ → Holding → Type 0
 looked at me found me2 =
-    (found % 2 ≡ 0 → (P : List Entry) × (me2 ≡ (record me.0 { stage = Reading; noted = P; version = found }, me.1)) × (found ≡ 2 * length P) × IsPrefix me.0.seen P)
+    (found % 2 ≡ 0
+    → (P : List Entry) × (me2 ≡ (record me.0 { stage = Reading; noted = P; version = found }, me.1))
+    × (found ≡ 2 * length P) × IsPrefix me.0.seen P)
     × (found % 2 ≢ 0 → me2 ≡ me)
 
 -- no version since the look is less, and where this one is still that of the noted history, the word is that history's
@@ -33,7 +35,9 @@ HasPeeked me found me2 =
 -- where the version is still that of the noted history, this history has now been seen
 abbrev pub checked : At → Holding → ℕ → Holding → Type 0
 checked at me found me2 =
-    (found ≡ 2 * length me.0.noted → (me.0.version ≤ 2 * length me.0.noted) × FitStatus (words_in me.0.config me.0.noted) × (me2 ≡ (record me.0 { stage = Idle; seen = me.0.noted }, me.1)))
+    (found ≡ 2 * length me.0.noted
+    → (me.0.version ≤ 2 * length me.0.noted) × FitStatus (words_in me.0.config me.0.noted)
+    × (me2 ≡ (record me.0 { stage = Idle; seen = me.0.noted }, me.1)))
     × (found ≢ 2 * length me.0.noted → me2 ≡ (record me.0 { stage = Idle }, me.1))
 
 -- the version is not below that of the history that was seen

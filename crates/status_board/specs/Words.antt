@@ -24,7 +24,12 @@ virtual_now C P = virtual_time C (history_of P) (last_moment (history_of P))
 -- how many run
 abbrev pub words_of : Config → List Entry → List ℕ
 words_of C P =
-    last_moment (history_of P) ∷ virtual_now C P % 2 ^ 64 ∷ virtual_now C P / 2 ^ 64 ∷ waiting (history_of P) ∷ running (history_of P) ∷ []
+    last_moment (history_of P)
+    ∷ virtual_now C P % 2 ^ 64
+    ∷ virtual_now C P / 2 ^ 64
+    ∷ waiting (history_of P)
+    ∷ running (history_of P)
+    ∷ []
 
 -- these words where the configuration is known
 abbrev pub words_in : Option Config → List Entry → List ℕ

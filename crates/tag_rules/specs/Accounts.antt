@@ -23,8 +23,10 @@ base_of a tenant = slice_index_or a.bases tenant (pos 0)
 
 -- the tag of the tenant is v at least: its base is the greater of its old base and v less the charge
 abbrev pub raised : AccountsView → ℕ → ℤ → AccountsView
-raised a tenant v =
-    record { charges = a.charges; bases = slice_set a.bases tenant (int_max (base_of a tenant) (v -ℤ charge_of a tenant)) }
+raised a tenant v = record {
+  charges = a.charges;
+  bases = slice_set a.bases tenant (int_max (base_of a tenant) (v -ℤ charge_of a tenant));
+}
 
 -- the virtual charge of the tenant has moved by `delta`
 abbrev pub charged : AccountsView → ℕ → ℤ → AccountsView

@@ -4,17 +4,18 @@ use Rattle.fq_model.specs.Keys.{HeadKeys}
 use Rattle.tag_rules.specs.Tables.{Table, Has, RequestsDiffer}
 use Rattle.tag_rules.specs.declared.scan.Found.{Found}
 
--- of the tenants below n whose keys pass, t has the first
-pub record LeadsBelow (Passes : HeadKeys → Type 0) (Before : HeadKeys → HeadKeys → Type 0) (table : Table) (n t : ℕ) (k : HeadKeys) : Type 0 where
-  pub below : t < n
-  pub has : Has table t k
-  pub passes : Passes k
-  pub first : (u : ℕ) (l : HeadKeys) → u < n → u ≢ t → Has table u l → Passes l → Before k l
+module _ (Passes : HeadKeys → Type 0) (Before : HeadKeys → HeadKeys → Type 0) where
+  -- of the tenants below n whose keys pass, t has the first
+  pub record LeadsBelow (table : Table) (n t : ℕ) (k : HeadKeys) : Type 0 where
+    pub below : t < n
+    pub has : Has table t k
+    pub passes : Passes k
+    pub first : (u : ℕ) (l : HeadKeys) → u < n → u ≢ t → Has table u l → Passes l → Before k l
 
--- the first of the tenants below n whose keys pass, if there is one
-abbrev pub IsFirstBelow : (HeadKeys → Type 0) → (HeadKeys → HeadKeys → Type 0) → Table → ℕ → Option Found → Type 0
-IsFirstBelow Passes Before table n None = (u : ℕ) (l : HeadKeys) → u < n → Has table u l → ¬ Passes l
-IsFirstBelow Passes Before table n (Some found) = LeadsBelow Passes Before table n found.tenant found.keys
+  -- the first of the tenants below n whose keys pass, if there is one
+  abbrev pub IsFirstBelow : Table → ℕ → Option Found → Type 0
+  IsFirstBelow table n None = (u : ℕ) (l : HeadKeys) → u < n → Has table u l → ¬ Passes l
+  IsFirstBelow table n (Some found) = LeadsBelow table n found.tenant found.keys
 
 -- keys come before the first, if there is one
 abbrev pub ComesFirst : (HeadKeys → HeadKeys → Type 0) → Option Found → HeadKeys → Type 0

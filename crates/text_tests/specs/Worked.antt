@@ -6,5 +6,13 @@ use Rattle.fq_model.specs.declared.config.Estimator.TheVariants.{Declared}
 
 -- this number of workers, and two tenants of weight 1, under 2dfq
 abbrev pub worked_config : ℕ → Config
-worked_config workers =
-    record { workers = workers; weights = 1 ∷ 1 ∷ []; kinds = 1; entries = 100; requests = 10; policy = TwoDfq; estimate = Declared; initial = 1000 }
+worked_config workers = record {
+  workers = workers;
+  weights = 1 ∷ 1 ∷ [];
+  kinds = 1;
+  entries = 100;
+  requests = 10;
+  policy = TwoDfq;
+  estimate = Declared;
+  initial = 1000;
+}

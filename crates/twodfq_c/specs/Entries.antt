@@ -65,4 +65,5 @@ plain_found first (Some entry) = plain_entry entry
 abbrev pub ReadsHeld : Held → ℕ → PlainEntry → Type 0
 ReadsHeld None index plain = plain ≡ no_entry 0
 ReadsHeld (Some s) index plain =
-    (plain ≡ plain_found (length s.past - s.keep) (kept_entry s.keep s.past index)) × IsLegal s.config (history_of s.past)
+    (plain ≡ plain_found (length s.past - s.keep) (kept_entry s.keep s.past index))
+    × IsLegal s.config (history_of s.past)

@@ -22,7 +22,8 @@ module _ {J : Type 0} where
     pub chains : ℕ → List ℕ
     pub chained : (cell : ℕ) → cell < length cells → AreOfCell slots (slice_index_or cells cell None) (chains cell)
     pub filed : (i n : ℕ) → numbers i ≡ Some n → StandsIn i (chains (n % length cells))
-    pub held : (cell i : ℕ) → cell < length cells → StandsIn i (chains cell) → IsSomeAnd (numbers i) (λ n. n % length cells ≡ cell)
+    pub held : (cell i : ℕ) → cell < length cells → StandsIn i (chains cell)
+        → IsSomeAnd (numbers i) (λ n. n % length cells ≡ cell)
 
   -- slots that differ in the links of their cells alone
   pub record SameLists (slots slots2 : List (Slot J)) : Type 0 where
@@ -33,7 +34,8 @@ module _ {J : Type 0} where
 
   -- the link of this slot in its cell leads there
   abbrev pub LeadsInCell : List (Slot J) → ℕ → Option ℕ → List (Slot J) → Type 0
-  LeadsInCell slots slot next slots2 = slots2 ≡ slice_set slots slot (record (slot_at slots slot) { next_in_cell = next })
+  LeadsInCell slots slot next slots2 =
+      slots2 ≡ slice_set slots slot (record (slot_at slots slot) { next_in_cell = next })
 
   -- some slots are those of a cell with this first slot
   abbrev pub IsChainFrom : List (Slot J) → Option ℕ → Type 0
@@ -47,4 +49,5 @@ module _ {J : Type 0} where
   -- in the cell with this first slot, no slot leads to this one
   abbrev pub NoneLeadsTo : List (Slot J) → Option ℕ → ℕ → Type 0
   NoneLeadsTo slots first slot =
-      (chain : List ℕ) → AreOfCell slots first chain → (i : ℕ) → StandsIn i chain → (slot_at slots i).next_in_cell ≢ Some slot
+      (chain : List ℕ) → AreOfCell slots first chain → (i : ℕ) → StandsIn i chain
+      → (slot_at slots i).next_in_cell ≢ Some slot

@@ -79,7 +79,8 @@ module _ {J : Type 0} where
   -- the item stands at the end of the tenant's list, and all other lists are as before
   abbrev pub IsAppended : List (Slot J) → List (Option Ends) → ℕ → Item J → List (Slot J) → List (Option Ends) → Type 0
   IsAppended slots ends tenant item slots2 ends2 =
-      lists_of slots2 ends2 ≡ slice_set (lists_of slots ends) tenant (slice_index_or (lists_of slots ends) tenant [] ++ item ∷ [])
+      lists_of slots2 ends2
+      ≡ slice_set (lists_of slots ends) tenant (slice_index_or (lists_of slots ends) tenant [] ++ item ∷ [])
 
   -- all slots but this one have the items that they had, and their links in the index
   pub record SameBeside (slots : List (Slot J)) (slot : ℕ) (slots2 : List (Slot J)) : Type 0 where
@@ -146,14 +147,16 @@ module _ {J : Type 0} where
   IsTakenOut slots ends slot slots2 ends2 =
       (front rest : List ℕ)
       → AreListOf slots (slice_index_or ends (slot_at slots slot).tenant None) (front ++ slot ∷ rest)
-      → lists_of slots2 ends2 ≡ slice_set (lists_of slots ends) (slot_at slots slot).tenant (items_at slots front ++ items_at slots rest)
+      → lists_of slots2 ends2
+      ≡ slice_set (lists_of slots ends) (slot_at slots slot).tenant (items_at slots front ++ items_at slots rest)
 
-  -- A slot was made free if none was, or there are as many as there may be; the lists are as before, whichever ends
-  -- they have.
-  pub record IsMadeFree (slots : List (Slot J)) (free : Option ℕ) (room : ℕ) (slots2 : List (Slot J)) (free2 : Option ℕ) : Type 0 where
-    pub keeps : (ends : List (Option Ends)) → Keeps slots ends free → Keeps slots2 ends free2
-    pub same : (ends : List (Option Ends)) → Keeps slots ends free → lists_of slots2 ends ≡ lists_of slots ends
-    pub longer : length slots ≤ length slots2
-    pub read : (i : ℕ) → slot_at slots2 i ≡ slot_at slots i
-    pub within : length slots2 ≤ room
-    pub full : free2 ≡ None → length slots2 ≡ room
+  module _ (slots : List (Slot J)) (free : Option ℕ) (room : ℕ) where
+    -- A slot was made free if none was, or there are as many as there may be; the lists are as before, whichever ends
+    -- they have.
+    pub record IsMadeFree (slots2 : List (Slot J)) (free2 : Option ℕ) : Type 0 where
+      pub keeps : (ends : List (Option Ends)) → Keeps slots ends free → Keeps slots2 ends free2
+      pub same : (ends : List (Option Ends)) → Keeps slots ends free → lists_of slots2 ends ≡ lists_of slots ends
+      pub longer : length slots ≤ length slots2
+      pub read : (i : ℕ) → slot_at slots2 i ≡ slot_at slots i
+      pub within : length slots2 ≤ room
+      pub full : free2 ≡ None → length slots2 ≡ room

@@ -40,7 +40,8 @@ impl<J> Model for Lists<J> {
 
     ghost view = { λ l. record { lists = lists_of l.slots.items l.ends.items; slots = l.room } };
 
-    ghost invariant = { λ l. KeepsCount l.slots.items l.cells.items l.ends.items l.free l.len l.room (vec_capacity l.slots) };
+    ghost invariant = { λ l. KeepsCount l.slots.items l.cells.items l.ends.items l.free l.len l.room
+        (vec_capacity l.slots) };
 }
 
 impl<J: Drop> Lists<J> {

@@ -33,8 +33,16 @@ NoneIsEligibleAt C P m i = NoneIsEligible (turn_at C P m i) (HasKeys C P m)
 
 -- two workers, and two tenants of weight 1, under 2dfq
 unfoldable pub stagger_config : Config
-stagger_config =
-    record { workers = 2; weights = 1 ∷ 1 ∷ []; kinds = 1; entries = 100; requests = 10; policy = TwoDfq; estimate = Declared; initial = 1000 }
+stagger_config = record {
+  workers = 2;
+  weights = 1 ∷ 1 ∷ [];
+  kinds = 1;
+  entries = 100;
+  requests = 10;
+  policy = TwoDfq;
+  estimate = Declared;
+  initial = 1000;
+}
 
 -- worker 1 runs a request of tenant 0 that is 8 long, while worker 0 runs requests of tenant 1 that are 1 long: the
 -- sixth of them has just begun
@@ -78,8 +86,16 @@ sixth_ended = entry 10 5 (Done 0 7 1) ∷ stagger_history
 
 -- two workers, and two tenants of weight 1, under wf2q
 unfoldable pub fallback_config : Config
-fallback_config =
-    record { workers = 2; weights = 1 ∷ 1 ∷ []; kinds = 1; entries = 100; requests = 10; policy = Wf2q; estimate = Declared; initial = 1000 }
+fallback_config = record {
+  workers = 2;
+  weights = 1 ∷ 1 ∷ [];
+  kinds = 1;
+  entries = 100;
+  requests = 10;
+  policy = Wf2q;
+  estimate = Declared;
+  initial = 1000;
+}
 
 -- a request of tenant 0 has ended, and one of tenant 1 runs; each has one that waits
 unfoldable pub fallback_history : History
@@ -102,8 +118,16 @@ fallback_taken request estimate = entry 10 1 (Take 0 request estimate) ∷ fallb
 
 -- one worker, and tenants of the weights 1 and 2, with pessimistic estimates that begin at 990
 unfoldable pub refund_config : Config
-refund_config =
-    record { workers = 1; weights = 1 ∷ 2 ∷ []; kinds = 1; entries = 100; requests = 10; policy = TwoDfq; estimate = Pessimistic; initial = 990 }
+refund_config = record {
+  workers = 1;
+  weights = 1 ∷ 2 ∷ [];
+  kinds = 1;
+  entries = 100;
+  requests = 10;
+  policy = TwoDfq;
+  estimate = Pessimistic;
+  initial = 990;
+}
 
 -- a request of tenant 0 that was estimated at 990 cost 3, and then one of tenant 1 cost the 990 that it was estimated
 -- at
@@ -123,8 +147,16 @@ refund_history =
 
 -- one worker, and two tenants of weight 1
 unfoldable pub weights_config : Config
-weights_config =
-    record { workers = 1; weights = 1 ∷ 1 ∷ []; kinds = 1; entries = 100; requests = 10; policy = TwoDfq; estimate = Declared; initial = 1000 }
+weights_config = record {
+  workers = 1;
+  weights = 1 ∷ 1 ∷ [];
+  kinds = 1;
+  entries = 100;
+  requests = 10;
+  policy = TwoDfq;
+  estimate = Declared;
+  initial = 1000;
+}
 
 -- tenant 0 gets the weight 2 before its first request is taken, and the weight 4 while that runs
 unfoldable pub weights_history : History
@@ -142,8 +174,16 @@ weights_history =
 
 -- two workers at the opening, and two tenants of weight 1
 unfoldable pub workers_config : Config
-workers_config =
-    record { workers = 2; weights = 1 ∷ 1 ∷ []; kinds = 1; entries = 100; requests = 10; policy = TwoDfq; estimate = Declared; initial = 1000 }
+workers_config = record {
+  workers = 2;
+  weights = 1 ∷ 1 ∷ [];
+  kinds = 1;
+  entries = 100;
+  requests = 10;
+  policy = TwoDfq;
+  estimate = Declared;
+  initial = 1000;
+}
 
 -- one worker from moment 0 on, while worker 1 runs a request, which ends
 unfoldable pub workers_history : History
@@ -159,8 +199,16 @@ workers_history =
 
 -- one worker, and two tenants of weight 1, under each policy
 unfoldable pub pause_config : Policy → Config
-pause_config policy =
-    record { workers = 1; weights = 1 ∷ 1 ∷ []; kinds = 1; entries = 100; requests = 10; policy = policy; estimate = Declared; initial = 1000 }
+pause_config policy = record {
+  workers = 1;
+  weights = 1 ∷ 1 ∷ [];
+  kinds = 1;
+  entries = 100;
+  requests = 10;
+  policy = policy;
+  estimate = Declared;
+  initial = 1000;
+}
 
 -- tenant 0 has nothing to do from moment 1010 to moment 2010, while tenant 1 has a request that waits
 unfoldable pub pause_history : History
@@ -179,8 +227,16 @@ pause_history =
 
 -- one worker, and one tenant
 unfoldable pub single_config : Config
-single_config =
-    record { workers = 1; weights = 1 ∷ []; kinds = 1; entries = 5; requests = 1; policy = TwoDfq; estimate = Declared; initial = 1000 }
+single_config = record {
+  workers = 1;
+  weights = 1 ∷ [];
+  kinds = 1;
+  entries = 5;
+  requests = 1;
+  policy = TwoDfq;
+  estimate = Declared;
+  initial = 1000;
+}
 
 -- its request was declared to cost 5, and is seen to have used 6
 unfoldable pub single_reported : History
@@ -199,8 +255,16 @@ single_ended cost = entry 0 9 Close ∷ entry 10 8 (Done 0 0 cost) ∷ single_re
 
 -- one worker, and one tenant, whose estimates are the mean of its recent costs
 unfoldable pub recent_config : Config
-recent_config =
-    record { workers = 1; weights = 1 ∷ []; kinds = 1; entries = 100; requests = 10; policy = TwoDfq; estimate = Recent; initial = 1000 }
+recent_config = record {
+  workers = 1;
+  weights = 1 ∷ [];
+  kinds = 1;
+  entries = 100;
+  requests = 10;
+  policy = TwoDfq;
+  estimate = Recent;
+  initial = 1000;
+}
 
 -- a request more, submitted, taken at this estimate and done at this cost
 abbrev pub served : ℕ → ℕ → ℕ → History → History
@@ -210,14 +274,23 @@ served request estimate cost P =
 -- nine requests, of which the first cost 100 and the others 2 to 9
 unfoldable pub recent_history : History
 recent_history =
-    served 8 16 9 (served 7 18 8 (served 6 20 7 (served 5 22 6 (served 4 27 5 (served 3 35 4 (served 2 51 3 (served 1 100 2 (served 0 1000 100 []))))))))
+    served 8 16 9 (served 7 18 8 (served 6 20 7 (served 5 22 6 (served 4 27 5
+    (served 3 35 4 (served 2 51 3 (served 1 100 2 (served 0 1000 100 []))))))))
 
 -- ---- little room
 
 -- one worker, one tenant and one kind, and the least number of entries
 unfoldable pub small_config : Config
-small_config =
-    record { workers = 1; weights = 1 ∷ []; kinds = 1; entries = 4; requests = 2; policy = TwoDfq; estimate = Declared; initial = 1000 }
+small_config = record {
+  workers = 1;
+  weights = 1 ∷ [];
+  kinds = 1;
+  entries = 4;
+  requests = 2;
+  policy = TwoDfq;
+  estimate = Declared;
+  initial = 1000;
+}
 
 -- one request runs
 unfoldable pub small_history : History

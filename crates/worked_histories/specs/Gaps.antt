@@ -18,8 +18,16 @@ gap_of largest bound = record { largest = pos (units largest); bound = pos (unit
 
 -- two workers, and two tenants of weight 1, under 2dfq
 unfoldable pub stagger_config : Config
-stagger_config =
-    record { workers = 2; weights = 1 ∷ 1 ∷ []; kinds = 1; entries = 100; requests = 10; policy = TwoDfq; estimate = Declared; initial = 1000 }
+stagger_config = record {
+  workers = 2;
+  weights = 1 ∷ 1 ∷ [];
+  kinds = 1;
+  entries = 100;
+  requests = 10;
+  policy = TwoDfq;
+  estimate = Declared;
+  initial = 1000;
+}
 
 -- worker 1 takes requests of tenant 0 that are 8 long, one at 0 and one at 4, while one of tenant 1 runs that is 6 long
 unfoldable pub stagger_history : History
@@ -39,8 +47,16 @@ stagger_history =
 
 -- one worker, and two tenants of weight 1, under wf2q
 unfoldable pub begun_config : Config
-begun_config =
-    record { workers = 1; weights = 1 ∷ 1 ∷ []; kinds = 1; entries = 100; requests = 10; policy = Wf2q; estimate = Declared; initial = 1000 }
+begun_config = record {
+  workers = 1;
+  weights = 1 ∷ 1 ∷ [];
+  kinds = 1;
+  entries = 100;
+  requests = 10;
+  policy = Wf2q;
+  estimate = Declared;
+  initial = 1000;
+}
 
 -- two requests of tenant 0 are taken, and then tenant 1 submits one
 unfoldable pub begun_history : History
@@ -58,8 +74,16 @@ begun_history =
 
 -- two workers, and tenants of the weights 1 and 2, under wfq
 unfoldable pub weights_config : Config
-weights_config =
-    record { workers = 2; weights = 1 ∷ 2 ∷ []; kinds = 1; entries = 100; requests = 10; policy = Wfq; estimate = Declared; initial = 1000 }
+weights_config = record {
+  workers = 2;
+  weights = 1 ∷ 2 ∷ [];
+  kinds = 1;
+  entries = 100;
+  requests = 10;
+  policy = Wfq;
+  estimate = Declared;
+  initial = 1000;
+}
 
 -- two requests of tenant 0 are taken, while tenant 1 has the weight 1
 unfoldable pub weights_history : History
@@ -78,8 +102,16 @@ weights_history =
 
 -- one worker, and two tenants of weight 1, under wfq
 unfoldable pub doubt_config : Config
-doubt_config =
-    record { workers = 1; weights = 1 ∷ 1 ∷ []; kinds = 1; entries = 100; requests = 10; policy = Wfq; estimate = Declared; initial = 1000 }
+doubt_config = record {
+  workers = 1;
+  weights = 1 ∷ 1 ∷ [];
+  kinds = 1;
+  entries = 100;
+  requests = 10;
+  policy = Wfq;
+  estimate = Declared;
+  initial = 1000;
+}
 
 -- the head of tenant 1 is 4 long; tenant 0 has requests of the estimate 1, of which the fourth turns out to be 4 long
 unfoldable pub doubt_history : History

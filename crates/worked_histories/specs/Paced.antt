@@ -13,8 +13,16 @@ use Rattle.worked_histories.specs.Examples.{entry, units}
 
 -- this number of workers, and two tenants of weight 1
 abbrev pub config_for : ℕ → Policy → Config
-config_for workers policy =
-    record { workers = workers; weights = 1 ∷ 1 ∷ []; kinds = 1; entries = 100; requests = 10; policy = policy; estimate = Declared; initial = 1000 }
+config_for workers policy = record {
+  workers = workers;
+  weights = 1 ∷ 1 ∷ [];
+  kinds = 1;
+  entries = 100;
+  requests = 10;
+  policy = policy;
+  estimate = Declared;
+  initial = 1000;
+}
 
 -- under 2dfq+ virtual time and the cap are these numbers of units just after the last entry
 pub record PaceIs (C : Config) (P : History) (time cap : ℕ) : Type 0 where
