@@ -45,7 +45,9 @@ pub record AreServed (C : Config) (tells : Bool) (calls : List Call) (text : Lis
   pub told : text ≡ told_text tells replies
 
 -- the answer has the output that is asked for of calls that were answered so, with these tenants and kinds
-pub record IsCallsAnswer (what : ScriptPrint) (C : Config) (tenants kinds : List (List ℕ)) (calls : List Call) (answer : Answer) : Type 0 where
+pub record IsCallsAnswer
+    (what : ScriptPrint) (C : Config) (tenants kinds : List (List ℕ)) (calls : List Call) (answer : Answer)
+    : Type 0 where
   pub told : List ℕ
   pub past : List Entry
   pub answered : AreServed C (tells_replies what) calls told past

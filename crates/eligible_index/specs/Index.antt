@@ -16,12 +16,14 @@ trees_of trees i = slice_index_or trees i (record { later = []; eligible = []; n
 
 -- The invariant of an index: the trees of each worker follow the table, by the present number of workers and the
 -- greatest virtual time of a choice so far; those of workers beyond that number are empty.
-pub record KeepsIndex (policy : Policy) (workers : ℕ) (table : Table) (latest : ℤ) (trees : List TreesView) : Type 0 where
+pub record KeepsIndex
+    (policy : Policy) (workers : ℕ) (table : Table) (latest : ℤ) (trees : List TreesView) : Type 0 where
   pub few : length table ≤ MOST_TENANTS
   pub differ : RequestsDiffer table
   pub staffed : workers ≤ length trees
   pub follow : (i : ℕ) → i < length trees
-      → Follow (record { policy = policy; workers = workers; worker = i; virtual_time = latest }) table (trees_of trees i)
+      → Follow (record { policy = policy; workers = workers; worker = i; virtual_time = latest }) table
+      (trees_of trees i)
   pub retired : (i : ℕ) → workers ≤ i → i < length trees → HaveNoKey (trees_of trees i)
 
 -- the trees of worker i are exact for a choice at v

@@ -56,7 +56,9 @@ pub record IsOpened {A : Type 0} (read : Reads A) (head : Document A) (below : B
 
 -- Some lines, of which the first is line `place` of a text, are those of this head and below them those of this body.
 -- The lines of the head alone spell the head, however a body would be read.
-pub record Divides {A : Type 0} (spelled : List (List ℕ) → Reads A) (place : ℕ) (lines : List (List ℕ)) (head : Document A) (below : Below) : Type 0 where
+pub record Divides
+    {A : Type 0} (spelled : List (List ℕ) → Reads A) (place : ℕ) (lines : List (List ℕ)) (head : Document A)
+    (below : Below) : Type 0 where
   pub above : List (List ℕ)
   pub split : lines ≡ above ++ below.lines
   pub spells : (reader : Readers A) → spelled above reader ≡ Ok head

@@ -28,7 +28,8 @@ pub record HeadJoins (old : List (List HeadView)) (at : ℕ) (head : HeadView) (
   pub others : new ≡ slice_set old at (block_at new at)
 
 -- a block has one head less
-pub record HeadLeaves (old : List (List HeadView)) (at : ℕ) (head : HeadView) (new : List (List HeadView)) : Type 0 where
+pub record HeadLeaves
+    (old : List (List HeadView)) (at : ℕ) (head : HeadView) (new : List (List HeadView)) : Type 0 where
   pub gains : Gains (block_at new at) head (block_at old at)
   pub others : new ≡ slice_set old at (block_at new at)
 
@@ -93,7 +94,8 @@ pub record KeepsBlock (heads : List HeadView) (capacity : ℕ) (longest : ℤ) :
   pub greatest : longest ≡ greatest_length heads
 
 -- the invariant of blocks in a row: each place has room for all of them
-pub record KeepsBlocks (used : List (List HeadView)) (used_capacity : ℕ) (spare : List (List HeadView)) (spare_capacity : ℕ) : Type 0 where
+pub record KeepsBlocks
+    (used : List (List HeadView)) (used_capacity : ℕ) (spare : List (List HeadView)) (spare_capacity : ℕ) : Type 0 where
   pub empty : All (λ block. block ≡ []) spare
   pub used_room : length used + length spare ≤ used_capacity
   pub spare_room : length used + length spare ≤ spare_capacity

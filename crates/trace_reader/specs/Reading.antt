@@ -22,7 +22,8 @@ trace_in tenants kinds rows =
 -- more tenants, kinds, requests or pairs of a tenant and a kind than there may be
 abbrev pub are_too_many : ℕ → ℕ → ℕ → Bool
 are_too_many tenants kinds rows =
-    nat_lt MOST_TENANTS tenants || (nat_lt MOST_KINDS kinds || (nat_lt MOST_ROWS rows || nat_lt MOST_PAIRS (tenants * kinds)))
+    nat_lt MOST_TENANTS tenants
+    || (nat_lt MOST_KINDS kinds || (nat_lt MOST_ROWS rows || nat_lt MOST_PAIRS (tenants * kinds)))
 
 -- reading has this fault, unless memory ran out
 abbrev pub Fails : {Y : Type 0} → RecordError → Result Y TraceKind → Type 0

@@ -7,8 +7,8 @@ use Rattle.program_model.specs.Program.{Move, Later, asked, Ends, IsRun}
 use Rattle.program_model.specs.Statuses.{StatusMeans}
 
 -- The program, which serves these commands, ran the words over a clock that may tell these moments: it ran the command
--- that the words ask for, if there is one, its exit status means what its number says, and the sink has the room that it
--- had
+-- that the words ask for, if there is one, its exit status means what its number says, and the sink has the room that
+-- it had
 pub record Runs
     (serves : Command → Bool) (Told : ℕ → Type 0) (words : Line) (source sink errs : Move)
     (room room2 : Option ℕ) (exit : ℕ) : Type 0 where
