@@ -2,7 +2,7 @@
 use Rattle.std.proofs.Common.{ℕ, suc, ◌+◌, ◌-◌, ◌*◌, ◌<◌, ◌≤◌, ◌≡◌, List, ◌++◌, length, arith, refl, ap, ap₂, sym, ◌∙◌, subst, All, take, drop, zero, replicate, append-nil}
 use Rattle.std.proofs.lemmas.List.{get_or-replicate, length-replicate, take_all}
 use Rattle.std.proofs.Math.ListN.{drop_of_length-le}
-use Rattle.std.proofs.Math.Nat.{add-mul}
+use Rattle.std.proofs.Math.Nat.{add-mul, mul-le-mul_right}
 use Rattle.std.proofs.lemmas.List.Sums.{sum_by-le}
 use Rattle.std.proofs.lemmas.Bool.Decides.{nat_tests}
 use Rattle.std.specs.List.Sorted.{IsNonDecreasingBy, IsPermutation}
@@ -115,7 +115,10 @@ served_none C rows H Q served is = record {
   each = λ t l. ap (λ xs. number_at xs t) is ∙ get_or-replicate (length C.weights) t 0 0 l;
 }
 
--- items that came by a slot's start came by the start of the next slot
+-- items that came by a slot's start came by the start of each later slot, so by that of the next
+pub by_later : {X : Type 0} (n : X → ℕ) (xs : List X) (k j Q : ℕ) → k ≤ j → All (λ x. n x ≤ k * Q) xs → All (λ x. n x ≤ j * Q) xs
+by_later n xs k j Q le before i d l = omega (arith, before i d l, mul-le-mul_right {m = k} {n = j} Q le)
+
 pub still_before : {X : Type 0} (n : X → ℕ) (xs : List X) (k Q : ℕ) → All (λ x. n x ≤ k * Q) xs → All (λ x. n x ≤ (k + 1) * Q) xs
 still_before n xs k Q before i d l = omega (arith, before i d l, add-mul k 1 Q)
 

@@ -1,7 +1,7 @@
 -- Lists over the numbers below a bound.
-use Rattle.std.proofs.Common.{ℕ, zero, suc, ◌+◌, ◌<◌, ◌≤◌, ◌≡◌, List, [], ◌∷◌, ◌++◌, length, arith, refl, ap, ap₂, sym, ◌∙◌, subst, inl, inr, get_or, length-append, add-one, sum_by, All, drop, map}
+use Rattle.std.proofs.Common.{ℕ, zero, suc, ◌+◌, ◌-◌, ◌<◌, ◌≤◌, ◌≡◌, List, [], ◌∷◌, ◌++◌, length, arith, refl, ap, ap₂, sym, ◌∙◌, subst, inl, inr, get_or, length-append, append-nil, append_assoc, add-one, sum_by, All, drop, map, replicate, take}
 use Rattle.std.proofs.lemmas.Bool.{cases_eq}
-use Rattle.std.proofs.lemmas.List.{get_or_default, get_or-drop, length-drop}
+use Rattle.std.proofs.lemmas.List.{get_or_default, get_or-drop, length-drop, take_all}
 use Rattle.std.proofs.lemmas.List.Sums.{sum_by-cons, sum_by_push}
 use Rattle.std.proofs.Math.ListN.{get_or-append}
 use Rattle.std.proofs.Math.Seq.{get_or-append_seam}
@@ -33,6 +33,26 @@ list_at f (suc n) k d l = elim (cases_eq k n) [
   | inl e ↦ ap (λ i. get_or (list_below f n ++ f n ∷ []) i d) (e ∙ sym (list_length f n)) ∙ get_or-append_seam (list_below f n) (f n) [] d ∙ ap f (sym e)
   | inr ne ↦ get_or-append (list_below f n) (f n ∷ []) d k (omega (arith, l, ne, list_length f n)) ∙ list_at f n k d (omega (arith, l, ne))
 ]
+
+-- a list that goes on with equal elements
+pub list_still : {A : Type 0} (f : ℕ → A) (x : A) (k n : ℕ) → ((i : ℕ) → k ≤ i → i < k + n → f i ≡ x) → list_below f k ++ replicate n x ≡ list_below f (k + n)
+list_still f x k zero h = append-nil (list_below f k) ∙ ap (list_below f) (omega arith)
+list_still f x k (suc n) h =
+    ap (λ y. list_below f k ++ y ∷ replicate n x) (sym (h k (omega arith) (omega arith)))
+    ∙ sym (append_assoc (list_below f k) (f k ∷ []) (replicate n x))
+    ∙ ap (λ ys. ys ++ replicate n x) (sym (list_more f k))
+    ∙ list_still f x (k + 1) n (λ i le lt. h i (omega (arith, le)) (omega (arith, lt)))
+    ∙ ap (list_below f) (omega arith)
+
+-- such a list, made longer
+pub list_resized : (f : ℕ → ℕ) (x k n len : ℕ) (xs : List ℕ) → xs ≡ list_below f k → len ≡ length xs → k ≤ n → ((i : ℕ) → k ≤ i → i < n → f i ≡ x) → take n xs ++ replicate (n - len) x ≡ list_below f n
+list_resized f x k n len xs is size le h =
+    let long : length xs ≡ k = ap length is ∙ list_length f k in
+    let more : n - len ≡ n - k = omega (arith, long, size) in
+    let all : k + (n - k) ≡ n = omega (arith, le) in
+    ap₂ (λ ys m. ys ++ replicate m x) (take_all n xs (omega (arith, long, le)) ∙ is) more
+    ∙ list_still f x k (n - k) (λ i from to. h i from (omega (arith, to, all)))
+    ∙ ap (list_below f) all
 
 -- sums of equal numbers, and of zeros
 pub sum_same : {X : Type 0} (f g : X → ℕ) (xs : List X) → All (λ x. f x ≡ g x) xs → sum_by f xs ≡ sum_by g xs

@@ -171,6 +171,17 @@ replayed_low C rows changes slots Q t (suc k) =
     let more : costs_by rows (k * Q) t ≤ costs_by rows (suc k * Q) t = costs_more rows (k * Q) (suc k * Q) t (omega (arith, add-mul 1 k Q)) in
     omega (arith, replayed_low C rows changes slots Q t k, more, gift_low (level_in slots k) (own_backlog C rows changes (k * Q) (λ u. replayed C rows changes slots Q u k) t))
 
+-- nothing is served while there is no backlog: its costs stay, and they are served
+pub replayed_still : (C : Config) (rows : List FluidRow) (changes : List Change) (slots : List Level) (Q t k n cost : ℕ) → replayed C rows changes slots Q t k ≡ cost → ((j : ℕ) → k ≤ j → j < n → costs_by rows (j * Q) t ≡ cost) →
+    (i : ℕ) → k + i ≤ n → replayed C rows changes slots Q t (k + i) ≡ cost
+replayed_still C rows changes slots Q t k n cost now came zero l = ap (replayed C rows changes slots Q t) (omega arith) ∙ now
+replayed_still C rows changes slots Q t k n cost now came (suc i) l =
+    let before : replayed C rows changes slots Q t (k + i) ≡ cost = replayed_still C rows changes slots Q t k n cost now came i (omega (arith, l)) in
+    let costs : costs_by rows ((k + i) * Q) t ≡ cost = came (k + i) (omega arith) (omega (arith, l)) in
+    let next : k + suc i ≡ suc (k + i) = omega arith in
+    ap (replayed C rows changes slots Q t) next ∙ replayed_more C rows changes slots Q t (k + i)
+    ∙ omega (arith, before, costs, gift_low (level_in slots (k + i)) (own_backlog C rows changes ((k + i) * Q) (λ u. replayed C rows changes slots Q u (k + i)) t))
+
 -- these are requests and changes in another order; the changes of each tenant's weight keep their order
 pub record Parted (sorted parted : List FluidRow) (changes parted_changes : List Change) : Type 0 where
   pub cost : CostTheSame parted sorted

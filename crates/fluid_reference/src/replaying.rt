@@ -1,5 +1,5 @@
 //! The fluid service of one tenant in slots whose levels are known.
-ghost use Rattle.std.specs.Prelude.{◌≡◌, ◌≤◌, ◌<◌, suc, length, take, All, IfOk, ℕ};
+ghost use Rattle.std.specs.Prelude.{◌≡◌, ◌≤◌, ◌<◌, ◌-◌, ◌*◌, suc, length, take, All, IfOk, ℕ};
 ghost use Rattle.std.specs.List.Sorted.{IsNonDecreasingBy};
 ghost use Rattle.vt_fixed.specs.declared.limits.TheConstants.{GREATEST_COST};
 ghost use Rattle.fq_model.specs.declared.config.Config.{Config};
@@ -40,15 +40,45 @@ pub fn replay(
     let mut cost: u64 = 0;
     let mut served: u64 = 0;
     let mut services = Vec::with_capacity(alloc, levels.len())?;
-    for k in 0..levels.len() {
+    let mut k: usize = 0;
+    'slots: while k < levels.len() {
         let at = k as u128 * slot as u128;
         (joined, cost) = join_own(own, joined, cost, at);
         (changed, weight) = weigh(changes, changed, weight, at);
         let units = cost - served;
+        if units == 0 {
+            k = next_busy(own, joined, slot, k, levels.len());
+            services.resize(k, served)?;
+            continue;
+        }
         served += give(levels[k], Backlog { units, weight });
         services.push(served)?;
+        k += 1;
     }
     Ok(services)
+}
+
+// The first slot after slot k by whose start a tenant's request at this place has come, or the number of slots. A
+// tenant that has no backlog at slot k is served nothing before.
+fn next_busy(own: &[FluidRow], place: usize, slot: u64, k: usize, slots: usize) -> usize
+    requires inside { k < slots }
+    requires later { place < length own.now → k * slot < (row_of own.now place).submit }
+    ensures after { k < result }
+    ensures inside { result ≤ slots }
+    ensures later { place < length own.now → (result - 1) * slot < (row_of own.now place).submit }
+{
+    if place >= own.len() {
+        return slots;
+    }
+    if slot == 0 {
+        return k + 1;
+    }
+    let last = (own[place].submit - 1) / slot;
+    if last < slots as u64 {
+        last as usize + 1
+    } else {
+        slots
+    }
 }
 
 // The place of the first request that comes later, of a tenant's requests in the order of their submissions from a

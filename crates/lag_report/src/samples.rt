@@ -19,7 +19,7 @@ pub fn samples(alloc: Global, served: &[u64], gains: &[u64]) -> Result<Vec<i64>,
     let mut work = 0;
     for k in 0..served.len() {
         work += gains[k];
-        samples.push(served[k] as i64 - work as i64)?;
+        samples.push_reserved(served[k] as i64 - work as i64);
     }
     Ok(samples)
 }

@@ -94,8 +94,12 @@ fn search(cap: u64, rows: &[Backlog], low: u64, high: u64) -> u64
 {
     let mut low = low;
     let mut high = high;
+    let mut rise = low;
     'search: while high - low > 1 {
-        let between = probe(low, high, rows);
+        if rise <= low && high - low >= NARROW {
+            rise = next_rise(low, rows);
+        }
+        let between = probe(low, high, rise);
         if sum_of_gifts(between, rows) <= cap {
             low = between;
         } else {
@@ -105,21 +109,17 @@ fn search(cap: u64, rows: &[Backlog], low: u64, high: u64) -> u64
     low
 }
 
-// A level between two to look at next. Where gifts rise at few levels between them, as where weights are equal, it is
-// the first of these levels, or the last level below `high` if there is none; else it is the middle.
-fn probe(low: u64, high: u64, rows: &[Backlog]) -> u64
+// A level between two to look at next, where `rise` is the next level at which gifts rise, if it is above the lower one.
+// Where gifts rise at few levels between them, as where weights are equal, it is the first of these levels, or the last
+// level below `high` if there is none; else it is the middle.
+fn probe(low: u64, high: u64, rise: u64) -> u64
     requires { low + 1 < high }
     ensures above { low < result }
     ensures below { result < high }
 {
-    let middle = low + (high - low) / 2;
-    if high - low < NARROW {
-        return middle;
-    }
-    let rise = next_rise(low, rows);
-    if rise - low > (high - low) / 8 {
+    if rise.saturating_sub(low) > (high - low) / 8 {
         rise.min(high - 1)
     } else {
-        middle
+        low + (high - low) / 2
     }
 }

@@ -1,6 +1,4 @@
-use Rattle.std.proofs.Common.{◌≡◌, ◌+◌, ◌++◌, ◌∷◌, ℕ, List, [], ap, ◌∙◌, append_assoc, rules}
-use Rattle.std.proofs.lemmas.Fmt.{decimal_digit}
-use Rattle.std.specs.Fmt.{decimal}
+use Rattle.std.proofs.Common.{◌≡◌, rules}
 use Rattle.std.specs.Prelude.{codes}
 use Rattle.journal_text.specs.Printing.{IsKept}
 use Rattle.journal_text.proofs.Kept.{kept_all, kept_still, kept_either}
@@ -15,10 +13,3 @@ pub returns-clause-kept : goal.returns-clause-kept
 returns-clause-kept c =
     let space : IsKept c.args.text.now.items c.push.new.self.items = (codes " ", c.in_ok-push.ensures.items) in
     kept_either c.args.text.now.items c.push.new.self.items _ c.extend_from_slice.new.self.items _ space c.extend_from_slice.ensures.items
-
-pub returns-then-number-lt10-clause-added : goal.returns-then-number-lt10-clause-added
-returns-then-number-lt10-clause-added c =
-    let n = c.args.number in
-    let digit : decimal n ≡ (48 + n) ∷ [] = decimal_digit n c.if-number-lt10.true in
-    rw digit (c.in_ok-push-2.ensures.items ∙ ap (λ (front : List ℕ). front ++ ((48 + n) ∷ [])) c.in_ok-push.ensures.items
-    ∙ append_assoc c.args.text.now.items (codes " ") ((48 + n) ∷ []))

@@ -1,9 +1,9 @@
-use Rattle.std.proofs.Common.{ℕ, ◌+◌, ◌≤◌, ◌≡◌, ◌++◌, ◌∷◌, [], List, take, get_or, sum, arith, refl, ap, ap₂, sym, ◌∙◌, ℤ, pos, ◌-ℤ◌, add-one, w64}
+use Rattle.std.proofs.Common.{ℕ, ◌+◌, ◌≤◌, ◌≡◌, ◌++◌, ◌∷◌, [], List, length, take, get_or, sum, arith, refl, ap, ap₂, sym, ◌∙◌, ℤ, pos, ◌-ℤ◌, add-one, w64}
 use mir.Val.{SFits, to_z, of_z}
 use Rattle.std.proofs.lemmas.Int.{ints}
 use Rattle.std.proofs.lemmas.List.Sums.{sum_by_more, sum_by_more_le}
 use Rattle.fq_model.specs.Sums.{list_below}
-use Rattle.fluid_reference.proofs.Lists.{list_none, list_more}
+use Rattle.fluid_reference.proofs.Lists.{list_length, list_none, list_more}
 use Rattle.lag_report.specs.Work.{sample_at}
 use Rattle.lag_report.proofs.samples.samples.Goals as goal
 
@@ -11,7 +11,7 @@ pub overflow_add-work : goal.overflow_add-work
 overflow_add-work c = omega (arith, c.loop-k.invariant.work, sum_by_more_le (λ x. x) c.args.gains.now c.loop-k.k 0 (omega (arith, c.requires.same, c.loop-k-test.true)), c.requires.gained)
 
 pub loop-k-init : goal.loop-k-init
-loop-k-init c = record { work = refl; samples = c.in_ok-samples.ensures.items ∙ sym (list_none _) }
+loop-k-init c = record { work = refl; samples = c.in_ok-samples.ensures.items ∙ sym (list_none _); room = c.in_ok-samples.ensures.capacity }
 
 -- the lag that is pushed: a difference of numbers that are in their limits
 lag_is : (served work : ℕ) → served ≤ 2000000000000000 → work ≤ 2000000000000000 → to_z w64 (of_z w64 (to_z w64 served -ℤ to_z w64 work)) ≡ pos served -ℤ pos work
@@ -26,8 +26,19 @@ loop-k-preserved c =
     ∙ ap (λ n. pos (get_or c.args.served.now c.loop-k.k 0) -ℤ pos n) (work ∙ ap (λ n. sum (take n c.args.gains.now)) (add-one c.loop-k.k)) in
     record {
       work = work;
-      samples = c.in_ok-push.ensures.items ∙ ap₂ (λ (xs : List ℤ) z. xs ++ z ∷ []) c.loop-k.invariant.samples here ∙ sym (list_more (sample_at c.args.served.now (λ k. sum (take k c.args.gains.now))) c.loop-k.k);
+      samples = c.push_reserved.ensures.items ∙ ap₂ (λ (xs : List ℤ) z. xs ++ z ∷ []) c.loop-k.invariant.samples here ∙ sym (list_more (sample_at c.args.served.now (λ k. sum (take k c.args.gains.now))) c.loop-k.k);
+      room = omega (arith, c.push_reserved.ensures.capacity, c.loop-k.invariant.room);
     }
+
+pub push_reserved-requires : goal.push_reserved-requires
+push_reserved-requires c = omega (
+  arith,
+  c.loop-k-test.true,
+  c.loop-k.invariant.room,
+  ap length c.loop-k.invariant.samples,
+  list_length (sample_at c.args.served.now (λ k. sum (take k c.args.gains.now))) c.loop-k.k,
+  c.loop-k.samples.ok.0,
+)
 
 pub bounds-gains-k : goal.bounds-gains-k
 bounds-gains-k c = omega (arith, c.requires.same, c.loop-k-test.true)
