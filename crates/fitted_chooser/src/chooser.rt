@@ -1,19 +1,19 @@
-//! A chooser for few workers and tenants, or one for more.
+//! A chooser for few tenants, or one for more.
 ghost use Rattle.std.specs.Prelude.{◌≡◌, IfOk};
 ghost use Rattle.tag_rules.specs.Tables.{opened};
 ghost use Rattle.fitted_chooser.specs.Fitted.{are_few, is_for_few, seen_of};
 
 use crate::bounds::are_few;
-use eligible_index::index::IndexChooser;
 use fq_model::config::Checked;
+use rival_policies::plain::PlainChooser;
 use shared_order::chooser::SharedChooser;
 use std::alloc::{AllocError, Global};
 use tag_rules::chooser::Chooser;
 use tag_rules::foresees::{Foreseen, Foresees};
 use tag_rules::head_keys::Keys;
 
-/// The program's chooser: two trees a worker where there are few workers and few tenants, and else one order of heads.
-pub type ProgramChooser = FittedChooser<IndexChooser, SharedChooser>;
+/// The program's chooser: a look at each head where there are few tenants, and else one order of heads.
+pub type ProgramChooser = FittedChooser<PlainChooser, SharedChooser>;
 
 /// One of two choosers, which the configuration decides at the opening: that for few where `are_few` says so, else that
 /// for many. It stays the same however many workers there are later.

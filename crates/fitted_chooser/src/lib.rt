@@ -1,4 +1,4 @@
-//! The chooser that suits a configuration: one of two, by how many workers and tenants there are.
+//! The chooser that suits a configuration: one of two, by how many tenants there are.
 #![tactic(auto)]
 
 pub mod bounds;

@@ -7,37 +7,27 @@ use fq_model::limits::MOST_WORKERS;
 use std::alloc::Global;
 use std::process::Abort;
 
-// Whether the program's chooser has trees for this number of workers and of tenants.
-fn has_trees<R: Abort>(rt: &R, alloc: Global, workers: u32, tenants: u32) -> bool
+// Whether the program's chooser looks at each head with this number of workers and of tenants.
+fn looks_at_each<R: Abort>(rt: &R, alloc: Global, workers: u32, tenants: u32) -> bool
     requires low { 1 ≤ workers }
     requires high { workers ≤ MOST_WORKERS }
 {
     let chooser = opened::<ProgramChooser, R>(rt, alloc, Policy::TwoDfq, workers, tenants);
-    let has_trees = matches!(&chooser, FittedChooser::ForFew(_));
+    let looks_at_each = matches!(&chooser, FittedChooser::ForFew(_));
     drop(chooser);
-    has_trees
+    looks_at_each
 }
 
 #[test]
-fn trees_for_few_workers(rt: HostRuntime) {
+fn each_of_few_heads(rt: HostRuntime) {
     let told = [
-        has_trees(&rt, rt.alloc(), 1, 16),
-        has_trees(&rt, rt.alloc(), 4, 16),
-        has_trees(&rt, rt.alloc(), 5, 16),
-        has_trees(&rt, rt.alloc(), 64, 1),
+        looks_at_each(&rt, rt.alloc(), 4, 1),
+        looks_at_each(&rt, rt.alloc(), 4, 16),
+        looks_at_each(&rt, rt.alloc(), 64, 16),
+        looks_at_each(&rt, rt.alloc(), 4, 17),
+        looks_at_each(&rt, rt.alloc(), 1, 4096),
     ];
-    assert_eq!(rt; told, [true, true, false, false]);
-}
-
-#[test]
-fn trees_for_few_tenants(rt: HostRuntime) {
-    let told = [
-        has_trees(&rt, rt.alloc(), 4, 1),
-        has_trees(&rt, rt.alloc(), 4, 17),
-        has_trees(&rt, rt.alloc(), 1, 17),
-        has_trees(&rt, rt.alloc(), 1, 4096),
-    ];
-    assert_eq!(rt; told, [true, false, false, false]);
+    assert_eq!(rt; told, [true, true, true, false, false]);
 }
 
 #[test]
