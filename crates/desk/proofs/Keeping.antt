@@ -25,7 +25,7 @@ use Rattle.desk.specs.Staffed.{IsMadeBy, IsStaffed, MayAsk}
 use Rattle.status_board.specs.Boards.{BoardView, ReaderView}
 use Rattle.desk.specs.Floors.{FloorView, crew_for, crew_of, opened, KeepsFloor}
 use Rattle.desk.specs.Growing.{answers_grow}
-use Rattle.desk.specs.Shown.{ShownView, board_of, Shows, ShowsPart, AreReadersOf, HaveSeen}
+use Rattle.desk.specs.Shown.{ShownView, board_of, Shows, ShowsPart, AreReaders, AreReadersOf, HaveSeen}
 use Rattle.desk.specs.Ending.{IsGivenBack}
 use Rattle.desk.specs.Asking.{call_of, reply_of, Suits, AnswersAsk}
 
@@ -118,6 +118,11 @@ pub all_seen : (C : Config) (P : List Entry) (shown : Option ShownView) (board :
     → HaveSeen P readers
 all_seen C P (Some v) board readers shows is own seen = subst (λ (l : List Entry). HaveSeen l readers) shows.1 seen
 all_seen C P None board readers shows is own seen = absurd (subst (λ (b : Option BoardView). AreReadersOf b readers) (sym is) own)
+
+-- the readers of a board are of it, where there is one
+pub readers_where : (board : Option BoardView) (readers : List ReaderView) → AreReadersOf board readers → IfSome board (λ b. AreReaders b readers)
+readers_where None readers own = absurd own
+readers_where (Some board) readers own = own
 
 -- a floor that was just opened keeps its invariant
 pub opens_keeping : {J : Type 0} (config : Config) (submitters : ℕ) (scheduler : SchedulerView J) (shown : Option ShownView) → scheduler ≡ (opened config submitters None).scheduler → InLimits config → Shows config [] shown

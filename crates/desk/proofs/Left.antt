@@ -135,3 +135,19 @@ done_same i r H K answer.Idle same x = x
 done_same i r H K answer.Drained same x = x
 done_same i r H K (answer.Retired workers) same x = x
 done_same i r H K (answer.Withdrawn label) same x = absurd x
+
+-- a report is refused as a done is, or for want of room
+pub ending_or_full : (c : Cause) → IsLive c → ((n : ℕ) → c ≡ cause.Full n → ⊥) → IsEnding c
+ending_or_full (cause.Cost used) live room = tt
+ending_or_full (cause.Falling last given) live room = tt
+ending_or_full (cause.Full entries) live room = absurd (room entries refl)
+ending_or_full cause.Closed live room = absurd live
+ending_or_full (cause.Tenant n) live room = absurd live
+ending_or_full (cause.Kind n) live room = absurd live
+ending_or_full (cause.Slots n) live room = absurd live
+ending_or_full (cause.Worker n) live room = absurd live
+ending_or_full (cause.Busy n) live room = absurd live
+ending_or_full cause.NotRunning live room = absurd live
+ending_or_full (cause.Weight n) live room = absurd live
+ending_or_full (cause.Workers n) live room = absurd live
+ending_or_full (cause.NotWaiting n) live room = absurd live

@@ -5,7 +5,10 @@ use Rattle.fq_model.specs.declared.event.Call.TheVariants as call
 use Rattle.fq_model.specs.declared.event.Reply.{Reply}
 use Rattle.fq_model.specs.declared.event.Entry.{Entry}
 use Rattle.fq_model.specs.History.{history_of}
+use Rattle.fq_model.specs.Outcome.{own_entries}
 use Rattle.fq_model.specs.Rules.{IsLegal, Answers}
+use Rattle.history_lock.specs.Histories.{IsPrefix, Gains}
+use Rattle.history_lock.specs.Passes.{PassView}
 use Rattle.sched_state.specs.Replies.{submit_reply, take_reply, change_reply, close_reply, withdraw_reply}
 use Rattle.desk.specs.declared.floor.Crew.{Crew}
 use Rattle.desk.specs.declared.asking.Ask.{Ask}
@@ -29,8 +32,6 @@ call_of label who (ask.Withdraw moment request) = call.Withdraw who moment reque
 abbrev pub reply_of : {J : Type 0} → (J → ℕ) → DeskReply J → Reply
 reply_of label (replies.Submitted result) = submit_reply result
 reply_of label (replies.Took taken) = take_reply label taken
-reply_of label (replies.Reported result) = change_reply result
-reply_of label (replies.Ended result) = change_reply result
 reply_of label (replies.Closed result) = close_reply result
 reply_of label (replies.Changed result) = change_reply result
 reply_of label (replies.Withdrawn result) = withdraw_reply label result
@@ -40,13 +41,21 @@ abbrev pub Suits : {J : Type 0} → Ask J → DeskReply J → Type 0
 Suits (ask.Submit moment tenant kind declared job) (replies.Submitted (Ok request)) = Unit {0}
 Suits (ask.Submit moment tenant kind declared job) (replies.Submitted (Err refused)) = refused.job ≡ job
 Suits (ask.Take moment worker) (replies.Took taken) = Unit {0}
-Suits (ask.Report moment worker used) (replies.Reported result) = Unit {0}
-Suits (ask.Done moment worker cost) (replies.Ended result) = Unit {0}
+Suits (ask.Report moment worker used) (replies.Changed result) = Unit {0}
+Suits (ask.Done moment worker cost) (replies.Changed result) = Unit {0}
 Suits (ask.Close moment) (replies.Closed result) = Unit {0}
 Suits (ask.Weight moment tenant weight) (replies.Changed result) = Unit {0}
 Suits (ask.Workers moment count) (replies.Changed result) = Unit {0}
 Suits (ask.Withdraw moment request) (replies.Withdrawn result) = Unit {0}
 Suits _ _ = ⊥
+
+-- it is a call that changes something or is refused, and no more
+abbrev pub IsChange : {J : Type 0} → Ask J → Type 0
+IsChange (ask.Report moment worker used) = Unit {0}
+IsChange (ask.Done moment worker cost) = Unit {0}
+IsChange (ask.Weight moment tenant weight) = Unit {0}
+IsChange (ask.Workers moment count) = Unit {0}
+IsChange _ = ⊥
 
 -- At P, which is legal and staffed, this caller makes this call, with this answer; the history is then P2
 pub record AnswersAsk {J : Type 0} (label : J → ℕ) (crew : Crew) (P : List Entry) (who : ℕ) (asked : Ask J) (reply : DeskReply J) (P2 : List Entry) : Type 0 where
@@ -54,3 +63,10 @@ pub record AnswersAsk {J : Type 0} (label : J → ℕ) (crew : Crew) (P : List E
   pub staffed : IsStaffed crew.submitters (history_of P)
   pub answers : Answers crew.config (history_of P) (call_of label who asked) (reply_of label reply) (history_of P2)
   pub suits : Suits asked reply
+
+-- At some history P, which begins with all that the pass had seen, its caller made this call, with this answer; it has
+-- then seen the history after the call, and its own entries have gained the new entry, if there is one
+abbrev pub HasTurned : {J : Type 0} → (J → ℕ) → Crew → (old new : PassView Crew) → Ask J → DeskReply J → Type 0
+HasTurned label crew old new asked reply =
+    (P : List Entry) × IsPrefix old.seen P × (own_entries P old.number ≡ old.mine)
+    × AnswersAsk label crew P old.number asked reply new.seen × Gains old.number P new.seen old.mine new.mine

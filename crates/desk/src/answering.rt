@@ -30,12 +30,12 @@ pub(crate) fn answer<J: Job + Drop, X: Chooser>(
             moment,
             worker,
             used,
-        } => DeskReply::Reported(scheduler.report(who, moment, worker, used)),
+        } => DeskReply::Changed(scheduler.report(who, moment, worker, used)),
         Ask::Done {
             moment,
             worker,
             cost,
-        } => DeskReply::Ended(scheduler.done(who, moment, worker, cost)),
+        } => DeskReply::Changed(scheduler.done(who, moment, worker, cost)),
         Ask::Close { moment } => DeskReply::Closed(scheduler.close(who, moment)),
         Ask::Weight {
             moment,

@@ -56,10 +56,8 @@ pub enum Ask<J> {
 pub enum DeskReply<J> {
     Submitted(Result<u32, Refused<J>>),
     Took(Taken<J>),
-    Reported(Result<(), Cause>),
-    Ended(Result<(), Cause>),
     Closed(Result<(), AlreadyClosed>),
-    /// Of a weight, and of a number of workers.
+    /// Of a report, a done, a weight, and a number of workers.
     Changed(Result<(), Cause>),
     Withdrawn(Result<J, Cause>),
 }

@@ -4,6 +4,9 @@ ghost use Rattle.fq_model.specs.declared.event.Call.TheVariants as call;
 ghost use Rattle.fq_model.specs.History.{history_of};
 ghost use Rattle.history_lock.specs.Passes.{IsOf};
 ghost use Rattle.sched_state.specs.Replies.{submit_reply, take_reply, change_reply, close_reply, withdraw_reply};
+ghost use Rattle.desk.specs.declared.asking.DeskReply.TheVariants as replies;
+ghost use Rattle.desk.specs.Asking.{HasTurned, IsChange};
+ghost use Rattle.desk.specs.Staffed.{MayAsk};
 ghost use Rattle.desk.specs.Tokens.{Stays, IsAnswered, IsOfWorker};
 ghost use Rattle.desk.specs.Replies.{took_reply, took_pass, took_worker, TookLeft};
 ghost use Rattle.desk.specs.Replies.{live_reply, done_reply, done_pass, SameRun, GoesOn};
@@ -45,12 +48,25 @@ fn took<J: Job + Drop>(pass: Pass<Crew>, worker: u32, taken: Taken<J>) -> Took<J
         Taken::Idle => Took::Idle(Worker { pass, worker }),
         Taken::Drained => Took::Drained(Worker { pass, worker }),
         Taken::Retired(workers) => Took::Retired(Worker { pass, worker }, workers),
-        Taken::UnknownWorker(_) => unreachable!(),
-        Taken::Busy(_) => unreachable!(),
+        Taken::UnknownWorker(_) | Taken::Busy(_) => unreachable!(),
     }
 }
 
 impl<J: Job + Drop, X: Chooser> DeskOf<Floor<J, X>> {
+    // Makes a call that changes something or is refused.
+    fn change<R: Wait>(&self, rt: &R, pass: &mut Pass<Crew>, ask: Ask<J>) -> Result<(), Cause>
+        requires own { IsOf self.now.lock pass.old }
+        requires allowed { MayAsk self.now.lock.frame pass.old.number ask }
+        requires change { IsChange ask }
+        ensures stays { Stays self.now.lock pass.old pass.new }
+        ensures turned { HasTurned J.label_of self.now.lock.frame pass.old pass.new ask (replies.Changed result) }
+    {
+        match self.lock.turn(rt, pass, ask) {
+            DeskReply::Changed(result) => result,
+            _ => unreachable!(),
+        }
+    }
+
     /// A request comes, and gets the next number. Refused as the scheduler refuses; the job then comes back.
     pub fn submit<R: Wait>(
         &self,
@@ -129,10 +145,7 @@ impl<J: Job + Drop, X: Chooser> DeskOf<Floor<J, X>> {
             tenant,
             weight,
         };
-        match self.lock.turn(rt, &mut who.pass, ask) {
-            DeskReply::Changed(result) => result,
-            _ => unreachable!(),
-        }
+        self.change(rt, &mut who.pass, ask)
     }
 
     /// The pool has this number of workers from here on. Refused as Workers or Full.
@@ -149,15 +162,11 @@ impl<J: Job + Drop, X: Chooser> DeskOf<Floor<J, X>> {
             (call.Workers who.old.pass.number moment count) (change_reply result) who.new.pass }
     {
         let ask = Ask::Workers { moment, count };
-        match self.lock.turn(rt, &mut who.pass, ask) {
-            DeskReply::Changed(result) => {
-                if result.is_ok() {
-                    self.bell.ring_all();
-                }
-                result
-            }
-            _ => unreachable!(),
+        let result = self.change(rt, &mut who.pass, ask);
+        if result.is_ok() {
+            self.bell.ring_all();
         }
+        result
     }
 
     /// A request that waits is withdrawn: it is never taken, and its job comes back. It may be called after a close,
@@ -230,10 +239,7 @@ impl<J: Job + Drop, X: Chooser> DeskOf<Floor<J, X>> {
             worker,
             used,
         };
-        let DeskReply::Reported(result) = self.lock.turn(rt, &mut running.pass, ask) else {
-            unreachable!()
-        };
-        match result {
+        match self.change(rt, &mut running.pass, ask) {
             Ok(()) => Ok(()),
             Err(cause) => Err(live_refusal(cause)),
         }
@@ -265,10 +271,7 @@ impl<J: Job + Drop, X: Chooser> DeskOf<Floor<J, X>> {
             worker,
             cost,
         };
-        let DeskReply::Ended(result) = self.lock.turn(rt, &mut pass, ask) else {
-            unreachable!()
-        };
-        match result {
+        match self.change(rt, &mut pass, ask) {
             Ok(()) => Ok(Worker { pass, worker }),
             Err(cause) => {
                 let running = Running {

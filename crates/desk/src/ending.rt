@@ -6,7 +6,7 @@ ghost use Rattle.desk.specs.Shown.{board_of, Shows, AreReadersOf, HaveSeen};
 
 use crate::desk::DeskOf;
 use crate::floor::{Crew, Floor};
-use crate::shown::{Shown, end_readers, end_shown};
+use crate::shown::{Shown, end_shown};
 use crate::tokens::{Submitter, Worker};
 use fq_model::job::Job;
 use history_lock::{HistoryLock, Pass, Unsettled};
@@ -130,7 +130,7 @@ impl<J: Job + Drop, X: Chooser + Drop> DeskOf<Floor<J, X>> {
                 Ok(scheduler)
             }
             Err(unsettled) => {
-                end_readers(readers);
+                end_shown(None, readers);
                 Err(unsettled)
             }
         }

@@ -130,8 +130,7 @@ fn staffed<J: Job + Drop, X: Chooser + Drop>(
     };
     split_submitters(&lock, &mut zero, &mut first, submitters);
     split_workers(&lock, &mut zero, &mut second, staff);
-    let placed = first.insert(0, Submitter { pass: zero });
-    let Ok(()) = placed else { unreachable!() };
+    first.insert(0, Submitter { pass: zero }).unwrap();
     Some((lock, first, second))
 }
 

@@ -41,18 +41,6 @@ pub enum DoneRefusal {
     Falling { last: u64, given: u64 },
 }
 
-pub(crate) fn live_refusal(cause: Cause) -> LiveRefusal
-    requires { IsLive cause }
-    ensures { live_cause result ≡ cause }
-{
-    match cause {
-        Cause::Cost(used) => LiveRefusal::Cost(used),
-        Cause::Falling { last, given } => LiveRefusal::Falling { last, given },
-        Cause::Full(entries) => LiveRefusal::Full(entries),
-        _ => unreachable!(),
-    }
-}
-
 pub(crate) fn done_refusal(cause: Cause) -> DoneRefusal
     requires { IsEnding cause }
     ensures { done_cause result ≡ cause }
@@ -61,5 +49,19 @@ pub(crate) fn done_refusal(cause: Cause) -> DoneRefusal
         Cause::Cost(cost) => DoneRefusal::Cost(cost),
         Cause::Falling { last, given } => DoneRefusal::Falling { last, given },
         _ => unreachable!(),
+    }
+}
+
+// A report is refused as a done is, or for want of room.
+pub(crate) fn live_refusal(cause: Cause) -> LiveRefusal
+    requires { IsLive cause }
+    ensures { live_cause result ≡ cause }
+{
+    if let Cause::Full(entries) = cause {
+        return LiveRefusal::Full(entries);
+    }
+    match done_refusal(cause) {
+        DoneRefusal::Cost(used) => LiveRefusal::Cost(used),
+        DoneRefusal::Falling { last, given } => LiveRefusal::Falling { last, given },
     }
 }

@@ -5,7 +5,7 @@ ghost use Rattle.fq_model.specs.History.{history_of};
 ghost use Rattle.fq_model.specs.Status.{status_of};
 ghost use Rattle.history_lock.specs.Histories.{IsPrefix};
 ghost use Rattle.status_board.specs.Boards.{IsReaderOf, IsWriterOf};
-ghost use Rattle.desk.specs.Shown.{board_of, Shows, ShowsPart, AreReaders, AreReadersOf, HaveSeen};
+ghost use Rattle.desk.specs.Shown.{board_of, Shows, ShowsPart, AreReaders, HaveSeen};
 
 use fq_model::config::Checked;
 use fq_model::event::Entry;
@@ -117,17 +117,19 @@ fn join_readers(board: &Board, writer: &mut Writer, mut readers: Vec<Reader>)
     readers.destroy_empty();
 }
 
-/// Takes in all readers of the board, and ends its writer.
+/// Ends all readers. Where there is a board, it first takes them in, and ends its writer.
 pub(crate) fn end_shown(shown: Option<Shown>, readers: Vec<Reader>)
-    requires { AreReadersOf (board_of shown) readers.items }
+    requires { IfSome (board_of shown) (λ b. AreReaders b readers.items) }
     ensures { IfSome shown (λ s. HaveSeen s.past readers.items) }
 {
-    let Some(shown) = shown else { unreachable!() };
-    shown.end(readers);
+    match shown {
+        Some(shown) => shown.end(readers),
+        None => end_readers(readers),
+    }
 }
 
-/// Ends all readers.
-pub(crate) fn end_readers(mut readers: Vec<Reader>) {
+// Ends all readers.
+fn end_readers(mut readers: Vec<Reader>) {
     while let Some(reader) = readers.pop() {
         reader.end();
     }

@@ -142,5 +142,5 @@ close_answered T O s t a reply sim h =
     (subst (λ x. Answers (run_config T O) P (call.Close 0 x) reply (history_of t.past)) now (subst (λ C. Answers C P (call.Close 0 a.moment) reply (history_of t.past)) sim.config_is h.answers)) in
     r
 
-pub simulated : (T : Trace) (O : RunOptions) (s t : SchedulerView ℕ) (a : Agenda) → Simulates T O s a → NothingNext a T.rows → AnswersCall s (call.Close 0 a.moment) answer.Accepted t → IsSimulated T O (history_of t.past)
-simulated T O s t a sim n h = subst (IsSimulated T O) (sym (close_answered T O s t a answer.Accepted sim h).1) (ends T O (history_of s.past) a sim.plan sim.keeps n)
+pub simulated : (T : Trace) (O : RunOptions) (s t : SchedulerView ℕ) (a : Agenda) (reply : Reply) → Simulates T O s a → NothingNext a T.rows → AnswersCall s (call.Close 0 a.moment) reply t → IsSimulated T O (history_of t.past)
+simulated T O s t a reply sim n h = subst (IsSimulated T O) (sym (close_answered T O s t a reply sim h).1) (ends T O (history_of s.past) a sim.plan sim.keeps n)

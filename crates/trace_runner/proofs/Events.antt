@@ -1,6 +1,6 @@
 -- The invariant of the simulation at each event.
-use Rattle.std.proofs.Common.{ℕ, ◌+◌, ◌-◌, ◌<◌, ◌≤◌, ◌≡◌, ◌∷◌, length, Some, None, arith, refl, ap, sym, ◌∙◌, subst, set}
-use Rattle.std.specs.Prelude.{slice_get}
+use Rattle.std.proofs.Common.{ℕ, ◌+◌, ◌-◌, ◌<◌, ◌≤◌, ◌≡◌, ◌∷◌, length, Some, None, Result, Ok, Err, arith, refl, ap, sym, ◌∙◌, subst, set}
+use Rattle.std.specs.Prelude.{slice_get, IsOk}
 use Rattle.vt_fixed.specs.declared.limits.TheConstants.{GREATEST_MOMENT, GREATEST_COST}
 use Rattle.fq_model.specs.declared.event.Act.TheVariants.{Take}
 use Rattle.fq_model.specs.declared.event.Entry.{Entry}
@@ -16,7 +16,8 @@ use Rattle.program_model.specs.Simulated.{run_config}
 use Rattle.fq_model.specs.Time.{last_moment}
 use Rattle.program_model.specs.Trace.{Trace}
 use Rattle.sched_state.specs.Scheduler.{SchedulerView}
-use Rattle.sched_state.specs.Replies.{AnswersCall, take_reply}
+use Rattle.sched_state.specs.Replies.{AnswersCall, submit_reply, change_reply, take_reply}
+use Rattle.sched_state.specs.declared.replies.Refused.{Refused}
 use Rattle.sched_state.specs.declared.replies.Taken.{Taken}
 use Rattle.sched_state.specs.declared.replies.Taken.TheVariants as takens
 use Rattle.fq_model.specs.declared.event.Cause.{Cause}
@@ -86,9 +87,9 @@ report_answered T O s t a m i who w reply sim n by h =
     (subst (λ C. Answers C P (call.Report who m i w.due) reply (history_of t.past)) sim.config_is h.answers) in
     (r.0, r.1 ∙ rw (caller, n.timed.may_come.3) refl)
 
-pub report_stepped : (T : Trace) (O : RunOptions) (s t : SchedulerView ℕ) (a b : Agenda) (m i who : ℕ) (w v : Work) → Simulates T O s a → IsNext a T.rows (record { moment = m; what = what.Report i w }) → who ≡ a.first_caller + i → AnswersCall s (call.Report who m i w.due) answer.Accepted t → v ≡ reported_work w O.refresh → b ≡ record a { staff = set a.staff i (Some v); moment = m } → Stepped T O s t b
-report_stepped T O s t a b m i who w v sim n by h vis bis =
-    let r = report_answered T O s t a m i who w answer.Accepted sim n by h in
+pub report_stepped : (T : Trace) (O : RunOptions) (s t : SchedulerView ℕ) (a b : Agenda) (m i who : ℕ) (w v : Work) (reply : Reply) → Simulates T O s a → IsNext a T.rows (record { moment = m; what = what.Report i w }) → who ≡ a.first_caller + i → AnswersCall s (call.Report who m i w.due) reply t → v ≡ reported_work w O.refresh → b ≡ record a { staff = set a.staff i (Some v); moment = m } → Stepped T O s t b
+report_stepped T O s t a b m i who w v reply sim n by h vis bis =
+    let r = report_answered T O s t a m i who w reply sim n by h in
     stepped T O s t a b (reported_agenda a i w O.refresh) _ sim h.config_is r.1 (keeps_report T O (history_of s.past) a i w (at_report T O (history_of s.past) a m i w sim.plan sim.keeps n)) (bis ∙ rw (vis, n.timed.may_come.3) refl)
 
 -- ---- Dones
@@ -120,9 +121,9 @@ done_answered T O s t a m i who w reply sim n by h =
     (subst (λ C. Answers C P (call.Done who m i w.cost) reply (history_of t.past)) sim.config_is h.answers) in
     (r.0, r.1 ∙ rw (caller, n.timed.may_come.3) refl)
 
-pub done_stepped : (T : Trace) (O : RunOptions) (s t : SchedulerView ℕ) (a b : Agenda) (m i who : ℕ) (w : Work) → Simulates T O s a → IsNext a T.rows (record { moment = m; what = what.Done i w }) → who ≡ a.first_caller + i → AnswersCall s (call.Done who m i w.cost) answer.Accepted t → b ≡ record a { staff = set a.staff i None; moment = m } → Stepped T O s t b
-done_stepped T O s t a b m i who w sim n by h bis =
-    let r = done_answered T O s t a m i who w answer.Accepted sim n by h in
+pub done_stepped : (T : Trace) (O : RunOptions) (s t : SchedulerView ℕ) (a b : Agenda) (m i who : ℕ) (w : Work) (reply : Reply) → Simulates T O s a → IsNext a T.rows (record { moment = m; what = what.Done i w }) → who ≡ a.first_caller + i → AnswersCall s (call.Done who m i w.cost) reply t → b ≡ record a { staff = set a.staff i None; moment = m } → Stepped T O s t b
+done_stepped T O s t a b m i who w reply sim n by h bis =
+    let r = done_answered T O s t a m i who w reply sim n by h in
     stepped T O s t a b (finished_agenda a i w) _ sim h.config_is r.1 (keeps_done T O (history_of s.past) a i w (at_done T O (history_of s.past) a m i w sim.plan sim.keeps n)) (bis ∙ rw n.timed.may_come.3 refl)
 
 -- ---- Submits
@@ -148,9 +149,9 @@ submit_answered T O s t a m row reply sim n h =
     (subst (λ C. Answers C P (call.Submit row.submitter m row.tenant row.kind row.declared a.submitted) reply (history_of t.past)) sim.config_is h.answers) in
     (r.0, r.1 ∙ rw (k.submitted_is, n.timed.may_come.1) refl)
 
-pub submit_stepped : (T : Trace) (O : RunOptions) (s t : SchedulerView ℕ) (a b : Agenda) (m q : ℕ) (row : TraceRow) → Simulates T O s a → IsNext a T.rows (record { moment = m; what = what.Submit row }) → AnswersCall s (call.Submit row.submitter m row.tenant row.kind row.declared a.submitted) (answer.Request q) t → b ≡ record a { submitted = a.submitted + 1; waiting = a.waiting + 1; moment = m } → Stepped T O s t b
-submit_stepped T O s t a b m q row sim n h bis =
-    let r = submit_answered T O s t a m row (answer.Request q) sim n h in
+pub submit_stepped : (T : Trace) (O : RunOptions) (s t : SchedulerView ℕ) (a b : Agenda) (m : ℕ) (row : TraceRow) (reply : Reply) → Simulates T O s a → IsNext a T.rows (record { moment = m; what = what.Submit row }) → AnswersCall s (call.Submit row.submitter m row.tenant row.kind row.declared a.submitted) reply t → b ≡ record a { submitted = a.submitted + 1; waiting = a.waiting + 1; moment = m } → Stepped T O s t b
+submit_stepped T O s t a b m row reply sim n h bis =
+    let r = submit_answered T O s t a m row reply sim n h in
     stepped T O s t a b (came_agenda a row) _ sim h.config_is r.1 (keeps_submit T O (history_of s.past) a row (at_submit T O (history_of s.past) a m row sim.plan sim.keeps n)) (bis ∙ rw n.timed.may_come.1 refl)
 
 -- ---- Takes
@@ -227,11 +228,14 @@ taken_small T O s a m i q v sim n l is =
     } in
     subst IsSmall (sym is) small
 
-pub refused_not : (c : Cause) → answer.Refused c ≡ answer.Accepted → ⊥
-refused_not c e = cc
+-- a result is Ok where its reply is an acceptance
+pub change_is_ok : (r : Result (Unit {0}) Cause) → change_reply r ≡ answer.Accepted → IsOk r
+change_is_ok (Ok accepted) e = refl
+change_is_ok (Err c) e = absurd (cc)
 
-pub refused_no_request : (c : Cause) (q : ℕ) → answer.Refused c ≡ answer.Request q → ⊥
-refused_no_request c q e = cc
+pub submit_is_ok : (r : Result ℕ (Refused ℕ)) (q : ℕ) → submit_reply r ≡ answer.Request q → IsOk r
+submit_is_ok (Ok request) q e = refl
+submit_is_ok (Err refused) q e = absurd (cc)
 
 -- a Take that is the next event is given a request
 pub take_runs : (T : Trace) (O : RunOptions) (s t : SchedulerView ℕ) (a : Agenda) (m i who : ℕ) (taken : Taken ℕ) → Simulates T O s a → IsNext a T.rows (record { moment = m; what = what.Take i }) → AnswersCall s (call.Take who m i) (take_reply (λ job. job) taken) t → (q : ℕ) × (estimate : ℕ) × (job : ℕ) × (taken ≡ takens.Run q estimate job)

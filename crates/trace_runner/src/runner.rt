@@ -52,10 +52,8 @@ pub fn simulate<X: Chooser + Drop>(
     'events: while let Some(event) = agenda.next(trace.rows()) {
         step(&mut scheduler, &mut agenda, trace, options, event);
     }
-    match scheduler.close(0, agenda.moment) {
-        Ok(()) => Ok(scheduler.into_history()),
-        Err(_) => unreachable!(),
-    }
+    scheduler.close(0, agenda.moment).unwrap();
+    Ok(scheduler.into_history())
 }
 
 // Makes the call of the next event, and notes it in the agenda.
@@ -74,30 +72,30 @@ fn step<X: Chooser + Drop>(
     let moment = event.moment;
     match event.what {
         EventCall::Report { worker, work } => {
-            match scheduler.report(agenda.caller(worker), moment, worker, work.due) {
-                Ok(()) => agenda.worked(moment, worker, Some(work.after_report(options.refresh))),
-                Err(_) => unreachable!(),
-            }
+            scheduler
+                .report(agenda.caller(worker), moment, worker, work.due)
+                .unwrap();
+            agenda.worked(moment, worker, Some(work.after_report(options.refresh)));
         }
         EventCall::Done { worker, work } => {
-            match scheduler.done(agenda.caller(worker), moment, worker, work.cost) {
-                Ok(()) => agenda.worked(moment, worker, None),
-                Err(_) => unreachable!(),
-            }
+            scheduler
+                .done(agenda.caller(worker), moment, worker, work.cost)
+                .unwrap();
+            agenda.worked(moment, worker, None);
         }
         EventCall::Submit(row) => {
             let label = agenda.submitted as u64;
-            match scheduler.submit(
-                row.submitter,
-                moment,
-                row.tenant,
-                row.kind,
-                row.declared,
-                label,
-            ) {
-                Ok(_) => agenda.came(moment),
-                Err(_) => unreachable!(),
-            }
+            scheduler
+                .submit(
+                    row.submitter,
+                    moment,
+                    row.tenant,
+                    row.kind,
+                    row.declared,
+                    label,
+                )
+                .unwrap();
+            agenda.came(moment);
         }
         EventCall::Take { worker } => match scheduler.take(agenda.caller(worker), moment, worker) {
             Taken::Run { request, .. } => {

@@ -15,16 +15,16 @@ pub returns-in-Take-clause-suits : goal.returns-in-Take-clause-suits
 returns-in-Take-clause-suits g c = suits_so _ _ (replies.Took c.take.result) c.in-Take.is tt
 
 pub returns-in-Report-clause-answers : goal.returns-in-Report-clause-answers
-returns-in-Report-clause-answers g c = reply_so g.J.Job.label_of _ _ c.args.who _ _ (replies.Reported c.report.result) c.in-Report.is c.report.ensures.answers
+returns-in-Report-clause-answers g c = reply_so g.J.Job.label_of _ _ c.args.who _ _ (replies.Changed c.report.result) c.in-Report.is c.report.ensures.answers
 
 pub returns-in-Report-clause-suits : goal.returns-in-Report-clause-suits
-returns-in-Report-clause-suits g c = suits_so _ _ (replies.Reported c.report.result) c.in-Report.is tt
+returns-in-Report-clause-suits g c = suits_so _ _ (replies.Changed c.report.result) c.in-Report.is tt
 
 pub returns-in-Done-clause-answers : goal.returns-in-Done-clause-answers
-returns-in-Done-clause-answers g c = reply_so g.J.Job.label_of _ _ c.args.who _ _ (replies.Ended c.done.result) c.in-Done.is c.done.ensures.answers
+returns-in-Done-clause-answers g c = reply_so g.J.Job.label_of _ _ c.args.who _ _ (replies.Changed c.done.result) c.in-Done.is c.done.ensures.answers
 
 pub returns-in-Done-clause-suits : goal.returns-in-Done-clause-suits
-returns-in-Done-clause-suits g c = suits_so _ _ (replies.Ended c.done.result) c.in-Done.is tt
+returns-in-Done-clause-suits g c = suits_so _ _ (replies.Changed c.done.result) c.in-Done.is tt
 
 pub returns-in-Close-clause-answers : goal.returns-in-Close-clause-answers
 returns-in-Close-clause-answers g c = reply_so g.J.Job.label_of _ _ c.args.who _ _ (replies.Closed c.close.result) c.in-Close.is c.close.ensures.answers

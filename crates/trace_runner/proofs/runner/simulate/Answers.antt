@@ -26,4 +26,4 @@ pub returns-clause-simulated : goal.returns-clause-simulated
 returns-clause-simulated g c =
     let nothing : NothingNext c.events.agenda c.args.trace.now.rows = subst (NothingNext c.events.agenda) c.rows-in-events.ensures c.in_default.ensures in
     subst (λ past. IsSimulated c.args.trace.now c.args.options (history_of past)) (sym c.into_history.ensures.past)
-    (simulated c.args.trace.now c.args.options c.events.scheduler _ c.events.agenda c.events.invariant nothing c.in-Ok.ensures.answers)
+    (simulated c.args.trace.now c.args.options c.events.scheduler _ c.events.agenda _ c.events.invariant nothing c.close.ensures.answers)

@@ -3,10 +3,10 @@ use Rattle.trace_runner.specs.declared.agenda.EventCall.TheVariants as what
 use Rattle.trace_runner.specs.Agenda.{IsNext}
 use Rattle.trace_reader.specs.Rows.{row_at}
 use Rattle.trace_runner.specs.Staff.{new_work}
-use Rattle.trace_runner.proofs.Events.{Stepped, report_stepped, done_stepped, submit_stepped, take_stepped, report_answered, done_answered, submit_answered, callers_few, due_low, rows_few, taken_small, refused_not, refused_no_request, take_known, take_runs}
+use Rattle.trace_runner.proofs.Events.{Stepped, report_stepped, done_stepped, submit_stepped, take_stepped, report_answered, done_answered, submit_answered, callers_few, due_low, rows_few, taken_small, change_is_ok, submit_is_ok, take_known, take_runs}
 use Rattle.trace_runner.proofs.runner.step.Given as given
 use Rattle.trace_runner.proofs.runner.step.Goals as goal
-use Rattle.trace_runner.proofs.runner.step.Goals.{In-Report, In-Done, In-Submit, In-Take, After-worked, After-worked-in-Ok-done, After-came, After-taken}
+use Rattle.trace_runner.proofs.runner.step.Goals.{In-Report, In-Done, In-Submit, In-Take, After-worked, After-worked-in-Done, After-came, After-taken}
 
 -- the next event, by its kind
 next_report : (g : given.Over) (c : In-Report g) → IsNext c.args.agenda.now c.args.trace.now.rows (record { moment = c.args.event.moment; what = what.Report c.in-Report.worker c.in-Report.work })
@@ -39,14 +39,14 @@ came-requires-clause-few g c = (rows_few _ _ _ _ _ _ c.requires.simulates (next_
 pub came-requires-clause-waiting : goal.came-requires-clause-waiting
 came-requires-clause-waiting g c = (rows_few _ _ _ _ _ _ c.requires.simulates (next_submit g (goal.at.came-requires-clause-waiting g c).In-Submit)).1
 
-pub unreachable-requires : goal.unreachable-requires
-unreachable-requires g c = refused_not c.in-Err.field-0 (report_answered _ _ _ _ _ _ _ _ _ _ c.requires.simulates (next_report g (goal.at.unreachable-requires g c).In-Report) c.caller.ensures c.in-Err.ensures.answers).0
+pub unwrap-requires : goal.unwrap-requires
+unwrap-requires g c = change_is_ok c.report.result (report_answered _ _ _ _ _ _ _ _ _ _ c.requires.simulates (next_report g (goal.at.unwrap-requires g c).In-Report) c.caller.ensures c.report.ensures.answers).0
 
-pub unreachable-requires-in-Err-done : goal.unreachable-requires-in-Err-done
-unreachable-requires-in-Err-done g c = refused_not c.in-Err-done.field-0 (done_answered _ _ _ _ _ _ _ _ _ _ c.requires.simulates (next_done g (goal.at.unreachable-requires-in-Err-done g c).In-Done) c.caller-in-Done.ensures c.in-Err-done.ensures.answers).0
+pub unwrap-requires-in-Done : goal.unwrap-requires-in-Done
+unwrap-requires-in-Done g c = change_is_ok c.done.result (done_answered _ _ _ _ _ _ _ _ _ _ c.requires.simulates (next_done g (goal.at.unwrap-requires-in-Done g c).In-Done) c.caller-in-Done.ensures c.done.ensures.answers).0
 
-pub unreachable-requires-in-Err-submit : goal.unreachable-requires-in-Err-submit
-unreachable-requires-in-Err-submit g c = refused_no_request c.in-Err-submit.field-0.cause _ (submit_answered _ _ _ _ _ _ _ _ c.requires.simulates (next_submit g (goal.at.unreachable-requires-in-Err-submit g c).In-Submit) c.in-Err-submit.ensures.answers).0
+pub unwrap-requires-in-Submit : goal.unwrap-requires-in-Submit
+unwrap-requires-in-Submit g c = submit_is_ok c.submit.result _ (submit_answered _ _ _ _ _ _ _ _ c.requires.simulates (next_submit g (goal.at.unwrap-requires-in-Submit g c).In-Submit) c.submit.ensures.answers).0
 
 pub bounds-rows-request : goal.bounds-rows-request
 bounds-rows-request g c = omega (arith, ap length c.rows.ensures, take_known _ _ _ _ _ _ _ _ _ _ _ c.requires.simulates (next_take g (goal.at.bounds-rows-request g c).In-Take) c.in-Run.ensures.answers)
@@ -56,35 +56,35 @@ taken-requires-clause-small g c =
     let n = next_take g (goal.at.taken-requires-clause-small g c).In-Take in
     taken_small _ _ _ _ _ _ c.in-Run.request _ c.requires.simulates n (take_known _ _ _ _ _ _ _ _ _ _ _ c.requires.simulates n c.in-Run.ensures.answers) (c.new.ensures ∙ ap (λ rows. new_work c.args.event.moment (row_at rows c.in-Run.request).cost c.args.options.refresh) c.rows.ensures)
 
-pub unreachable-requires-in_default : goal.unreachable-requires-in_default
-unreachable-requires-in_default g c = let r = take_runs _ _ _ _ _ _ _ _ _ c.requires.simulates (next_take g (goal.at.unreachable-requires-in_default g c).In-Take) c.take.ensures.answers in c.in_default.not-Run _ _ _ r.3
+pub unreachable-requires : goal.unreachable-requires
+unreachable-requires g c = let r = take_runs _ _ _ _ _ _ _ _ _ c.requires.simulates (next_take g (goal.at.unreachable-requires g c).In-Take) c.take.ensures.answers in c.in_default.not-Run _ _ _ r.3
 
 reported_step : (g : given.Over) (c : After-worked g) → Stepped c.args.trace.now c.args.options c.args.scheduler.now c.report.new.self c.worked.new.self
-reported_step g c = report_stepped _ _ _ _ _ _ _ _ _ _ _ c.requires.simulates (next_report g (goal.at.returns-in-Ok-clause-simulates g c).In-Report) c.caller.ensures c.in-Ok.ensures.answers c.after_report.ensures c.worked.ensures
+reported_step g c = report_stepped _ _ _ _ _ _ _ _ _ _ _ _ c.requires.simulates (next_report g (goal.at.returns-in-Report-clause-simulates g c).In-Report) c.caller.ensures c.report.ensures.answers c.after_report.ensures c.worked.ensures
 
-pub returns-in-Ok-clause-simulates : goal.returns-in-Ok-clause-simulates
-returns-in-Ok-clause-simulates g c = (reported_step g c).simulates
+pub returns-in-Report-clause-simulates : goal.returns-in-Report-clause-simulates
+returns-in-Report-clause-simulates g c = (reported_step g c).simulates
 
-pub returns-in-Ok-clause-grows : goal.returns-in-Ok-clause-grows
-returns-in-Ok-clause-grows g c = (reported_step g c).grows
+pub returns-in-Report-clause-grows : goal.returns-in-Report-clause-grows
+returns-in-Report-clause-grows g c = (reported_step g c).grows
 
-done_step : (g : given.Over) (c : After-worked-in-Ok-done g) → Stepped c.args.trace.now c.args.options c.args.scheduler.now c.done.new.self c.worked-in-Ok-done.new.self
-done_step g c = done_stepped _ _ _ _ _ _ _ _ _ _ c.requires.simulates (next_done g (goal.at.returns-in-Ok-done-clause-simulates g c).In-Done) c.caller-in-Done.ensures c.in-Ok-done.ensures.answers c.worked-in-Ok-done.ensures
+done_step : (g : given.Over) (c : After-worked-in-Done g) → Stepped c.args.trace.now c.args.options c.args.scheduler.now c.done.new.self c.worked-in-Done.new.self
+done_step g c = done_stepped _ _ _ _ _ _ _ _ _ _ _ c.requires.simulates (next_done g (goal.at.returns-in-Done-clause-simulates g c).In-Done) c.caller-in-Done.ensures c.done.ensures.answers c.worked-in-Done.ensures
 
-pub returns-in-Ok-done-clause-simulates : goal.returns-in-Ok-done-clause-simulates
-returns-in-Ok-done-clause-simulates g c = (done_step g c).simulates
+pub returns-in-Done-clause-simulates : goal.returns-in-Done-clause-simulates
+returns-in-Done-clause-simulates g c = (done_step g c).simulates
 
-pub returns-in-Ok-done-clause-grows : goal.returns-in-Ok-done-clause-grows
-returns-in-Ok-done-clause-grows g c = (done_step g c).grows
+pub returns-in-Done-clause-grows : goal.returns-in-Done-clause-grows
+returns-in-Done-clause-grows g c = (done_step g c).grows
 
 submit_step : (g : given.Over) (c : After-came g) → Stepped c.args.trace.now c.args.options c.args.scheduler.now c.submit.new.self c.came.new.self
-submit_step g c = submit_stepped _ _ _ _ _ _ _ c.in-Ok-submit.field-0 _ c.requires.simulates (next_submit g (goal.at.returns-in-Ok-submit-clause-simulates g c).In-Submit) c.in-Ok-submit.ensures.answers c.came.ensures
+submit_step g c = submit_stepped _ _ _ _ _ _ _ _ _ c.requires.simulates (next_submit g (goal.at.returns-in-Submit-clause-simulates g c).In-Submit) c.submit.ensures.answers c.came.ensures
 
-pub returns-in-Ok-submit-clause-simulates : goal.returns-in-Ok-submit-clause-simulates
-returns-in-Ok-submit-clause-simulates g c = (submit_step g c).simulates
+pub returns-in-Submit-clause-simulates : goal.returns-in-Submit-clause-simulates
+returns-in-Submit-clause-simulates g c = (submit_step g c).simulates
 
-pub returns-in-Ok-submit-clause-grows : goal.returns-in-Ok-submit-clause-grows
-returns-in-Ok-submit-clause-grows g c = (submit_step g c).grows
+pub returns-in-Submit-clause-grows : goal.returns-in-Submit-clause-grows
+returns-in-Submit-clause-grows g c = (submit_step g c).grows
 
 take_step : (g : given.Over) (c : After-taken g) → Stepped c.args.trace.now c.args.options c.args.scheduler.now c.take.new.self c.taken.new.self
 take_step g c = take_stepped _ _ _ _ _ _ _ _ _ c.in-Run.request c.in-Run.estimate c.in-Run.job _ c.requires.simulates (next_take g (goal.at.returns-in-Run-clause-simulates g c).In-Take) c.caller-in-Take.ensures c.in-Run.ensures.answers (c.new.ensures ∙ ap (λ rows. new_work c.args.event.moment (row_at rows c.in-Run.request).cost c.args.options.refresh) c.rows.ensures) c.taken.ensures

@@ -9,43 +9,43 @@ use Rattle.desk.proofs.calls.DeskOf+Floor+J+X.report.Goals as goal
 
 pub invariant_of-running-clause-runs : goal.invariant_of-running-clause-runs
 invariant_of-running-clause-runs g c =
-    let w = c.args.running.now in report_runs g.J.Job.label_of c.args.self.now.lock w.pass c.turn.new.pass c.args.moment w.worker c.args.used w.request _ c.requires w.numbered w.known w.runs c.turn.ensures.answers
+    let w = c.args.running.now in report_runs g.J.Job.label_of c.args.self.now.lock w.pass c.change.new.pass c.args.moment w.worker c.args.used w.request _ c.requires w.numbered w.known w.runs c.change.ensures.turned
 
 pub live_refusal-requires : goal.live_refusal-requires
 live_refusal-requires g c =
     let w = c.args.running.now in
-    let x = report_leaves g.J.Job.label_of c.args.self.now.lock w.pass c.turn.new.pass c.args.moment w.worker c.args.used w.request c.in-Reported.result _ c.requires w.numbered w.known w.runs c.in-Reported.ensures.answers c.in-Err.is in
+    let x = report_leaves g.J.Job.label_of c.args.self.now.lock w.pass c.change.new.pass c.args.moment w.worker c.args.used w.request c.change.result _ c.requires w.numbered w.known w.runs c.change.ensures.turned c.in-Err.is in
     x.0
 
 pub invariant_of-running-clause-own : goal.invariant_of-running-clause-own
-invariant_of-running-clause-own g c = own_kept g.J.Job.label_of c.args.self.now.lock.frame c.args.running.now.pass c.turn.new.pass _ _ c.turn.ensures.answers c.turn.ensures.number
+invariant_of-running-clause-own g c = own_kept g.J.Job.label_of c.args.self.now.lock.frame c.args.running.now.pass c.change.new.pass _ _ c.change.ensures.turned c.change.ensures.stays.number
 
-pub turn-requires-clause-own : goal.turn-requires-clause-own
-turn-requires-clause-own g c = c.requires
+pub change-requires-clause-own : goal.change-requires-clause-own
+change-requires-clause-own g c = c.requires
 
-pub turn-requires-clause-allowed : goal.turn-requires-clause-allowed
-turn-requires-clause-allowed g c = numbered_by g.J.Job.label_of c.args.self.now.lock c.args.running.now.pass c.args.running.now.worker c.requires c.args.running.now.numbered
+pub change-requires-clause-allowed : goal.change-requires-clause-allowed
+change-requires-clause-allowed g c = numbered_by g.J.Job.label_of c.args.self.now.lock c.args.running.now.pass c.args.running.now.worker c.requires c.args.running.now.numbered
 
 pub invariant_of-running-clause-numbered : goal.invariant_of-running-clause-numbered
-invariant_of-running-clause-numbered g c = let w = c.args.running.now in numbered_kept c.args.self.now.lock w.pass c.turn.new.pass w.worker c.requires c.turn.ensures.lock c.turn.ensures.number w.numbered
+invariant_of-running-clause-numbered g c = let w = c.args.running.now in numbered_kept c.args.self.now.lock w.pass c.change.new.pass w.worker c.requires c.change.ensures.stays.own c.change.ensures.stays.number w.numbered
 
 pub invariant_of-running-clause-known : goal.invariant_of-running-clause-known
-invariant_of-running-clause-known g c = let w = c.args.running.now in known_kept c.args.self.now.lock w.pass c.turn.new.pass w.worker c.requires c.turn.ensures.lock w.known
+invariant_of-running-clause-known g c = let w = c.args.running.now in known_kept c.args.self.now.lock w.pass c.change.new.pass w.worker c.requires c.change.ensures.stays.own w.known
 
 pub returns-in-Ok-clause-stays : goal.returns-in-Ok-clause-stays
-returns-in-Ok-clause-stays g c = let t = c.turn.ensures in record { own = t.lock; number = t.number; made = t.made; ended = t.ended }
+returns-in-Ok-clause-stays g c = c.change.ensures.stays
 
 pub returns-in-Ok-clause-answers : goal.returns-in-Ok-clause-answers
-returns-in-Ok-clause-answers g c = answered g.J.Job.label_of c.args.self.now.lock.frame c.args.running.now.pass c.turn.new.pass (ask.Report c.args.moment c.args.running.now.worker c.args.used) (replies.Reported c.in-Reported.result) _ c.in-Reported.ensures.answers (ap change_reply c.in-Ok.is)
+returns-in-Ok-clause-answers g c = answered g.J.Job.label_of c.args.self.now.lock.frame c.args.running.now.pass c.change.new.pass (ask.Report c.args.moment c.args.running.now.worker c.args.used) (replies.Changed c.change.result) _ c.change.ensures.turned (ap change_reply c.in-Ok.is)
 
 pub returns-in-Ok-clause-run : goal.returns-in-Ok-clause-run
 returns-in-Ok-clause-run g c = record { worker = refl; request = refl; estimate = refl }
 
 pub returns-in-Err-clause-stays : goal.returns-in-Err-clause-stays
-returns-in-Err-clause-stays g c = let t = c.turn.ensures in record { own = t.lock; number = t.number; made = t.made; ended = t.ended }
+returns-in-Err-clause-stays g c = c.change.ensures.stays
 
 pub returns-in-Err-clause-answers : goal.returns-in-Err-clause-answers
-returns-in-Err-clause-answers g c = answered g.J.Job.label_of c.args.self.now.lock.frame c.args.running.now.pass c.turn.new.pass (ask.Report c.args.moment c.args.running.now.worker c.args.used) (replies.Reported c.in-Reported.result) _ c.in-Reported.ensures.answers (ap change_reply c.in-Err.is ∙ ap (λ (x : Cause). answer.Refused x) (sym c.live_refusal.ensures))
+returns-in-Err-clause-answers g c = answered g.J.Job.label_of c.args.self.now.lock.frame c.args.running.now.pass c.change.new.pass (ask.Report c.args.moment c.args.running.now.worker c.args.used) (replies.Changed c.change.result) _ c.change.ensures.turned (ap change_reply c.in-Err.is ∙ ap (λ (x : Cause). answer.Refused x) (sym c.live_refusal.ensures))
 
 pub returns-in-Err-clause-run : goal.returns-in-Err-clause-run
 returns-in-Err-clause-run g c = record { worker = refl; request = refl; estimate = refl }
