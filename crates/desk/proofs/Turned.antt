@@ -1,10 +1,8 @@
 -- The request that a worker runs after a turn of its pass, by its own entries.
-use Rattle.std.proofs.Common.{◌≡◌, ℕ, ◌+◌, ◌<◌, Some, None, Result, List, sym, ap, ◌∙◌, subst, refl}
-use Rattle.fq_model.specs.declared.event.Entry.{Entry}
+use Rattle.std.proofs.Common.{◌≡◌, ℕ, ◌+◌, ◌<◌, Some, None, Result, sym, ap, ◌∙◌, subst, refl}
 use Rattle.fq_model.specs.declared.event.Reply.{Reply}
 use Rattle.fq_model.specs.History.{history_of, running_on}
 use Rattle.fq_model.specs.Outcome.{own_entries}
-use Rattle.history_lock.specs.Histories.{IsPrefix, Gains}
 use Rattle.history_lock.specs.Passes.{LockView, PassView, IsOf}
 use Rattle.desk.specs.declared.floor.Crew.{Crew}
 use Rattle.desk.specs.declared.asking.Ask.{Ask}
@@ -15,7 +13,7 @@ use Rattle.sched_state.specs.declared.replies.Taken.{Taken}
 use Rattle.sched_state.specs.Replies.{take_reply, change_reply}
 use Rattle.fq_model.specs.declared.event.Cause.{Cause}
 use Rattle.desk.specs.Staffed.{MayAsk}
-use Rattle.desk.specs.Asking.{call_of, reply_of, AnswersAsk, HasTurned, IsChange, Suits}
+use Rattle.desk.specs.Asking.{call_of, reply_of, HasTurned, IsChange, Suits}
 use Rattle.desk.specs.Replies.{TookLeft}
 use Rattle.desk.specs.Tokens.{submitters_of, workers_of, IsAnswered}
 use Rattle.desk.proofs.Keeping.{staffed_on}

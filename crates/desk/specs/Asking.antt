@@ -58,7 +58,9 @@ IsChange (ask.Workers moment count) = Unit {0}
 IsChange _ = ⊥
 
 -- At P, which is legal and staffed, this caller makes this call, with this answer; the history is then P2
-pub record AnswersAsk {J : Type 0} (label : J → ℕ) (crew : Crew) (P : List Entry) (who : ℕ) (asked : Ask J) (reply : DeskReply J) (P2 : List Entry) : Type 0 where
+pub record AnswersAsk
+    {J : Type 0} (label : J → ℕ) (crew : Crew) (P : List Entry) (who : ℕ) (asked : Ask J) (reply : DeskReply J)
+    (P2 : List Entry) : Type 0 where
   pub legal : IsLegal crew.config (history_of P)
   pub staffed : IsStaffed crew.submitters (history_of P)
   pub answers : Answers crew.config (history_of P) (call_of label who asked) (reply_of label reply) (history_of P2)

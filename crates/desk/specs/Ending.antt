@@ -67,7 +67,9 @@ abbrev pub IsTaken : PassView Crew → PassView Crew → Type 0
 IsTaken new pass = IsPrefix pass.seen new.seen × ((j : ℕ) × (get_elem? new.ended j ≡ some (pass.number, pass.mine)))
 
 -- the first pass, after it has taken in those of the tokens
-pub record HasJoined {A : Type 0} (lock : LockView Crew) (pass_of : A → PassView Crew) (old : PassView Crew) (tokens : List A) (new : PassView Crew) : Type 0 where
+pub record HasJoined
+    {A : Type 0} (lock : LockView Crew) (pass_of : A → PassView Crew) (old : PassView Crew) (tokens : List A)
+    (new : PassView Crew) : Type 0 where
   pub own : IsOf lock new
   pub number : new.number ≡ 0
   pub seen : IsPrefix old.seen new.seen

@@ -21,8 +21,11 @@ pub record FloorView (J : Type 0) : Type 0 where
 -- as the tuple of its fields
 abbrev pub floor_code : {J : Type 0} → Coded J → Coded (FloorView J)
 floor_code {J} c =
-    code_by (SchedulerView J × (ℕ × Option BoardView)) (coded× (scheduler_code c) (coded× coded_ℕ (coded_option board_code)))
-    (λ f. (f.scheduler, (f.submitters, f.board))) (λ p. record { scheduler = p.0; submitters = p.1.0; board = p.1.1 }) (λ _. refl)
+    code_by (SchedulerView J × (ℕ × Option BoardView))
+    (coded× (scheduler_code c) (coded× coded_ℕ (coded_option board_code)))
+    (λ f. (f.scheduler, (f.submitters, f.board)))
+    (λ p. record { scheduler = p.0; submitters = p.1.0; board = p.1.1 })
+    (λ _. refl)
 
 -- the crew that a desk is opened for: its configuration, its submitters, and the board that shows its past, if any
 abbrev pub crew_for : Config → ℕ → Option BoardView → Crew

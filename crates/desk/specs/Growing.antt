@@ -29,13 +29,16 @@ turned_same P Q e = sym (reverse-reverse Q) ∙ (ap reverse e ∙ reverse-revers
 -- one entry more in order of time
 turned_more : (P Q : List Entry) (e : Entry) → history_of Q ≡ e ∷ history_of P → Q ≡ P ++ e ∷ []
 turned_more P Q e is =
-    sym (reverse-reverse Q) ∙ (ap reverse is ∙ (reverse-append (e ∷ []) (reverse P) ∙ ap (λ l. l ++ e ∷ []) (reverse-reverse P)))
+    sym (reverse-reverse Q)
+    ∙ (ap reverse is ∙ (reverse-append (e ∷ []) (reverse P) ∙ ap (λ l. l ++ e ∷ []) (reverse-reverse P)))
 
 extends_grows : (who moment : ℕ) (P Q : List Entry) → Extends who moment (history_of P) (history_of Q) → Grows who P Q
 extends_grows who moment P Q (inl same) = inl (turned_same P Q same)
 extends_grows who moment P Q (inr (act, more)) = inr (_, turned_more P Q _ more, refl)
 
-pub answers_grow : {J : Type 0} (label : J → ℕ) (crew : Crew) (P : List Entry) (who : ℕ) (asked : Ask J) (reply : DeskReply J) (P2 : List Entry) → AnswersAsk label crew P who asked reply P2 → Grows who P P2
+pub answers_grow : {J : Type 0} (label : J → ℕ) (crew : Crew) (P : List Entry) (who : ℕ) (asked : Ask J)
+    (reply : DeskReply J) (P2 : List Entry) → AnswersAsk label crew P who asked reply P2 → Grows who P P2
 answers_grow label crew P who asked reply P2 a =
     let c = call_of label who asked in
-    subst (λ n. Grows n P P2) (caller_is label who asked) (extends_grows (caller c) (named_moment c) P P2 (answer_extends crew.config (history_of P) c _ (history_of P2) a.answers))
+    let more = answer_extends crew.config (history_of P) c _ (history_of P2) a.answers in
+    subst (λ n. Grows n P P2) (caller_is label who asked) (extends_grows (caller c) (named_moment c) P P2 more)

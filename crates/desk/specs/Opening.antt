@@ -58,7 +58,9 @@ pub record AreTokens (crew : Crew) (lock : LockView Crew) (first : List Submitte
 
 -- A desk that was opened to show its past: its tokens, the board that it shares, and a reader there that has seen
 -- nothing
-pub record AreShownTokens (config : Config) (submitters : ℕ) (lock : LockView Crew) (shared : Option BoardView) (reader : ReaderView) (first : List Submitter) (second : List Worker) : Type 0 where
+pub record AreShownTokens
+    (config : Config) (submitters : ℕ) (lock : LockView Crew) (shared : Option BoardView) (reader : ReaderView)
+    (first : List Submitter) (second : List Worker) : Type 0 where
   pub board : BoardView
   pub shared_is : shared ≡ Some board
   pub config_is : board.config ≡ config

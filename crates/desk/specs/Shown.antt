@@ -16,11 +16,13 @@ pub record ShownView : Type 0 where
 
 abbrev pub board_code : Coded BoardView
 board_code =
-    code_by (TableId × Config) (coded× table_id_coded config_type.the_row.coded) (λ b. (b.table, b.config)) (λ p. record { table = p.0; config = p.1 }) (λ _. refl)
+    code_by (TableId × Config) (coded× table_id_coded config_type.the_row.coded)
+    (λ b. (b.table, b.config)) (λ p. record { table = p.0; config = p.1 }) (λ _. refl)
 
 abbrev pub shown_code : Coded ShownView
 shown_code =
-    code_by (BoardView × List Entry) (coded× board_code (coded_list entry_type.the_row.coded)) (λ s. (s.board, s.past)) (λ p. record { board = p.0; past = p.1 }) (λ _. refl)
+    code_by (BoardView × List Entry) (coded× board_code (coded_list entry_type.the_row.coded))
+    (λ s. (s.board, s.past)) (λ p. record { board = p.0; past = p.1 }) (λ _. refl)
 
 -- the board, if there is one
 abbrev pub board_of : Option ShownView → Option BoardView

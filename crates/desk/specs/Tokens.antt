@@ -36,7 +36,8 @@ pub record Stays (lock : LockView Crew) (old new : PassView Crew) : Type 0 where
 
 -- The call is answered so at one history P, which begins with all that the pass had seen; the pass has then seen the
 -- history after the call, and its own entries have gained the new entry, if there is one
-pub record IsAnswered (crew : Crew) (old : PassView Crew) (c : Call) (reply : Reply) (new : PassView Crew) : Type 0 where
+pub record IsAnswered
+    (crew : Crew) (old : PassView Crew) (c : Call) (reply : Reply) (new : PassView Crew) : Type 0 where
   pub P : List Entry
   pub begins : IsPrefix old.seen P
   pub own : own_entries P old.number ≡ old.mine

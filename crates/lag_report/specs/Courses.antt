@@ -33,7 +33,8 @@ courses_of (e ∷ P) = courses_after e.moment e.act (courses_of P)
 -- the completed requests after an act more, where the courses before it are these
 abbrev pub rows_after : List Course → Act → List FluidRow → List FluidRow
 rows_after courses (Done worker request cost) older =
-    older ++ record { tenant = (course_at courses request).tenant; submit = (course_at courses request).submit; cost = cost } ∷ []
+    let course = course_at courses request in
+    older ++ record { tenant = course.tenant; submit = course.submit; cost = cost } ∷ []
 rows_after courses _ older = older
 
 -- the completed requests of a history, in the order of their Dones
