@@ -1,5 +1,5 @@
 -- The tokens of three hands.
-use Rattle.std.specs.Prelude.{◌≡◌, ℕ, List, [], ◌∷◌, Some}
+use Rattle.std.specs.Prelude.{◌≡◌, ℕ, List, [], ◌∷◌}
 use Rattle.history_lock.specs.Passes.{LockView, IsOf}
 use Rattle.desk.specs.declared.floor.Crew.{Crew}
 use Rattle.worker_gate.specs.declared.pool.Hand.{Hand}
@@ -13,7 +13,7 @@ module _ {G : Type 0} where
 
   -- a worker stands there, with its token of this lock
   abbrev pub IsWorking : LockView Crew → Hand ℕ G → Type 0
-  IsWorking lock (Work (Some worker) log) = IsOf lock worker.pass
+  IsWorking lock (Work worker log) = IsOf lock worker.pass
   IsWorking lock _ = ⊥
 
   abbrev pub AreHired : LockView Crew → List (Hand ℕ G) → Type 0

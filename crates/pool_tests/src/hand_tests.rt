@@ -1,5 +1,5 @@
 //! Two submitters and two workers that meet at one desk, each in a thread of its own.
-ghost use Rattle.std.specs.Prelude.{◌≡◌, List, [], ◌∷◌, None, Some};
+ghost use Rattle.std.specs.Prelude.{◌≡◌, List, [], ◌∷◌, None};
 ghost use Rattle.std.specs.Thread.{IsSync};
 ghost use Rattle.history_lock.specs.Passes.{IsOf};
 ghost use Rattle.gate_rules.specs.declared.logged_gate.Asked.{Asked};
@@ -170,7 +170,7 @@ fn hired<G>(
     first: Worker,
     second: Worker,
 ) -> [Hand<u64, G>; 3]
-    ensures { result ≡ hand.Feed who rows total None ∷ hand.Work (Some first) [] ∷ hand.Work (Some second) [] ∷ [] }
+    ensures { result ≡ hand.Feed who rows total None ∷ hand.Work first [] ∷ hand.Work second [] ∷ [] }
 {
     let feeding = Hand::Feed {
         who,
@@ -180,8 +180,8 @@ fn hired<G>(
     };
     [
         feeding,
-        Hand::Work(Some(first), gate.log()),
-        Hand::Work(Some(second), gate.log()),
+        Hand::Work(first, gate.log()),
+        Hand::Work(second, gate.log()),
     ]
 }
 
@@ -195,13 +195,10 @@ pub struct End {
 
 // The token of a worker.
 fn worker_of<G, R: Abort>(rt: &R, working: Hand<u64, G>) -> Worker
-    ensures { (log : List Asked) × (working ≡ hand.Work (Some result) log) }
+    ensures { (log : List Asked) × (working ≡ hand.Work result log) }
 {
-    let Hand::Work(slot, _log) = working else {
+    let Hand::Work(worker, _log) = working else {
         panic!(rt; "a worker stands here")
-    };
-    let Some(worker) = slot else {
-        panic!(rt; "a worker has its token")
     };
     worker
 }

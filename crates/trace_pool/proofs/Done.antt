@@ -1,21 +1,24 @@
 -- Hands that were given their parts, and have done them.
-use Rattle.std.proofs.Common.{ℕ, suc, ◌+◌, ◌<◌, ◌≡◌, List, [], ◌∷◌, ◌++◌, length, slice_index_or, take, drop, append-nil, Option, Some, All, sym, ap, ◌∙◌, subst, refl, arith}
+use Rattle.std.proofs.Common.{ℕ, suc, ◌+◌, ◌<◌, ◌≡◌, List, [], ◌∷◌, ◌++◌, length, slice_index_or, take, drop, append-nil, Option, All, Global, sym, ap, ◌∙◌, subst, refl, arith}
+use Rattle.std.specs.declared.vec.Vec.{Vec}
 use Rattle.std.proofs.Math.Seq.{drop-length, take-length}
-use Rattle.std.proofs.lemmas.List.{same_from_push}
 use Rattle.std.proofs.lemmas.List.Elements.{All-nil, All-cons, All-append, All-push}
+use Rattle.fq_model.specs.declared.parts.Status.{Status}
 use Rattle.program_model.specs.declared.trace.TraceRow.{TraceRow}
 use Rattle.history_lock.specs.Passes.{LockView}
-use Rattle.status_board.specs.Boards.{BoardView}
+use Rattle.status_board.specs.Boards.{BoardView, ReaderView}
 use Rattle.desk.specs.declared.floor.Crew.{Crew}
-use Rattle.desk.specs.declared.tokens.Worker.{Worker}
 use Rattle.trace_pool.specs.Hands.{TraceHand}
 use Rattle.worker_gate.specs.declared.pool.Hand.TheVariants.{Feed, Work, Watch}
 use Rattle.worker_gate.specs.Feeding.{Feeds}
 use Rattle.worker_gate.specs.Hands.{IsHandOf, HandDid, HandsDid}
+use Rattle.worker_gate.specs.Watching.{Watched}
 use Rattle.gate_rules.specs.Rules.{work_cost}
+use Rattle.trace_pool.specs.declared.hands.Tokens.{Tokens}
 use Rattle.trace_pool.specs.PoolEnd.{trace_course}
 use Rattle.trace_pool.specs.Parts.{IsFeedOf, IsWorkOf, AreHands, HasFed, HasWorked, HasFedHand, HasWorkedHand, AreDone}
 use Rattle.trace_pool.specs.Places.{HoldsFrom}
+use Rattle.trace_pool.specs.Serving.{IsWatcherOf, HasWatched}
 
 -- item by item
 module _ {A : Type 0} (Becomes : A → A → Type 0) where
@@ -83,23 +86,15 @@ module _ (rows : List TraceRow) (lock : LockView Crew) (shared : Option BoardVie
         feeds = feeds;
       } in
       subst (HasFedHand rows lock refresh Tells j) (sym did.3) done
-  fed_hand j (Work slot log) new is did = absurd is
+  fed_hand j (Work worker log) new is did = absurd is
   fed_hand j (Watch reader left expected seen) new is did = absurd is
 
   worked_hand : (i : ℕ) (old new : TraceHand) → IsWorkOf rows lock i old → Did old new → HasWorkedHand rows lock refresh Tells i new
   worked_hand i (Feed who queue total stopped) new is did = absurd is
   worked_hand i (Watch reader left expected seen) new is did = absurd is
-  worked_hand i (Work slot log) new is did =
-      let same : is.0 ≡ did.0 = (let both : Some is.0 ≡ Some did.0 = sym is.1 ∙ did.3 in cc) in
-      let done : HasWorked rows lock refresh Tells i did.1 = record {
-        begun = did.0;
-        new = subst (λ (t : Worker). Rattle.desk.specs.Opening.IsNew lock (Rattle.program_model.specs.Courses.worker_caller rows i) t.pass) same is.2;
-        numbered = subst (λ (t : Worker). t.worker ≡ i) same is.3;
-        log = log;
-        log2 = did.2;
-        worked = did.5;
-      } in
-      subst (HasWorkedHand rows lock refresh Tells i) (sym did.4) (did.1, refl, done)
+  worked_hand i (Work worker log) new is did =
+      let done : HasWorked rows lock refresh Tells i did.0 = record { begun = worker; new = is.0; numbered = is.1; log = log; log2 = did.1; worked = did.3 } in
+      subst (HasWorkedHand rows lock refresh Tells i) (sym did.2) done
 
   all_done : (feeds works : ℕ) (olds news : List TraceHand) → AreHands rows lock feeds works olds → EachBecomes Did olds news → AreDone rows lock refresh Tells feeds works news
   all_done feeds works olds news a each =
@@ -134,11 +129,29 @@ module _ (rows : List TraceRow) (lock : LockView Crew) (shared : Option BoardVie
         other_did = one.2;
       }
 
-  -- the last of them is taken away
-  pub without_last : (feeds works : ℕ) (other hand : TraceHand) (news rest : List TraceHand) → PoolDid feeds works other news → news ≡ rest ++ hand ∷ [] → AreDone rows lock refresh Tells feeds works rest × Did other hand
-  without_last feeds works other hand news rest d is =
-      let same = same_from_push d.front rest d.last hand (sym d.both ∙ is) in
-      (subst (AreDone rows lock refresh Tells feeds works) same.0 d.done, subst (Did other) same.1 d.other_did)
+  -- hands that have done their parts, and a watcher that has done its own
+  pub record WatchedLast (feeds works : ℕ) (other : TraceHand) (news : List TraceHand) : Type 0 where
+    pub front : List TraceHand
+    pub reader : ReaderView
+    pub expected : ℕ
+    pub seen : Vec Status Global
+    pub both : news ≡ front ++ Watch reader 0 expected seen ∷ []
+    pub done : AreDone rows lock refresh Tells feeds works front
+    pub watched : (tokens : Tokens) → tokens.readers.items ≡ reader ∷ [] → tokens.statuses.items ≡ seen.items → HasWatched shared other tokens
+
+  pub watched_last : (feeds works : ℕ) (other : TraceHand) (news : List TraceHand) → IsWatcherOf lock shared other → PoolDid feeds works other news → WatchedLast feeds works other news
+  watched_last feeds works (Feed who queue total stopped) news is d = absurd is
+  watched_last feeds works (Work worker log) news is d = absurd is
+  watched_last feeds works (Watch reader left expected seen) news is d =
+      let did = d.other_did in record {
+        front = d.front;
+        reader = did.1;
+        expected = expected;
+        seen = did.2;
+        both = d.both ∙ ap (λ hand. d.front ++ hand ∷ []) did.4;
+        done = d.done;
+        watched = λ tokens readers statuses. (did.0, did.1, did.3, readers, subst (λ xs. Watched did.0 left reader did.1 seen.items xs) (sym statuses) did.5);
+      }
 
 -- a slice of a whole vector, written back
 pub written_back : {A : Type 0} (len : ℕ) (olds news : List A) → len ≡ length olds → length news ≡ length olds → take len (news ++ drop (length news) olds) ≡ news
@@ -150,22 +163,27 @@ module _ (rows : List TraceRow) (lock : LockView Crew) (shared : Option BoardVie
   feeds_of : (j : ℕ) (hands : List TraceHand) → HoldsFrom (IsFeedOf rows lock) j hands → All (IsHandOf lock shared) hands
   feeds_of j [] h = All-nil (IsHandOf lock shared)
   feeds_of j (Feed who queue total stopped ∷ hands) h = All-cons (IsHandOf lock shared) (Feed who queue total stopped) hands h.0.0.own (feeds_of (suc j) hands h.1)
-  feeds_of j (Work slot log ∷ hands) h = absurd h.0
+  feeds_of j (Work worker log ∷ hands) h = absurd h.0
   feeds_of j (Watch reader left expected seen ∷ hands) h = absurd h.0
 
   works_of : (i : ℕ) (hands : List TraceHand) → HoldsFrom (IsWorkOf rows lock) i hands → All (IsHandOf lock shared) hands
   works_of i [] h = All-nil (IsHandOf lock shared)
   works_of i (Feed who queue total stopped ∷ hands) h = absurd h.0
   works_of i (Watch reader left expected seen ∷ hands) h = absurd h.0
-  works_of i (Work slot log ∷ hands) h = All-cons (IsHandOf lock shared) (Work slot log) hands (h.0.0, h.0.1, h.0.2.own) (works_of (suc i) hands h.1)
+  works_of i (Work worker log ∷ hands) h = All-cons (IsHandOf lock shared) (Work worker log) hands h.0.0.own (works_of (suc i) hands h.1)
 
   -- all hands are of the desk
   pub hands_of : (feeds works : ℕ) (hands : List TraceHand) → AreHands rows lock feeds works hands → All (IsHandOf lock shared) hands
   hands_of feeds works hands a = subst (All (IsHandOf lock shared)) (sym a.both) (All-append (IsHandOf lock shared) a.first a.second (feeds_of 0 a.first a.are_feeds) (works_of 0 a.second a.are_works))
 
-  -- so is one hand more
-  pub hands_with : (feeds works : ℕ) (hands : List TraceHand) (other : TraceHand) → AreHands rows lock feeds works hands → IsHandOf lock shared other → All (IsHandOf lock shared) (hands ++ other ∷ [])
-  hands_with feeds works hands other a is = All-push (IsHandOf lock shared) hands other (hands_of feeds works hands a) is
+  watcher_is : (other : TraceHand) → IsWatcherOf lock shared other → IsHandOf lock shared other
+  watcher_is (Feed who queue total stopped) is = absurd is
+  watcher_is (Work worker log) is = absurd is
+  watcher_is (Watch reader left expected seen) is = is
+
+  -- so is a watcher more
+  pub hands_with : (feeds works : ℕ) (hands : List TraceHand) (other : TraceHand) → AreHands rows lock feeds works hands → IsWatcherOf lock shared other → All (IsHandOf lock shared) (hands ++ other ∷ [])
+  hands_with feeds works hands other a is = All-push (IsHandOf lock shared) hands other (hands_of feeds works hands a) (watcher_is other is)
 
   -- the hands that a pool over the rows' gate leaves in the vector that it was given
   pub back_done : (refresh : ℕ) (Tells : ℕ → Type 0) (feeds works len : ℕ) (hands : List TraceHand) (other : TraceHand) (olds given news : List TraceHand) (gate_refresh : ℕ) (gate_rows : List TraceRow) → AreHands rows lock feeds works hands → olds ≡ hands ++ other ∷ [] → given ≡ olds → length given ≡ len

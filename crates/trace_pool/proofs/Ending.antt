@@ -1,5 +1,6 @@
 -- The end of a pool, as its tokens and the past tell it.
-use Rattle.std.proofs.Common.{ℕ, ◌<◌, ◌≤◌, ◌≡◌, List, [], ◌∷◌, length, ap, ◌∙◌, arith}
+use Rattle.std.proofs.Common.{ℕ, ◌<◌, ◌≤◌, ◌≡◌, List, [], ◌∷◌, length, Result, Ok, ap, ◌∙◌, subst, arith}
+use Rattle.std.specs.Prelude.{IfOk}
 use Rattle.fq_model.specs.declared.event.Entry.{Entry}
 use Rattle.program_model.specs.declared.trace.RunOptions.{RunOptions}
 use Rattle.program_model.specs.declared.trace.TraceRow.{TraceRow}
@@ -21,6 +22,10 @@ use Rattle.trace_pool.proofs.Ends.{pool_history, pool_moments}
 use Rattle.trace_reader.proofs.InLimits.{trace_limits}
 use Rattle.trace_pool.specs.Parts.{IsCrewOf, HasFed, HasWorked, HaveDone}
 use Rattle.trace_pool.proofs.Tokens.{found_at, made_is}
+
+-- what holds of each Ok holds of this
+pub of_ok : {A E : Type 0} (P : A → Type 0) (r : Result A E) (x : A) → r ≡ Ok x → IfOk r P → P x
+of_ok P r x is h = subst (λ q. IfOk q P) is h
 
 -- there is a submitter
 pub some_submitter : (rows : List TraceRow) → 0 < submitters rows

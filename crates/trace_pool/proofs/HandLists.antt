@@ -26,11 +26,11 @@ module _ (lock : LockView Crew) where
   -- one worker more is given its work
   pub works_more : (rows : List TraceRow) (hands hands2 before : List TraceHand) (t : Worker) (ts : List Worker) (hand : TraceHand) (log : _) → IsCrewOf rows lock
       → (given : List TraceHand) × (hands ≡ before ++ given) × HoldsFrom (IsWorkOf rows lock) 0 given × AreWorkers lock (length given) (t ∷ ts)
-      → hands2 ≡ hands ++ hand ∷ [] → hand ≡ Work (Rattle.std.proofs.Common.Some t) log
+      → hands2 ≡ hands ++ hand ∷ [] → hand ≡ Work t log
       → (given : List TraceHand) × (hands2 ≡ before ++ given) × HoldsFrom (IsWorkOf rows lock) 0 given × AreWorkers lock (length given) ts
   works_more rows hands hands2 before t ts hand log crew (given, is, works, tokens) more hand_is =
       let own = tokens.0 in
       let fits : IsWorkOf rows lock (length given) hand =
-      subst (IsWorkOf rows lock (length given)) (sym hand_is) (t, refl, subst (λ s. Rattle.desk.specs.Opening.IsNew lock (s + length given) t.pass) crew own.0, own.1) in
+      subst (IsWorkOf rows lock (length given)) (sym hand_is) (subst (λ s. Rattle.desk.specs.Opening.IsNew lock (s + length given) t.pass) crew own.0, own.1) in
       let longer : length (given ++ hand ∷ []) ≡ suc (length given) = omega (arith, length-append given (hand ∷ [])) in
       (given ++ hand ∷ [], more ∙ (ap (λ l. l ++ hand ∷ []) is ∙ append_assoc before given (hand ∷ [])), holds_more (IsWorkOf rows lock) 0 (length given) given hand works (omega arith) fits, subst (λ n. AreWorkers lock n ts) (sym longer) tokens.1)

@@ -8,18 +8,16 @@ use Rattle.fq_model.specs.declared.event.Entry.{Entry}
 use Rattle.fq_model.specs.declared.parts.Status.{Status}
 use Rattle.fq_model.specs.History.{history_of}
 use Rattle.fq_model.specs.Status.{status_of}
-use Rattle.program_model.specs.declared.trace.TraceRow.{TraceRow}
 use Rattle.history_lock.specs.Histories.{IsPrefix}
-use Rattle.history_lock.specs.Passes.{LockView}
 use Rattle.history_lock.proofs.Histories.{prefix_through}
 use Rattle.program_model.specs.Readings.{IsStatusIn, AreReadings}
-use Rattle.status_board.specs.Boards.{BoardView, ReaderView}
-use Rattle.desk.specs.declared.floor.Crew.{Crew}
-use Rattle.desk.specs.Shown.{HaveSeen}
+use Rattle.status_board.specs.Boards.{BoardView, ReaderView, IsReaderOf}
+use Rattle.desk.specs.Shown.{AreReaders, AreReadersOf, HaveSeen}
 use Rattle.worker_gate.specs.declared.pool.Hand.TheVariants.{Watch}
 use Rattle.worker_gate.specs.Watching.{AreAnswers, Watched}
 use Rattle.worker_gate.proofs.Watching.{answers_on}
-use Rattle.trace_pool.specs.Hands.{TraceHandDid}
+use Rattle.trace_pool.specs.declared.hands.Tokens.{Tokens}
+use Rattle.trace_pool.specs.Serving.{HasWatched}
 
 entries_of : (C : Config) (P : List Entry) (status : Status) → status ≡ status_of C (history_of P) → status.entries ≡ length P
 unfolding status_of
@@ -55,18 +53,22 @@ readings_watched board times old new given statuses C past w none unseen config 
       subst (AreReadings C past 0) (sym all) (readings_of C [] w.answers new.seen past answers on),
     )
 
--- the reader of the last hand has seen a prefix of the past
-pub reader_front : (past : List Entry) (none readers : List ReaderView) (reader : ReaderView) → none ≡ [] → readers ≡ none ++ reader ∷ [] → HaveSeen past readers → IsPrefix reader.seen past
-reader_front past none readers reader empty is seen = (subst (HaveSeen past) (is ∙ ap (λ l. l ++ reader ∷ []) empty) seen).0
-
--- the statuses that the watcher's hand read are readings of the past
-pub watch_read : (rows : List TraceRow) (lock : LockView Crew) (shared : Option BoardView) (refresh : ℕ) (Tells : ℕ → Type 0) (board : BoardView) (reader reader2 : ReaderView) (times left expected expected2 : ℕ) (given seen : Vec Status Global) (C : Config) (past : List Entry)
-    → TraceHandDid rows lock shared refresh Tells (Watch reader times expected given) (Watch reader2 left expected2 seen) → shared ≡ Some board → board.config ≡ C → given.items ≡ [] → reader.seen ≡ [] → IsPrefix reader2.seen past
-    → (length seen.items ≡ times) × AreReadings C past 0 seen.items
-watch_read rows lock shared refresh Tells board reader reader2 times left expected expected2 given seen C past (board2, reader3, seen3, shown, is, w) shared_is config none unseen on =
-    let same_reader : reader3 ≡ reader2 = cc in
-    let same_seen : seen3 ≡ seen = cc in
+-- the statuses that the watcher read are readings of the past
+pub watch_read : (shared : Option BoardView) (board : BoardView) (reader : ReaderView) (times : ℕ) (given : Vec Status Global) (tokens : Tokens) (C : Config) (past : List Entry)
+    → HasWatched shared (Watch reader times 0 given) tokens → shared ≡ Some board → board.config ≡ C → given.items ≡ [] → reader.seen ≡ [] → HaveSeen past tokens.readers.items
+    → (length tokens.statuses.items ≡ times) × AreReadings C past 0 tokens.statuses.items
+watch_read shared board reader times given tokens C past (board2, reader2, shown, one, w) shared_is config none unseen seen =
     let both : Some board2 ≡ Some board = sym shown ∙ shared_is in
     let same_board : board2 ≡ board = cc in
-    subst (λ (v : Vec Status Global). (length v.items ≡ times) × AreReadings C past 0 v.items) same_seen
-    (readings_watched board2 times reader reader3 given.items seen3.items C past w none unseen (ap (λ (b : BoardView). b.config) same_board ∙ config) (subst (λ (r : ReaderView). IsPrefix r.seen past) (sym same_reader) on))
+    let on : IsPrefix reader2.seen past = (subst (HaveSeen past) one seen).0 in
+    readings_watched board2 times reader reader2 given.items tokens.statuses.items C past w none unseen (ap (λ (b : BoardView). b.config) same_board ∙ config) on
+
+-- and its reader is of the desk's board
+pub watch_readers : (shared of_desk : Option BoardView) (board : BoardView) (reader : ReaderView) (times : ℕ) (given : Vec Status Global) (tokens : Tokens)
+    → HasWatched shared (Watch reader times 0 given) tokens → shared ≡ Some board → of_desk ≡ Some board → AreReadersOf of_desk tokens.readers.items
+watch_readers shared of_desk board reader times given tokens (board2, reader2, shown, one, w) shared_is desk_is =
+    let both : Some board2 ≡ Some board = sym shown ∙ shared_is in
+    let same_board : board2 ≡ board = cc in
+    let own : IsReaderOf board reader2 = subst (λ b. IsReaderOf b reader2) same_board w.own in
+    let all : AreReaders board tokens.readers.items = subst (AreReaders board) (sym one) (own, tt) in
+    subst (λ o. AreReadersOf o tokens.readers.items) (sym desk_is) all

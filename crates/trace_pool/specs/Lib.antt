@@ -4,3 +4,4 @@ pub mod Serving
 pub mod Places
 pub mod Parts
 pub mod Hands
+pub mod Tokens

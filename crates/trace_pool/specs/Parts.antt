@@ -1,5 +1,5 @@
 -- The parts of the submitters and workers of a trace, before and after they are done.
-use Rattle.std.specs.Prelude.{ℕ, ◌+◌, ◌≡◌, List, [], ◌∷◌, ◌++◌, map, length, Option, Some, None}
+use Rattle.std.specs.Prelude.{ℕ, ◌+◌, ◌≡◌, List, [], ◌∷◌, ◌++◌, map, length, Option}
 use Rattle.fq_model.specs.declared.event.Cause.{Cause}
 use Rattle.program_model.specs.declared.trace.TraceRow.{TraceRow}
 use Rattle.program_model.specs.Courses.{submitters, worker_caller}
@@ -10,7 +10,7 @@ use Rattle.desk.specs.declared.tokens.Submitter.{Submitter}
 use Rattle.desk.specs.declared.tokens.Worker.{Worker}
 use Rattle.desk.specs.Opening.{IsNew}
 use Rattle.trace_pool.specs.Hands.{TraceHand}
-use Rattle.worker_gate.specs.declared.pool.Hand.TheVariants.{Feed, Work, Watch}
+use Rattle.worker_gate.specs.declared.pool.Hand.TheVariants.{Feed, Work}
 use Rattle.gate_rules.specs.declared.logged_gate.Asked.{Asked}
 use Rattle.gate_rules.specs.declared.rows.Row.{Row}
 use Rattle.worker_gate.specs.Feeding.{Feeds}
@@ -31,29 +31,6 @@ IsCrewOf rows lock = lock.frame.submitters ≡ submitters rows
 abbrev pub KnowsAll : LockView Crew → ℕ → Submitter → Type 0
 KnowsAll lock j who = j ≡ 0 → who.pass.made + 1 ≡ lock.frame.submitters + lock.frame.config.workers
 
--- the submitters' tokens of the hands, in order
-abbrev pub submitters_in : List TraceHand → List Submitter
-submitters_in [] = []
-submitters_in (Feed who queue total stopped ∷ hands) = who ∷ submitters_in hands
-submitters_in (_ ∷ hands) = submitters_in hands
-
--- the worker's token of a slot, if it is there, before these
-abbrev pub with_worker : Option Worker → List Worker → List Worker
-with_worker None workers = workers
-with_worker (Some worker) workers = worker ∷ workers
-
--- the workers' tokens of the hands, in order
-abbrev pub workers_in : List TraceHand → List Worker
-workers_in [] = []
-workers_in (Work slot log ∷ hands) = with_worker slot (workers_in hands)
-workers_in (_ ∷ hands) = workers_in hands
-
--- the hand has a token
-abbrev pub HoldsToken : TraceHand → Type 0
-HoldsToken (Feed who queue total stopped) = Unit {0}
-HoldsToken (Work slot log) = (worker : Worker) × (slot ≡ Some worker)
-HoldsToken (Watch reader left expected seen) = ⊥
-
 module _ (rows : List TraceRow) (lock : LockView Crew) where
   -- a hand that is to feed the rows of submitter j
   abbrev pub IsFeedOf : ℕ → TraceHand → Type 0
@@ -64,8 +41,7 @@ module _ (rows : List TraceRow) (lock : LockView Crew) where
 
   -- a hand that is to work as worker i
   abbrev pub IsWorkOf : ℕ → TraceHand → Type 0
-  IsWorkOf i (Work slot log) =
-      (worker : Worker) × (slot ≡ Some worker) × IsNew lock (worker_caller rows i) worker.pass × (worker.worker ≡ i)
+  IsWorkOf i (Work worker log) = IsNew lock (worker_caller rows i) worker.pass × (worker.worker ≡ i)
   IsWorkOf i _ = ⊥
 
   -- the hands of `feeds` submitters, and then those of `works` workers
@@ -105,7 +81,7 @@ module _ (rows : List TraceRow) (lock : LockView Crew) where
     HasFedHand j _ = ⊥
 
     abbrev pub HasWorkedHand : ℕ → TraceHand → Type 0
-    HasWorkedHand i (Work slot log) = (worker : Worker) × (slot ≡ Some worker) × HasWorked i worker
+    HasWorkedHand i (Work worker log) = HasWorked i worker
     HasWorkedHand i _ = ⊥
 
     -- the submitters have done their parts, and the workers theirs

@@ -1,18 +1,29 @@
 //! Hands are made of tokens, and give them back.
-ghost use Rattle.std.specs.Prelude.{◌≡◌, ◌≤◌, ◌+◌, [], length, All, vec_capacity};
+ghost use Rattle.std.specs.Prelude.{◌≡◌, ◌≤◌, ◌+◌, [], length, vec_capacity};
 ghost use Rattle.fq_model.specs.declared.limits.TheConstants.{MOST_ROWS};
 ghost use Rattle.desk.specs.Opening.{AreSubmitters, AreWorkers, HasMade};
-ghost use Rattle.trace_pool.specs.Parts.{AreRowsOf, IsCrewOf, IsFeedOf, AreHands, HoldsToken, submitters_in, workers_in};
+ghost use Rattle.trace_pool.specs.Parts.{AreRowsOf, IsCrewOf, IsFeedOf, AreHands};
+ghost use Rattle.trace_pool.specs.Tokens.{AreTokensOf, HasPlaces};
 ghost use Rattle.trace_pool.specs.Places.{HoldsFrom};
 
 use crate::gate::TraceGate;
 use desk::{DeskOf, Floor, Submitter, Worker};
+use fq_model::parts::Status;
 use gate_rules::logged_gate::LoggedGate;
 use gate_rules::rows::Row;
 use program_model::trace::TraceRow;
+use status_board::Reader;
 use std::collections::VecDeque;
 use tag_rules::chooser::Chooser;
 use worker_gate::pool::Hand;
+
+/// The tokens of a desk's callers, the readers of its board, and the statuses that they have read.
+pub struct Tokens {
+    pub submitters: Vec<Submitter>,
+    pub workers: Vec<Worker>,
+    pub readers: Vec<Reader>,
+    pub statuses: Vec<Status>,
+}
 
 /// Makes a hand of each submitter with its rows, and then of each worker with a log of its own.
 pub fn hand_out<'a, X: Chooser>(
@@ -89,23 +100,15 @@ fn give_work<'a, X: Chooser>(
     ensures capacity { vec_capacity hands.new ≡ vec_capacity hands.old }
 {
     while !workers.is_empty() {
-        hands.push_reserved(Hand::Work(Some(workers.remove(0)), gate.log()));
+        hands.push_reserved(Hand::Work(workers.remove(0), gate.log()));
     }
 }
 
-/// Gives all tokens back, in their order.
-pub fn take_back<'a>(
-    hands: &mut Vec<Hand<u64, TraceGate<'a>>>,
-    submitters: &mut Vec<Submitter>,
-    workers: &mut Vec<Worker>,
-)
-    requires tokens { All HoldsToken hands.old.items }
-    requires submitters { (submitters.old.items ≡ [])
-        × (length (submitters_in hands.old.items) ≤ vec_capacity submitters.old) }
-    requires workers { (workers.old.items ≡ []) × (length (workers_in hands.old.items) ≤ vec_capacity workers.old) }
+/// Gives all tokens back, in their order, and the statuses that the last watcher has read.
+pub fn take_back<'a>(hands: &mut Vec<Hand<u64, TraceGate<'a>>>, tokens: &mut Tokens)
+    requires { HasPlaces hands.old.items tokens.old }
     ensures hands { hands.new.items ≡ [] }
-    ensures submitters { submitters.new.items ≡ submitters_in hands.old.items }
-    ensures workers { workers.new.items ≡ workers_in hands.old.items }
+    ensures tokens { AreTokensOf hands.old.items tokens.old.statuses.items tokens.new }
 {
     while !hands.is_empty() {
         match hands.remove(0) {
@@ -114,12 +117,17 @@ pub fn take_back<'a>(
                 rows: _,
                 total: _,
                 stopped: _,
-            } => submitters.push_reserved(who),
-            Hand::Work(slot, _log) => {
-                let Some(worker) = slot else { unreachable!() };
-                workers.push_reserved(worker);
+            } => tokens.submitters.push_reserved(who),
+            Hand::Work(worker, _log) => tokens.workers.push_reserved(worker),
+            Hand::Watch {
+                reader,
+                left: _,
+                expected: _,
+                seen,
+            } => {
+                tokens.readers.push_reserved(reader);
+                tokens.statuses = seen;
             }
-            Hand::Watch { .. } => unreachable!(),
         }
     }
 }

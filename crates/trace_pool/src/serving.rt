@@ -2,28 +2,23 @@
 ghost use Rattle.std.specs.Prelude.{◌≡◌, ◌≤◌, ◌<◌, ◌+◌, ◌⊎◌, [], length, vec_capacity, Err, IfOk, IfErr, option_map};
 ghost use Rattle.std.specs.Arc.{arc_value};
 ghost use Rattle.vt_fixed.specs.declared.limits.TheConstants.{GREATEST_COST};
-ghost use Rattle.fq_model.specs.declared.limits.TheConstants.{MOST_ENTRIES, MOST_ROWS};
-ghost use Rattle.program_model.specs.Courses.{submitters};
+ghost use Rattle.fq_model.specs.declared.limits.TheConstants.{MOST_ROWS};
 ghost use Rattle.fq_model.specs.History.{history_of};
 ghost use Rattle.program_model.specs.RunLimits.{AreInRange};
-ghost use Rattle.program_model.specs.PoolHistory.{IsPoolHistory, HasToldMoments, needed_pool_entries, pool_config};
+ghost use Rattle.program_model.specs.PoolHistory.{IsPoolHistory, HasToldMoments, pool_config};
 ghost use Rattle.program_model.specs.Readings.{AreReadings};
 ghost use Rattle.program_model.specs.TraceText.{IsLawfulTrace};
-ghost use Rattle.desk.specs.Opening.{AreTokens};
 ghost use Rattle.trace_reader.specs.Rows.{AreCosts};
-ghost use Rattle.worker_gate.specs.Hands.{IsHandOf};
-ghost use Rattle.trace_pool.specs.Hands.{TraceHandDid};
-ghost use Rattle.trace_pool.specs.Parts.{IsCrewOf, AreRowsOf, HaveDone};
-ghost use Rattle.trace_pool.specs.Places.{HoldsFrom};
-ghost use Rattle.trace_pool.specs.Serving.{HasRoom, IsTooLong, too_long};
+ghost use Rattle.trace_pool.specs.Parts.{HaveDone};
+ghost use Rattle.trace_pool.specs.Serving.{AreSupplies, HasRoom, HasWatched, IsServable, IsTeamOf, IsTooLong, too_long};
 ghost use Rattle.trace_pool.specs.declared.fault.PoolFault.TheVariants as faults;
 
 use crate::dealing::deal;
 use crate::fault::PoolFault;
 use crate::gate::TraceGate;
-use crate::hands::{hand_out, take_back};
+use crate::hands::{Tokens, hand_out, take_back};
 use crate::needed::needed;
-use desk::{DeskOf, Floor, Submitter, Worker};
+use desk::{DeskOf, Floor};
 use fq_io::Clock;
 use fq_model::config::Checked;
 use fq_model::limits::{LEAST_ENTRIES, MOST_ENTRIES};
@@ -58,116 +53,140 @@ struct Room<'a> {
     readers: Vec<Reader>,
 }
 
-// The callers of all tokens serve the rows, each in a thread of its own, while one more hand does its part. Gives the
-// tokens and that hand back.
+// A trace to serve, and how often the status is read meanwhile.
+#[derive(Clone, Copy)]
+struct Order<'a> {
+    trace: &'a Trace,
+    options: RunOptions,
+    times: u32,
+}
+
+// All that is taken before a desk is opened: its configuration, the rows of each submitter, and room.
+struct Supplies<'a> {
+    config: Checked,
+    queues: Vec<VecDeque<Row<u64>>>,
+    room: Room<'a>,
+}
+
+// Those who serve the rows of a trace: the callers of a desk, the rows of each submitter, and a watcher. There is room
+// for their hands.
+struct Team<'a> {
+    tokens: Tokens,
+    queues: Vec<VecDeque<Row<u64>>>,
+    watcher: Hand<u64, TraceGate<'a>>,
+    hands: Vec<Hand<u64, TraceGate<'a>>>,
+}
+
+// The team serves the rows of the gate, each of it in a thread of its own. Gives the tokens back, and the statuses.
 fn serve_rows<'a, X: Chooser + Drop + Send, K: Clock + Sync, R: Threads + Wait + Sync>(
     rt: &R,
     desk: &DeskOf<Floor<u64, X>>,
     rows: &'a [TraceRow],
     refresh: u64,
     clock: &K,
-    queues: Vec<VecDeque<Row<u64>>>,
-    mut hands: Vec<Hand<u64, TraceGate<'a>>>,
-    other: Hand<u64, TraceGate<'a>>,
-    submitters: &mut Vec<Submitter>,
-    workers: &mut Vec<Worker>,
-) -> Hand<u64, TraceGate<'a>>
+    team: Team<'a>,
+) -> Tokens
     requires rows { (length rows.now ≤ MOST_ROWS) × AreCosts rows.now × (refresh ≤ GREATEST_COST) }
-    requires queues { IsCrewOf rows.now desk.now.lock × HoldsFrom (λ j q. AreRowsOf rows.now j q.items) 0 queues.items
-        × (length queues.items ≡ length submitters.old.items) }
-    requires tokens { AreTokens desk.now.lock.frame desk.now.lock submitters.old.items workers.old.items }
-    requires room { (hands.items ≡ [])
-        × (length submitters.old.items + length workers.old.items < vec_capacity hands) }
-    requires other { IsHandOf desk.now.lock (option_map arc_value desk.now.board) other }
-    ensures done { HaveDone rows.now desk.now.lock refresh (K.tells clock.now) submitters.new.items workers.new.items }
-    ensures other { TraceHandDid rows.now desk.now.lock (option_map arc_value desk.now.board) refresh
-        (K.tells clock.now) other.entry result }
+    requires team { IsTeamOf desk.now.lock (option_map arc_value desk.now.board) rows.now team }
+    ensures done { HaveDone rows.now desk.now.lock refresh (K.tells clock.now) result.submitters.items
+        result.workers.items }
+    ensures watched { HasWatched (option_map arc_value desk.now.board) team.entry.watcher result }
 {
+    let Team {
+        mut tokens,
+        queues,
+        watcher,
+        mut hands,
+    } = team;
     let mut gate = LoggedGate::new(TraceGate::new(rows, refresh));
     hand_out(
-        desk, rows, queues, submitters, workers, &mut gate, &mut hands,
+        desk,
+        rows,
+        queues,
+        &mut tokens.submitters,
+        &mut tokens.workers,
+        &mut gate,
+        &mut hands,
     );
-    hands.push_reserved(other);
+    hands.push_reserved(watcher);
     let rule = CostRule::new(WorkCost);
     pool(rt, desk, hands.as_mut_slice(), &gate, clock, &rule);
-    let Some(other) = hands.pop() else {
-        unreachable!()
-    };
-    take_back(&mut hands, submitters, workers);
+    take_back(&mut hands, &mut tokens);
     hands.destroy_empty();
-    other
+    tokens
 }
 
-// Opens a desk, has its callers serve the trace's rows while its status is read `times` times, and answers the history.
+// Opens a desk, has its callers serve the trace's rows while its status is read, and answers the history.
 fn serve_at_desk<'a, X: Chooser + Drop + Send, K: Clock + Sync, R: Threads + Wait + Sync>(
     rt: &R,
     alloc: Global,
-    config: Checked,
-    trace: &'a Trace,
-    options: RunOptions,
-    times: u32,
+    order: Order<'a>,
     clock: &K,
-    queues: Vec<VecDeque<Row<u64>>>,
-    room: Room<'a>,
+    supplies: Supplies<'a>,
 ) -> Result<Served, PoolFault>
-    requires trace { IsLawfulTrace trace.now × AreInRange options
-        × (needed_pool_entries trace.now.rows options.refresh ≤ MOST_ENTRIES) }
-    requires config { config ≡ pool_config trace.now options }
-    requires queues { HoldsFrom (λ j q. AreRowsOf trace.now.rows j q.items) 0 queues.items
-        × (length queues.items ≡ submitters trace.now.rows) }
-    requires room { HasRoom (submitters trace.now.rows + options.workers) times room }
-    ensures history { IfOk result (λ s. IsPoolHistory trace.now options (history_of s.history.past)
+    requires order { IsServable order.trace.now order.options }
+    requires supplies { AreSupplies order.trace.now order.options order.times supplies }
+    ensures history { IfOk result (λ s.
+        IsPoolHistory order.entry.trace.now order.entry.options (history_of s.history.past)
         × HasToldMoments (K.tells clock.now) (history_of s.history.past)) }
-    ensures config { IfOk result (λ s. s.history.config ≡ pool_config trace.now options) }
-    ensures statuses { IfOk result (λ s. (length s.statuses.items ≡ times)
-        × AreReadings (pool_config trace.now options) s.history.past 0 s.statuses.items) }
+    ensures config { IfOk result (λ s.
+        s.history.config ≡ pool_config order.entry.trace.now order.entry.options) }
+    ensures statuses { IfOk result (λ s. (length s.statuses.items ≡ order.entry.times)
+        × AreReadings (pool_config order.entry.trace.now order.entry.options) s.history.past 0 s.statuses.items) }
     ensures fault { IfErr result (λ f. f ≡ faults.NoMemory) }
 {
+    let Order {
+        trace,
+        options,
+        times,
+    } = order;
+    let Supplies {
+        config,
+        queues,
+        room,
+    } = supplies;
     let Room {
         hands,
         statuses,
-        mut readers,
+        readers,
     } = room;
-    let opened = DeskOf::open_shown(alloc, config, submitters(trace.rows()));
-    let Ok((desk, reader, mut submitters, mut workers)) = opened else {
+    let rows = trace.rows();
+    let Ok((desk, reader, submitters, workers)) = DeskOf::open_shown(
+        alloc,
+        config,
+        submitters(rows),
+    ) else {
         hands.destroy_empty();
         readers.destroy_empty();
         return Err(PoolFault::NoMemory);
     };
-    let watch = Hand::Watch {
-        reader,
-        left: times,
-        expected: needed(trace, options.refresh) as u32,
-        seen: statuses,
-    };
-    let watch = serve_rows::<X, K, R>(
-        rt,
-        &desk,
-        trace.rows(),
-        options.refresh,
-        clock,
+    let team = Team {
+        tokens: Tokens {
+            submitters,
+            workers,
+            readers,
+            statuses: Vec::new(alloc),
+        },
         queues,
+        watcher: Hand::Watch {
+            reader,
+            left: times,
+            expected: needed(trace, options.refresh) as u32,
+            seen: statuses,
+        },
         hands,
-        watch,
-        &mut submitters,
-        &mut workers,
-    );
-    let Hand::Watch {
-        reader,
-        left: _,
-        expected: _,
-        seen,
-    } = watch
-    else {
-        unreachable!()
     };
-    readers.push_reserved(reader);
-    let Ok(scheduler) = desk.finish_shown(submitters, workers, readers) else {
-        unreachable!()
-    };
+    let tokens = serve_rows::<X, K, R>(rt, &desk, rows, options.refresh, clock, team);
+    let Tokens {
+        submitters,
+        workers,
+        readers,
+        statuses,
+    } = tokens;
+    let scheduler = desk.finish_shown(submitters, workers, readers).unwrap();
     Ok(Served {
         history: scheduler.into_history(),
-        statuses: seen,
+        statuses,
     })
 }
 
@@ -224,7 +243,15 @@ pub fn serve<X: Chooser + Drop + Send, K: Clock + Sync, R: Threads + Wait + Sync
     let count = submitters(rows);
     let queues = deal(alloc, rows, count)?;
     let room = make_room(alloc, count + options.workers, times)?;
-    serve_at_desk::<X, K, R>(
-        rt, alloc, config, trace, options, times, clock, queues, room,
-    )
+    let order = Order {
+        trace,
+        options,
+        times,
+    };
+    let supplies = Supplies {
+        config,
+        queues,
+        room,
+    };
+    serve_at_desk::<X, K, R>(rt, alloc, order, clock, supplies)
 }

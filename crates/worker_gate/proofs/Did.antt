@@ -6,12 +6,9 @@ use Rattle.fq_model.specs.declared.parts.Status.{Status}
 use Rattle.history_lock.specs.Passes.{LockView}
 use Rattle.status_board.specs.Boards.{BoardView, ReaderView}
 use Rattle.desk.specs.declared.floor.Crew.{Crew}
-use Rattle.desk.specs.declared.tokens.Worker.{Worker}
 use Rattle.gate_rules.specs.declared.counters.Counters.{Counters}
-use Rattle.gate_rules.specs.declared.logged_gate.Asked.{Asked}
 use Rattle.worker_gate.specs.declared.pool.Hand.{Hand}
-use Rattle.worker_gate.specs.declared.pool.Hand.TheVariants.{Work, Watch}
-use Rattle.worker_gate.specs.Running.{Worked}
+use Rattle.worker_gate.specs.declared.pool.Hand.TheVariants.{Watch}
 use Rattle.worker_gate.specs.Watching.{Watched}
 use Rattle.worker_gate.specs.Hands.{HandDid, HandsDid}
 
@@ -19,11 +16,6 @@ module _ {J G : Type 0} (label : J → ℕ) (lock : LockView Crew) (shared : Opt
   -- a hand has done its part, where an equal hand has
   pub did_so : (hand known new : Hand J G) → hand ≡ known → HandDid label lock shared course_of cost_of Tells known new → HandDid label lock shared course_of cost_of Tells hand new
   did_so hand known new is did = subst (λ h. HandDid label lock shared course_of cost_of Tells h new) (sym is) did
-
-  pub did_work : (hand : Hand J G) (slot slot2 : Option Worker) (log log2 : List Asked) (worker worker2 : Worker) → hand ≡ Work slot log → slot ≡ Some worker → slot2 ≡ Some worker2
-      → Worked lock course_of cost_of Tells worker worker2 log log2 → HandDid label lock shared course_of cost_of Tells hand (Work slot2 log2)
-  did_work hand slot slot2 log log2 worker worker2 is was now w =
-      did_so hand (Work slot log) (Work slot2 log2) is (worker, worker2, log2, was, ap (λ s. let h : Hand J G = Work s log2 in h) now, w)
 
   pub did_watch : (hand : Hand J G) (board : BoardView) (reader reader2 : ReaderView) (left left2 expected : ℕ) (seen seen2 : Vec Status Global) → hand ≡ Watch reader left expected seen → shared ≡ Some board → left2 ≡ 0
       → Watched board left reader reader2 seen.items seen2.items → HandDid label lock shared course_of cost_of Tells hand (Watch reader2 left2 expected seen2)

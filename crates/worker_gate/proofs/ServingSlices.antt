@@ -1,5 +1,6 @@
 -- A request as far as its slices were run.
-use Rattle.std.proofs.Common.{length, map, refl, ◌<◌, ◌≡◌, ℕ, suc, ◌+◌, ◌≤◌, ◌⊎◌, inl, inr, Bool, List, [], ◌∷◌, Option, Result, Err, sym, ap, ◌∙◌, subst, arith, add-one}
+use Rattle.std.proofs.Common.{length, map, refl, ◌<◌, ◌≡◌, ℕ, suc, ◌+◌, ◌≤◌, ◌⊎◌, inl, inr, Bool, List, [], ◌∷◌, Option, Result, Ok, Err, sym, ap, ◌∙◌, subst, arith, add-one}
+use Rattle.std.specs.Prelude.{IsOk}
 use Rattle.fq_model.specs.declared.limits.TheConstants.{MOST_SLICES}
 use Rattle.fq_model.specs.History.{history_of, last_use}
 use Rattle.fq_model.specs.declared.event.Call.TheVariants as call
@@ -10,7 +11,7 @@ use Rattle.desk.specs.declared.floor.Crew.{Crew}
 use Rattle.desk.specs.declared.refusals.DoneRefusal.{DoneRefusal}
 use Rattle.desk.specs.declared.tokens.Running.{Running}
 use Rattle.desk.specs.declared.tokens.Worker.{Worker}
-use Rattle.desk.specs.Replies.{done_cause, done_reply}
+use Rattle.desk.specs.Replies.{GoesOn, done_pass, done_reply}
 use Rattle.desk.specs.Tokens.{Stays, IsAnswered}
 use Rattle.vt_fixed.specs.declared.limits.TheConstants.{GREATEST_COST}
 use Rattle.gate_rules.specs.declared.counters.Counters.{Counters}
@@ -133,11 +134,15 @@ module _ (lock : LockView Crew) (Tells : ℕ → Type 0) (course_of : ℕ → Op
       let low : last_use (history_of old.pass.mine) old.request ≤ cost = subst (λ r. last_use (history_of old.pass.mine) r ≤ cost) (sym s.named.run.request) s.named.rising in
       done_step lock Tells cost old new m reply s.named.goes.stays.own stays tells low limit a
 
-  pub job_end : (old : Running) (new : Worker) (m cost : ℕ) (log2 : List Asked) (reply : Reply) → HasRunSlices lock Tells course_of cost_of label start old asked log2 cost → cost ≤ GREATEST_COST → Stays lock old.pass new.pass → Tells m
-      → IsAnswered lock.frame old.pass (call.Done old.pass.number m old.worker cost) reply new.pass → new.worker ≡ old.worker → HasRun lock Tells course_of cost_of label start new asked log2
-  job_end old new m cost log2 reply s limit stays tells a worker =
-      run_ends lock Tells course_of cost_of label cost start old new asked log2 reply s (slices_end old new.pass m cost log2 reply s limit stays tells a) worker
+  pub job_end : (old : Running) (result : Result Worker (Running × DoneRefusal)) (new : Worker) (m cost : ℕ) (log2 : List Asked) → HasRunSlices lock Tells course_of cost_of label start old asked log2 cost → cost ≤ GREATEST_COST → Stays lock old.pass (done_pass result) → Tells m
+      → IsAnswered lock.frame old.pass (call.Done old.pass.number m old.worker cost) (done_reply result) (done_pass result) → GoesOn old result → result ≡ Ok new → HasRun lock Tells course_of cost_of label start new asked log2
+  job_end old result new m cost log2 s limit stays tells a on is =
+      let stays2 : Stays lock old.pass new.pass = subst (λ r. Stays lock old.pass (done_pass r)) is stays in
+      let answered : IsAnswered lock.frame old.pass (call.Done old.pass.number m old.worker cost) answer.Accepted new.pass = subst (λ r. IsAnswered lock.frame old.pass (call.Done old.pass.number m old.worker cost) (done_reply r) (done_pass r)) is a in
+      let worker : new.worker ≡ old.worker = subst (GoesOn old) is on in
+      run_ends lock Tells course_of cost_of label cost start old new asked log2 answer.Accepted s (slices_end old new.pass m cost log2 answer.Accepted s limit stays2 tells answered) worker
 
--- so no completion is refused
-pub no_refusal : (result : Result Worker (Running × DoneRefusal)) (back : Running × DoneRefusal) → done_reply result ≡ answer.Accepted → result ≡ Err back → ⊥
-no_refusal result back told is = let no : answer.Refused (done_cause back.1) ≡ answer.Accepted = sym (ap done_reply is) ∙ told in absurd (cc)
+-- so each completion is accepted
+pub accepted_is_ok : (result : Result Worker (Running × DoneRefusal)) → done_reply result ≡ answer.Accepted → IsOk result
+accepted_is_ok (Ok worker) told = refl
+accepted_is_ok (Err back) told = absurd (cc)

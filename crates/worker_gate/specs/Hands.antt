@@ -16,7 +16,7 @@ module _ {J G : Type 0} where
   -- the hand has a token of this lock, or it has a reader of the shared board, and room for the statuses that it reads
   abbrev pub IsHandOf : LockView Crew → (shared : Option BoardView) → Hand J G → Type 0
   IsHandOf lock shared (Feed who rows total stopped) = IsOf lock who.pass
-  IsHandOf lock shared (Work slot log) = (worker : Worker) × (slot ≡ Some worker) × IsOf lock worker.pass
+  IsHandOf lock shared (Work worker log) = IsOf lock worker.pass
   IsHandOf lock shared (Watch reader left expected seen) = (board : BoardView) × (shared ≡ Some board) × IsReaderOf board reader
       × (length seen.items + left ≤ vec_capacity seen)
 
@@ -29,8 +29,8 @@ module _ {J G : Type 0} where
     HandDid (Feed who rows total stopped) new =
         (who2 : Submitter) × (rows2 : _) × (stopped2 : _) × (new ≡ Feed who2 rows2 total stopped2)
         × Feeds label (λ row. row.kind) lock Tells total rows.items who who2 stopped2 rows2.items
-    HandDid (Work slot log) new =
-        (worker : Worker) × (worker2 : Worker) × (log2 : _) × (slot ≡ Some worker) × (new ≡ Work (Some worker2) log2)
+    HandDid (Work worker log) new =
+        (worker2 : Worker) × (log2 : _) × (new ≡ Work worker2 log2)
         × Worked lock course_of cost_of Tells worker worker2 log log2
     HandDid (Watch reader left expected seen) new =
         (board : BoardView) × (reader2 : ReaderView) × (seen2 : _) × (shared ≡ Some board)

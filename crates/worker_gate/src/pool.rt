@@ -6,6 +6,7 @@ ghost use Rattle.worker_gate.specs.Hands.{AreHandsOf, HandDid, IsHandOf, HandsDi
 use crate::feed::{OwnKind, feed_rows};
 use crate::watch::watch;
 use crate::work::work;
+use core::mem::replace_with;
 use desk::{DeskOf, Floor, Submitter, Worker};
 use fq_io::Clock;
 use fq_model::event::Cause;
@@ -32,8 +33,8 @@ pub enum Hand<J, G> {
         total: u32,
         stopped: Option<(Row<J>, Cause)>,
     },
-    /// A worker serves; its token is there before and afterwards, with a log of the slices that it asks for.
-    Work(Option<Worker>, SliceLog<G>),
+    /// A worker serves, and logs the slices that it asks for.
+    Work(Worker, SliceLog<G>),
     /// A watcher reads the status of a desk that shows its past, `left` times. Afterwards `left` is 0, and `seen`,
     /// which has room for them, has the statuses behind its older ones. The reads are spread over the `expected`
     /// entries of the history, as long as entries come.
@@ -45,7 +46,58 @@ pub enum Hand<J, G> {
     },
 }
 
+// Does the part of a hand, and gives it back.
 fn run<J: Job + Drop, X: Chooser, G: Gate<J>, K: Clock, F: Cost, R: Wait>(
+    desk: &DeskOf<Floor<J, X>>,
+    rt: &R,
+    hand: Hand<J, G>,
+    gate: &LoggedGate<G>,
+    clock: &K,
+    rule: &CostRule<F>,
+) -> Hand<J, G>
+    requires { IsHandOf desk.now.lock (option_map arc_value desk.now.board) hand }
+    ensures { HandDid J.label_of desk.now.lock (option_map arc_value desk.now.board) (G.course gate.now)
+        (F.cost_of rule.now) (K.tells clock.now) hand result }
+{
+    match hand {
+        Hand::Feed {
+            mut who,
+            mut rows,
+            total,
+            stopped: _,
+        } => {
+            let stopped = feed_rows(desk, rt, &mut who, &mut rows, total, clock, &OwnKind);
+            Hand::Feed {
+                who,
+                rows,
+                total,
+                stopped,
+            }
+        }
+        Hand::Work(worker, mut log) => {
+            let worker = work(desk, rt, worker, gate, &mut log, clock, rule);
+            Hand::Work(worker, log)
+        }
+        Hand::Watch {
+            mut reader,
+            mut left,
+            expected,
+            mut seen,
+        } => {
+            let board = desk.board().unwrap();
+            watch(board, &mut reader, &mut left, expected, &mut seen);
+            Hand::Watch {
+                reader,
+                left,
+                expected,
+                seen,
+            }
+        }
+    }
+}
+
+// Does the part of the hand that stands there.
+fn run_there<J: Job + Drop, X: Chooser, G: Gate<J>, K: Clock, F: Cost, R: Wait>(
     desk: &DeskOf<Floor<J, X>>,
     rt: &R,
     hand: &mut Hand<J, G>,
@@ -57,34 +109,11 @@ fn run<J: Job + Drop, X: Chooser, G: Gate<J>, K: Clock, F: Cost, R: Wait>(
     ensures { HandDid J.label_of desk.now.lock (option_map arc_value desk.now.board) (G.course gate.now)
         (F.cost_of rule.now) (K.tells clock.now) hand.old hand.new }
 {
-    match hand {
-        Hand::Feed {
-            who,
-            rows,
-            total,
-            stopped,
-        } => {
-            *stopped = feed_rows(desk, rt, who, rows, *total, clock, &OwnKind);
-        }
-        Hand::Work(slot, log) => {
-            let Some(worker) = slot.take() else {
-                unreachable!()
-            };
-            let back = slot.replace(work(desk, rt, worker, gate, log, clock, rule));
-            let None = back else { unreachable!() };
-        }
-        Hand::Watch {
-            reader,
-            left,
-            expected,
-            seen,
-        } => {
-            let Some(board) = desk.board() else {
-                unreachable!()
-            };
-            watch(board, reader, left, *expected, seen);
-        }
-    }
+    replace_with(
+        hand,
+        (),
+        |hand, _| (run(desk, rt, hand, gate, clock, rule), ()),
+    );
 }
 
 /// Each hand does its part in a thread of its own, and has its token back at the end. Where threads cannot be started
@@ -117,7 +146,7 @@ pub fn pool<
             rt,
             hands,
             threads,
-            &|_, hand: &mut Hand<J, G>| { run(desk, rt, hand, gate, clock, rule) },
+            &|_, hand: &mut Hand<J, G>| { run_there(desk, rt, hand, gate, clock, rule) },
         );
         hands.reverse();
     }

@@ -82,9 +82,7 @@ fn run_job<J: Job + Drop, X: Chooser, G: Gate<J>, K: Clock, F: Cost, R: Wait>(
         (J.label_of job.now) running result log.old log.new }
 {
     let cost = run_slices(desk, rt, &mut running, job, gate, log, clock, rule);
-    let ended = desk.done(rt, running, clock.now(), cost);
-    let Ok(worker) = ended else { unreachable!() };
-    worker
+    desk.done(rt, running, clock.now(), cost).unwrap()
 }
 
 // The worker after its turn to take a job.

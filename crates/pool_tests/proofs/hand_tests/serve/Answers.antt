@@ -1,4 +1,4 @@
-use Rattle.std.proofs.Common.{ℕ, List, [], ◌∷◌, Option, Some, None, option_map, ◌∙◌, refl, sym, subst, arith}
+use Rattle.std.proofs.Common.{ℕ, List, [], ◌∷◌, Option, option_map, ◌∙◌, sym, subst, arith}
 use Rattle.std.specs.Arc.{arc_value}
 use Rattle.std.proofs.lemmas.List.Elements.{All-cons, All-nil}
 use Rattle.history_lock.specs.Passes.{LockView}
@@ -14,13 +14,12 @@ use Rattle.pool_tests.proofs.hand_tests.serve.Goals as goal
 module _ {G : Type 0} where
   feeds : (lock : LockView Crew) (shared : Option BoardView) (x : Hand ℕ G) → IsFeeding lock x → IsHandOf lock shared x
   feeds lock shared (Feed who rows total stopped) h = h.0
-  feeds lock shared (Work slot log) h = absurd h
+  feeds lock shared (Work worker log) h = absurd h
   feeds lock shared (Watch reader left expected seen) h = absurd h
 
   works : (lock : LockView Crew) (shared : Option BoardView) (x : Hand ℕ G) → IsWorking lock x → IsHandOf lock shared x
   works lock shared (Feed who rows total stopped) h = absurd h
-  works lock shared (Work None log) h = absurd h
-  works lock shared (Work (Some worker) log) h = (worker, refl, h)
+  works lock shared (Work worker log) h = h
   works lock shared (Watch reader left expected seen) h = absurd h
 
   hands_of : (lock : LockView Crew) (shared : Option BoardView) (hands : List (Hand ℕ G)) → AreHired lock hands → AreHandsOf lock shared hands
@@ -35,14 +34,13 @@ module _ {G : Type 0} where
   module _ (lock : LockView Crew) (shared : Option BoardView) (course_of : ℕ → Option (List Counters)) (cost_of : Counters → ℕ) (Tells : ℕ → Type 0) where
     fed : (x y : Hand ℕ G) → IsFeeding lock x → HandDid (λ (job : ℕ). job) lock shared course_of cost_of Tells x y → IsFeeding lock y
     fed (Feed who rows total stopped) y h (who2, rows2, stopped2, is, did) = subst (IsFeeding lock) (sym is) (did.stays.own, did.stays.number ∙ h.1)
-    fed (Work slot log) y h did = absurd h
+    fed (Work worker log) y h did = absurd h
     fed (Watch reader left expected seen) y h did = absurd h
 
     worked : (x y : Hand ℕ G) → IsWorking lock x → HandDid (λ (job : ℕ). job) lock shared course_of cost_of Tells x y → IsWorking lock y
     worked (Feed who rows total stopped) y h did = absurd h
-    worked (Work None log) y h did = absurd h
     worked (Watch reader left expected seen) y h did = absurd h
-    worked (Work (Some worker) log) y h (before, after, log2, same, is, did) = subst (IsWorking lock) (sym is) did.stays.own
+    worked (Work worker log) y h (after, log2, is, did) = subst (IsWorking lock) (sym is) did.stays.own
 
     all_did : (olds news : List (Hand ℕ G)) → AreHired lock olds → HandsDid (λ (job : ℕ). job) lock shared course_of cost_of Tells olds news → AreHired lock news
     all_did [] news h did = absurd h
