@@ -109,7 +109,8 @@ fn search(cap: u64, rows: &[Backlog], low: u64, high: u64) -> u64
     low
 }
 
-// A level between two to look at next, where `rise` is the next level at which gifts rise, if it is above the lower one.
+// A level between two to look at next, where `rise` is the next level at which gifts rise, if it is above the lower
+// one.
 // Where gifts rise at few levels between them, as where weights are equal, it is the first of these levels, or the last
 // level below `high` if there is none; else it is the middle.
 fn probe(low: u64, high: u64, rise: u64) -> u64

@@ -75,11 +75,14 @@ module _ {J : Type 0} where
     abbrev pub IsRefused : Config → (ℕ → Type 0) → ℕ → History → Option (Row J × Cause) → Type 0
     IsRefused C Tells number seen None = Unit {0}
     IsRefused C Tells number seen (Some (row, why)) = (m : ℕ) × Tells m
-        × Answers C seen (call.Submit number m row.tenant (kind_for row) row.declared (label row.job)) (answer.Refused why) seen
+        × Answers C seen (call.Submit number m row.tenant (kind_for row) row.declared (label row.job))
+        (answer.Refused why) seen
 
     -- The submitter has submitted its rows in order up to the first that was refused, and has closed where it was to
     -- close, at moments that the clock tells
-    pub record Feeds (lock : LockView Crew) (Tells : ℕ → Type 0) (total : ℕ) (rows : List (Row J)) (old new : Submitter) (stopped : Option (Row J × Cause)) (rest : List (Row J)) : Type 0 where
+    pub record Feeds
+        (lock : LockView Crew) (Tells : ℕ → Type 0) (total : ℕ) (rows : List (Row J)) (old new : Submitter)
+        (stopped : Option (Row J × Cause)) (rest : List (Row J)) : Type 0 where
       pub stays : Stays lock old.pass new.pass
       pub seen : IsPrefix old.pass.seen new.pass.seen
       pub sent : List (Row J)

@@ -17,13 +17,16 @@ module _ {J G : Type 0} where
   abbrev pub IsHandOf : LockView Crew → (shared : Option BoardView) → Hand J G → Type 0
   IsHandOf lock shared (Feed who rows total stopped) = IsOf lock who.pass
   IsHandOf lock shared (Work worker log) = IsOf lock worker.pass
-  IsHandOf lock shared (Watch reader left expected seen) = (board : BoardView) × (shared ≡ Some board) × IsReaderOf board reader
+  IsHandOf lock shared (Watch reader left expected seen) =
+      (board : BoardView) × (shared ≡ Some board) × IsReaderOf board reader
       × (length seen.items + left ≤ vec_capacity seen)
 
   abbrev pub AreHandsOf : LockView Crew → Option BoardView → List (Hand J G) → Type 0
   AreHandsOf lock shared hands = All (IsHandOf lock shared) hands
 
-  module _ (label : J → ℕ) (lock : LockView Crew) (shared : Option BoardView) (course_of : ℕ → Option (List Counters)) (cost_of : Counters → ℕ) (Tells : ℕ → Type 0) where
+  module _
+      (label : J → ℕ) (lock : LockView Crew) (shared : Option BoardView) (course_of : ℕ → Option (List Counters))
+      (cost_of : Counters → ℕ) (Tells : ℕ → Type 0) where
     -- the hand has its token or its reader back, and has done its part
     abbrev pub HandDid : Hand J G → Hand J G → Type 0
     HandDid (Feed who rows total stopped) new =

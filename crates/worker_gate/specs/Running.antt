@@ -138,11 +138,14 @@ EndsWork _ = ⊥
 -- at the history that it has seen, the worker gets one of the two replies
 abbrev pub IsTurnedAway : Config → Worker → Type 0
 IsTurnedAway C worker = (moment : ℕ) × (reply : Reply) × EndsWork reply
-    × Answers C (history_of worker.pass.seen) (call.Take worker.pass.number moment worker.worker) reply (history_of worker.pass.seen)
+    × Answers C (history_of worker.pass.seen) (call.Take worker.pass.number moment worker.worker) reply
+    (history_of worker.pass.seen)
 
 -- The worker is turned away now, and has added to its own entries the Take, the Reports and the Done of one job after
 -- another, at moments that the clock tells. It has added the slices of these jobs to the log
-pub record Worked (lock : LockView Crew) (course_of : ℕ → Option (List Counters)) (cost_of : Counters → ℕ) (Tells : ℕ → Type 0) (old new : Worker) (asked asked2 : List Asked) : Type 0 where
+pub record Worked
+    (lock : LockView Crew) (course_of : ℕ → Option (List Counters)) (cost_of : Counters → ℕ) (Tells : ℕ → Type 0)
+    (old new : Worker) (asked asked2 : List Asked) : Type 0 where
   pub stays : Stays lock old.pass new.pass
   pub worker : new.worker ≡ old.worker
   pub seen : IsPrefix old.pass.seen new.pass.seen

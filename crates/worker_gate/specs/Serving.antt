@@ -22,8 +22,15 @@ use Rattle.worker_gate.specs.Running.{Use, JobRun, with_uses, with_runs, acts_of
 
 -- the run of the request by its worker
 abbrev pub run_of : Running → ℕ → List Counters → Slice → List Use → ℕ → JobRun
-run_of running label mores last uses cost =
-    record { request = running.request; estimate = running.estimate; label = label; mores = mores; last = last; uses = uses; cost = cost }
+run_of running label mores last uses cost = record {
+  request = running.request;
+  estimate = running.estimate;
+  label = label;
+  mores = mores;
+  last = last;
+  uses = uses;
+  cost = cost;
+}
 
 -- the token is of this lock, and nothing was reported of its request
 pub record IsAtStart (lock : LockView Crew) (running : Running) : Type 0 where
@@ -69,7 +76,8 @@ module _ (lock : LockView Crew) (Tells : ℕ → Type 0) where
       pub last : Slice
       pub uses : List Use
       pub cost : ℕ
-      pub acts_are : acts_of new.pass.mine ≡ Done old.worker old.request cost ∷ with_uses old.worker old.request uses (acts_of old.pass.mine)
+      pub acts_are : acts_of new.pass.mine
+          ≡ Done old.worker old.request cost ∷ with_uses old.worker old.request uses (acts_of old.pass.mine)
       pub few : length uses < MOST_SLICES
       pub kept :
           AreKeptWhereRoom lock.frame.config old.pass.number old.worker old.request
