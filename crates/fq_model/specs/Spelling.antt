@@ -13,7 +13,9 @@ is_digit b = nat_le 48 b && nat_le b 57
 -- an ASCII letter, a digit, `_`, `-` or `.`
 abbrev pub is_name_byte : ℕ → Bool
 is_name_byte b =
-    is_digit b || ((nat_le 65 b && nat_le b 90) || ((nat_le 97 b && nat_le b 122) || ((b == 95) || ((b == 45) || (b == 46)))))
+    is_digit b
+    || ((nat_le 65 b && nat_le b 90)
+    || ((nat_le 97 b && nat_le b 122) || ((b == 95) || ((b == 45) || (b == 46)))))
 
 -- 1 to 64 such bytes
 abbrev pub is_name : List ℕ → Bool

@@ -6,7 +6,7 @@ use std::error::Error;
 use std::fmt;
 
 /// The act of an entry. Uses and costs are microseconds.
-#[derive(Clone, Copy, PartialEq, Eq)]
+#[derive(Clone, Copy, Debug, PartialEq, Eq)]
 pub enum Act {
     /// A request came. `declared` is the cost that its submitter names, `label` the number of its job.
     Submit {
@@ -52,7 +52,7 @@ pub enum Act {
 }
 
 /// The record of an accepted call: its caller, its moment in microseconds, and its act.
-#[derive(Clone, Copy, PartialEq, Eq)]
+#[derive(Clone, Copy, Debug, PartialEq, Eq)]
 pub struct Entry {
     pub who: u32,
     pub moment: u64,
@@ -203,7 +203,7 @@ pub enum Call {
 }
 
 /// The answer to a call.
-#[derive(Clone, Copy)]
+#[derive(Clone, Copy, Debug)]
 pub enum Reply {
     /// The submitted request has this number.
     Request(u32),

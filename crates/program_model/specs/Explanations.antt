@@ -48,7 +48,8 @@ pub record IsExplained (C : Config) (entries : List Entry) (request : ℕ) (x : 
   pub estimate : ℕ
   pub split : entries ≡ before ++ record { who = who; moment = x.moment; act = Take x.worker request estimate } ∷ after
   pub vtime_is : x.vtime ≡ pos (virtual_time C (history_of before) x.moment)
-  pub rows_are : AreRows (turn_at C (history_of before) x.moment x.worker) (heads_at C (history_of before) x.moment) x.rows.items
+  pub rows_are : AreRows (turn_at C (history_of before) x.moment x.worker) (heads_at C (history_of before) x.moment)
+      x.rows.items
 
 -- the explanation of a request, or none where it was not taken
 abbrev pub Explains : Config → List Entry → ℕ → Option Explained → Type 0

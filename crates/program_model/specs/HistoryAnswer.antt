@@ -48,7 +48,8 @@ cells_answer cells = Message 7 (message_line (cells_text cells))
 -- the answer from a history, given in order of time
 abbrev pub history_answer : HistoryPrint → ℕ → Config → (tenants kinds : List (List ℕ)) → List Entry → Answer
 history_answer print slot C tenants kinds past =
-    if makes_report print && has_many_cells slot C (history_of past) then cells_answer (cells_of C (history_of past) slot)
+    if makes_report print && has_many_cells slot C (history_of past)
+    then cells_answer (cells_of C (history_of past) slot)
     else Text 0 (history_output print C tenants kinds past slot)
 
 -- the answer is that of one of these histories; its entries in order of time

@@ -17,7 +17,8 @@ with_gained (Some e) P = e ∷ P
 -- Entry `place`, counted from 1, is the first that isn't legal: the entries before it are legal, and with it they
 -- aren't. At those before it, its call is answered by this reply, and the history then gains the entry that is wanted
 -- in its place, or none.
-pub record IsFirstBad (C : Config) (entries : List Entry) (place : ℕ) (reply : Reply) (wanted : Option Entry) : Type 0 where
+pub record IsFirstBad
+    (C : Config) (entries : List Entry) (place : ℕ) (reply : Reply) (wanted : Option Entry) : Type 0 where
   pub before : List Entry
   pub given : Entry
   pub after : List Entry

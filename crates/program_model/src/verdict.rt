@@ -3,7 +3,7 @@
 use fq_model::event::{Entry, Reply};
 
 /// Whether the entries of a journal are a legal history.
-#[derive(Clone, Copy)]
+#[derive(Clone, Copy, Debug)]
 pub enum Verdict {
     /// They are.
     Legal,

@@ -4,12 +4,11 @@ ghost use Rattle.tag_lead.specs.declared.fault.LeadFault.TheVariants as faults;
 
 use program_model::verdict::Verdict;
 use std::alloc::AllocError;
-use std::fmt;
 use tag_difference::fault::GapFault;
 use thiserror::Error;
 
 /// Why entries have no lead of one tenant over another.
-#[derive(Clone, Copy, Error)]
+#[derive(Clone, Copy, Debug, Error)]
 pub enum LeadFault {
     /// They are not a legal history: the verdict on them.
     #[error("the entries are not a legal history")]
@@ -17,13 +16,6 @@ pub enum LeadFault {
     /// There was no memory.
     #[error("out of memory")]
     NoMemory,
-}
-
-// (a verdict has an entry, which has no `Debug`)
-impl fmt::Debug for LeadFault {
-    fn fmt<W: fmt::Write>(&self, f: &mut fmt::Formatter<W>) -> fmt::Result {
-        fmt::Display::fmt(self, f)
-    }
 }
 
 impl From<AllocError> for LeadFault {
