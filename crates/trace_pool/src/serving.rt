@@ -135,27 +135,14 @@ fn serve_at_desk<'a, X: Chooser + Drop + Send, K: Clock + Sync, R: Threads + Wai
         × AreReadings (pool_config order.entry.trace.now order.entry.options) s.history.past 0 s.statuses.items) }
     ensures fault { IfErr result (λ f. f ≡ faults.NoMemory) }
 {
-    let Order {
-        trace,
-        options,
-        times,
-    } = order;
-    let Supplies {
-        config,
-        queues,
-        room,
-    } = supplies;
     let Room {
         hands,
         statuses,
         readers,
-    } = room;
-    let rows = trace.rows();
-    let Ok((desk, reader, submitters, workers)) = DeskOf::open_shown(
-        alloc,
-        config,
-        submitters(rows),
-    ) else {
+    } = supplies.room;
+    let rows = order.trace.rows();
+    let opened = DeskOf::open_shown(alloc, supplies.config, submitters(rows));
+    let Ok((desk, reader, submitters, workers)) = opened else {
         hands.destroy_empty();
         readers.destroy_empty();
         return Err(PoolFault::NoMemory);
@@ -167,26 +154,22 @@ fn serve_at_desk<'a, X: Chooser + Drop + Send, K: Clock + Sync, R: Threads + Wai
             readers,
             statuses: Vec::new(alloc),
         },
-        queues,
+        queues: supplies.queues,
         watcher: Hand::Watch {
             reader,
-            left: times,
-            expected: needed(trace, options.refresh) as u32,
+            left: order.times,
+            expected: needed(order.trace, order.options.refresh) as u32,
             seen: statuses,
         },
         hands,
     };
-    let tokens = serve_rows::<X, K, R>(rt, &desk, rows, options.refresh, clock, team);
-    let Tokens {
-        submitters,
-        workers,
-        readers,
-        statuses,
-    } = tokens;
-    let scheduler = desk.finish_shown(submitters, workers, readers).unwrap();
+    let tokens = serve_rows::<X, K, R>(rt, &desk, rows, order.options.refresh, clock, team);
+    let scheduler = desk
+        .finish_shown(tokens.submitters, tokens.workers, tokens.readers)
+        .unwrap();
     Ok(Served {
         history: scheduler.into_history(),
-        statuses,
+        statuses: tokens.statuses,
     })
 }
 
