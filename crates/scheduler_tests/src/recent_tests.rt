@@ -1,7 +1,7 @@
 use fq_model::config::Checked;
 use fq_model::event::{Call, Cause, Due, Reply};
 use rival_policies::plain::PlainChooser;
-use sched_state::Scheduler;
+use sched_state::{Recent, Scheduler};
 use std::alloc::Global;
 use std::process::Abort;
 use test_samples::sample_config;

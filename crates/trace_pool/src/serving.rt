@@ -135,13 +135,18 @@ fn serve_at_desk<'a, X: Chooser + Drop + Send, K: Clock + Sync, R: Threads + Wai
         × AreReadings (pool_config order.entry.trace.now order.entry.options) s.history.past 0 s.statuses.items) }
     ensures fault { IfErr result (λ f. f ≡ faults.NoMemory) }
 {
+    let Supplies {
+        config,
+        queues,
+        room,
+    } = supplies;
     let Room {
         hands,
         statuses,
         readers,
-    } = supplies.room;
+    } = room;
     let rows = order.trace.rows();
-    let opened = DeskOf::open_shown(alloc, supplies.config, submitters(rows));
+    let opened = DeskOf::open_shown(alloc, config, submitters(rows));
     let Ok((desk, reader, submitters, workers)) = opened else {
         hands.destroy_empty();
         readers.destroy_empty();
@@ -154,7 +159,7 @@ fn serve_at_desk<'a, X: Chooser + Drop + Send, K: Clock + Sync, R: Threads + Wai
             readers,
             statuses: Vec::new(alloc),
         },
-        queues: supplies.queues,
+        queues,
         watcher: Hand::Watch {
             reader,
             left: order.times,
@@ -164,12 +169,16 @@ fn serve_at_desk<'a, X: Chooser + Drop + Send, K: Clock + Sync, R: Threads + Wai
         hands,
     };
     let tokens = serve_rows::<X, K, R>(rt, &desk, rows, order.options.refresh, clock, team);
-    let scheduler = desk
-        .finish_shown(tokens.submitters, tokens.workers, tokens.readers)
-        .unwrap();
+    let Tokens {
+        submitters,
+        workers,
+        readers,
+        statuses,
+    } = tokens;
+    let scheduler = desk.finish_shown(submitters, workers, readers).unwrap();
     Ok(Served {
         history: scheduler.into_history(),
-        statuses: tokens.statuses,
+        statuses,
     })
 }
 
