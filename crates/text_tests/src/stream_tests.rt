@@ -66,7 +66,7 @@ fn expect_streamed<R: Abort>(rt: &R, alloc: Global, every: usize)
         panic!(rt; "a script")
     };
     let (config, tenants, kinds, calls) = script.into_parts();
-    let Ok(mut recent) = Kept::open(alloc, config, KEPT) else {
+    let Ok(mut recent) = Kept::open_keeping(alloc, config, KEPT) else {
         panic!(rt; "no memory for a scheduler")
     };
     let mut text = Vec::new(alloc);
@@ -105,7 +105,7 @@ fn a_log_that_comes_too_late(rt: HostRuntime) {
         panic!(&rt; "a script")
     };
     let (config, _, _, calls) = script.into_parts();
-    let Ok(mut recent) = Kept::open(rt.alloc(), config, KEPT) else {
+    let Ok(mut recent) = Kept::open_keeping(rt.alloc(), config, KEPT) else {
         panic!(&rt; "no memory for a scheduler")
     };
     for call in calls.as_slice() {
