@@ -53,9 +53,6 @@ impl Name {
         ensures text { result.now ≡ self.now }
         ensures spelled { IsTrue (is_name result.now) }
     {
-        match str::from_utf8(&self.bytes[..self.len]) {
-            Ok(text) => text,
-            Err(_) => unreachable!(),
-        }
+        str::from_utf8(&self.bytes[..self.len]).unwrap()
     }
 }

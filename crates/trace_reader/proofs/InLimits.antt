@@ -1,5 +1,5 @@
 -- The configuration of a trace is in its limits.
-use Rattle.std.proofs.Common.{ℕ, ◌*◌, ◌≤◌, ◌≡◌, max, length, arith, List, subst, sym, ap, refl, ◌∙◌, Some, None}
+use Rattle.std.proofs.Common.{ℕ, ◌*◌, ◌≤◌, ◌≡◌, max, length, arith, List, Result, Ok, Err, IsOk, IfErr, subst, sym, ap, refl, ◌∙◌, Some, None}
 use Rattle.fq_model.specs.declared.config.Config.{Config}
 use Rattle.program_model.specs.declared.trace.RunOptions.{RunOptions}
 use Rattle.fq_model.specs.declared.limits.TheConstants.{MOST_PAIRS, LEAST_ENTRIES, MOST_ENTRIES}
@@ -24,10 +24,11 @@ module _ (T : Trace) (O : RunOptions) where
     initial = options.initial;
   }
 
-  -- a configuration of these numbers has no fault
-  pub no_fault_here : (weights : List ℕ) (kinds entries requests : ℕ) (f : ConfigFault) → InLimits (trace_config T O entries) → entries ≤ MOST_ENTRIES → weights ≡ T.weights → kinds ≡ length T.kinds → requests ≡ max 1 (length T.rows) →
-      config_fault (record { workers = O.workers; weights = weights; kinds = kinds; entries = entries; requests = requests; policy = O.policy; estimate = O.estimate; initial = O.initial }) ≡ Some f → ⊥
-  no_fault_here weights kinds entries requests f p short w k r h =
+  -- a configuration of these numbers is accepted
+  pub is_accepted : {A : Type 0} (weights : List ℕ) (kinds entries requests : ℕ) (made : Result A ConfigFault) → InLimits (trace_config T O entries) → entries ≤ MOST_ENTRIES → weights ≡ T.weights → kinds ≡ length T.kinds → requests ≡ max 1 (length T.rows) →
+      IfErr made (λ f. config_fault (record { workers = O.workers; weights = weights; kinds = kinds; entries = entries; requests = requests; policy = O.policy; estimate = O.estimate; initial = O.initial }) ≡ Some f) → IsOk made
+  is_accepted weights kinds entries requests (Ok checked) p short w k r h = refl
+  is_accepted weights kinds entries requests (Err f) p short w k r h =
       let D : Config = record { workers = O.workers; weights = weights; kinds = kinds; entries = entries; requests = requests; policy = O.policy; estimate = O.estimate; initial = O.initial } in
       let same : D ≡ trace_config T O entries = rw (w, k, r) refl in
-      let n : None ≡ Some f = sym (no_fault (trace_config T O entries) p short) ∙ sym (ap config_fault same) ∙ h in cc
+      let n : None ≡ Some f = sym (no_fault (trace_config T O entries) p short) ∙ sym (ap config_fault same) ∙ h in absurd (cc)

@@ -35,10 +35,7 @@ pub fn config_of(
         estimate: options.estimate,
         initial: options.initial,
     };
-    match config.check() {
-        Ok(checked) => Ok(checked),
-        Err(_) => unreachable!(),
-    }
+    Ok(config.check().unwrap())
 }
 
 /// The number of submitters: one more than the greatest that a request names, or 1 where there are no requests. The
