@@ -14,6 +14,7 @@ ghost use Rattle.compare_all.specs.Rows.{IsMade, IsMadeOf};
 
 use fitted_chooser::chooser::ProgramChooser;
 use fq_model::config::{Checked, Estimator, Policy};
+use fq_model::limits::MOST_CELLS;
 use lag_report::automatic::auto_slot;
 use lag_report::extremes::{greatest_lag, least_lag};
 use lag_report::fault::ReportFault;
@@ -24,16 +25,19 @@ use rayon::prelude::*;
 use sched_journal::History;
 use std::alloc::{AllocError, Global};
 use std::thread::Threads;
+use thiserror::Error;
 use trace_reader::trace::Trace;
 use trace_runner::fault::SimFault;
 use trace_runner::runner::simulate;
 
 /// Why there is no row.
-#[derive(Clone, Copy)]
+#[derive(Clone, Copy, Debug, PartialEq, Eq, Error)]
 pub enum RowFault {
     /// Its report would have this number of cells, which is too many.
+    #[error("a report of {0} cells, and there may be {MOST_CELLS}")]
     TooLong(u64),
     /// Memory ran out.
+    #[error("out of memory")]
     NoMemory,
 }
 
