@@ -2,7 +2,7 @@
 ghost use Rattle.std.specs.Prelude.{◌≡◌, None, IfSome};
 ghost use Rattle.history_lock.specs.Passes.{IsOf};
 
-use crate::samples::{configured, ended, opened};
+use crate::samples::{configured, ended, expect_same_at, expect_true, opened};
 use desk::{Desk, Submitter, Worker};
 use eligible_index::index::IndexChooser;
 use fq_io::Clock;
@@ -226,8 +226,8 @@ fn submits<X: Chooser, R: Wait + Abort, O: time::Clock + Files + Alloc>(
             ..idle
         },
     };
-    assert!(rt; desk.close(rt, who, 50).is_ok());
-    assert!(rt; comes_to(os, through, 1), "the worker sleeps on");
+    expect_true(rt, desk.close(rt, who, 50).is_ok());
+    expect_same_at(rt, "the worker sleeps on", comes_to(os, through, 1), true);
     seen
 }
 
@@ -296,18 +296,16 @@ fn watched<
     let mut gate = LoggedGate::new(CountingGate { run: &run });
     let mut place = Some(worker);
     let seen = beside(rt, os, &desk, &mut who, &mut place, &mut gate, &run, part);
-    let Some(worker) = place else {
-        panic!(rt; "the worker has its token")
-    };
+    let worker = place.expect(rt, "the worker has its token");
     let past = ended(rt, alloc, desk, who, worker);
-    assert!(rt; !past.is_empty());
+    expect_true(rt, !past.is_empty());
     seen
 }
 
 #[test]
 fn an_idle_worker_sleeps(rt: HostRuntime) {
     let seen = watched::<IndexChooser, HostRuntime, HostRuntime>(&rt, &rt, rt.alloc(), Part::Rest);
-    assert!(rt; seen.in_time);
+    expect_true(&rt, seen.in_time);
     assert!(rt; seen.asked <= 1, "the clock was asked {} times", seen.asked);
     assert!(rt; seen.ticks <= 5, "{} ticks were used", seen.ticks);
 }
@@ -320,12 +318,12 @@ fn jobs_that_find_the_worker_idle(rt: HostRuntime) {
         rt.alloc(),
         Part::Rounds,
     );
-    assert!(rt; seen.in_time);
+    expect_true(&rt, seen.in_time);
 }
 
 // The worker's take is answered Idle, and it takes again at once, since there was news.
 #[test]
 fn no_ring_is_lost(rt: HostRuntime) {
     let seen = watched::<IndexChooser, HostRuntime, HostRuntime>(&rt, &rt, rt.alloc(), Part::Ring);
-    assert!(rt; seen.in_time);
+    expect_true(&rt, seen.in_time);
 }

@@ -6,7 +6,7 @@ ghost use Rattle.desk.specs.Replies.{took_pass};
 ghost use Rattle.status_board.specs.Boards.{IsReaderOf};
 ghost use Rattle.pool_tests.specs.Watched.{IsReaderAt};
 
-use crate::samples::{configured, one, only, two};
+use crate::samples::{configured, expect_true, one, only, two};
 use desk::{Desk, Running, Submitter, Took, Worker};
 use eligible_index::index::IndexChooser;
 use fq_model::parts::Status;
@@ -57,8 +57,10 @@ fn ended<X: Chooser + Drop, R: Abort>(
     requires worker { IsOf desk.lock worker.pass }
 {
     let readers = two(rt, alloc, first, second);
-    let ended = desk.finish_shown(one(rt, alloc, who), one(rt, alloc, worker), readers);
-    assert!(rt; ended.is_ok());
+    let scheduler = desk
+        .finish_shown(one(rt, alloc, who), one(rt, alloc, worker), readers)
+        .expect(rt, "a turn was not served");
+    drop(scheduler);
 }
 
 // A reader's answer.
@@ -66,9 +68,7 @@ fn read<X: Chooser, R: Abort>(rt: &R, desk: &Desk<u64, X>, reader: &mut Reader) 
     requires { IsReaderAt desk.now.lock (option_map arc_value desk.now.board) reader.old }
     ensures { IsReaderAt desk.now.lock (option_map arc_value desk.now.board) reader.new }
 {
-    let Some(board) = desk.board() else {
-        panic!(rt; "a board")
-    };
+    let board = desk.board().expect(rt, "a board");
     reader.read(board)
 }
 
@@ -78,14 +78,8 @@ fn another<X: Chooser, R: Abort>(rt: &R, desk: &Desk<u64, X>, reader: &mut Reade
     ensures same { reader.new ≡ reader.old }
     ensures second { IsReaderAt desk.now.lock (option_map arc_value desk.now.board) result }
 {
-    let Some(board) = desk.board() else {
-        panic!(rt; "a board")
-    };
-    let second = board.second(reader);
-    let Ok(second) = second else {
-        panic!(rt; "no memory for a reader")
-    };
-    second
+    let board = desk.board().expect(rt, "a board");
+    board.second(reader).expect(rt, "memory for a reader")
 }
 
 /// Whether these are the numbers of a status.
@@ -102,6 +96,22 @@ pub fn tells(
         && status.vtime == vtime
         && status.waiting == waiting
         && status.running == running
+}
+
+// A reader is told these numbers of a status.
+fn expect_told<X: Chooser, R: Abort>(
+    rt: &R,
+    desk: &Desk<u64, X>,
+    reader: &mut Reader,
+    (entries, moment): (u64, u64),
+    vtime: i128,
+    (waiting, running): (u32, u32),
+)
+    requires { IsReaderAt desk.now.lock (option_map arc_value desk.now.board) reader.old }
+    ensures { IsReaderAt desk.now.lock (option_map arc_value desk.now.board) reader.new }
+{
+    let status = read(rt, desk, reader);
+    expect_true(rt, tells(status, entries, moment, vtime, waiting, running));
 }
 
 // Takes the request that waits, at 5.
@@ -131,15 +141,15 @@ fn done<X: Chooser, R: Wait + Abort>(rt: &R, desk: &Desk<u64, X>, running: Runni
 // One request from its coming to its end, with a look after each entry, and another reader's at the end.
 fn one_request<X: Chooser + Drop, R: Wait + Abort>(rt: &R, alloc: Global) {
     let (desk, mut reader, mut who, worker) = opened::<X, R>(rt, alloc, 10);
-    assert!(rt; tells(read(rt, &desk, &mut reader), 0, 0, 0, 0, 0));
-    assert!(rt; desk.submit(rt, &mut who, 5, 0, 0, 5, 7).is_ok());
-    assert!(rt; tells(read(rt, &desk, &mut reader), 1, 5, 0, 1, 0));
+    expect_told(rt, &desk, &mut reader, (0, 0), 0, (0, 0));
+    expect_true(rt, desk.submit(rt, &mut who, 5, 0, 0, 5, 7).is_ok());
+    expect_told(rt, &desk, &mut reader, (1, 5), 0, (1, 0));
     let running = taken(rt, &desk, worker);
-    assert!(rt; tells(read(rt, &desk, &mut reader), 2, 5, 0, 0, 1));
+    expect_told(rt, &desk, &mut reader, (2, 5), 0, (0, 1));
     let worker = done(rt, &desk, running);
-    assert!(rt; tells(read(rt, &desk, &mut reader), 3, 10, 5242880, 0, 0));
+    expect_told(rt, &desk, &mut reader, (3, 10), 5242880, (0, 0));
     let mut second = another(rt, &desk, &mut reader);
-    assert!(rt; tells(read(rt, &desk, &mut second), 3, 10, 5242880, 0, 0));
+    expect_told(rt, &desk, &mut second, (3, 10), 5242880, (0, 0));
     ended(rt, alloc, desk, who, worker, reader, second);
 }
 
@@ -207,13 +217,11 @@ fn side_by_side<X: Chooser + Send, R: Threads + Wait + Sync>(
 fn beside<X: Chooser + Drop + Send, R: Threads + Wait + Sync + Abort>(rt: &R, alloc: Global) {
     let (desk, mut reader, mut who, worker) = opened::<X, R>(rt, alloc, 2000);
     let mut second = another(rt, &desk, &mut reader);
-    let Some(board) = desk.board() else {
-        panic!(rt; "a board")
-    };
+    let board = desk.board().expect(rt, "a board");
     let (accepted, seen) = side_by_side(rt, &desk, board, &mut who, &mut reader);
-    assert!(rt; accepted);
-    assert!(rt; seen);
-    assert!(rt; tells(read(rt, &desk, &mut second), REQUESTS, 5, 0, 2000, 0));
+    expect_true(rt, accepted);
+    expect_true(rt, seen);
+    expect_told(rt, &desk, &mut second, (REQUESTS, 5), 0, (2000, 0));
     ended(rt, alloc, desk, who, worker, reader, second);
 }
 

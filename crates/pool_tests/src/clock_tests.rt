@@ -1,4 +1,5 @@
 //! The clock of the process.
+use crate::samples::expect_true;
 use fq_io::{Clock, ProcessClock};
 use std::process::Abort;
 use std::time::Duration;
@@ -13,8 +14,8 @@ fn expect_to_go_on<R: Abort, O: time::Clock>(rt: &R, os: &O) {
     let begun = clock.now();
     thread::sleep(os, Duration::from_millis(NAP));
     let passed = clock.now().saturating_sub(begun);
-    assert!(rt; passed >= NAP * 1000);
-    assert!(rt; passed < 60000000);
+    expect_true(rt, passed >= NAP * 1000);
+    expect_true(rt, passed < 60000000);
 }
 
 #[test]

@@ -3,7 +3,9 @@ ghost use Rattle.history_lock.specs.Passes.{IsOf};
 ghost use Rattle.desk.specs.Replies.{took_pass};
 
 use crate::histories::{are_callers, are_jobs, are_moments};
-use crate::samples::{configured, ended, ended_for_two, opened, opened_for_two};
+use crate::samples::{
+    configured, ended, ended_for_two, expect_same, expect_true, opened, opened_for_two,
+};
 use desk::{Desk, DoneRefusal, LiveRefusal, Running, Submitter, Took, Worker};
 use eligible_index::index::IndexChooser;
 use fq_model::event::{Cause, Due, Entry};
@@ -74,14 +76,14 @@ fn done_after_falling<X: Chooser, R: Wait + Abort>(
     requires { IsOf desk.now.lock running.pass }
     ensures { IsOf desk.now.lock result.pass }
 {
-    assert_eq!(rt; desk.report(rt, &mut running, 50, 7), Ok(()));
+    expect_same(rt, desk.report(rt, &mut running, 50, 7), Ok(()));
     let falling = LiveRefusal::Falling { last: 7, given: 6 };
-    assert_eq!(rt; desk.report(rt, &mut running, 50, 6), Err(falling));
+    expect_same(rt, desk.report(rt, &mut running, 50, 6), Err(falling));
     let refused = desk.done(rt, running, 50, 6);
     let Err((running, cause)) = refused else {
         panic!(rt; "a cost below the last use")
     };
-    assert_eq!(rt; cause, DoneRefusal::Falling { last: 7, given: 6 });
+    expect_same(rt, cause, DoneRefusal::Falling { last: 7, given: 6 });
     done(rt, desk, running, 50, 7)
 }
 
@@ -91,13 +93,13 @@ fn closed<X: Chooser, R: Wait + Abort>(rt: &R, desk: &Desk<u64, X>, who: &mut Su
     ensures own { IsOf desk.now.lock who.new.pass }
     ensures number { who.new.pass.number ≡ who.old.pass.number }
 {
-    assert_eq!(rt; desk.close(rt, who, 50), Ok(()));
-    assert_eq!(rt; desk.close(rt, who, 50), Err(AlreadyClosed));
+    expect_same(rt, desk.close(rt, who, 50), Ok(()));
+    expect_same(rt, desk.close(rt, who, 50), Err(AlreadyClosed));
     let refused = Refused {
         job: 8,
         cause: Cause::Closed,
     };
-    assert_eq!(rt; submit(rt, desk, who, 50, 8), Err(refused));
+    expect_same(rt, submit(rt, desk, who, 50, 8), Err(refused));
 }
 
 // Asks for work where nothing waits.
@@ -145,11 +147,12 @@ fn one_job<X: Chooser, R: Wait + Abort>(
     ensures number { who.new.pass.number ≡ who.old.pass.number }
     ensures worker { IsOf desk.now.lock result.pass }
 {
-    assert_eq!(rt; submit(rt, desk, who, 50, 7), Ok(0));
+    expect_same(rt, submit(rt, desk, who, 50, 7), Ok(0));
     let (running, job) = taken_now(rt, desk, worker, 50);
-    assert_eq!(rt;
+    expect_same(
+        rt,
         (job, running.request(), running.estimate(), running.worker()),
-        (7, 0, 5, 0)
+        (7, 0, 5, 0),
     );
     done_after_falling(rt, desk, running)
 }
@@ -167,21 +170,22 @@ fn job_and_close<X: Chooser + Drop, R: Wait + Abort>(rt: &R, alloc: Global) -> V
 #[test]
 fn a_job_from_its_submission_to_the_end(rt: HostRuntime) {
     let past = job_and_close::<IndexChooser, HostRuntime>(&rt, rt.alloc());
-    assert!(rt; are_callers(past.as_slice(), &[0, 1, 1, 1, 0]));
+    expect_true(&rt, are_callers(past.as_slice(), &[0, 1, 1, 1, 0]));
 }
 
 // A desk's entries after two jobs came and the first was withdrawn, and once more; a worker runs the other.
 fn one_withdrawn<X: Chooser + Drop, R: Wait + Abort>(rt: &R, alloc: Global) -> Vec<Entry> {
     let (desk, mut who, worker) = small::<X, R>(rt, alloc);
-    assert_eq!(rt; submit(rt, &desk, &mut who, 50, 7), Ok(0));
-    assert_eq!(rt; submit(rt, &desk, &mut who, 50, 8), Ok(1));
-    assert_eq!(rt; desk.withdraw(rt, &mut who, 50, 0), Ok(7));
-    assert_eq!(rt;
+    expect_same(rt, submit(rt, &desk, &mut who, 50, 7), Ok(0));
+    expect_same(rt, submit(rt, &desk, &mut who, 50, 8), Ok(1));
+    expect_same(rt, desk.withdraw(rt, &mut who, 50, 0), Ok(7));
+    expect_same(
+        rt,
         desk.withdraw(rt, &mut who, 50, 0),
-        Err(Cause::NotWaiting(0))
+        Err(Cause::NotWaiting(0)),
     );
     let (running, job) = taken_now(rt, &desk, worker, 50);
-    assert_eq!(rt; (job, running.request()), (8, 1));
+    expect_same(rt, (job, running.request()), (8, 1));
     let worker = done(rt, &desk, running, 50, 5);
     ended(rt, alloc, desk, who, worker)
 }
@@ -189,44 +193,45 @@ fn one_withdrawn<X: Chooser + Drop, R: Wait + Abort>(rt: &R, alloc: Global) -> V
 #[test]
 fn a_job_that_is_withdrawn(rt: HostRuntime) {
     let past = one_withdrawn::<IndexChooser, HostRuntime>(&rt, rt.alloc());
-    assert!(rt; are_callers(past.as_slice(), &[0, 0, 0, 1, 1]));
+    expect_true(&rt, are_callers(past.as_slice(), &[0, 0, 0, 1, 1]));
 }
 
 // A desk's entries after a worker's take was foreseen: where nothing waits, where two requests do, and once the first
 // has ended, a microsecond before the second is eligible and then.
 fn questions<X: Foresees + Drop, R: Wait + Abort>(rt: &R, alloc: Global) -> Vec<Entry> {
     let (desk, mut who, mut worker) = small::<X, R>(rt, alloc);
-    assert!(rt; matches!(desk.due(rt, &mut worker, 50), Due::Nothing));
-    assert_eq!(rt; submit(rt, &desk, &mut who, 50, 7), Ok(0));
-    assert_eq!(rt; submit(rt, &desk, &mut who, 50, 8), Ok(1));
-    assert!(rt; matches!(desk.due(rt, &mut worker, 50), Due::Eligible));
+    expect_true(rt, matches!(desk.due(rt, &mut worker, 50), Due::Nothing));
+    expect_same(rt, submit(rt, &desk, &mut who, 50, 7), Ok(0));
+    expect_same(rt, submit(rt, &desk, &mut who, 50, 8), Ok(1));
+    expect_true(rt, matches!(desk.due(rt, &mut worker, 50), Due::Eligible));
     let (running, _job) = taken_now(rt, &desk, worker, 50);
     let mut worker = done(rt, &desk, running, 50, 5);
     let early = desk.due(rt, &mut worker, 54);
-    assert!(rt;
+    expect_true(
+        rt,
         matches!(
             early,
             Due::Early {
                 request: 1,
                 estimate: 5
             }
-        )
+        ),
     );
-    assert!(rt; matches!(desk.due(rt, &mut worker, 55), Due::Eligible));
+    expect_true(rt, matches!(desk.due(rt, &mut worker, 55), Due::Eligible));
     ended(rt, alloc, desk, who, worker)
 }
 
 #[test]
 fn a_worker_that_asks_what_it_would_find(rt: HostRuntime) {
     let past = questions::<IndexChooser, HostRuntime>(&rt, rt.alloc());
-    assert!(rt; are_callers(past.as_slice(), &[0, 0, 1, 1]));
+    expect_true(&rt, are_callers(past.as_slice(), &[0, 0, 1, 1]));
 }
 
 // A desk's entries after calls at 50, at an earlier moment, at the last one that can be named, and at 0.
 fn calls_out_of_order<X: Chooser + Drop, R: Wait + Abort>(rt: &R, alloc: Global) -> Vec<Entry> {
     let (desk, mut who, worker) = small::<X, R>(rt, alloc);
-    assert_eq!(rt; submit(rt, &desk, &mut who, 50, 7), Ok(0));
-    assert_eq!(rt; submit(rt, &desk, &mut who, 40, 8), Ok(1));
+    expect_same(rt, submit(rt, &desk, &mut who, 50, 7), Ok(0));
+    expect_same(rt, submit(rt, &desk, &mut who, 40, 8), Ok(1));
     let (running, _job) = taken_now(rt, &desk, worker, u64::MAX);
     let worker = done(rt, &desk, running, 0, 5);
     ended(rt, alloc, desk, who, worker)
@@ -236,7 +241,7 @@ fn calls_out_of_order<X: Chooser + Drop, R: Wait + Abort>(rt: &R, alloc: Global)
 fn moments_below_the_last_and_above_the_greatest(rt: HostRuntime) {
     let past = calls_out_of_order::<IndexChooser, HostRuntime>(&rt, rt.alloc());
     let wanted = [50, 50, 1000000000000000, 1000000000000000];
-    assert!(rt; are_moments(past.as_slice(), &wanted));
+    expect_true(&rt, are_moments(past.as_slice(), &wanted));
 }
 
 // A worker takes until its take isn't answered Idle, and sleeps between.
@@ -281,7 +286,7 @@ fn woken<X: Chooser + Send, R: Threads + Wait + Sync + Abort>(
         &mut || taken(rt, desk, &mut place),
         &mut || submit(rt, desk, who, 50, 7),
     );
-    assert_eq!(rt; told, Ok(0));
+    expect_same(rt, told, Ok(0));
     let None = place else {
         panic!(rt; "the worker has taken")
     };
@@ -298,7 +303,7 @@ fn slept<X: Chooser + Drop + Send, R: Threads + Wait + Sync + Abort>(
     let Some(Took::Run(running, job)) = took else {
         panic!(rt; "a request came")
     };
-    assert_eq!(rt; (job, running.request()), (7, 0));
+    expect_same(rt, (job, running.request()), (7, 0));
     let worker = done(rt, &desk, running, 50, 5);
     ended(rt, alloc, desk, who, worker)
 }
@@ -306,7 +311,7 @@ fn slept<X: Chooser + Drop + Send, R: Threads + Wait + Sync + Abort>(
 #[test]
 fn a_worker_that_sleeps_until_a_request_comes(rt: HostRuntime) {
     let past = slept::<IndexChooser, HostRuntime>(&rt, rt.alloc());
-    assert!(rt; are_callers(past.as_slice(), &[0, 1, 1]));
+    expect_true(&rt, are_callers(past.as_slice(), &[0, 1, 1]));
 }
 
 // Submits 50 jobs, with numbers from 1,000 times the caller's own on, and notes in its bits which of the request
@@ -345,7 +350,7 @@ fn fifty_each<X: Chooser + Send, R: Threads + Wait + Sync + Abort>(
         &mut || fifty(rt, desk, zero),
         &mut || fifty(rt, desk, one),
     );
-    assert_eq!(rt; (a & b, a | b), (0, (1 << 100) - 1));
+    expect_same(rt, (a & b, a | b), (0, (1 << 100) - 1));
 }
 
 // A desk's entries after that.
@@ -362,7 +367,7 @@ fn hundred<X: Chooser + Drop + Send, R: Threads + Wait + Sync + Abort>(
 #[test]
 fn two_submitters_in_two_threads(rt: HostRuntime) {
     let past = hundred::<IndexChooser, HostRuntime>(&rt, rt.alloc());
-    assert_eq!(rt; past.len(), 100);
-    assert!(rt; are_jobs(past.as_slice(), Some(0), 0..50));
-    assert!(rt; are_jobs(past.as_slice(), Some(1), 1000..1050));
+    expect_same(&rt, past.len(), 100);
+    expect_true(&rt, are_jobs(past.as_slice(), Some(0), 0..50));
+    expect_true(&rt, are_jobs(past.as_slice(), Some(1), 1000..1050));
 }

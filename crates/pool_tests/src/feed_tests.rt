@@ -3,7 +3,7 @@ ghost use Rattle.history_lock.specs.Passes.{IsOf};
 
 use crate::histories::{are_acts, are_moments};
 use crate::rule_tests::Parity;
-use crate::samples::{configured, ended, opened};
+use crate::samples::{configured, ended, expect_same, expect_true, opened};
 use desk::{Desk, Submitter};
 use fq_io::Clock;
 use fq_memory::FixedClock;
@@ -29,10 +29,7 @@ fn two_rows<R: Abort>(rt: &R, alloc: Global) -> VecDeque<Row<u64>> {
             declared: 5,
             job,
         };
-        let kept = rows.push_back(row);
-        let Ok(()) = kept else {
-            panic!(rt; "no memory for rows")
-        };
+        rows.push_back(row).expect(rt, "memory for rows");
     }
     rows
 }
@@ -71,8 +68,8 @@ fn refused<X: Chooser, R: Wait + Abort>(
     let Fed::Stopped { row, rest, cause } = fed else {
         panic!(rt; "no row names a kind that there is")
     };
-    assert_eq!(rt; (row.job, row.kind, cause), (4, 9, Cause::Kind(9)));
-    assert!(rt; is_only(&rest, 5));
+    expect_same(rt, (row.job, row.kind, cause), (4, 9, Cause::Kind(9)));
+    expect_true(rt, is_only(&rest, 5));
 }
 
 // The entries of a desk of two kinds after both ways to hand in such rows.
@@ -84,7 +81,7 @@ fn fed_both_ways<X: Chooser + Drop, R: Wait + Abort>(rt: &R, alloc: Global) -> V
     let rule = KindRule::new(Parity, 2);
     let rows = two_rows(rt, alloc);
     let fed = feed_by(&desk, rt, &mut who, rows, 2, &clock, &rule);
-    assert!(rt; matches!(fed, Fed::All));
+    expect_true(rt, matches!(fed, Fed::All));
     ended(rt, alloc, desk, who, worker)
 }
 
@@ -92,7 +89,7 @@ fn fed_both_ways<X: Chooser + Drop, R: Wait + Abort>(rt: &R, alloc: Global) -> V
 fn rows_of_no_kind_by_themselves_and_by_a_rule(rt: HostRuntime) {
     let past = fed_both_ways::<PlainChooser, HostRuntime>(&rt, rt.alloc());
     let wanted = [submitted(0, 0, 4), submitted(1, 1, 5), Act::Close];
-    assert!(rt; are_acts(past.as_slice(), &wanted));
+    expect_true(&rt, are_acts(past.as_slice(), &wanted));
 }
 
 // Tells one moment more each time that it is asked.
@@ -117,12 +114,12 @@ fn fed_by_ticks<X: Chooser + Drop, R: Wait + Abort>(rt: &R, alloc: Global) -> Ve
         moment: AtomicU64::new(50),
     };
     let fed = feed(&desk, rt, &mut who, two_rows(rt, alloc), 2, &clock);
-    assert!(rt; matches!(fed, Fed::All));
+    expect_true(rt, matches!(fed, Fed::All));
     ended(rt, alloc, desk, who, worker)
 }
 
 #[test]
 fn each_row_at_its_own_moment(rt: HostRuntime) {
     let past = fed_by_ticks::<PlainChooser, HostRuntime>(&rt, rt.alloc());
-    assert!(rt; are_moments(past.as_slice(), &[50, 51, 52]));
+    expect_true(&rt, are_moments(past.as_slice(), &[50, 51, 52]));
 }

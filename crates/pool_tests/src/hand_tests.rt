@@ -7,7 +7,9 @@ ghost use Rattle.worker_gate.specs.declared.pool.Hand.TheVariants as hand;
 ghost use Rattle.pool_tests.specs.Hired.{AreHired};
 
 use crate::histories::{are_jobs, are_letters, are_next_jobs, count_of, makes_only};
-use crate::samples::{both, configured, ended_for_two, opened_for_two, two};
+use crate::samples::{
+    both, configured, ended_for_two, expect_same, expect_true, opened_for_two, two,
+};
 use desk::{Desk, Submitter, Worker};
 use eligible_index::index::IndexChooser;
 use fq_memory::FixedClock;
@@ -75,10 +77,7 @@ fn rows_of<R: Abort>(rt: &R, alloc: Global, jobs: Range<u64>) -> VecDeque<Row<u6
             declared: 5,
             job,
         };
-        let kept = rows.push_back(row);
-        let Ok(()) = kept else {
-            panic!(rt; "no memory for rows")
-        };
+        rows.push_back(row).expect(rt, "memory for rows");
     }
     rows
 }
@@ -258,17 +257,17 @@ pub fn served<X: Chooser + Drop + Send, G: Gate<u64> + Sync, R: Threads + Wait +
         gate,
         hands.as_mut_slice(),
     );
-    assert!(rt; accepted);
+    expect_true(rt, accepted);
     dismissed(rt, alloc, desk, one, hands)
 }
 
 // Both jobs were served, each by a worker of its own.
 fn expect_both_served<R: Abort>(rt: &R, past: &[Entry]) {
-    assert!(rt; are_letters(past, 0, "ssc"));
-    assert!(rt; are_letters(past, 2, "td"));
-    assert!(rt; are_letters(past, 3, "td"));
-    assert_eq!(rt; past.len(), 7);
-    assert!(rt; are_jobs(past, None, 0..2));
+    expect_true(rt, are_letters(past, 0, "ssc"));
+    expect_true(rt, are_letters(past, 2, "td"));
+    expect_true(rt, are_letters(past, 3, "td"));
+    expect_same(rt, past.len(), 7);
+    expect_true(rt, are_jobs(past, None, 0..2));
 }
 
 #[test]
@@ -282,17 +281,17 @@ fn two_workers_in_a_slice_at_once(rt: HostRuntime) {
         2,
         Aside::Nothing,
     );
-    assert_eq!(rt; gate.into_gate().missed.load(Ordering::SeqCst), 0);
+    expect_same(&rt, gate.into_gate().missed.load(Ordering::SeqCst), 0);
     expect_both_served(&rt, end.past.as_slice());
 }
 
 // The first worker alone served the 20 jobs of submitter 1.
 fn expect_one_serves<R: Abort>(rt: &R, past: &[Entry]) {
-    assert!(rt; are_letters(past, 1, "wssssssssssssssssssssc"));
-    assert_eq!(rt; count_of(past, Some(2), 'd'), 20);
-    assert!(rt; are_letters(past, 3, ""));
-    assert_eq!(rt; past.len(), 62);
-    assert!(rt; are_jobs(past, None, 1000..1020));
+    expect_true(rt, are_letters(past, 1, "wssssssssssssssssssssc"));
+    expect_same(rt, count_of(past, Some(2), 'd'), 20);
+    expect_true(rt, are_letters(past, 3, ""));
+    expect_same(rt, past.len(), 62);
+    expect_true(rt, are_jobs(past, None, 1000..1020));
 }
 
 #[test]
@@ -338,10 +337,10 @@ fn is_stopped_by_close(end: &End) -> bool {
 
 // The requests that were submitted before the close were served.
 fn expect_close<R: Abort>(rt: &R, past: &[Entry]) {
-    assert!(rt; makes_only(past, 0, 's'));
-    assert!(rt; are_letters(past, 1, "ssssssssssc"));
-    assert!(rt; are_jobs(past, Some(1), 1000..1010));
-    assert_eq!(rt; count_of(past, None, 'd'), count_of(past, None, 's'));
+    expect_true(rt, makes_only(past, 0, 's'));
+    expect_true(rt, are_letters(past, 1, "ssssssssssc"));
+    expect_true(rt, are_jobs(past, Some(1), 1000..1010));
+    expect_same(rt, count_of(past, None, 'd'), count_of(past, None, 's'));
 }
 
 #[test]
@@ -356,6 +355,6 @@ fn a_close_in_the_midst(rt: HostRuntime) {
         Aside::Close,
     );
     expect_close(&rt, end.past.as_slice());
-    assert!(rt; are_handed_in(&end, 100..200));
-    assert!(rt; is_stopped_by_close(&end));
+    expect_true(&rt, are_handed_in(&end, 100..200));
+    expect_true(&rt, is_stopped_by_close(&end));
 }

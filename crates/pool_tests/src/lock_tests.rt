@@ -2,6 +2,7 @@ ghost use Rattle.std.specs.Prelude.{◌≡◌};
 ghost use Rattle.history_lock.specs.Passes.{IsOf};
 
 use crate::histories::{are_callers, are_moments};
+use crate::samples::{expect_same, expect_true};
 use fq_model::event::Entry;
 use history_lock::laws::Echo;
 use history_lock::{HistoryLock, Pass};
@@ -16,15 +17,8 @@ fn opened<R: Abort>(rt: &R, alloc: Global, room: u32) -> (HistoryLock<Echo>, Pas
     ensures own { IsOf result.0 result.1 }
     ensures first { (result.1.number ≡ 0) × (result.1.made ≡ 0) }
 {
-    let echo = Echo::open(alloc, room);
-    let Ok(echo) = echo else {
-        panic!(rt; "no memory for entries")
-    };
-    let opened = HistoryLock::open(alloc, echo);
-    let Ok(both) = opened else {
-        panic!(rt; "no memory for a lock")
-    };
-    both
+    let echo = Echo::open(alloc, room).expect(rt, "memory for entries");
+    HistoryLock::open(alloc, echo).expect(rt, "memory for a lock")
 }
 
 // Ends a lock, after the other pass was joined, and gives its echo.
@@ -33,11 +27,7 @@ fn closed<R: Abort>(rt: &R, lock: HistoryLock<Echo>, mut zero: Pass<u32>, one: P
     requires one { IsOf lock one }
 {
     lock.join(&mut zero, one);
-    let closed = lock.close(zero);
-    let Ok(echo) = closed else {
-        panic!(rt; "a turn was not served")
-    };
-    echo
+    lock.close(zero).expect(rt, "a turn was not served")
 }
 
 // Takes a turn.
@@ -75,20 +65,20 @@ fn are_moments_of(past: &[Entry], who: u32, mut wanted: Range<u64>) -> bool {
 // The echo after two passes took their turns, of which it had no room for the last.
 fn four_turns<R: Wait + Abort>(rt: &R, alloc: Global) -> Echo {
     let (lock, mut zero) = opened(rt, alloc, 3);
-    assert_eq!(rt; turn(rt, &lock, &mut zero, 9), 0);
+    expect_same(rt, turn(rt, &lock, &mut zero, 9), 0);
     let mut one = lock.split(&mut zero);
-    assert_eq!(rt; one.number(), 1);
-    assert_eq!(rt; turn(rt, &lock, &mut one, 4), 1);
-    assert_eq!(rt; turn(rt, &lock, &mut zero, 7), 2);
-    assert_eq!(rt; turn(rt, &lock, &mut one, 8), 3);
+    expect_same(rt, one.number(), 1);
+    expect_same(rt, turn(rt, &lock, &mut one, 4), 1);
+    expect_same(rt, turn(rt, &lock, &mut zero, 7), 2);
+    expect_same(rt, turn(rt, &lock, &mut one, 8), 3);
     closed(rt, lock, zero, one)
 }
 
 #[test]
 fn two_passes_of_one_thread(rt: HostRuntime) {
     let echo = four_turns(&rt, rt.alloc());
-    assert!(rt; are_moments(echo.past(), &[9, 4, 7]));
-    assert!(rt; are_callers(echo.past(), &[0, 1, 0]));
+    expect_true(&rt, are_moments(echo.past(), &[9, 4, 7]));
+    expect_true(&rt, are_callers(echo.past(), &[0, 1, 0]));
 }
 
 // The echo after two passes took 100 turns, each in a thread of its own.
@@ -109,7 +99,7 @@ fn hundred_each<R: Threads + Wait + Sync + Abort>(rt: &R, alloc: Global) -> Echo
 #[test]
 fn two_threads(rt: HostRuntime) {
     let echo = hundred_each(&rt, rt.alloc());
-    assert_eq!(rt; echo.past().len(), 200);
-    assert!(rt; are_moments_of(echo.past(), 0, 0..100));
-    assert!(rt; are_moments_of(echo.past(), 1, 1000..1100));
+    expect_same(&rt, echo.past().len(), 200);
+    expect_true(&rt, are_moments_of(echo.past(), 0, 0..100));
+    expect_true(&rt, are_moments_of(echo.past(), 1, 1000..1100));
 }

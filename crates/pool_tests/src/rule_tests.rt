@@ -1,3 +1,4 @@
+use crate::samples::{expect_same, expect_true};
 use gate_rules::cost_rule::{CostRule, WorkCost};
 use gate_rules::counters::{Counters, NO_COUNTERS};
 use gate_rules::gate::{Gate, Slice};
@@ -59,7 +60,7 @@ fn gate_by_steps(rt: HostRuntime) {
         Slice::More(work(5)),
         Slice::More(one),
     ];
-    assert_eq!(rt; told, wanted);
+    expect_same(&rt, told, wanted);
 }
 
 #[test]
@@ -78,14 +79,14 @@ fn steps_of_a_cost(rt: HostRuntime) {
         Slice::More(work(999900000)),
         Slice::End(work(1000000000)),
     ];
-    assert_eq!(rt; told, wanted);
+    expect_same(&rt, told, wanted);
     // 10,000 slices of 1 are too few for one more, which takes steps of 2.
     let counts = [
         Steps::new(3, 6).count(),
         Steps::new(1, 10000).count(),
         Steps::new(1, 10001).count(),
     ];
-    assert_eq!(rt; counts, [2, 10000, 5001]);
+    expect_same(&rt, counts, [2, 10000, 5001]);
 }
 
 #[test]
@@ -95,9 +96,9 @@ fn compared_part_by_part(rt: HostRuntime) {
         items: 2,
         bytes: 3,
     };
-    assert!(rt; work(1).is_at_most(other));
-    assert!(rt; !work(2).is_at_most(other));
-    assert!(rt; !other.is_at_most(work(2)));
+    expect_true(&rt, work(1).is_at_most(other));
+    expect_true(&rt, !work(2).is_at_most(other));
+    expect_true(&rt, !other.is_at_most(work(2)));
 }
 
 #[derive(Drop)]
@@ -117,7 +118,7 @@ impl Kind<u64> for Parity {
 fn rules_of_costs_and_kinds(rt: HostRuntime) {
     let costs = CostRule::new(WorkCost);
     let told = [costs.cost(work(999999999)), costs.cost(work(u64::MAX))];
-    assert_eq!(rt; told, [999999999, 1000000000]);
+    expect_same(&rt, told, [999999999, 1000000000]);
     let kinds = KindRule::new(Parity, 2);
-    assert_eq!(rt; [kinds.kind(&4), kinds.kind(&5)], [0, 1]);
+    expect_same(&rt, [kinds.kind(&4), kinds.kind(&5)], [0, 1]);
 }

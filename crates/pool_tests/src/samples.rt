@@ -8,6 +8,7 @@ use fq_model::config::{Checked, Config};
 use fq_model::event::Entry;
 use sched_state::Scheduler;
 use std::alloc::Global;
+use std::fmt::{Debug, Display};
 use std::process::Abort;
 use tag_rules::chooser::Chooser;
 use test_samples::sample_config;
@@ -38,10 +39,7 @@ pub fn configured<R: Abort>(
 pub fn only<T, R: Abort>(rt: &R, mut tokens: Vec<T>) -> T
     ensures { tokens.items ≡ result ∷ [] }
 {
-    let last = tokens.pop();
-    let Some(token) = last else {
-        panic!(rt; "a token")
-    };
+    let token = tokens.pop().expect(rt, "a token");
     if !tokens.is_empty() {
         panic!(rt; "no other token")
     }
@@ -53,10 +51,7 @@ pub fn only<T, R: Abort>(rt: &R, mut tokens: Vec<T>) -> T
 pub fn both<T, R: Abort>(rt: &R, mut tokens: Vec<T>) -> (T, T)
     ensures { tokens.items ≡ result.0 ∷ result.1 ∷ [] }
 {
-    let last = tokens.pop();
-    let Some(second) = last else {
-        panic!(rt; "a token")
-    };
+    let second = tokens.pop().expect(rt, "a token");
     (only(rt, tokens), second)
 }
 
@@ -65,10 +60,7 @@ pub fn one<T, R: Abort>(rt: &R, alloc: Global, token: T) -> Vec<T>
     ensures { result.items ≡ token ∷ [] }
 {
     let mut tokens = Vec::new(alloc);
-    let kept = tokens.push(token);
-    let Ok(()) = kept else {
-        panic!(rt; "no memory for a token")
-    };
+    tokens.push(token).expect(rt, "memory for a token");
     tokens
 }
 
@@ -77,10 +69,7 @@ pub fn two<T, R: Abort>(rt: &R, alloc: Global, first: T, second: T) -> Vec<T>
     ensures { result.items ≡ first ∷ second ∷ [] }
 {
     let mut tokens = one(rt, alloc, first);
-    let kept = tokens.push(second);
-    let Ok(()) = kept else {
-        panic!(rt; "no memory for a token")
-    };
+    tokens.push(second).expect(rt, "memory for a token");
     tokens
 }
 
@@ -107,11 +96,10 @@ fn entries_of<X: Chooser + Drop, R: Abort>(
     alloc: Global,
     scheduler: Scheduler<u64, X>,
 ) -> Vec<Entry> {
-    let entries = scheduler.past().to_vec(alloc);
-    let Ok(entries) = entries else {
-        panic!(rt; "no memory for entries")
-    };
-    entries
+    scheduler
+        .past()
+        .to_vec(alloc)
+        .expect(rt, "memory for entries")
 }
 
 /// Ends a desk of one submitter and one worker, and gives the entries of its scheduler.
@@ -125,10 +113,9 @@ pub fn ended<X: Chooser + Drop, R: Abort>(
     requires submitter { IsOf desk.lock who.pass × (who.pass.number ≡ 0) }
     requires worker { IsOf desk.lock worker.pass }
 {
-    let ended = desk.finish(one(rt, alloc, who), one(rt, alloc, worker));
-    let Ok(scheduler) = ended else {
-        panic!(rt; "a turn was not served")
-    };
+    let scheduler = desk
+        .finish(one(rt, alloc, who), one(rt, alloc, worker))
+        .expect(rt, "a turn was not served");
     entries_of(rt, alloc, scheduler)
 }
 
@@ -163,9 +150,28 @@ pub fn ended_for_two<X: Chooser + Drop, R: Abort>(
     requires one { IsOf desk.lock one.pass }
     requires workers { HoldsOfEach (λ t. IsOf desk.lock t.pass) workers.items }
 {
-    let ended = desk.finish(two(rt, alloc, zero, one), workers);
-    let Ok(scheduler) = ended else {
-        panic!(rt; "a turn was not served")
-    };
+    let scheduler = desk
+        .finish(two(rt, alloc, zero, one), workers)
+        .expect(rt, "a turn was not served");
     entries_of(rt, alloc, scheduler)
+}
+
+/// The two are equal.
+pub fn expect_same<T: PartialEq + Debug + Drop, R: Abort>(rt: &R, told: T, wanted: T) {
+    assert_eq!(rt; told, wanted);
+}
+
+/// The two are equal, in this case.
+pub fn expect_same_at<D: Display + Drop, T: PartialEq + Debug + Drop, R: Abort>(
+    rt: &R,
+    case: D,
+    told: T,
+    wanted: T,
+) {
+    assert_eq!(rt; told, wanted, "at {case}");
+}
+
+/// It is so.
+pub fn expect_true<R: Abort>(rt: &R, is_so: bool) {
+    assert!(rt; is_so);
 }

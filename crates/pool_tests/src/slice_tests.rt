@@ -3,6 +3,7 @@ ghost use Rattle.std.specs.Prelude.{None};
 
 use crate::hand_tests::{Aside, served};
 use crate::histories::count_of;
+use crate::samples::{expect_same, expect_same_at};
 use eligible_index::index::IndexChooser;
 use std::alloc::Global;
 use std::process::Abort;
@@ -20,10 +21,7 @@ impl NotingGate {
     fn new<R: Abort>(rt: &R, alloc: Global, jobs: usize) -> NotingGate {
         let mut asked = Vec::new(alloc);
         for _ in 0..jobs {
-            let kept = asked.push(AtomicU64::new(0));
-            let Ok(()) = kept else {
-                panic!(rt; "no memory for a job")
-            };
+            asked.push(AtomicU64::new(0)).expect(rt, "memory for a job");
         }
         NotingGate { asked }
     }
@@ -58,8 +56,8 @@ fn each_slice_once_and_none_after_the_end(rt: HostRuntime) {
         40,
         Aside::Nothing,
     );
-    assert_eq!(rt; count_of(end.past.as_slice(), None, 'd'), 40);
+    expect_same(&rt, count_of(end.past.as_slice(), None, 'd'), 40);
     for (job, asked) in gate.into_gate().asked.iter().enumerate() {
-        assert_eq!(rt; asked.load(Ordering::SeqCst), ONCE[job % 4], "of job {job}");
+        expect_same_at(&rt, job, asked.load(Ordering::SeqCst), ONCE[job % 4]);
     }
 }

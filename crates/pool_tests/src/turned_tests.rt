@@ -2,7 +2,9 @@
 ghost use Rattle.std.specs.Prelude.{◌≡◌, None};
 ghost use Rattle.history_lock.specs.Passes.{IsOf};
 
-use crate::samples::{both, configured, ended, ended_for_two, opened, opened_for_two, two};
+use crate::samples::{
+    both, configured, ended, ended_for_two, expect_same, expect_true, opened, opened_for_two, two,
+};
 use desk::{Desk, Worker};
 use eligible_index::index::IndexChooser;
 use fq_io::Clock;
@@ -60,13 +62,13 @@ fn serves<X: Chooser, R: Wait>(rt: &R, desk: &Desk<u64, X>, worker: Worker) -> (
 fn drained_once<X: Chooser + Drop, R: Wait + Abort>(rt: &R, alloc: Global) {
     let config = configured(rt, alloc, 1, 1, 20, 10);
     let (desk, mut who, worker) = opened::<X, R>(rt, alloc, config);
-    assert!(rt; desk.submit(rt, &mut who, 50, 0, 0, 5, 7).is_ok());
-    assert!(rt; desk.submit(rt, &mut who, 50, 0, 0, 5, 8).is_ok());
-    assert!(rt; desk.close(rt, &mut who, 50).is_ok());
+    expect_true(rt, desk.submit(rt, &mut who, 50, 0, 0, 5, 7).is_ok());
+    expect_true(rt, desk.submit(rt, &mut who, 50, 0, 0, 5, 8).is_ok());
+    expect_true(rt, desk.close(rt, &mut who, 50).is_ok());
     let (worker, asked) = serves(rt, &desk, worker);
-    assert_eq!(rt; asked, 5);
+    expect_same(rt, asked, 5);
     let past = ended(rt, alloc, desk, who, worker);
-    assert_eq!(rt; past.len(), 7);
+    expect_same(rt, past.len(), 7);
 }
 
 #[test]
@@ -79,13 +81,13 @@ fn retired_once<X: Chooser + Drop, R: Wait + Abort>(rt: &R, alloc: Global) {
     let config = configured(rt, alloc, 2, 1, 20, 10);
     let (desk, mut zero, one, workers) = opened_for_two::<X, R>(rt, alloc, config);
     let (first, second) = both(rt, workers);
-    assert!(rt; desk.submit(rt, &mut zero, 50, 0, 0, 5, 7).is_ok());
-    assert!(rt; desk.workers(rt, &mut zero, 50, 1).is_ok());
+    expect_true(rt, desk.submit(rt, &mut zero, 50, 0, 0, 5, 7).is_ok());
+    expect_true(rt, desk.workers(rt, &mut zero, 50, 1).is_ok());
     let (second, asked) = serves(rt, &desk, second);
-    assert_eq!(rt; asked, 1);
+    expect_same(rt, asked, 1);
     let workers = two(rt, alloc, first, second);
     let past = ended_for_two(rt, alloc, desk, zero, one, workers);
-    assert_eq!(rt; past.len(), 2);
+    expect_same(rt, past.len(), 2);
 }
 
 #[test]

@@ -5,7 +5,7 @@ ghost use Rattle.history_lock.specs.Passes.{IsOf};
 ghost use Rattle.pool_tests.specs.Watched.{IsReaderAt};
 
 use crate::board_tests::{opened, tells};
-use crate::samples::one;
+use crate::samples::{expect_same, expect_true, one};
 use desk::{Desk, Submitter, Worker};
 use eligible_index::index::IndexChooser;
 use fq_memory::FixedClock;
@@ -43,10 +43,7 @@ fn watched<X: Chooser + Send, R: Threads + Wait + Sync + Abort>(
     requires { IsReaderAt desk.now.lock (option_map arc_value desk.now.board) reader }
     ensures { IsReaderAt desk.now.lock (option_map arc_value desk.now.board) result.0 }
 {
-    let room = Vec::with_capacity(alloc, times as usize);
-    let Ok(seen) = room else {
-        panic!(rt; "no memory for what is read")
-    };
+    let seen = Vec::with_capacity(alloc, times as usize).expect(rt, "memory for what is read");
     let mut hands: [Hand<u64, Unasked>; 1] = [Hand::Watch {
         reader,
         left: times,
@@ -85,15 +82,15 @@ fn ended<X: Chooser + Drop, R: Abort>(
 {
     let readers = one(rt, alloc, reader);
     let ended = desk.finish_shown(one(rt, alloc, who), one(rt, alloc, worker), readers);
-    assert!(rt; ended.is_ok());
+    expect_true(rt, ended.is_ok());
 }
 
 // This number of statuses was read, and each has this number of waiting requests.
 fn expect_waiting<R: Abort>(rt: &R, seen: &[Status], times: usize, requests: u32) {
-    assert_eq!(rt; seen.len(), times);
+    expect_same(rt, seen.len(), times);
     let moment = if requests == 0 { 0 } else { 5 };
     for status in seen {
-        assert!(rt; tells(*status, requests as u64, moment, 0, requests, 0));
+        expect_true(rt, tells(*status, requests as u64, moment, 0, requests, 0));
     }
 }
 
@@ -106,10 +103,10 @@ fn between_submissions<X: Chooser + Drop + Send, R: Threads + Wait + Sync + Abor
     let (desk, reader, mut who, worker) = opened::<X, R>(rt, alloc, 10);
     let (reader, seen) = watched(rt, alloc, &desk, reader, 2, 0);
     expect_waiting(rt, seen.as_slice(), 2, 0);
-    assert!(rt; desk.submit(rt, &mut who, 5, 0, 0, 5, 7).is_ok());
+    expect_true(rt, desk.submit(rt, &mut who, 5, 0, 0, 5, 7).is_ok());
     let (reader, seen) = watched(rt, alloc, &desk, reader, 2, 2);
     expect_waiting(rt, seen.as_slice(), 2, 1);
-    assert!(rt; desk.submit(rt, &mut who, 5, 0, 0, 5, 8).is_ok());
+    expect_true(rt, desk.submit(rt, &mut who, 5, 0, 0, 5, 8).is_ok());
     let (reader, seen) = watched(rt, alloc, &desk, reader, 3, 100);
     expect_waiting(rt, seen.as_slice(), 3, 2);
     ended(rt, alloc, desk, who, worker, reader);

@@ -1,7 +1,7 @@
 //! One worker that serves one request, over a real desk.
 ghost use Rattle.std.specs.Prelude.{None};
 
-use crate::samples::{configured, ended, opened};
+use crate::samples::{configured, ended, expect_same, expect_true, opened};
 use fq_io::Clock;
 use fq_memory::FixedClock;
 use fq_model::event::{Act, Entry};
@@ -95,8 +95,8 @@ fn served<X: Chooser + Drop, G: Gate<u64> + Drop, K: Clock, R: Wait + Abort>(
 ) -> Vec<Entry> {
     let config = configured(rt, alloc, 1, 1, entries, 10);
     let (desk, mut who, worker) = opened::<X, R>(rt, alloc, config);
-    assert_eq!(rt; desk.submit(rt, &mut who, 50, 0, 0, 5, 7), Ok(0));
-    assert_eq!(rt; desk.close(rt, &mut who, 50), Ok(()));
+    expect_same(rt, desk.submit(rt, &mut who, 50, 0, 0, 5, 7), Ok(0));
+    expect_same(rt, desk.close(rt, &mut who, 50), Ok(()));
     let rule = CostRule::new(WorkCost);
     let mut gate = LoggedGate::new(gate);
     let mut log = gate.log();
@@ -131,7 +131,7 @@ fn reported<R: Abort>(rt: &R, past: &[Entry], reports: u64, cost: u64) {
         },
     ];
     for act in begun {
-        assert!(rt; is_act(entries.next(), act));
+        expect_true(rt, is_act(entries.next(), act));
     }
     for used in 1..=reports {
         let report = Act::Report {
@@ -139,15 +139,15 @@ fn reported<R: Abort>(rt: &R, past: &[Entry], reports: u64, cost: u64) {
             request: 0,
             used,
         };
-        assert!(rt; is_act(entries.next(), report));
+        expect_true(rt, is_act(entries.next(), report));
     }
     let done = Act::Done {
         worker: 0,
         request: 0,
         cost,
     };
-    assert!(rt; is_act(entries.next(), done));
-    assert!(rt; entries.next().is_none());
+    expect_true(rt, is_act(entries.next(), done));
+    expect_true(rt, entries.next().is_none());
 }
 
 // The entries of a job that is served by a clock that stands still.
@@ -194,8 +194,8 @@ fn each_use_is_reported_before_the_next_slice(rt: HostRuntime) {
         gate,
         &clock,
     );
-    assert_eq!(rt; past.len(), MOMENTS.len());
+    expect_same(&rt, past.len(), MOMENTS.len());
     for (entry, wanted) in past.iter().zip(&MOMENTS) {
-        assert_eq!(rt; entry.moment, *wanted);
+        expect_same(&rt, entry.moment, *wanted);
     }
 }

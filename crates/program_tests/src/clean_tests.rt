@@ -5,7 +5,7 @@ ghost use Rattle.program_model.specs.Commands.{Untold, is_plain};
 ghost use Rattle.program_model.specs.Program.{asked};
 ghost use Rattle.law_book.specs.Programs.{AreTextsShorter};
 
-use crate::samples::{REPLIES, SCRIPT, bytes_of, owned};
+use crate::samples::{REPLIES, SCRIPT, bytes_of, expect_same, owned};
 use fq_memory::{CleanSink, CleanSource};
 use std::alloc::Global;
 use std::process::Abort;
@@ -32,11 +32,7 @@ fn clean_run(
 
 // A sink with room for 1000 bytes.
 fn sink_of<R: Abort>(rt: &R, alloc: Global) -> CleanSink {
-    let sink = CleanSink::with_room(alloc, 1000);
-    let Ok(sink) = sink else {
-        panic!(rt; "no memory for a sink")
-    };
-    sink
+    CleanSink::with_room(alloc, 1000).expect(rt, "memory for a sink")
 }
 
 // The script is served so.
@@ -46,8 +42,8 @@ fn serve<R: Abort>(rt: &R, alloc: Global) {
     let mut sink = sink_of(rt, alloc);
     let mut errs = sink_of(rt, alloc);
     let status = plain(alloc, words.as_slice(), &mut source, &mut sink, &mut errs);
-    assert_eq!(rt; status, 0);
-    assert_eq!(rt; sink.bytes(), REPLIES.as_bytes());
+    expect_same(rt, status, 0);
+    expect_same(rt, sink.bytes(), REPLIES.as_bytes());
 }
 
 #[test]

@@ -1,5 +1,5 @@
 //! Sources, sinks and the clock that stands, one call after the other.
-use crate::samples::{bytes_of, sink_with_room, source_of};
+use crate::samples::{bytes_of, expect_same, expect_same_at, sink_with_room, source_of};
 use fq_io::{
     Clock, ReadAllFault, Sink, Source, StdSink, StdSource, WriteFault, read_all, write_all,
 };
@@ -16,11 +16,8 @@ fn expect_read<S: Source, R: Abort>(
     limit: u64,
     wanted: &[u8],
 ) {
-    let all = read_all(alloc, source, limit);
-    let Ok(all) = all else {
-        panic!(rt; "a whole source")
-    };
-    assert_eq!(rt; all.as_slice(), wanted);
+    let all = read_all(alloc, source, limit).expect(rt, "a whole source");
+    expect_same(rt, all.as_slice(), wanted);
 }
 
 // A source is not read to its end, for this reason.
@@ -31,7 +28,7 @@ fn expect_fault<S: Source, R: Abort>(
     limit: u64,
     fault: ReadAllFault,
 ) {
-    assert_eq!(rt; read_all(alloc, source, limit).err(), Some(fault));
+    expect_same(rt, read_all(alloc, source, limit).err(), Some(fault));
 }
 
 // Each is read in pieces of 4 bytes: calls 0 to 2 give bytes, and call 3 finds the end.
@@ -65,12 +62,8 @@ fn expect_written<R: Abort>(
     written: &str,
 ) {
     let mut sink = sink_with_room(rt, alloc, room, 4, fail);
-    assert_eq!(rt; write_all(&mut sink, b"abcdefg"), wanted);
-    assert_eq!(rt;
-        sink.bytes(),
-        written.as_bytes(),
-        "room {room}, failing at {fail}"
-    );
+    expect_same(rt, write_all(&mut sink, b"abcdefg"), wanted);
+    expect_same_at(rt, room, sink.bytes(), written.as_bytes());
 }
 
 #[test]
@@ -99,16 +92,13 @@ fn expect_told<R: Abort>(
     wanted: Result<(), WriteFault>,
     written: &str,
 ) {
-    assert_eq!(rt; write_all(sink, text.as_bytes()), wanted);
-    assert_eq!(rt; sink.bytes(), written.as_bytes(), "after {text}");
+    expect_same(rt, write_all(sink, text.as_bytes()), wanted);
+    expect_same_at(rt, text, sink.bytes(), written.as_bytes());
 }
 
 // A sink of four bytes that fails only where it is full.
 fn fill_clean<R: Abort>(rt: &R, alloc: Global) {
-    let sink = CleanSink::with_room(alloc, 4);
-    let Ok(mut sink) = sink else {
-        panic!(rt; "no memory for a sink")
-    };
+    let mut sink = CleanSink::with_room(alloc, 4).expect(rt, "memory for a sink");
     expect_told(rt, &mut sink, "abc", Ok(()), "abc");
     expect_told(rt, &mut sink, "de", Err(WriteFault), "abcd");
     expect_told(rt, &mut sink, "", Ok(()), "abcd");
@@ -153,21 +143,21 @@ fn reader_of_std(rt: HostRuntime) {
 
 // Three bytes are written to this sink so.
 fn expect_abc<W: Sink, R: Abort>(rt: &R, sink: &mut W, wanted: Result<(), WriteFault>) {
-    assert_eq!(rt; write_all(sink, b"abc"), wanted);
+    expect_same(rt, write_all(sink, b"abc"), wanted);
 }
 
 // A list takes all.
 fn write_to_list<R: Abort>(rt: &R, alloc: Global) {
     let mut out = Vec::new(alloc);
     expect_abc(rt, &mut StdSink::new(&mut out), Ok(()));
-    assert_eq!(rt; out.as_slice(), b"abc".as_slice());
+    expect_same(rt, out.as_slice(), b"abc".as_slice());
 }
 
 // A writer that is full takes nothing, which is a fault.
 fn write_to_two_bytes<R: Abort>(rt: &R) {
     let mut room = [0u8; 2];
     expect_abc(rt, &mut StdSink::new(room.as_mut_slice()), Err(WriteFault));
-    assert_eq!(rt; room, *b"ab");
+    expect_same(rt, room, *b"ab");
 }
 
 #[test]
@@ -183,5 +173,5 @@ fn is_shared<T: Sync>(_: &T) {}
 fn clock_stands_and_is_shared(rt: HostRuntime) {
     let clock = FixedClock::new(7);
     is_shared(&clock);
-    assert_eq!(rt; clock.now(), 7);
+    expect_same(&rt, clock.now(), 7);
 }

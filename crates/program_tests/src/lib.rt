@@ -1,5 +1,4 @@
-//! Tests of the program and its devices: worked examples, devices that fail at any one of their calls, and inputs
-//! that are cut off at any byte or are too long.
+//! Tests of the program as a library, and of its devices, each of which fails at any one of its calls.
 #![tactic(auto)]
 
 #[cfg(test)]
@@ -7,15 +6,9 @@ mod clean_tests;
 #[cfg(test)]
 mod compared_tests;
 #[cfg(test)]
-mod cut_tests;
-#[cfg(test)]
 mod device_tests;
 #[cfg(test)]
 mod io_tests;
-#[cfg(test)]
-mod judged_tests;
-#[cfg(test)]
-mod lead_tests;
 #[cfg(test)]
 mod live_tests;
 #[cfg(test)]
@@ -23,12 +16,6 @@ mod overlap_tests;
 #[cfg(test)]
 mod samples;
 #[cfg(test)]
-mod served_tests;
-#[cfg(test)]
-mod shaped_tests;
-#[cfg(test)]
 mod stop_tests;
-#[cfg(test)]
-mod watched_tests;
 #[cfg(test)]
 mod worked_tests;

@@ -1,5 +1,5 @@
 //! A pool of threads whose trace can't be read, or whose journal can't be written.
-use crate::samples::{Left, NEVER, TRACE, expect_stop, sink_failing, source_failing, words_of};
+use crate::samples::{Left, NEVER, TRACE, expect_same, expect_same_at, expect_stop, sink_failing, source_failing, words_of};
 use fq_memory::FixedClock;
 use std::alloc::Global;
 use std::process::Abort;
@@ -51,12 +51,16 @@ fn each_read_fails(rt: HostRuntime) {
 fn writes_fail<T: Abort + Wait + Threads + Sync>(rt: &T, alloc: Global, writes: u32) {
     for call in 0..writes {
         let left = serve(rt, alloc, NEVER, call as u64);
-        assert_eq!(rt; left.status, 5, "failing write {call}");
-        assert_eq!(rt; left.written.bytes().len() as u64, 4 * call as u64);
-        assert_eq!(rt; left.told.bytes(), b"twodfq: writing failed\n".as_slice());
+        expect_same_at(rt, call, left.status, 5);
+        expect_same(rt, left.written.bytes().len() as u64, 4 * call as u64);
+        expect_same(
+            rt,
+            left.told.bytes(),
+            b"twodfq: writing failed\n".as_slice(),
+        );
     }
     let left = serve(rt, alloc, NEVER, writes as u64);
-    assert_eq!(rt; left.status, 0);
+    expect_same(rt, left.status, 0);
 }
 
 // The journal has 87 bytes before its entries and 118 in its Submits, Dones and Close. The first Takes of the tenants,

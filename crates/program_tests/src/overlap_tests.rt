@@ -1,6 +1,5 @@
 //! A trace that a pool of threads serves, at least two of them at once.
-use crate::samples::{TRACE, words_of};
-use crate::worked_tests::{sound_sink, sound_source};
+use crate::samples::{TRACE, expect_same, expect_same_at, sound_sink, sound_source, words_of};
 use fq_io::Clock;
 use fq_memory::MemSink;
 use std::alloc::Global;
@@ -71,8 +70,8 @@ fn serve<T: Abort + Wait + Threads + Sync>(rt: &T, alloc: Global) -> MemSink {
         &mut messages,
         &clock,
     );
-    assert_eq!(rt; status, 0);
-    assert_eq!(rt; clock.missed.load(Ordering::SeqCst), 0);
+    expect_same(rt, status, 0);
+    expect_same(rt, clock.missed.load(Ordering::SeqCst), 0);
     written
 }
 
@@ -81,24 +80,21 @@ fn expect_entries<R: Abort>(rt: &R, journal: &str) {
     let (mut of_8, mut of_2): (u32, u32) = (0, 0);
     for line in journal.lines().skip(6) {
         let (moment, cost) = told(line);
-        assert_eq!(rt; moment, Some("7"), "at {line}");
+        expect_same_at(rt, line, moment, Some("7"));
         match cost {
             Some("8") => of_8 = of_8.saturating_add(1),
             Some("2") => of_2 = of_2.saturating_add(1),
-            other => assert_eq!(rt; other, None, "at {line}"),
+            other => expect_same_at(rt, line, other, None),
         }
     }
-    assert_eq!(rt; (of_8, of_2), (1, 2));
+    expect_same(rt, (of_8, of_2), (1, 2));
 }
 
 // A journal of ten entries below its head.
 fn expect_journal<R: Abort>(rt: &R, written: &MemSink) {
-    let journal = str::from_utf8(written.bytes());
-    let Ok(journal) = journal else {
-        panic!(rt; "a text")
-    };
-    assert_eq!(rt; journal.starts_with(HEAD), true);
-    assert_eq!(rt; journal.lines().count(), 16);
+    let journal = str::from_utf8(written.bytes()).expect(rt, "a text");
+    expect_same(rt, journal.starts_with(HEAD), true);
+    expect_same(rt, journal.lines().count(), 16);
     expect_entries(rt, journal);
 }
 

@@ -1,8 +1,9 @@
-//! A script, a trace, and runs of the program over memory that fails at chosen calls.
+//! A script, a trace, and runs of the program over devices in memory that fail at chosen calls.
 ghost use Rattle.std.specs.Prelude.{◌≤◌};
 
 use fq_memory::{MemSink, MemSource};
 use std::alloc::Global;
+use std::fmt::{Debug, Display};
 use std::process::Abort;
 use twodfq_main::program::plain;
 
@@ -36,14 +37,8 @@ pub struct Left {
 pub fn owned<R: Abort>(rt: &R, alloc: Global, words: &[&str]) -> Vec<String> {
     let mut owned = Vec::new(alloc);
     for word in words {
-        let text = String::from_str(alloc, word);
-        let Ok(text) = text else {
-            panic!(rt; "no memory for a word")
-        };
-        let kept = owned.push(text);
-        let Ok(()) = kept else {
-            panic!(rt; "no memory for a word")
-        };
+        let text = String::from_str(alloc, word).expect(rt, "memory for a word");
+        owned.push(text).expect(rt, "memory for a word");
     }
     owned
 }
@@ -52,41 +47,21 @@ pub fn owned<R: Abort>(rt: &R, alloc: Global, words: &[&str]) -> Vec<String> {
 pub fn words_of<R: Abort>(rt: &R, alloc: Global, line: &str) -> Vec<String> {
     let mut words = Vec::new(alloc);
     for word in line.split(' ') {
-        let kept = words.push(word);
-        let Ok(()) = kept else {
-            panic!(rt; "no memory for a word")
-        };
+        words.push(word).expect(rt, "memory for a word");
     }
     owned(rt, alloc, words.as_slice())
 }
 
-/// The parts of a text, one after another.
-pub fn joined<R: Abort>(rt: &R, alloc: Global, parts: &[&str]) -> String {
-    let mut text = String::new(alloc);
-    for part in parts {
-        let kept = text.push_str(part);
-        let Ok(()) = kept else {
-            panic!(rt; "no memory for a text")
-        };
-    }
-    text
-}
-
 /// The bytes of a text.
 pub fn bytes_of<R: Abort>(rt: &R, alloc: Global, text: &str) -> Vec<u8> {
-    let bytes = text.as_bytes().to_vec(alloc);
-    let Ok(bytes) = bytes else {
-        panic!(rt; "no memory for an input")
-    };
-    bytes
+    text.as_bytes()
+        .to_vec(alloc)
+        .expect(rt, "memory for an input")
 }
 
 // A list of this number.
 fn number<R: Abort>(rt: &R, alloc: Global, number: u64) -> Vec<u64> {
-    let numbers = vec![in alloc; number];
-    let Ok(numbers) = numbers else {
-        panic!(rt; "no memory for a number")
-    };
+    let numbers = vec![in alloc; number].expect(rt, "memory for a number");
     numbers
 }
 
@@ -112,11 +87,7 @@ pub fn sink_with_room<R: Abort>(
 ) -> MemSink
     requires { 1 ≤ piece }
 {
-    let sink = MemSink::new(alloc, room, piece, number(rt, alloc, call));
-    let Ok(sink) = sink else {
-        panic!(rt; "no memory for a sink")
-    };
-    sink
+    MemSink::new(alloc, room, piece, number(rt, alloc, call)).expect(rt, "memory for a sink")
 }
 
 /// A sink with room for 1000 bytes.
@@ -129,6 +100,16 @@ pub fn sink_of<R: Abort>(rt: &R, alloc: Global, piece: usize, call: u64) -> MemS
 /// A sink that takes 4 bytes in a call, and fails the call of this number.
 pub fn sink_failing<R: Abort>(rt: &R, alloc: Global, call: u64) -> MemSink {
     sink_of(rt, alloc, 4, call)
+}
+
+/// A source of these bytes that never fails.
+pub fn sound_source<R: Abort>(rt: &R, alloc: Global, input: &str) -> MemSource {
+    source_of(rt, alloc, input, 4096, NEVER)
+}
+
+/// A sink with room for 1000 bytes that never fails.
+pub fn sound_sink<R: Abort>(rt: &R, alloc: Global) -> MemSink {
+    sink_of(rt, alloc, 1000, NEVER)
 }
 
 /// Runs `plain` on these words and devices.
@@ -182,22 +163,38 @@ pub fn run_failing<R: Abort>(
 
 /// The run stopped with this status and this message, and nothing was written. `place` says where in a table that is.
 pub fn expect_stop<R: Abort>(rt: &R, left: &Left, status: u8, message: &str, place: u64) {
-    assert_eq!(rt; left.status, status, "at {place}");
-    assert_eq!(rt; left.written.bytes(), b"".as_slice(), "at {place}");
-    assert_eq!(rt; left.told.bytes(), message.as_bytes(), "at {place}");
+    expect_same_at(rt, place, left.status, status);
+    expect_same_at(rt, place, left.written.bytes(), b"");
+    expect_same_at(rt, place, left.told.bytes(), message.as_bytes());
 }
 
 /// The run wrote this number of bytes of the output, and then a write failed.
 pub fn expect_part<R: Abort>(rt: &R, left: &Left, output: &str, bytes: u64) {
-    assert_eq!(rt; left.status, 5, "after {bytes} bytes");
-    assert_eq!(rt; left.written.bytes().len() as u64, bytes);
-    assert_eq!(rt; output.as_bytes().starts_with(left.written.bytes()), true);
-    assert_eq!(rt; left.told.bytes(), b"twodfq: writing failed\n".as_slice());
+    let written = left.written.bytes();
+    expect_same_at(rt, bytes, left.status, 5);
+    expect_same(rt, written.len() as u64, bytes);
+    expect_same(rt, output.as_bytes().starts_with(written), true);
+    expect_same(rt, left.told.bytes(), b"twodfq: writing failed\n");
 }
 
 /// The run wrote this, without a message.
 pub fn expect_written<R: Abort>(rt: &R, left: &Left, output: &str) {
-    assert_eq!(rt; left.status, 0);
-    assert_eq!(rt; left.written.bytes(), output.as_bytes());
-    assert_eq!(rt; left.told.bytes(), b"".as_slice());
+    expect_same(rt, left.status, 0);
+    expect_same(rt, left.written.bytes(), output.as_bytes());
+    expect_same(rt, left.told.bytes(), b"");
+}
+
+/// The two are equal.
+pub fn expect_same<T: PartialEq + Debug + Drop, R: Abort>(rt: &R, told: T, wanted: T) {
+    assert_eq!(rt; told, wanted);
+}
+
+/// The two are equal, in this case.
+pub fn expect_same_at<D: Display + Drop, T: PartialEq + Debug + Drop, R: Abort>(
+    rt: &R,
+    case: D,
+    told: T,
+    wanted: T,
+) {
+    assert_eq!(rt; told, wanted, "at {case}");
 }

@@ -1,4 +1,4 @@
-use crate::samples::send_away;
+use crate::samples::{expect_same, send_away};
 use std::alloc::Global;
 use std::process::Abort;
 use tag_rules::accounts::Accounts;
@@ -6,10 +6,7 @@ use tag_rules::accounts::Accounts;
 // The accounts of two tenants while the first is charged and raised: twice its credit and its tag, twice its tag, and
 // then the tag of the second.
 fn told<R: Abort>(rt: &R, alloc: Global) -> [i128; 7] {
-    let accounts = Accounts::open(alloc, 2);
-    let Ok(mut accounts) = accounts else {
-        panic!(rt; "no memory for accounts")
-    };
+    let mut accounts = Accounts::open(alloc, 2).expect(rt, "memory for accounts");
     accounts.charge(0, 1048576);
     let charged = (accounts.credit(0), accounts.tag(0));
     accounts.raise(0, 3000000);
@@ -27,5 +24,5 @@ fn told<R: Abort>(rt: &R, alloc: Global) -> [i128; 7] {
 #[test]
 fn tags_catch_up_with_virtual_time(rt: HostRuntime) {
     let wanted = [1048576, 1048576, 1048576, 3000000, 2951424, 2951424, 0];
-    assert_eq!(rt; told(&rt, rt.alloc()), wanted);
+    expect_same(&rt, told(&rt, rt.alloc()), wanted);
 }

@@ -1,4 +1,4 @@
-use crate::samples::send_away;
+use crate::samples::{expect_same, expect_true, send_away};
 use fq_model::config::Checked;
 use fq_model::event::{Act, Entry};
 use rival_policies::plain::PlainChooser;
@@ -19,33 +19,29 @@ fn shared_worker<R: Abort>(rt: &R, alloc: Global) -> Checked {
 
 // A scheduler of those.
 fn opened<X: Chooser, R: Abort>(rt: &R, alloc: Global) -> Scheduler<u64, X> {
-    let scheduler = Scheduler::<u64, X>::open(alloc, shared_worker(rt, alloc));
-    let Ok(scheduler) = scheduler else {
-        panic!(rt; "no memory for a scheduler")
-    };
-    scheduler
+    Scheduler::<u64, X>::open(alloc, shared_worker(rt, alloc)).expect(rt, "memory for a scheduler")
 }
 
 // Takes the job that waits, and ends it.
 fn serve<X: Chooser, R: Abort>(rt: &R, scheduler: &mut Scheduler<u64, X>) {
     if let Taken::Run { job, .. } = scheduler.take(1, 3, 0) {
-        assert_eq!(rt; job, 42);
-        assert_eq!(rt; scheduler.done(1, 8, 0, 5), Ok(()));
+        expect_same(rt, job, 42);
+        expect_same(rt, scheduler.done(1, 8, 0, 5), Ok(()));
     }
 }
 
 // Three entries of which this one is the last.
 fn expect_last<R: Abort>(rt: &R, past: &[Entry], wanted: Entry) {
-    assert_eq!(rt; past.len(), 3);
-    assert!(rt; past.last().copied() == Some(wanted));
+    expect_same(rt, past.len(), 3);
+    expect_true(rt, past.last().copied() == Some(wanted));
 }
 
 // The caller that the README shows.
 fn call<X: Chooser + Drop + Send, R: Abort>(rt: &R, alloc: Global) {
     let mut scheduler = opened::<X, R>(rt, alloc);
-    assert_eq!(rt; scheduler.submit(0, 0, 1, 0, 5, 42), Ok(0));
+    expect_same(rt, scheduler.submit(0, 0, 1, 0, 5, 42), Ok(0));
     serve(rt, &mut scheduler);
-    assert!(rt; matches!(scheduler.take(1, 8, 0), Taken::Idle));
+    expect_true(rt, matches!(scheduler.take(1, 8, 0), Taken::Idle));
     let act = Act::Done {
         worker: 0,
         request: 0,
@@ -69,17 +65,20 @@ fn a_caller(rt: HostRuntime) {
 // ends first by its weight.
 fn show<X: Chooser + Drop, R: Abort>(rt: &R, alloc: Global) {
     let mut scheduler = opened::<X, R>(rt, alloc);
-    assert_eq!(rt; scheduler.submit(0, 3, 0, 0, 5, 7), Ok(0));
-    assert_eq!(rt; scheduler.submit(0, 3, 1, 0, 6, 8), Ok(1));
-    assert!(rt; matches!(scheduler.take(1, 4, 0), Taken::Run { request: 1, .. }));
+    expect_same(rt, scheduler.submit(0, 3, 0, 0, 5, 7), Ok(0));
+    expect_same(rt, scheduler.submit(0, 3, 1, 0, 6, 8), Ok(1));
+    expect_true(
+        rt,
+        matches!(scheduler.take(1, 4, 0), Taken::Run { request: 1, .. }),
+    );
     let status = scheduler.status();
-    assert_eq!(rt; status.entries, 3);
-    assert_eq!(rt; status.moment, 4);
-    assert_eq!(rt; status.vtime, 349_525); // a third of a unit, since the weights sum to 3
-    assert_eq!(rt; status.waiting, 1);
-    assert_eq!(rt; status.running, 1);
-    assert_eq!(rt; scheduler.virtual_time(), 349_525);
-    assert_eq!(rt; scheduler.pool(), 1);
+    expect_same(rt, status.entries, 3);
+    expect_same(rt, status.moment, 4);
+    expect_same(rt, status.vtime, 349_525); // a third of a unit, since the weights sum to 3
+    expect_same(rt, status.waiting, 1);
+    expect_same(rt, status.running, 1);
+    expect_same(rt, scheduler.virtual_time(), 349_525);
+    expect_same(rt, scheduler.pool(), 1);
     drop(scheduler);
 }
 

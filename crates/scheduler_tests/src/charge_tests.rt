@@ -1,6 +1,6 @@
 ghost use Rattle.std.specs.Prelude.{◌≡◌, length, replicate, None};
 
-use crate::samples::{configured, send_away};
+use crate::samples::{configured, expect_same, send_away};
 use charge_book::book::Book;
 use charge_book::refusal::BookRefusal;
 use charge_book::row::RunRow;
@@ -16,11 +16,7 @@ fn opened<R: Abort>(rt: &R, alloc: Global) -> Book
     ensures begins { result.begins ≡ 0 }
 {
     let config = configured(rt, alloc, Policy::TwoDfq, 2, 2);
-    let book = Book::open(alloc, &config);
-    let Ok(book) = book else {
-        panic!(rt; "no memory for a book")
-    };
-    book
+    Book::open(alloc, &config).expect(rt, "memory for a book")
 }
 
 const FALLING: BookRefusal = BookRefusal::Falling {
@@ -41,7 +37,7 @@ fn expect_uses<R: Abort>(rt: &R, book: &mut Book)
         book.finish(0, 1000000001),
     ];
     let range = BookRefusal::CostRange(1000000001);
-    assert_eq!(rt; told, [Ok(0), Ok(2097152), Err(FALLING), Err(range)]);
+    expect_same(rt, told, [Ok(0), Ok(2097152), Err(FALLING), Err(range)]);
 }
 
 // The request of the first worker ends, and then none runs there.
@@ -49,18 +45,18 @@ fn expect_end<R: Abort>(rt: &R, book: &mut Book)
     requires rows { length book.old.rows ≡ 2 }
     requires nets { length book.old.nets ≡ 2 }
 {
-    assert_eq!(rt; book.finish(0, 15), Ok(3145728));
-    assert_eq!(rt; (book.net(1), book.net(0)), (15, 0));
-    assert_eq!(rt; book.running(0), None);
-    assert_eq!(rt; book.report(0, 4), Err(BookRefusal::NotRunning));
+    expect_same(rt, book.finish(0, 15), Ok(3145728));
+    expect_same(rt, (book.net(1), book.net(0)), (15, 0));
+    expect_same(rt, book.running(0), None);
+    expect_same(rt, book.report(0, 4), Err(BookRefusal::NotRunning));
 }
 
 // A request from its begin to its end.
 fn one_request<R: Abort>(rt: &R, alloc: Global) {
     let mut book = opened(rt, alloc);
-    assert_eq!(rt; book.begin(0, 7, 1, 0, 1, 10), 10485760);
+    expect_same(rt, book.begin(0, 7, 1, 0, 1, 10), 10485760);
     expect_uses(rt, &mut book);
-    assert_eq!(rt; book.net(1), 12);
+    expect_same(rt, book.net(1), 12);
     let row = RunRow {
         request: 7,
         tenant: 1,
@@ -69,7 +65,7 @@ fn one_request<R: Abort>(rt: &R, alloc: Global) {
         estimate: 10,
         last: 12,
     };
-    assert_eq!(rt; book.running(0), Some(row));
+    expect_same(rt, book.running(0), Some(row));
     expect_end(rt, &mut book);
     send_away(book);
 }
@@ -85,10 +81,10 @@ fn two_requests<R: Abort>(rt: &R, alloc: Global) {
     let first = book.begin(0, 7, 1, 0, 1, 8);
     // The weight of its tenant is 4 now.
     let second = book.begin(1, 8, 1, 0, 4, 8);
-    assert_eq!(rt; [first, second], [8388608, 2097152]);
+    expect_same(rt, [first, second], [8388608, 2097152]);
     let told = [book.finish(0, 4), book.report(1, 12), book.finish(1, 16)];
-    assert_eq!(rt; told, [Ok(-4194304), Ok(1048576), Ok(1048576)]);
-    assert_eq!(rt; book.net(1), 20);
+    expect_same(rt, told, [Ok(-4194304), Ok(1048576), Ok(1048576)]);
+    expect_same(rt, book.net(1), 20);
 }
 
 #[test]
@@ -102,5 +98,5 @@ fn a_refusal_is_a_cause(rt: HostRuntime) {
         last: 12,
         given: 11,
     };
-    assert_eq!(rt; Cause::from(FALLING), cause);
+    expect_same(&rt, Cause::from(FALLING), cause);
 }

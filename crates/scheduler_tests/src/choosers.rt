@@ -2,7 +2,7 @@
 ghost use Rattle.std.specs.Prelude.{◌≡◌, ◌≢◌, ◌≤◌, pos, replicate, None};
 ghost use Rattle.scheduler_tests.specs.ByTenant.{IsByTenant};
 
-use crate::samples::{configured, send_away};
+use crate::samples::{configured, expect_same, send_away};
 use fq_model::config::Policy;
 use fq_model::limits::MOST_WORKERS;
 use std::alloc::Global;
@@ -32,11 +32,7 @@ pub fn opened<X: Chooser, R: Abort>(
     ensures latest { (X.seen result).latest ≡ pos 0 }
 {
     let config = configured(rt, alloc, policy, workers, tenants as usize);
-    let opened = X::open(alloc, &config);
-    let Ok(chooser) = opened else {
-        panic!(rt; "no memory for keys")
-    };
-    chooser
+    X::open(alloc, &config).expect(rt, "memory for keys")
 }
 
 /// Two tenants whose heads have these keys.
@@ -73,9 +69,10 @@ pub fn expect_resized<X: Chooser + Drop + Send, R: Abort>(rt: &R, alloc: Global)
     let of_two = chooser.choose(1, 4718592);
     chooser.resize(4);
     let of_four_again = chooser.choose(1, 4718592);
-    assert_eq!(rt;
+    expect_same(
+        rt,
         [of_four, of_two, of_four_again],
-        [Some(1), Some(0), Some(1)]
+        [Some(1), Some(0), Some(1)],
     );
     send_away(chooser);
 }
@@ -90,5 +87,5 @@ pub fn expect_lesser_first<X: Chooser + Drop, R: Abort>(rt: &R, alloc: Global) {
     let of_one = chooser.choose(0, 4 * UNIT);
     chooser.set(0, None);
     let of_none = chooser.choose(0, 4 * UNIT);
-    assert_eq!(rt; [of_both, of_one, of_none], [Some(1), Some(0), None]);
+    expect_same(rt, [of_both, of_one, of_none], [Some(1), Some(0), None]);
 }

@@ -1,7 +1,7 @@
 ghost use Rattle.std.specs.Prelude.{◌≡◌, replicate};
 ghost use Rattle.virtual_clock.specs.Idles.{asleep_at_first};
 
-use crate::samples::{configured, send_away};
+use crate::samples::{configured, expect_same, send_away};
 use fq_model::config::Policy;
 use std::alloc::Global;
 use std::process::Abort;
@@ -18,18 +18,14 @@ fn time_passes_by_the_number_of_workers(rt: HostRuntime) {
     let by_two = clock.now();
     clock.staff(3);
     clock.to(1000001);
-    assert_eq!(rt; [by_two, clock.now()], [699050666666, 699051715242]);
+    expect_same(&rt, [by_two, clock.now()], [699050666666, 699051715242]);
     send_away(clock);
 }
 
 fn opened<R: Abort>(rt: &R, alloc: Global) -> Idles
     ensures { result ≡ replicate 2 asleep_at_first }
 {
-    let idles = Idles::open(alloc, 2);
-    let Ok(idles) = idles else {
-        panic!(rt; "no memory for tenants")
-    };
-    idles
+    Idles::open(alloc, 2).expect(rt, "memory for tenants")
 }
 
 // The second of two tenants has two requests, then none, then one.
@@ -41,12 +37,13 @@ fn sleeps<R: Abort>(rt: &R, alloc: Global) {
     let last = idles.close_one(1, 300);
     let longer = idles.total(1, 350);
     let again = idles.open_one(1, 400);
-    assert_eq!(rt;
+    expect_same(
+        rt,
         [woke[0], woke[1], first, last, again],
-        [true, false, false, true, true]
+        [true, false, false, true, true],
     );
     let totals = [asleep, longer, idles.total(1, 500), idles.total(0, 500)];
-    assert_eq!(rt; totals, [100, 150, 200, 500]);
+    expect_same(rt, totals, [100, 150, 200, 500]);
     send_away(idles);
 }
 
@@ -58,10 +55,7 @@ fn a_tenant_sleeps_while_it_has_no_request(rt: HostRuntime) {
 // The time that stands at first.
 fn first_time<R: Abort>(rt: &R, alloc: Global) -> i128 {
     let config = configured(rt, alloc, Policy::TwoDfq, 1, 2);
-    let times = Times::open(alloc, &config);
-    let Ok(times) = times else {
-        panic!(rt; "no memory for times")
-    };
+    let times = Times::open(alloc, &config).expect(rt, "memory for times");
     let now = times.now();
     send_away(times);
     now
@@ -69,5 +63,5 @@ fn first_time<R: Abort>(rt: &R, alloc: Global) -> i128 {
 
 #[test]
 fn times_begin_at_0(rt: HostRuntime) {
-    assert_eq!(rt; first_time(&rt, rt.alloc()), 0);
+    expect_same(&rt, first_time(&rt, rt.alloc()), 0);
 }

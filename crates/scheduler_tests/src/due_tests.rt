@@ -1,3 +1,4 @@
+use crate::samples::{expect_same, expect_true};
 use eligible_index::index::IndexChooser;
 use fitted_chooser::chooser::ProgramChooser;
 use fq_model::config::{Checked, Policy};
@@ -7,6 +8,7 @@ use sched_state::{Scheduler, answer};
 use shared_order::chooser::SharedChooser;
 use std::alloc::Global;
 use std::process::Abort;
+use tag_rules::chooser::Chooser;
 use tag_rules::foresees::Foresees;
 use tag_rules::head_keys::Keys;
 use tag_rules::turn::Turn;
@@ -197,7 +199,7 @@ fn ask_all<X: Foresees, R: Abort>(
             moment.saturating_add(40),
         ] {
             let due = scheduler.due(other, worker);
-            assert!(rt; is_same(due, found_by_keys(scheduler, other, worker)));
+            expect_true(rt, is_same(due, found_by_keys(scheduler, other, worker)));
             tally = counted(tally, due);
         }
     }
@@ -211,51 +213,96 @@ fn made<X: Foresees, R: Abort>(rt: &R, scheduler: &mut Scheduler<u64, X>, call: 
     };
     let due = scheduler.due(moment, worker);
     let reply = answer(scheduler, call);
-    assert!(rt; agrees(due, reply));
+    expect_true(rt, agrees(due, reply));
     reply
+}
+
+// How far the calls have come.
+#[derive(Drop)]
+struct Course {
+    draw: Draw,
+    moment: u64,
+    submits: u32,
+    tally: Tally,
+}
+
+// The next call.
+fn next_call(course: &mut Course) -> Call {
+    let passed = course.draw.below(4);
+    course.moment = course.moment.saturating_add(passed as u64);
+    drawn(&mut course.draw, course.moment, course.submits)
+}
+
+// A scheduler is asked all questions and then answers the call.
+fn asked_and_made<X: Foresees, R: Abort>(
+    rt: &R,
+    scheduler: &mut Scheduler<u64, X>,
+    call: Call,
+    course: &mut Course,
+) {
+    course.tally = ask_all(rt, scheduler, course.moment, course.tally);
+    if let Reply::Request(request) = made(rt, scheduler, call) {
+        course.submits = request.saturating_add(1);
+    }
+}
+
+// Two schedulers have histories of one length, with one last entry.
+fn expect_one_past<X: Chooser, R: Abort>(
+    rt: &R,
+    asked: &Scheduler<u64, X>,
+    quiet: &Scheduler<u64, X>,
+) {
+    expect_same(rt, asked.past().len(), quiet.past().len());
+    expect_same(
+        rt,
+        asked.past().last().copied(),
+        quiet.past().last().copied(),
+    );
+}
+
+// A scheduler of those workers.
+fn opened<X: Chooser, R: Abort>(rt: &R, alloc: Global, policy: Policy) -> Scheduler<u64, X> {
+    Scheduler::<u64, X>::open(alloc, shared_workers(rt, alloc, policy)).expect(
+        rt,
+        "memory for a scheduler",
+    )
 }
 
 // Two schedulers answer the same calls, and only one is asked questions: both have one history.
 fn expect_exact<X: Foresees + Drop, R: Abort>(rt: &R, alloc: Global, policy: Policy) -> Tally {
-    let asked = Scheduler::<u64, X>::open(alloc, shared_workers(rt, alloc, policy));
-    let quiet = Scheduler::<u64, X>::open(alloc, shared_workers(rt, alloc, policy));
-    let (Ok(mut asked), Ok(mut quiet)) = (asked, quiet) else {
-        panic!(rt; "no memory for schedulers")
+    let mut asked = opened::<X, R>(rt, alloc, policy);
+    let mut quiet = opened::<X, R>(rt, alloc, policy);
+    let mut course = Course {
+        draw: Draw { state: 7 },
+        moment: 0,
+        submits: 0,
+        tally: Tally {
+            nothing: 0,
+            eligible: 0,
+            early: 0,
+        },
     };
-    let mut draw = Draw { state: 7 };
-    let mut tally = Tally {
-        nothing: 0,
-        eligible: 0,
-        early: 0,
-    };
-    let mut moment: u64 = 0;
-    let mut submits: u32 = 0;
     for _ in 0..100 {
-        moment = moment.saturating_add(draw.below(4) as u64);
-        tally = ask_all(rt, &asked, moment, tally);
-        let call = drawn(&mut draw, moment, submits);
-        if let Reply::Request(request) = made(rt, &mut asked, call) {
-            submits = request.saturating_add(1);
-        }
+        let call = next_call(&mut course);
+        asked_and_made(rt, &mut asked, call, &mut course);
         answer(&mut quiet, call);
-        assert_eq!(rt; asked.past().len(), quiet.past().len());
-        assert!(rt; asked.past().last().copied() == quiet.past().last().copied());
+        expect_one_past(rt, &asked, &quiet);
     }
     drop(asked);
     drop(quiet);
-    tally
+    course.tally
 }
 
 // Under each policy the answers are exact, and under these three each of the answers comes.
 fn expect_under_each<X: Foresees + Drop, R: Abort>(rt: &R, alloc: Global) {
     for policy in [Policy::Wf2q, Policy::TwoDfq, Policy::TwoDfqPlus] {
         let tally = expect_exact::<X, R>(rt, alloc, policy);
-        assert!(rt; tally.nothing > 0);
-        assert!(rt; tally.eligible > 0);
-        assert!(rt; tally.early > 0);
+        expect_true(rt, tally.nothing > 0);
+        expect_true(rt, tally.eligible > 0);
+        expect_true(rt, tally.early > 0);
     }
     let by_finish = expect_exact::<X, R>(rt, alloc, Policy::Wfq);
-    assert_eq!(rt; by_finish.early, 0);
+    expect_same(rt, by_finish.early, 0);
     expect_exact::<X, R>(rt, alloc, Policy::Msf2q);
 }
 

@@ -1,6 +1,6 @@
 ghost use Rattle.std.specs.Prelude.{◌≡◌, ◌<◌, length};
 
-use crate::samples::send_away;
+use crate::samples::{expect_same_at, send_away};
 use cost_estimate::any::AnyCost;
 use cost_estimate::declared::DeclaredCost;
 use cost_estimate::estimate::Estimate;
@@ -32,11 +32,7 @@ fn opened<E: Estimate, R: Abort>(rt: &R, alloc: Global, estimate: Estimator) -> 
     ensures kinds { E.kinds result ≡ 2 }
 {
     let config = two_by_two(rt, alloc, estimate);
-    let opened = E::open(alloc, &config);
-    let Ok(estimator) = opened else {
-        panic!(rt; "no memory for costs")
-    };
-    estimator
+    E::open(alloc, &config).expect(rt, "memory for costs")
 }
 
 // The estimate of a request whose declared cost is 7 is this.
@@ -60,7 +56,7 @@ fn expect_learned<E: Estimate, R: Abort>(rt: &R, estimator: &mut E, rows: &[(u16
 {
     for (cost, wanted) in rows {
         estimator.learn(1, 1, u64::from(*cost));
-        assert_eq!(rt; estimator.now(1, 1, 7), *wanted, "after {cost}");
+        expect_same_at(rt, cost, estimator.now(1, 1, 7), *wanted);
     }
 }
 

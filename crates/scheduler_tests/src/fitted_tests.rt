@@ -1,6 +1,7 @@
 ghost use Rattle.std.specs.Prelude.{◌≤◌};
 
 use crate::choosers::{expect_lesser_first, expect_resized, opened};
+use crate::samples::expect_same;
 use fitted_chooser::chooser::{FittedChooser, ProgramChooser};
 use fq_model::config::Policy;
 use fq_model::limits::MOST_WORKERS;
@@ -27,7 +28,7 @@ fn each_of_few_heads(rt: HostRuntime) {
         looks_at_each(&rt, rt.alloc(), 4, 17),
         looks_at_each(&rt, rt.alloc(), 1, 4096),
     ];
-    assert_eq!(rt; told, [true, true, true, false, false]);
+    expect_same(&rt, told, [true, true, true, false, false]);
 }
 
 #[test]

@@ -1,7 +1,7 @@
 ghost use Rattle.std.specs.Prelude.{◌<◌};
 
 use crate::choosers::{opened, with_heads};
-use crate::samples::send_away;
+use crate::samples::{expect_same, send_away};
 use eligible_index::index::IndexChooser;
 use fq_model::config::Policy;
 use std::alloc::Global;
@@ -20,7 +20,7 @@ fn expect_trees<R: Abort>(
     requires { 1 < chooser.now.chooser.setting.most_workers }
 {
     let told = [chooser.later(1).first(), chooser.eligible(1).first()];
-    assert_eq!(rt; told, [later, eligible]);
+    expect_same(rt, told, [later, eligible]);
 }
 
 // The second of four workers begins a quarter of a length early, the second of two half a length: the first tenant's
@@ -52,7 +52,7 @@ fn expect_resized_trees<R: Abort>(rt: &R, alloc: Global) {
     expect_trees(rt, &chooser, Some((1, second)), Some((0, first)));
     chooser.resize(4);
     let told = [of_four, of_two, chooser.choose(1, 4718592)];
-    assert_eq!(rt; told, [Some(1), Some(0), Some(1)]);
+    expect_same(rt, told, [Some(1), Some(0), Some(1)]);
     send_away(chooser);
 }
 
@@ -74,7 +74,7 @@ fn expect_changes<X: Chooser + Drop, R: Abort>(rt: &R, alloc: Global) {
     let alone = chooser.choose(0, 0);
     chooser.set(0, None);
     let told = [at_first, changed, alone, chooser.choose(0, 0)];
-    assert_eq!(rt; told, [Some(0), Some(1), Some(0), None]);
+    expect_same(rt, told, [Some(0), Some(1), Some(0), None]);
 }
 
 #[test]

@@ -1,3 +1,4 @@
+use crate::samples::expect_same;
 use fq_model::config::Policy;
 use tag_rules::keys::{eligible_key, keys};
 
@@ -5,11 +6,12 @@ use tag_rules::keys::{eligible_key, keys};
 #[test]
 fn keys_of_a_head(rt: HostRuntime) {
     let head = keys(5, 3, 2, 7);
-    assert_eq!(rt;
+    expect_same(
+        &rt,
         [head.start, head.len, head.finish()],
-        [5, 1572864, 1572869]
+        [5, 1572864, 1572869],
     );
-    assert_eq!(rt; head.request, 7);
+    expect_same(&rt, head.request, 7);
 }
 
 // Of two workers the second begins half a length early: from 4 units on a head that starts at 8 and is 8 long, from
@@ -30,11 +32,11 @@ fn staggered_under_2dfq_and_2dfq_plus(rt: HostRuntime) {
     let wanted = [
         4194304, 5767168, 8388608, 4194304, 8388608, 8388608, 8388608,
     ];
-    assert_eq!(rt; told, wanted);
+    expect_same(&rt, told, wanted);
 }
 
 #[test]
 fn eligible_before_time_began(rt: HostRuntime) {
     let key = eligible_key(Policy::TwoDfq, keys(5, 3, 2, 7), 1, 4);
-    assert_eq!(rt; key, -393211);
+    expect_same(&rt, key, -393211);
 }

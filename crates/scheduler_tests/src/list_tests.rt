@@ -1,4 +1,4 @@
-use crate::samples::send_away;
+use crate::samples::{expect_same, send_away};
 use std::alloc::Global;
 use std::process::Abort;
 use waiting_lists::{Item, Lists};
@@ -18,18 +18,16 @@ fn item(request: u32) -> Item<Label> {
 
 // Two slots of two tenants fill, and one of them becomes free.
 fn fill<R: Abort>(rt: &R, alloc: Global) {
-    let lists = Lists::<Label>::open(alloc, 2, 2);
-    let Ok(mut lists) = lists else {
-        panic!(rt; "no memory for lists")
-    };
-    assert_eq!(rt;
+    let mut lists = Lists::<Label>::open(alloc, 2, 2).expect(rt, "memory for lists");
+    expect_same(
+        rt,
         [lists.push(1, item(0)), lists.push(0, item(1))],
-        [Ok(()), Ok(())]
+        [Ok(()), Ok(())],
     );
-    assert_eq!(rt; lists.push(1, item(2)), Err(item(2)));
-    assert_eq!(rt; lists.head(1), Some(&item(0)));
-    assert_eq!(rt; [lists.pop(1), lists.pop(1)], [Some(item(0)), None]);
-    assert_eq!(rt; lists.len(), 1);
+    expect_same(rt, lists.push(1, item(2)), Err(item(2)));
+    expect_same(rt, lists.head(1), Some(&item(0)));
+    expect_same(rt, [lists.pop(1), lists.pop(1)], [Some(item(0)), None]);
+    expect_same(rt, lists.len(), 1);
     send_away(lists);
 }
 

@@ -2,6 +2,7 @@
 ghost use Rattle.std.specs.Prelude.{◌≡◌, ◌<◌, ◌≤◌};
 ghost use Rattle.scheduler_tests.specs.Numbered.{numbered, HasNumbers};
 
+use crate::samples::{expect_same, expect_same_at};
 use shared_order::block::Block;
 use shared_order::head::Head;
 use shared_order::order::Order;
@@ -24,10 +25,7 @@ fn head(number: u32) -> Head
 fn seventy<R: Abort>(rt: &R, alloc: Global) -> Order
     ensures { HasNumbers result.heads 0 70 }
 {
-    let order = Order::open(alloc, 70);
-    let Ok(mut order) = order else {
-        panic!(rt; "no memory for heads")
-    };
+    let mut order = Order::open(alloc, 70).expect(rt, "memory for heads");
     for number in 0..70 {
         order.insert(head(number));
     }
@@ -55,16 +53,11 @@ fn is_block(block: &Block, heads: usize, longest: i128, first: u32) -> bool {
 
 // The blocks are these, each by the number of its heads, their greatest length and its first tenant.
 fn expect_blocks<R: Abort>(rt: &R, blocks: &[Block], wanted: &[(usize, i128, u32)]) {
-    assert_eq!(rt; blocks.len(), wanted.len());
+    expect_same(rt, blocks.len(), wanted.len());
     let mut rest = blocks.iter();
     for (heads, longest, first) in wanted {
-        let Some(block) = rest.next() else {
-            panic!(rt; "one more block")
-        };
-        assert!(rt;
-            is_block(block, *heads, *longest, *first),
-            "from {first} on"
-        );
+        let block = rest.next().expect(rt, "one more block");
+        expect_same_at(rt, first, is_block(block, *heads, *longest, *first), true);
     }
 }
 

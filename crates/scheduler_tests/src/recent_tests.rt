@@ -1,3 +1,4 @@
+use crate::samples::{expect_same, expect_true};
 use fq_model::config::Checked;
 use fq_model::event::{Call, Cause, Due, Reply};
 use rival_policies::plain::PlainChooser;
@@ -113,10 +114,10 @@ fn expect_last<R: Abort>(rt: &R, alloc: Global, keep: u32, calls: &[Call], entri
     };
     for call in calls {
         let reply = sched_state::answer(&mut whole, *call);
-        assert!(rt; is_same(sched_state::answer(&mut recent, *call), reply));
+        expect_true(rt, is_same(sched_state::answer(&mut recent, *call), reply));
         expect_kept(rt, &whole, &recent, keep);
     }
-    assert_eq!(rt; recent.len(), entries);
+    expect_same(rt, recent.len(), entries);
     drop(recent);
     drop(whole);
 }
@@ -130,14 +131,14 @@ fn expect_kept<R: Abort>(
 ) {
     let past = whole.past();
     let first = past.len().saturating_sub(keep as usize);
-    assert_eq!(rt; recent.first_kept() as usize, first);
+    expect_same(rt, recent.first_kept() as usize, first);
     for index in 0..past.len() + 1 {
         let wanted = if index < first {
             None
         } else {
             past.get(index).copied()
         };
-        assert!(rt; recent.entry(index as u64) == wanted);
+        expect_true(rt, recent.entry(index as u64) == wanted);
     }
 }
 
@@ -170,32 +171,33 @@ fn one_is_withdrawn_where_two_are_kept(rt: HostRuntime) {
 // on.
 #[test]
 fn a_worker_that_asks_what_it_would_find(rt: HostRuntime) {
-    let recent = Recent::<u64, PlainChooser>::open_keeping(
+    let mut recent = Recent::<u64, PlainChooser>::open_keeping(
         rt.alloc(),
         short_history(&rt, rt.alloc()),
         1,
-    );
-    let Ok(mut recent) = recent else {
-        panic!(rt; "no memory for a scheduler")
-    };
-    assert!(rt; matches!(recent.due(1, 0), Due::Nothing));
+    ).expect(&rt, "memory for a scheduler");
+    expect_true(&rt, matches!(recent.due(1, 0), Due::Nothing));
     for call in [submit(1, 0), submit(1, 0), take(1), done(2)] {
         sched_state::answer(&mut recent, call);
     }
     for moment in [0, 4] {
         let early = recent.due(moment, 0);
-        assert!(rt;
+        expect_true(
+            &rt,
             matches!(
                 early,
                 Due::Early {
                     request: 1,
                     estimate: 5
                 }
-            )
+            ),
         );
     }
-    assert!(rt; matches!(recent.due(5, 0), Due::Eligible));
-    assert!(rt; matches!(recent.due(5, 1), Due::Refused(Cause::Worker(1))));
-    assert_eq!(rt; recent.len(), 4);
+    expect_true(&rt, matches!(recent.due(5, 0), Due::Eligible));
+    expect_true(
+        &rt,
+        matches!(recent.due(5, 1), Due::Refused(Cause::Worker(1))),
+    );
+    expect_same(&rt, recent.len(), 4);
     drop(recent);
 }

@@ -4,6 +4,7 @@ ghost use Rattle.std.specs.Prelude.{◌≡◌, ◌≤◌, length};
 use fq_model::config::{Checked, Config, Policy};
 use fq_model::limits::MOST_WORKERS;
 use std::alloc::Global;
+use std::fmt::{Debug, Display};
 use std::marker::Send;
 use std::process::Abort;
 use test_samples::sample_config;
@@ -32,4 +33,24 @@ pub fn configured<R: Abort>(
         ..sample_config(weights)
     };
     config.check().expect(rt, "numbers in their limits")
+}
+
+/// The two are equal.
+pub fn expect_same<T: PartialEq + Debug + Drop, R: Abort>(rt: &R, told: T, wanted: T) {
+    assert_eq!(rt; told, wanted);
+}
+
+/// The two are equal, in this case.
+pub fn expect_same_at<D: Display + Drop, T: PartialEq + Debug + Drop, R: Abort>(
+    rt: &R,
+    case: D,
+    told: T,
+    wanted: T,
+) {
+    assert_eq!(rt; told, wanted, "at {case}");
+}
+
+/// It is so.
+pub fn expect_true<R: Abort>(rt: &R, is_so: bool) {
+    assert!(rt; is_so);
 }

@@ -3,6 +3,7 @@ ghost use Rattle.fq_model.specs.declared.config.Policy.TheVariants as policies;
 ghost use Rattle.scheduler_tests.specs.ByTenant.{IsByTenant};
 
 use crate::choosers::{UNIT, expect_lesser_first, expect_resized, opened, with_heads};
+use crate::samples::expect_same;
 use fq_model::config::Policy;
 use shared_order::chooser::SharedChooser;
 use std::alloc::Global;
@@ -31,7 +32,7 @@ fn expect_not_misled<X: Chooser + Drop, R: Abort>(rt: &R, alloc: Global) {
     let at_0 = chooser.choose(0, 0);
     let at_1 = chooser.choose(0, UNIT);
     let at_2 = chooser.choose(0, 2 * UNIT);
-    assert_eq!(rt; [at_0, at_1, at_2], [Some(1), Some(1), Some(0)]);
+    expect_same(rt, [at_0, at_1, at_2], [Some(1), Some(1), Some(0)]);
 }
 
 #[test]
@@ -94,7 +95,7 @@ fn expect_later_blocks<X: Chooser + Drop, R: Abort>(rt: &R, alloc: Global) {
     let of_one = chooser.choose(0, 0);
     chooser.set(39, None);
     let told = [of_all, of_few, of_fewer, of_one, chooser.choose(0, 0)];
-    assert_eq!(rt; told, [Some(40), Some(10), Some(0), Some(39), None]);
+    expect_same(rt, told, [Some(40), Some(10), Some(0), Some(39), None]);
 }
 
 #[test]

@@ -1,25 +1,22 @@
-use crate::samples::send_away;
+use crate::samples::{expect_same, send_away};
 use std::alloc::Global;
 use std::process::Abort;
 use winner_tree::{Key, Tree};
 
 // Of three leaves two have keys, then one, then none. At first these are the winners.
 fn three<R: Abort>(rt: &R, alloc: Global, winners: &[Option<u32>]) {
-    let tree = Tree::open(alloc, 3);
-    let Ok(mut tree) = tree else {
-        panic!(rt; "no memory for a tree")
-    };
+    let mut tree = Tree::open(alloc, 3).expect(rt, "memory for a tree");
     let key = Key { a: 5, b: 1, c: 0 };
     let lesser = Key { a: 5, b: 0, c: 9 };
     tree.set(0, Some(key));
     tree.set(2, Some(lesser));
     let of_two = tree.first();
-    assert_eq!(rt; tree.winners(), winners);
+    expect_same(rt, tree.winners(), winners);
     tree.set(2, None);
     let of_one = tree.first();
     tree.set(0, None);
     let wanted = [Some((2, lesser)), Some((0, key)), None];
-    assert_eq!(rt; [of_two, of_one, tree.first()], wanted);
+    expect_same(rt, [of_two, of_one, tree.first()], wanted);
     send_away(tree);
 }
 

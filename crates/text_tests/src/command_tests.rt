@@ -1,4 +1,5 @@
 //! Command lines, and their commands.
+use crate::samples::expect_same_at;
 use command_line::command::command;
 use command_line::options::{Absent, OptionRow, Value, Values, values_in};
 use fq_model::config::{Estimator, Policy};
@@ -37,12 +38,8 @@ const ROWS: [OptionRow; 3] = [
 fn words_of<R: Abort>(rt: &R, alloc: Global, line: &str) -> Vec<String> {
     let mut words = Vec::new(alloc);
     for word in line.split(' ') {
-        let Ok(word) = word.to_string(alloc) else {
-            panic!(rt; "no memory for a word")
-        };
-        let Ok(()) = words.push(word) else {
-            panic!(rt; "no memory for words")
-        };
+        let word = word.to_string(alloc).expect(rt, "memory for a word");
+        words.push(word).expect(rt, "memory for words");
     }
     words
 }
@@ -51,7 +48,7 @@ fn words_of<R: Abort>(rt: &R, alloc: Global, line: &str) -> Vec<String> {
 fn expect_commands<R: Abort>(rt: &R, alloc: Global, rows: &[(&str, Option<Command>)]) {
     for (line, wanted) in rows {
         let words = words_of(rt, alloc, line);
-        assert!(rt; command(&words) == *wanted, "at {line}");
+        expect_same_at(rt, line, command(&words) == *wanted, true);
     }
 }
 
@@ -314,7 +311,7 @@ fn expect_values<R: Abort>(rt: &R, alloc: Global, rows: &[(&str, Option<[Value; 
     for (line, wanted) in rows {
         let words = words_of(rt, alloc, line);
         let read: Option<[Value; 3]> = values_in(&ROWS, &words);
-        assert!(rt; read == *wanted, "at {line}");
+        expect_same_at(rt, line, read == *wanted, true);
     }
 }
 

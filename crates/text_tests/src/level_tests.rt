@@ -2,6 +2,7 @@ ghost use Rattle.std.specs.Prelude.{◌≤◌, length, All};
 ghost use Rattle.fq_model.specs.Limits.{IsWeight};
 ghost use Rattle.water_level.specs.Backlogs.{IsBacklog};
 
+use crate::samples::expect_same;
 use fq_model::level::{Backlog, Level};
 use std::process::Abort;
 use water_level::gifts::give;
@@ -44,7 +45,7 @@ fn gifts(rt: HostRuntime) {
         give(Level::At(3071), backlog(100, 2)),
         give(Level::All, backlog(100, 2)),
     ];
-    assert_eq!(rt; told, [2, 2, 5, 100]);
+    expect_same(&rt, told, [2, 2, 5, 100]);
 }
 
 #[test]

@@ -3,11 +3,7 @@
 #![tactic(auto)]
 
 #[cfg(test)]
-mod check_tests;
-#[cfg(test)]
 mod command_tests;
-#[cfg(test)]
-mod fault_tests;
 #[cfg(test)]
 mod level_tests;
 #[cfg(test)]

@@ -1,4 +1,5 @@
 //! The messages of faults, for people to read.
+use crate::samples::expect_same;
 use charge_book::refusal::BookRefusal;
 use fq_model::config::ConfigFault;
 use fq_model::event::Cause;
@@ -13,7 +14,7 @@ use std::process::Abort;
 fn expect<D: Display>(rt: &impl Abort, alloc: Global, messages: &[(D, &str)]) {
     for (fault, wanted) in messages {
         let text = format!(in alloc; "{fault}").expect(rt, "memory for a text");
-        assert_eq!(rt; text.as_str(), *wanted);
+        expect_same(rt, text.as_str(), *wanted);
     }
 }
 

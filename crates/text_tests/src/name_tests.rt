@@ -1,3 +1,4 @@
+use crate::samples::{expect_same, expect_same_at};
 use std::alloc::Global;
 use std::marker::Send;
 use std::process::Abort;
@@ -18,7 +19,7 @@ fn tenants_of<R: Abort>(
 ) -> TenantsBuilder {
     let mut tenants = TenantsBuilder::new(alloc);
     for (name, weight, wanted) in rows {
-        assert_eq!(rt; tenants.add(name, *weight), *wanted, "at {name}");
+        expect_same_at(rt, name, tenants.add(name, *weight), *wanted);
     }
     tenants
 }
@@ -26,15 +27,15 @@ fn tenants_of<R: Abort>(
 // The tenants of these names have these numbers.
 fn expect_found<R: Abort>(rt: &R, tenants: &TenantsBuilder, rows: &[(&str, Option<u32>)]) {
     for (name, wanted) in rows {
-        assert_eq!(rt; tenants.find(name), *wanted, "at {name}");
+        expect_same_at(rt, name, tenants.find(name), *wanted);
     }
 }
 
 // The second of two tenants has this name and this weight.
 fn expect_second<R: Abort>(rt: &R, tenants: &Tenants, name: &str, weight: u32) {
-    assert_eq!(rt; tenants.len(), 2);
-    assert!(rt; tenants.name(1) == name);
-    assert_eq!(rt; tenants.weight(1), weight);
+    expect_same(rt, tenants.len(), 2);
+    expect_same(rt, tenants.name(1), name);
+    expect_same(rt, tenants.weight(1), weight);
 }
 
 // The tenants of these names and weights have these numbers.
@@ -46,9 +47,7 @@ fn expect_numbers<R: Abort>(
 ) {
     let tenants = tenants_of(rt, alloc, added);
     expect_found(rt, &tenants, found);
-    let Ok(tenants) = tenants.finish() else {
-        panic!(rt; "no memory for tenants")
-    };
+    let tenants = tenants.finish().expect(rt, "memory for tenants");
     expect_second(rt, &tenants, "a.b-c_9", 1000);
     send_away(tenants);
 }
@@ -75,11 +74,8 @@ fn kinds_of<R: Abort>(rt: &R, alloc: Global, letters: &str) -> KindsBuilder {
     let mut number = 0u32;
     for letter in letters.as_bytes() {
         let name = [*letter];
-        let name = std::str::from_utf8(&name);
-        let Ok(name) = name else {
-            panic!(rt; "a letter is a text")
-        };
-        assert_eq!(rt; kinds.add(name), Ok(number), "at {name}");
+        let name = std::str::from_utf8(&name).expect(rt, "a letter is a text");
+        expect_same_at(rt, name, kinds.add(name), Ok(number));
         number = number.saturating_add(1);
     }
     kinds
@@ -87,23 +83,21 @@ fn kinds_of<R: Abort>(rt: &R, alloc: Global, letters: &str) -> KindsBuilder {
 
 // Of 64 kinds the last has this name, and one more is refused.
 fn expect_full<R: Abort>(rt: &R, kinds: &mut KindsBuilder, more: &str, last: &str) {
-    assert_eq!(rt; kinds.add(more), Err(NameFault::TooMany(64)));
-    assert_eq!(rt; kinds.find(last), Some(63));
+    expect_same(rt, kinds.add(more), Err(NameFault::TooMany(64)));
+    expect_same(rt, kinds.find(last), Some(63));
 }
 
 // There are 64 kinds, and the last has this name.
 fn expect_last<R: Abort>(rt: &R, kinds: &Kinds, last: &str) {
-    assert_eq!(rt; kinds.len(), 64);
-    assert!(rt; kinds.name(63) == last);
+    expect_same(rt, kinds.len(), 64);
+    expect_same(rt, kinds.name(63), last);
 }
 
 // Kinds are full once these are named.
 fn expect_room_for<R: Abort>(rt: &R, alloc: Global, letters: &str) {
     let mut kinds = kinds_of(rt, alloc, letters);
     expect_full(rt, &mut kinds, ".", "-");
-    let Ok(kinds) = kinds.finish() else {
-        panic!(rt; "no memory for kinds")
-    };
+    let kinds = kinds.finish().expect(rt, "memory for kinds");
     expect_last(rt, &kinds, "-");
     send_away(kinds);
 }

@@ -1,25 +1,17 @@
 //! Texts written by hand, and their contents.
-use crate::samples::expect_text;
+use crate::samples::{expect_same, expect_text};
 use fq_model::event::{Act, Cause, Entry, Reply};
 use journal_text::calls::{Script, read_script};
-use journal_text::messages::placed_fault;
 use journal_text::printing::{entry_line, print};
 use journal_text::replies::{replies_text, reply_line};
-use program_model::fault::ScriptKind;
 use std::alloc::Global;
 use std::process::Abort;
 
 // These replies and one more are printed so.
 fn expect_replies<R: Abort>(rt: &R, alloc: Global, replies: &[Reply], more: Reply, wanted: &str) {
-    let text = replies_text(alloc, replies);
-    let Ok(mut text) = text else {
-        panic!(rt; "no memory for a text")
-    };
-    let added = reply_line(more, &mut text);
-    let Ok(()) = added else {
-        panic!(rt; "no memory for a line")
-    };
-    assert_eq!(rt; text.as_slice(), wanted.as_bytes());
+    let mut text = replies_text(alloc, replies).expect(rt, "memory for a text");
+    reply_line(more, &mut text).expect(rt, "memory for a line");
+    expect_same(rt, text.as_slice(), wanted.as_bytes());
 }
 
 #[test]
@@ -112,11 +104,7 @@ fn without_calls<R: Abort>(rt: &R, alloc: Global) -> Script {
     let text = ["script 1\n", HEAD]
         .concat(alloc)
         .expect(rt, "memory for a text");
-    let script = read_script(alloc, text.as_bytes());
-    let Ok(script) = script else {
-        panic!(rt; "a script")
-    };
-    script
+    read_script(alloc, text.as_bytes()).expect(rt, "a script")
 }
 
 // A journal with that head and these entries is printed so.
@@ -162,52 +150,11 @@ fn prints_a_journal(rt: HostRuntime) {
 // The line of an entry alone.
 fn expect_line<R: Abort>(rt: &R, alloc: Global, entry: Entry, wanted: &[u8]) {
     let mut line = Vec::new(alloc);
-    let added = entry_line(entry, &mut line);
-    let Ok(()) = added else {
-        panic!(rt; "no memory for a line")
-    };
-    assert_eq!(rt; line.as_slice(), wanted);
+    entry_line(entry, &mut line).expect(rt, "memory for a line");
+    expect_same(rt, line.as_slice(), wanted);
 }
 
 #[test]
 fn prints_an_entry(rt: HostRuntime) {
     expect_line(&rt, rt.alloc(), entry(Act::Close), b"close 7 20\n");
-}
-
-// Each fault at line 3 is printed so.
-fn expect_told<R: Abort>(rt: &R, alloc: Global, rows: &[(&str, ScriptKind, &str)]) {
-    for (title, kind, wanted) in rows {
-        let text = placed_fault(alloc, title, 3, *kind);
-        let Ok(text) = text else {
-            panic!(rt; "no memory for a text")
-        };
-        assert_eq!(rt; text.as_str(), *wanted);
-    }
-}
-
-#[test]
-fn tells_every_fault(rt: HostRuntime) {
-    let rows = [
-        ("script", ScriptKind::Header, "line 3: not a script"),
-        ("script", ScriptKind::Word, "line 3: unknown word or name"),
-        ("script", ScriptKind::Fields(1), "line 3: 1 fields"),
-        (
-            "script",
-            ScriptKind::Number(2),
-            "line 3: field 2 is not a number",
-        ),
-        (
-            "script",
-            ScriptKind::Range(7),
-            "line 3: field 7 is out of range",
-        ),
-        ("script", ScriptKind::Twice, "line 3: named twice"),
-        ("script", ScriptKind::TooMany, "line 3: too many"),
-        (
-            "journal",
-            ScriptKind::Missing,
-            "line 3: the journal ends in its head",
-        ),
-    ];
-    expect_told(&rt, rt.alloc(), &rows);
 }

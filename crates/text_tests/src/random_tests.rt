@@ -1,4 +1,5 @@
 //! Random histories in which requests are withdrawn, over each chooser, and the verdicts on their journals.
+use crate::samples::expect_same_at;
 use eligible_index::index::IndexChooser;
 use fq_model::event::{Call, Reply};
 use journal_check::checking::check;
@@ -74,9 +75,7 @@ fn call_at_random<X: Chooser>(scheduler: &mut Scheduler<u64, X>, seed: u64, call
 // Appends a line for each entry of the scheduler.
 fn add_entries<X: Chooser, R: Abort>(rt: &R, scheduler: &Scheduler<u64, X>, text: &mut Vec<u8>) {
     for entry in scheduler.past() {
-        let Ok(()) = entry_line(*entry, text) else {
-            panic!(rt; "no memory for a line")
-        };
+        entry_line(*entry, text).expect(rt, "memory for a line");
     }
 }
 
@@ -92,13 +91,12 @@ fn expect_legal<X: Chooser + Drop, R: Abort>(rt: &R, alloc: Global, settings: &s
     let script = ["script 3\nconfig 2 ", settings, HEAD]
         .concat(alloc)
         .expect(rt, "memory for a head");
-    let Ok(script) = read_script(alloc, script.as_bytes()) else {
-        panic!(rt; "a script")
-    };
+    let script = read_script(alloc, script.as_bytes()).expect(rt, "a script");
     let (config, _, _, _) = script.into_parts();
-    let Ok(mut scheduler) = Scheduler::<u64, X>::open(alloc, config) else {
-        panic!(rt; "no memory for a scheduler")
-    };
+    let mut scheduler = Scheduler::<u64, X>::open(alloc, config).expect(
+        rt,
+        "memory for a scheduler",
+    );
     call_at_random(&mut scheduler, seed, 600);
     let top = ["journal 3\nconfig 2 ", settings, HEAD]
         .concat(alloc)
@@ -108,10 +106,13 @@ fn expect_legal<X: Chooser + Drop, R: Abort>(rt: &R, alloc: Global, settings: &s
         .expect(rt, "memory for a head");
     add_entries(rt, &scheduler, &mut text);
     drop(scheduler);
-    assert!(rt; withdrawals(text.as_slice()) > 20, "too few withdrawals");
-    let Ok(journal) = read_journal(alloc, text.as_slice()) else {
-        panic!(rt; "a journal")
-    };
+    expect_same_at(
+        rt,
+        "too few withdrawals",
+        withdrawals(text.as_slice()) > 20,
+        true,
+    );
+    let journal = read_journal(alloc, text.as_slice()).expect(rt, "a journal");
     let Ok(Verdict::Legal) = check::<X>(alloc, &journal) else {
         panic!(rt; "seed {seed} of {settings} is not judged legal")
     };

@@ -1,4 +1,5 @@
 //! Scripts written by hand, with their contents or their faults by the grammar.
+use crate::samples::{expect_same, expect_same_at};
 use fq_model::config::{Checked, Estimator, Policy};
 use fq_model::event::Call;
 use journal_text::calls::{open_script, read_script};
@@ -9,33 +10,31 @@ use tenant_table::tenants::Tenants;
 
 // A script's configuration, as its text says it.
 fn expect_config<R: Abort>(rt: &R, config: &Checked) {
-    assert_eq!(rt; (config.workers(), config.initial()), (1, 1000));
+    expect_same(rt, (config.workers(), config.initial()), (1, 1000));
     assert!(rt; config.policy() == Policy::TwoDfq);
     assert!(rt; config.estimate() == Estimator::Declared);
-    assert_eq!(rt;
+    expect_same(
+        rt,
         (config.entries(), config.requests(), config.kinds()),
-        (100, 10, 1)
+        (100, 10, 1),
     );
-    assert_eq!(rt; config.weights(), [1, 3].as_slice());
+    expect_same(rt, config.weights(), [1, 3].as_slice());
 }
 
 // Its names.
 fn expect_names<R: Abort>(rt: &R, tenants: &Tenants, kinds: &Kinds) {
-    assert_eq!(rt; tenants.len(), 2);
-    assert!(rt; tenants.name(1) == "b");
-    assert_eq!(rt; kinds.len(), 1);
-    assert!(rt; kinds.name(0) == "get");
+    expect_same(rt, tenants.len(), 2);
+    expect_same(rt, tenants.name(1), "b");
+    expect_same(rt, kinds.len(), 1);
+    expect_same(rt, kinds.name(0), "get");
 }
 
 // A text is a script of that configuration and those names, with these calls.
 fn expect_script<R: Abort>(rt: &R, alloc: Global, text: &str, calls: &[Call]) {
-    let script = read_script(alloc, text.as_bytes());
-    let Ok(script) = script else {
-        panic!(rt; "a script")
-    };
+    let script = read_script(alloc, text.as_bytes()).expect(rt, "a script");
     expect_config(rt, script.config());
     expect_names(rt, script.tenants(), script.kinds());
-    assert!(rt; script.body() == calls, "other calls");
+    expect_same_at(rt, "other calls", script.body() == calls, true);
 }
 
 #[test]
@@ -92,21 +91,21 @@ fn reads_a_script(rt: HostRuntime) {
 
 // A text is a script of two kinds, and its calls are read one by one.
 fn expect_call_by_call<R: Abort>(rt: &R, alloc: Global, text: &str, calls: &[Call]) {
-    let script = open_script(alloc, text.as_bytes());
-    let Ok(mut script) = script else {
-        panic!(rt; "a script")
-    };
-    assert_eq!(rt;
+    let mut script = open_script(alloc, text.as_bytes()).expect(rt, "a script");
+    expect_same(
+        rt,
         (script.head.kinds().len(), script.head.body().len()),
-        (2, 0)
+        (2, 0),
     );
     for (place, call) in calls.iter().enumerate() {
-        assert!(rt;
-            script.body.read_next() == Ok(Some(*call)),
-            "at call {place}"
-        );
+        expect_same_at(rt, place, script.body.read_next() == Ok(Some(*call)), true);
     }
-    assert!(rt; script.body.read_next() == Ok(None), "after the calls");
+    expect_same_at(
+        rt,
+        "after the calls",
+        script.body.read_next() == Ok(None),
+        true,
+    );
 }
 
 // A worker's take at this moment.
@@ -159,11 +158,7 @@ fn reads_numbers_of_every_length(rt: HostRuntime) {
 // Each of these is a script.
 fn expect_scripts<R: Abort>(rt: &R, alloc: Global, texts: &[&str]) {
     for text in texts {
-        assert_eq!(rt;
-            read_script(alloc, text.as_bytes()).err(),
-            None,
-            "in {text:?}"
-        );
+        expect_same_at(rt, text, read_script(alloc, text.as_bytes()).err(), None);
     }
 }
 

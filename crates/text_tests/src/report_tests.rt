@@ -3,7 +3,7 @@ ghost use Rattle.fq_model.specs.History.{history_of};
 ghost use Rattle.fq_model.specs.Rules.{IsLegal};
 ghost use Rattle.text_tests.specs.Worked.{worked_config};
 
-use crate::samples::{expect_text, two_tenants};
+use crate::samples::{expect_same, expect_text, two_tenants};
 use fq_model::event::{Act, Entry};
 use lag_report::automatic::auto_slot;
 use lag_report::fault::ReportFault;
@@ -20,16 +20,9 @@ fn two_names<R: Abort>(rt: &R, alloc: Global) -> Tenants
     ensures { length result ≡ 2 }
 {
     let mut names = TenantsBuilder::new(alloc);
-    let added = names.add("a", 1);
-    let Ok(_) = added else { panic!(rt; "a name") };
-    let added = names.add("b", 1);
-    let Ok(_) = added else {
-        panic!(rt; "another name")
-    };
-    let Ok(names) = names.finish() else {
-        panic!(rt; "no memory for names")
-    };
-    names
+    let _ = names.add("a", 1).expect(rt, "a name");
+    let _ = names.add("b", 1).expect(rt, "another name");
+    names.finish().expect(rt, "memory for names")
 }
 
 // The report of a history of two tenants.
@@ -40,11 +33,7 @@ fn reported<R: Abort>(rt: &R, alloc: Global, workers: u32, past: &[Entry], slot:
     ensures { length result.rows ≡ 2 }
 {
     let config = two_tenants(rt, alloc, workers);
-    let told = report(alloc, past, &config, slot);
-    let Ok(told) = told else {
-        panic!(rt; "no memory for a report")
-    };
-    told
+    report(alloc, past, &config, slot).expect(rt, "memory for a report")
 }
 
 // The report is printed so.
@@ -83,13 +72,13 @@ fn expect_no_report<R: Abort>(rt: &R, alloc: Global, past: &[Entry], slot: u64, 
     requires limit { slot ≤ 10 }
 {
     let config = two_tenants(rt, alloc, 1);
-    assert_eq!(rt; report(alloc, past, &config, slot).err(), Some(fault));
+    expect_same(rt, report(alloc, past, &config, slot).err(), Some(fault));
 }
 
 // The slots of a history with one worker are this long, if no length is given.
 fn expect_slot<R: Abort>(rt: &R, alloc: Global, past: &[Entry], wanted: u64) {
     let config = two_tenants(rt, alloc, 1);
-    assert_eq!(rt; auto_slot(past, &config), wanted);
+    expect_same(rt, auto_slot(past, &config), wanted);
 }
 
 #[test]

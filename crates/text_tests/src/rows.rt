@@ -1,4 +1,5 @@
 //! Scripts that were worked by hand: the reply to each call, and virtual time then.
+use crate::samples::{expect_same, expect_same_at};
 use eligible_index::index::IndexChooser;
 use fq_model::event::{Call, Reply};
 use journal_text::calls::read_script;
@@ -39,10 +40,8 @@ fn script_of<R: Abort>(rt: &R, alloc: Global, head: &str, rows: &[Row<'_>]) -> V
 // The reply is printed so.
 fn expect_reply<R: Abort>(rt: &R, alloc: Global, reply: Reply, wanted: &str) {
     let mut line = Vec::new(alloc);
-    let Ok(()) = reply_line(reply, &mut line) else {
-        panic!(rt; "no memory for a line")
-    };
-    assert_eq!(rt; line.as_slice().trim_ascii_end(), wanted.as_bytes());
+    reply_line(reply, &mut line).expect(rt, "memory for a line");
+    expect_same(rt, line.as_slice().trim_ascii_end(), wanted.as_bytes());
 }
 
 // The scheduler answers the calls as the rows say, and then shows their virtual time.
@@ -53,29 +52,24 @@ fn expect_rows<X: Chooser, R: Abort>(
     calls: &[Call],
     rows: &[Row<'_>],
 ) {
-    assert_eq!(rt; calls.len(), rows.len());
+    expect_same(rt, calls.len(), rows.len());
     for (call, row) in calls.iter().zip(rows) {
         let reply = answer(scheduler, *call);
         expect_reply(rt, alloc, reply, row.reply);
-        assert_eq!(rt;
-            scheduler.virtual_time(),
-            row.time as i128 * 1048576,
-            "after {}",
-            row.call
-        );
+        let time = row.time as i128 * 1048576;
+        expect_same_at(rt, row.call, scheduler.virtual_time(), time);
     }
 }
 
 // A scheduler over this chooser, opened by the head, answers the calls as the rows say.
 fn expect_served<X: Chooser + Drop, R: Abort>(rt: &R, alloc: Global, head: &str, rows: &[Row<'_>]) {
     let text = script_of(rt, alloc, head, rows);
-    let Ok(script) = read_script(alloc, text.as_slice()) else {
-        panic!(rt; "a script")
-    };
+    let script = read_script(alloc, text.as_slice()).expect(rt, "a script");
     let (config, _, _, calls) = script.into_parts();
-    let Ok(mut scheduler) = Scheduler::<u64, X>::open(alloc, config) else {
-        panic!(rt; "no memory for a scheduler")
-    };
+    let mut scheduler = Scheduler::<u64, X>::open(alloc, config).expect(
+        rt,
+        "memory for a scheduler",
+    );
     expect_rows(rt, alloc, &mut scheduler, calls.as_slice(), rows);
     drop(scheduler);
 }

@@ -3,7 +3,7 @@ ghost use Rattle.std.specs.List.Sorted.{IsNonDecreasingBy};
 ghost use Rattle.fq_model.specs.Limits.{IsWeight};
 ghost use Rattle.fluid_reference.specs.Slots.{IsRowOf, IsChangeOf, slot_at};
 
-use crate::samples::two_tenants;
+use crate::samples::{expect_same, expect_same_at, two_tenants};
 use fluid_reference::fault::FluidFault;
 use fluid_reference::reference::FluidReference;
 use fluid_reference::slots::slots;
@@ -58,19 +58,14 @@ fn expect_services<R: Abort>(
     requires known { (k : ℕ) → k < length told.now → tenant < length (slot_at told.now k) }
     requires slots { from + length wanted.now ≤ 4 }
 {
-    let services = told.services(alloc, tenant);
-    let Ok(services) = services else {
-        panic!(rt; "no memory for services")
-    };
-    assert_eq!(rt; services.len(), told.len());
-    assert_eq!(rt; services.len(), from + wanted.len());
+    let services = told
+        .services(alloc, tenant)
+        .expect(rt, "memory for services");
+    expect_same(rt, services.len(), told.len());
+    expect_same(rt, services.len(), from + wanted.len());
     for k in 0..wanted.len() {
-        assert!(rt; from + k < services.len());
-        assert_eq!(rt;
-            services[from + k],
-            wanted[k][tenant as usize],
-            "of tenant {tenant} in slot {from} + {k}"
-        );
+        let service = services.as_slice().get(from + k).copied();
+        expect_same_at(rt, from + k, service, Some(wanted[k][tenant as usize]));
     }
 }
 
@@ -92,10 +87,10 @@ fn expect_served<R: Abort>(
 {
     let config = two_tenants(rt, alloc, workers);
     let count = from + wanted.len();
-    let told = slots(alloc, rows, changes, &config, 10, count as u64);
-    let Ok(told) = told else {
-        panic!(rt; "no memory for levels")
-    };
+    let told = slots(alloc, rows, changes, &config, 10, count as u64).expect(
+        rt,
+        "memory for levels",
+    );
     for tenant in 0..2 {
         expect_services(rt, alloc, &told, tenant, from, wanted);
     }
@@ -140,7 +135,7 @@ fn expect_too_long<R: Abort>(rt: &R, alloc: Global, count: u64) {
         slots: count,
         tenants: 2,
     };
-    assert_eq!(rt; table.err(), Some(wanted));
+    expect_same(rt, table.err(), Some(wanted));
 }
 
 #[test]

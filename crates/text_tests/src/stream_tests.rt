@@ -1,12 +1,12 @@
 //! Journals that are written while their scheduler runs.
 ghost use Rattle.std.specs.Prelude.{◌<◌};
 
-use crate::samples::expect_text;
+use crate::samples::expect_same;
 use eligible_index::index::IndexChooser;
 use fq_model::event::Call;
 use journal_check::checking::check;
 use journal_check::read_journal;
-use journal_text::calls::read_script;
+use journal_text::calls::{Script, read_script};
 use journal_text::printing::{begin_journal, entry_line};
 use program_model::verdict::Verdict;
 use sched_state::{Recent, answer};
@@ -33,9 +33,7 @@ type Kept = Recent<u64, IndexChooser>;
 fn read_on<R: Abort>(rt: &R, recent: &Kept, next: u64, text: &mut Vec<u8>) -> u64 {
     let count = recent.len() as u64;
     for index in next..count {
-        let Some(entry) = recent.entry(index) else {
-            panic!(rt; "an entry that is kept")
-        };
+        let entry = recent.entry(index).expect(rt, "an entry that is kept");
         expect_added(rt, entry_line(entry, text));
     }
     count
@@ -58,31 +56,32 @@ fn streamed<R: Abort>(rt: &R, recent: &mut Kept, calls: &[Call], every: usize, t
     }
 }
 
+// The calls are made, below a head, and a log comes by after each `every` of them.
+fn logged<R: Abort>(rt: &R, alloc: Global, script: Script, every: usize) -> Vec<u8>
+    requires { 0 < every }
+{
+    let (config, tenants, kinds, calls) = script.into_parts();
+    let mut recent = Kept::open_keeping(alloc, config, KEPT).expect(rt, "memory for a scheduler");
+    let mut text = Vec::new(alloc);
+    let begun = begin_journal(alloc, recent.config(), &tenants, &kinds, &mut text);
+    begun.expect(rt, "memory for a head");
+    streamed(rt, &mut recent, calls.as_slice(), every, &mut text);
+    drop(recent);
+    text
+}
+
 // A log that comes by after each `every` calls writes this journal, which is legal.
 fn expect_streamed<R: Abort>(rt: &R, alloc: Global, every: usize)
     requires { 0 < every }
 {
-    let Ok(script) = read_script(alloc, SCRIPT.as_bytes()) else {
-        panic!(rt; "a script")
-    };
-    let (config, tenants, kinds, calls) = script.into_parts();
-    let Ok(mut recent) = Kept::open_keeping(alloc, config, KEPT) else {
-        panic!(rt; "no memory for a scheduler")
-    };
-    let mut text = Vec::new(alloc);
-    expect_added(
-        rt,
-        begin_journal(alloc, recent.config(), &tenants, &kinds, &mut text),
-    );
-    streamed(rt, &mut recent, calls.as_slice(), every, &mut text);
+    let script = read_script(alloc, SCRIPT.as_bytes()).expect(rt, "a script");
+    let text = logged(rt, alloc, script, every);
     expect_legal(rt, alloc, text.as_slice());
-    expect_text(rt, Ok::<Vec<u8>, AllocError>(text), JOURNAL.as_bytes());
+    expect_same(rt, text.as_slice(), JOURNAL.as_bytes());
 }
 
 fn expect_legal<R: Abort>(rt: &R, alloc: Global, text: &[u8]) {
-    let Ok(journal) = read_journal(alloc, text) else {
-        panic!(rt; "a journal")
-    };
+    let journal = read_journal(alloc, text).expect(rt, "a journal");
     let Ok(Verdict::Legal) = check::<IndexChooser>(alloc, &journal) else {
         panic!(rt; "a legal journal")
     };
@@ -98,23 +97,29 @@ fn a_log_that_comes_by_in_time(rt: HostRuntime) {
     expect_streamed(&rt, rt.alloc(), 3);
 }
 
-// The log asks for the first entry that it can still read, and reads from there on.
-#[test]
-fn a_log_that_comes_too_late(rt: HostRuntime) {
-    let Ok(script) = read_script(rt.alloc(), SCRIPT.as_bytes()) else {
-        panic!(&rt; "a script")
-    };
+// The scheduler after all calls.
+fn after_all<R: Abort>(rt: &R, alloc: Global) -> Kept {
+    let script = read_script(alloc, SCRIPT.as_bytes()).expect(rt, "a script");
     let (config, _, _, calls) = script.into_parts();
-    let Ok(mut recent) = Kept::open_keeping(rt.alloc(), config, KEPT) else {
-        panic!(&rt; "no memory for a scheduler")
-    };
+    let mut recent = Kept::open_keeping(alloc, config, KEPT).expect(rt, "memory for a scheduler");
     for call in calls.as_slice() {
         answer(&mut recent, *call);
     }
-    assert!(rt; recent.entry(0).is_none());
-    assert_eq!(rt; recent.first_kept(), 7);
-    let mut text = Vec::new(rt.alloc());
-    read_on(&rt, &recent, 7, &mut text);
+    recent
+}
+
+// The log asks for the first entry that it can still read, and reads from there on.
+fn expect_late<R: Abort>(rt: &R, alloc: Global, wanted: &str) {
+    let recent = after_all(rt, alloc);
+    expect_same(rt, recent.entry(0), None);
+    expect_same(rt, recent.first_kept(), 7);
+    let mut text = Vec::new(alloc);
+    read_on(rt, &recent, 7, &mut text);
+    expect_same(rt, text.as_slice(), wanted.as_bytes());
+}
+
+#[test]
+fn a_log_that_comes_too_late(rt: HostRuntime) {
     let wanted = "take 9 6 0 1 30\ndone 9 9 0 1 3\nclose 0 9\n";
-    expect_text(&rt, Ok::<Vec<u8>, AllocError>(text), wanted.as_bytes());
+    expect_late(&rt, rt.alloc(), wanted);
 }

@@ -1,4 +1,5 @@
 //! Which of some rows is the best.
+use crate::samples::expect_same;
 use compare_all::best::best;
 use fq_model::config::{Estimator, Policy};
 use program_model::compare::CompareRow;
@@ -20,17 +21,17 @@ fn row(least: i64, greatest: i64) -> CompareRow {
 
 #[test]
 fn lags_that_lie_least_apart(rt: HostRuntime) {
-    assert_eq!(rt; best(&[row(0, 9), row(-3, 3), row(-7, 0)]), 1);
-    assert_eq!(rt; best(&[row(-7, 0), row(0, 9), row(2, 4)]), 2);
+    expect_same(&rt, best(&[row(0, 9), row(-3, 3), row(-7, 0)]), 1);
+    expect_same(&rt, best(&[row(-7, 0), row(0, 9), row(2, 4)]), 2);
 }
 
 #[test]
 fn of_equal_rows_the_first(rt: HostRuntime) {
-    assert_eq!(rt; best(&[row(0, 5), row(-1, 2), row(4, 7), row(0, 3)]), 1);
-    assert_eq!(rt; best(&[row(0, 0)]), 0);
+    expect_same(&rt, best(&[row(0, 5), row(-1, 2), row(4, 7), row(0, 3)]), 1);
+    expect_same(&rt, best(&[row(0, 0)]), 0);
 }
 
 #[test]
 fn lags_at_their_limits(rt: HostRuntime) {
-    assert_eq!(rt; best(&[row(LEAST, -LEAST), row(LEAST, -LEAST - 1)]), 1);
+    expect_same(&rt, best(&[row(LEAST, -LEAST), row(LEAST, -LEAST - 1)]), 1);
 }

@@ -1,10 +1,8 @@
-//! Tests of traces: read, generated and printed, shaped, and compared under each policy, as callers use them.
+//! Tests of traces: read, generated and printed, and shaped; and of the best of some rows.
 #![tactic(auto)]
 
 #[cfg(test)]
 mod best_tests;
-#[cfg(test)]
-mod comparing_tests;
 #[cfg(test)]
 mod reading_tests;
 #[cfg(test)]

@@ -1,7 +1,7 @@
 //! Traces written by hand, with the moments at which their requests may come.
 ghost use Rattle.fq_model.specs.Limits.{IsWithin};
 
-use crate::samples::trace_in;
+use crate::samples::{expect_same_at, trace_in};
 use fq_model::limits::{GREATEST_BURST, GREATEST_RATE};
 use std::alloc::Global;
 use std::process::Abort;
@@ -22,11 +22,8 @@ fn expect_moments<R: Abort>(
     requires burst { IsWithin 1 GREATEST_BURST burst }
 {
     let trace = trace_in(rt, alloc, text);
-    let told = moments(alloc, &trace, rate, burst);
-    let Ok(told) = told else {
-        panic!(rt; "no moments")
-    };
-    assert_eq!(rt; told.as_slice(), wanted, "of {text}");
+    let told = moments(alloc, &trace, rate, burst).expect(rt, "no moments");
+    expect_same_at(rt, text, told.as_slice(), wanted);
 }
 
 // How the trace that a text says is printed once it is shaped.
@@ -35,15 +32,9 @@ fn expect_shaped<R: Abort>(rt: &R, alloc: Global, text: &str, rate: u64, burst: 
     requires burst { IsWithin 1 GREATEST_BURST burst }
 {
     let trace = trace_in(rt, alloc, text);
-    let shaped = shape(alloc, &trace, rate, burst);
-    let Ok(shaped) = shaped else {
-        panic!(rt; "no trace")
-    };
-    let printed = print(alloc, &shaped);
-    let Ok(printed) = printed else {
-        panic!(rt; "no memory for a text")
-    };
-    assert_eq!(rt; printed.as_slice(), wanted.as_bytes(), "of {text}");
+    let shaped = shape(alloc, &trace, rate, burst).expect(rt, "no trace");
+    let printed = print(alloc, &shaped).expect(rt, "memory for a text");
+    expect_same_at(rt, text, printed.as_slice(), wanted.as_bytes());
 }
 
 // Why the trace that a text says has no moments, and is not shaped.
@@ -59,15 +50,17 @@ fn expect_fault<R: Abort>(
     requires burst { IsWithin 1 GREATEST_BURST burst }
 {
     let trace = trace_in(rt, alloc, text);
-    assert_eq!(rt;
+    expect_same_at(
+        rt,
+        text,
         moments(alloc, &trace, rate, burst).err(),
         Some(wanted),
-        "of {text}"
     );
-    assert_eq!(rt;
+    expect_same_at(
+        rt,
+        text,
         shape(alloc, &trace, rate, burst).err(),
         Some(wanted),
-        "of {text}"
     );
 }
 
@@ -103,70 +96,4 @@ fn each_tenant_has_a_bucket(rt: HostRuntime) {
     let text = "tenant,a,1\ntenant,b,1\nrequest,0,0,a,get,4,4\nrequest,0,0,b,get,4,4\n";
     expect_moments(&rt, rt.alloc(), text, 1, 4, &[0, 0]);
     expect_shaped(&rt, rt.alloc(), text, 1, 4, text);
-}
-
-// Both wait for the tokens that their bucket lacks, rounded up to a whole microsecond.
-#[test]
-fn later_requests_of_others_go_ahead(rt: HostRuntime) {
-    expect_shaped(
-        &rt,
-        rt.alloc(),
-        "tenant,n0,1\ntenant,n1,3\ntenant,n2,1\ntenant,n3,1\n\
-        request,2,0,n2,put,39,39\nrequest,4,1,n3,get,1,2\nrequest,4,1,n2,get,41,40\n\
-        request,6,2,n3,put,2,2\nrequest,6,1,n0,get,41,82\nrequest,6,0,n2,put,41,40\n",
-        700,
-        42,
-        "tenant,n0,1\ntenant,n1,3\ntenant,n2,1\ntenant,n3,1\n\
-        request,2,0,n2,put,39,39\nrequest,4,1,n3,get,1,2\nrequest,6,2,n3,put,2,2\n\
-        request,6,1,n0,get,41,82\nrequest,57,1,n2,get,41,40\nrequest,115,0,n2,put,41,40\n",
-    );
-}
-
-#[test]
-fn a_heavy_tenant_gains_more(rt: HostRuntime) {
-    expect_shaped(
-        &rt,
-        rt.alloc(),
-        "tenant,_,1000\ntenant,b,1\nrequest,1000000,0,_,1bXa.Z-ZZ,5,3\nrequest,1000022,0,_,9XYYY-.,3,3\n\
-        request,1000022,0,_,9XYYY-.,8,5\nrequest,1000046,0,b,9XYYY-.,5,5\nrequest,2000046,0,_,1bXa.Z-ZZ,8,8\n",
-        1,
-        10,
-        "tenant,_,1000\ntenant,b,1\nrequest,1000000,0,_,1bXa.Z-ZZ,5,3\nrequest,1000022,0,_,9XYYY-.,3,3\n\
-        request,1000023,0,_,9XYYY-.,8,5\nrequest,1000046,0,b,9XYYY-.,5,5\nrequest,2000046,0,_,1bXa.Z-ZZ,8,8\n",
-    );
-}
-
-// Two of size 3 take 2 more than a bucket of 4, and 2 are gained in 2000 microseconds.
-#[test]
-fn the_last_moment_of_a_trace_is_in_time(rt: HostRuntime) {
-    expect_moments(
-        &rt,
-        rt.alloc(),
-        "tenant,a,1\nrequest,99999999998000,0,a,get,3,3\nrequest,99999999998000,0,a,get,3,3\n",
-        1,
-        4,
-        &[99999999998000, 100000000000000],
-    );
-    expect_fault(
-        &rt,
-        rt.alloc(),
-        "tenant,a,1\nrequest,99999999998001,0,a,get,3,3\nrequest,99999999998001,0,a,get,3,3\n",
-        1,
-        4,
-        ShapeFault::TooLate(1),
-    );
-}
-
-// A row that is too big is answered before one that comes too late, wherever they stand.
-#[test]
-fn too_big_is_told_first(rt: HostRuntime) {
-    expect_fault(
-        &rt,
-        rt.alloc(),
-        "tenant,a,1\nrequest,100000000000000,0,a,get,3,3\nrequest,100000000000000,0,a,get,3,3\n\
-        request,100000000000000,0,a,get,5,5\n",
-        1,
-        4,
-        ShapeFault::TooBig(2),
-    );
 }
