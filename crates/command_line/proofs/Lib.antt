@@ -4,4 +4,5 @@ pub mod Lengths
 pub mod Arguments
 pub mod Defaults
 pub mod Ranges
+pub mod InRange
 pub mod FirstWord

@@ -78,6 +78,17 @@ next_entered C entries old new k none reply limits legal there is answers =
 
 -- ---- the heads, and their rows
 
+-- one tenant more, with its head if it has one
+pub head_more : (keys : ℕ → Option HeadKeys) (n : ℕ) (heads new more : List (ℕ × HeadKeys)) (result found : Option HeadKeys) → heads ≡ heads_below keys n → result ≡ keys n → result ≡ found
+    → new ≡ heads ++ with_head n found → more ≡ new → more ≡ heads_below keys (n + 1)
+head_more keys n heads new more result found so_far read was longer is = rw add-one (is ∙ longer ∙ rw (so_far, ← read, was) refl)
+
+-- the heads of all tenants
+pub heads_all : (keys : ℕ → Option HeadKeys) (n last count : ℕ) (heads : List (ℕ × HeadKeys)) → n ≤ last → last ≤ n → last ≡ count → heads ≡ heads_below keys n → heads ≡ heads_below keys count
+heads_all keys n last count heads below past all so_far =
+    let same : n ≡ count = omega arith in
+    so_far ∙ ap (heads_below keys) same
+
 pub row_more : (at : Turn) (heads : List (ℕ × HeadKeys)) (rows : List ExplainRow) (head : ℕ × HeadKeys) (row : ExplainRow) → AreRows at heads rows → IsRow at head.0 head.1 row
     → AreRows at (heads ++ head ∷ []) (rows ++ row ∷ [])
 row_more at [] [] head row are is = (is, tt)

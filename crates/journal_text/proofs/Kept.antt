@@ -1,8 +1,8 @@
 -- A text that grows begins with the old text.
-use Rattle.std.proofs.Common.{ℕ, Bool, true, false, cond, ◌+◌, ◌<◌, ◌≤◌, ◌≡◌, ◌∙◌, List, [], ◌∷◌, ◌++◌, length, take, drop, sym, ap, append_assoc, slice_index, get_or}
-use Rattle.std.specs.Prelude.{codes}
+use Rattle.std.proofs.Common.{ℕ, Bool, true, false, cond, ◌+◌, ◌<◌, ◌≤◌, ◌≡◌, ◌∙◌, ◌-◌, List, [], ◌∷◌, ◌++◌, length, take, drop, Result, Ok, Err, sym, ap, append_assoc, arith, slice_index, get_or}
+use Rattle.std.specs.Prelude.{codes, OnOk, OnErr}
 use Rattle.std.specs.Fmt.{decimal}
-use Rattle.std.proofs.lemmas.List.{append-nil, at_drop_more, at_drop_all, drop_all}
+use Rattle.std.proofs.lemmas.List.{append-nil, at_drop_more, at_drop_all, drop_all, take_rest}
 use Rattle.std.proofs.Math.Seq.{take-append_seam}
 use Rattle.program_model.specs.JournalText.{numbers_text}
 use Rattle.journal_text.specs.Printing.{IsKept}
@@ -58,3 +58,15 @@ kept_still old text new kept is = (kept.0, is ∙ kept.1)
 pub kept_either : (old text more new : List ℕ) (t : Bool) → IsKept old text → new ≡ cond t (text ++ more) text → IsKept old new
 kept_either old text more new true kept is = kept_more old text more new kept is
 kept_either old text more new false kept is = kept_still old text new kept is
+
+-- the last numbers are appended at once, or the text stays as it was
+pub rest_added : {A E : Type 0} (r : Result A E) (numbers : List ℕ) (first k : ℕ) (text new all : List ℕ) → k ≤ first → first ≤ k
+    → OnOk r (new ≡ text ++ numbers_text (take (length numbers - first) (drop first numbers))) → text ++ numbers_text (drop k numbers) ≡ all → OnOk r (new ≡ all)
+rest_added (Ok x) numbers first k text new all below past added so_far =
+    let same : first ≡ k = omega arith in
+    added ∙ ap (λ l. text ++ numbers_text l) (take_rest numbers first ∙ ap (λ i. drop i numbers) same) ∙ so_far
+rest_added (Err e) numbers first k text new all below past added so_far = tt
+
+pub rest_kept : {A E : Type 0} (r : Result A E) (old text more new : List ℕ) → OnOk r (new ≡ text ++ more) → OnErr r (new ≡ text) → IsKept old text → IsKept old new
+rest_kept (Ok x) old text more new added unchanged kept = kept_more old text more new kept added
+rest_kept (Err e) old text more new added unchanged kept = kept_still old text new kept unchanged

@@ -1,5 +1,5 @@
 //! Traces while their requests are added.
-ghost use Rattle.std.specs.Prelude.{◌≡◌, [], IfOk};
+ghost use Rattle.std.specs.Prelude.{◌≡◌, [], ◌∷◌, if◌then◌else◌, codes, IfOk};
 ghost use Rattle.program_model.specs.Trace.{with_some_kind};
 ghost use Rattle.program_model.specs.TraceGrammar.{no_records};
 ghost use Rattle.trace_reader.specs.Reading.{trace_in};
@@ -8,6 +8,7 @@ use crate::trace::Trace;
 use program_model::trace::TraceRow;
 use std::alloc::{AllocError, Global};
 use std::marker::Model;
+use tenant_table::kinds::Kinds;
 use tenant_table::kinds_builder::KindsBuilder;
 use tenant_table::tenants_builder::TenantsBuilder;
 
@@ -53,13 +54,30 @@ impl Draft {
     {
         let Draft {
             tenants,
-            mut kinds,
+            kinds,
             rows,
         } = self;
-        if rows.is_empty() {
-            kinds = KindsBuilder::new(alloc);
-            kinds.add_new("-")?;
-        }
-        Ok(Trace::new(tenants.finish()?, kinds.finish()?, rows))
+        let kinds = some_kind(alloc, kinds, rows.is_empty())?;
+        Ok(Trace::new(tenants.finish()?, kinds, rows))
     }
+}
+
+// These kinds, or, where there are no requests, the only kind `-`.
+fn some_kind(alloc: Global, kinds: KindsBuilder, none: bool) -> Result<Kinds, AllocError>
+    ensures { IfOk result (λ some. some ≡ (if none then codes "-" ∷ [] else kinds)) }
+{
+    if none {
+        drop(kinds);
+        return no_kind(alloc);
+    }
+    kinds.finish()
+}
+
+// The only kind of a trace with no requests.
+fn no_kind(alloc: Global) -> Result<Kinds, AllocError>
+    ensures { IfOk result (λ kinds. kinds ≡ codes "-" ∷ []) }
+{
+    let mut kinds = KindsBuilder::new(alloc);
+    kinds.add_new("-")?;
+    kinds.finish()
 }

@@ -5,7 +5,10 @@ ghost use Rattle.std.specs.Str.{is_utf8};
 ghost use Rattle.csv.specs.Reading.{Ready, reader_trim, took_first};
 ghost use Rattle.csv.specs.Records.{fields_of};
 ghost use Rattle.csv.specs.declared.reader.Trim.TheVariants as trims;
-ghost use Rattle.program_model.specs.TraceGrammar.{no_records, with_tenant, with_request, with_record, at_end, trace_of};
+ghost use Rattle.fq_model.specs.Spelling.{is_name};
+ghost use Rattle.program_model.specs.Trace.{with_row};
+ghost use Rattle.program_model.specs.TraceGrammar.{no_records, not_too_many, with_tenant, with_request, with_record};
+ghost use Rattle.program_model.specs.TraceGrammar.{at_end, trace_of};
 ghost use Rattle.program_model.specs.TraceText.{IsLawfulTrace};
 ghost use Rattle.trace_reader.specs.Reading.{Gives, IsFirstFault, IsReadBy, are_too_many};
 ghost use Rattle.trace_reader.specs.declared.fault.TraceFault.TheVariants as faults;
@@ -60,6 +63,23 @@ fn add_request(draft: &mut Draft, fields: &StringRecord) -> Result<(), RecordErr
     let name = name_at(fields, 4)?;
     let declared = ranged_at(fields, 5, 1, GREATEST_COST)?;
     let cost = ranged_at(fields, 6, 1, GREATEST_COST)?;
+    add_row(draft, moment, submitter, tenant, name, declared, cost)
+}
+
+// Adds a request whose fields are read, and its kind where it is new.
+fn add_row(
+    draft: &mut Draft,
+    moment: u64,
+    submitter: u32,
+    tenant: u32,
+    name: &str,
+    declared: u64,
+    cost: u64,
+) -> Result<(), RecordError>
+    requires { IsTrue (is_name name.now) }
+    ensures { Gives (λ _. draft.new) result
+        (not_too_many (with_row draft.old moment submitter tenant name.now declared cost)) }
+{
     let found = draft.kinds.find(name);
     let kinds = if found.is_some() {
         draft.kinds.len()
