@@ -1,5 +1,8 @@
 use Rattle.std.proofs.Common.{ℕ, zero, suc, ◌+◌, ◌*◌, Bool, true, false, ◌≡◌, ◌↔◌, sym, ◌∙◌, ap, subst, arith, ℤ, pos, negsuc, nat_abs, ◌-ℤ◌, ◌*ℤ◌, ◌≤ℤ◌, to_z, of_z, int_le, IsTrue}
+use lib.Dec.{T}
+use lib.Signed.{non_neg}
 use mir.Syntax.{w128}
+use mir.Val.{Fits}
 use Rattle.std.proofs.lemmas.Int.{ints}
 use Rattle.fq_model.specs.declared.config.Policy.{Policy}
 use Rattle.fq_model.specs.declared.config.Policy.TheVariants.{Wfq, Wf2q, Msf2q, TwoDfq, TwoDfqPlus}
@@ -71,3 +74,15 @@ reaches-requires-clause-near c =
     let v : read V ≡ V = omega (arith, ints) in
     let x = ahead F V (read_short F r.finish_low r.finish_high) v c.if-finish-turn.false (subst (λ z. pos 0 ≤ℤ z) (sym same) c.requires.begun) r.finish_high in
     subst (λ z. z ≤ℤ pos 20000000001048576000000000) (sym (ap (λ z. pos (nat_abs z)) x.0 ∙ size_of (F -ℤ V) x.1.0)) x.1.1
+
+casts : (z : ℤ) → pos 0 ≤ℤ z → z ≤ℤ pos 20000000001048576000000000 → T (non_neg z) × Fits w128 (nat_abs z)
+casts (pos n) low high = (tt, omega (arith, ints, high))
+casts (negsuc n) low high = absurd (omega (arith, ints, low))
+
+pub overflow_cast-finish : goal.overflow_cast-finish
+overflow_cast-finish c =
+    let F = c.args.finish in let V = c.turn.inside.virtual_time in let r = c.requires.in_limits in
+    let same : V ≡ c.args.turn.virtual_time = ap (λ t. t.virtual_time) c.turn.view_is in
+    let v : read V ≡ V = omega (arith, ints) in
+    let x = ahead F V (read_short F r.finish_low r.finish_high) v c.if-finish-turn.false (subst (λ z. pos 0 ≤ℤ z) (sym same) c.requires.begun) r.finish_high in
+    subst (λ z. T (non_neg z) × Fits w128 (nat_abs z)) (sym x.0) (casts (F -ℤ V) x.1.0 x.1.1)

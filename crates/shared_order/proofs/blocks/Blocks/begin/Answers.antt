@@ -1,6 +1,5 @@
 use Rattle.std.proofs.Common.{rules, arith, ◌≢◌, ◌<◌, length, sym, subst}
 use Rattle.std.specs.List.{All}
-use Rattle.std.proofs.lemmas.List.Elements.{All-nil}
 use Rattle.shared_order.specs.Heads.{HeadView}
 use Rattle.shared_order.proofs.InRow.{last_taken}
 use Rattle.shared_order.proofs.blocks.Blocks.begin.Goals as goal
