@@ -30,6 +30,11 @@ get_set_other (x ∷ xs) zero (suc j) v h = refl
 get_set_other (x ∷ xs) (suc i) zero v h = refl
 get_set_other (x ∷ xs) (suc i) (suc j) v h = get_set_other xs i j v (λ e. h (ap suc e))
 
+get_here : {X : Type 0} (xs : List X) (i : ℕ) (x d : X) → i < length xs → x ≡ slice_index_or xs i d → slice_get xs i ≡ Some x
+get_here [] i x d h is = absurd (omega (arith, h))
+get_here (y ∷ ys) zero x d h is = ap (λ v. Some v) (sym is)
+get_here (y ∷ ys) (suc i) x d h is = get_here ys i x d (omega (arith, h)) is
+
 get_replicate : {X : Type 0} (n i : ℕ) (v x : X) → slice_get (replicate n v) i ≡ Some x → v ≡ x
 get_replicate zero i v x h = absurd (let e : None ≡ Some x = h in cc)
 get_replicate (suc n) zero v x h = let e : Some v ≡ Some x = h in cc
@@ -256,3 +261,12 @@ opened_keeps n table order is_table no_heads room = subst (λ (t : Table). Keeps
   room = simp length-replicate room;
   begun = omega (arith, ints);
 })
+
+-- the chooser's invariant at a later virtual time
+pub begun_at : (table : Table) (order : OrderView) (older newer v : ℤ) → KeepsChooser table order older → older ≤ℤ v → newer ≡ v → KeepsChooser table order newer
+begun_at table order older newer v k later is = record { differ = k.differ; mirrors = k.mirrors; room = k.room; begun = rw is (omega (arith, ints, k.begun, later)) }
+
+-- the head of a tenant that has keys stands in the order
+pub held_by : (table : Table) (heads : List HeadView) (t : ℕ) (older : Option HeadKeys) → Mirrors table heads → t < length table → older ≡ slice_index_or table t older → IfSome older (λ k. Contains heads (head_of t k))
+held_by table heads t None m within is = tt
+held_by table heads t (Some k) m within is = m.held t k (get_here table t (Some k) (Some k) within is)

@@ -1,5 +1,5 @@
 -- Tokens that become hands one by one.
-use Rattle.std.proofs.Common.{ℕ, suc, ◌+◌, ◌<◌, ◌≡◌, List, [], ◌∷◌, ◌++◌, length, get_or, take, drop, sym, ap, ◌∙◌, subst, refl, arith, append_assoc}
+use Rattle.std.proofs.Common.{ℕ, suc, ◌+◌, ◌<◌, ◌≤◌, ◌≡◌, List, [], ◌∷◌, ◌++◌, length, get_or, take, drop, sym, ap, ◌∙◌, subst, refl, arith, append_assoc}
 use Rattle.std.proofs.lemmas.List.{length-append}
 use Rattle.program_model.specs.declared.trace.TraceRow.{TraceRow}
 use Rattle.history_lock.specs.Passes.{LockView}
@@ -17,6 +17,14 @@ use Rattle.trace_pool.proofs.Places.{holds_more}
 pub split_first : {A : Type 0} (xs : List A) (x : A) (rest : List A) → 0 < length xs → x ≡ get_or xs 0 x → rest ≡ take 0 xs ++ drop 1 xs → xs ≡ x ∷ rest
 split_first [] x rest some is others = absurd (omega (arith, some))
 split_first (y ∷ ys) x rest some is others = let same : rest ≡ ys = others in sym (ap (λ z. z ∷ rest) is ∙ ap (λ l. y ∷ l) same)
+
+-- there is room for one more of items that all fit
+pub room_for : {A : Type 0} (xs ys all : List A) (x : A) (room most : ℕ) → xs ++ x ∷ ys ≡ all → length all ≤ most → room ≡ most → length xs < room
+room_for xs ys all x room most is fit same = let n : length (xs ++ x ∷ ys) ≡ length all = ap length is in omega (arith, n, length-append xs (x ∷ ys), fit, same)
+
+-- an item is laid behind those before it
+pub laid_behind : {A : Type 0} (xs ys zs all : List A) (x : A) → zs ≡ xs ++ x ∷ [] → xs ++ x ∷ ys ≡ all → zs ++ ys ≡ all
+laid_behind xs ys zs all x more is = ap (λ l. l ++ ys) more ∙ (append_assoc xs (x ∷ []) ys ∙ is)
 
 module _ (lock : LockView Crew) where
   -- the first submitter knows the number of callers

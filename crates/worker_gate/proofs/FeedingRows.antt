@@ -145,3 +145,8 @@ module _ {J : Type 0} (label : J → ℕ) (kind_for : Row J → ℕ) (lock : Loc
     refused = tt;
     moments = under.fed.moments;
   }
+
+-- where all rows are submitted, none is left
+pub none_rests : {J : Type 0} (label : J → ℕ) (kind_for : Row J → ℕ) (lock : LockView Crew) (Tells : ℕ → Type 0) (total : ℕ) (rows : List (Row J)) (old new : Submitter) (rest : List (Row J)) → Feeds label kind_for lock Tells total rows old new None rest
+    → Feeds label kind_for lock Tells total rows old new None []
+none_rests label kind_for lock Tells total rows old new rest f = subst (λ l. Feeds label kind_for lock Tells total rows old new None l) f.split.1 f

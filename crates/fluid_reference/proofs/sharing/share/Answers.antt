@@ -56,3 +56,9 @@ pub returns-clause-left : goal.returns-clause-left
 returns-clause-left c =
     let all : IsGiven c.level-level.result c.args.costs.now c.args.served.now c.args.weights.now c.args.backlogged.now c.loop-k.served = subst (λ w. IsGiven c.level-level.result c.args.costs.now c.args.served.now c.args.weights.now w c.loop-k.served) (take_all c.loop-k.k c.args.backlogged.now (omega (arith, c.loop-k-test.false))) c.loop-k.invariant.given in
     subst (AreBacklogged c.args.costs.now c.loop-k.served) (sym c.in_ok-note_backlogged.ensures) (still_are c.level-level.result c.args.costs.now c.args.served.now c.args.weights.now c.args.backlogged.now c.loop-k.served c.requires.in_range.served_len c.requires.backlogged all)
+
+pub bounds-served-backlogged : goal.bounds-served-backlogged
+bounds-served-backlogged c = subst (λ n. get_or c.args.backlogged.now c.loop-k.k 0 < n) (sym (c.loop-k.invariant.len ∙ c.requires.in_range.served_len)) (known_tenants c.args.costs.now c.args.served.now c.args.backlogged.now c.requires.backlogged c.loop-k.k 0 c.loop-k-test.true)
+
+pub bounds-served-backlogged-in-loop-k : goal.bounds-served-backlogged-in-loop-k
+bounds-served-backlogged-in-loop-k c = subst (λ n. get_or c.args.backlogged.now c.loop-k.k 0 < n) (sym (c.loop-k.invariant.len ∙ c.requires.in_range.served_len)) (known_tenants c.args.costs.now c.args.served.now c.args.backlogged.now c.requires.backlogged c.loop-k.k 0 c.loop-k-test.true)

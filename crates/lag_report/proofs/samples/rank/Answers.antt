@@ -1,4 +1,4 @@
-use Rattle.std.proofs.Common.{◌+◌, ◌-◌, ◌≤◌, ◌≡◌, length, ℤ, arith, rules, refl, ◌∙◌, w64}
+use Rattle.std.proofs.Common.{◌+◌, ◌-◌, ◌≤◌, ◌≡◌, length, ℤ, ◌≤ℤ◌, All, arith, rules, refl, sym, subst, ◌∙◌, w64}
 use mir.Val.{SFits, to_z, of_z}
 use Rattle.std.proofs.lemmas.Int.{to_z-of_z}
 use Rattle.lag_report.specs.declared.samples.Ranked.{Ranked}
@@ -36,6 +36,21 @@ pub select-greatest-requires-clause-inside : goal.select-greatest-requires-claus
 select-greatest-requires-clause-inside c =
     let b : After-select_nth_unstable-middle = (goal.at.select-greatest-requires-clause-inside c).After-select_nth_unstable-middle in
     omega (arith, up b, on b, beyond b, those_after _ _ _ _ c.select-p90.ensures, those_after _ _ _ _ c.select-p99.ensures, c.place-p99_at.ensures.within)
+
+pub select-p90-requires-clause-least : goal.select-p90-requires-clause-least
+select-p90-requires-clause-least c =
+    let fits : SFits w64 c.select_nth_unstable-middle.result.1.now = search rules in
+    (middle (goal.at.select-p90-requires-clause-least c).After-select_nth_unstable-middle (to_z w64 (of_z w64 c.select_nth_unstable-middle.result.1.now)) (to_z-of_z w64 c.select_nth_unstable-middle.result.1.now fits)).high
+
+pub select-p99-requires-clause-least : goal.select-p99-requires-clause-least
+select-p99-requires-clause-least c =
+    let fits : SFits w64 c.select-p90.result.0 = search rules in
+    subst (λ z. All (λ y. z ≤ℤ y) c.select-p90.result.1.now) (sym (to_z-of_z w64 c.select-p90.result.0 fits)) c.select-p90.ensures.high
+
+pub select-greatest-requires-clause-least : goal.select-greatest-requires-clause-least
+select-greatest-requires-clause-least c =
+    let fits : SFits w64 c.select-p99.result.0 = search rules in
+    subst (λ z. All (λ y. z ≤ℤ y) c.select-p99.result.1.now) (sym (to_z-of_z w64 c.select-p99.result.0 fits)) c.select-p99.ensures.high
 
 pub returns : goal.returns
 returns c =

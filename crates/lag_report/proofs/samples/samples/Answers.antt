@@ -53,3 +53,9 @@ overflow_sub-served c = lag_fits (get_or c.args.served.now c.loop-k.k 0) (c.loop
 
 pub returns : goal.returns
 returns c = c.loop-k.invariant.samples ∙ ap (list_below (sample_at c.args.served.now (λ k. sum (take k c.args.gains.now)))) (omega (arith, c.loop-k-test.false, c.loop-k.auto.k-end))
+
+small_fits : (n : ℕ) → n ≤ 2000000000000000 → SFits w64 (pos n)
+small_fits n h = omega (arith, ints, h)
+
+pub overflow_cast-work : goal.overflow_cast-work
+overflow_cast-work c = small_fits (c.loop-k.work + get_or c.args.gains.now c.loop-k.k 0) (omega (arith, c.loop-k.invariant.work, sum_by_more_le (λ x. x) c.args.gains.now c.loop-k.k 0 (omega (arith, c.requires.same, c.loop-k-test.true)), c.requires.gained))

@@ -1,5 +1,6 @@
-use Rattle.std.proofs.Common.{arith, ◌≡◌, ◌+◌, ◌-◌, ◌/◌, ◌<◌, suc, subst, drop, length}
+use Rattle.std.proofs.Common.{arith, ◌≡◌, ◌+◌, ◌-◌, ◌/◌, ◌<◌, ◌∙◌, suc, sym, subst, drop, length}
 use Rattle.std.specs.List.{All}
+use Rattle.std.proofs.lemmas.Bool.{false≢true}
 use Rattle.shared_order.specs.Heads.{HeadBefore}
 use Rattle.shared_order.specs.Blocks.{all_heads}
 use Rattle.shared_order.proofs.Rows.{after_from, before_from, block_is}
@@ -21,7 +22,7 @@ halve-preserved c = record {
   within = c.halve.invariant.within;
   before =
       let l : c.halve.low + (c.halve.high - c.halve.low) / 2 < length c.args.blocks.now = omega (arith, c.halve-test.true, c.halve.invariant.within) in
-      before_from c.args.head.now c.args.blocks.now _ _ l (block_is _ _ _ l c.index-blocks-middle.is) c.requires.sorted (λ a. let t = c.is_after.ensures.1 a in let f = c.if-is_after.false in cc);
+      before_from c.args.head.now c.args.blocks.now _ _ l (block_is _ _ _ l c.index-blocks-middle.is) c.requires.sorted (λ a. false≢true (sym c.if-is_after.false ∙ c.is_after.ensures.1 a));
   after = c.halve.invariant.after;
 }
 

@@ -1,5 +1,6 @@
-use Rattle.std.proofs.Common.{arith, ◌≡◌, ◌∙◌, ap, add-one, subst, sym, length}
+use Rattle.std.proofs.Common.{arith, ◌≡◌, ◌<◌, ◌∙◌, ap, add-one, subst, sym, length}
 use Rattle.std.specs.List.{All}
+use Rattle.std.proofs.lemmas.Bool.{false≢true}
 use Rattle.shared_order.specs.Heads.{HeadBefore}
 use Rattle.shared_order.specs.Blocks.{all_heads, block_at, IsBlockOf}
 use Rattle.shared_order.proofs.Rows.{read_block}
@@ -58,9 +59,15 @@ returns-else-is_after c =
       };
       place =
           let after : ¬ All (HeadBefore c.args.head.now) (second_half c.args.blocks.now.used c.block_of-at.result) = λ a.
-          let t = c.is_after.ensures.1 (subst (All (HeadBefore c.args.head.now)) (sym second) a) in
-          let f = c.if-is_after.false in
-          cc in
+          false≢true (sym c.if-is_after.false ∙ c.is_after.ensures.1 (subst (All (HeadBefore c.args.head.now)) (sym second) a)) in
           rw (c.split.ensures.used, add-one c.block_of-at.result) (second_half_is c.args.head.now c.args.blocks.now.used c.block_of-at.result place c.requires.kept after);
       room = rw (c.split.ensures.used, add-one c.block_of-at.result) (second_has_room c.args.blocks.now.used c.block_of-at.result place.known full);
     }
+
+pub returns-then-heads-lt-BLOCK-clause-place : goal.returns-then-heads-lt-BLOCK-clause-place
+returns-then-heads-lt-BLOCK-clause-place c = subst (λ b. IsBlockOf c.args.head.now b c.block_of-at.result) c.used.ensures c.block_of-at.ensures
+
+pub bounds-used-at-2 : goal.bounds-used-at-2
+bounds-used-at-2 c =
+    let known : c.block_of-at.result < length c.args.blocks.now.used = rw (← c.used.ensures) c.block_of-at.ensures.known in
+    omega (arith, ap length c.used-3.ensures, ap length c.split.ensures.used, halves_count c.args.blocks.now.used c.block_of-at.result known, known)

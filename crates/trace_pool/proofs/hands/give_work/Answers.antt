@@ -1,4 +1,4 @@
-use Rattle.std.proofs.Common.{rules, suc, arith, ◌≡◌, ◌<◌, ◌∙◌, ap, subst, length, List, ◌∷◌, ◌++◌, refl}
+use Rattle.std.proofs.Common.{rules, suc, arith, ◌≡◌, ◌<◌, ◌∙◌, ap, subst, length, List, ◌∷◌, ◌++◌, refl, length-append}
 use Rattle.trace_pool.specs.Hands.{TraceHand}
 use Rattle.desk.specs.Opening.{AreWorkers}
 use Rattle.trace_pool.specs.Parts.{IsWorkOf}
@@ -19,4 +19,18 @@ loop-hands-preserved g c =
       room = c.push_reserved.ensures.capacity ∙ was.room;
       kept = omega (arith, c.remove.ensures.capacity, was.kept);
       gate = c.log.ensures.same ∙ was.gate;
+    }
+
+pub returns-clause-hands : goal.returns-clause-hands
+returns-clause-hands g c =
+    let was = c.loop-hands.invariant in let given = was.works in
+    let none : length c.loop-hands.workers.items ≡ 0 = search rules in
+    let both : length c.loop-hands.hands.items ≡ length (c.args.hands.now.items ++ given.0) = ap length given.1 in record {
+      first = c.args.hands.now.items;
+      second = given.0;
+      both = given.1;
+      are_feeds = c.requires.feeds;
+      are_works = given.2;
+      feed_count = refl;
+      work_count = omega (arith, both, length-append c.args.hands.now.items given.0, was.all, none);
     }

@@ -4,7 +4,7 @@ use Rattle.program_model.specs.Courses.{submitters, trace_config}
 use Rattle.fq_model.specs.History.{history_of}
 use Rattle.program_model.specs.Simulated.{needed_entries, IsSimulated}
 use Rattle.sched_state.specs.Scheduler.{SchedulerView}
-use Rattle.trace_runner.specs.Agenda.{NothingNext, opened_agenda}
+use Rattle.trace_runner.specs.Agenda.{IsNext, NothingNext, opened_agenda}
 use Rattle.trace_runner.specs.Plan.{IsPlan}
 use Rattle.trace_runner.proofs.Ending.{simulated, simulates_first, past_low}
 use Rattle.trace_runner.proofs.runner.simulate.Goals as goal
@@ -27,3 +27,9 @@ returns-clause-simulated g c =
     let nothing : NothingNext c.events.agenda c.args.trace.now.rows = subst (NothingNext c.events.agenda) c.rows-in-events.ensures c.in_default.ensures in
     subst (λ past. IsSimulated c.args.trace.now c.args.options (history_of past)) (sym c.into_history.ensures.past)
     (simulated c.args.trace.now c.args.options c.events.scheduler _ c.events.agenda _ c.events.invariant nothing c.close.ensures.answers)
+
+pub step-requires-clause-next : goal.step-requires-clause-next
+step-requires-clause-next g c = subst (λ rows. IsNext c.events.agenda rows c.in-Some.event) c.rows-in-events.ensures c.in-Some.ensures
+
+pub events-preserved : goal.events-preserved
+events-preserved g c = c.step.ensures.simulates

@@ -39,6 +39,6 @@ returns-in-Err g c =
 
 pub returns : goal.returns
 returns g c =
-    let empty : c.loop-row.rows.items ≡ [] = search rules in let left : c.pop_front.new.self.items ≡ [] = search rules in
+    let empty : c.loop-row.rows.items ≡ [] = search rules in let left : c.pop_front.new.self.items ≡ [] = sym c.in_default.ensures.items ∙ empty in
     all_submitted g.J.Job.label_of (g.N.KindFor.kind_for c.args.kinds.now) c.args.desk.now.lock (g.K.Clock.tells c.args.clock.now) c.args.total c.args.rows.now.items c.args.who.now
     c.loop-row.rows.items c.pop_front.new.self.items c.loop-row.who c.loop-row.invariant empty left

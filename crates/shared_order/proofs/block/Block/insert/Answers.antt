@@ -1,6 +1,7 @@
-use Rattle.std.proofs.Common.{rules, arith, ◌≡◌, refl}
+use Rattle.std.proofs.Common.{rules, arith, ◌≡◌, ◌∙◌, refl, sym, take, drop}
 use Rattle.std.specs.List.{insert}
 use Rattle.std.proofs.lemmas.Int.{to_z-of_z}
+use Rattle.std.proofs.lemmas.List.{take-append-drop}
 use Rattle.shared_order.proofs.InBlock.{grown_at}
 use Rattle.shared_order.proofs.block.Block.insert.Goals as goal
 
@@ -13,3 +14,13 @@ pub returns-clause-sorted : goal.returns-clause-sorted
 returns-clause-sorted c =
     let items : c.insert.new.self.items ≡ insert c.self.inside.heads.items c.place_of-at.result c.args.head = search rules in
     (grown_at _ _ _ _ c.args.head c.place_of-at.result _ _ _ _ c.deref.ensures.value c.self.view_is items c.self.invariant c.place_of-at.ensures c.requires.new_request c.requires.room c.insert.ensures.capacity refl).sorted
+
+pub returns-clause-gains : goal.returns-clause-gains
+returns-clause-gains c =
+    let items : c.insert.new.self.items ≡ insert c.self.inside.heads.items c.place_of-at.result c.args.head = search rules in
+    record {
+      front = take c.place_of-at.result c.self.inside.heads.items;
+      back = drop c.place_of-at.result c.self.inside.heads.items;
+      before = sym (take-append-drop c.place_of-at.result c.self.inside.heads.items ∙ c.self.view_is);
+      after = items;
+    }

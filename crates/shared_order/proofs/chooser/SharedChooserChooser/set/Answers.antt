@@ -1,7 +1,7 @@
 use Rattle.std.proofs.Common.{◌<◌, ◌≤◌, sym, subst, ap, arith, length, IfSome, None, slice_set, length-set}
 use Rattle.tag_rules.specs.Tables.{ChooserView, IsNewTo}
 use Rattle.shared_order.specs.Mirrors.{Mirrors}
-use Rattle.shared_order.proofs.Mirroring.{taken_out, has_room, new_to_heads, taken_in, differ_set}
+use Rattle.shared_order.proofs.Mirroring.{held_by, taken_out, has_room, new_to_heads, taken_in, differ_set}
 use Rattle.shared_order.proofs.chooser.SharedChooserChooser.set.Goals as goal
 use Rattle.shared_order.proofs.chooser.SharedChooserChooser.set.Goals.{After-take_out}
 
@@ -32,3 +32,6 @@ invariant_of-self c =
       room = omega (arith, c.put_in.ensures.room, c.take_out.ensures.room, c.self.invariant.room, length-set table c.args.tenant c.args.keys);
       begun = c.self.invariant.begun;
     }
+
+pub take_out-requires : goal.take_out-requires
+take_out-requires c = held_by c.self.inside.table.items c.self.inside.order.heads c.args.tenant c.index.result.now c.self.invariant.mirrors (omega (arith, c.requires.tenant, ap (λ (x : ChooserView). x.setting.tenants) c.self.view_is)) c.index.ensures
