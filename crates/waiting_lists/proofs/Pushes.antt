@@ -44,6 +44,10 @@ module _ {J : Type 0} where
     rest_linked : AreLinked slots (Some slot) (slot ∷ rest)
     rest_linked = subst (AreLinked slots (Some slot)) rest_is k.spare
 
+    -- so not all are in lists
+    pub free_room : count_of (lists_of slots ends) < length slots
+    free_room = omega (arith, k.total, ap (λ (l : List ℕ). length l) rest_is)
+
     pub free_bound : slot < length slots
     free_bound = rest_linked.1
 

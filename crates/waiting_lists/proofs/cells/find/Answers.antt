@@ -1,4 +1,4 @@
-use Rattle.std.proofs.Common.{◌≡◌, ◌<◌, Some, length, get_or, option_map, sym, ap, ◌∙◌, subst, rules}
+use Rattle.std.proofs.Common.{◌≡◌, ◌<◌, Some, length, get_or, option_map, sym, ap, ◌∙◌, subst, arith}
 use Rattle.std.proofs.lemmas.List.{get_or_default}
 use Rattle.waiting_lists.specs.declared.links.Slot.{Slot}
 use Rattle.waiting_lists.specs.Linked.{empty_slot, slot_at}
@@ -11,7 +11,7 @@ pub offset_bounds-slots-here : goal.offset_bounds-slots-here
 offset_bounds-slots-here g c =
     let l : IsLeft c.args.slots.now c.args.request (Some c.in-Some.here) = subst (IsLeft c.args.slots.now c.args.request) c.in-Some.is c.loop-at.invariant in
     let within : c.in-Some.here < length c.args.slots.now = left_bound c.args.slots.now c.args.request c.in-Some.here l in
-    search rules
+    omega (arith, within)
 
 pub bounds-slots-here : goal.bounds-slots-here
 bounds-slots-here g c =
@@ -22,7 +22,7 @@ pub offset_bounds-slots-here-in-Some : goal.offset_bounds-slots-here-in-Some
 offset_bounds-slots-here-in-Some g c =
     let l : IsLeft c.args.slots.now c.args.request (Some c.in-Some.here) = subst (IsLeft c.args.slots.now c.args.request) c.in-Some.is c.loop-at.invariant in
     let within : c.in-Some.here < length c.args.slots.now = left_bound c.args.slots.now c.args.request c.in-Some.here l in
-    search rules
+    omega (arith, within)
 
 pub bounds-slots-here-else-eq : goal.bounds-slots-here-else-eq
 bounds-slots-here-else-eq g c =

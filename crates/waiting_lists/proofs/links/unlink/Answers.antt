@@ -1,4 +1,5 @@
-use Rattle.std.proofs.Common.{◌≡◌, ◌<◌, length, ap, ◌∙◌, rules}
+use Rattle.std.proofs.Common.{◌≡◌, ◌<◌, length, ap, ◌∙◌}
+use borrow.Author.Rules.{scaled_Fits}
 use Rattle.std.proofs.lemmas.List.{get_or_default}
 use Rattle.waiting_lists.specs.declared.links.Slot.{Slot}
 use Rattle.waiting_lists.specs.Linked.{empty_slot, slot_at}
@@ -8,7 +9,10 @@ use Rattle.waiting_lists.proofs.links.unlink.Goals as goal
 pub offset_bounds-slots-slot : goal.offset_bounds-slots-slot
 offset_bounds-slots-slot g c =
     let within : c.args.slot < length c.args.slots.now = slot_bound c.args.slots.now c.args.ends.now c.args.free.now c.requires.kept c.args.slot c.requires.held in
-    search rules
+    scaled_Fits c.args.slot (length c.args.slots.now) _ within c.well_formed.0.1
+
+pub bounds-slots-slot : goal.bounds-slots-slot
+bounds-slots-slot g c = slot_bound c.args.slots.now c.args.ends.now c.args.free.now c.requires.kept c.args.slot c.requires.held
 
 pub lead-requires : goal.lead-requires
 lead-requires g c =

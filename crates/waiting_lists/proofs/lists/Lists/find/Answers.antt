@@ -8,6 +8,9 @@ use Rattle.waiting_lists.proofs.Filed.{number_bound}
 use Rattle.waiting_lists.proofs.Removes.{found_none, found_some}
 use Rattle.waiting_lists.proofs.lists.Lists.find.Goals as goal
 
+pub returns-in_err-slot-clause-some : goal.returns-in_err-slot-clause-some
+returns-in_err-slot-clause-some g c = rw c.from_residual.ensures tt
+
 pub returns-in_err-slot-clause-none : goal.returns-in_err-slot-clause-none
 returns-in_err-slot-clause-none g c =
     let s = c.self.inside in

@@ -1,10 +1,13 @@
-use Rattle.std.proofs.Common.{◌≡◌, ◌<◌, ◌+◌, ◌-◌, [], Some, None, length, get_or, set, drop, slice_get, sym, ◌∙◌, rules, arith}
+use Rattle.std.proofs.Common.{◌≡◌, ◌<◌, ◌+◌, ◌-◌, [], Some, None, length, get_or, set, drop, slice_get, refl, sym, ◌∙◌, rules, arith}
 use Rattle.std.proofs.lemmas.List.{get_or_read}
 use Rattle.waiting_lists.specs.declared.item.Item.{Item}
 use Rattle.waiting_lists.specs.Linked.{slot_at, lists_of, IsTakenOut}
 use Rattle.waiting_lists.proofs.Heads.{none_first, none_rest, first_holds, first_some, head_is, first_out}
 use Rattle.waiting_lists.proofs.Counts.{known_tenant, kept_back, counted_less, length_rest, item_counts, list_set, same_whole}
 use Rattle.waiting_lists.proofs.lists.Lists.pop.Goals as goal
+
+pub same-self : goal.same-self
+same-self g c = refl
 
 pub returns-in_err-first-clause-first : goal.returns-in_err-first-clause-first
 returns-in_err-first-clause-first g c =

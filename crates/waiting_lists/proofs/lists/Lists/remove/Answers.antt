@@ -1,12 +1,21 @@
-use Rattle.std.proofs.Common.{◌≡◌, ◌≢◌, ℕ, ◌+◌, ◌-◌, [], Some, length, get_or, sym, ◌∙◌, rules, arith}
+use Rattle.std.proofs.Common.{◌≡◌, ◌≢◌, ℕ, ◌+◌, ◌-◌, [], Some, length, get_or, option_map, refl, sym, ap, ◌∙◌, rules, arith}
 use Rattle.std.proofs.lemmas.List.{get_or_read}
 use Rattle.waiting_lists.specs.Linked.{empty_slot, slot_at, lists_of, IsTakenOut}
 use Rattle.waiting_lists.specs.Cells.{number_at}
 use Rattle.waiting_lists.specs.Lists.{HasNone}
+use Rattle.waiting_lists.proofs.Chains.{none_not_some}
 use Rattle.waiting_lists.proofs.Filed.{number_bound}
 use Rattle.waiting_lists.proofs.Counts.{kept_back, counted_less, item_counts, whole_back}
 use Rattle.waiting_lists.proofs.Removes.{holds, found_none, found_known, left, left_shorter, left_lists, removed}
+use Rattle.waiting_lists.proofs.lists.Lists.remove.Given as given
 use Rattle.waiting_lists.proofs.lists.Lists.remove.Goals as goal
+use Rattle.waiting_lists.proofs.lists.Lists.remove.Goals.{In_err-item}
+
+pub returns-in_err-slot-clause-removed : goal.returns-in_err-slot-clause-removed
+returns-in_err-slot-clause-removed g c = rw c.from_residual.ensures tt
+
+pub returns-in_err-slot-clause-unchanged : goal.returns-in_err-slot-clause-unchanged
+returns-in_err-slot-clause-unchanged g c = rw c.from_residual.ensures refl
 
 pub returns-in_err-slot-clause-none : goal.returns-in_err-slot-clause-none
 returns-in_err-slot-clause-none g c =
@@ -21,6 +30,26 @@ take_out-requires-clause-held g c =
     let k = c.self.invariant.kept.links in
     let number : number_at s.slots.items c.in_ok-slot.slot ≡ Some c.args.request = rw c.deref.ensures.value at c.in_ok-slot.ensures.found in
     rw c.deref_mut.ensures.value (holds s.slots.items c.in_ok-slot.slot c.args.request number)
+
+-- the slot had an item
+gone : (g : given.Over) (c : In_err-item g) → ⊥
+gone g c =
+    let s = c.self.inside in
+    let number : number_at s.slots.items c.in_ok-slot.slot ≡ Some c.args.request = rw c.deref.ensures.value at c.in_ok-slot.ensures.found in
+    let held : c.take_out.result ≡ (slot_at s.slots.items c.in_ok-slot.slot).item = rw c.deref_mut.ensures.value at c.take_out.ensures.item in
+    none_not_some (number_at s.slots.items c.in_ok-slot.slot) c.args.request (ap (option_map (λ i. i.request)) (sym held ∙ c.in_err-item.was)) number
+
+pub invariant_of-self : goal.invariant_of-self
+invariant_of-self g c = absurd (gone g (goal.at.invariant_of-self g c).In_err-item)
+
+pub returns-in_err-item-clause-removed : goal.returns-in_err-item-clause-removed
+returns-in_err-item-clause-removed g c = absurd (gone g (goal.at.returns-in_err-item-clause-removed g c).In_err-item)
+
+pub returns-in_err-item-clause-none : goal.returns-in_err-item-clause-none
+returns-in_err-item-clause-none g c = absurd (gone g (goal.at.returns-in_err-item-clause-none g c).In_err-item)
+
+pub returns-in_err-item-clause-unchanged : goal.returns-in_err-item-clause-unchanged
+returns-in_err-item-clause-unchanged g c = absurd (gone g (goal.at.returns-in_err-item-clause-unchanged g c).In_err-item)
 
 pub overflow_sub-self : goal.overflow_sub-self
 overflow_sub-self g c =
