@@ -4,8 +4,14 @@ use Rattle.waiting_lists.specs.declared.links.Slot.{Slot}
 use Rattle.waiting_lists.specs.Linked.{empty_slot, slot_at}
 use Rattle.waiting_lists.specs.Cells.{number_at}
 use Rattle.waiting_lists.proofs.Walks.{walk}
-use Rattle.waiting_lists.proofs.Searches.{cell_links, same_some, other_some, IsLeft, left_bound, left_next, left_nearer, left_none}
+use Rattle.waiting_lists.proofs.Searches.{cell_links, same_some, other_some, IsLeft, left_first, left_bound, left_next, left_nearer, left_none}
 use Rattle.waiting_lists.proofs.cells.find.Goals as goal
+
+pub bounds-cells-request : goal.bounds-cells-request
+bounds-cells-request g c = omega (arith, c.requires.some)
+
+pub loop-at-init : goal.loop-at-init
+loop-at-init g c = left_first c.args.cells.now c.args.slots.now c.args.request c.requires.some c.requires.kept
 
 pub offset_bounds-slots-here : goal.offset_bounds-slots-here
 offset_bounds-slots-here g c =

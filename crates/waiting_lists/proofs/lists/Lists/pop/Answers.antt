@@ -1,4 +1,4 @@
-use Rattle.std.proofs.Common.{◌≡◌, ◌<◌, ◌+◌, ◌-◌, [], Some, None, length, get_or, set, drop, slice_get, refl, sym, ◌∙◌, rules, arith}
+use Rattle.std.proofs.Common.{◌≡◌, ◌<◌, ◌+◌, ◌-◌, [], Some, None, length, get_or, set, drop, slice_get, sym, ◌∙◌, rules, arith}
 use Rattle.std.proofs.lemmas.List.{get_or_read}
 use Rattle.waiting_lists.specs.declared.item.Item.{Item}
 use Rattle.waiting_lists.specs.Linked.{slot_at, lists_of, IsTakenOut}
@@ -6,8 +6,10 @@ use Rattle.waiting_lists.proofs.Heads.{none_first, none_rest, first_holds, first
 use Rattle.waiting_lists.proofs.Counts.{known_tenant, kept_back, counted_less, length_rest, item_counts, list_set, same_whole}
 use Rattle.waiting_lists.proofs.lists.Lists.pop.Goals as goal
 
-pub same-self : goal.same-self
-same-self g c = refl
+pub index-requires : goal.index-requires
+index-requires g c =
+    let s = c.self.inside in
+    omega (arith, known_tenant s.slots.items s.ends.items s.room c.args.self.now c.args.tenant c.self.view_is c.requires, s.ends.ok.0)
 
 pub returns-in_err-first-clause-first : goal.returns-in_err-first-clause-first
 returns-in_err-first-clause-first g c =
@@ -22,6 +24,9 @@ returns-in_err-first-clause-rest g c =
     let known : c.args.tenant < length s.ends.items = known_tenant s.slots.items s.ends.items s.room c.args.self.now c.args.tenant c.self.view_is c.requires in
     let none : get_or s.ends.items c.args.tenant None ≡ None = sym (get_or_read s.ends.items c.args.tenant c.index.result.now known c.index.ensures None) ∙ c.in_err-first.was in
     same_whole s.slots.items s.ends.items s.room c.args.tenant c.args.self.now (drop 1) c.self.view_is (none_rest s.slots.items s.ends.items s.free c.self.invariant.kept.links c.args.tenant known none)
+
+pub take_out-item-requires-clause-kept : goal.take_out-item-requires-clause-kept
+take_out-item-requires-clause-kept g c = rw (c.deref_mut.ensures.value, c.deref_mut-2.ensures.value, c.deref_mut-3.ensures.value) c.self.invariant.kept
 
 pub take_out-item-requires-clause-held : goal.take_out-item-requires-clause-held
 take_out-item-requires-clause-held g c =

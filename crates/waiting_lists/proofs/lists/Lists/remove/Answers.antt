@@ -11,6 +11,12 @@ use Rattle.waiting_lists.proofs.lists.Lists.remove.Given as given
 use Rattle.waiting_lists.proofs.lists.Lists.remove.Goals as goal
 use Rattle.waiting_lists.proofs.lists.Lists.remove.Goals.{In_err-item}
 
+pub find-requires-clause-some : goal.find-requires-clause-some
+find-requires-clause-some g c = rw c.deref-2.ensures.value c.self.invariant.kept.some
+
+pub find-requires-clause-kept : goal.find-requires-clause-kept
+find-requires-clause-kept g c = rw (c.deref.ensures.value, c.deref-2.ensures.value) c.self.invariant.kept.index
+
 pub returns-in_err-slot-clause-removed : goal.returns-in_err-slot-clause-removed
 returns-in_err-slot-clause-removed g c = rw c.from_residual.ensures tt
 
@@ -23,6 +29,15 @@ returns-in_err-slot-clause-none g c =
     let none : (i : ℕ) → number_at s.slots.items i ≢ Some c.args.request = rw c.deref.ensures.value at c.in_err-slot.ensures.none in
     let all : HasNone c.args.self.now c.args.request = found_none s.slots.items s.ends.items s.free s.room c.args.self.now c.self.view_is c.self.invariant.kept.links c.args.request none in
     rw c.from_residual.ensures all
+
+pub index-requires : goal.index-requires
+index-requires g c =
+    let s = c.self.inside in
+    let number : number_at s.slots.items c.in_ok-slot.slot ≡ Some c.args.request = rw c.deref.ensures.value at c.in_ok-slot.ensures.found in
+    omega (arith, number_bound s.slots.items c.in_ok-slot.slot c.args.request number, s.slots.ok.0)
+
+pub take_out-requires-clause-kept : goal.take_out-requires-clause-kept
+take_out-requires-clause-kept g c = rw (c.deref_mut.ensures.value, c.deref_mut-2.ensures.value, c.deref_mut-3.ensures.value) c.self.invariant.kept
 
 pub take_out-requires-clause-held : goal.take_out-requires-clause-held
 take_out-requires-clause-held g c =
