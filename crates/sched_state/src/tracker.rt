@@ -8,9 +8,12 @@ ghost use Rattle.fq_model.specs.Time.{last_moment, effective_moment};
 ghost use Rattle.fq_model.specs.Keys.{keys_at, start};
 ghost use Rattle.fq_model.specs.Rules.{label_of};
 ghost use Rattle.charge_book.specs.Book.{MayUse};
+ghost use Rattle.virtual_clock.specs.Histories.{TimesAre};
 ghost use Rattle.sched_journal.specs.Journal.{history, MayGain};
 ghost use Rattle.sched_state.specs.Lists.{jobs_in};
 ghost use Rattle.sched_state.specs.Refusals.{GetsWork};
+ghost use Rattle.sched_state.specs.Costs.{CostsAre};
+ghost use Rattle.sched_state.specs.Keys.{ChooserIs};
 ghost use Rattle.sched_state.specs.Tracker.{Mirrors, Tracks, TracksBut, TracksSomeBut, TracksAfter, submit_act, MayBegin, Begins, raised_first};
 
 use charge_book::book::Book;
@@ -52,13 +55,17 @@ impl<J: Job + Drop, X: Chooser> Tracker<J, X> {
         ensures tracked { IfOk result (Tracks J.label_of X.seen config.now []) }
         ensures jobs { IfOk result (λ k. jobs_in k.lists.lists ≡ map.empty) }
     {
+        let lists = Lists::open(alloc, config.tenants(), config.requests())?;
+        let book = Book::open(alloc, config)?;
+        let accounts = Accounts::open(alloc, config.tenants())?;
+        let (costs, times, chooser) = open_measures(alloc, config)?;
         Ok(Tracker {
-            lists: Lists::open(alloc, config.tenants(), config.requests())?,
-            book: Book::open(alloc, config)?,
-            accounts: Accounts::open(alloc, config.tenants())?,
-            costs: AnyCost::open(alloc, config)?,
-            times: Times::open(alloc, config)?,
-            chooser: X::open(alloc, config)?,
+            lists,
+            book,
+            accounts,
+            costs,
+            times,
+            chooser,
         })
     }
 
@@ -273,4 +280,19 @@ fn raise_first<J: Job + Drop>(accounts: &mut Accounts, lists: &Lists<J>, tenant:
     if lists.head(tenant).is_none() {
         accounts.raise(tenant, v);
     }
+}
+
+// The estimator, virtual time and the chooser of a history without entries.
+fn open_measures<X: Chooser>(
+    alloc: Global,
+    config: &Checked,
+) -> Result<(AnyCost, Times, X), AllocError>
+    ensures costs { IfOk result (λ r. CostsAre config.now [] r.0) }
+    ensures times { IfOk result (λ r. TimesAre config.now [] r.1) }
+    ensures chooser { IfOk result (λ r. ChooserIs config.now [] (X.seen r.2)) }
+{
+    let costs = AnyCost::open(alloc, config)?;
+    let times = Times::open(alloc, config)?;
+    let chooser = X::open(alloc, config)?;
+    Ok((costs, times, chooser))
 }
