@@ -103,14 +103,13 @@ fn expect_told<X: Chooser, R: Abort>(
     rt: &R,
     desk: &Desk<u64, X>,
     reader: &mut Reader,
-    (entries, moment): (u64, u64),
-    vtime: i128,
-    (waiting, running): (u32, u32),
+    wanted: (u64, u64, i128, u32, u32),
 )
     requires { IsReaderAt desk.now.lock (option_map arc_value desk.now.board) reader.old }
     ensures { IsReaderAt desk.now.lock (option_map arc_value desk.now.board) reader.new }
 {
     let status = read(rt, desk, reader);
+    let (entries, moment, vtime, waiting, running) = wanted;
     expect_true(rt, tells(status, entries, moment, vtime, waiting, running));
 }
 
@@ -141,15 +140,15 @@ fn done<X: Chooser, R: Wait + Abort>(rt: &R, desk: &Desk<u64, X>, running: Runni
 // One request from its coming to its end, with a look after each entry, and another reader's at the end.
 fn one_request<X: Chooser + Drop, R: Wait + Abort>(rt: &R, alloc: Global) {
     let (desk, mut reader, mut who, worker) = opened::<X, R>(rt, alloc, 10);
-    expect_told(rt, &desk, &mut reader, (0, 0), 0, (0, 0));
+    expect_told(rt, &desk, &mut reader, (0, 0, 0, 0, 0));
     expect_true(rt, desk.submit(rt, &mut who, 5, 0, 0, 5, 7).is_ok());
-    expect_told(rt, &desk, &mut reader, (1, 5), 0, (1, 0));
+    expect_told(rt, &desk, &mut reader, (1, 5, 0, 1, 0));
     let running = taken(rt, &desk, worker);
-    expect_told(rt, &desk, &mut reader, (2, 5), 0, (0, 1));
+    expect_told(rt, &desk, &mut reader, (2, 5, 0, 0, 1));
     let worker = done(rt, &desk, running);
-    expect_told(rt, &desk, &mut reader, (3, 10), 5242880, (0, 0));
+    expect_told(rt, &desk, &mut reader, (3, 10, 5242880, 0, 0));
     let mut second = another(rt, &desk, &mut reader);
-    expect_told(rt, &desk, &mut second, (3, 10), 5242880, (0, 0));
+    expect_told(rt, &desk, &mut second, (3, 10, 5242880, 0, 0));
     ended(rt, alloc, desk, who, worker, reader, second);
 }
 
@@ -221,7 +220,7 @@ fn beside<X: Chooser + Drop + Send, R: Threads + Wait + Sync + Abort>(rt: &R, al
     let (accepted, seen) = side_by_side(rt, &desk, board, &mut who, &mut reader);
     expect_true(rt, accepted);
     expect_true(rt, seen);
-    expect_told(rt, &desk, &mut second, (REQUESTS, 5), 0, (2000, 0));
+    expect_told(rt, &desk, &mut second, (REQUESTS, 5, 0, 2000, 0));
     ended(rt, alloc, desk, who, worker, reader, second);
 }
 

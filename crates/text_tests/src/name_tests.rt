@@ -33,7 +33,7 @@ fn expect_found<R: Abort>(rt: &R, tenants: &TenantsBuilder, rows: &[(&str, Optio
 
 // The second of two tenants has this name and this weight.
 fn expect_second<R: Abort>(rt: &R, tenants: &Tenants, name: &str, weight: u32) {
-    expect_same(rt, tenants.len(), 2);
+    assert!(rt; tenants.len() == 2);
     expect_same(rt, tenants.name(1), name);
     expect_same(rt, tenants.weight(1), weight);
 }
@@ -89,7 +89,7 @@ fn expect_full<R: Abort>(rt: &R, kinds: &mut KindsBuilder, more: &str, last: &st
 
 // There are 64 kinds, and the last has this name.
 fn expect_last<R: Abort>(rt: &R, kinds: &Kinds, last: &str) {
-    expect_same(rt, kinds.len(), 64);
+    assert!(rt; kinds.len() == 64);
     expect_same(rt, kinds.name(63), last);
 }
 

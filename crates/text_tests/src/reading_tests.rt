@@ -23,9 +23,9 @@ fn expect_config<R: Abort>(rt: &R, config: &Checked) {
 
 // Its names.
 fn expect_names<R: Abort>(rt: &R, tenants: &Tenants, kinds: &Kinds) {
-    expect_same(rt, tenants.len(), 2);
+    assert!(rt; tenants.len() == 2);
     expect_same(rt, tenants.name(1), "b");
-    expect_same(rt, kinds.len(), 1);
+    assert!(rt; kinds.len() == 1);
     expect_same(rt, kinds.name(0), "get");
 }
 

@@ -33,7 +33,11 @@ fn reported<R: Abort>(rt: &R, alloc: Global, workers: u32, past: &[Entry], slot:
     ensures { length result.rows ≡ 2 }
 {
     let config = two_tenants(rt, alloc, workers);
-    report(alloc, past, &config, slot).expect(rt, "memory for a report")
+    let told = report(alloc, past, &config, slot);
+    let Ok(told) = told else {
+        panic!(rt; "no memory for a report")
+    };
+    told
 }
 
 // The report is printed so.

@@ -87,10 +87,10 @@ fn expect_served<R: Abort>(
 {
     let config = two_tenants(rt, alloc, workers);
     let count = from + wanted.len();
-    let told = slots(alloc, rows, changes, &config, 10, count as u64).expect(
-        rt,
-        "memory for levels",
-    );
+    let told = slots(alloc, rows, changes, &config, 10, count as u64);
+    let Ok(told) = told else {
+        panic!(rt; "no memory for levels")
+    };
     for tenant in 0..2 {
         expect_services(rt, alloc, &told, tenant, from, wanted);
     }
