@@ -2,7 +2,6 @@
 ghost use Rattle.std.specs.Prelude.{◌≡◌, option_map};
 ghost use Rattle.std.specs.Arc.{arc_value};
 ghost use Rattle.history_lock.specs.Passes.{IsOf};
-ghost use Rattle.desk.specs.Replies.{took_pass};
 ghost use Rattle.status_board.specs.Boards.{IsReaderOf};
 ghost use Rattle.pool_tests.specs.Watched.{IsReaderAt};
 

@@ -25,7 +25,7 @@ use std::thread::{Threads, join_mut};
 use tag_rules::chooser::Chooser;
 use worker_gate::feed::feed;
 use worker_gate::pool::{Hand, pool};
-use worker_gate::{CostRule, Counters, Fed, Gate, LoggedGate, Row, Slice, SliceLog, WorkCost};
+use worker_gate::{CostRule, Counters, Fed, Gate, LoggedGate, Row, Slice, WorkCost};
 
 // Job 0 ends once job 1 has begun, or is marked where that takes too many turns. Each other job ends at once.
 #[derive(Drop)]

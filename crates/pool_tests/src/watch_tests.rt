@@ -1,5 +1,5 @@
 //! A pool of one hand that watches, between the calls of a submitter.
-ghost use Rattle.std.specs.Prelude.{◌≡◌, ◌∷◌, [], None, option_map};
+ghost use Rattle.std.specs.Prelude.{◌≡◌, None, option_map};
 ghost use Rattle.std.specs.Arc.{arc_value};
 ghost use Rattle.history_lock.specs.Passes.{IsOf};
 ghost use Rattle.pool_tests.specs.Watched.{IsReaderAt};
@@ -81,8 +81,10 @@ fn ended<X: Chooser + Drop, R: Abort>(
     requires worker { IsOf desk.lock worker.pass }
 {
     let readers = one(rt, alloc, reader);
-    let ended = desk.finish_shown(one(rt, alloc, who), one(rt, alloc, worker), readers);
-    expect_true(rt, ended.is_ok());
+    let scheduler = desk
+        .finish_shown(one(rt, alloc, who), one(rt, alloc, worker), readers)
+        .expect(rt, "a turn was not served");
+    drop(scheduler);
 }
 
 // This number of statuses was read, and each has this number of waiting requests.
