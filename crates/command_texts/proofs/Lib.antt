@@ -3,4 +3,3 @@ pub mod Reports
 pub mod Serving
 pub mod Runs
 mod Shapes
-pub mod Leads

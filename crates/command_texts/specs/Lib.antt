@@ -1,4 +1,3 @@
 pub mod Making
 pub mod Histories
 pub mod Serving
-pub mod Leading

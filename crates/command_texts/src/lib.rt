@@ -7,9 +7,7 @@
 pub mod checking;
 pub mod generation;
 pub mod history;
-pub mod leading;
 pub mod messages;
-pub mod plain;
 pub mod run;
 pub mod script;
 mod serve;

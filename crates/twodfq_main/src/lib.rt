@@ -4,6 +4,7 @@
 mod compare;
 pub mod ending;
 mod live;
+mod plain;
 pub mod program;
 mod reading;
 mod statuses;

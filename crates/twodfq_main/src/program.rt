@@ -9,9 +9,8 @@ ghost use Rattle.twodfq_main.specs.Runs.{Runs, EndsAs};
 
 use crate::ending::{told, written};
 use crate::reading::{read_input, reads_input};
-use crate::{compare, live};
+use crate::{compare, live, plain};
 use command_line::command::command;
-use command_texts::plain;
 use fq_io::{Clock, Sink, Source};
 use program_model::command::Command;
 use program_model::ending::Failure;

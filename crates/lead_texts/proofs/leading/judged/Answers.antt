@@ -1,8 +1,8 @@
 use Rattle.std.proofs.Common.{subst}
 use Rattle.program_model.specs.Document.{config_of}
 use Rattle.program_model.specs.Verdicts.{IsVerdict}
-use Rattle.command_texts.proofs.Leads.{stop_told, bad_told}
-use Rattle.command_texts.proofs.leading.judged.Goals as goal
+use Rattle.lead_texts.proofs.Leads.{stop_told, bad_told}
+use Rattle.lead_texts.proofs.leading.judged.Goals as goal
 
 pub returns-in-Legal : goal.returns-in-Legal
 returns-in-Legal c =

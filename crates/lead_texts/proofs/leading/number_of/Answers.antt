@@ -1,6 +1,6 @@
 use Rattle.std.proofs.Common.{arith, sym}
-use Rattle.command_texts.proofs.Leads.{none_first, found_here, none_here, none_at_all}
-use Rattle.command_texts.proofs.leading.number_of.Goals as goal
+use Rattle.lead_texts.proofs.Leads.{none_first, found_here, none_here, none_at_all}
+use Rattle.lead_texts.proofs.leading.number_of.Goals as goal
 
 pub loop-t-init : goal.loop-t-init
 loop-t-init c = none_first c.args.tenants.now c.args.name.now

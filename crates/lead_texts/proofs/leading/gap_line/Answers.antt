@@ -3,7 +3,7 @@ use Rattle.std.proofs.lemmas.Int.{ints}
 use Rattle.std.proofs.lemmas.Result.{IfOk-weaker}
 use Rattle.std.specs.Int.{w128}
 use mir.Val.{to_z, of_z}
-use Rattle.command_texts.proofs.leading.gap_line.Goals as goal
+use Rattle.lead_texts.proofs.leading.gap_line.Goals as goal
 
 pub returns : goal.returns
 returns c =

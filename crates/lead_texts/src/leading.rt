@@ -9,10 +9,10 @@ ghost use Rattle.program_model.specs.LeadCommand.{lead_answer, IsLeadTold, IsLea
 ghost use Rattle.program_model.specs.VerdictTexts.{verdict_text};
 ghost use Rattle.tag_difference.specs.Pairs.{told};
 ghost use Rattle.tenant_table.specs.Names.{names_of};
-ghost use Rattle.command_texts.specs.Leading.{ArePair, IsLineOf};
+ghost use Rattle.lead_texts.specs.Leading.{ArePair, IsLineOf};
 ghost use Rattle.command_texts.specs.Making.{Makes, IsStop};
 
-use crate::messages::{document_stop, told};
+use command_texts::messages::{document_stop, told};
 use fitted_chooser::chooser::ProgramChooser;
 use journal_check::checking::check;
 use journal_check::printing::verdict_text;

@@ -3,8 +3,8 @@ use Rattle.program_model.specs.Answer.{Text}
 use Rattle.program_model.specs.VerdictTexts.{verdict_text}
 use Rattle.fq_model.specs.declared.event.Entry.{Entry}
 use Rattle.std.specs.Prelude.{List}
-use Rattle.command_texts.proofs.Leads.{bad_status}
-use Rattle.command_texts.proofs.leading.not_legal.Goals as goal
+use Rattle.lead_texts.proofs.Leads.{bad_status}
+use Rattle.lead_texts.proofs.leading.not_legal.Goals as goal
 
 pub returns : goal.returns
 returns c =

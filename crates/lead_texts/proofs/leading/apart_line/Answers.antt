@@ -1,6 +1,6 @@
 use Rattle.std.proofs.Common.{◌∙◌, append_assoc}
 use Rattle.std.proofs.lemmas.Result.{IfOk-weaker}
-use Rattle.command_texts.proofs.leading.apart_line.Goals as goal
+use Rattle.lead_texts.proofs.leading.apart_line.Goals as goal
 
 pub returns : goal.returns
 returns c = IfOk-weaker c.format.result _ _ (λ line is. is ∙ simp append_assoc) c.format.ensures.ok

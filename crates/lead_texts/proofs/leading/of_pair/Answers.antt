@@ -6,8 +6,8 @@ use Rattle.fq_model.specs.Rules.{IsLegal}
 use Rattle.program_model.specs.Verdicts.{IsVerdict}
 use Rattle.tag_lead.specs.Faults.{IsLeadFault}
 use Rattle.tag_lead.specs.Leads.{IsLead}
-use Rattle.command_texts.proofs.Leads.{in_journal, pair_told, bad_told}
-use Rattle.command_texts.proofs.leading.of_pair.Goals as goal
+use Rattle.lead_texts.proofs.Leads.{in_journal, pair_told, bad_told}
+use Rattle.lead_texts.proofs.leading.of_pair.Goals as goal
 
 pub returns-in_ok-text-in-Ok : goal.returns-in_ok-text-in-Ok
 returns-in_ok-text-in-Ok c =

@@ -3,8 +3,9 @@ ghost use Rattle.program_model.specs.CommandLimits.{IsPlainInRange};
 ghost use Rattle.program_model.specs.Commands.{IsPlainAnswer};
 ghost use Rattle.command_texts.specs.Making.{Makes};
 
-use crate::{checking, generation, leading, run, script, shaping};
+use command_texts::{checking, generation, run, script, shaping};
 use fitted_chooser::chooser::ProgramChooser;
+use lead_texts::leading;
 use program_model::command::PlainCommand;
 use program_model::ending::{Output, Stop};
 use std::alloc::Global;

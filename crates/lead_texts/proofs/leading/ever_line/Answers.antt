@@ -3,8 +3,8 @@ use Rattle.std.proofs.lemmas.Int.{ints}
 use Rattle.std.proofs.lemmas.Result.{IfOk-weaker}
 use Rattle.std.specs.Int.{w128}
 use mir.Val.{to_z, of_z}
-use Rattle.command_texts.proofs.Leads.{ever_whole}
-use Rattle.command_texts.proofs.leading.ever_line.Goals as goal
+use Rattle.lead_texts.proofs.Leads.{ever_whole}
+use Rattle.lead_texts.proofs.leading.ever_line.Goals as goal
 
 pub returns : goal.returns
 returns c =

@@ -31,7 +31,7 @@ use Rattle.tag_lead.specs.Leads.{IsLead}
 use Rattle.tenant_table.specs.Names.{names_of, AreTenants}
 use Rattle.tenant_table.proofs.Tables.{length_names, finds}
 use Rattle.trace_shape.proofs.Sizes.{none_found}
-use Rattle.command_texts.specs.Leading.{ArePair, IsLineOf}
+use Rattle.lead_texts.specs.Leading.{ArePair, IsLineOf}
 use Rattle.command_texts.specs.Making.{Makes, IsStop}
 use Rattle.command_texts.proofs.Making.{stop_as, makes_as}
 
