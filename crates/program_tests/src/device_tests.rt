@@ -1,5 +1,8 @@
 //! Devices that fail at any one of their calls.
-use crate::samples::{Left, NEVER, REPLIES, RUN, SCRIPT, TRACE, expect_part, expect_same_at, expect_stop, expect_written, run_failing, run_telling, sink_failing, source_failing};
+use crate::samples::{
+    Left, NEVER, REPLIES, RUN, SCRIPT, TRACE, expect_part, expect_same_at, expect_stop,
+    expect_written, run_failing, run_telling, sink_failing, source_failing,
+};
 use std::alloc::Global;
 use std::process::Abort;
 

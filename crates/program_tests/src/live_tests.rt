@@ -1,5 +1,8 @@
 //! A pool of threads whose trace can't be read, or whose journal can't be written.
-use crate::samples::{Left, NEVER, TRACE, expect_same, expect_same_at, expect_stop, sink_failing, source_failing, words_of};
+use crate::samples::{
+    Left, NEVER, TRACE, expect_same, expect_same_at, expect_stop, sink_failing, source_failing,
+    words_of,
+};
 use fq_memory::FixedClock;
 use std::alloc::Global;
 use std::process::Abort;

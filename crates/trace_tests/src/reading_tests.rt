@@ -13,8 +13,8 @@ use trace_reader::trace::Trace;
 // The first kind of a trace has this name.
 fn expect_first_kind<R: Abort>(rt: &R, trace: &Trace, name: &str) {
     let kinds = trace.kinds();
-    expect_same_at(rt, name, !kinds.is_empty(), true);
-    expect_same_at(rt, name, kinds.name(0) == name, true);
+    assert!(rt; !kinds.is_empty());
+    expect_same(rt, kinds.name(0), name);
 }
 
 // The first kind of the trace that a text says has this name.
