@@ -227,7 +227,7 @@ fn submits<X: Chooser, R: Wait + Abort, O: time::Clock + Files + Alloc>(
         },
     };
     expect_true(rt, desk.close(rt, who, 50).is_ok());
-    expect_same_at(rt, "the worker sleeps on", comes_to(os, through, 1), true);
+    expect_same_at(rt, "the worker's end", comes_to(os, through, 1), true);
     seen
 }
 

@@ -58,7 +58,7 @@ fn ended<X: Chooser + Drop, R: Abort>(
     let readers = two(rt, alloc, first, second);
     let scheduler = desk
         .finish_shown(one(rt, alloc, who), one(rt, alloc, worker), readers)
-        .expect(rt, "a turn was not served");
+        .expect(rt, "each turn was served");
     drop(scheduler);
 }
 
@@ -97,7 +97,7 @@ pub fn tells(
         && status.running == running
 }
 
-// A reader is told these numbers of a status.
+// The status that the reader reads has these numbers.
 fn expect_told<X: Chooser, R: Abort>(
     rt: &R,
     desk: &Desk<u64, X>,

@@ -27,7 +27,7 @@ fn closed<R: Abort>(rt: &R, lock: HistoryLock<Echo>, mut zero: Pass<u32>, one: P
     requires one { IsOf lock one }
 {
     lock.join(&mut zero, one);
-    lock.close(zero).expect(rt, "a turn was not served")
+    lock.close(zero).expect(rt, "each turn was served")
 }
 
 // Takes a turn.

@@ -115,7 +115,7 @@ pub fn ended<X: Chooser + Drop, R: Abort>(
 {
     let scheduler = desk
         .finish(one(rt, alloc, who), one(rt, alloc, worker))
-        .expect(rt, "a turn was not served");
+        .expect(rt, "each turn was served");
     entries_of(rt, alloc, scheduler)
 }
 
@@ -152,7 +152,7 @@ pub fn ended_for_two<X: Chooser + Drop, R: Abort>(
 {
     let scheduler = desk
         .finish(two(rt, alloc, zero, one), workers)
-        .expect(rt, "a turn was not served");
+        .expect(rt, "each turn was served");
     entries_of(rt, alloc, scheduler)
 }
 

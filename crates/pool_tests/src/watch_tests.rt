@@ -43,7 +43,7 @@ fn watched<X: Chooser + Send, R: Threads + Wait + Sync + Abort>(
     requires { IsReaderAt desk.now.lock (option_map arc_value desk.now.board) reader }
     ensures { IsReaderAt desk.now.lock (option_map arc_value desk.now.board) result.0 }
 {
-    let seen = Vec::with_capacity(alloc, times as usize).expect(rt, "memory for what is read");
+    let seen = Vec::with_capacity(alloc, times as usize).expect(rt, "memory for statuses");
     let mut hands: [Hand<u64, Unasked>; 1] = [Hand::Watch {
         reader,
         left: times,
@@ -83,7 +83,7 @@ fn ended<X: Chooser + Drop, R: Abort>(
     let readers = one(rt, alloc, reader);
     let scheduler = desk
         .finish_shown(one(rt, alloc, who), one(rt, alloc, worker), readers)
-        .expect(rt, "a turn was not served");
+        .expect(rt, "each turn was served");
     drop(scheduler);
 }
 

@@ -1,5 +1,7 @@
 //! Comparisons by the program, and words for another part of it.
-use crate::samples::{NEVER, TRACE, expect_same, sink_with_room, sound_source, words_of};
+use crate::samples::{
+    NEVER, TRACE, expect_same, expect_same_at, sink_with_room, sound_source, words_of,
+};
 use fq_memory::{FixedClock, MemSink};
 use std::alloc::Global;
 use std::process::Abort;
@@ -31,13 +33,20 @@ fn wide_sink<R: Abort>(rt: &R, alloc: Global) -> MemSink {
     sink_with_room(rt, alloc, 2000, 4096, NEVER)
 }
 
-// The trace of the samples is compared.
-fn compares<T: Abort + Threads + Sync>(rt: &T, alloc: Global) {
-    let words = words_of(rt, alloc, COMPARE);
+// For these words and the trace of the samples `compare` ends so.
+fn expect<T: Abort + Threads + Sync>(
+    rt: &T,
+    alloc: Global,
+    words: &str,
+    status: u8,
+    written: &str,
+    told: &str,
+) {
+    let words = words_of(rt, alloc, words);
     let mut source = sound_source(rt, alloc, TRACE);
     let mut sink = wide_sink(rt, alloc);
     let mut errs = wide_sink(rt, alloc);
-    let status = compare(
+    let answer = compare(
         rt,
         alloc,
         words.as_slice(),
@@ -45,14 +54,21 @@ fn compares<T: Abort + Threads + Sync>(rt: &T, alloc: Global) {
         &mut sink,
         &mut errs,
     );
-    expect_same(rt, status, 0);
-    expect_same(rt, sink.bytes(), ROWS.as_bytes());
-    expect_same(rt, errs.bytes(), b"".as_slice());
+    expect_same_at(rt, "the status", answer, status);
+    expect_same_at(rt, "the output", sink.bytes(), written.as_bytes());
+    expect_same_at(rt, "the message", errs.bytes(), told.as_bytes());
 }
 
 #[test]
 fn compares_a_trace(rt: HostRuntime) {
-    compares(&rt, rt.alloc());
+    expect(&rt, rt.alloc(), COMPARE, 0, ROWS, "");
+}
+
+#[test]
+fn words_of_another_part_are_no_command_line(rt: HostRuntime) {
+    let told = "twodfq: the words are not a command line\n";
+    expect(&rt, rt.alloc(), "run", 2, "", told);
+    expect(&rt, rt.alloc(), "live", 2, "", told);
 }
 
 // `live` takes the words of a comparison for no command line, and the whole program compares.

@@ -89,5 +89,5 @@ fn run_untold<R: Abort>(rt: &R, alloc: Global) -> Left {
 #[test]
 fn telling_fails(rt: HostRuntime) {
     let left = run_untold(&rt, rt.alloc());
-    expect_stop(&rt, &left, 3, "", 5);
+    expect_stop(&rt, &left, 3, "", 0);
 }

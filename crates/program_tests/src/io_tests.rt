@@ -63,7 +63,7 @@ fn expect_written<R: Abort>(
 ) {
     let mut sink = sink_with_room(rt, alloc, room, 4, fail);
     expect_same(rt, write_all(&mut sink, b"abcdefg"), wanted);
-    expect_same_at(rt, room, sink.bytes(), written.as_bytes());
+    expect_same_at(rt, written, sink.bytes(), written.as_bytes());
 }
 
 #[test]

@@ -161,7 +161,7 @@ pub fn run_failing<R: Abort>(
     run(rt, alloc, words, source, sink_failing(rt, alloc, write))
 }
 
-/// The run stopped with this status and this message, and nothing was written. `place` says where in a table that is.
+/// The run stopped with this status and this message, and nothing was written. `place` is the number of the call that fails.
 pub fn expect_stop<R: Abort>(rt: &R, left: &Left, status: u8, message: &str, place: u64) {
     expect_same_at(rt, place, left.status, status);
     expect_same_at(rt, place, left.written.bytes(), b"");

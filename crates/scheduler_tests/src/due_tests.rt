@@ -246,7 +246,7 @@ fn asked_and_made<X: Foresees, R: Abort>(
     }
 }
 
-// Two schedulers have histories of one length, with one last entry.
+// The histories of two schedulers have the same length and the same last entry.
 fn expect_one_past<X: Chooser, R: Abort>(
     rt: &R,
     asked: &Scheduler<u64, X>,
@@ -260,7 +260,7 @@ fn expect_one_past<X: Chooser, R: Abort>(
     );
 }
 
-// A scheduler of those workers.
+// A scheduler whose workers `shared_workers` has.
 fn opened<X: Chooser, R: Abort>(rt: &R, alloc: Global, policy: Policy) -> Scheduler<u64, X> {
     Scheduler::<u64, X>::open(alloc, shared_workers(rt, alloc, policy)).expect(
         rt,

@@ -1,4 +1,5 @@
 use crate::gap_tests::{done, submit, take, two_tenants};
+use crate::samples::expect_same_at;
 use eligible_index::index::IndexChooser;
 use fq_model::config::{Estimator, Policy};
 use fq_model::event::Entry;
@@ -7,22 +8,21 @@ use std::process::Abort;
 use tag_difference::gap::Gap;
 use tag_lead::leads::{Lead, tag_lead};
 
-// The leads in a history with two tenants of weight 1, where costs are not as declared: that of the first over the
-// second, and that of the second over the first.
+// The leads in a history of one worker with two tenants of weight 1: that of the first over the second, and that of the
+// second over the first.
 fn expect_leads<R: Abort>(
     rt: &R,
     alloc: Global,
-    workers: u32,
     policy: Policy,
     past: &[Entry],
     first: Option<Lead>,
     second: Option<Lead>,
 ) {
-    let config = two_tenants(rt, alloc, workers, 1, policy, Estimator::Declared);
+    let config = two_tenants(rt, alloc, 1, 1, policy, Estimator::Declared);
     let told = tag_lead::<IndexChooser>(alloc, past, &config, 0, 1);
-    assert_eq!(rt; told.ok(), Some(first), "of the first");
+    expect_same_at(rt, "the first", told.ok(), Some(first));
     let told = tag_lead::<IndexChooser>(alloc, past, &config, 1, 0);
-    assert_eq!(rt; told.ok(), Some(second), "of the second");
+    expect_same_at(rt, "the second", told.ok(), Some(second));
 }
 
 // A lead of this number of units of virtual time, and its bound in units.
@@ -49,7 +49,6 @@ fn both_begin_apart(rt: HostRuntime) {
     expect_leads(
         &rt,
         rt.alloc(),
-        1,
         Policy::Wf2q,
         &past,
         lead(10, 10),
@@ -61,5 +60,5 @@ fn both_begin_apart(rt: HostRuntime) {
 #[test]
 fn never_together(rt: HostRuntime) {
     let past = [submit(0, 0, 0, 1), take(0, 0, 0, 1), submit(0, 1, 1, 1)];
-    expect_leads(&rt, rt.alloc(), 1, Policy::TwoDfq, &past, None, None);
+    expect_leads(&rt, rt.alloc(), Policy::TwoDfq, &past, None, None);
 }

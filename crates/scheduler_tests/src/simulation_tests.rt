@@ -8,6 +8,7 @@ use fq_model::config::{Estimator, Policy};
 use program_model::trace::RunOptions;
 use rival_policies::plain::PlainChooser;
 use sched_journal::History;
+use shared_order::chooser::SharedChooser;
 use std::alloc::Global;
 use std::process::Abort;
 use tag_rules::chooser::Chooser;
@@ -34,8 +35,8 @@ fn history_by<X: Chooser + Drop, R: Abort>(
     simulate::<X>(alloc, trace, options).expect(rt, "memory for a simulation")
 }
 
-// Two choosers serve the trace under a policy as a plain one does.
-fn expect_alike<X: Chooser + Drop, Y: Chooser + Drop, P: Chooser + Drop, R: Abort>(
+// A chooser serves the trace under a policy as another does.
+fn expect_alike<X: Chooser + Drop, P: Chooser + Drop, R: Abort>(
     rt: &R,
     alloc: Global,
     trace: &Trace,
@@ -43,18 +44,13 @@ fn expect_alike<X: Chooser + Drop, Y: Chooser + Drop, P: Chooser + Drop, R: Abor
 )
     requires { IsLawfulTrace trace.now }
 {
-    let plain = history_by::<P, R>(rt, alloc, trace, policy);
-    let first = history_by::<X, R>(rt, alloc, trace, policy);
-    expect_same_at(rt, policy, first.past() == plain.past(), true);
-    let second = history_by::<Y, R>(rt, alloc, trace, policy);
-    expect_same_at(rt, policy, second.past() == plain.past(), true);
+    let one = history_by::<X, R>(rt, alloc, trace, policy);
+    let other = history_by::<P, R>(rt, alloc, trace, policy);
+    expect_same_at(rt, policy, one.past() == other.past(), true);
 }
 
-// The choosers serve alike under each policy.
-fn expect_all_alike<X: Chooser + Drop, Y: Chooser + Drop, P: Chooser + Drop, R: Abort>(
-    rt: &R,
-    alloc: Global,
-) {
+// A chooser serves a generated trace as another does, under each policy.
+fn expect_all_alike<X: Chooser + Drop, P: Chooser + Drop, R: Abort>(rt: &R, alloc: Global) {
     let trace = generate(alloc, 7, 64, 20000).expect(rt, "a trace");
     for policy in [
         Policy::Wfq,
@@ -63,12 +59,14 @@ fn expect_all_alike<X: Chooser + Drop, Y: Chooser + Drop, P: Chooser + Drop, R: 
         Policy::TwoDfq,
         Policy::TwoDfqPlus,
     ] {
-        expect_alike::<X, Y, P, R>(rt, alloc, &trace, policy);
+        expect_alike::<X, P, R>(rt, alloc, &trace, policy);
     }
 }
 
 // Which chooser serves is not seen in a history.
 #[test]
 fn choosers_choose_alike(rt: HostRuntime) {
-    expect_all_alike::<IndexChooser, ProgramChooser, PlainChooser, HostRuntime>(&rt, rt.alloc());
+    expect_all_alike::<IndexChooser, PlainChooser, HostRuntime>(&rt, rt.alloc());
+    expect_all_alike::<SharedChooser, PlainChooser, HostRuntime>(&rt, rt.alloc());
+    expect_all_alike::<ProgramChooser, PlainChooser, HostRuntime>(&rt, rt.alloc());
 }

@@ -106,12 +106,7 @@ fn expect_legal<X: Chooser + Drop, R: Abort>(rt: &R, alloc: Global, settings: &s
         .expect(rt, "memory for a head");
     add_entries(rt, &scheduler, &mut text);
     drop(scheduler);
-    expect_same_at(
-        rt,
-        "too few withdrawals",
-        withdrawals(text.as_slice()) > 20,
-        true,
-    );
+    expect_same_at(rt, seed, withdrawals(text.as_slice()) > 20, true);
     let journal = read_journal(alloc, text.as_slice()).expect(rt, "a journal");
     let Ok(Verdict::Legal) = check::<X>(alloc, &journal) else {
         panic!(rt; "seed {seed} of {settings} is not judged legal")

@@ -34,7 +34,7 @@ fn expect_script<R: Abort>(rt: &R, alloc: Global, text: &str, calls: &[Call]) {
     let script = read_script(alloc, text.as_bytes()).expect(rt, "a script");
     expect_config(rt, script.config());
     expect_names(rt, script.tenants(), script.kinds());
-    expect_same_at(rt, "other calls", script.body() == calls, true);
+    expect_same_at(rt, "the calls", script.body() == calls, true);
 }
 
 #[test]

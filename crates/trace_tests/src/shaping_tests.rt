@@ -22,7 +22,7 @@ fn expect_moments<R: Abort>(
     requires burst { IsWithin 1 GREATEST_BURST burst }
 {
     let trace = trace_in(rt, alloc, text);
-    let told = moments(alloc, &trace, rate, burst).expect(rt, "no moments");
+    let told = moments(alloc, &trace, rate, burst).expect(rt, "moments");
     expect_same_at(rt, text, told.as_slice(), wanted);
 }
 
@@ -32,7 +32,7 @@ fn expect_shaped<R: Abort>(rt: &R, alloc: Global, text: &str, rate: u64, burst: 
     requires burst { IsWithin 1 GREATEST_BURST burst }
 {
     let trace = trace_in(rt, alloc, text);
-    let shaped = shape(alloc, &trace, rate, burst).expect(rt, "no trace");
+    let shaped = shape(alloc, &trace, rate, burst).expect(rt, "a shaped trace");
     let printed = print(alloc, &shaped).expect(rt, "memory for a text");
     expect_same_at(rt, text, printed.as_slice(), wanted.as_bytes());
 }
