@@ -1,14 +1,15 @@
 -- Virtual time and the bases of tags, by policy. Under 2dfq+ they go hand in hand: a tag is raised to virtual time, and
--- virtual time is capped and lifted by tags.
-use Rattle.std.specs.Prelude.{ℕ, ◌+◌, ◌-◌, ◌==◌, max, min, Bool, false, ◌&&◌, if◌then◌else◌, [], ◌∷◌, Option, Some, None, is_none}
-use Rattle.vt_fixed.specs.Rounding.{length_of, part_of}
+-- virtual time goes on by the tags, and is capped and lifted by them.
+use Rattle.std.specs.Prelude.{ℕ, ◌+◌, ◌-◌, ◌==◌, max, min, nat_lt, Bool, false, ◌&&◌, ◌||◌, if◌then◌else◌, [], ◌∷◌, length, Option, Some, None, is_none}
+use Rattle.vt_fixed.specs.Rounding.{length_of, part_of, advance_of}
 use Rattle.fq_model.specs.declared.config.Config.{Config}
 use Rattle.fq_model.specs.declared.config.Policy.{Policy}
 use Rattle.fq_model.specs.declared.config.Policy.TheVariants.{TwoDfqPlus}
 use Rattle.fq_model.specs.declared.event.Act.{Act}
 use Rattle.fq_model.specs.declared.event.Act.TheVariants.{Submit, Take}
+use Rattle.fq_model.specs.Sums.{sum_below}
 use Rattle.fq_model.specs.History.{History, Request, request_at, head, weight_at, pool_at}
-use Rattle.fq_model.specs.Time.{virtual_advance, clock_time}
+use Rattle.fq_model.specs.Time.{is_active, last_moment, clock_time}
 use Rattle.fq_model.specs.Charge.{virtual_charge}
 
 -- the act submits a request of tenant t
@@ -36,9 +37,27 @@ pub record Pace : Type 0 where
   pub reached : ℕ
   pub base : ℕ → ℕ
 
+-- the fluid serves tenant t: it has a request waiting or running, or its start is above virtual time. (A request is done
+-- sooner on a worker of its own than in the fluid, which serves the tenant at its share.)
+abbrev pub is_served : Config → History → Pace → ℕ → Bool
+is_served C P s t = is_active P t || nat_lt s.now (virtual_charge C P t + s.base t)
+
+-- the weight of tenant t where the fluid serves it, else 0
+abbrev pub weight_if_served : Config → History → Pace → ℕ → ℕ
+weight_if_served C P s t = if is_served C P s t then weight_at C P t else 0
+
+-- the sum of the weights of the tenants that the fluid serves
+unfoldable pub served_weight : Config → History → Pace → ℕ
+served_weight C P s = sum_below (weight_if_served C P s) (length C.weights)
+
+-- how far virtual time would rise from the last entry to m: at the rate of the workers over the weights that the fluid
+-- serves just after the last entry
+unfoldable pub paced_advance : Config → History → Pace → ℕ → ℕ
+paced_advance C P s m = advance_of (m - last_moment P) (pool_at C P) (served_weight C P s)
+
 -- capped: virtual time rises with the clock, but never above the greatest finish at which a request was taken
 abbrev pub paced_to : Config → History → Pace → ℕ → ℕ
-paced_to C P s m = min (s.now + virtual_advance C P m) s.reached
+paced_to C P s m = min (s.now + paced_advance C P s m) s.reached
 
 -- a Submit of tenant t at virtual time v: the base of t rises where none of its requests waits
 abbrev pub pace_of_submit : Config → History → ℕ → Pace → ℕ → Pace

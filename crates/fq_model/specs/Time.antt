@@ -35,7 +35,7 @@ last_moment (e ∷ P) = e.moment
 abbrev pub effective_moment : History → ℕ → ℕ
 effective_moment P m = min (max m (last_moment P)) GREATEST_MOMENT
 
--- how far the clock moves virtual time from the last entry to m: at the rate of the workers over the active weights
+-- how far virtual time by the clock rises from the last entry to m: at the rate of the workers over the active weights
 unfoldable pub virtual_advance : Config → History → ℕ → ℕ
 virtual_advance C P m = advance_of (m - last_moment P) (pool_at C P) (active_weight C P)
 
