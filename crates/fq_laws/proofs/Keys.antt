@@ -1,4 +1,5 @@
 pub mod Pace
+pub mod Served
 pub mod Tags
 pub mod Choices
 pub mod Others

@@ -1,5 +1,5 @@
 -- Consequences of the definitions of charges, estimates, virtual time and tags.
-use Rattle.std.specs.Prelude.{ℕ, ◌+◌, ◌-◌, ◌*◌, ◌≤◌, ◌≡◌, ◌≢◌, ◌⊎◌, max, true, false, List, [], ◌∷◌, length, Some, None, pos}
+use Rattle.std.specs.Prelude.{ℕ, ◌+◌, ◌-◌, ◌*◌, ◌<◌, ◌≤◌, ◌≡◌, ◌≢◌, ◌⊎◌, max, true, false, List, [], ◌∷◌, length, Some, None, pos}
 use Rattle.std.specs.Int.{int_max}
 use Rattle.vt_fixed.specs.Rounding.{advance_of, decay_of}
 use Rattle.fq_model.specs.declared.config.Config.{Config}
@@ -8,13 +8,13 @@ use Rattle.fq_model.specs.declared.event.Act.TheVariants.{Submit, Take}
 use Rattle.fq_model.specs.declared.event.Entry.{Entry}
 use Rattle.fq_model.specs.Limits.{InLimits, IsWithin}
 use Rattle.fq_model.specs.History.{History, Request, request_at, head, pool_at, submits, last_use, is_taken, is_done}
-use Rattle.fq_model.specs.Time.{open_requests, is_active, active_weight, last_moment, clock_time, virtual_idle_time}
+use Rattle.fq_model.specs.Time.{open_requests, is_active, active_weight, last_moment, virtual_advance, clock_time, virtual_idle_time}
 use Rattle.fq_model.specs.Pace.{clock_base, pace, virtual_time, tag_base}
 use Rattle.fq_model.specs.Charge.{charge, final_cost, virtual_charge, net_charge, request_estimate}
 use Rattle.fq_model.specs.Keys.{tag, start, HeadKeys, finish, eligible_key, turn_at, IsChoiceAt}
 use Rattle.fq_model.specs.Rules.{IsLegal}
 use Rattle.vt_fixed.specs.declared.limits.TheConstants.{GREATEST_COST}
-use Rattle.fq_laws.specs.Words.{one_more, is_take, capped, greatest_length, greatest_rate}
+use Rattle.fq_laws.specs.Words.{one_more, is_take, capped, rate_weight, greatest_length, greatest_rate}
 use Rattle.fq_laws.specs.Changes.{charge_after, change_of, Changes, greatest_cost_from}
 
 -- ---- charges
@@ -76,17 +76,30 @@ pub record IsByClock (C : Config) (P : History) : Type 0 where
 abbrev pub TimeIsByClock : Type 0
 TimeIsByClock = (C : Config) (P : History) → C.policy ≢ TwoDfqPlus → IsByClock C P
 
--- from one entry to the next virtual time makes one advance, at the active weight between them, but not past the cap;
--- an entry does not move it, but for a Take under 2dfq+
+-- from one entry to the next virtual time makes one advance, over the weight between them, but not past the cap; an
+-- entry does not move it, but for a Take under 2dfq+
 pub record TimeStep (C : Config) (P : History) (e : Entry) : Type 0 where
   pub advances : virtual_time C P e.moment
       ≡ capped C.policy (pace C P).reached
-      (virtual_time C P (last_moment P) + advance_of (e.moment - last_moment P) (pool_at C P) (active_weight C P))
+      (virtual_time C P (last_moment P) + advance_of (e.moment - last_moment P) (pool_at C P) (rate_weight C P))
   pub stays : (C.policy ≢ TwoDfqPlus) ⊎ (is_take e.act ≡ false)
       → virtual_time C (e ∷ P) e.moment ≡ virtual_time C P e.moment
 
 abbrev pub TimeSteps : Type 0
 TimeSteps = (C : Config) (P : History) (e : Entry) → TimeStep C P e
+
+-- where every tenant is active, this weight is that of the active tenants under 2dfq+ too
+abbrev pub RateIsOfActive : Type 0
+RateIsOfActive =
+    (C : Config) (P : History) → ((t : ℕ) → t < length C.weights → is_active P t ≡ true)
+    → rate_weight C P ≡ active_weight C P
+
+-- and where some tenant is active, virtual time is never ahead of what the weight of the active tenants would make of it
+-- from the last entry on
+abbrev pub TimeIsNotAhead : Type 0
+TimeIsNotAhead =
+    (C : Config) (P : History) (m : ℕ) → 1 ≤ active_weight C P
+    → virtual_time C P m ≤ capped C.policy (pace C P).reached (virtual_time C P (last_moment P) + virtual_advance C P m)
 
 -- under 2dfq+ a Take of the request with these keys lifts virtual time to its eligible key, and the cap to its finish
 pub record Lifts (C : Config) (P Q : History) (m i : ℕ) (k : HeadKeys) : Type 0 where

@@ -10,9 +10,9 @@ use Rattle.fq_model.specs.declared.config.Policy.TheVariants.{TwoDfqPlus}
 use Rattle.fq_model.specs.declared.event.Call.{Call}
 use Rattle.fq_model.specs.declared.event.Call.TheVariants as call
 use Rattle.fq_model.specs.History.{History, request_at, is_of_tenant, head, weight_at}
-use Rattle.fq_model.specs.Time.{open_requests, effective_moment}
+use Rattle.fq_model.specs.Time.{open_requests, active_weight, effective_moment}
 use Rattle.fq_model.specs.Charge.{virtual_charge, net_charge, completed, completed_costs}
-use Rattle.fq_model.specs.Pace.{tag_base}
+use Rattle.fq_model.specs.Pace.{pace, served_weight, time_for, tag_base}
 
 -- the history with one entry more
 abbrev pub one_more : ℕ → ℕ → Act → History → History
@@ -58,6 +58,11 @@ is_take _ = false
 abbrev pub capped : Policy → ℕ → ℕ → ℕ
 capped TwoDfqPlus reached v = min v reached
 capped _ reached v = v
+
+-- the weight over which virtual time goes on: that of the active tenants, and under 2dfq+ that of the tenants which the
+-- fluid serves
+abbrev pub rate_weight : Config → History → ℕ
+rate_weight C P = time_for C.policy (active_weight C P) (served_weight C P (pace C P))
 
 -- the act submits a request of tenant t, is done to one, or sets the weight of t
 abbrev pub concerns : History → ℕ → Act → Bool

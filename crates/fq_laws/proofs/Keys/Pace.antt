@@ -1,5 +1,5 @@
 -- Virtual time by policy: where it is that of the clock, how it is capped and lifted under 2dfq+, and its limits.
-use Rattle.std.proofs.Common.{ℕ, ◌+◌, ◌-◌, ◌*◌, ◌^◌, ◌≤◌, ◌≡◌, ◌≢◌, ◌⊎◌, inl, inr, false, Some, cond, ◌&&◌, max, min, arith, refl, sym, ◌∙◌, ◌∷◌, [], length}
+use Rattle.std.proofs.Common.{ℕ, ◌+◌, ◌-◌, ◌*◌, ◌^◌, ◌≤◌, ◌≡◌, ◌≢◌, ◌⊎◌, inl, inr, false, Some, cond, ◌&&◌, max, min, arith, refl, ap, sym, ◌∙◌, ◌∷◌, [], length}
 use Rattle.std.specs.Prelude.{is_none}
 use Rattle.std.proofs.lemmas.Bool.{cases_Bool}
 use Rattle.vt_fixed.specs.Rounding.{length_of, part_of}
@@ -12,12 +12,14 @@ use Rattle.fq_model.specs.declared.event.Act.TheVariants.{Submit, Take}
 use Rattle.fq_model.specs.declared.event.Entry.{Entry}
 use Rattle.fq_model.specs.Limits.{InLimits}
 use Rattle.fq_model.specs.History.{History, Request, request_at, head, weight_at, pool_at}
+use Rattle.vt_fixed.specs.Rounding.{advance_of}
+use Rattle.vt_fixed.proofs.Bounds as fixed
 use Rattle.fq_model.specs.Time.{last_moment, active_weight, virtual_advance, clock_time}
 use Rattle.fq_model.specs.Charge.{virtual_charge}
-use Rattle.fq_model.specs.Pace.{is_submit_for, clock_base, paced_to, pace, time_for, virtual_time, base_for, tag_base}
+use Rattle.fq_model.specs.Pace.{Pace, is_submit_for, clock_base, served_weight, paced_advance, paced_to, pace, time_for, virtual_time, base_for, tag_base}
 use Rattle.fq_model.specs.Rules.{IsLegal}
-use Rattle.fq_laws.specs.Words.{one_more, is_take, capped, greatest_length}
-use Rattle.fq_laws.proofs.Time.Clock.{advance_none, clock_time_nil, clock_time_step, clock_time_split, clock_time_low, clock_time_rises, advance_rises}
+use Rattle.fq_laws.specs.Words.{one_more, is_take, capped, rate_weight, greatest_length}
+use Rattle.fq_laws.proofs.Time.Clock.{virtual_advance_is, clock_time_nil, clock_time_step, clock_time_split, clock_time_low, clock_time_rises, advance_rises}
 use Rattle.fq_laws.proofs.Charge.Estimates.{estimate_range}
 use Rattle.fq_laws.proofs.Charge.Limits.{length_low, virtual_charge_grows}
 use Rattle.fq_laws.proofs.Charge.Tenants.{virtual_charge_nil}
@@ -55,6 +57,11 @@ time_by_pace C P m is = rw is refl
 pub base_by_pace : (C : Config) (P : History) (t : ℕ) → C.policy ≡ TwoDfqPlus → tag_base C P t ≡ (pace C P).base t
 unfolding tag_base
 base_by_pace C P t is = rw is refl
+
+-- no time, no advance
+pub paced_none : (C : Config) (P : History) (s : Pace) → paced_advance C P s (last_moment P) ≡ 0
+unfolding paced_advance
+paced_none C P s = fixed.advance_none (last_moment P) (pool_at C P) (served_weight C P s)
 
 -- ---- the pace at one entry more
 
@@ -97,7 +104,7 @@ virtual_time_nil C m = elim (paced_or_not C.policy) [
 -- an entry that is no Take does not move the virtual time of its moment
 pub virtual_time_step : (C : Config) (P : History) (e : Entry) → is_take e.act ≡ false → virtual_time C (e ∷ P) e.moment ≡ virtual_time C P e.moment
 virtual_time_step C P e other = elim (paced_or_not C.policy) [
-  | inl is ↦ omega (arith, time_by_pace C (e ∷ P) e.moment is, time_by_pace C P e.moment is, now_at C P e.moment e.act e.who other, reached_stays C P e other, advance_none C (e ∷ P))
+  | inl is ↦ omega (arith, time_by_pace C (e ∷ P) e.moment is, time_by_pace C P e.moment is, now_at C P e.moment e.act e.who other, reached_stays C P e other, paced_none C (e ∷ P) (pace C (e ∷ P)))
   | inr ne ↦ time_by_clock C (e ∷ P) e.moment ne ∙ (clock_time_step C P e ∙ sym (time_by_clock C P e.moment ne))
 ]
 
@@ -108,7 +115,7 @@ virtual_time_take C P e ne = time_by_clock C (e ∷ P) e.moment ne ∙ (clock_ti
 -- under 2dfq+ a Take lifts virtual time to the eligible key of its request
 pub virtual_time_lifted : (C : Config) (P : History) (who m i r c : ℕ) (q : Request) → C.policy ≡ TwoDfqPlus → request_at P r ≡ Some q → virtual_time C (one_more who m (Take i r c) P) m ≡ max (virtual_time C P m) (paced_start C P q.tenant - part_of (length_of c (weight_at C P q.tenant)) i (pool_at C P))
 virtual_time_lifted C P who m i r c q is asked =
-    omega (arith, time_by_pace C (one_more who m (Take i r c) P) m is, time_by_pace C P m is, now_take C P who m i r c q asked, reached_take C P who m i r c q asked, advance_none C (one_more who m (Take i r c) P))
+    omega (arith, time_by_pace C (one_more who m (Take i r c) P) m is, time_by_pace C P m is, now_take C P who m i r c q asked, reached_take C P who m i r c q asked, paced_none C (one_more who m (Take i r c) P) (pace C (one_more who m (Take i r c) P)))
 
 pub capped_min : (p : Policy) (reached v : ℕ) → p ≡ TwoDfqPlus → capped p reached v ≡ min v reached
 capped_min p reached v is = rw is refl
@@ -117,11 +124,29 @@ pub capped_not : (p : Policy) (reached v : ℕ) → p ≢ TwoDfqPlus → capped 
 capped_not TwoDfqPlus reached v ne = absurd (ne refl)
 capped_not _ reached v ne = refl
 
+-- the weight over which virtual time goes on, by policy
+pub rate_paced : (C : Config) (P : History) → C.policy ≡ TwoDfqPlus → rate_weight C P ≡ served_weight C P (pace C P)
+rate_paced C P is = rw is refl
+
+pub rate_by_clock : (C : Config) (P : History) → C.policy ≢ TwoDfqPlus → rate_weight C P ≡ active_weight C P
+rate_by_clock C P ne = time_of_clock C.policy _ _ ne
+
+-- how far virtual time would rise from the last entry to m, without a cap
+abbrev pub rate_advance : Config → History → ℕ → ℕ
+rate_advance C P m = advance_of (m - last_moment P) (pool_at C P) (rate_weight C P)
+
+advance_paced : (C : Config) (P : History) (m : ℕ) → C.policy ≡ TwoDfqPlus → rate_advance C P m ≡ paced_advance C P (pace C P) m
+unfolding paced_advance
+advance_paced C P m is = ap (advance_of (m - last_moment P) (pool_at C P)) (rate_paced C P is)
+
+advance_by_clock : (C : Config) (P : History) (m : ℕ) → C.policy ≢ TwoDfqPlus → rate_advance C P m ≡ virtual_advance C P m
+advance_by_clock C P m ne = ap (advance_of (m - last_moment P) (pool_at C P)) (rate_by_clock C P ne) ∙ sym (virtual_advance_is C P m)
+
 -- virtual time at a moment is that of the last entry and one advance, or the cap
-pub virtual_time_split : (C : Config) (P : History) (m : ℕ) → virtual_time C P m ≡ capped C.policy (pace C P).reached (virtual_time C P (last_moment P) + virtual_advance C P m)
+pub virtual_time_split : (C : Config) (P : History) (m : ℕ) → virtual_time C P m ≡ capped C.policy (pace C P).reached (virtual_time C P (last_moment P) + rate_advance C P m)
 virtual_time_split C P m = elim (paced_or_not C.policy) [
-  | inl is ↦ omega (arith, capped_min C.policy (pace C P).reached (virtual_time C P (last_moment P) + virtual_advance C P m) is, time_by_pace C P m is, time_by_pace C P (last_moment P) is, advance_none C P)
-  | inr ne ↦ omega (arith, capped_not C.policy (pace C P).reached (virtual_time C P (last_moment P) + virtual_advance C P m) ne, time_by_clock C P m ne, time_by_clock C P (last_moment P) ne, clock_time_split C P m)
+  | inl is ↦ omega (arith, capped_min C.policy (pace C P).reached (virtual_time C P (last_moment P) + rate_advance C P m) is, time_by_pace C P m is, time_by_pace C P (last_moment P) is, paced_none C P (pace C P), advance_paced C P m is)
+  | inr ne ↦ omega (arith, capped_not C.policy (pace C P).reached (virtual_time C P (last_moment P) + rate_advance C P m) ne, time_by_clock C P m ne, time_by_clock C P (last_moment P) ne, clock_time_split C P m, advance_by_clock C P m ne)
 ]
 
 -- under 2dfq+ virtual time never passes the cap
@@ -129,8 +154,8 @@ pub virtual_time_capped : (C : Config) (P : History) (m : ℕ) → C.policy ≡ 
 virtual_time_capped C P m is = omega (arith, time_by_pace C P m is)
 
 paced_rises : (C : Config) (P : History) (m k : ℕ) → m ≤ k → paced_to C P (pace C P) m ≤ paced_to C P (pace C P) k
-unfolding virtual_advance
-paced_rises C P m k h = let a = advance_rises (m - last_moment P) (k - last_moment P) (pool_at C P) (active_weight C P) (omega arith) in omega (arith, a)
+unfolding paced_advance
+paced_rises C P m k h = let a = advance_rises (m - last_moment P) (k - last_moment P) (pool_at C P) (served_weight C P (pace C P)) (omega arith) in omega (arith, a)
 
 -- virtual time never falls from one moment to a later one
 pub virtual_time_rises : (C : Config) (P : History) (m k : ℕ) → m ≤ k → virtual_time C P m ≤ virtual_time C P k
@@ -151,6 +176,21 @@ entry_rises C P e = elim (paced_or_not C.policy) [
   | inl is ↦ taken_rises C P e.moment e.act e.who is
   | inr ne ↦ omega (arith, virtual_time_take C P e ne)
 ]
+
+-- under 2dfq+ the pace does not pass the cap either, and is virtual time just after the last entry
+now_capped_at : (C : Config) (P : History) (m : ℕ) (a : Act) (who : ℕ) → (pace C (one_more who m a P)).now ≤ (pace C (one_more who m a P)).reached
+unfolding pace
+now_capped_at C P m (Take worker request estimate) who = omega arith
+now_capped_at C P m (Submit request tenant kind declared label) who = omega arith
+now_capped_at C P m a who = omega arith
+
+now_capped : (C : Config) (P : History) → (pace C P).now ≤ (pace C P).reached
+unfolding pace
+now_capped C [] = omega arith
+now_capped C (e ∷ P) = now_capped_at C P e.moment e.act e.who
+
+pub now_is_time : (C : Config) (P : History) → C.policy ≡ TwoDfqPlus → virtual_time C P (last_moment P) ≡ (pace C P).now
+now_is_time C P is = omega (arith, time_by_pace C P (last_moment P) is, paced_none C P (pace C P), now_capped C P)
 
 -- ---- the bases of tags
 

@@ -9,7 +9,7 @@ use Rattle.fq_model.specs.declared.event.Entry.{Entry}
 use Rattle.fq_model.specs.History.{History, head, submits}
 use Rattle.fq_model.specs.Time.{virtual_idle_time, last_moment}
 use Rattle.fq_model.specs.Charge.{virtual_charge}
-use Rattle.fq_model.specs.declared.event.Act.TheVariants.{Submit, Take, Report, Done}
+use Rattle.fq_model.specs.declared.event.Act.TheVariants.{Submit, Take}
 use Rattle.fq_model.specs.declared.event.Act.{Act}
 use Rattle.fq_model.specs.Rules.{IsLegal, Fits, FitsSubmit}
 use Rattle.fq_model.specs.declared.config.Policy.{Policy}

@@ -166,7 +166,7 @@ virtual_idle_time_low C P m t lim l h = omega (arith, idle_low C P m t, clock_ti
 
 -- ---- weights
 
-weights_low : (f : ℕ → ℕ) (n : ℕ) → ((t : ℕ) → f t ≤ GREATEST_WEIGHT) → sum_below f n ≤ n * GREATEST_WEIGHT
+pub weights_low : (f : ℕ → ℕ) (n : ℕ) → ((t : ℕ) → f t ≤ GREATEST_WEIGHT) → sum_below f n ≤ n * GREATEST_WEIGHT
 unfolding sum_below
 weights_low f zero h = omega arith
 weights_low f (suc n) h = omega (arith, h n, weights_low f n h)

@@ -1,0 +1,80 @@
+-- The tenants that the fluid serves under 2dfq+, and the weight over which virtual time goes on.
+use Rattle.std.proofs.Common.{ℕ, ◌+◌, ◌-◌, ◌*◌, ◌/◌, ◌<◌, ◌≤◌, ◌≡◌, true, zero, suc, arith, refl, sym, ◌∙◌, inl, inr, ap, length}
+use Rattle.std.proofs.lemmas.Bool.{cases_Bool, ne_eqb}
+use Rattle.std.proofs.lemmas.Nat.{mul-le, le-div}
+use Rattle.std.proofs.Math.Nat.{div-mul-le_self}
+use Rattle.vt_fixed.specs.Rounding.{advance_of}
+use Rattle.vt_fixed.specs.declared.limits.TheConstants.{GREATEST_ACTIVE_WEIGHT}
+use Rattle.fq_model.specs.declared.config.Config.{Config}
+use Rattle.fq_model.specs.Limits.{InLimits}
+use Rattle.fq_model.specs.History.{History, pool_at}
+use Rattle.fq_model.specs.Time.{is_active, weight_if_active, active_weight, last_moment, virtual_advance}
+use Rattle.fq_model.specs.Pace.{Pace, pace, is_served, weight_if_served, served_weight, virtual_time}
+use Rattle.fq_model.specs.Rules.{IsLegal}
+use Rattle.fq_model.specs.Sums.{sum_below}
+use Rattle.fq_laws.specs.Words.{capped, rate_weight}
+use Rattle.fq_laws.proofs.Sums.{sum_same}
+use Rattle.fq_laws.proofs.History.Weights.{weight_high}
+use Rattle.fq_laws.proofs.Time.Clock.{weights_low, active_weight_low, virtual_advance_is}
+use Rattle.fq_laws.proofs.Keys.Pace.{paced_or_not, capped_min, capped_not, rate_paced, rate_by_clock, rate_advance, virtual_time_split}
+
+-- ---- limits
+
+served_weight_low : (C : Config) (P : History) (s : Pace) → InLimits C → IsLegal C P → served_weight C P s ≤ GREATEST_ACTIVE_WEIGHT
+unfolding served_weight
+served_weight_low C P s lim l = omega (arith, lim.tenants.1, weights_low (weight_if_served C P s) (length C.weights) (λ t. elim (cases_Bool (is_served C P s t)) [ inl h ↦ rw h (weight_high C P t lim l) | inr h ↦ rw h (omega arith) ]))
+
+pub rate_weight_low : (C : Config) (P : History) → InLimits C → IsLegal C P → rate_weight C P ≤ GREATEST_ACTIVE_WEIGHT
+rate_weight_low C P lim l = elim (paced_or_not C.policy) [
+  | inl is ↦ rw (rate_paced C P is) (served_weight_low C P (pace C P) lim l)
+  | inr ne ↦ rw (rate_by_clock C P ne) (active_weight_low C P lim l)
+]
+
+-- ---- beside the active tenants
+
+-- an active tenant is served
+served_if_active : (C : Config) (P : History) (s : Pace) (t : ℕ) → is_active P t ≡ true → weight_if_served C P s t ≡ weight_if_active C P t
+served_if_active C P s t on = rw on refl
+
+active_part : (C : Config) (P : History) (s : Pace) (t : ℕ) → weight_if_active C P t ≤ weight_if_served C P s t
+active_part C P s t = elim (cases_Bool (is_active P t)) [ inl on ↦ rw on (omega arith) | inr off ↦ rw off (omega arith) ]
+
+sum_at_least : (f g : ℕ → ℕ) (n : ℕ) → ((t : ℕ) → f t ≤ g t) → sum_below f n ≤ sum_below g n
+unfolding sum_below
+sum_at_least f g zero h = omega arith
+sum_at_least f g (suc n) h = omega (arith, h n, sum_at_least f g n h)
+
+-- so the fluid serves no less weight than the active tenants have
+pub active_served : (C : Config) (P : History) (s : Pace) → active_weight C P ≤ served_weight C P s
+unfolding active_weight served_weight
+active_served C P s = sum_at_least (weight_if_active C P) (weight_if_served C P s) (length C.weights) (active_part C P s)
+
+-- and as much where every tenant is active
+pub rate_of_active : (C : Config) (P : History) → ((t : ℕ) → t < length C.weights → is_active P t ≡ true) → rate_weight C P ≡ active_weight C P
+unfolding active_weight served_weight
+rate_of_active C P on = elim (paced_or_not C.policy) [
+  | inl is ↦ rate_paced C P is ∙ sum_same (weight_if_served C P (pace C P)) (weight_if_active C P) (length C.weights) (λ t b. served_if_active C P (pace C P) t (on t b))
+  | inr ne ↦ rate_by_clock C P ne
+]
+
+-- a greater weight makes no greater advance
+advance_falls : (dt n low high : ℕ) → 1 ≤ low → low ≤ high → advance_of dt n high ≤ advance_of dt n low
+unfolding advance_of
+advance_falls dt n low high some h =
+    let x = dt * n * 1048576 in
+    let q = dt * n * 1048576 / high in
+    let less : q * low ≤ q * high = mul-le q low q high (omega arith) h in
+    rw (ne_eqb low 0 (λ e. absurd (omega (arith, some, e))), ne_eqb high 0 (λ e. absurd (omega (arith, some, h, e)))) (le-div q x low (omega (arith, some)) (omega (arith, less, div-mul-le_self x high)))
+
+-- where some tenant is active, virtual time is not ahead of what the weight of the active tenants makes of it
+pub time_not_ahead : (C : Config) (P : History) (m : ℕ) → 1 ≤ active_weight C P → virtual_time C P m ≤ capped C.policy (pace C P).reached (virtual_time C P (last_moment P) + virtual_advance C P m)
+time_not_ahead C P m some = elim (paced_or_not C.policy) [
+  | inl is ↦ (
+      let less = advance_falls (m - last_moment P) (pool_at C P) (active_weight C P) (rate_weight C P) some (rw (rate_paced C P is) (active_served C P (pace C P))) in
+      omega (arith, virtual_time_split C P m, capped_min C.policy (pace C P).reached (virtual_time C P (last_moment P) + rate_advance C P m) is, capped_min C.policy (pace C P).reached (virtual_time C P (last_moment P) + virtual_advance C P m) is, less, virtual_advance_is C P m)
+      )
+  | inr ne ↦ (
+      let same = rate_by_clock C P ne in
+      omega (arith, virtual_time_split C P m, capped_not C.policy (pace C P).reached (virtual_time C P (last_moment P) + rate_advance C P m) ne, capped_not C.policy (pace C P).reached (virtual_time C P (last_moment P) + virtual_advance C P m) ne, virtual_advance_is C P m ∙ ap (advance_of (m - last_moment P) (pool_at C P)) (sym same))
+      )
+]
