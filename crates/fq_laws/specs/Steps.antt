@@ -1,7 +1,8 @@
 -- A value that is kept of a history, and its change at one entry more.
-use Rattle.std.specs.Prelude.{ℕ, ◌≡◌, ◌∷◌, Some, true}
+use Rattle.std.specs.Prelude.{ℕ, ◌≡◌, ◌∷◌, Bool, Some, true, false}
 use Rattle.fq_model.specs.declared.config.Config.{Config}
-use Rattle.fq_model.specs.declared.event.Act.TheVariants.{Submit, Weight, Workers}
+use Rattle.fq_model.specs.declared.event.Act.{Act}
+use Rattle.fq_model.specs.declared.event.Act.TheVariants.{Submit, Report, Close, Weight, Workers}
 use Rattle.fq_model.specs.declared.event.Entry.{Entry}
 use Rattle.fq_model.specs.Limits.{InLimits}
 use Rattle.fq_model.specs.History.{History, Request, request_at, is_end_of}
@@ -32,6 +33,17 @@ pub record Submits (moment tenant : ℕ) (P : History) (e : Entry) : Type 0 wher
   pub label : ℕ
   pub moment_is : e.moment ≡ moment
   pub act_is : e.act ≡ Submit request tenant kind declared label
+
+-- the act is a Report or a Close
+abbrev pub is_passing : Act → Bool
+is_passing (Report worker request used) = true
+is_passing Close = true
+is_passing _ = false
+
+-- the entry is of this moment, and is a Report or a Close
+pub record Passes (moment : ℕ) (P : History) (e : Entry) : Type 0 where
+  pub moment_is : e.moment ≡ moment
+  pub passes : is_passing e.act ≡ true
 
 -- the entry is of this moment, and is the Done or the Withdraw of a request of this tenant
 pub record Ends (moment tenant : ℕ) (P : History) (e : Entry) : Type 0 where

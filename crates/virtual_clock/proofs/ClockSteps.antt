@@ -9,12 +9,12 @@ use Rattle.fq_model.specs.declared.config.Policy.TheVariants.{TwoDfqPlus}
 use Rattle.fq_model.specs.declared.event.Entry.{Entry}
 use Rattle.fq_model.specs.Limits.{InLimits}
 use Rattle.fq_model.specs.History.{History, pool_at}
-use Rattle.fq_model.specs.Time.{active_weight, last_moment, virtual_advance}
+use Rattle.fq_model.specs.Time.{last_moment}
 use Rattle.fq_model.specs.Pace.{pace, virtual_time}
 use Rattle.fq_model.specs.Rules.{IsLegal}
-use Rattle.fq_laws.specs.Words.{capped, is_take}
-use Rattle.fq_laws.proofs.Time.Clock.{active_weight_nil, virtual_advance_is}
-use Rattle.fq_laws.proofs.Keys.Pace.{paced_or_not, capped_min, capped_not, virtual_time_nil, virtual_time_split, virtual_time_step, virtual_time_capped, virtual_time_within, reached_stays}
+use Rattle.fq_laws.specs.Words.{capped, rate_weight, is_take}
+use Rattle.fq_laws.proofs.Keys.Served.{rate_weight_nil}
+use Rattle.fq_laws.proofs.Keys.Pace.{paced_or_not, rate_advance, capped_min, capped_not, virtual_time_nil, virtual_time_split, virtual_time_step, virtual_time_capped, virtual_time_within, reached_stays}
 use Rattle.virtual_clock.specs.Clock.{ClockView, at_start, cap_for, moved_to}
 use Rattle.virtual_clock.specs.Histories.{ClockAt, ClockIs}
 
@@ -28,7 +28,7 @@ unfolding pool_at
 clock_nil C = record {
   workers = refl;
   moment = refl;
-  weights = sym (active_weight_nil C);
+  weights = sym (rate_weight_nil C);
   time = ap pos (sym (virtual_time_nil C 0));
   cap = ap (cap_for C.policy) (sym (nothing_reached C));
 }
@@ -36,8 +36,8 @@ clock_nil C = record {
 -- virtual time is no less than at the last entry
 pub time_since_last : (C : Config) (P : History) (m : ℕ) → virtual_time C P (last_moment P) ≤ virtual_time C P m
 time_since_last C P m = elim (paced_or_not C.policy) [
-  | inl is ↦ omega (arith, virtual_time_split C P m, capped_min C.policy (pace C P).reached (virtual_time C P (last_moment P) + virtual_advance C P m) is, virtual_time_capped C P (last_moment P) is)
-  | inr ne ↦ omega (arith, virtual_time_split C P m, capped_not C.policy (pace C P).reached (virtual_time C P (last_moment P) + virtual_advance C P m) ne)
+  | inl is ↦ omega (arith, virtual_time_split C P m, capped_min C.policy (pace C P).reached (virtual_time C P (last_moment P) + rate_advance C P m) is, virtual_time_capped C P (last_moment P) is)
+  | inr ne ↦ omega (arith, virtual_time_split C P m, capped_not C.policy (pace C P).reached (virtual_time C P (last_moment P) + rate_advance C P m) ne)
 ]
 
 capped_here : (p : Policy) (reached v : ℕ) → capped p reached v ≤ 10 ^ 25 → int_min (pos v) (cap_for p reached) ≡ pos (capped p reached v)
@@ -51,10 +51,10 @@ clock_moved C P m c lim l later small is = record {
   moment = refl;
   weights = is.weights;
   time = (
-      let split : virtual_time C P m ≡ capped C.policy (pace C P).reached (virtual_time C P (last_moment P) + virtual_advance C P m) = virtual_time_split C P m in
-      let low : capped C.policy (pace C P).reached (virtual_time C P (last_moment P) + virtual_advance C P m) ≤ 10 ^ 25 = omega (arith, split, virtual_time_within C P m lim l later small) in
-      rw (is.time, is.moment, is.workers, is.weights, is.cap, ← virtual_advance_is C P m)
-      (capped_here C.policy (pace C P).reached (virtual_time C P (last_moment P) + virtual_advance C P m) low ∙ ap pos (sym split))
+      let split : virtual_time C P m ≡ capped C.policy (pace C P).reached (virtual_time C P (last_moment P) + rate_advance C P m) = virtual_time_split C P m in
+      let low : capped C.policy (pace C P).reached (virtual_time C P (last_moment P) + rate_advance C P m) ≤ 10 ^ 25 = omega (arith, split, virtual_time_within C P m lim l later small) in
+      rw (is.time, is.moment, is.workers, is.weights, is.cap)
+      (capped_here C.policy (pace C P).reached (virtual_time C P (last_moment P) + rate_advance C P m) low ∙ ap pos (sym split))
       );
   cap = is.cap;
 }
@@ -66,9 +66,9 @@ next_time C P e c other is = is.time ∙ ap pos (sym (virtual_time_step C P e ot
 pub next_cap : (C : Config) (P : History) (e : Entry) (c : ClockView) → is_take e.act ≡ false → ClockAt C P e.moment c → c.cap ≡ cap_for C.policy (pace C (e ∷ P)).reached
 next_cap C P e c other is = is.cap ∙ ap (cap_for C.policy) (sym (reached_stays C P e other))
 
--- so it is the clock of the history with an entry that is no Take, once its workers are those and its weights are those
--- active after the entry
-pub clock_next : (C : Config) (P : History) (e : Entry) (c : ClockView) (workers weights : ℕ) → is_take e.act ≡ false → workers ≡ pool_at C (e ∷ P) → weights ≡ active_weight C (e ∷ P) → ClockAt C P e.moment c → ClockIs C (e ∷ P) (record { workers = workers; moment = e.moment; weights = weights; time = c.time; cap = c.cap })
+-- so it is the clock of the history with an entry that is no Take, once its workers are those after the entry, and its
+-- weight is that over which virtual time goes on then
+pub clock_next : (C : Config) (P : History) (e : Entry) (c : ClockView) (workers weights : ℕ) → is_take e.act ≡ false → workers ≡ pool_at C (e ∷ P) → weights ≡ rate_weight C (e ∷ P) → ClockAt C P e.moment c → ClockIs C (e ∷ P) (record { workers = workers; moment = e.moment; weights = weights; time = c.time; cap = c.cap })
 clock_next C P e c workers weights other staffed after is = record {
   workers = staffed;
   moment = refl;

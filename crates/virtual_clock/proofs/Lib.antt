@@ -1,4 +1,10 @@
 pub mod Opening
+pub mod Counting
 pub mod ClockSteps
 pub mod IdleSteps
+pub mod Lingerings
+pub mod Settling
 pub mod TimeSteps
+pub mod EndSteps
+pub mod ChangeSteps
+pub mod TakeSteps

@@ -1,398 +1,300 @@
--- The times of a history at one entry more.
-use Rattle.std.proofs.Common.{ℕ, ◌+◌, ◌-◌, ◌<◌, ◌≤◌, ◌≡◌, ◌≢◌, ◌==◌, List, true, false, cond, arith, refl, sym, ◌∙◌, inl, inr, ◌∷◌, [], length, replicate, slice_set, slice_index, ℤ, pos, unsigned_abs, ◌+ℤ◌, ◌-ℤ◌, ◌≤ℤ◌, ap, subst, ◌^◌, length-set, get_or-set_same, get_or-set_other}
-use Rattle.std.proofs.lemmas.Bool.{cases_eq, eq-eqb, ne_eqb, eqb-true, eqb-false}
-use Rattle.std.proofs.lemmas.Int.{ints, clamps}
-use Rattle.std.specs.Int.{int_max}
-use Rattle.vt_fixed.specs.Rounding.{length_of, part_of}
-use Rattle.vt_fixed.specs.declared.limits.TheConstants.{GREATEST_ACTIVE_WEIGHT, GREATEST_MOMENT, MOST_WORKERS}
-use Rattle.fq_model.specs.Limits.{InLimits, IsWithin, IsWeight}
-use Rattle.fq_model.specs.Time.{open_requests, last_moment}
-use Rattle.fq_model.specs.Rules.{IsLegal, Fits, FitsTake}
+-- The times of a history at first, at a later moment, and at a Report, a Close or a Submit more.
+use Rattle.std.proofs.Common.{ℕ, ◌+◌, ◌<◌, ◌≤◌, ◌≡◌, ◌≢◌, Bool, List, Option, Some, None, is_some, true, false, arith, refl, sym, subst, ◌∙◌, inl, inr, ◌∷◌, [], length, replicate, slice_set, slice_index, if◌then◌else◌, ℤ, pos, ◌≤ℤ◌, ap, length-set, get_or-set_same, get_or-set_other}
+use Rattle.std.proofs.lemmas.Bool.{cases_eq, cases_Bool, eq-eqb, ne_eqb, false≢true}
+use Rattle.std.proofs.lemmas.Int.{ints}
+use Rattle.vt_fixed.specs.declared.limits.TheConstants.{GREATEST_ACTIVE_WEIGHT, GREATEST_MOMENT}
+use Rattle.fq_model.specs.Limits.{InLimits}
+use Rattle.fq_model.specs.Time.{is_active, last_moment}
+use Rattle.fq_model.specs.Pace.{pace, virtual_time}
+use Rattle.fq_model.specs.Rules.{IsLegal}
 use Rattle.fq_model.specs.declared.config.Config.{Config}
-use Rattle.fq_model.specs.declared.config.Policy.{Policy}
-use Rattle.fq_model.specs.declared.config.Policy.TheVariants.{TwoDfqPlus}
 use Rattle.fq_model.specs.declared.event.Act.{Act}
-use Rattle.fq_model.specs.declared.event.Act.TheVariants.{Take}
-use Rattle.fq_model.specs.Charge.{request_estimate}
-use Rattle.fq_model.specs.Keys.{HeadKeys, start, finish, stagger, eligible_key, turn_at, IsChoiceAt}
+use Rattle.fq_model.specs.declared.event.Act.TheVariants.{Submit, Report, Close}
 use Rattle.fq_model.specs.declared.event.Entry.{Entry}
 use Rattle.fq_model.specs.History.{History, weight_at, pool_at}
-use Rattle.fq_laws.specs.Words.{one_more, is_take, greatest_length}
-use Rattle.fq_laws.specs.AccountLaws.{Lifts}
-use Rattle.fq_laws.proofs.Charge.Estimates.{estimate_range}
-use Rattle.fq_laws.proofs.Charge.Limits.{length_low}
-use Rattle.fq_laws.proofs.Rules.Takes.{choice_head}
-use Rattle.fq_laws.proofs.Keys.Choices.{KeysOf, keys_of, keys_tenant_known}
-use Rattle.fq_laws.proofs.Keys.Pace.{paced_or_not, virtual_time_take, cap_within}
-use Rattle.fq_laws.proofs.Keys.Lifts.{takes_lift}
-use Rattle.fq_laws.specs.Steps.{Submits, Ends, Reweighs, Staffs, Awaits, Follows}
-use Rattle.fq_laws.proofs.Time.Clock.{SameWeight, active_weight_same, active_weight_low, active_covers}
-use Rattle.fq_laws.proofs.Time.Open.{open_requests_low}
+use Rattle.fq_laws.specs.Words.{is_take, concerns}
+use Rattle.fq_laws.specs.Steps.{is_passing, Passes, Submits, Awaits, Follows}
+use Rattle.fq_laws.proofs.Time.Clock.{SameWeight}
+use Rattle.fq_laws.proofs.Time.Open.{open_requests_low, active_of_open}
 use Rattle.fq_laws.proofs.Rules.Limits.{submits_low}
+use Rattle.fq_laws.proofs.History.Weights.{weight_high}
+use Rattle.fq_laws.proofs.Keys.Served.{rate_room}
+use Rattle.winner_tree.specs.declared.key.Key.{Key}
+use Rattle.winner_tree.specs.Order.{key_of}
 use Rattle.virtual_clock.specs.declared.times.Times.{Times}
-use Rattle.virtual_clock.specs.Clock.{ClockView, cap_for, at_start, moved_to, entered, left, staffed, lifted}
-use Rattle.virtual_clock.specs.Idles.{asleep_at_first, idle_of, is_asleep, is_at_last, opened, closed}
-use Rattle.virtual_clock.specs.Histories.{ClockAt, ClockIs, WeightsAre, TimesAt, TimesAre, TakesChoice, AwaitsTake, FollowsTake}
-use Rattle.virtual_clock.proofs.Opening.{Opens, Closes, submits_open, ends_close, end_no_take, passes, Passed, passes_leave, weight_woken, weight_asleep, weight_stays_in, Reweighed, reweighs, staffs, weight_traded, weight_untouched}
-use Rattle.virtual_clock.proofs.ClockSteps.{clock_nil, clock_moved, next_time, next_cap, clock_next}
-use Rattle.virtual_clock.proofs.IdleSteps.{idles_nil, idles_later, idles_stay, idles_written, idle_opened, idle_closed}
+use Rattle.virtual_clock.specs.declared.idles.Idle.{Idle}
+use Rattle.virtual_clock.specs.Clock.{cap_for, at_start, moved_to, entered}
+use Rattle.virtual_clock.specs.Idles.{asleep_at_first, idle_of, is_asleep, opened}
+use Rattle.virtual_clock.specs.Lingering.{Settled, IsCounted, HasRoomFor, rejoined, Settles}
+use Rattle.virtual_clock.specs.Histories.{WeightsAre, lingers, lingering_key, LingeringAre, TimesAt, TimesAre}
+use Rattle.virtual_clock.proofs.Opening.{submits_open, passes, passes_leave}
+use Rattle.virtual_clock.proofs.Counting.{counted_still, counts_awake, counts_lingering, counts_nothing}
+use Rattle.virtual_clock.proofs.ClockSteps.{clock_nil, clock_moved, next_time, next_cap}
+use Rattle.virtual_clock.proofs.IdleSteps.{idles_nil, idles_later, idles_stay, idles_written, idle_opened}
+use Rattle.virtual_clock.proofs.Lingerings.{active_not, no_key, none_settled, key_left, key_settled, tag_passed, lingering_nil}
+use Rattle.virtual_clock.proofs.Settling.{ListsAre, lists_at, Unsettled, times_settled, counted_at, counted_is, asleep_if_inactive}
 
 -- the times of the empty history
-pub times_nil : (C : Config) → TimesAre C [] (record { clock = at_start C.policy C.workers; weights = C.weights; idles = replicate (length C.weights) asleep_at_first })
+pub times_nil : (C : Config) → TimesAre C [] (record { clock = at_start C.policy C.workers; weights = C.weights; idles = replicate (length C.weights) asleep_at_first; lingering = replicate (length C.weights) None })
 unfolding weight_at
-times_nil C = record { clock_is = clock_nil C; weights_are = record { tenants = refl; each = λ t b. refl }; idles_are = idles_nil C }
+times_nil C = record {
+  clock_is = clock_nil C;
+  weights_are = record { tenants = refl; each = λ t b. refl };
+  idles_are = idles_nil C;
+  lingering_are = lingering_nil C;
+}
 
 -- the weights stay where no entry changes them
-weights_stay : (C : Config) (P : History) (e : Entry) (weights : List ℕ) → ((t : ℕ) → t < length C.weights → weight_at C (e ∷ P) t ≡ weight_at C P t) → WeightsAre C P weights → WeightsAre C (e ∷ P) weights
+pub weights_stay : (C : Config) (P : History) (e : Entry) (weights : List ℕ) → ((t : ℕ) → t < length C.weights → weight_at C (e ∷ P) t ≡ weight_at C P t) → WeightsAre C P weights → WeightsAre C (e ∷ P) weights
 weights_stay C P e weights same is = record { tenants = is.tenants; each = λ t b. is.each t b ∙ sym (same t b) }
 
+-- the clock alone has come to a moment
+abbrev pub come : ℕ → Times → Times
+come m x = record { clock = moved_to x.clock m; weights = x.weights; idles = x.idles; lingering = x.lingering }
+
 -- the times come to a moment
-pub times_come : (C : Config) (P : History) (m : ℕ) (old : Times) → InLimits C → IsLegal C P → last_moment P ≤ m → m ≤ GREATEST_MOMENT → TimesAre C P old → TimesAt C P m (record { clock = moved_to old.clock m; weights = old.weights; idles = old.idles })
+pub times_come : (C : Config) (P : History) (m : ℕ) (old : Times) → InLimits C → IsLegal C P → last_moment P ≤ m → m ≤ GREATEST_MOMENT → TimesAre C P old → TimesAt C P m (come m old)
 times_come C P m old lim l later small is = record {
   clock_is = clock_moved C P m old.clock lim l later small is.clock_is;
   weights_are = is.weights_are;
   idles_are = idles_later C P m old.idles is.idles_are;
+  lingering_are = is.lingering_are;
 }
 
-clock_passed : (C : Config) (P : History) (e : Entry) (c : ClockView) → Passed C P (e ∷ P) → is_take e.act ≡ false → ClockAt C P e.moment c → ClockIs C (e ∷ P) c
-clock_passed C P e c s other is = record {
-  workers = is.workers ∙ sym s.pool_stays;
-  moment = is.moment;
-  weights = is.weights ∙ sym (active_weight_same C P e s.all_stay);
-  time = next_time C P e c other is;
-  cap = next_cap C P e c other is;
-}
+-- as they do at each entry
+pub comes_to : (C : Config) (P : History) (e : Entry) (m : ℕ) (old : Times) → InLimits C → IsLegal C (e ∷ P) → e.moment ≡ m → TimesAre C P old → TimesAt C P e.moment (come m old)
+comes_to C P e m old lim l same is = rw (← same) (times_come C P e.moment old lim l.0 l.1 l.2 is)
 
--- a Report or a Close of that moment leaves them
-pub times_pass : (C : Config) (P : History) (e : Entry) (now : Times) → passes e.act ≡ true → is_take e.act ≡ false → TimesAt C P e.moment now → TimesAre C (e ∷ P) now
-times_pass C P e now p other is =
+-- the clock moves on to an entry no later than the greatest moment
+pub record MayMove (m : ℕ) (old : Times) : Type 0 where
+  pub later : old.clock.moment ≤ m
+  pub in_range : m ≤ GREATEST_MOMENT
+
+pub may_move : (C : Config) (P : History) (e : Entry) (m : ℕ) (old : Times) → IsLegal C (e ∷ P) → e.moment ≡ m → TimesAre C P old → MayMove m old
+may_move C P e m old l same is = record { later = rw (is.clock_is.moment, ← same) l.1; in_range = rw (← same) l.2 }
+
+-- ---- a Report or a Close
+
+passing : (a : Act) → is_passing a ≡ true → (passes a ≡ true) × (is_take a ≡ false)
+passing (Report worker request used) h = (refl, refl)
+passing Close h = (refl, refl)
+passing _ h = absurd (false≢true h)
+
+-- the times after an act that passes, but for what is to be settled
+pub passed : (C : Config) (P : History) (e : Entry) (now : Times) → InLimits C → IsLegal C (e ∷ P) → passes e.act ≡ true → now.clock.time ≡ pos (virtual_time C (e ∷ P) e.moment) → now.clock.cap ≡ cap_for C.policy (pace C (e ∷ P)).reached → now.clock.workers ≡ pool_at C P → now.clock.moment ≡ e.moment → ListsAre C P e.moment now → Unsettled C (e ∷ P) e.moment now
+passed C P e now lim l p time cap workers moment is =
     let s = passes_leave C P e p in
     record {
-      clock_is = clock_passed C P e now.clock s other is.clock_is;
+      workers = workers ∙ sym s.pool_stays;
+      moment = moment;
+      time = time;
+      cap = cap;
       weights_are = weights_stay C P e now.weights (λ t b. (s.all_stay t).weight_same) is.weights_are;
       idles_are = idles_stay C P e now.idles (λ t. (s.all_stay t).open_same) is.idles_are;
+      keys_sized = is.lingering_are.tenants;
+      each = λ t b. rw (is.lingering_are.each t b) (key_settled C P e t (s.all_stay t).open_same (tag_passed C P e t lim l p));
     }
 
--- one tenant's weight stays, and so do the others'
-own_and_others : (C : Config) (P : History) (e : Entry) (t : ℕ) → weight_at C (e ∷ P) t ≡ weight_at C P t → ((u : ℕ) → u ≢ t → SameWeight C P (e ∷ P) u) → (u : ℕ) → u < length C.weights → weight_at C (e ∷ P) u ≡ weight_at C P u
-own_and_others C P e t own others u b = elim (cases_eq u t) [ inl same ↦ rw same own | inr other ↦ (others u other).weight_same ]
+pub may_pass : (m : ℕ) (old : Times) → Awaits TimesAre (Passes m) old → MayMove m old × IsCounted (come m old)
+may_pass m old w = (
+  may_move w.config w.history w.entry m old w.legal w.comes.moment_is w.kept_is,
+  counted_at w.config w.history w.entry.moment (come m old) (comes_to w.config w.history w.entry m old w.limits w.legal w.comes.moment_is w.kept_is),
+)
 
--- a tenant fell asleep or woke no later than the clock that is moved to an entry
-since_moved : (C : Config) (P : History) (e : Entry) (t : ℕ) (old : Times) → InLimits C → IsLegal C (e ∷ P) → t < length C.weights → TimesAre C P old → (idle_of old.idles t).since ≤ℤ (moved_to old.clock e.moment).time
-since_moved C P e t old lim l known is =
-    let at = times_come C P e.moment old lim l.0 l.1 l.2 is in
-    omega (arith, ints, (at.idles_are.each t known).earlier, at.clock_is.time)
+pub follows_pass : (m : ℕ) (old new : Times) → Settles (come m old) new → Follows TimesAre (Passes m) old new
+follows_pass m old new made = λ C P e lim l s is.
+    let p = passing e.act s.passes in
+    let at = comes_to C P e m old lim l s.moment_is is in
+    times_settled C (e ∷ P) e.moment (come m old) new
+    (passed C P e (come m old) lim l p.0 (next_time C P e _ p.1 at.clock_is) (next_cap C P e _ p.1 at.clock_is) at.clock_is.workers at.clock_is.moment (lists_at C P e.moment (come m old) at)) made
 
 -- ---- a Submit
 
+-- one tenant's weight stays, and so do the others'
+pub own_and_others : (C : Config) (P : History) (e : Entry) (t : ℕ) → weight_at C (e ∷ P) t ≡ weight_at C P t → ((u : ℕ) → u ≢ t → SameWeight C P (e ∷ P) u) → (u : ℕ) → u < length C.weights → weight_at C (e ∷ P) u ≡ weight_at C P u
+own_and_others C P e t own others u b = elim (cases_eq u t) [ inl same ↦ rw same own | inr other ↦ (others u other).weight_same ]
+
+-- a tenant fell asleep or woke no later than the clock that is moved to an entry
+pub since_moved : (C : Config) (P : History) (e : Entry) (m t : ℕ) (old : Times) → InLimits C → IsLegal C (e ∷ P) → e.moment ≡ m → t < length C.weights → TimesAre C P old → (idle_of old.idles t).since ≤ℤ (moved_to old.clock m).time
+since_moved C P e m t old lim l same known is =
+    let at = comes_to C P e m old lim l same is in
+    omega (arith, ints, (at.idles_are.each t known).earlier, at.clock_is.time)
+
+-- with one more open request of the tenant
+abbrev pub with_opened : ℕ → ℕ → Times → Times
+with_opened m t x = record { clock = moved_to x.clock m; weights = x.weights; idles = slice_set x.idles t (opened (idle_of x.idles t) (moved_to x.clock m).time); lingering = x.lingering }
+
+-- the times after a Submit, by the code, but for what is to be settled
+abbrev pub submitted : ℕ → ℕ → Times → Times
+submitted m t x = if is_asleep (idle_of x.idles t) then rejoined t (with_opened m t x) else with_opened m t x
+
 -- the preconditions of the calls at a Submit, of the times before it
 pub record MaySubmit (m : ℕ) (old : Times) (t : ℕ) : Type 0 where
+  pub moves : MayMove m old
   pub kept : t < length old.idles
+  pub keyed : t < length old.lingering
   pub earlier : (idle_of old.idles t).since ≤ℤ (moved_to old.clock m).time
   pub weighed : t < length old.weights
   pub few : (idle_of old.idles t).undone < 4294967295
-  pub room : is_asleep (idle_of old.idles t) ≡ true → old.clock.weights + slice_index old.weights t ≤ GREATEST_ACTIVE_WEIGHT
+  pub room : is_asleep (idle_of old.idles t) ≡ true → HasRoomFor t (with_opened m t old)
+  pub is_counted : IsCounted (submitted m t old)
+
+opened_awake : (i : Idle) (v : ℤ) → is_asleep (opened i v) ≡ false
+opened_awake i v = elim (cases_eq i.undone 0) [ inl none ↦ rw (eq-eqb i.undone 0 none) refl | inr some ↦ rw (ne_eqb i.undone 0 some) (ne_eqb (i.undone + 1) 0 (λ e. absurd (omega (arith, e)))) ]
+
+-- the tenant is awake after it
+now_awake : (m t : ℕ) (x : Times) → t < length x.idles → is_asleep (idle_of (with_opened m t x).idles t) ≡ false
+now_awake m t x b = ap is_asleep (get_or-set_same x.idles t (opened (idle_of x.idles t) (moved_to x.clock m).time) asleep_at_first b) ∙ opened_awake (idle_of x.idles t) (moved_to x.clock m).time
+
+other_idle : (m t u : ℕ) (x : Times) → u ≢ t → idle_of (with_opened m t x).idles u ≡ idle_of x.idles u
+other_idle m t u x ne = get_or-set_other x.idles t u (opened (idle_of x.idles t) (moved_to x.clock m).time) asleep_at_first ne
+
+no_longer_awake : (x : Times) (t : ℕ) → IsCounted x → is_asleep (idle_of x.idles t) ≡ false → is_some (key_of x.lingering t) ≡ true → ⊥
+no_longer_awake x t is awake some = false≢true (sym awake ∙ is.apart t some)
+
+pub choose_first : (b : Bool) (x y : Times) → b ≡ true → (if b then x else y) ≡ x
+choose_first b x y h = rw h refl
+
+pub choose_second : (b : Bool) (x y : Times) → b ≡ false → (if b then x else y) ≡ y
+choose_second b x y h = rw h refl
+
+-- the three ways of it: the tenant lingered, it was asleep and did not linger, or it was awake
+abbrev rejoined_at : ℕ → ℕ → Times → Times
+rejoined_at m t x = record { clock = moved_to x.clock m; weights = x.weights; idles = (with_opened m t x).idles; lingering = slice_set x.lingering t None }
+
+abbrev entered_at : ℕ → ℕ → Times → Times
+entered_at m t x = record { clock = entered (moved_to x.clock m) (slice_index x.weights t); weights = x.weights; idles = (with_opened m t x).idles; lingering = x.lingering }
+
+if_lingering : (m t : ℕ) (x : Times) → is_asleep (idle_of x.idles t) ≡ true → is_some (key_of x.lingering t) ≡ true → submitted m t x ≡ rejoined_at m t x
+if_lingering m t x asleep some = choose_first _ _ _ asleep ∙ choose_first _ (rejoined_at m t x) (entered_at m t x) some
+
+if_asleep : (m t : ℕ) (x : Times) → is_asleep (idle_of x.idles t) ≡ true → is_some (key_of x.lingering t) ≡ false → submitted m t x ≡ entered_at m t x
+if_asleep m t x asleep none = choose_first _ _ _ asleep ∙ choose_second _ (rejoined_at m t x) (entered_at m t x) none
+
+if_awake : (m t : ℕ) (x : Times) → is_asleep (idle_of x.idles t) ≡ false → submitted m t x ≡ with_opened m t x
+if_awake m t x up = choose_second _ _ _ up
+
+-- what it counts
+counted_submitted : (m t : ℕ) (x : Times) → t < length x.weights → IsCounted (come m x) → IsCounted (submitted m t x)
+counted_submitted m t x b is =
+    let i : t < length x.idles = omega (arith, is.idles_sized, b) in
+    let k : t < length x.lingering = omega (arith, is.keys_sized, b) in
+    let awake = now_awake m t x i in
+    elim (cases_Bool (is_asleep (idle_of x.idles t))) [
+      | inl asleep ↦ elim (cases_Bool (is_some (key_of x.lingering t))) [
+        | inl some ↦ subst IsCounted (sym (if_lingering m t x asleep some)) (counted_still (come m x) (rejoined_at m t x) t is (record {
+          known = b;
+          weights_sized = refl;
+          idles_sized = length-set x.idles t _;
+          keys_sized = length-set x.lingering t None;
+          others = λ u ne. record { asleep_same = ap is_asleep (other_idle m t u x ne); key_same = get_or-set_other x.lingering t u None None ne; weight_same = refl };
+          apart = λ h. absurd (false≢true (sym (ap is_some (get_or-set_same x.lingering t None None k)) ∙ h));
+          weight_is = omega (arith, counts_lingering (come m x) t some, counts_awake (rejoined_at m t x) t awake);
+        }))
+        | inr none ↦ subst IsCounted (sym (if_asleep m t x asleep none)) (counted_still (come m x) (entered_at m t x) t is (record {
+          known = b;
+          weights_sized = refl;
+          idles_sized = length-set x.idles t _;
+          keys_sized = refl;
+          others = λ u ne. record { asleep_same = ap is_asleep (other_idle m t u x ne); key_same = refl; weight_same = refl };
+          apart = λ h. absurd (false≢true (sym none ∙ h));
+          weight_is = omega (arith, counts_nothing (come m x) t asleep none, counts_awake (entered_at m t x) t awake);
+        }))
+      ]
+      | inr up ↦ subst IsCounted (sym (if_awake m t x up)) (counted_still (come m x) (with_opened m t x) t is (record {
+        known = b;
+        weights_sized = refl;
+        idles_sized = length-set x.idles t _;
+        keys_sized = refl;
+        others = λ u ne. record { asleep_same = ap is_asleep (other_idle m t u x ne); key_same = refl; weight_same = refl };
+        apart = λ h. absurd (no_longer_awake (come m x) t is up h);
+        weight_is = omega (arith, counts_awake (come m x) t up, counts_awake (with_opened m t x) t awake);
+      }))
+    ]
+
+-- there is room for a tenant that does not count
+room_if_asleep : (C : Config) (P : History) (m t : ℕ) (x : Times) → InLimits C → IsLegal C P → t < length C.weights → TimesAt C P m x → is_asleep (idle_of x.idles t) ≡ true → is_some (key_of x.lingering t) ≡ false → x.clock.weights + slice_index x.weights t ≤ GREATEST_ACTIVE_WEIGHT
+room_if_asleep C P m t x lim l b is asleep none =
+    let part = sym (counted_is C P m t x (lists_at C P m x is) b) ∙ counts_nothing x t asleep none in
+    omega (arith, is.clock_is.weights, is.weights_are.each t b, part, rate_room C P t (weight_at C P t) lim l b (weight_high C P t lim l))
 
 pub may_submit : (m t : ℕ) (old : Times) → Awaits TimesAre (Submits m t) old → MaySubmit m old t
 may_submit m t old w =
     let C = w.config in
     let o = submits_open C w.history w.entry m t w.limits w.legal w.comes in
     let is = w.kept_is.idles_are.each t o.known in
+    let at = comes_to C w.history w.entry m old w.limits w.legal w.comes.moment_is w.kept_is in
     record {
+      moves = may_move C w.history w.entry m old w.legal w.comes.moment_is w.kept_is;
       kept = omega (arith, w.kept_is.idles_are.tenants, o.known);
-      earlier = rw (← w.comes.moment_is) (since_moved C w.history w.entry t old w.limits w.legal o.known w.kept_is);
+      keyed = omega (arith, w.kept_is.lingering_are.tenants, o.known);
+      earlier = since_moved C w.history w.entry m t old w.limits w.legal w.comes.moment_is o.known w.kept_is;
       weighed = omega (arith, w.kept_is.weights_are.tenants, o.known);
       few = omega (arith, is.undone, open_requests_low C w.history t w.limits w.legal.0, (submits_low C w.history w.limits w.legal.0).1);
-      room = λ asleep. omega (arith, w.kept_is.clock_is.weights, w.kept_is.weights_are.each t o.known, weight_woken C w.history w.entry t o (sym is.undone ∙ eqb-true _ 0 asleep), active_weight_low C (w.entry ∷ w.history) w.limits w.legal);
+      room = λ asleep none. room_if_asleep C w.history w.entry.moment t (come m old) w.limits w.legal.0 o.known at asleep none;
+      is_counted = counted_submitted m t old (omega (arith, w.kept_is.weights_are.tenants, o.known)) (counted_at C w.history w.entry.moment (come m old) at);
     }
 
--- the times after a Submit, by the code
-pub record Submitted (m t : ℕ) (old new : Times) : Type 0 where
-  pub clock_is : new.clock ≡ cond (is_asleep (idle_of old.idles t)) (entered (moved_to old.clock m) (slice_index old.weights t)) (moved_to old.clock m)
-  pub weights_are : new.weights ≡ old.weights
-  pub idles_are : new.idles ≡ slice_set old.idles t (opened (idle_of old.idles t) (moved_to old.clock m).time)
+-- where no key of another tenant changes, and this one is active now
+pub keys_active : (C : Config) (P : History) (e : Entry) (t : ℕ) (before after : List (Option Key)) → InLimits C → IsLegal C (e ∷ P) → ((u : ℕ) → u ≢ t → concerns P u e.act ≡ false) → is_active (e ∷ P) t ≡ true → ((u : ℕ) → u ≢ t → key_of after u ≡ key_of before u) → key_of after t ≡ None → LingeringAre C P before → (u : ℕ) → u < length C.weights → Settled (pos (virtual_time C (e ∷ P) e.moment)) (key_of after u) (lingering_key C (e ∷ P) u)
+keys_active C P e t before after lim l others on same none is u b = elim (cases_eq u t) [
+  | inl own ↦ rw own (none_settled _ _ _ none (no_key C (e ∷ P) t (active_not C (e ∷ P) t on)))
+  | inr other ↦ rw (same u other, is.each u b) (key_left C P e u lim l (others u other))
+]
 
-clock_submitted : (C : Config) (P : History) (e : Entry) (t : ℕ) (old : Times) → is_take e.act ≡ false → Opens C P (e ∷ P) t → TimesAre C P old → ClockAt C P e.moment (moved_to old.clock e.moment) → ClockIs C (e ∷ P) (cond (is_asleep (idle_of old.idles t)) (entered (moved_to old.clock e.moment) (slice_index old.weights t)) (moved_to old.clock e.moment))
-clock_submitted C P e t old other o is moved =
-    let undone = (is.idles_are.each t o.known).undone in
-    elim (cases_eq (idle_of old.idles t).undone 0) [
-      | inl none ↦ rw (eq-eqb (idle_of old.idles t).undone 0 none) (clock_next C P e (moved_to old.clock e.moment) _ _ other (is.clock_is.workers ∙ sym o.pool_stays) (omega (arith, is.clock_is.weights, is.weights_are.each t o.known, weight_woken C P e t o (sym undone ∙ none))) moved)
-      | inr some ↦ rw (ne_eqb (idle_of old.idles t).undone 0 some) (clock_next C P e (moved_to old.clock e.moment) _ _ other (is.clock_is.workers ∙ sym o.pool_stays) (is.clock_is.weights ∙ sym (weight_stays_in C P e t o.known o.weight_stays o.others_stay (omega (arith, undone, some)) (omega (arith, o.more)))) moved)
+-- the keys after a Submit
+pub record KeysSubmitted (t : ℕ) (before after : List (Option Key)) : Type 0 where
+  pub sized : length after ≡ length before
+  pub others : (u : ℕ) → u ≢ t → key_of after u ≡ key_of before u
+  pub none : key_of after t ≡ None
+
+-- the clock after it, but for its weight, and the lists
+pub record HasSubmitted (m t : ℕ) (old new : Times) : Type 0 where
+  pub workers : new.clock.workers ≡ old.clock.workers
+  pub moment : new.clock.moment ≡ m
+  pub time : new.clock.time ≡ (moved_to old.clock m).time
+  pub cap : new.clock.cap ≡ old.clock.cap
+  pub weights_are : new.weights ≡ old.weights
+  pub idles_are : new.idles ≡ (with_opened m t old).idles
+  pub keys_are : KeysSubmitted t old.lingering new.lingering
+
+has_submitted : (C : Config) (P : History) (m t : ℕ) (x : Times) → t < length C.weights → TimesAre C P x → HasSubmitted m t x (submitted m t x)
+has_submitted C P m t x b is =
+    let k : t < length x.lingering = omega (arith, is.lingering_are.tenants, b) in
+    elim (cases_Bool (is_asleep (idle_of x.idles t))) [
+      | inl asleep ↦ elim (cases_Bool (is_some (key_of x.lingering t))) [
+        | inl some ↦ subst (HasSubmitted m t x) (sym (if_lingering m t x asleep some)) (record { workers = refl; moment = refl; time = refl; cap = refl; weights_are = refl; idles_are = refl; keys_are = record { sized = length-set x.lingering t None; others = λ u ne. get_or-set_other x.lingering t u None None ne; none = get_or-set_same x.lingering t None None k } })
+        | inr none ↦ subst (HasSubmitted m t x) (sym (if_asleep m t x asleep none)) (record { workers = refl; moment = refl; time = refl; cap = refl; weights_are = refl; idles_are = refl; keys_are = record { sized = refl; others = λ u ne. refl; none = is_none_of _ none } })
+      ]
+      | inr up ↦ subst (HasSubmitted m t x) (sym (if_awake m t x up)) (record { workers = refl; moment = refl; time = refl; cap = refl; weights_are = refl; idles_are = refl; keys_are = record { sized = refl; others = λ u ne. refl; none = is.lingering_are.each t b ∙ no_key C P t (awake_not up) } })
+    ]
+  where
+    is_none_of : (o : Option Key) → is_some o ≡ false → o ≡ None
+    is_none_of None h = refl
+    is_none_of (Some key) h = absurd (false≢true (sym h))
+
+    awake_not : is_asleep (idle_of x.idles t) ≡ false → lingers C P t ≡ false
+    awake_not up = elim (cases_Bool (is_active P t)) [
+      | inl on ↦ active_not C P t on
+      | inr idle ↦ absurd (false≢true (sym up ∙ asleep_if_inactive C P (last_moment P) t x (lists_at C P (last_moment P) x is) b idle))
     ]
 
-pub follows_submit : (m t : ℕ) (old new : Times) → Submitted m t old new → Follows TimesAre (Submits m t) old new
+submit_concerns : (P : History) (a : Act) (t u r k d x : ℕ) → a ≡ Submit r t k d x → u ≢ t → concerns P u a ≡ false
+submit_concerns P a t u r k d x is ne = rw is (ne_eqb t u (λ e. ne (sym e)))
+
+pub follows_submit : (m t : ℕ) (old new : Times) → Settles (submitted m t old) new → Follows TimesAre (Submits m t) old new
 follows_submit m t old new made = λ C P e lim l s is.
     let o = submits_open C P e m t lim l s in
-    record {
-      clock_is = rw (made.clock_is, ← s.moment_is) (clock_submitted C P e t old (rw s.act_is refl) o is (clock_moved C P e.moment old.clock lim l.0 l.1 l.2 is.clock_is));
-      weights_are = rw (made.weights_are) (weights_stay C P e old.weights (own_and_others C P e t o.weight_stays o.others_stay) is.weights_are);
-      idles_are = rw (made.idles_are, ← s.moment_is, next_time C P e (moved_to old.clock e.moment) (rw s.act_is refl) (clock_moved C P e.moment old.clock lim l.0 l.1 l.2 is.clock_is)) (idles_written C P e t old.idles _ o.known (λ u other. (o.others_stay u other).open_same) (idles_later C P e.moment old.idles is.idles_are) (idle_opened C P e t (idle_of old.idles t) o.more ((idles_later C P e.moment old.idles is.idles_are).each t o.known)));
-    }
-
--- ---- a Done or a Withdraw
-
--- the preconditions of the calls at a Done or a Withdraw, of the times before it
-pub record MayEnd (m : ℕ) (old : Times) (t : ℕ) : Type 0 where
-  pub weighed : t < length old.weights
-  pub kept : t < length old.idles
-  pub some : 1 ≤ (idle_of old.idles t).undone
-  pub earlier : (idle_of old.idles t).since ≤ℤ (moved_to old.clock m).time
-  pub entered : is_at_last (idle_of old.idles t) ≡ true → slice_index old.weights t ≤ old.clock.weights
-
-pub may_end : (m t : ℕ) (old : Times) → Awaits TimesAre (Ends m t) old → MayEnd m old t
-may_end m t old w =
-    let C = w.config in
-    let c = ends_close C w.history w.entry m t w.limits w.legal w.comes in
-    let is = w.kept_is.idles_are.each t c.known in
-    record {
-      weighed = omega (arith, w.kept_is.weights_are.tenants, c.known);
-      kept = omega (arith, w.kept_is.idles_are.tenants, c.known);
-      some = omega (arith, is.undone, c.less);
-      earlier = rw (← w.comes.moment_is) (since_moved C w.history w.entry t old w.limits w.legal c.known w.kept_is);
-      entered = λ last. omega (arith, w.kept_is.clock_is.weights, w.kept_is.weights_are.each t c.known, weight_asleep C w.history w.entry t c (sym is.undone ∙ eqb-true _ 1 last));
-    }
-
--- the times after it, by the code
-pub record Ended (m t : ℕ) (old new : Times) : Type 0 where
-  pub clock_is : new.clock ≡ cond (is_at_last (idle_of old.idles t)) (left (moved_to old.clock m) (slice_index old.weights t)) (moved_to old.clock m)
-  pub weights_are : new.weights ≡ old.weights
-  pub idles_are : new.idles ≡ slice_set old.idles t (closed (idle_of old.idles t) (moved_to old.clock m).time)
-
-clock_ended : (C : Config) (P : History) (e : Entry) (t : ℕ) (old : Times) → is_take e.act ≡ false → Closes C P (e ∷ P) t → TimesAre C P old → ClockAt C P e.moment (moved_to old.clock e.moment) → ClockIs C (e ∷ P) (cond (is_at_last (idle_of old.idles t)) (left (moved_to old.clock e.moment) (slice_index old.weights t)) (moved_to old.clock e.moment))
-clock_ended C P e t old other c is moved =
-    let undone = (is.idles_are.each t c.known).undone in
-    elim (cases_eq (idle_of old.idles t).undone 1) [
-      | inl one ↦ rw (eq-eqb (idle_of old.idles t).undone 1 one) (clock_next C P e (moved_to old.clock e.moment) _ _ other (is.clock_is.workers ∙ sym c.pool_stays) (omega (arith, is.clock_is.weights, is.weights_are.each t c.known, weight_asleep C P e t c (sym undone ∙ one))) moved)
-      | inr more ↦ rw (ne_eqb (idle_of old.idles t).undone 1 more) (clock_next C P e (moved_to old.clock e.moment) _ _ other (is.clock_is.workers ∙ sym c.pool_stays) (is.clock_is.weights ∙ sym (weight_stays_in C P e t c.known c.weight_stays c.others_stay (omega (arith, c.less)) (omega (arith, undone, c.less, more)))) moved)
-    ]
-
-pub follows_end : (m t : ℕ) (old new : Times) → Ended m t old new → Follows TimesAre (Ends m t) old new
-follows_end m t old new made = λ C P e lim l s is.
-    let c = ends_close C P e m t lim l s in
-    record {
-      clock_is = rw (made.clock_is, ← s.moment_is) (clock_ended C P e t old (end_no_take s.request e.act s.ends) c is (clock_moved C P e.moment old.clock lim l.0 l.1 l.2 is.clock_is));
-      weights_are = rw (made.weights_are) (weights_stay C P e old.weights (own_and_others C P e t c.weight_stays c.others_stay) is.weights_are);
-      idles_are = rw (made.idles_are, ← s.moment_is, next_time C P e (moved_to old.clock e.moment) (end_no_take s.request e.act s.ends) (clock_moved C P e.moment old.clock lim l.0 l.1 l.2 is.clock_is)) (idles_written C P e t old.idles _ c.known (λ u other. (c.others_stay u other).open_same) (idles_later C P e.moment old.idles is.idles_are) (idle_closed C P e t (idle_of old.idles t) c.less ((idles_later C P e.moment old.idles is.idles_are).each t c.known)));
-    }
-
--- ---- a Weight
-
--- the preconditions of the calls at a Weight, of the times before it
-pub record MayReweigh (old : Times) (t w : ℕ) : Type 0 where
-  pub kept : t < length old.idles
-  pub weighed : t < length old.weights
-  pub in_range : IsWeight w
-  pub entered : is_asleep (idle_of old.idles t) ≡ false → slice_index old.weights t ≤ old.clock.weights
-  pub room : is_asleep (idle_of old.idles t) ≡ false → old.clock.weights - slice_index old.weights t + w ≤ GREATEST_ACTIVE_WEIGHT
-
-some_open : (n : ℕ) → (n == 0) ≡ false → 1 ≤ n
-some_open n h = let k : n ≢ 0 = eqb-false n 0 h in omega (arith, k)
-
-pub may_reweigh : (m t w : ℕ) (old : Times) → Awaits TimesAre (Reweighs m t w) old → MayReweigh old t w
-may_reweigh m t w old a =
-    let C = a.config in
-    let r = reweighs C a.history a.entry m t w a.legal a.comes in
-    let undone = (a.kept_is.idles_are.each t r.known).undone in
-    let weight = a.kept_is.weights_are.each t r.known in
-    record {
-      kept = omega (arith, a.kept_is.idles_are.tenants, r.known);
-      weighed = omega (arith, a.kept_is.weights_are.tenants, r.known);
-      in_range = r.in_range;
-      entered = λ awake. (
-          let k = weight_traded C a.history a.entry t w r (omega (arith, undone, some_open _ awake)) in
-          omega (arith, a.kept_is.clock_is.weights, weight, active_covers C a.history t r.known (omega (arith, undone, some_open _ awake)))
-          );
-      room = λ awake. (
-          let k = weight_traded C a.history a.entry t w r (omega (arith, undone, some_open _ awake)) in
-          omega (arith, a.kept_is.clock_is.weights, weight, k, active_covers C a.history t r.known (omega (arith, undone, some_open _ awake)), active_weight_low C (a.entry ∷ a.history) a.limits a.legal)
-          );
-    }
-
--- the times after a Weight, by the code
-pub record Retuned (m t w : ℕ) (old new : Times) : Type 0 where
-  pub clock_is : new.clock ≡ cond (is_asleep (idle_of old.idles t)) (moved_to old.clock m) (entered (left (moved_to old.clock m) (slice_index old.weights t)) w)
-  pub weights_are : new.weights ≡ slice_set old.weights t w
-  pub idles_are : new.idles ≡ old.idles
-
-clock_reweighed : (C : Config) (P : History) (e : Entry) (t w : ℕ) (old : Times) → is_take e.act ≡ false → Reweighed C P (e ∷ P) t w → TimesAre C P old → ClockAt C P e.moment (moved_to old.clock e.moment) → ClockIs C (e ∷ P) (cond (is_asleep (idle_of old.idles t)) (moved_to old.clock e.moment) (entered (left (moved_to old.clock e.moment) (slice_index old.weights t)) w))
-clock_reweighed C P e t w old other r is moved =
-    let undone = (is.idles_are.each t r.known).undone in
-    let weight = is.weights_are.each t r.known in
-    elim (cases_eq (idle_of old.idles t).undone 0) [
-      | inl none ↦ rw (eq-eqb (idle_of old.idles t).undone 0 none) (clock_next C P e (moved_to old.clock e.moment) _ _ other (is.clock_is.workers ∙ sym r.pool_stays) (is.clock_is.weights ∙ sym (weight_untouched C P e t w r (sym undone ∙ none))) moved)
-      | inr some ↦ rw (ne_eqb (idle_of old.idles t).undone 0 some) (
-          let open_now : 1 ≤ open_requests P t = omega (arith, undone, some) in
-          clock_next C P e (moved_to old.clock e.moment) _ _ other (is.clock_is.workers ∙ sym r.pool_stays) (omega (arith, is.clock_is.weights, weight, weight_traded C P e t w r open_now, active_covers C P t r.known open_now)) moved
-          )
-    ]
-
-weights_set : (C : Config) (P : History) (e : Entry) (t w : ℕ) (weights : List ℕ) → Reweighed C P (e ∷ P) t w → WeightsAre C P weights → WeightsAre C (e ∷ P) (slice_set weights t w)
-weights_set C P e t w weights r is = record {
-  tenants = length-set weights t w ∙ is.tenants;
-  each = λ u b. elim (cases_eq u t) [
-    | inl own ↦ rw (own, get_or-set_same weights t w 0 (omega (arith, is.tenants, r.known))) (sym r.weight_is)
-    | inr other ↦ rw (get_or-set_other weights t u w 0 other) (is.each u b ∙ sym (r.others_stay u other))
-  ];
-}
-
-pub follows_weight : (m t w : ℕ) (old new : Times) → Retuned m t w old new → Follows TimesAre (Reweighs m t w) old new
-follows_weight m t w old new made = λ C P e lim l s is.
-    let r = reweighs C P e m t w l s in
-    record {
-      clock_is = rw (made.clock_is, ← s.moment_is) (clock_reweighed C P e t w old (rw s.act_is refl) r is (clock_moved C P e.moment old.clock lim l.0 l.1 l.2 is.clock_is));
-      weights_are = rw (made.weights_are) (weights_set C P e t w old.weights r is.weights_are);
-      idles_are = rw (made.idles_are) (idles_stay C P e old.idles r.open_stay (idles_later C P e.moment old.idles is.idles_are));
-    }
-
--- ---- a Workers
-
-pub may_staff : (m n : ℕ) (old : Times) → Awaits TimesAre (Staffs m n) old → IsWithin 1 MOST_WORKERS n
-may_staff m n old a =
-    let s = staffs a.config a.history a.entry m n a.legal a.comes in
-    (s.in_range.0, omega (arith, s.in_range.1, a.limits.workers.1))
-
-pub follows_workers : (m n : ℕ) (old new : Times) → new ≡ record { clock = staffed (moved_to old.clock m) n; weights = old.weights; idles = old.idles } → Follows TimesAre (Staffs m n) old new
-follows_workers m n old new made = λ C P e lim l s is.
-    let k = staffs C P e m n l s in
-    rw (made, ← s.moment_is) (record {
-      clock_is = clock_next C P e (moved_to old.clock e.moment) n old.clock.weights (rw s.act_is refl) (sym k.pool_is) (is.clock_is.weights ∙ sym (active_weight_same C P e k.all_stay)) (clock_moved C P e.moment old.clock lim l.0 l.1 l.2 is.clock_is);
-      weights_are = weights_stay C P e old.weights (λ t b. (k.all_stay t).weight_same) is.weights_are;
-      idles_are = idles_stay C P e old.idles (λ t. (k.all_stay t).open_same) (idles_later C P e.moment old.idles is.idles_are);
-    })
-
--- ---- the preconditions of `idle`
-
--- the preconditions of `Times::idle` hold for each tenant
-pub record MayAsk (times : Times) (t : ℕ) : Type 0 where
-  pub tenant : t < length times.idles
-  pub weighed : t < length times.weights
-  pub earlier : (idle_of times.idles t).since ≤ℤ times.clock.time
-
-pub may_ask : (C : Config) (P : History) (t : ℕ) (times : Times) → TimesAre C P times → t < length C.weights → MayAsk times t
-may_ask C P t times is known = record {
-  tenant = omega (arith, is.idles_are.tenants, known);
-  weighed = omega (arith, is.weights_are.tenants, known);
-  earlier = omega (arith, ints, (is.idles_are.each t known).earlier, is.clock_is.time);
-}
-
--- ---- a Take under 2dfq+
-
--- the preconditions of the calls at a Take, of the times before it
-pub record MayLift (worker : ℕ) (start len : ℤ) (old : Times) : Type 0 where
-  pub worker_known : worker < old.clock.workers
-  pub start_low : pos 0 ≤ℤ start
-  pub len_low : pos 0 ≤ℤ len
-  pub len_high : len ≤ℤ pos greatest_length
-  pub finish_high : (start +ℤ len) ≤ℤ pos (10 ^ 25)
-
--- the numbers of the head that is taken
-pub record ChoiceIs (C : Config) (P : History) (m worker t : ℕ) (k : HeadKeys) : Type 0 where
-  pub begins : ℕ
-  pub lasts : ℕ
-  pub start_is : k.start ≡ pos begins
-  pub len_is : k.len ≡ pos lasts
-  pub lasts_low : lasts ≤ greatest_length
-
-choice_is : (C : Config) (P : History) (m worker t : ℕ) (k : HeadKeys) → InLimits C → IsLegal C P → IsChoiceAt C P m worker t k → ChoiceIs C P m worker t k
-choice_is C P m worker t k lim l choice =
-    let known : KeysOf C P m t k = keys_of C P m t k (choice_head C P m worker t k choice) in
-    let cost = estimate_range C P k.request known.what lim l known.was_asked in
-    record {
-      begins = start C P m t;
-      lasts = length_of (request_estimate C P known.what) (weight_at C P t);
-      start_is = ap (λ (h : HeadKeys). h.start) known.is;
-      len_is = ap (λ (h : HeadKeys). h.len) known.is;
-      lasts_low = length_low C P t (request_estimate C P known.what) lim l (keys_tenant_known C P m t k l (choice_head C P m worker t k choice)) cost.1;
-    }
-
--- a legal history, with the act of its last entry written out
-taken_legal : (C : Config) (P : History) (e : Entry) (worker : ℕ) (start len : ℤ) (t : TakesChoice worker start len C P e) → IsLegal C (e ∷ P) → IsLegal C (one_more e.who e.moment (Take worker t.request t.estimate) P)
-taken_legal C P e worker start len t l = (l.0, l.1, l.2, subst (Fits C P e.moment) t.act_is l.3)
-
-taken_lifts : (C : Config) (P : History) (e : Entry) (worker : ℕ) (start len : ℤ) (t : TakesChoice worker start len C P e) → C.policy ≡ TwoDfqPlus → IsLegal C (e ∷ P) → Lifts C P (e ∷ P) e.moment worker t.keys
-taken_lifts C P e worker start len t paced l =
-    subst (λ (a : Act). Lifts C P (one_more e.who e.moment a P) e.moment worker t.keys) (sym t.act_is)
-    (takes_lift C P e.who e.moment worker t.request t.estimate t.tenant t.keys paced (taken_legal C P e worker start len t l) t.choice)
-
-pub may_lift : (worker : ℕ) (start len : ℤ) (old : Times) → AwaitsTake worker start len old → MayLift worker start len old
-may_lift worker start len old w =
-    let C = w.config in
-    let P = w.history in
-    let x : ChoiceIs C P w.entry.moment worker w.takes.tenant w.takes.keys = choice_is C P w.entry.moment worker w.takes.tenant w.takes.keys w.limits w.legal.0 w.takes.choice in
-    let f : FitsTake C P w.entry.moment worker w.takes.request w.takes.estimate = subst (Fits C P w.entry.moment) w.takes.act_is w.legal.3 in
-    let lifts = taken_lifts C P w.entry worker start len w.takes w.paced w.legal in
-    let within = cap_within C (w.entry ∷ P) w.limits w.legal in
-    record {
-      worker_known = omega (arith, f.worker_known, w.times_at.clock_is.workers);
-      start_low = omega (arith, ints, w.takes.start_is, x.start_is);
-      len_low = omega (arith, ints, w.takes.len_is, x.len_is);
-      len_high = omega (arith, ints, w.takes.len_is, x.len_is, x.lasts_low);
-      finish_high = omega (arith, ints, clamps, w.takes.start_is, w.takes.len_is, lifts.cap_is, within);
-    }
-
--- the times after the Take, by the code
-pub record Lifted (worker : ℕ) (start len : ℤ) (old new : Times) : Type 0 where
-  pub clock_is : new.clock ≡ lifted old.clock (start -ℤ pos (part_of (unsigned_abs len) worker old.clock.workers)) (start +ℤ len)
-  pub weights_are : new.weights ≡ old.weights
-  pub idles_are : new.idles ≡ old.idles
-
-pub lifted_alike : (c : ClockView) (key finish k f : ℤ) → key ≡ k → finish ≡ f → lifted c key finish ≡ lifted c k f
-lifted_alike c key finish k f a b = rw (a, b) refl
-
-staggered : (p : Policy) (len : ℤ) (i n : ℕ) → p ≡ TwoDfqPlus → stagger p len i n ≡ pos (part_of (unsigned_abs len) i n)
-staggered p len i n is = rw is refl
-
-capped_at : (p : Policy) (a b : ℕ) (cap finish : ℤ) → p ≡ TwoDfqPlus → cap ≡ cap_for p a → pos b ≡ int_max (pos a) finish → int_max cap finish ≡ cap_for p b
-capped_at p a b cap finish is capped reached = rw (capped, is, reached) refl
-
-pub follows_take : (worker : ℕ) (start len : ℤ) (old new : Times) → Lifted worker start len old new → FollowsTake worker start len old new
-follows_take worker start len old new made = λ C P e paced lim l t is.
-    let s = passes_leave C P e (rw t.act_is refl) in
-    let lifts = taken_lifts C P e worker start len t paced l in
-    let key : start -ℤ pos (part_of (unsigned_abs len) worker old.clock.workers) ≡ eligible_key (turn_at C P e.moment worker) t.keys = rw (t.start_is, t.len_is, is.clock_is.workers) (ap (λ x. t.keys.start -ℤ x) (sym (staggered C.policy t.keys.len worker (pool_at C P) paced))) in
-    let finishes : start +ℤ len ≡ finish t.keys = rw (t.start_is, t.len_is) refl in
-    record {
-      clock_is = rw (made.clock_is, key, finishes) (record {
-        workers = is.clock_is.workers ∙ sym s.pool_stays;
-        moment = is.clock_is.moment;
-        weights = is.clock_is.weights ∙ sym (active_weight_same C P e s.all_stay);
-        time = ap (λ v. int_max v (eligible_key (turn_at C P e.moment worker) t.keys)) is.clock_is.time ∙ sym lifts.time_is;
-        cap = capped_at C.policy _ _ _ _ paced is.clock_is.cap lifts.cap_is;
-      });
-      weights_are = rw (made.weights_are) (weights_stay C P e old.weights (λ u b. (s.all_stay u).weight_same) is.weights_are);
-      idles_are = rw (made.idles_are) (idles_stay C P e old.idles (λ u. (s.all_stay u).open_same) is.idles_are);
-    }
-
--- ---- a Take under the other policies
-
-clock_taken : (C : Config) (P : History) (e : Entry) (c : ClockView) → C.policy ≢ TwoDfqPlus → Passed C P (e ∷ P) → ClockAt C P e.moment c → ClockIs C (e ∷ P) c
-clock_taken C P e c ne s is = record {
-  workers = is.workers ∙ sym s.pool_stays;
-  moment = is.moment;
-  weights = is.weights ∙ sym (active_weight_same C P e s.all_stay);
-  time = is.time ∙ ap pos (sym (virtual_time_take C P e ne));
-  cap = is.cap ∙ uncapped C.policy _ _ ne;
-}
-  where
-    uncapped : (p : Policy) (a b : ℕ) → p ≢ TwoDfqPlus → cap_for p a ≡ cap_for p b
-    uncapped TwoDfqPlus a b not = absurd (not refl)
-    uncapped _ a b not = refl
-
--- leaves the times
-times_taken : (C : Config) (P : History) (e : Entry) (now : Times) → C.policy ≢ TwoDfqPlus → passes e.act ≡ true → TimesAt C P e.moment now → TimesAre C (e ∷ P) now
-times_taken C P e now ne p is =
-    let s = passes_leave C P e p in
-    record {
-      clock_is = clock_taken C P e now.clock ne s is.clock_is;
-      weights_are = weights_stay C P e now.weights (λ t b. (s.all_stay t).weight_same) is.weights_are;
-      idles_are = idles_stay C P e now.idles (λ t. (s.all_stay t).open_same) is.idles_are;
-    }
-
--- ---- a Take under every policy
-
--- makes of the times those of the history with it
-pub times_take : (C : Config) (P : History) (e : Entry) (policy : Policy) (worker : ℕ) (start len : ℤ) (old new : Times) → policy ≡ C.policy → InLimits C → IsLegal C (e ∷ P) → passes e.act ≡ true → (C.policy ≡ TwoDfqPlus → TakesChoice worker start len C P e) → (policy ≡ TwoDfqPlus → FollowsTake worker start len old new) → (policy ≢ TwoDfqPlus → new ≡ old) → TimesAt C P e.moment old → TimesAre C (e ∷ P) new
-times_take C P e policy worker start len old new same lim l p choice paced by_clock is = elim (paced_or_not C.policy) [
-  | inl plus ↦ paced (same ∙ plus) C P e plus lim l (choice plus) is
-  | inr ne ↦ rw (by_clock (λ plus. ne (sym same ∙ plus))) (times_taken C P e old ne p is)
-]
+    let at = comes_to C P e m old lim l s.moment_is is in
+    let has = has_submitted C P m t old o.known is in
+    let other : is_take e.act ≡ false = rw s.act_is refl in
+    times_settled C (e ∷ P) e.moment (submitted m t old) new (record {
+      workers = has.workers ∙ (is.clock_is.workers ∙ sym o.pool_stays);
+      moment = has.moment ∙ sym s.moment_is;
+      time = has.time ∙ next_time C P e _ other at.clock_is;
+      cap = has.cap ∙ next_cap C P e _ other at.clock_is;
+      weights_are = rw (has.weights_are) (weights_stay C P e old.weights (own_and_others C P e t o.weight_stays o.others_stay) is.weights_are);
+      idles_are = rw (has.idles_are, next_time C P e (moved_to old.clock m) other at.clock_is) (idles_written C P e t old.idles _ o.known (λ u ne. (o.others_stay u ne).open_same) at.idles_are (idle_opened C P e t (idle_of old.idles t) o.more (at.idles_are.each t o.known)));
+      keys_sized = has.keys_are.sized ∙ is.lingering_are.tenants;
+      each = keys_active C P e t old.lingering _ lim l (λ u ne. submit_concerns P e.act t u _ _ _ _ s.act_is ne) (active_of_open (e ∷ P) t (omega (arith, o.more))) has.keys_are.others has.keys_are.none is.lingering_are;
+    }) made

@@ -1,19 +1,25 @@
 -- The clock and the idle times of a history.
-use Rattle.std.specs.Prelude.{ℕ, ℤ, ◌<◌, ◌≡◌, ◌≢◌, List, ◌∷◌, length, slice_index, pos, ◌≤ℤ◌}
+use Rattle.std.specs.Prelude.{ℕ, ℤ, ◌<◌, ◌≡◌, ◌≢◌, Bool, false, not, ◌&&◌, nat_lt, if◌then◌else◌, List, Option, Some, None, ◌∷◌, length, slice_index, pos, ◌≤ℤ◌}
 use Rattle.fq_model.specs.declared.config.Config.{Config}
+use Rattle.fq_model.specs.declared.config.Policy.{Policy}
 use Rattle.fq_model.specs.declared.config.Policy.TheVariants.{TwoDfqPlus}
 use Rattle.fq_model.specs.declared.event.Act.TheVariants.{Take}
 use Rattle.fq_model.specs.declared.event.Entry.{Entry}
 use Rattle.fq_model.specs.Limits.{InLimits}
 use Rattle.fq_model.specs.History.{History, pool_at, weight_at}
-use Rattle.fq_model.specs.Time.{open_requests, active_weight, last_moment, virtual_idle_time}
+use Rattle.fq_model.specs.Time.{open_requests, is_active, last_moment, virtual_idle_time}
 use Rattle.fq_model.specs.Pace.{pace, virtual_time}
-use Rattle.fq_model.specs.Keys.{HeadKeys, IsChoiceAt}
+use Rattle.fq_model.specs.Keys.{HeadKeys, tag, IsChoiceAt}
 use Rattle.fq_model.specs.Rules.{IsLegal}
+use Rattle.fq_laws.specs.Words.{rate_weight}
+use Rattle.fq_laws.specs.Steps.{Ends}
+use Rattle.winner_tree.specs.declared.key.Key.{Key}
+use Rattle.winner_tree.specs.Order.{key_of}
 use Rattle.virtual_clock.specs.declared.idles.Idle.{Idle}
 use Rattle.virtual_clock.specs.declared.times.Times.{Times}
 use Rattle.virtual_clock.specs.Clock.{ClockView, cap_for}
 use Rattle.virtual_clock.specs.Idles.{idle_of, total_at}
+use Rattle.virtual_clock.specs.Lingering.{key_for}
 
 -- ---- at a moment that is not before the last entry
 
@@ -21,7 +27,7 @@ use Rattle.virtual_clock.specs.Idles.{idle_of, total_at}
 pub record ClockAt (C : Config) (P : History) (m : ℕ) (c : ClockView) : Type 0 where
   pub workers : c.workers ≡ pool_at C P
   pub moment : c.moment ≡ m
-  pub weights : c.weights ≡ active_weight C P
+  pub weights : c.weights ≡ rate_weight C P
   pub time : c.time ≡ pos (virtual_time C P m)
   pub cap : c.cap ≡ cap_for C.policy (pace C P).reached
 
@@ -42,11 +48,30 @@ pub record WeightsAre (C : Config) (P : History) (weights : List ℕ) : Type 0 w
   pub tenants : length weights ≡ length C.weights
   pub each : (t : ℕ) → t < length C.weights → slice_index weights t ≡ weight_at C P t
 
--- the clock, the weights and the idle times are those of the history at m
+abbrev pub under_plus : Policy → Bool → Bool
+under_plus TwoDfqPlus b = b
+under_plus _ b = false
+
+-- tenant t lingers: it is not active, and the fluid serves it, since it starts above virtual time; under 2dfq+ alone
+abbrev pub lingers : Config → History → ℕ → Bool
+lingers C P t = under_plus C.policy (not (is_active P t) && nat_lt (pace C P).now (tag C P t))
+
+-- the key of tenant t among those that linger: its start
+abbrev pub lingering_key : Config → History → ℕ → Option Key
+lingering_key C P t = if lingers C P t then Some (key_for (pos (tag C P t))) else None
+
+-- each tenant that lingers has its key, and the others have none
+pub record LingeringAre (C : Config) (P : History) (keys : List (Option Key)) : Type 0 where
+  pub tenants : length keys ≡ length C.weights
+  pub each : (t : ℕ) → t < length C.weights → key_of keys t ≡ lingering_key C P t
+
+-- the clock, the weights and the idle times are those of the history at m, and those linger that linger after its last
+-- entry
 pub record TimesAt (C : Config) (P : History) (m : ℕ) (times : Times) : Type 0 where
   pub clock_is : ClockAt C P m times.clock
   pub weights_are : WeightsAre C P times.weights
   pub idles_are : IdlesAt C P m times.idles
+  pub lingering_are : LingeringAre C P times.lingering
 
 -- ---- at the last entry
 
@@ -123,3 +148,24 @@ abbrev pub FollowsTake : ℕ → ℤ → ℤ → Times → Times → Type 0
 FollowsTake worker start len before after =
     (C : Config) (P : History) (e : Entry) → C.policy ≡ TwoDfqPlus → InLimits C → IsLegal C (e ∷ P)
     → TakesChoice worker start len C P e → TimesAt C P e.moment before → TimesAre C (e ∷ P) after
+
+-- ---- at a Done or a Withdraw
+
+-- the times are those of a history after which a request of the tenant may end at this moment; it then starts at `start`
+pub record AwaitsEnd (policy : Policy) (moment tenant : ℕ) (start : ℤ) (times : Times) : Type 0 where
+  pub config : Config
+  pub history : History
+  pub entry : Entry
+  pub policy_is : policy ≡ config.policy
+  pub limits : InLimits config
+  pub legal : IsLegal config (entry ∷ history)
+  pub ends : Ends moment tenant history entry
+  pub starts : config.policy ≡ TwoDfqPlus → start ≡ pos (tag config (entry ∷ history) tenant)
+  pub times_are : TimesAre config history times
+
+-- and of each such history, they become those of the history with the entry
+abbrev pub FollowsEnd : Policy → ℕ → ℕ → ℤ → Times → Times → Type 0
+FollowsEnd policy moment tenant start before after =
+    (C : Config) (P : History) (e : Entry) → policy ≡ C.policy → InLimits C → IsLegal C (e ∷ P)
+    → Ends moment tenant P e → (C.policy ≡ TwoDfqPlus → start ≡ pos (tag C (e ∷ P) tenant))
+    → TimesAre C P before → TimesAre C (e ∷ P) after

@@ -1,3 +1,4 @@
 pub mod Clock
 pub mod Idles
+pub mod Lingering
 pub mod Histories

@@ -1,9 +1,11 @@
 //! The virtual time of a history, the weights at its end, and for how long each tenant was not active.
-ghost use Rattle.std.specs.Prelude.{◌<◌, ◌≤◌, ◌≡◌, ◌≢◌, [], pos, ◌≤ℤ◌, length, IfOk};
+ghost use Rattle.std.specs.Prelude.{◌<◌, ◌≤◌, ◌≡◌, ◌≢◌, [], pos, ◌≤ℤ◌, length, slice_index, IfOk, IfNone, IfSome};
 ghost use Rattle.fq_model.specs.declared.config.Policy.TheVariants.{TwoDfqPlus};
-ghost use Rattle.fq_laws.specs.Steps.{Awaits, Follows, Submits, Ends, Reweighs, Staffs};
+ghost use Rattle.fq_laws.specs.Steps.{Awaits, Follows, Submits, Passes, Reweighs, Staffs};
 ghost use Rattle.virtual_clock.specs.Idles.{idle_of};
-ghost use Rattle.virtual_clock.specs.Histories.{TimesAre, ComesTo, AwaitsTake, FollowsTake, IsTimeOf, IsLaterTimeOf, IsIdleTimeOf, IsWeightOf, IsPoolOf};
+ghost use Rattle.virtual_clock.specs.Lingering.{IsCounted, counts, Settles, NoneIsReached, IsReachedAt, HasRoomFor, Retires, rejoined};
+ghost use Rattle.virtual_clock.specs.Histories.{TimesAre, ComesTo, AwaitsTake, FollowsTake, AwaitsEnd, FollowsEnd};
+ghost use Rattle.virtual_clock.specs.Histories.{IsTimeOf, IsLaterTimeOf, IsIdleTimeOf, IsWeightOf, IsPoolOf};
 
 use crate::clock::Clock128;
 use crate::idles::Idles;
@@ -12,6 +14,7 @@ use fq_model::config::{Checked, Policy};
 use fq_model::limits::{GREATEST_MOMENT, GREATEST_VIRTUAL_TIME, GREATEST_WEIGHT, MOST_WORKERS};
 use std::alloc::{AllocError, Global};
 use vt_fixed::part;
+use winner_tree::{Key, Tree};
 
 /// Virtual time at the last entry of a history, or at a later moment, with the number of workers and the weights there,
 /// by which it goes on, and the idle times at that time.
@@ -20,6 +23,9 @@ pub struct Times {
     clock: Clock128,
     weights: WeightsNow,
     idles: Idles,
+    // By tenant: where it starts, if it lingers. That is under `2dfq+` alone, while none of its requests is open and it
+    // starts above virtual time: the fluid serves it still.
+    lingering: Tree,
 }
 
 impl Times {
@@ -31,12 +37,12 @@ impl Times {
             clock: Clock128::new(config.policy(), config.workers()),
             weights: WeightsNow::open(alloc, config)?,
             idles: Idles::open(alloc, config.tenants())?,
+            lingering: Tree::open(alloc, config.tenants())?,
         })
     }
 
-    /// A Take, a Report or a Close comes at this moment, in microseconds. For a Take `take` is called too, once the
-    /// request is chosen.
-    pub fn pass(&mut self, moment: u64)
+    /// Goes on to the moment of a Take, in microseconds. Once the request is chosen, `take` has to be called.
+    pub fn come_to(&mut self, moment: u64)
         requires later { self.old.clock.moment ≤ moment }
         requires in_range { moment ≤ GREATEST_MOMENT }
         ensures { ComesTo moment self.old self.new }
@@ -44,7 +50,7 @@ impl Times {
         self.clock.to(moment);
     }
 
-    /// At the moment that was passed to, the worker takes a request with this start and this length, both in steps.
+    /// At the moment that was come to, the worker takes a request with this start and this length, both in steps.
     pub fn take(&mut self, policy: Policy, worker: u32, start: i128, len: i128)
         requires { policy ≡ TwoDfqPlus → AwaitsTake worker start len self.old }
         ensures paced { policy ≡ TwoDfqPlus → FollowsTake worker start len self.old self.new }
@@ -63,6 +69,16 @@ impl Times {
     {
         let key = start - part(len, worker, self.clock.workers());
         self.clock.lift(key, start + len);
+        self.settle();
+    }
+
+    /// A Report or a Close comes at this moment, in microseconds.
+    pub fn pass(&mut self, moment: u64)
+        requires { Awaits TimesAre (Passes moment) self.old }
+        ensures { Follows TimesAre (Passes moment) self.old self.new }
+    {
+        self.clock.to(moment);
+        self.settle();
     }
 
     /// A Submit to this tenant comes at this moment, in microseconds.
@@ -72,17 +88,53 @@ impl Times {
     {
         self.clock.to(moment); // at the weights before it
         if self.idles.open_one(tenant, self.clock.now()) {
+            self.rejoin(tenant);
+        }
+        self.settle();
+    }
+
+    // The tenant has become active. Where it lingered until now, its weight counts already.
+    fn rejoin(&mut self, tenant: u32)
+        requires kept { tenant < length self.old.lingering }
+        requires weighed { tenant < length self.old.weights }
+        requires room { HasRoomFor tenant self.old }
+        ensures { self.new ≡ rejoined tenant self.old }
+    {
+        if self.lingering.has_key(tenant) {
+            self.lingering.set(tenant, None);
+        } else {
             self.clock.enter(self.weights.of(tenant));
         }
     }
 
-    /// A Done or a Withdraw of a request of this tenant comes at this moment, in microseconds.
-    pub fn end(&mut self, moment: u64, tenant: u32)
-        requires { Awaits TimesAre (Ends moment tenant) self.old }
-        ensures { Follows TimesAre (Ends moment tenant) self.old self.new }
+    /// A Done or a Withdraw of a request of this tenant comes at this moment, in microseconds. The tenant starts at
+    /// `start` from then on, in steps.
+    pub fn end(&mut self, policy: Policy, moment: u64, tenant: u32, start: i128)
+        requires { AwaitsEnd policy moment tenant start self.old }
+        ensures { FollowsEnd policy moment tenant start self.old self.new }
     {
         self.clock.to(moment); // at the weights with this tenant's
         if self.idles.close_one(tenant, self.clock.now()) {
+            self.retire(policy, tenant, start);
+        }
+        self.settle();
+    }
+
+    // The tenant is active no more. It lingers if it starts above virtual time.
+    fn retire(&mut self, policy: Policy, tenant: u32, start: i128)
+        requires kept { tenant < length self.old.lingering }
+        requires weighed { tenant < length self.old.weights }
+        requires entered { slice_index self.old.weights tenant ≤ self.old.clock.weights }
+        ensures { Retires policy tenant start self.old self.new }
+    {
+        if policy == Policy::TwoDfqPlus && start > self.clock.now() {
+            let key = Key {
+                a: start,
+                b: 0,
+                c: 0,
+            };
+            self.lingering.set(tenant, Some(key));
+        } else {
             self.clock.leave(self.weights.of(tenant));
         }
     }
@@ -93,11 +145,21 @@ impl Times {
         ensures { Follows TimesAre (Reweighs moment tenant weight) self.old self.new }
     {
         self.clock.to(moment); // at the weight before it
-        if self.idles.is_active(tenant) {
+        if self.counts(tenant) {
             self.clock.leave(self.weights.of(tenant));
             self.clock.enter(weight);
         }
         self.weights.set(tenant, weight);
+        self.settle();
+    }
+
+    // Whether virtual time goes on over the weight of the tenant, too.
+    fn counts(&self, tenant: u32) -> bool
+        requires kept { tenant < length self.now.idles }
+        requires keyed { tenant < length self.now.lingering }
+        ensures { result ≡ counts self.now tenant }
+    {
+        self.idles.is_active(tenant) || self.lingering.has_key(tenant)
     }
 
     /// A Workers comes at this moment, in microseconds.
@@ -107,6 +169,31 @@ impl Times {
     {
         self.clock.to(moment); // at the number before it
         self.clock.staff(count);
+        self.settle();
+    }
+
+    // The tenants at whose starts virtual time has come linger no more.
+    fn settle(&mut self)
+        requires { IsCounted self.old }
+        ensures { Settles self.old self.new }
+    {
+        'reached: while let Some(tenant) = self.reached() {
+            self.lingering.set(tenant, None);
+            self.clock.leave(self.weights.of(tenant));
+        }
+    }
+
+    // The first of the tenants that linger, where virtual time has come to its start.
+    fn reached(&self) -> Option<u32>
+        ensures some { IfSome result (IsReachedAt self.now) }
+        ensures none { IfNone result (NoneIsReached self.now) }
+    {
+        let (tenant, key) = self.lingering.first()?;
+        if key.a <= self.clock.now() {
+            Some(tenant)
+        } else {
+            None
+        }
     }
 
     /// Virtual time at the moment that was come to, in steps.

@@ -1,6 +1,6 @@
 //! The tree.
-ghost use Rattle.std.specs.Prelude.{◌≡◌, ◌<◌, ◌≤◌, None, Some, IfOk, MatchOption, length, replicate, slice_set};
-ghost use Rattle.winner_tree.specs.Order.{IsFirst, HasNoKey};
+ghost use Rattle.std.specs.Prelude.{◌≡◌, ◌<◌, ◌≤◌, None, Some, IfOk, MatchOption, is_some, length, replicate, slice_set};
+ghost use Rattle.winner_tree.specs.Order.{key_of, IsFirst, HasNoKey};
 ghost use Rattle.winner_tree.specs.Winners.{AreWinners};
 
 use crate::key::Key;
@@ -75,6 +75,14 @@ impl Tree {
         ensures { self.new ≡ slice_set self.old leaf None }
     {
         set_leaf(&mut self.keys, &mut self.winners, leaf, None);
+    }
+
+    /// Whether a leaf has a key.
+    pub fn has_key(&self, leaf: u32) -> bool
+        requires { leaf < length self.now }
+        ensures { result ≡ is_some (key_of self.now leaf) }
+    {
+        self.keys[leaf as usize].is_some()
     }
 
     /// The leaf with the least key, of equal keys the least leaf, and its key.

@@ -32,7 +32,7 @@ pub paced_or_not : (p : Policy) → (p ≡ TwoDfqPlus) ⊎ (p ≢ TwoDfqPlus)
 paced_or_not TwoDfqPlus = inl refl
 paced_or_not _ = inr (λ e. cc)
 
-time_of_clock : (p : Policy) (by_clock paced : ℕ) → p ≢ TwoDfqPlus → time_for p by_clock paced ≡ by_clock
+pub time_of_clock : (p : Policy) (by_clock paced : ℕ) → p ≢ TwoDfqPlus → time_for p by_clock paced ≡ by_clock
 time_of_clock TwoDfqPlus by_clock paced ne = absurd (ne refl)
 time_of_clock _ by_clock paced ne = refl
 

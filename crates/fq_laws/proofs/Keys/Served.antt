@@ -1,22 +1,38 @@
 -- The tenants that the fluid serves under 2dfq+, and the weight over which virtual time goes on.
-use Rattle.std.proofs.Common.{ℕ, ◌+◌, ◌-◌, ◌*◌, ◌/◌, ◌<◌, ◌≤◌, ◌≡◌, true, zero, suc, arith, refl, sym, ◌∙◌, inl, inr, ap, length}
-use Rattle.std.proofs.lemmas.Bool.{cases_Bool, ne_eqb}
+use Rattle.std.proofs.Common.{[], ◌≢◌, ◌==◌, cond, ℕ, ◌+◌, ◌-◌, ◌*◌, ◌/◌, ◌<◌, ◌≤◌, ◌≡◌, true, zero, suc, arith, refl, sym, ◌∙◌, inl, inr, ap, length}
+use Rattle.std.proofs.lemmas.Bool.{cases_Bool, eq-eqb, ne_eqb}
 use Rattle.std.proofs.lemmas.Nat.{mul-le, le-div}
 use Rattle.std.proofs.Math.Nat.{div-mul-le_self}
 use Rattle.vt_fixed.specs.Rounding.{advance_of}
-use Rattle.vt_fixed.specs.declared.limits.TheConstants.{GREATEST_ACTIVE_WEIGHT}
+use Rattle.vt_fixed.specs.declared.limits.TheConstants.{GREATEST_ACTIVE_WEIGHT, GREATEST_WEIGHT}
 use Rattle.fq_model.specs.declared.config.Config.{Config}
+use Rattle.fq_model.specs.declared.config.Policy.TheVariants.{TwoDfqPlus}
 use Rattle.fq_model.specs.Limits.{InLimits}
 use Rattle.fq_model.specs.History.{History, pool_at}
 use Rattle.fq_model.specs.Time.{is_active, weight_if_active, active_weight, last_moment, virtual_advance}
-use Rattle.fq_model.specs.Pace.{Pace, pace, is_served, weight_if_served, served_weight, virtual_time}
+use Rattle.fq_model.specs.Pace.{Pace, pace, is_served, weight_if_served, served_weight, time_for, virtual_time}
 use Rattle.fq_model.specs.Rules.{IsLegal}
 use Rattle.fq_model.specs.Sums.{sum_below}
 use Rattle.fq_laws.specs.Words.{capped, rate_weight}
-use Rattle.fq_laws.proofs.Sums.{sum_same}
+use Rattle.fq_laws.proofs.Sums.{sum_same, sum_at, sum_zero}
+use Rattle.fq_laws.proofs.Charge.Tenants.{virtual_charge_nil}
+use Rattle.fq_laws.proofs.Time.Open.{inactive_nil}
 use Rattle.fq_laws.proofs.History.Weights.{weight_high}
-use Rattle.fq_laws.proofs.Time.Clock.{weights_low, active_weight_low, virtual_advance_is}
-use Rattle.fq_laws.proofs.Keys.Pace.{paced_or_not, capped_min, capped_not, rate_paced, rate_by_clock, rate_advance, virtual_time_split}
+use Rattle.fq_laws.proofs.Time.Clock.{active_weight_nil, weights_low, active_weight_low, virtual_advance_is}
+use Rattle.fq_laws.proofs.Keys.Pace.{paced_or_not, time_of_clock, capped_min, capped_not, rate_paced, rate_by_clock, rate_advance, virtual_time_split}
+
+-- ---- at first
+
+unserved_nil : (C : Config) (t : ℕ) → weight_if_served C [] (pace C []) t ≡ 0
+unfolding pace
+unserved_nil C t = rw (inactive_nil t, virtual_charge_nil C t) refl
+
+pub rate_weight_nil : (C : Config) → rate_weight C [] ≡ 0
+unfolding served_weight
+rate_weight_nil C = elim (paced_or_not C.policy) [
+  | inl is ↦ rate_paced C [] is ∙ sum_zero (weight_if_served C [] (pace C [])) (length C.weights) (unserved_nil C)
+  | inr ne ↦ rate_by_clock C [] ne ∙ active_weight_nil C
+]
 
 -- ---- limits
 
@@ -28,6 +44,37 @@ pub rate_weight_low : (C : Config) (P : History) → InLimits C → IsLegal C P 
 rate_weight_low C P lim l = elim (paced_or_not C.policy) [
   | inl is ↦ rw (rate_paced C P is) (served_weight_low C P (pace C P) lim l)
   | inr ne ↦ rw (rate_by_clock C P ne) (active_weight_low C P lim l)
+]
+
+sum_room : (f : ℕ → ℕ) (t n w : ℕ) → t < n → ((u : ℕ) → f u ≤ GREATEST_WEIGHT) → w ≤ GREATEST_WEIGHT → sum_below f n + w ≤ n * GREATEST_WEIGHT + f t
+sum_room f t n w b low small =
+    let g : ℕ → ℕ = λ u. cond (u == t) w (f u) in
+    let step : sum_below g n + f t ≡ sum_below f n + g t = sum_at f g t n b (λ u ne. rw (ne_eqb u t ne) refl) in
+    let own : g t ≡ w = rw (eq-eqb t t refl) refl in
+    omega (arith, step, own, weights_low g n (λ u. elim (cases_Bool (u == t)) [ inl h ↦ rw h small | inr h ↦ rw h (low u) ]))
+
+-- the part of tenant t in the weight over which virtual time goes on
+abbrev pub rate_part : Config → History → ℕ → ℕ
+rate_part C P t = time_for C.policy (weight_if_active C P t) (weight_if_served C P (pace C P) t)
+
+pub part_paced : (C : Config) (P : History) (t : ℕ) → C.policy ≡ TwoDfqPlus → rate_part C P t ≡ weight_if_served C P (pace C P) t
+part_paced C P t is = rw is refl
+
+pub part_by_clock : (C : Config) (P : History) (t : ℕ) → C.policy ≢ TwoDfqPlus → rate_part C P t ≡ weight_if_active C P t
+part_by_clock C P t ne = time_of_clock C.policy _ _ ne
+
+served_low : (C : Config) (P : History) (t : ℕ) → InLimits C → IsLegal C P → weight_if_served C P (pace C P) t ≤ GREATEST_WEIGHT
+served_low C P t lim l = elim (cases_Bool (is_served C P (pace C P) t)) [ inl h ↦ rw h (weight_high C P t lim l) | inr h ↦ rw h (omega arith) ]
+
+active_low : (C : Config) (P : History) (t : ℕ) → InLimits C → IsLegal C P → weight_if_active C P t ≤ GREATEST_WEIGHT
+active_low C P t lim l = elim (cases_Bool (is_active P t)) [ inl h ↦ rw h (weight_high C P t lim l) | inr h ↦ rw h (omega arith) ]
+
+-- there is room for another weight of a tenant in the place of its part
+pub rate_room : (C : Config) (P : History) (t w : ℕ) → InLimits C → IsLegal C P → t < length C.weights → w ≤ GREATEST_WEIGHT → rate_weight C P + w ≤ GREATEST_ACTIVE_WEIGHT + rate_part C P t
+unfolding active_weight served_weight
+rate_room C P t w lim l b small = elim (paced_or_not C.policy) [
+  | inl is ↦ omega (arith, lim.tenants.1, rate_paced C P is, part_paced C P t is, sum_room (weight_if_served C P (pace C P)) t (length C.weights) w b (λ u. served_low C P u lim l) small)
+  | inr ne ↦ omega (arith, lim.tenants.1, rate_by_clock C P ne, part_by_clock C P t ne, sum_room (weight_if_active C P) t (length C.weights) w b (λ u. active_low C P u lim l) small)
 ]
 
 -- ---- beside the active tenants
