@@ -112,7 +112,7 @@ impl<J: Job + Drop, X: Chooser> Tracker<J, X> {
         requires may { MayBegin journal.now moment worker }
         ensures { Begins J.label_of X.seen journal.now moment worker self.old result.0 result.1 self.new }
     {
-        self.times.pass(moment);
+        self.times.come_to(moment);
         let tenant = self.chooser.choose(worker, self.times.now()).unwrap();
         let item = self.lists.pop(tenant).unwrap();
         let estimate = self.costs.now(tenant, item.kind, item.declared);
@@ -155,7 +155,9 @@ impl<J: Job + Drop, X: Chooser> Tracker<J, X> {
         let correction = self.book.record_cost(worker, row, cost);
         self.accounts.charge(row.tenant, correction);
         self.costs.learn(row.tenant, row.kind, cost);
-        self.times.end(moment, row.tenant);
+        let start = self.accounts.tag(row.tenant); // after the correction
+        let policy = journal.config().policy();
+        self.times.end(policy, moment, row.tenant, start);
         self.renew(journal.config(), row.tenant);
     }
 
@@ -201,7 +203,9 @@ impl<J: Job + Drop, X: Chooser> Tracker<J, X> {
         ensures jobs { jobs_in self.new.lists.lists ≡ map.remove (jobs_in self.old.lists.lists) request }
     {
         let (tenant, item) = self.lists.remove(request).unwrap();
-        self.times.end(moment, tenant);
+        let start = self.accounts.tag(tenant);
+        let policy = journal.config().policy();
+        self.times.end(policy, moment, tenant, start);
         self.renew(journal.config(), tenant);
         item.job
     }
