@@ -1,5 +1,5 @@
 -- The times of a history at a Weight or a Workers more.
-use Rattle.std.proofs.Common.{ℕ, ◌+◌, ◌-◌, ◌<◌, ◌≤◌, ◌≡◌, true, false, if◌then◌else◌, arith, refl, sym, ◌∙◌, inl, inr, ◌∷◌, List, length, slice_set, slice_index, length-set, get_or-set_same, get_or-set_other}
+use Rattle.std.proofs.Common.{ℕ, ◌+◌, ◌-◌, ◌<◌, ◌≤◌, ◌≡◌, true, false, arith, refl, sym, ◌∙◌, inl, inr, ◌∷◌, List, length, slice_set, slice_index, length-set, get_or-set_same, get_or-set_other}
 use Rattle.std.proofs.lemmas.Bool.{cases_eq, cases_Bool}
 use Rattle.vt_fixed.specs.declared.limits.TheConstants.{GREATEST_ACTIVE_WEIGHT, MOST_WORKERS}
 use Rattle.fq_model.specs.Limits.{IsWithin, IsWeight}
@@ -13,8 +13,8 @@ use Rattle.fq_laws.proofs.Charge.Tenants.{virtual_charge_quiet}
 use Rattle.fq_laws.proofs.Keys.Tags.{tag_is, base_quiet}
 use Rattle.fq_laws.proofs.Keys.Served.{rate_room}
 use Rattle.virtual_clock.specs.declared.times.Times.{Times}
-use Rattle.virtual_clock.specs.Clock.{moved_to, entered, left, staffed}
-use Rattle.virtual_clock.specs.Lingering.{IsCounted, counts, counted, Settles}
+use Rattle.virtual_clock.specs.Clock.{moved_to, staffed}
+use Rattle.virtual_clock.specs.Lingering.{IsCounted, counts, counted, reweighed, Settles}
 use Rattle.virtual_clock.specs.Histories.{WeightsAre, TimesAre}
 use Rattle.virtual_clock.proofs.Opening.{Reweighed, reweighs, staffs}
 use Rattle.virtual_clock.proofs.Counting.{counted_still, counted_alike, counted_part}
@@ -29,15 +29,6 @@ tag_quiet : (C : Config) (P : History) (e : Entry) (t : ℕ) → is_quiet e.act 
 tag_quiet C P e t quiet = omega (arith, tag_is C P t, tag_is C (e ∷ P) t, virtual_charge_quiet C P e.who e.moment t e.act quiet, base_quiet C P e.who e.moment t e.act quiet)
 
 -- ---- a Weight
-
--- the times after a Weight, by the code, but for what is to be settled
-abbrev pub reweighed : ℕ → ℕ → ℕ → Times → Times
-reweighed m t w x = record {
-  clock = if counts x t then entered (left (moved_to x.clock m) (slice_index x.weights t)) w else moved_to x.clock m;
-  weights = slice_set x.weights t w;
-  idles = x.idles;
-  lingering = x.lingering;
-}
 
 -- the preconditions of the calls at a Weight, of the times before it
 pub record MayReweigh (m t w : ℕ) (old : Times) : Type 0 where

@@ -24,7 +24,7 @@ use Rattle.virtual_clock.specs.declared.times.Times.{Times}
 use Rattle.virtual_clock.specs.declared.idles.Idle.{Idle}
 use Rattle.virtual_clock.specs.Clock.{moved_to}
 use Rattle.virtual_clock.specs.Idles.{asleep_at_first, idle_of, is_asleep, is_at_last, closed}
-use Rattle.virtual_clock.specs.Lingering.{key_for, Settled, IsCounted, Retires, lingers_on, leaves_at_once, Settles}
+use Rattle.virtual_clock.specs.Lingering.{key_for, Settled, IsCounted, Retires, lingers_on, leaves_at_once, with_closed, Ended, Settles}
 use Rattle.virtual_clock.specs.Histories.{lingering_key, TimesAt, TimesAre, AwaitsEnd, FollowsEnd}
 use Rattle.virtual_clock.proofs.Opening.{Closes, ends_close, end_no_take}
 use Rattle.virtual_clock.proofs.Counting.{counted_still, counts_awake, counts_lingering, counts_nothing, counted_part}
@@ -33,15 +33,6 @@ use Rattle.virtual_clock.proofs.IdleSteps.{idles_written, idle_closed}
 use Rattle.virtual_clock.proofs.Lingerings.{active_not, by_clock_not, inactive_lingers, no_key, with_key, none_settled, key_left}
 use Rattle.virtual_clock.proofs.Settling.{times_settled, counted_at}
 use Rattle.virtual_clock.proofs.TimeSteps.{weights_stay, come, comes_to, MayMove, may_move, own_and_others, since_moved}
-
--- with one open request less of the tenant
-abbrev pub with_closed : ℕ → ℕ → Times → Times
-with_closed m t x = record { clock = moved_to x.clock m; weights = x.weights; idles = slice_set x.idles t (closed (idle_of x.idles t) (moved_to x.clock m).time); lingering = x.lingering }
-
--- the times after the entry, by the code, but for what is to be settled
-pub record Ended (policy : Policy) (m t : ℕ) (start : ℤ) (old new : Times) : Type 0 where
-  pub retired : is_at_last (idle_of old.idles t) ≡ true → Retires policy t start (with_closed m t old) new
-  pub stays_active : is_at_last (idle_of old.idles t) ≡ false → new ≡ with_closed m t old
 
 -- the preconditions of the calls at a Done or a Withdraw, of the times before it
 pub record MayEnd (policy : Policy) (m t : ℕ) (start : ℤ) (old : Times) : Type 0 where

@@ -25,7 +25,7 @@ use Rattle.virtual_clock.specs.declared.times.Times.{Times}
 use Rattle.virtual_clock.specs.declared.idles.Idle.{Idle}
 use Rattle.virtual_clock.specs.Clock.{cap_for, at_start, moved_to, entered}
 use Rattle.virtual_clock.specs.Idles.{asleep_at_first, idle_of, is_asleep, opened}
-use Rattle.virtual_clock.specs.Lingering.{Settled, IsCounted, HasRoomFor, rejoined, Settles}
+use Rattle.virtual_clock.specs.Lingering.{Settled, IsCounted, HasRoomFor, with_opened, submitted, Settles}
 use Rattle.virtual_clock.specs.Histories.{WeightsAre, lingers, lingering_key, LingeringAre, TimesAt, TimesAre}
 use Rattle.virtual_clock.proofs.Opening.{submits_open, passes, passes_leave}
 use Rattle.virtual_clock.proofs.Counting.{counted_still, counts_awake, counts_lingering, counts_nothing}
@@ -119,14 +119,6 @@ pub since_moved : (C : Config) (P : History) (e : Entry) (m t : ℕ) (old : Time
 since_moved C P e m t old lim l same known is =
     let at = comes_to C P e m old lim l same is in
     omega (arith, ints, (at.idles_are.each t known).earlier, at.clock_is.time)
-
--- with one more open request of the tenant
-abbrev pub with_opened : ℕ → ℕ → Times → Times
-with_opened m t x = record { clock = moved_to x.clock m; weights = x.weights; idles = slice_set x.idles t (opened (idle_of x.idles t) (moved_to x.clock m).time); lingering = x.lingering }
-
--- the times after a Submit, by the code, but for what is to be settled
-abbrev pub submitted : ℕ → ℕ → Times → Times
-submitted m t x = if is_asleep (idle_of x.idles t) then rejoined t (with_opened m t x) else with_opened m t x
 
 -- the preconditions of the calls at a Submit, of the times before it
 pub record MaySubmit (m : ℕ) (old : Times) (t : ℕ) : Type 0 where

@@ -7,8 +7,8 @@ use Rattle.fq_model.specs.Sums.{sum_below}
 use Rattle.winner_tree.specs.declared.key.Key.{Key}
 use Rattle.winner_tree.specs.Order.{key_of}
 use Rattle.virtual_clock.specs.declared.times.Times.{Times}
-use Rattle.virtual_clock.specs.Clock.{entered, left}
-use Rattle.virtual_clock.specs.Idles.{idle_of, is_asleep}
+use Rattle.virtual_clock.specs.Clock.{moved_to, entered, left}
+use Rattle.virtual_clock.specs.Idles.{idle_of, is_asleep, is_at_last, opened, closed}
 
 -- ---- keys
 
@@ -81,6 +81,36 @@ abbrev pub Retires : Policy → ℕ → ℤ → Times → Times → Type 0
 Retires policy t start before after =
     ((policy ≡ TwoDfqPlus) × (before.clock.time <ℤ start) × (after ≡ lingers_on t start before))
     ⊎ (((policy ≢ TwoDfqPlus) ⊎ (start ≤ℤ before.clock.time)) × (after ≡ leaves_at_once t before))
+
+-- the times have come to moment m, and the tenant has one open request more
+abbrev pub with_opened : ℕ → ℕ → Times → Times
+with_opened m t x = record x {
+  clock = moved_to x.clock m;
+  idles = slice_set x.idles t (opened (idle_of x.idles t) (moved_to x.clock m).time);
+}
+
+-- and where that is its first, its weight counts
+abbrev pub submitted : ℕ → ℕ → Times → Times
+submitted m t x = if is_asleep (idle_of x.idles t) then rejoined t (with_opened m t x) else with_opened m t x
+
+-- the times have come to moment m, and the tenant has one open request less
+abbrev pub with_closed : ℕ → ℕ → Times → Times
+with_closed m t x = record x {
+  clock = moved_to x.clock m;
+  idles = slice_set x.idles t (closed (idle_of x.idles t) (moved_to x.clock m).time);
+}
+
+-- and where that was its last, it is active no more
+pub record Ended (policy : Policy) (m t : ℕ) (start : ℤ) (before after : Times) : Type 0 where
+  pub retired : is_at_last (idle_of before.idles t) ≡ true → Retires policy t start (with_closed m t before) after
+  pub stays_active : is_at_last (idle_of before.idles t) ≡ false → after ≡ with_closed m t before
+
+-- the times have come to moment m, and the tenant has weight w; where the old one counts, the new one does in its place
+abbrev pub reweighed : ℕ → ℕ → ℕ → Times → Times
+reweighed m t w x = record x {
+  clock = if counts x t then entered (left (moved_to x.clock m) (slice_index x.weights t)) w else moved_to x.clock m;
+  weights = slice_set x.weights t w;
+}
 
 -- all tenants at whose starts virtual time has come linger no more, and nothing else is changed but the weight
 pub record Settles (before after : Times) : Type 0 where

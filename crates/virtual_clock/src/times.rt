@@ -4,6 +4,7 @@ ghost use Rattle.fq_model.specs.declared.config.Policy.TheVariants.{TwoDfqPlus};
 ghost use Rattle.fq_laws.specs.Steps.{Awaits, Follows, Submits, Passes, Reweighs, Staffs};
 ghost use Rattle.virtual_clock.specs.Idles.{idle_of};
 ghost use Rattle.virtual_clock.specs.Lingering.{IsCounted, counts, Settles, NoneIsReached, IsReachedAt, HasRoomFor, Retires, rejoined};
+ghost use Rattle.virtual_clock.specs.Lingering.{submitted, Ended, reweighed};
 ghost use Rattle.virtual_clock.specs.Histories.{TimesAre, ComesTo, AwaitsTake, FollowsTake, AwaitsEnd, FollowsEnd};
 ghost use Rattle.virtual_clock.specs.Histories.{IsTimeOf, IsLaterTimeOf, IsIdleTimeOf, IsWeightOf, IsPoolOf};
 
@@ -86,11 +87,19 @@ impl Times {
         requires { Awaits TimesAre (Submits moment tenant) self.old }
         ensures { Follows TimesAre (Submits moment tenant) self.old self.new }
     {
+        self.open_request(moment, tenant);
+        self.settle();
+    }
+
+    // One request of the tenant more is open from this moment on.
+    fn open_request(&mut self, moment: u64, tenant: u32)
+        requires { Awaits TimesAre (Submits moment tenant) self.old }
+        ensures { self.new ≡ submitted moment tenant self.old }
+    {
         self.clock.to(moment); // at the weights before it
         if self.idles.open_one(tenant, self.clock.now()) {
             self.rejoin(tenant);
         }
-        self.settle();
     }
 
     // The tenant has become active. Where it lingered until now, its weight counts already.
@@ -113,11 +122,19 @@ impl Times {
         requires { AwaitsEnd policy moment tenant start self.old }
         ensures { FollowsEnd policy moment tenant start self.old self.new }
     {
+        self.close_request(policy, moment, tenant, start);
+        self.settle();
+    }
+
+    // One request of the tenant less is open from this moment on.
+    fn close_request(&mut self, policy: Policy, moment: u64, tenant: u32, start: i128)
+        requires { AwaitsEnd policy moment tenant start self.old }
+        ensures { Ended policy moment tenant start self.old self.new }
+    {
         self.clock.to(moment); // at the weights with this tenant's
         if self.idles.close_one(tenant, self.clock.now()) {
             self.retire(policy, tenant, start);
         }
-        self.settle();
     }
 
     // The tenant is active no more. It lingers if it starts above virtual time.
@@ -144,13 +161,21 @@ impl Times {
         requires { Awaits TimesAre (Reweighs moment tenant weight) self.old }
         ensures { Follows TimesAre (Reweighs moment tenant weight) self.old self.new }
     {
+        self.trade(moment, tenant, weight);
+        self.settle();
+    }
+
+    // The tenant has the weight from this moment on.
+    fn trade(&mut self, moment: u64, tenant: u32, weight: u32)
+        requires { Awaits TimesAre (Reweighs moment tenant weight) self.old }
+        ensures { self.new ≡ reweighed moment tenant weight self.old }
+    {
         self.clock.to(moment); // at the weight before it
         if self.counts(tenant) {
             self.clock.leave(self.weights.of(tenant));
             self.clock.enter(weight);
         }
         self.weights.set(tenant, weight);
-        self.settle();
     }
 
     // Whether virtual time goes on over the weight of the tenant, too.
