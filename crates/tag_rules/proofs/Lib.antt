@@ -2,4 +2,3 @@ pub mod AccountSteps
 pub mod Ranges
 pub mod Comparing
 pub mod Scanning
-pub mod Soonest
