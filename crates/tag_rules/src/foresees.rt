@@ -1,6 +1,8 @@
 //! A chooser that foresees a choice.
 ghost use Rattle.std.specs.Prelude.{◌≡◌, ◌<◌, ◌≤◌, ◌≤ℤ◌, ◌↔◌, IsTrue, length, unsigned_abs};
+ghost use Rattle.std.specs.List.{All};
 ghost use Rattle.vt_fixed.specs.Rounding.{cost_of};
+ghost use Rattle.fq_model.specs.Limits.{IsWeight};
 ghost use Rattle.tag_rules.specs.Tables.{RequestsDiffer};
 ghost use Rattle.tag_rules.specs.Foreseen.{SomeIsShort, IsForeseenOver, IsForeseenBy};
 
@@ -31,7 +33,8 @@ pub trait Foresees: Chooser {
     fn foresee(&self, worker: u32, v: i128, below: u64, weights: &[u32]) -> Option<ForeseenChoice>
         requires worker { worker < (Self.seen self.now).setting.workers }
         requires not_back { (Self.seen self.now).latest ≤ℤ v }
-        requires weights { length weights.now ≡ (Self.seen self.now).setting.tenants }
+        requires tenants { length weights.now ≡ (Self.seen self.now).setting.tenants }
+        requires weights { All IsWeight weights.now }
         ensures { IsForeseenBy (Self.seen self.now) worker v weights.now below result };
 }
 
