@@ -1,7 +1,8 @@
 -- The head that is chosen in an order is the choice over its table.
-use Rattle.std.proofs.Common.{ℕ, ◌<◌, ◌≡◌, ◌↔◌, ◌⊎◌, Option, Some, None, inl, inr, arith, sym, ◌∙◌, ap, subst, List, [], ◌∷◌, pos, ◌≤ℤ◌, ◌<ℤ◌}
+use Rattle.std.proofs.Common.{ℕ, ◌<◌, ◌≡◌, ◌↔◌, ◌⊎◌, Option, Some, None, length, get_or, inl, inr, arith, sym, ◌∙◌, ap, subst, List, [], ◌∷◌, pos, ◌≤ℤ◌, ◌<ℤ◌}
 use Rattle.std.specs.List.{All, Contains}
 use Rattle.std.proofs.lemmas.Int.{ints}
+use Rattle.std.proofs.lemmas.Option.{slice_get_within}
 use Rattle.std.proofs.lemmas.List.Elements.{All-contains, Contains-append_cases}
 use Rattle.vt_fixed.specs.declared.limits.TheConstants.{GREATEST_LENGTH}
 use Rattle.fq_model.specs.Keys.{HeadKeys, Turn, finish, eligible_key, IsEligible, FinishBefore, EligibleBefore, IsFirst, Every, IsChoice, NoneIsEligible}
@@ -13,7 +14,7 @@ use Rattle.shared_order.proofs.Reach.{eligible_in_reach, key_by_its_finish}
 use Rattle.shared_order.specs.Heads.{HeadView, head_of, HeadBefore, IsSorted}
 use Rattle.shared_order.specs.Search.{IsReached, key_of, IsSooner, IsFirstThat, IsLeast}
 use Rattle.shared_order.specs.Mirrors.{keys_of, Mirrors, IsChosen}
-use Rattle.shared_order.specs.Outlook.{SomeIsSought, IsOutlook}
+use Rattle.shared_order.specs.Outlook.{IsWeighed, SomeIsSought, IsOutlook}
 use Rattle.shared_order.proofs.Pieces.{back_pairs, across_pairs, holds_middle}
 use Rattle.shared_order.proofs.Mirroring.{among}
 
@@ -98,6 +99,10 @@ none_chosen table heads m is = λ t k has. nothing (head_of t k) (subst (λ (xs 
     nothing h there = absurd (omega (arith, there.1))
 
 -- ---- the foreseen choice
+
+-- each head's tenant has a weight, where there is one a tenant
+pub all_weighed : (table : Table) (heads : List HeadView) (weights : List ℕ) → Mirrors table heads → length weights ≡ length table → All (IsWeighed weights) heads
+all_weighed table heads weights m same = λ k d within. omega (arith, same, slice_get_within table (get_or heads k d).tenant _ (m.known k d within))
 
 some_smaller : (at : Turn) (table : Table) (heads : List HeadView) (weights : List ℕ) (below : ℕ) → at.worker < at.workers → Mirrors table heads → SomeIsSought at heads weights below ↔ SomeIsShort at table weights below
 some_smaller at table heads weights below lt m = (

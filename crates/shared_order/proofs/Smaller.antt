@@ -1,5 +1,6 @@
 -- The search for an eligible head with a small estimate.
-use Rattle.std.proofs.Common.{ℕ, ◌+◌, ◌-◌, ◌*◌, ◌/◌, ◌%◌, ◌<◌, ◌≤◌, ◌≡◌, ◌↔◌, min, arith, refl, sym, ◌∙◌, ap, subst, Bool, false, IsTrue, List, [], ◌∷◌, ◌++◌, length, take, drop, get_or, slice_get, slice_index_or, Option, Some, None, ℤ, pos, negsuc, unsigned_abs, ◌≤ℤ◌}
+use Rattle.std.proofs.Common.{ℕ, ◌+◌, ◌*◌, ◌<◌, ◌≤◌, ◌≡◌, ◌↔◌, min, arith, sym, ◌∙◌, ap, subst, Bool, false, IsTrue, List, [], ◌∷◌, ◌++◌, length, take, drop, get_or, slice_get, slice_index_or, inr, Option, Some, None, is_some, IfSome, IfNone, ℤ, pos, negsuc, unsigned_abs, ◌≤ℤ◌, to_z, of_z}
+use mir.Syntax.{w128}
 use Rattle.std.specs.List.{All, Contains}
 use Rattle.std.specs.Int.{int_min}
 use Rattle.std.proofs.lemmas.Int.{ints, clamps}
@@ -14,11 +15,11 @@ use Rattle.fq_model.specs.Keys.{Turn}
 use Rattle.shared_order.specs.Reach.{IsInReach}
 use Rattle.shared_order.specs.Heads.{HeadView, HeadBefore, IsSorted, greatest_length}
 use Rattle.shared_order.specs.Blocks.{all_heads}
-use Rattle.shared_order.specs.Search.{AreInRange, IsReached, IsFirstThat}
-use Rattle.shared_order.specs.Outlook.{IsWeighed, IsSought, SomeIsSought, IsLongestBelow, EndsBefore}
+use Rattle.shared_order.specs.Search.{AreInRange, IsReached, IsSooner, IsFirstThat, IsLeast}
+use Rattle.shared_order.specs.Outlook.{IsWeighed, IsSought, SomeIsSought, IsOutlookOn, IsLongestBelow, EndsBefore}
 use Rattle.shared_order.proofs.Reach.{reach_bounded}
 use Rattle.shared_order.proofs.Pieces.{back_pairs, all_back, blocks_cut, holds_middle}
-use Rattle.shared_order.proofs.Searching.{first_least, longest_covers}
+use Rattle.shared_order.proofs.Searching.{LongestRead, first_least, longest_covers, longest_low, longest_read, reads_length}
 
 -- ---- the greatest length
 
@@ -35,12 +36,19 @@ bounds_short : (len : ℤ) (w below : ℕ) → pos 0 ≤ℤ len → len ≤ℤ G
 bounds_short (pos len) w below low high weighs less = omega (arith, ints, capped len below (omega (arith, ints, high)) (short_bound len w below weighs less))
 bounds_short (negsuc len) w below low high weighs less = absurd (omega (arith, ints, low))
 
-pub longest_is : (below : ℕ) → IsLongestBelow below (pos (length_of (min below 1000000000) 1))
+longest_is : (below : ℕ) → IsLongestBelow below (pos (length_of (min below 1000000000) 1))
 longest_is below = record {
   low = omega (arith, ints);
   high = omega (arith, ints, length_high (min below 1000000000) 1 (omega arith) (omega arith));
   bounds = λ len weight low high weighs less. bounds_short len weight below low high weighs less;
 }
+
+-- as it is handed on
+pub handed_on : (below : ℕ) (z : ℤ) → IsLongestBelow below z → IsLongestBelow below (to_z w128 (of_z w128 z))
+handed_on below z l = subst (IsLongestBelow below) (sym (reads_length z l.low l.high)) l
+
+pub longest_read_back : (below : ℕ) (z : ℤ) → z ≡ pos (length_of (min below 1000000000) 1) → IsLongestBelow below (to_z w128 (of_z w128 z))
+longest_read_back below z is = handed_on below z (subst (IsLongestBelow below) (sym is) (longest_is below))
 
 -- ---- where a block tells enough
 
@@ -89,14 +97,41 @@ out_of_block at heads first longest F L result lt sorted r is at_finish at_lengt
     at_most : (x y z : ℤ) → x ≤ℤ y → x ≤ℤ z → x ≤ℤ int_min y z
     at_most x y z p q = omega (arith, ints, clamps, p, q)
 
+-- the lesser of a length and of the longest in a block, as it is read
+pub least_is : (a b z : ℤ) (heads : List HeadView) → pos 0 ≤ℤ a → a ≤ℤ GREATEST_LENGTH → b ≡ greatest_length heads → AreInRange heads → z ≡ int_min (to_z w128 (of_z w128 a)) (to_z w128 (of_z w128 b)) → z ≡ int_min a (greatest_length heads)
+least_is a b z heads low high b_is r is =
+    is ∙ (ap (λ x. int_min x (to_z w128 (of_z w128 b))) (reads_length a low high) ∙ ap (λ x. int_min a x) ((longest_read b heads b_is r).same ∙ b_is))
+
+pub least_read : (a z : ℤ) (heads : List HeadView) → pos 0 ≤ℤ a → a ≤ℤ GREATEST_LENGTH → z ≡ int_min a (greatest_length heads) → LongestRead z heads
+least_read a z heads low high is =
+    let z_low : pos 0 ≤ℤ z = at_least a (greatest_length heads) z low (longest_low heads) is in
+    let z_high : z ≤ℤ GREATEST_LENGTH = omega (arith, ints, clamps, is, high) in
+    record { low = z_low; high = z_high; same = reads_length z z_low z_high }
+  where
+    at_least : (x y z : ℤ) → pos 0 ≤ℤ x → pos 0 ≤ℤ y → z ≡ int_min x y → pos 0 ≤ℤ z
+    at_least x y z p q is = omega (arith, ints, clamps, p, q, is)
+
 -- ---- what is found
 
-pub some_found : (at : Turn) (heads : List HeadView) (weights : List ℕ) (below : ℕ) (h : HeadView) → IsFirstThat (IsSought at weights below) heads h → SomeIsSought at heads weights below
-some_found at heads weights below h f = (h, (subst (λ (xs : List HeadView). Contains xs h) (sym f.stands) (holds_middle f.front h f.back), f.passes))
-
-pub none_sought : (at : Turn) (heads : List HeadView) (weights : List ℕ) (below : ℕ) → All (λ h. ¬ IsSought at weights below h) heads → ¬ SomeIsSought at heads weights below
+none_sought : (at : Turn) (heads : List HeadView) (weights : List ℕ) (below : ℕ) → All (λ h. ¬ IsSought at weights below h) heads → ¬ SomeIsSought at heads weights below
 none_sought at heads weights below none s = All-contains (λ h. ¬ IsSought at weights below h) heads s.0 none s.1.0 s.1.1
 
--- where none is eligible none is sought
-pub none_reached : (at : Turn) (heads : List HeadView) (weights : List ℕ) (below : ℕ) → All (λ h. ¬ IsReached at h) heads → ¬ SomeIsSought at heads weights below
-none_reached at heads weights below none s = All-contains (λ h. ¬ IsReached at h) heads s.0 none s.1.0 s.1.1.0
+pub found_or_not : (at : Turn) (heads : List HeadView) (weights : List ℕ) (below : ℕ) (found : Option HeadView) (r : Bool) → r ≡ is_some found → IfSome found (IsFirstThat (IsSought at weights below) heads) → IfNone found (All (λ h. ¬ IsSought at weights below h) heads) → IsTrue r ↔ SomeIsSought at heads weights below
+found_or_not at heads weights below (Some h) r is first none = (
+  λ t. (h, (subst (λ (xs : List HeadView). Contains xs h) (sym first.stands) (holds_middle first.front h first.back), first.passes)),
+  λ s. is,
+)
+found_or_not at heads weights below None r is first none =
+    (λ t. absurd (false≢true (sym is ∙ t)), λ s. absurd (none_sought at heads weights below none s))
+
+-- where no head is eligible, the choice is not, and no head is sought
+pub none_eligible : (at : Turn) (heads : List HeadView) (weights : List ℕ) (below : ℕ) (h : HeadView) (t : ℕ) → h.tenant ≡ t → All (λ x. ¬ IsReached at x) heads → IsLeast (IsSooner at) heads h → IsOutlookOn at heads weights below (record { tenant = t; is_eligible = false; has_smaller = false })
+none_eligible at heads weights below h t is none least =
+    let there : Contains heads h = subst (λ (xs : List HeadView). Contains xs h) (sym least.stands) (holds_middle least.front h least.back) in
+    record {
+      head = h;
+      tenant_is = is;
+      chosen = inr (none, least);
+      eligible = (λ x. absurd (false≢true x), λ reached. absurd (All-contains (λ x. ¬ IsReached at x) heads h none there reached));
+      smaller = (λ x. absurd (false≢true x), λ s. absurd (All-contains (λ x. ¬ IsReached at x) heads s.0 none s.1.0 s.1.1.0));
+    }

@@ -12,7 +12,7 @@ use fq_model::config::{Checked, Policy};
 use std::alloc::{AllocError, Global};
 use std::marker::Model;
 use tag_rules::chooser::Chooser;
-use tag_rules::foresees::{Foresees, ForeseenChoice};
+use tag_rules::foresees::{ForeseenChoice, Foresees};
 use tag_rules::head_keys::Keys;
 use tag_rules::turn::Turn;
 

@@ -16,12 +16,7 @@ use vt_fixed::{cost, length};
 
 /// Foresees the worker's choice, and whether an eligible head has an estimate below this, in microseconds. `weights`
 /// has, by tenant, those by which the heads' lengths were reckoned. Where the choice is not eligible no head is.
-pub fn outlook(
-    turn: Turn,
-    blocks: &[Block],
-    below: u64,
-    weights: &[u32],
-) -> Option<ForeseenChoice>
+pub fn outlook(turn: Turn, blocks: &[Block], below: u64, weights: &[u32]) -> Option<ForeseenChoice>
     requires begun { pos 0 ≤ℤ turn.virtual_time }
     requires in_order { AreInOrder (all_heads blocks.now) }
     requires weights { All IsWeight weights.now }
@@ -138,5 +133,6 @@ fn is_sought(turn: Turn, head: Head, below: u64, weights: &[u32]) -> bool
     requires weighed { IsWeighed weights.now head }
     ensures { IsTrue result ↔ IsSought turn weights.now below head }
 {
-    cost(head.len, weights[head.tenant as usize]) < below && is_in_reach(turn, head.finish, head.len)
+    cost(head.len, weights[head.tenant as usize]) < below
+        && is_in_reach(turn, head.finish, head.len)
 }
