@@ -291,12 +291,16 @@ module _ {J X : Type 0} (label : J → ℕ) (seen : X → ChooserView) (C : Conf
     pub known : t < length C.weights
     pub is_head : head P t ≡ Some keys.request
 
+  pub turns_for : (t : ℕ) (z : ℤ) → z ≡ pos (virtual_time C P m) → IsTableChoice (seen k.chooser).setting (seen k.chooser).table w z t → Turns t
+  turns_for t z at chosen =
+      let x = choice_is C P m (seen k.chooser) old.mirrors.legal old.chooser_is w t z at chosen in
+      let keys_are = choice_head C P m w t x.0 x.1 in
+      record { keys = x.0; choice = x.1; known = keys_tenant_known C P m t x.0 old.mirrors.legal keys_are; is_head = (keys_head C P m t x.0 keys_are).1 }
+
   pub turns : (o : Option ℕ) (t : ℕ) (z : ℤ) → z ≡ pos (virtual_time C P m) → o ≡ Some t → IfSome o (IsTableChoice (seen k.chooser).setting (seen k.chooser).table w z) → Turns t
   turns (Some u) t z at same chosen =
       let e : u ≡ t = cc in
-      let x = choice_is C P m (seen k.chooser) old.mirrors.legal old.chooser_is w t z at (subst (IsTableChoice (seen k.chooser).setting (seen k.chooser).table w z) e chosen) in
-      let keys_are = choice_head C P m w t x.0 x.1 in
-      record { keys = x.0; choice = x.1; known = keys_tenant_known C P m t x.0 old.mirrors.legal keys_are; is_head = (keys_head C P m t x.0 keys_are).1 }
+      turns_for t z at (subst (IsTableChoice (seen k.chooser).setting (seen k.chooser).table w z) e chosen)
   turns None t z at same chosen = absurd (cc)
 
   -- its list is not empty
