@@ -1,7 +1,11 @@
 -- The foreseen take of a worker.
-use Rattle.std.proofs.Common.{ℕ, ◌<◌, ◌≡◌, ◌≢◌, ◌↔◌, Bool, true, false, nat_le, arith, refl, sym, ◌∙◌, ap, subst, length, List, Option, Some, None, ℤ, pos, unsigned_abs}
+use Rattle.std.proofs.Common.{ℕ, ◌<◌, ◌≡◌, ◌≢◌, ◌↔◌, Bool, true, false, nat_le, arith, refl, sym, ◌∙◌, ap, subst, length, List, Option, Some, None, ℤ, pos, unsigned_abs, ◌≤ℤ◌}
 use Rattle.std.specs.Prelude.{IsTrue, IsSome, option_copied, ◌==◌, if◌then◌else◌, MatchBool, All, slice_index_or}
 use Rattle.std.specs.Borrow.{Bor}
+use Rattle.std.specs.Int.{w128}
+use mir.Val.{to_z, of_z}
+use Rattle.std.proofs.lemmas.Int.{ints}
+use Rattle.fq_model.specs.declared.limits.TheConstants.{GREATEST_VIRTUAL_TIME}
 use Rattle.std.proofs.lemmas.Bool.{ne_eqb}
 use Rattle.std.proofs.lemmas.Bool.Decides.{nat_tests}
 use Rattle.vt_fixed.specs.Rounding.{length_of, cost_of}
@@ -115,8 +119,9 @@ module _ (C : Config) (P : History) (m i : ℕ) (x : ChooserView) (v : ℤ) (l :
   some_foreseen weights below None some found = absurd (some (nothing_waits C P m x l is found))
 
   -- the same heads are eligible
-  pub same_eligible : (b : Bool) (k : HeadKeys) → (IsTrue b ↔ IsEligible (turn_of x.setting i v) k) → IsTrue b ↔ IsEligible (turn_at C P m i) k
-  same_eligible b k h = subst (λ (turn : Turn). IsTrue b ↔ IsEligible turn k) (same_turn C P m x l is i v at) h
+  pub same_eligible : (b : Bool) (k known : HeadKeys) → known ≡ k → (IsTrue b ↔ IsEligible (turn_of x.setting i v) k) → IsTrue b ↔ IsEligible (turn_at C P m i) known
+  same_eligible b k known e h =
+      subst (λ (turn : Turn). IsTrue b ↔ IsEligible turn known) (same_turn C P m x l is i v at) (subst (λ (keys : HeadKeys). IsTrue b ↔ IsEligible (turn_of x.setting i v) keys) (sym e) h)
 
   module _ (weights : List ℕ) (below : ℕ) (are : WeightsAre C P weights) (weigh : All IsWeight weights) where
     -- a length by the weight of its tenant tells the estimate
@@ -146,6 +151,10 @@ module _ (C : Config) (P : History) (m i : ℕ) (x : ChooserView) (v : ℤ) (l :
       record { tenant = s.tenant; keys = s.keys; has = has; eligible = subst (λ (turn : Turn). IsEligible turn s.keys) (same_turn C P m x l is i v at) s.eligible; smaller = short_below s.tenant s.keys has s.smaller },
       λ s. h.1 (record { tenant = s.tenant; keys = s.keys; has = keys_have C P m x l is s.tenant s.keys s.has; eligible = subst (λ (turn : Turn). IsEligible turn s.keys) (sym (same_turn C P m x l is i v at)) s.eligible; smaller = below_short s.tenant s.keys s.has s.smaller }),
     )
+
+-- virtual time, as it is handed on
+pub time_read : (z : ℤ) (n : ℕ) → z ≡ pos n → pos 0 ≤ℤ z → z ≤ℤ GREATEST_VIRTUAL_TIME → to_z w128 (of_z w128 z) ≡ pos n
+time_read z n is low high = let back : to_z w128 (of_z w128 z) ≡ z = omega (arith, ints, low, high) in back ∙ is
 
 -- a reference to an item is there where the item is
 pub has_copied : {A : Type 0} (o : Option (Bor A)) → IsSome (option_copied o) → IsSome o
