@@ -13,21 +13,20 @@ use Rattle.vt_fixed.proofs.Bounds.{cost_back}
 use Rattle.fq_model.specs.declared.config.Config.{Config}
 use Rattle.fq_model.specs.declared.event.Cause.{Cause}
 use Rattle.fq_model.specs.declared.event.Cause.TheVariants as cause
-use Rattle.fq_model.specs.declared.event.Foreseen.{Foreseen}
 use Rattle.fq_model.specs.declared.event.Foreseen.TheVariants as foreseen
 use Rattle.fq_model.specs.declared.event.ForeseenRun.{ForeseenRun}
 use Rattle.fq_model.specs.declared.event.Reply.TheVariants as answer
 use Rattle.fq_model.specs.Foresee.{IsBelow, HasSmaller, IsForeseenRun, IsForeseenOfWaiting, IsForeseenPooled, IsForeseenFree, ForeseenUnless, IsForeseen}
 use Rattle.fq_model.specs.Limits.{IsWeight}
 use Rattle.fq_model.specs.Charge.{request_estimate}
-use Rattle.fq_model.specs.History.{History, Request, request_at, waiting, is_closed, weight_at, pool_at}
+use Rattle.fq_model.specs.History.{History, Request, waiting, is_closed, pool_at}
 use Rattle.fq_model.specs.Keys.{HeadKeys, head_keys, HasKeys, turn_at, IsEligible, Turn}
 use Rattle.fq_model.specs.Rules.{IsLegal, IsAnswered, RunsChosen, AnswersPooled, AnswersFree, RefusedOrElse, take_refusal}
 use Rattle.fq_model.specs.Time.{effective_moment}
 use Rattle.fq_model.specs.Pace.{virtual_time}
 use Rattle.fq_laws.proofs.Keys.Choices.{keys_tenant_known}
 use Rattle.fq_laws.proofs.Rules.Takes.{keys_head}
-use Rattle.tag_rules.specs.Tables.{Has, NoneHas, ChooserView, turn_of}
+use Rattle.tag_rules.specs.Tables.{ChooserView, turn_of}
 use Rattle.tag_rules.specs.Foreseen.{IsShort, SomeIsShort, IsForeseenOver}
 use Rattle.tag_rules.specs.declared.foresees.ForeseenChoice.{ForeseenChoice}
 use Rattle.virtual_clock.specs.Histories.{WeightsAre}
@@ -147,8 +146,8 @@ module _ (C : Config) (P : History) (m i : ℕ) (x : ChooserView) (v : ℤ) (l :
     pub same_smaller : (b : Bool) → (IsTrue b ↔ SomeIsShort (turn_of x.setting i v) x.table weights below) → IsTrue b ↔ HasSmaller C P m i below
     same_smaller b h = (
       λ t. let s = h.0 t in
-      let has = has_keys C P m x l is s.tenant s.keys s.has in
-      record { tenant = s.tenant; keys = s.keys; has = has; eligible = subst (λ (turn : Turn). IsEligible turn s.keys) (same_turn C P m x l is i v at) s.eligible; smaller = short_below s.tenant s.keys has s.smaller },
+          let has = has_keys C P m x l is s.tenant s.keys s.has in
+          record { tenant = s.tenant; keys = s.keys; has = has; eligible = subst (λ (turn : Turn). IsEligible turn s.keys) (same_turn C P m x l is i v at) s.eligible; smaller = short_below s.tenant s.keys has s.smaller },
       λ s. h.1 (record { tenant = s.tenant; keys = s.keys; has = keys_have C P m x l is s.tenant s.keys s.has; eligible = subst (λ (turn : Turn). IsEligible turn s.keys) (sym (same_turn C P m x l is i v at)) s.eligible; smaller = below_short s.tenant s.keys s.has s.smaller }),
     )
 

@@ -258,9 +258,7 @@ impl<J: Job + Drop, X: Foresees> Tracker<J, X> {
         let weights = self.times.weights();
         let choice = self.chooser.foresee(worker, v, below, weights).unwrap();
         let item = self.lists.head(choice.tenant).unwrap();
-        let estimate = self
-            .costs
-            .now(choice.tenant, item.kind, item.declared);
+        let estimate = self.costs.now(choice.tenant, item.kind, item.declared);
         ForeseenRun {
             request: item.request,
             tenant: choice.tenant,
