@@ -18,7 +18,7 @@ use Rattle.fq_model.specs.Time.{last_moment, virtual_idle_time}
 use Rattle.fq_model.specs.Pace.{virtual_time}
 use Rattle.fq_model.specs.Limits.{InLimits}
 use Rattle.fq_model.specs.Charge.{virtual_charge, completed, estimate_at}
-use Rattle.fq_model.specs.Keys.{HeadKeys, head_keys as head_keys_of, keys_at, start, start_for, tag, IsChoiceAt}
+use Rattle.fq_model.specs.Keys.{HeadKeys, head_keys as head_keys_of, keys_at, start, start_for, tag, IsChoice, IsChoiceAt}
 use Rattle.fq_model.specs.Rules.{IsLegal, IsChosen, take_refusal}
 use Rattle.fq_laws.specs.Words.{one_more, is_quiet}
 use Rattle.fq_laws.specs.Steps.{Submits, Passes, Ends}
@@ -36,7 +36,7 @@ use Rattle.charge_book.specs.declared.row.RunRow.{RunRow}
 use Rattle.charge_book.specs.Book.{row_of_run, begun, reported, report_change, finished, finish_change}
 use Rattle.charge_book.proofs.Steps.{book_submit, book_withdraw, book_quiet}
 use Rattle.tag_rules.proofs.AccountSteps.{accounts_withdraw, accounts_quiet, tag_is_sum}
-use Rattle.tag_rules.specs.Tables.{ChooserView, Setting, setting_at, with_workers, resized, NoneHas, IsTableChoice, asked_at}
+use Rattle.tag_rules.specs.Tables.{ChooserView, Setting, setting_at, with_workers, resized, Has, NoneHas, turn_of, IsTableChoice, asked_at}
 use Rattle.tag_rules.specs.Accounts.{AccountsView, AccountsAre, charge_of, base_of, raised, charged}
 use Rattle.virtual_clock.specs.declared.times.Times.{Times}
 use Rattle.virtual_clock.specs.Histories.{TimesAre, TimesAt, ComesTo, TakesChoice, IsTimeOf, IsWeightOf}
@@ -48,7 +48,7 @@ use Rattle.sched_state.specs.Tracker.{Mirrors, Tracks, TracksBut, TracksSomeBut,
 use Rattle.sched_state.proofs.ListLemmas.{item_head, no_item_head, first_is, lists_report, lists_done, lists_quiet, pushed, taken, removed_asked, withdrawn}
 use Rattle.sched_state.proofs.CostLemmas.{costs_stay, completed_quiet}
 use Rattle.sched_state.proofs.ChargeLemmas.{accounts_submit, step_accounts, BeginStep, ReportStep, FinishStep}
-use Rattle.sched_state.proofs.KeyLemmas.{keys_of_others, setting_stays, latest_at, choice_is, nothing_waits}
+use Rattle.sched_state.proofs.KeyLemmas.{keys_of_others, setting_stays, latest_at, choice_of, nothing_waits}
 
 -- ---- where a tenant starts
 
@@ -295,12 +295,17 @@ module _ {J X : Type 0} (label : J → ℕ) (seen : X → ChooserView) (C : Conf
     pub known : t < length C.weights
     pub is_head : head P t ≡ Some keys.request
 
+  pub turns_with : (t : ℕ) (z : ℤ) (keys : HeadKeys) → z ≡ pos (virtual_time C P m) → IsChoice (turn_of (seen k.chooser).setting w z) (Has (seen k.chooser).table) t keys → Turns t
+  turns_with t z keys at chosen =
+      let choice : IsChoiceAt C P m w t keys = choice_of C P m (seen k.chooser) old.mirrors.legal old.chooser_is w t z keys at chosen in
+      let keys_are = choice_head C P m w t keys choice in
+      record { keys = keys; choice = choice; known = keys_tenant_known C P m t keys old.mirrors.legal keys_are; is_head = (keys_head C P m t keys keys_are).1 }
+
   pub turns : (o : Option ℕ) (t : ℕ) (z : ℤ) → z ≡ pos (virtual_time C P m) → o ≡ Some t → IfSome o (IsTableChoice (seen k.chooser).setting (seen k.chooser).table w z) → Turns t
   turns (Some u) t z at same chosen =
       let e : u ≡ t = cc in
-      let x = choice_is C P m (seen k.chooser) old.mirrors.legal old.chooser_is w t z at (subst (IsTableChoice (seen k.chooser).setting (seen k.chooser).table w z) e chosen) in
-      let keys_are = choice_head C P m w t x.0 x.1 in
-      record { keys = x.0; choice = x.1; known = keys_tenant_known C P m t x.0 old.mirrors.legal keys_are; is_head = (keys_head C P m t x.0 keys_are).1 }
+      let x : IsTableChoice (seen k.chooser).setting (seen k.chooser).table w z t = subst (IsTableChoice (seen k.chooser).setting (seen k.chooser).table w z) e chosen in
+      turns_with t z x.0 at x.1
   turns None t z at same chosen = absurd (cc)
 
   -- its list is not empty
@@ -313,6 +318,11 @@ module _ {J X : Type 0} (label : J → ℕ) (seen : X → ChooserView) (C : Conf
   item_chosen t estimate i x top costs =
       let number : Some i.request ≡ Some x.keys.request = sym (is_head label C P t k old.mirrors x.known i top) ∙ x.is_head in
       record { tenant = t; keys = x.keys; choice = x.choice; request_is = cc; asked = was_asked label C P t k old.mirrors x.known i top; estimate_is = costs }
+
+  -- by the keys of the choice
+  pub chosen_keys : (t estimate : ℕ) (i : Item J) (z : ℤ) (keys : HeadKeys) (at : z ≡ pos (virtual_time C P m)) (chosen : IsChoice (turn_of (seen k.chooser).setting w z) (Has (seen k.chooser).table) t keys) (top : slice_get (lists.list_of k.lists t) 0 ≡ Some i) (costs : estimate ≡ estimate_at C P t i.kind i.declared) → (item_chosen t estimate i (turns_with t z keys at chosen) top costs).keys ≡ keys
+  unfolding turns_with item_chosen
+  chosen_keys t estimate i z keys at chosen top costs = refl
 
   pub legal_take : (who t estimate : ℕ) (i : Item J) → IsChosen C P m w i.request estimate (record { tenant = t; kind = i.kind; declared = i.declared; label = label i.job }) → IsLegal C (one_more who m (Take w i.request estimate) P)
   legal_take who t estimate i chosen = (old.mirrors.legal, later, in_range, record { worker_known = pooled; free = take_free C P w old.mirrors.legal free; asked = _; chosen = chosen })
