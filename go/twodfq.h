@@ -1,7 +1,8 @@
 /* A request scheduler that shares workers fairly among tenants (Two-Dimensional Fair Queuing, Mace and others, 2016).
 
    Every function is proved to keep its promise, which stands at its declaration, for all arguments; only version and
-   messages are not. The caller keeps these rules, which no proof can see:
+   messages are not, and that memory is taken at the opening alone is tested. The caller keeps these rules, which no
+   proof can see:
    - a handle begins as TWODFQ_NONE, nobody else writes its fields, and of a handle and its copies only one is used;
    - pointers are valid: to a handle, to an opening, and to one weight a tenant (with no tenant, to anything but null);
    - one call at a time is made on a handle: where threads share it, each call is made under one lock, the caller's own.
