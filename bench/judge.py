@@ -7,9 +7,9 @@ import collections
 # Steps of virtual time in a unit, the greatest moment and the greatest cost, both in microseconds.
 UNIT, GREATEST_MOMENT, GREATEST_COST = 1 << 20, 10**15, 10**9
 
-# The rules of 2dfq+ by name: virtual time never passes the greatest finish at which a request was taken; a take makes it at
-# least the eligible key of its request; and a submit that finds none of its tenant's requests waiting raises the tag to it.
-# (A tenant that lingers counts under 2dfq+ whatever the rules are.)
+# The rules that keep leads short under 2dfq+, by name: virtual time never passes the greatest finish at which a request was taken;
+# a take makes it at least the eligible key of its request; and a submit that finds none of its tenant's requests waiting raises the
+# tag to it. (With any of them a tenant that lingers counts in the rate of virtual time.)
 RULES = ("cap", "lift", "raise")
 
 Config = collections.namedtuple("Config", "workers policy estimate initial entries requests")
