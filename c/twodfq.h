@@ -133,7 +133,8 @@ twodfq_reply twodfq_take(twodfq *handle, uint32_t who, uint64_t moment, uint32_t
 /* The worker names the use of its request so far; it runs on. Refused: WORKER, NOT_RUNNING, COST, FALLING, FULL. */
 twodfq_reply twodfq_report(twodfq *handle, uint32_t who, uint64_t moment, uint32_t worker, uint64_t used);
 
-/* The worker's request has ended, and this is its measured cost. Refused: WORKER, NOT_RUNNING, COST, FALLING. */
+/* The worker's request has ended, and this is its measured cost. A tenant whose requests cost 0 may be taken for ever
+   while others wait, so count at least 1. Refused: WORKER, NOT_RUNNING, COST, FALLING. */
 twodfq_reply twodfq_done(twodfq *handle, uint32_t who, uint64_t moment, uint32_t worker, uint64_t cost);
 
 /* Nothing more is submitted; workers that sleep have to be woken to learn it. Refused: CLOSED. */
