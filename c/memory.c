@@ -1,5 +1,5 @@
 // The memory that the scheduler takes, by a heap that counts: all at the opening, under each policy and estimator and
-// whatever is called; each block given back; and a status, with nothing lost, where any of the blocks is wanting. It
+// whatever is called; each block given back; and a status, with nothing lost, if any of the blocks is wanting. It
 // defines the functions of the heap itself, in place of heap.c.
 #include <malloc.h>
 #include <stdio.h>

@@ -1,6 +1,6 @@
 //! `twodfq script` under `2dfq` or `2dfq+` and `pessimistic`, for scripts of the first version, in ordinary Rust without contracts:
 //! the same design, and memory that never runs out. With the argument `journal` it prints the journal in place of the replies. With
-//! the arguments `run`, `journal` or `report`, a number of workers, and `2dfq+` where it is not to be `2dfq`, it works like
+//! the arguments `run`, `journal` or `report`, a number of workers, and `2dfq+` if it is not to be `2dfq`, it works like
 //! `twodfq run` on a trace. `bench/run` measures the program against it.
 mod entry;
 mod pace;
