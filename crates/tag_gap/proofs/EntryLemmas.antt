@@ -1,5 +1,5 @@
 -- The state that is kept of a history, one entry on, and the starts of its tenants.
-use Rattle.std.proofs.Common.{ℕ, ◌+◌, ◌<◌, ◌≡◌, ◌≢◌, ◌⊎◌, ◌∙◌, ◌&&◌, true, false, Bool, refl, ap, sym, subst, arith, inl, inr, List, ◌∷◌, length, Some, None, ℤ, pos, get_or, ◌-ℤ◌}
+use Rattle.std.proofs.Common.{ℕ, ◌+◌, ◌<◌, ◌≡◌, ◌≢◌, ◌⊎◌, ◌∙◌, ◌&&◌, true, false, Bool, refl, ap, sym, subst, arith, inl, inr, List, ◌∷◌, length, Some, None, ℤ, pos, get_or, ◌+ℤ◌, ◌-ℤ◌}
 use Rattle.std.specs.Prelude.{slice_index, slice_get, is_some, if◌then◌else◌}
 use Rattle.std.proofs.lemmas.Bool.{eq-eqb}
 use Rattle.std.proofs.lemmas.Option.{get_or_from_slice_get, slice_get_within}
@@ -16,15 +16,16 @@ use Rattle.fq_model.specs.Keys.{tag, start}
 use Rattle.fq_model.specs.Pace.{tag_base, is_submit_for}
 use Rattle.fq_model.specs.Rules.{Fits, FitsTake, FitsUse}
 use Rattle.fq_model.specs.Gap.{is_shared, start_difference}
-use Rattle.fq_laws.specs.Steps.{Awaits, Follows, Submits, Ends, Reweighs, Staffs}
+use Rattle.fq_laws.specs.Steps.{Awaits, Follows, Submits, is_passing, Passes, Ends, Reweighs, Staffs}
 use Rattle.fq_laws.proofs.History.Queues.{head_is_first}
 use Rattle.fq_laws.proofs.History.Asked.{waits_submitted, submitted_known}
-use Rattle.fq_laws.proofs.History.Requests.{use_known}
+use Rattle.fq_laws.proofs.History.Requests.{request_known, use_known}
 use Rattle.fq_laws.proofs.Keys.Pace.{base_step}
-use Rattle.virtual_clock.specs.Histories.{TimesAre, ComesTo}
-use Rattle.virtual_clock.proofs.TimeSteps.{times_pass}
+use Rattle.virtual_clock.specs.Histories.{TimesAre, AwaitsEnd, FollowsEnd}
 use Rattle.gap_laws.specs.Words.{HasDeclaredCosts, taken_length}
 use Rattle.gap_laws.proofs.Declared.{all_are_declared, charge_step}
+use Rattle.tag_rules.specs.Accounts.{AccountsView, AccountsAre, charge_of, base_of}
+use Rattle.tag_rules.proofs.AccountSteps.{tag_is_sum}
 use Rattle.tag_gap.specs.declared.asked.Asked.{Asked}
 use Rattle.tag_gap.specs.declared.reading.Reading.{Reading}
 use Rattle.tag_gap.specs.Asked.{asked_of}
@@ -59,30 +60,34 @@ pub record SameRest (k n : Reading) : Type 0 where
   pub accounts : n.accounts ≡ k.accounts
   pub waiting : n.waiting ≡ k.waiting
 
--- where all is as declared, it leaves charges and waiting requests as they are
+-- where all is as declared, it leaves the accounts
+steady_accounts : (C : Config) (P : History) (e : Entry) (a : AccountsView) → is_steady e.act ≡ true → HasDeclaredCosts C (e ∷ P) → AccountsAre C P a → AccountsAre C (e ∷ P) a
+steady_accounts C P e a steady h is = record {
+  charges_sized = is.charges_sized;
+  bases_sized = is.bases_sized;
+  charges_are = λ u b. is.charges_are u b ∙ ap pos (sym (charges u));
+  bases_are = λ u b. is.bases_are u b ∙ ap pos (sym (bases u));
+}
+  where
+    charges : (u : ℕ) → virtual_charge C (e ∷ P) u ≡ virtual_charge C P u
+    charges u = let s = steady_at C P u e.act steady in omega (arith, charge_step C P e u h.limits h.legal (all_are_declared C (e ∷ P) h), s.no_length)
+
+    bases : (u : ℕ) → tag_base C (e ∷ P) u ≡ tag_base C P u
+    bases u = let s = steady_at C P u e.act steady in base_step C P e u ∙ rw s.no_submit refl
+
+-- and the waiting requests
 steady_keeps : (C : Config) (P : History) (e : Entry) (k n : Reading) → is_steady e.act ≡ true → HasDeclaredCosts C (e ∷ P) → TimesAre C (e ∷ P) n.times → SameRest k n → Keeps C P k → Keeps C (e ∷ P) n
-steady_keeps C P e k n steady h times same is =
-    let charges : (u : ℕ) → virtual_charge C (e ∷ P) u ≡ virtual_charge C P u = λ u. (
-    let s = steady_at C P u e.act steady in
-    omega (arith, charge_step C P e u h.limits h.legal (all_are_declared C (e ∷ P) h), s.no_length)
-    ) in
-    let bases : (u : ℕ) → tag_base C (e ∷ P) u ≡ tag_base C P u = λ u. (let s = steady_at C P u e.act steady in base_step C P e u ∙ rw s.no_submit refl) in
-    record {
-      limits = h.limits;
-      legal = h.legal;
-      policy_is = same.policy ∙ is.policy_is;
-      times_are = times;
-      accounts_are = rw same.accounts (record {
-        charges_sized = is.accounts_are.charges_sized;
-        bases_sized = is.accounts_are.bases_sized;
-        charges_are = λ u b. is.accounts_are.charges_are u b ∙ ap pos (sym (charges u));
-        bases_are = λ u b. is.accounts_are.bases_are u b ∙ ap pos (sym (bases u));
-      });
-      waiting_are = rw same.waiting (record {
-        tenants = is.waiting_are.tenants;
-        each = λ u b. is.waiting_are.each u b ∙ ap length (sym (steady_at C P u e.act steady).same_queue);
-      });
-    }
+steady_keeps C P e k n steady h times same is = record {
+  limits = h.limits;
+  legal = h.legal;
+  policy_is = same.policy ∙ is.policy_is;
+  times_are = times;
+  accounts_are = rw same.accounts (steady_accounts C P e k.accounts steady h is.accounts_are);
+  waiting_are = rw same.waiting (record {
+    tenants = is.waiting_are.tenants;
+    each = λ u b. is.waiting_are.each u b ∙ ap length (sym (steady_at C P u e.act steady).same_queue);
+  });
+}
 
 -- ---- one entry
 
@@ -124,6 +129,13 @@ module _ (C : Config) (P : History) (asked : List Asked) (e : Entry) (may : MayC
   completes_is : (w r cost : ℕ) → e.act ≡ Done w r cost → Ends e.moment (asked_at asked r).tenant P e
   completes_is w r cost act = let x = done_at w r cost act in record { request = r; asked = x.what; moment_is = refl; ends = rw act (eq-eqb r r refl); asked_is = x.was; tenant_is = x.tenant_is }
 
+  known_tenant : (w r cost : ℕ) → e.act ≡ Done w r cost → (asked_at asked r).tenant < length C.weights
+  known_tenant w r cost act = let x = done_at w r cost act in subst (λ (t : ℕ). t < length C.weights) x.tenant_is (request_known C P r x.what may.costs.legal.0 x.was).tenant_known
+
+  -- after a Done the tag of the tenant is that of the accounts
+  tag_done : (w r cost t : ℕ) (a : AccountsView) (start_at : ℤ) → e.act ≡ Done w r cost → t < length C.weights → AccountsAre C P a → start_at ≡ charge_of a t +ℤ base_of a t → start_at ≡ pos (tag C (e ∷ P) t)
+  tag_done w r cost t a start_at act known is tagged = tagged ∙ tag_is_sum C (e ∷ P) a t known (steady_accounts C P e a (rw act refl) may.costs is)
+
   withdrawn_at : (r : ℕ) → e.act ≡ Withdraw r → KnownAt P asked r
   withdrawn_at r act =
       let w : is_waiting P r ≡ true = subst (Fits C P e.moment) act may.costs.legal.3 in
@@ -137,8 +149,21 @@ module _ (C : Config) (P : History) (asked : List Asked) (e : Entry) (may : MayC
 pub done_within : (asked : List Asked) (e : Entry) (k : Reading) (w r cost : ℕ) → AwaitsEntry asked e k → e.act ≡ Done w r cost → r < length asked
 done_within asked e k w r cost a act = (done_at a.config a.history asked e a.comes w r cost act).within
 
-pub awaits_done : (asked : List Asked) (e : Entry) (k : Reading) (w r cost : ℕ) → AwaitsEntry asked e k → e.act ≡ Done w r cost → Awaits TimesAre (Ends e.moment (asked_at asked r).tenant) k.times
-awaits_done asked e k w r cost a act = record { config = a.config; history = a.history; entry = e; limits = a.keeps.limits; legal = a.comes.costs.legal; comes = completes_is a.config a.history asked e a.comes w r cost act; kept_is = a.keeps.times_are }
+pub done_known : (asked : List Asked) (e : Entry) (k : Reading) (w r cost : ℕ) → AwaitsEntry asked e k → e.act ≡ Done w r cost → (asked_at asked r).tenant < length k.accounts.charges
+done_known asked e k w r cost a act = omega (arith, known_tenant a.config a.history asked e a.comes w r cost act, a.keeps.accounts_are.charges_sized)
+
+pub awaits_done : (asked : List Asked) (e : Entry) (k : Reading) (w r cost : ℕ) (start_at : ℤ) → AwaitsEntry asked e k → e.act ≡ Done w r cost → start_at ≡ charge_of k.accounts (asked_at asked r).tenant +ℤ base_of k.accounts (asked_at asked r).tenant → AwaitsEnd k.policy e.moment (asked_at asked r).tenant start_at k.times
+awaits_done asked e k w r cost start_at a act tagged = record {
+  config = a.config;
+  history = a.history;
+  entry = e;
+  policy_is = a.keeps.policy_is;
+  limits = a.keeps.limits;
+  legal = a.comes.costs.legal;
+  ends = completes_is a.config a.history asked e a.comes w r cost act;
+  starts = λ plus. tag_done a.config a.history asked e a.comes w r cost (asked_at asked r).tenant k.accounts start_at act (known_tenant a.config a.history asked e a.comes w r cost act) a.keeps.accounts_are tagged;
+  times_are = a.keeps.times_are;
+}
 
 -- and at a Withdraw
 pub withdraw_within : (asked : List Asked) (e : Entry) (k : Reading) (r : ℕ) → AwaitsEntry asked e k → e.act ≡ Withdraw r → r < length asked
@@ -154,12 +179,27 @@ read_submit asked e k n r t kind declared label act f = λ C P may is. f C P e i
 pub read_take : (asked : List Asked) (e : Entry) (k n : Reading) (w r estimate : ℕ) → e.act ≡ Take w r estimate → Follows Keeps (Takes e.moment w (asked_at asked r).tenant estimate) k n → FollowsEntry asked e k n
 read_take asked e k n w r estimate act f = λ C P may is. f C P e is.limits may.costs.legal (takes_is C P asked e may w r estimate act) is
 
-pub read_pass : (asked : List Asked) (e : Entry) (k n : Reading) → ((w : ℕ) × (r : ℕ) × (used : ℕ) × (e.act ≡ Report w r used)) ⊎ (e.act ≡ Close) → ComesTo e.moment k.times n.times → SameRest k n → FollowsEntry asked e k n
-read_pass asked e k n (inl x) f same = λ C P may is. steady_keeps C P e k n (rw x.3 refl) may.costs (times_pass C P e n.times (rw x.3 refl) (rw x.3 refl) (f C P is.limits may.costs.legal.0 is.times_are)) same is
-read_pass asked e k n (inr act) f same = λ C P may is. steady_keeps C P e k n (rw act refl) may.costs (times_pass C P e n.times (rw act refl) (rw act refl) (f C P is.limits may.costs.legal.0 is.times_are)) same is
+-- a Report and a Close pass
+pub is_passed : (e : Entry) → ((w : ℕ) × (r : ℕ) × (used : ℕ) × (e.act ≡ Report w r used)) ⊎ (e.act ≡ Close) → is_passing e.act ≡ true
+is_passed e (inl x) = rw x.3 refl
+is_passed e (inr act) = rw act refl
 
-pub read_done : (asked : List Asked) (e : Entry) (k n : Reading) (w r cost : ℕ) → e.act ≡ Done w r cost → Follows TimesAre (Ends e.moment (asked_at asked r).tenant) k.times n.times → SameRest k n → FollowsEntry asked e k n
-read_done asked e k n w r cost act f same = λ C P may is. steady_keeps C P e k n (rw act refl) may.costs (f C P e is.limits may.costs.legal (completes_is C P asked e may w r cost act) is.times_are) same is
+passed_steady : (a : Act) → is_passing a ≡ true → is_steady a ≡ true
+passed_steady (Report worker request used) h = refl
+passed_steady Close h = refl
+passed_steady _ h = absurd (cc)
+
+pub awaits_pass : (asked : List Asked) (e : Entry) (k : Reading) → AwaitsEntry asked e k → is_passing e.act ≡ true → Awaits TimesAre (Passes e.moment) k.times
+awaits_pass asked e k a passing = record { config = a.config; history = a.history; entry = e; limits = a.keeps.limits; legal = a.comes.costs.legal; comes = record { moment_is = refl; passes = passing }; kept_is = a.keeps.times_are }
+
+pub read_pass : (asked : List Asked) (e : Entry) (k n : Reading) → is_passing e.act ≡ true → Follows TimesAre (Passes e.moment) k.times n.times → SameRest k n → FollowsEntry asked e k n
+read_pass asked e k n passing f same = λ C P may is. steady_keeps C P e k n (passed_steady e.act passing) may.costs (f C P e is.limits may.costs.legal (record { moment_is = refl; passes = passing }) is.times_are) same is
+
+pub read_done : (asked : List Asked) (e : Entry) (k n : Reading) (w r cost : ℕ) (start_at : ℤ) → e.act ≡ Done w r cost → start_at ≡ charge_of k.accounts (asked_at asked r).tenant +ℤ base_of k.accounts (asked_at asked r).tenant → FollowsEnd k.policy e.moment (asked_at asked r).tenant start_at k.times n.times → SameRest k n → FollowsEntry asked e k n
+read_done asked e k n w r cost start_at act tagged f same = λ C P may is.
+    let known = known_tenant C P asked e may w r cost act in
+    steady_keeps C P e k n (rw act refl) may.costs
+    (f C P e is.policy_is is.limits may.costs.legal (completes_is C P asked e may w r cost act) (λ plus. tag_done C P asked e may w r cost (asked_at asked r).tenant k.accounts start_at act known is.accounts_are tagged) is.times_are) same is
 
 pub read_weight : (asked : List Asked) (e : Entry) (k n : Reading) (t weight : ℕ) → e.act ≡ Weight t weight → Follows TimesAre (Reweighs e.moment t weight) k.times n.times → SameRest k n → FollowsEntry asked e k n
 read_weight asked e k n t weight act f same = λ C P may is. steady_keeps C P e k n (rw act refl) may.costs (f C P e is.limits may.costs.legal (record { moment_is = refl; act_is = act }) is.times_are) same is

@@ -30,9 +30,9 @@ use Rattle.fq_laws.proofs.Rules.Limits.{length_entries}
 use Rattle.fq_laws.proofs.Keys.Choices.{KeysOf, keys_of}
 use Rattle.fq_laws.proofs.Keys.Pace.{virtual_time_step}
 use Rattle.virtual_clock.specs.declared.times.Times.{Times}
-use Rattle.virtual_clock.specs.Histories.{TimesAt, TimesAre, ComesTo, TakesChoice, AwaitsTake, FollowsTake, IsTimeOf, IsWeightOf}
+use Rattle.virtual_clock.specs.Histories.{TimesAt, TimesAre, ComesTo, TakesChoice, AwaitsTake, FollowsTake, AwaitsEnd, FollowsEnd, IsTimeOf, IsWeightOf}
 use Rattle.virtual_clock.proofs.Opening.{passes, submits_open}
-use Rattle.virtual_clock.proofs.TimeSteps.{times_take}
+use Rattle.virtual_clock.proofs.TakeSteps.{times_take}
 use Rattle.tag_rules.specs.Accounts.{AccountsView, AccountsAre, IsCharge, at_first, charge_of, base_of, charged}
 use Rattle.tag_rules.proofs.AccountSteps.{accounts_nil, accounts_raise, accounts_leave, accounts_charge, accounts_withdraw, may_charge, tag_is_sum}
 use Rattle.tag_gap.specs.declared.reading.Reading.{Reading}
@@ -350,23 +350,40 @@ withdraw_step C P e m t l s =
 withdraw_ends : (P : History) (e : Entry) (m t : ℕ) → Withdraws m t P e → Ends m t P e
 withdraw_ends P e m t s = record { request = s.request; asked = s.asked; moment_is = s.moment_is; ends = rw s.act_is (eq-eqb s.request s.request refl); asked_is = s.asked_is; tenant_is = s.tenant_is }
 
-pub awaits_end : (m t : ℕ) (k : Reading) → Awaits Keeps (Withdraws m t) k → Awaits TimesAre (Ends m t) k.times
-awaits_end m t k a = record { config = a.config; history = a.history; entry = a.entry; limits = a.limits; legal = a.legal; comes = withdraw_ends a.history a.entry m t a.comes; kept_is = a.kept_is.times_are }
+-- after it the tag of the tenant is that of the accounts, which it leaves
+tag_withdrawn : (C : Config) (P : History) (e : Entry) (m t : ℕ) (a : AccountsView) (start_at : ℤ) → IsLegal C (e ∷ P) → Withdraws m t P e → AccountsAre C P a → start_at ≡ charge_of a t +ℤ base_of a t → start_at ≡ pos (tag C (e ∷ P) t)
+tag_withdrawn C P e m t a start_at l s is tagged =
+    let x = withdraw_step C P e m t l s in
+    tagged ∙ tag_is_sum C (e ∷ P) a t x.known (x.accounts_stay a is)
 
-pub withdraw_follows : (m t waited : ℕ) (k n : Reading) → Follows TimesAre (Ends m t) k.times n.times → n.policy ≡ k.policy → n.accounts ≡ k.accounts → waited ≡ slice_index k.waiting.items t → n.waiting.items ≡ slice_set k.waiting.items t (waited - 1) → Follows Keeps (Withdraws m t) k n
-withdraw_follows m t waited k n times policy accounts read waiting = λ C P e lim l s is.
+pub awaits_end : (m t : ℕ) (start_at : ℤ) (k : Reading) → Awaits Keeps (Withdraws m t) k → start_at ≡ charge_of k.accounts t +ℤ base_of k.accounts t → AwaitsEnd k.policy m t start_at k.times
+awaits_end m t start_at k a tagged = record {
+  config = a.config;
+  history = a.history;
+  entry = a.entry;
+  policy_is = a.kept_is.policy_is;
+  limits = a.limits;
+  legal = a.legal;
+  ends = withdraw_ends a.history a.entry m t a.comes;
+  starts = λ plus. tag_withdrawn a.config a.history a.entry m t k.accounts start_at a.legal a.comes a.kept_is.accounts_are tagged;
+  times_are = a.kept_is.times_are;
+}
+
+pub withdraw_follows : (m t waited : ℕ) (start_at : ℤ) (k n : Reading) → start_at ≡ charge_of k.accounts t +ℤ base_of k.accounts t → FollowsEnd k.policy m t start_at k.times n.times → n.policy ≡ k.policy → n.accounts ≡ k.accounts → waited ≡ slice_index k.waiting.items t → n.waiting.items ≡ slice_set k.waiting.items t (waited - 1) → Follows Keeps (Withdraws m t) k n
+withdraw_follows m t waited start_at k n tagged times policy accounts read waiting = λ C P e lim l s is.
     let x = withdraw_step C P e m t l s in
     record {
       limits = lim;
       legal = l;
       policy_is = policy ∙ is.policy_is;
-      times_are = times C P e lim l (withdraw_ends P e m t s) is.times_are;
+      times_are = times C P e is.policy_is lim l (withdraw_ends P e m t s) (λ plus. tag_withdrawn C P e m t k.accounts start_at l s is.accounts_are tagged) is.times_are;
       accounts_are = rw accounts (x.accounts_stay k.accounts is.accounts_are);
       waiting_are = rw waiting (waiting_written C P e t (waited - 1) k.waiting.items x.known (omega (arith, read, is.waiting_are.each t x.known, x.own_queue)) x.other_queues is.waiting_are);
     }
 
 -- the requirements of the calls at a Withdraw
 pub record MayWithdraw (k : Reading) (t : ℕ) : Type 0 where
+  pub charged_one : t < length k.accounts.charges
   pub waits : t < length k.waiting.items
   pub some : 1 ≤ slice_index k.waiting.items t
 
@@ -374,6 +391,7 @@ pub may_withdraw : (m t : ℕ) (k : Reading) → Awaits Keeps (Withdraws m t) k 
 may_withdraw m t k a =
     let x = withdraw_step a.config a.history a.entry m t a.legal a.comes in
     record {
+      charged_one = omega (arith, x.known, a.kept_is.accounts_are.charges_sized);
       waits = omega (arith, x.known, a.kept_is.waiting_are.tenants);
       some = omega (arith, a.kept_is.waiting_are.each t x.known, x.own_queue);
     }

@@ -1,5 +1,5 @@
 -- Why two tenants have no gap in a history.
-use Rattle.std.specs.Prelude.{ℕ, List, [], ◌∷◌, ◌++◌, Option, is_some, unwrap_or}
+use Rattle.std.specs.Prelude.{ℕ, [], ◌∷◌, ◌++◌, Option, is_some, unwrap_or}
 use Rattle.fq_model.specs.declared.config.Config.{Config}
 use Rattle.fq_model.specs.Rows.{first_true}
 use Rattle.fq_model.specs.History.{History}

@@ -57,7 +57,11 @@ impl Reading {
                 estimate,
             } => self.take(moment, worker, asked[request as usize].tenant, estimate),
             Act::Report { .. } | Act::Close => self.times.pass(moment),
-            Act::Done { request, .. } => self.times.end(moment, asked[request as usize].tenant),
+            Act::Done { request, .. } => {
+                let tenant = asked[request as usize].tenant;
+                let tag = self.accounts.tag(tenant);
+                self.times.end(self.policy, moment, tenant, tag);
+            }
             Act::Weight { tenant, weight } => self.times.reweigh(moment, tenant, weight),
             Act::Workers { count } => self.times.staff(moment, count),
             Act::Withdraw { request } => self.withdraw(moment, asked[request as usize].tenant),
@@ -80,7 +84,7 @@ impl Reading {
         requires { Awaits Keeps (Takes moment worker tenant estimate) self.old }
         ensures { Follows Keeps (Takes moment worker tenant estimate) self.old self.new }
     {
-        self.times.pass(moment);
+        self.times.come_to(moment);
         let weight = self.times.weight(tenant);
         let len = length(estimate, weight);
         let tag = self.accounts.tag(tenant);
@@ -95,7 +99,8 @@ impl Reading {
         requires { Awaits Keeps (Withdraws moment tenant) self.old }
         ensures { Follows Keeps (Withdraws moment tenant) self.old self.new }
     {
-        self.times.end(moment, tenant);
+        let tag = self.accounts.tag(tenant);
+        self.times.end(self.policy, moment, tenant, tag);
         let left = self.waiting[tenant as usize] - 1;
         self.waiting[tenant as usize] = left;
     }
