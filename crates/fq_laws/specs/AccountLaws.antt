@@ -88,14 +88,15 @@ pub record TimeStep (C : Config) (P : History) (e : Entry) : Type 0 where
 abbrev pub TimeSteps : Type 0
 TimeSteps = (C : Config) (P : History) (e : Entry) → TimeStep C P e
 
--- where every tenant is active, this weight is that of the active tenants under 2dfq+ too
+-- this weight is that of the active tenants, under 2dfq+ too, where no other tenant starts above virtual time
 abbrev pub RateIsOfActive : Type 0
 RateIsOfActive =
-    (C : Config) (P : History) → ((t : ℕ) → t < length C.weights → is_active P t ≡ true)
+    (C : Config) (P : History)
+    → ((t : ℕ) → t < length C.weights → (is_active P t ≡ true) ⊎ (tag C P t ≤ virtual_time C P (last_moment P)))
     → rate_weight C P ≡ active_weight C P
 
--- and where some tenant is active, virtual time is never ahead of what the weight of the active tenants would make of it
--- from the last entry on
+-- and where active tenants have some weight, virtual time is never ahead of what this weight would make of it from the
+-- last entry on
 abbrev pub TimeIsNotAhead : Type 0
 TimeIsNotAhead =
     (C : Config) (P : History) (m : ℕ) → 1 ≤ active_weight C P

@@ -1,6 +1,6 @@
 -- The tenants that the fluid serves under 2dfq+, and the weight over which virtual time goes on.
-use Rattle.std.proofs.Common.{[], ◌≢◌, ◌==◌, cond, ℕ, ◌+◌, ◌-◌, ◌*◌, ◌/◌, ◌<◌, ◌≤◌, ◌≡◌, true, zero, suc, arith, refl, sym, ◌∙◌, inl, inr, ap, length}
-use Rattle.std.proofs.lemmas.Bool.{cases_Bool, eq-eqb, ne_eqb}
+use Rattle.std.proofs.Common.{◌⊎◌, [], ◌≢◌, ◌==◌, cond, ℕ, ◌+◌, ◌-◌, ◌*◌, ◌/◌, ◌<◌, ◌≤◌, ◌≡◌, true, zero, suc, arith, refl, sym, ◌∙◌, inl, inr, ap, length}
+use Rattle.std.proofs.lemmas.Bool.{cases_Bool, le-ltb, eq-eqb, ne_eqb}
 use Rattle.std.proofs.lemmas.Nat.{mul-le, le-div}
 use Rattle.std.proofs.Math.Nat.{div-mul-le_self}
 use Rattle.vt_fixed.specs.Rounding.{advance_of}
@@ -11,6 +11,8 @@ use Rattle.fq_model.specs.Limits.{InLimits}
 use Rattle.fq_model.specs.History.{History, pool_at}
 use Rattle.fq_model.specs.Time.{is_active, weight_if_active, active_weight, last_moment, virtual_advance}
 use Rattle.fq_model.specs.Pace.{Pace, pace, is_served, weight_if_served, served_weight, time_for, virtual_time}
+use Rattle.fq_model.specs.Charge.{virtual_charge}
+use Rattle.fq_model.specs.Keys.{tag}
 use Rattle.fq_model.specs.Rules.{IsLegal}
 use Rattle.fq_model.specs.Sums.{sum_below}
 use Rattle.fq_laws.specs.Words.{capped, rate_weight}
@@ -19,7 +21,8 @@ use Rattle.fq_laws.proofs.Charge.Tenants.{virtual_charge_nil}
 use Rattle.fq_laws.proofs.Time.Open.{inactive_nil}
 use Rattle.fq_laws.proofs.History.Weights.{weight_high}
 use Rattle.fq_laws.proofs.Time.Clock.{active_weight_nil, weights_low, active_weight_low, virtual_advance_is}
-use Rattle.fq_laws.proofs.Keys.Pace.{paced_or_not, time_of_clock, capped_min, capped_not, rate_paced, rate_by_clock, rate_advance, virtual_time_split}
+use Rattle.fq_laws.proofs.Keys.Tags.{tag_is}
+use Rattle.fq_laws.proofs.Keys.Pace.{paced_or_not, base_by_pace, now_is_time, time_of_clock, capped_min, capped_not, rate_paced, rate_by_clock, rate_advance, virtual_time_split}
 
 -- ---- at first
 
@@ -79,9 +82,13 @@ rate_room C P t w lim l b small = elim (paced_or_not C.policy) [
 
 -- ---- beside the active tenants
 
--- an active tenant is served
-served_if_active : (C : Config) (P : History) (s : Pace) (t : ℕ) → is_active P t ≡ true → weight_if_served C P s t ≡ weight_if_active C P t
-served_if_active C P s t on = rw on refl
+-- a tenant that is active, or does not start above virtual time, is served only where it is active
+served_if_active : (C : Config) (P : History) (t : ℕ) → C.policy ≡ TwoDfqPlus → (is_active P t ≡ true) ⊎ (tag C P t ≤ virtual_time C P (last_moment P)) → weight_if_served C P (pace C P) t ≡ weight_if_active C P t
+served_if_active C P t is (inl on) = rw on refl
+served_if_active C P t is (inr low) = elim (cases_Bool (is_active P t)) [
+  | inl on ↦ rw on refl
+  | inr idle ↦ rw (idle, le-ltb (pace C P).now (virtual_charge C P t + (pace C P).base t) (omega (arith, low, tag_is C P t, base_by_pace C P t is, now_is_time C P is))) refl
+]
 
 active_part : (C : Config) (P : History) (s : Pace) (t : ℕ) → weight_if_active C P t ≤ weight_if_served C P s t
 active_part C P s t = elim (cases_Bool (is_active P t)) [ inl on ↦ rw on (omega arith) | inr off ↦ rw off (omega arith) ]
@@ -96,11 +103,11 @@ pub active_served : (C : Config) (P : History) (s : Pace) → active_weight C P 
 unfolding active_weight served_weight
 active_served C P s = sum_at_least (weight_if_active C P) (weight_if_served C P s) (length C.weights) (active_part C P s)
 
--- and as much where every tenant is active
-pub rate_of_active : (C : Config) (P : History) → ((t : ℕ) → t < length C.weights → is_active P t ≡ true) → rate_weight C P ≡ active_weight C P
+-- and as much where no inactive tenant starts above virtual time
+pub rate_of_active : (C : Config) (P : History) → ((t : ℕ) → t < length C.weights → (is_active P t ≡ true) ⊎ (tag C P t ≤ virtual_time C P (last_moment P))) → rate_weight C P ≡ active_weight C P
 unfolding active_weight served_weight
-rate_of_active C P on = elim (paced_or_not C.policy) [
-  | inl is ↦ rate_paced C P is ∙ sum_same (weight_if_served C P (pace C P)) (weight_if_active C P) (length C.weights) (λ t b. served_if_active C P (pace C P) t (on t b))
+rate_of_active C P none = elim (paced_or_not C.policy) [
+  | inl is ↦ rate_paced C P is ∙ sum_same (weight_if_served C P (pace C P)) (weight_if_active C P) (length C.weights) (λ t b. served_if_active C P t is (none t b))
   | inr ne ↦ rate_by_clock C P ne
 ]
 
