@@ -284,16 +284,18 @@ def turned_out(journal, tenant):
 
 
 def enter_for_lengths(history, entry):
-    """Adds an entry, and gives the lengths at it: of each head, and by its charge of each request that runs or ended with it."""
+    """Adds an entry, and gives the lengths at it: of each head before a take, and by its charge of each request that runs or
+    ended with it."""
     ended = [history.runs[entry.rest[0]]] if entry.act == "done" else []
-    history.enter(entry)
-    heads = [(history.requests[tenant.waits[0]], tenant.weight) for tenant in history.tenants if tenant.waits]
+    waiting = [tenant for tenant in history.tenants if tenant.waits] if entry.act == "take" else []
+    heads = [(history.requests[tenant.waits[0]], tenant.weight) for tenant in waiting]
     found = [length(history.estimate(request), weight) for request, weight in heads]
+    history.enter(entry)
     return found + [length(runs.charge, runs.weight) for runs in [*history.runs.values(), *ended]]
 
 
 def longest(journal):
-    """The greatest length of a request at an entry, as a head or by its charge, in steps; 1 at least."""
+    """The greatest length of a request, as a head just before a take or by its charge, in steps; 1 at least."""
     history, most = History(journal), 1
     for entry in journal.entries:
         most = max([most, *enter_for_lengths(history, entry)])

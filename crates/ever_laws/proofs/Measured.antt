@@ -1,7 +1,7 @@
 -- Bounds by the greatest length in a history.
-use Rattle.std.proofs.Common.{ℕ, ◌+◌, ◌<◌, ◌≤◌, ◌≡◌, refl, arith, [], ◌∷◌, ◌++◌, true, Option, Some, None, length, ℤ, pos, ◌≤ℤ◌}
+use Rattle.std.proofs.Common.{ℕ, ◌+◌, ◌<◌, ◌≤◌, ◌≡◌, refl, arith, inl, inr, [], ◌∷◌, ◌++◌, true, Option, Some, None, length, ℤ, pos, ◌≤ℤ◌}
 use Rattle.std.specs.Prelude.{◌-ℤ◌}
-use Rattle.std.proofs.lemmas.Bool.{and_parts, false≢true}
+use Rattle.std.proofs.lemmas.Bool.{cases_Bool, and_parts, false≢true}
 use Rattle.std.proofs.lemmas.Int.{ints}
 use Rattle.fq_model.specs.declared.config.Config.{Config}
 use Rattle.fq_model.specs.declared.config.Policy.{Policy}
@@ -9,23 +9,23 @@ use Rattle.fq_model.specs.declared.config.Policy.TheVariants.{TwoDfqPlus}
 use Rattle.fq_model.specs.declared.event.Act.{Act}
 use Rattle.fq_model.specs.declared.event.Act.TheVariants.{Take}
 use Rattle.fq_model.specs.declared.event.Entry.{Entry}
-use Rattle.fq_model.specs.Charge.{is_taken_of}
+use Rattle.fq_model.specs.Charge.{is_taken_of, charged}
 use Rattle.fq_model.specs.Ever.{head_at, longest_head, longest_request, longest_of_all, ever_bound, under_plus, measured_ever_bound}
 use Rattle.fq_model.specs.Gap.{start_difference}
 use Rattle.fq_model.specs.History.{History, head, request_at, request_bound, is_of_tenant, is_taken}
 use Rattle.fq_model.specs.Lead.{head_length, length_of_head, longest_of, may_rise, may_fall, start_now}
 use Rattle.fq_model.specs.Limits.{InLimits}
 use Rattle.fq_model.specs.Rules.{IsLegal}
-use Rattle.fq_laws.specs.Words.{is_take}
+use Rattle.fq_laws.specs.Words.{one_more, is_take}
 use Rattle.fq_laws.proofs.History.Heads.{head_tenant_known}
 use Rattle.fq_laws.proofs.History.Requests.{tenant_below, taken_submitted, submitted_below}
 use Rattle.fq_laws.proofs.Rules.Limits.{submits_low}
-use Rattle.fq_laws.proofs.Sums.{max_covers}
+use Rattle.fq_laws.proofs.Sums.{max_covers, max_under}
 use Rattle.gap_laws.specs.Words.{IsPrefix, AreCaps}
 use Rattle.gap_laws.proofs.Measured.{caps_are}
 use Rattle.gap_laws.proofs.Runs.{prefix_of_prefix}
 use Rattle.gap_laws.proofs.WorstCase.{legal_in, caps_in, longest, nothing}
-use Rattle.ever_laws.specs.Laws.{LongestIsNoShorter, MeasuredBoundHolds}
+use Rattle.ever_laws.specs.Laws.{LongestIsNoShorter, LongestIsLeast, MeasuredBoundHolds}
 use Rattle.ever_laws.specs.Words.{AreAllNoLonger}
 use Rattle.ever_laws.proofs.Bound.{lead_bounded}
 
@@ -80,6 +80,36 @@ longest_covers C H lim l = record {
   requests = λ t. all_capped C H lim l t;
   heads = all_heads C H lim l;
 }
+
+-- a number that all lengths keep to is no less
+module _ (C : Config) (H : History) (M : ℕ) (low : AreAllNoLonger C H M) where
+  head_counted : (who m : ℕ) (a : Act) (P : History) (t : ℕ) → IsPrefix (one_more who m a P) H → head_at C P t a ≤ M
+  head_counted who m (Take worker request estimate) P t inner = low.heads (record { who = who; moment = m; act = Take worker request estimate }) P t inner refl
+  head_counted who m a P t inner = omega arith
+
+  heads_low : (P : History) (t : ℕ) → IsPrefix P H → longest_head C P t ≤ M
+  unfolding longest_head
+  heads_low [] t inner = omega arith
+  heads_low (e ∷ P) t inner = omega (arith, head_counted e.who e.moment e.act P t inner, heads_low P t (prefix_of_prefix P (e ∷ P) H (e ∷ [], refl) inner))
+
+  charge_counted : (P : History) (t r : ℕ) → IsPrefix P H → charged C P t r ≤ M
+  charge_counted P t r inner = elim (cases_Bool (is_taken_of P t r)) [
+    | inl taken ↦ rw taken (low.requests t P r inner taken)
+    | inr other ↦ rw other (omega arith)
+  ]
+
+  charges_low : (P : History) (t r : ℕ) → IsPrefix P H → longest_of C P t r ≤ M
+  unfolding longest_of
+  charges_low [] t r inner = omega arith
+  charges_low (e ∷ P) t r inner = omega (arith, charge_counted (e ∷ P) t r inner, charges_low P t r (prefix_of_prefix P (e ∷ P) H (e ∷ [], refl) inner))
+
+  tenant_low : (t : ℕ) → longest_request C H t ≤ M
+  unfolding longest_request
+  tenant_low t = omega (arith, heads_low H t ([], refl), max_under (longest_of C H t) request_bound M (λ r b. charges_low H t r ([], refl)))
+
+pub longest_low : LongestIsLeast
+unfolding longest_of_all
+longest_low C H M low = omega (arith, low.some, max_under (longest_request C H) (length C.weights) M (λ t known. tenant_low C H M low t))
 
 -- no longer at a prefix either
 lengths_in : (C : Config) (H P : History) (M : ℕ) → IsPrefix P H → AreAllNoLonger C H M → AreAllNoLonger C P M

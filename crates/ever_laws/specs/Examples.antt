@@ -1,12 +1,13 @@
 -- Worked histories that come to the bounds, the newest entry first. Three tenants have the weight 1. With two workers
--- no request is longer than 4 units, and with three no request is longer than 3.
+-- no request is longer than 4 units, and with three no request is longer than 3. At the end a request of 9 is withdrawn.
 use Rattle.std.specs.Prelude.{[], ◌∷◌}
 use Rattle.fq_model.specs.declared.config.Config.{Config}
 use Rattle.fq_model.specs.declared.config.Policy.TheVariants.{TwoDfqPlus}
 use Rattle.fq_model.specs.declared.config.Estimator.TheVariants.{Declared}
-use Rattle.fq_model.specs.declared.event.Act.TheVariants.{Submit, Take, Done}
+use Rattle.fq_model.specs.declared.event.Act.TheVariants.{Submit, Take, Done, Withdraw}
 use Rattle.fq_model.specs.History.{History}
 use Rattle.worked_histories.specs.Examples.{entry}
+use Rattle.worked_histories.specs.Paced.{config_for}
 
 -- ---- two workers
 
@@ -142,3 +143,29 @@ three_lead_history =
     ∷ entry 11 0 (Done 1 1 0)
     ∷ entry 10 0 (Done 0 0 0)
     ∷ three_begun
+
+-- ---- a withdrawn request
+
+-- one worker, and two tenants of weight 1
+unfoldable pub single_config : Config
+single_config = config_for 1 TwoDfqPlus
+
+-- a long request of tenant 1 is withdrawn before the Take
+unfoldable pub withdrawn_history : History
+withdrawn_history =
+    entry 10 0 (Take 0 0 1)
+    ∷ entry 1 0 (Submit 2 1 0 1 3)
+    ∷ entry 1 0 (Withdraw 1)
+    ∷ entry 1 0 (Submit 1 1 0 9 2)
+    ∷ entry 0 0 (Submit 0 0 0 1 1)
+    ∷ []
+
+-- or after it
+unfoldable pub waited_history : History
+waited_history =
+    entry 1 0 (Withdraw 1)
+    ∷ entry 10 0 (Take 0 0 1)
+    ∷ entry 1 0 (Submit 2 1 0 1 3)
+    ∷ entry 1 0 (Submit 1 1 0 9 2)
+    ∷ entry 0 0 (Submit 0 0 0 1 1)
+    ∷ []

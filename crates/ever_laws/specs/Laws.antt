@@ -116,6 +116,10 @@ abbrev pub LongestIsNoShorter : Type 0
 LongestIsNoShorter =
     (C : Config) (H : History) → InLimits C → IsLegal C H → AreAllNoLonger C H (longest_of_all C H)
 
+-- and it is the least number of which that holds
+abbrev pub LongestIsLeast : Type 0
+LongestIsLeast = (C : Config) (H : History) (M : ℕ) → AreAllNoLonger C H M → longest_of_all C H ≤ M
+
 -- so the bound that is measured by it holds for the starts of two tenants wherever the other one waits
 abbrev pub MeasuredBoundHolds : Type 0
 MeasuredBoundHolds =

@@ -2,14 +2,15 @@
 //! empty. With two workers no request is longer than 4 units, and the last worker takes 2 units off a start at most.
 //! With three no request is longer than 3, and that is 2 units too.
 ghost use Rattle.std.specs.Prelude.{◌≡◌, ◌-ℤ◌, pos, Some};
-ghost use Rattle.fq_model.specs.Ever.{ever_bound};
+ghost use Rattle.fq_model.specs.Ever.{longest_of_all, ever_bound, measured_ever_bound};
 ghost use Rattle.fq_model.specs.History.{head};
 ghost use Rattle.fq_model.specs.Pace.{pace};
 ghost use Rattle.fq_model.specs.Gap.{start_difference};
+ghost use Rattle.fq_model.specs.Rules.{IsLegal};
 ghost use Rattle.worked_histories.specs.Examples.{units};
 ghost use Rattle.ever_laws.specs.Words.{IsPacedWithin, time_now, most_of, least_of};
 ghost use Rattle.ever_laws.specs.Laws.{all_and_part};
-ghost use Rattle.ever_laws.specs.Examples.{pair_config, most_history, cap_history, lead_history, three_config, three_cap_history, three_lead_history};
+ghost use Rattle.ever_laws.specs.Examples.{pair_config, most_history, cap_history, lead_history, three_config, three_cap_history, three_lead_history, single_config, withdrawn_history, waited_history};
 
 /// The most of a tenant, above virtual time. Both workers take a request of 1 of tenant 0, and the second one lifts
 /// virtual time to 1. The first request turns out to cost 4, so that the third one starts at 5: worker 1 takes 2 off
@@ -75,4 +76,16 @@ pub fn lead_of_three()
     ensures waits { head three_lead_history 1 ≡ Some 8 }
     ensures lead { start_difference three_config three_lead_history 0 1 ≡ pos (units 14) }
     ensures bound { ever_bound three_config (units 3) ≡ pos (units 17) -ℤ pos 1 }
+{}
+
+/// The bound by the greatest length in a history. A request of 9 is withdrawn before the Take: the heads just before it
+/// are 1 long, and so is the request that is taken. With one worker the bound is 2 times 1, less a step. Where that
+/// request is withdrawn after the Take it is a head there, and the bound is 2 times 9, less a step.
+pub fn withdrawn()
+    ensures legal { IsLegal single_config withdrawn_history }
+    ensures longest { longest_of_all single_config withdrawn_history ≡ units 1 }
+    ensures bound { measured_ever_bound single_config withdrawn_history ≡ Some (pos (units 2) -ℤ pos 1) }
+    ensures legal_waited { IsLegal single_config waited_history }
+    ensures longest_waited { longest_of_all single_config waited_history ≡ units 9 }
+    ensures bound_waited { measured_ever_bound single_config waited_history ≡ Some (pos (units 18) -ℤ pos 1) }
 {}

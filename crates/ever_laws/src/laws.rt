@@ -1,5 +1,5 @@
 //! The laws, one function a law: its contract is the law, and its body is empty.
-ghost use Rattle.ever_laws.specs.Laws.{LeastRises, GroundRises, MostStaysNear, CapStaysNear, BoundHolds, LeadIsBounded, AccountsAreBounded, TakesAreBounded, ChargeIsBounded, OthersAreBounded, GainIsBounded, LengthsAreForetold, LeadIsForetold, LongestIsNoShorter, MeasuredBoundHolds};
+ghost use Rattle.ever_laws.specs.Laws.{LeastRises, GroundRises, MostStaysNear, CapStaysNear, BoundHolds, LeadIsBounded, AccountsAreBounded, TakesAreBounded, ChargeIsBounded, OthersAreBounded, GainIsBounded, LengthsAreForetold, LeadIsForetold, LongestIsNoShorter, LongestIsLeast, MeasuredBoundHolds};
 
 /// The least of a tenant, its start if its running requests turn out to cost nothing, never falls.
 pub fn least_rises()
@@ -75,6 +75,11 @@ pub fn lead_is_foretold()
 /// No request of a history is longer than the greatest length in it.
 pub fn longest_is_no_shorter()
     ensures { LongestIsNoShorter }
+{}
+
+/// And that length is the least of which this holds.
+pub fn longest_is_least()
+    ensures { LongestIsLeast }
 {}
 
 /// So the bound that `lead` measures holds: no tenant is further ahead of one that waits.

@@ -1,15 +1,16 @@
 -- The greatest length of a request, with one entry more.
-use Rattle.std.proofs.Common.{ℕ, zero, suc, ◌<◌, ◌≤◌, ◌≡◌, ◌≢◌, ◌∙◌, max, true, false, refl, sym, ap, arith, inl, inr, List, [], ◌∷◌, ◌++◌, length, Option, Some, None, length-append}
-use Rattle.std.specs.Prelude.{is_some, slice_index, IfSome, unsigned_abs}
-use Rattle.std.proofs.lemmas.Bool.{cases_eq, eq-eqb, ne_eqb, and_parts, false≢true}
+use Rattle.std.proofs.Common.{ℕ, zero, suc, ◌+◌, ◌<◌, ◌≤◌, ◌≡◌, ◌≢◌, ◌∙◌, max, true, false, refl, sym, ap, arith, inl, inr, List, [], ◌∷◌, ◌++◌, get_or, take, add-one, length, Option, Some, None, length-append}
+use Rattle.std.specs.Prelude.{is_some, slice_index, IfSome, unsigned_abs, ◌==◌, All}
+use Rattle.std.proofs.lemmas.Bool.{cases_Bool, cases_eq, eq-eqb, eqb-true, ne_eqb, and_parts, or_cases, or_parts, or_from, false≢true}
 use Rattle.std.proofs.lemmas.List.{get_or_append_left}
-use Rattle.std.proofs.Math.Seq.{get_or-append_seam}
+use Rattle.std.proofs.lemmas.List.Elements.{All-append}
+use Rattle.std.proofs.Math.Seq.{get_or-append_seam, take-suc}
 use Rattle.fq_model.specs.declared.config.Config.{Config}
 use Rattle.fq_model.specs.declared.event.Act.{Act}
 use Rattle.fq_model.specs.declared.event.Act.TheVariants.{Submit, Take, Report, Done, Weight, Withdraw}
 use Rattle.fq_model.specs.declared.event.Entry.{Entry}
 use Rattle.fq_model.specs.Charge.{is_taken_of, charged}
-use Rattle.fq_model.specs.Ever.{longest_head, longest_request, longest_of_all}
+use Rattle.fq_model.specs.Ever.{head_at, longest_head, longest_request, longest_of_all}
 use Rattle.fq_model.specs.History.{History, request_at, request_bound, is_of_tenant, is_taken, head, submits, Runs}
 use Rattle.fq_model.specs.Keys.{HeadKeys, keys_at}
 use Rattle.fq_model.specs.Lead.{head_length, length_of_head, longest_of}
@@ -17,18 +18,18 @@ use Rattle.fq_model.specs.Limits.{InLimits}
 use Rattle.fq_model.specs.Rules.{IsLegal, Fits}
 use Rattle.fq_model.specs.Sums.{max_below}
 use Rattle.fq_model.specs.Time.{last_moment}
-use Rattle.fq_laws.specs.Words.{concerns}
+use Rattle.fq_laws.specs.Words.{one_more, concerns}
 use Rattle.fq_laws.proofs.Charge.Limits.{charged_low}
 use Rattle.fq_laws.proofs.History.Asked.{is_of_asked, waits_submitted}
 use Rattle.fq_laws.proofs.History.Requests.{submitted_below, taken_submitted, worker_runs, runs_taken, tenant_below}
 use Rattle.fq_laws.proofs.Keys.Others.{keys_unconcerned}
 use Rattle.fq_laws.proofs.Rules.Limits.{submits_low}
 use Rattle.fq_laws.proofs.Rules.Takes.{take_waits}
-use Rattle.fq_laws.proofs.Sums.{max_same, max_at, max_under}
+use Rattle.fq_laws.proofs.Sums.{max_covers, max_same, max_at, max_under}
 use Rattle.gap_laws.proofs.Runs.{head_nil}
 use Rattle.tag_lead.specs.declared.limits.TheConstants.{GREATEST_LENGTH}
 use Rattle.tag_lead.specs.declared.spans.MeasuredLength.{MeasuredLength}
-use Rattle.tag_lead.specs.Greatest.{TenantsAre, IsAmong, tenant_of_act, tenants_with, charge_length, head_length_if, length_by}
+use Rattle.tag_lead.specs.Greatest.{TenantsAre, IsAmong, tenant_of_act, tenants_with, charge_length, is_among, longest_among, length_at, unread_at, unread_with, AreUnread, length_by}
 use Rattle.tag_lead.proofs.LeadLemmas.{HeadIs, head_is, headless}
 use Rattle.tag_lead.proofs.SpanLemmas.{longest_stays}
 use Rattle.tag_lead.proofs.LengthLemmas.{Measures, MeasuresIf}
@@ -50,15 +51,6 @@ head_stays C P e t lim l known off =
     sym (keyed_length C (e ∷ P) t (keys_at C (e ∷ P) (last_moment (e ∷ P)) t) lim l known refl)
     ∙ (ap length_by (keys_unconcerned C P e (last_moment (e ∷ P)) (last_moment P) t lim l off)
     ∙ keyed_length C P t (keys_at C P (last_moment P) t) lim l.0 known refl)
-
-head_reaches : (C : Config) (P : History) (t : ℕ) → head_length C P t ≤ longest_head C P t
-unfolding longest_head
-head_reaches C [] t = omega arith
-head_reaches C (e ∷ P) t = omega arith
-
-longest_head_stays : (C : Config) (P : History) (e : Entry) (t : ℕ) → head_length C (e ∷ P) t ≡ head_length C P t → longest_head C (e ∷ P) t ≡ longest_head C P t
-unfolding longest_head
-longest_head_stays C P e t same = omega (arith, same, head_reaches C P t)
 
 -- ---- heads and charges apart
 
@@ -130,17 +122,111 @@ concerned C P e xs l are = concerned_at C P e.moment e.act xs l.0 l.3 are (there
 pub tenant_known : (C : Config) (P : History) (e : Entry) (xs : List ℕ) → IsLegal C (e ∷ P) → TenantsAre P xs → IfSome (tenant_of_act xs e.act) (λ u. u < length C.weights)
 tenant_known C P e xs l are = (concerned C P e xs l are).known
 
--- ---- the heads, with one entry more
+-- ---- the heads that are read where a request is taken
 
-heads_on : (C : Config) (P : History) (e : Entry) (o : Option ℕ) → InLimits C → IsLegal C (e ∷ P) → Concerned C P e.act o → all_heads C (e ∷ P) ≡ max (head_length_if C (e ∷ P) o) (all_heads C P)
+-- the greatest length of a head of all tenants
+abbrev heads_now : Config → History → ℕ
+heads_now C P = max_below (head_length C P) (length C.weights)
+
+among_low : (C : Config) (P : History) (ts : List ℕ) → All (λ t. t < length C.weights) ts → longest_among C P ts ≤ heads_now C P
+among_low C P [] known = omega arith
+among_low C P (t ∷ ts) known =
+    let own : t < length C.weights = known 0 t (omega arith) in
+    omega (arith, max_covers (head_length C P) t (length C.weights) own, among_low C P ts (λ k d low. known (suc k) d (omega (arith, low))))
+
+among_high : (C : Config) (P : History) (ts : List ℕ) (t : ℕ) → is_among ts t ≡ true → head_length C P t ≤ longest_among C P ts
+among_high C P [] t h = absurd (false≢true h)
+among_high C P (u ∷ ts) t h = elim (or_cases _ _ h) [
+  | inl own ↦ let same : head_length C P u ≡ head_length C P t = ap (head_length C P) (eqb-true u t own) in omega (arith, same)
+  | inr later ↦ omega (arith, among_high C P ts t later)
+]
+
+among_append : (C : Config) (P : History) (ts : List ℕ) (t : ℕ) → longest_among C P (ts ++ t ∷ []) ≡ max (longest_among C P ts) (head_length C P t)
+among_append C P [] t = omega arith
+among_append C P (u ∷ ts) t = omega (arith, among_append C P ts t)
+
+-- with the next one of them
+pub among_next : (C : Config) (P : History) (ts : List ℕ) (i d : ℕ) → i < length ts → longest_among C P (take (i + 1) ts) ≡ max (longest_among C P (take i ts)) (head_length C P (get_or ts i d))
+among_next C P ts i d low = ap (longest_among C P) (rw add-one (take-suc ts i d low)) ∙ among_append C P (take i ts) (get_or ts i d)
+
+-- with those that are not read all heads are
+heads_low : (C : Config) (P : History) (ts : List ℕ) (len : ℕ) → AreUnread C P ts len → heads_now C P ≤ max len (longest_among C P ts)
+heads_low C P ts len x = max_under (head_length C P) (length C.weights) (max len (longest_among C P ts)) (λ t known. elim (cases_Bool (is_among ts t)) [
+  | inl among ↦ omega (arith, among_high C P ts t among)
+  | inr other ↦ omega (arith, x.others t known other)
+])
+
+-- what the act adds to the greatest length is what it adds to the heads that count
+abbrev Adds : Config → History → ℕ → ℕ → Act → List ℕ → ℕ → Type 0
+Adds C P who m a ts len = (more : ℕ) × (length_at C P a ts len ≡ max len more) × (all_heads C (one_more who m a P) ≡ max more (all_heads C P))
+
+heads_on : (C : Config) (P : History) (who m : ℕ) (a : Act) (ts : List ℕ) (len : ℕ) → AreUnread C P ts len → Adds C P who m a ts len
 unfolding longest_head
-heads_on C P e None lim l x =
-    let same : all_heads C (e ∷ P) ≡ all_heads C P = max_same (longest_head C (e ∷ P)) (longest_head C P) (length C.weights)
-    (λ t known. longest_head_stays C P e t (head_stays C P e t lim l known (x.others t (λ (same : None ≡ Some t). absurd (cc))))) in
-    omega (arith, same)
-heads_on C P e (Some u) lim l x =
-    max_at (longest_head C P) (longest_head C (e ∷ P)) u (head_length C (e ∷ P) u) (length C.weights) x.known refl
-    (λ t known ne. longest_head_stays C P e t (head_stays C P e t lim l known (x.others t (λ (same : Some u ≡ Some t). let k : u ≡ t = cc in ne (sym k)))))
+heads_on C P who m (Take worker request estimate) ts len x = (
+  heads_now C P,
+  omega (arith, heads_low C P ts len x, among_low C P ts x.known),
+  max_of_both (head_length C P) (longest_head C P) (length C.weights),
+)
+heads_on C P who m a ts len x = (0, omega arith, max_of_both (λ t. 0) (longest_head C P) (length C.weights) ∙ ap (λ n. max n (all_heads C P)) (no_heads (length C.weights)))
+  where
+    no_heads : (n : ℕ) → max_below (λ t. 0) n ≡ 0
+    no_heads n = omega (arith, max_under (λ t. 0) n 0 (λ r b. omega arith))
+
+-- ---- the tenants whose heads are not read
+
+nothing_waits : (C : Config) (t : ℕ) → head_length C [] t ≡ 0
+nothing_waits C t = ap (length_of_head C [] t) (head_nil t)
+
+among_more : (ts : List ℕ) (u t : ℕ) → is_among (ts ++ u ∷ []) t ≡ false → (is_among ts t ≡ false) × (u ≢ t)
+among_more [] u t h = (refl, λ e. false≢true (sym (or_parts (u == t) false h).0 ∙ eq-eqb u t e))
+among_more (v ∷ ts) u t h =
+    let parts = or_parts (v == t) (is_among (ts ++ u ∷ []) t) h in
+    let later = among_more ts u t parts.1 in
+    (or_from (v == t) (is_among ts t) parts.0 later.0, later.1)
+
+known_at : (C : Config) (P : History) (a : Act) (ts : List ℕ) (len : ℕ) → AreUnread C P ts len → All (λ t. t < length C.weights) (unread_at a ts)
+known_at C P (Take worker request estimate) ts len x = λ k d low. absurd (omega (arith, low))
+known_at C P a ts len x = x.known
+
+others_at : (C : Config) (P : History) (a : Act) (ts : List ℕ) (len t : ℕ) → AreUnread C P ts len → t < length C.weights → is_among (unread_at a ts) t ≡ false → head_length C P t ≤ length_at C P a ts len
+others_at C P (Take worker request estimate) ts len t x known h = omega (arith, heads_low C P ts len x, max_covers (head_length C P) t (length C.weights) known)
+others_at C P a ts len t x known h = x.others t known h
+
+with_own : (C : Config) (P : History) (e : Entry) (ts : List ℕ) (o : Option ℕ) (len high : ℕ) → InLimits C → IsLegal C (e ∷ P) → Concerned C P e.act o → AreUnread C P ts len → length_at C P e.act ts len ≤ high → AreUnread C (e ∷ P) (unread_with (unread_at e.act ts) o) high
+with_own C P e ts None len high lim l c x h = record {
+  known = known_at C P e.act ts len x;
+  others = λ t known other.
+      let same : head_length C (e ∷ P) t ≡ head_length C P t = head_stays C P e t lim l known (c.others t (λ (is : None ≡ Some t). absurd (cc))) in
+      omega (arith, h, same, others_at C P e.act ts len t x known other);
+}
+with_own C P e ts (Some u) len high lim l c x h = record {
+  known = All-append (λ t. t < length C.weights) (unread_at e.act ts) (u ∷ []) (known_at C P e.act ts len x) (λ k d low. only u k d low c.known);
+  others = λ t known other.
+      let apart = among_more (unread_at e.act ts) u t other in
+      let same : head_length C (e ∷ P) t ≡ head_length C P t = head_stays C P e t lim l known (c.others t (λ (is : Some u ≡ Some t). let own : u ≡ t = cc in apart.1 own)) in
+      omega (arith, h, same, others_at C P e.act ts len t x known apart.0);
+}
+  where
+    only : (u k d : ℕ) → k < length (u ∷ []) → u < length C.weights → get_or (u ∷ []) k d < length C.weights
+    only u k d low known = let first : k ≡ 0 = omega (arith, low) in rw first known
+
+pub unread_on : (C : Config) (P : History) (e : Entry) (xs ts : List ℕ) (len high : ℕ) → InLimits C → IsLegal C (e ∷ P) → TenantsAre P xs → AreUnread C P ts len → length_at C P e.act ts len ≤ high → AreUnread C (e ∷ P) (unread_with (unread_at e.act ts) (tenant_of_act xs e.act)) high
+unread_on C P e xs ts len high lim l are x h = with_own C P e ts (tenant_of_act xs e.act) len high lim l (concerned C P e xs l are) x h
+
+pub unread_nil : (C : Config) (ts : List ℕ) (len : ℕ) → ts ≡ [] → AreUnread C [] ts len
+unread_nil C ts len is = rw is (record { known = λ k d low. absurd (omega (arith, low)); others = λ t known h. omega (arith, nothing_waits C t) })
+
+-- they are one more at most
+pub unread_fewer : (a : Act) (ts : List ℕ) → length (unread_at a ts) ≤ length ts
+unread_fewer (Take worker request estimate) ts = omega arith
+unread_fewer a ts = omega arith
+
+with_own_more : (ts : List ℕ) (o : Option ℕ) → length (unread_with ts o) ≤ length ts + 1
+with_own_more ts None = omega arith
+with_own_more ts (Some t) = omega (arith, length-append ts (t ∷ []))
+
+pub unread_more : (a : Act) (ts : List ℕ) (o : Option ℕ) → length (unread_with (unread_at a ts) o) ≤ length ts + 1
+unread_more a ts o = omega (arith, with_own_more (unread_at a ts) o, unread_fewer a ts)
 
 -- ---- the charges
 
@@ -187,18 +273,16 @@ charges_on C P e (Some x) lim l measures = all_raised C P e x lim l measures
 
 -- ---- both
 
-pub greatest_on : (C : Config) (P : History) (e : Entry) (xs : List ℕ) (o : Option MeasuredLength) (before : ℕ) → InLimits C → IsLegal C (e ∷ P) → TenantsAre P xs → MeasuresIf C P (e ∷ P) o → before ≡ longest_of_all C P → max (max before (charge_length o)) (head_length_if C (e ∷ P) (tenant_of_act xs e.act)) ≡ longest_of_all C (e ∷ P)
-greatest_on C P e xs o before lim l are measures is =
-    omega (arith, is, in_two C P, in_two C (e ∷ P), charges_on C P e o lim l measures, heads_on C P e (tenant_of_act xs e.act) lim l (concerned C P e xs l are))
-
-nothing_waits : (C : Config) (t : ℕ) → head_length C [] t ≡ 0
-nothing_waits C t = ap (length_of_head C [] t) (head_nil t)
+pub greatest_on : (C : Config) (P : History) (e : Entry) (ts : List ℕ) (o : Option MeasuredLength) (before : ℕ) → InLimits C → IsLegal C (e ∷ P) → AreUnread C P ts before → MeasuresIf C P (e ∷ P) o → before ≡ longest_of_all C P → max (length_at C P e.act ts before) (charge_length o) ≡ longest_of_all C (e ∷ P)
+greatest_on C P e ts o before lim l unread measures is =
+    let heads = heads_on C P e.who e.moment e.act ts before unread in
+    omega (arith, is, in_two C P, in_two C (e ∷ P), charges_on C P e o lim l measures, heads.1, heads.2)
 
 pub greatest_nil : (C : Config) → 1 ≡ longest_of_all C []
 unfolding longest_of_all longest_request longest_head longest_of
 greatest_nil C =
     let none : max_below (longest_request C []) (length C.weights) ≤ 0 = max_under (longest_request C []) (length C.weights) 0
-    (λ t known. omega (arith, nothing_waits C t, max_under (longest_of C [] t) request_bound 0 (λ r b. omega arith))) in
+    (λ t known. omega (arith, max_under (longest_of C [] t) request_bound 0 (λ r b. omega arith))) in
     omega arith
 
 -- ---- the tenants
@@ -235,8 +319,12 @@ head_short C P t lim l known = go (keys_at C P (last_moment P) t) refl
 
 heads_short : (C : Config) (P : History) (t : ℕ) → InLimits C → IsLegal C P → t < length C.weights → longest_head C P t ≤ GREATEST_LENGTH
 unfolding longest_head
-heads_short C [] t lim l known = head_short C [] t lim l known
-heads_short C (e ∷ P) t lim l known = omega (arith, head_short C (e ∷ P) t lim l known, heads_short C P t lim l.0 known)
+heads_short C [] t lim l known = omega arith
+heads_short C (e ∷ P) t lim l known = omega (arith, counted_short e.act, heads_short C P t lim l.0 known)
+  where
+    counted_short : (a : Act) → head_at C P t a ≤ GREATEST_LENGTH
+    counted_short (Take worker request estimate) = head_short C P t lim l.0 known
+    counted_short a = omega arith
 
 charges_short : (C : Config) (P : History) (t r : ℕ) → InLimits C → IsLegal C P → longest_of C P t r ≤ GREATEST_LENGTH
 unfolding longest_of

@@ -1,5 +1,5 @@
--- The greatest length of a request so far, and the tenants of the requests.
-use Rattle.std.specs.Prelude.{ℕ, ◌<◌, ◌≡◌, ◌∷◌, ◌++◌, true, [], List, length}
+-- The greatest length of a request so far, the tenants of the requests, and those whose heads are not read.
+use Rattle.std.specs.Prelude.{ℕ, ◌<◌, ◌≤◌, ◌≡◌, ◌==◌, ◌||◌, ◌∷◌, ◌++◌, max, Bool, true, false, [], List, length, All}
 use Rattle.std.specs.Prelude.{slice_index, Option, Some, None, unsigned_abs}
 use Rattle.fq_model.specs.declared.config.Config.{Config}
 use Rattle.fq_model.specs.declared.event.Act.{Act}
@@ -42,10 +42,35 @@ abbrev pub charge_length : Option MeasuredLength → ℕ
 charge_length None = 0
 charge_length (Some x) = x.len
 
--- the length of the head of a tenant, if there is one, or 0
-abbrev pub head_length_if : Config → History → Option ℕ → ℕ
-head_length_if C P None = 0
-head_length_if C P (Some t) = head_length C P t
+-- t is one of the tenants
+abbrev pub is_among : List ℕ → ℕ → Bool
+is_among [] t = false
+is_among (u ∷ ts) t = (u == t) || is_among ts t
+
+-- the greatest length of a head of these tenants, or 0
+abbrev pub longest_among : Config → History → List ℕ → ℕ
+longest_among C P [] = 0
+longest_among C P (t ∷ ts) = max (head_length C P t) (longest_among C P ts)
+
+-- the greatest length, with the heads of these tenants where the act takes a request
+abbrev pub length_at : Config → History → Act → List ℕ → ℕ → ℕ
+length_at C P (Take worker request estimate) ts len = max len (longest_among C P ts)
+length_at C P _ ts len = len
+
+-- the tenants whose heads are not read then
+abbrev pub unread_at : Act → List ℕ → List ℕ
+unread_at (Take worker request estimate) ts = []
+unread_at _ ts = ts
+
+-- with that of the act, after it
+abbrev pub unread_with : List ℕ → Option ℕ → List ℕ
+unread_with ts None = ts
+unread_with ts (Some t) = ts ++ t ∷ []
+
+-- the heads of all tenants but these are no longer than this
+pub record AreUnread (C : Config) (P : History) (ts : List ℕ) (len : ℕ) : Type 0 where
+  pub known : All (λ t. t < length C.weights) ts
+  pub others : (t : ℕ) → t < length C.weights → is_among ts t ≡ false → head_length C P t ≤ len
 
 -- the length of a head by its keys
 abbrev pub length_by : Option HeadKeys → ℕ

@@ -1,12 +1,13 @@
 //! The greatest length of a request so far.
-ghost use Rattle.std.specs.Prelude.{◌+◌, ◌-◌, ◌*◌, ◌/◌, ◌≡◌, ◌<◌, ◌≤◌, [], IfOk, IfSome, length, max, vec_capacity};
+ghost use Rattle.std.specs.Prelude.{◌+◌, ◌-◌, ◌*◌, ◌/◌, ◌≡◌, ◌<◌, ◌≤◌, [], IfOk, length, max, vec_capacity, All};
 ghost use Rattle.vt_fixed.specs.Rounding.{part_of};
 ghost use Rattle.fq_model.specs.Ever.{under_plus, ever_bound};
 ghost use Rattle.fq_model.specs.History.{history_of};
+ghost use Rattle.fq_model.specs.Lead.{head_length};
 ghost use Rattle.fq_model.specs.Limits.{InLimits};
 ghost use Rattle.fq_model.specs.Rules.{IsLegal};
-ghost use Rattle.tag_lead.specs.Greatest.{IsAmong, tenant_of_act, tenants_with};
-ghost use Rattle.tag_lead.specs.Greatest.{charge_length, head_length_if, length_by};
+ghost use Rattle.tag_lead.specs.Greatest.{IsAmong, tenant_of_act, tenants_with, charge_length, length_by};
+ghost use Rattle.tag_lead.specs.Greatest.{longest_among, length_at, unread_at, unread_with};
 
 use crate::limits::{GREATEST_BOUND, GREATEST_LENGTH, GREATEST_SUM, MOST_COUNTED};
 use crate::spans::MeasuredLength;
@@ -18,29 +19,34 @@ use std::alloc::{AllocError, Global};
 use tag_rules::chooser::Chooser;
 use tag_rules::head_keys::Keys;
 
-/// The greatest length of a request at the prefixes so far, as a head or by its charge, in steps; and the tenant of
-/// each request, by its number. An entry changes the lengths of one tenant's requests at most.
+/// The greatest length of a request at the prefixes so far, by its charge or as a head just before a Take, in steps; the
+/// tenant of each request, by its number; and the tenants whose heads were not read since an entry may have changed
+/// them. An entry changes the lengths of one tenant's requests at most, so a Take reads few heads.
 #[derive(Drop)]
 pub struct Greatest {
     pub length: u128,
     pub tenants: Vec<u32>,
+    pub unread: Vec<u32>,
 }
 
 impl Greatest {
-    /// Of no prefix yet: one step. All its memory, for this number of requests, is taken here.
-    pub fn open(alloc: Global, requests: usize) -> Result<Greatest, AllocError>
+    /// Of no prefix yet: one step. All its memory, for this number of entries, is taken here.
+    pub fn open(alloc: Global, entries: usize) -> Result<Greatest, AllocError>
         ensures length { IfOk result (λ greatest. greatest.length ≡ 1) }
         ensures tenants { IfOk result (λ greatest. greatest.tenants.items ≡ []) }
-        ensures room { IfOk result (λ greatest. requests ≤ vec_capacity greatest.tenants) }
+        ensures unread { IfOk result (λ greatest. greatest.unread.items ≡ []) }
+        ensures room { IfOk result (λ greatest. entries ≤ vec_capacity greatest.tenants) }
+        ensures unread_room { IfOk result (λ greatest. entries ≤ vec_capacity greatest.unread) }
     {
         Ok(Greatest {
             length: 1,
-            tenants: Vec::with_capacity(alloc, requests)?,
+            tenants: Vec::with_capacity(alloc, entries)?,
+            unread: Vec::with_capacity(alloc, entries)?,
         })
     }
 
-    /// The tenant whose request or weight the act is about, if there is one.
-    pub fn tenant(&self, act: Act) -> Option<u32>
+    // The tenant whose request or weight the act is about, if there is one.
+    fn tenant(&self, act: Act) -> Option<u32>
         requires { IsAmong (length self.now.tenants.items) act }
         ensures { result ≡ tenant_of_act self.now.tenants.items act }
     {
@@ -56,14 +62,42 @@ impl Greatest {
         }
     }
 
-    /// With the length that an act measures, and the length of the head of its tenant after the act.
-    pub fn note(&mut self, act: Act, measured: Option<MeasuredLength>, head: u128)
-        requires { length self.old.tenants.items < vec_capacity self.old.tenants }
-        ensures length { self.new.length ≡ max (max self.old.length (charge_length measured)) head }
-        ensures tenants { self.new.tenants.items ≡ tenants_with self.old.tenants.items act }
+    /// With the heads that a Take finds, where the act is one, before it.
+    pub fn read_heads<X: Chooser>(&mut self, scheduler: &Scheduler<u64, X>, act: Act)
+        requires limits { InLimits scheduler.now.config }
+        requires legal { IsLegal scheduler.now.config (history_of scheduler.now.past) }
+        requires known { All (λ t. t < length scheduler.now.config.weights) self.old.unread.items }
+        ensures length { self.new.length ≡ length_at scheduler.now.config (history_of scheduler.now.past) act
+            self.old.unread.items self.old.length }
+        ensures unread { self.new.unread.items ≡ unread_at act self.old.unread.items }
+        ensures tenants { self.new.tenants.items ≡ self.old.tenants.items }
         ensures room { vec_capacity self.new.tenants ≡ vec_capacity self.old.tenants }
+        ensures unread_room { vec_capacity self.new.unread ≡ vec_capacity self.old.unread }
     {
-        self.length = self.length.max(charge_length(measured)).max(head);
+        if let Act::Take { .. } = act {
+            self.length = self
+                .length
+                .max(longest_among(scheduler, self.unread.as_slice()));
+            self.unread.clear();
+        }
+    }
+
+    /// With the length that an act measures, after it.
+    pub fn note(&mut self, act: Act, measured: Option<MeasuredLength>)
+        requires among { IsAmong (length self.old.tenants.items) act }
+        requires room { length self.old.tenants.items < vec_capacity self.old.tenants }
+        requires unread_room { length self.old.unread.items < vec_capacity self.old.unread }
+        ensures length { self.new.length ≡ max self.old.length (charge_length measured) }
+        ensures tenants { self.new.tenants.items ≡ tenants_with self.old.tenants.items act }
+        ensures unread { self.new.unread.items
+            ≡ unread_with self.old.unread.items (tenant_of_act self.old.tenants.items act) }
+        ensures room { vec_capacity self.new.tenants ≡ vec_capacity self.old.tenants }
+        ensures unread_room { vec_capacity self.new.unread ≡ vec_capacity self.old.unread }
+    {
+        self.length = self.length.max(charge_length(measured));
+        if let Some(tenant) = self.tenant(act) {
+            self.unread.push_reserved(tenant);
+        }
         if let Act::Submit { tenant, .. } = act {
             self.tenants.push_reserved(tenant);
         }
@@ -79,17 +113,34 @@ fn charge_length(measured: Option<MeasuredLength>) -> u128
     }
 }
 
-/// The length of the head of a tenant, in steps, or 0.
-pub fn head_length<X: Chooser>(scheduler: &Scheduler<u64, X>, tenant: Option<u32>) -> u128
+// The greatest length of a head of these tenants, in steps, or 0.
+fn longest_among<X: Chooser>(scheduler: &Scheduler<u64, X>, tenants: &[u32]) -> u128
     requires limits { InLimits scheduler.now.config }
     requires legal { IsLegal scheduler.now.config (history_of scheduler.now.past) }
-    requires known { IfSome tenant (λ t. t < length scheduler.now.config.weights) }
-    ensures { result ≡ head_length_if scheduler.now.config (history_of scheduler.now.past) tenant }
+    requires known { All (λ t. t < length scheduler.now.config.weights) tenants.now }
+    ensures { result ≡ longest_among scheduler.now.config (history_of scheduler.now.past) tenants.now }
 {
-    match tenant {
-        Some(tenant) => length_by(scheduler.keys(tenant)),
-        None => 0,
+    let mut longest = 0;
+    for tenant in tenants {
+        longest = longer(longest, head_length(scheduler, *tenant));
     }
+    longest
+}
+
+fn longer(longest: u128, length: u128) -> u128
+    ensures { result ≡ max longest length }
+{
+    longest.max(length)
+}
+
+// The length of the head of a tenant, in steps, or 0.
+fn head_length<X: Chooser>(scheduler: &Scheduler<u64, X>, tenant: u32) -> u128
+    requires limits { InLimits scheduler.now.config }
+    requires legal { IsLegal scheduler.now.config (history_of scheduler.now.past) }
+    requires known { tenant < length scheduler.now.config.weights }
+    ensures { result ≡ head_length scheduler.now.config (history_of scheduler.now.past) tenant }
+{
+    length_by(scheduler.keys(tenant))
 }
 
 fn length_by(keys: Option<Keys>) -> u128

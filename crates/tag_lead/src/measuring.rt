@@ -8,7 +8,7 @@ ghost use Rattle.tag_lead.specs.Measured.{IsMeasured};
 ghost use Rattle.tag_lead.specs.Spans.{HasWorker, row_of_act};
 
 use crate::fault::LeadFault;
-use crate::greatest::{Greatest, head_length};
+use crate::greatest::Greatest;
 use crate::spans::{Spans, measured_by};
 use charge_book::row::RunRow;
 use fq_model::config::Checked;
@@ -24,7 +24,7 @@ use tag_rules::chooser::Chooser;
 pub struct Measured {
     /// Those of two tenants.
     pub spans: Spans,
-    /// The greatest length of any request, as a head or by its charge; 1 at least.
+    /// The greatest length of any request, by its charge or as a head just before a Take; 1 at least.
     pub longest: u128,
 }
 
@@ -64,6 +64,7 @@ fn measured_in<X: Chooser>(
     let mut spans = Spans::open(alloc, entries.len())?;
     let mut greatest = Greatest::open(alloc, entries.len())?;
     for entry in entries {
+        greatest.read_heads(scheduler, entry.act);
         let before = row_of(scheduler, entry.act);
         match judge_next(scheduler, *entry) {
             Verdict::Legal => {}
@@ -72,8 +73,7 @@ fn measured_in<X: Chooser>(
         let after = row_of(scheduler, entry.act);
         let length = measured_by(entry.act, before, after);
         spans.note(f, g, length);
-        let head = head_length(scheduler, greatest.tenant(entry.act));
-        greatest.note(entry.act, length, head);
+        greatest.note(entry.act, length);
     }
     Ok(Measured {
         spans,

@@ -50,7 +50,7 @@ asked_at n k r (Submit request tenant kind declared label) o b s h =
     rw (ne_eqb request r (λ e. omega arith)) h
 asked_at n k r _ o b s h = h
 
-asked_none : (n k r : ℕ) (P : History) → n ≤ r → acts_within n k P ≡ true → request_at P r ≡ None
+pub asked_none : (n k r : ℕ) (P : History) → n ≤ r → acts_within n k P ≡ true → request_at P r ≡ None
 asked_none n k r [] b s = refl
 asked_none n k r (e ∷ P) b s = let p = and_parts _ _ s in asked_at n k r e.act (request_at P r) b p.0 (asked_none n k r P b p.1)
 

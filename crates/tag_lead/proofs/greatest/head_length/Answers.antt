@@ -4,7 +4,7 @@ use Rattle.fq_model.specs.Time.{last_moment}
 use Rattle.tag_lead.proofs.GreatestLemmas.{keyed_length}
 use Rattle.tag_lead.proofs.greatest.head_length.Goals as goal
 
-pub returns-in-Some : goal.returns-in-Some
-returns-in-Some g c =
+pub returns : goal.returns
+returns g c =
     let P = history_of c.args.scheduler.now.past in
-    rw c.in-Some.is (c.length_by.ensures ∙ keyed_length c.args.scheduler.now.config P _ c.keys.result c.requires.limits c.requires.legal (rw c.in-Some.is at c.requires.known) (c.keys.ensures (last_moment P)))
+    c.length_by.ensures ∙ keyed_length c.args.scheduler.now.config P c.args.tenant c.keys.result c.requires.limits c.requires.legal c.requires.known (c.keys.ensures (last_moment P))
