@@ -132,9 +132,9 @@ static void come(double rate) {
 // The time for which a worker that is free since a moment may still wait before it takes an early job.
 static uint64_t patience(uint32_t worker, uint64_t moment, uint64_t since) {
     if (is_queue || part <= 0 || open_tenants < 2) return 0;
-    twodfq_reply due = twodfq_due(&scheduler, moment, worker);
-    if (due.kind != TWODFQ_EARLY) return 0;
-    uint64_t until = since + (uint64_t)(part * (double)due.first), left = (uint64_t)fmax(spare, 0);
+    twodfq_reply next = twodfq_foresee(&scheduler, moment, worker, 0);
+    if (next.kind != TWODFQ_FORESEEN || next.is_eligible) return 0;
+    uint64_t until = since + (uint64_t)(part * (double)next.first), left = (uint64_t)fmax(spare, 0);
     uint64_t time = until > moment ? until - moment : 0;
     if (time > left) time = left;
     return time > SHORTEST ? time : 0;

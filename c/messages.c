@@ -32,8 +32,7 @@ const char *twodfq_reply_message(uint32_t kind) {
     case TWODFQ_RETIRED: return "the worker is not among those that there are now";
     case TWODFQ_WITHDRAWN: return "the request is withdrawn";
     case TWODFQ_NOTHING: return "nothing waits";
-    case TWODFQ_ELIGIBLE: return "some tenant's head is eligible for the worker";
-    case TWODFQ_EARLY: return "requests wait, and no head is eligible for the worker";
+    case TWODFQ_FORESEEN: return "a take would give a request";
     case TWODFQ_REFUSED_CLOSED: return "the history is closed";
     case TWODFQ_REFUSED_TENANT: return "no tenant has this number";
     case TWODFQ_REFUSED_KIND: return "no kind has this number";

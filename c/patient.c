@@ -54,8 +54,8 @@ static bool is_one_tenant_alone(void) {
 // The longest wait of the worker, from the moment at which it became free, or 0.
 static uint64_t patience(uint32_t worker, uint64_t now) {
     if (is_closed || is_one_tenant_alone()) return 0; // nobody's request would be served sooner for it
-    twodfq_reply due = twodfq_due(&scheduler, now, worker);
-    uint64_t longest = due.kind == TWODFQ_EARLY ? due.first / PART : 0;
+    twodfq_reply next = twodfq_foresee(&scheduler, now, worker, 0);
+    uint64_t longest = next.kind == TWODFQ_FORESEEN && !next.is_eligible ? next.first / PART : 0;
     return longest > SHORTEST ? longest : 0;
 }
 

@@ -56,10 +56,22 @@ static void no_scheduler(twodfq *handle) {
     want("close", twodfq_close(handle, 0, 0).kind, TWODFQ_NO_SCHEDULER);
     want("weight", twodfq_weight(handle, 0, 0, 0, 1).kind, TWODFQ_NO_SCHEDULER);
     want("workers", twodfq_workers(handle, 0, 0, 1).kind, TWODFQ_NO_SCHEDULER);
-    want("due", twodfq_due(handle, 0, 0).kind, TWODFQ_NO_SCHEDULER);
+    want("foresee", twodfq_foresee(handle, 0, 0, 0).kind, TWODFQ_NO_SCHEDULER);
     want("entry", twodfq_entry(handle, 0).kind, TWODFQ_ENTRY_NONE);
     want("status", twodfq_status(handle).kind, TWODFQ_NO_SCHEDULER);
     twodfq_free(handle);
+}
+
+// A take of this request of tenant 0 and kind 2, at an estimate of 10, is foreseen.
+static void foresees(twodfq_reply reply, uint32_t request, uint32_t is_eligible, uint32_t has_smaller) {
+    want("foreseen", reply.kind, TWODFQ_FORESEEN);
+    want("which one", reply.request, request);
+    want("its estimate", (uint32_t)reply.first, 10);
+    want("no second number", (uint32_t)reply.second, 0);
+    want("its tenant", reply.tenant, 0);
+    want("its kind", reply.request_kind, 2);
+    want("whether it is eligible", reply.is_eligible, is_eligible);
+    want("whether a smaller one is", reply.has_smaller, has_smaller);
 }
 
 // A foreseen take of each kind. Virtual time rises by 2 units a microsecond; the second request starts at 10 and has
@@ -70,23 +82,21 @@ static void finds(void) {
     opening.workers = 2;
     opening.entries = 20;
     opening.requests = 2;
+    opening.kinds = 3;
     opening.policy = TWODFQ_2DFQ;
     uint32_t weight = 1;
     want("open", twodfq_open(&scheduler, &opening, &weight, 1), TWODFQ_OPENED);
-    want("nothing", twodfq_due(&scheduler, 0, 0).kind, TWODFQ_NOTHING);
-    want("a worker beyond", twodfq_due(&scheduler, 0, 2).kind, TWODFQ_REFUSED_WORKER);
-    twodfq_submit(&scheduler, 0, 0, 0, 0, 10, 0);
-    twodfq_submit(&scheduler, 0, 0, 0, 0, 10, 0);
-    want("eligible", twodfq_due(&scheduler, 0, 0).kind, TWODFQ_ELIGIBLE);
+    want("nothing", twodfq_foresee(&scheduler, 0, 0, 0).kind, TWODFQ_NOTHING);
+    want("a worker beyond", twodfq_foresee(&scheduler, 0, 2, 0).kind, TWODFQ_REFUSED_WORKER);
+    twodfq_submit(&scheduler, 0, 0, 0, 2, 10, 0);
+    twodfq_submit(&scheduler, 0, 0, 0, 2, 10, 0);
+    foresees(twodfq_foresee(&scheduler, 0, 0, 10), 0, 1, 0);
     want("run", twodfq_take(&scheduler, 0, 0, 0).kind, TWODFQ_RUN);
-    want("busy", twodfq_due(&scheduler, 0, 0).kind, TWODFQ_REFUSED_BUSY);
-    want("eligible later", twodfq_due(&scheduler, 3, 1).kind, TWODFQ_ELIGIBLE);
-    twodfq_reply early = twodfq_due(&scheduler, 2, 1);
-    want("early", early.kind, TWODFQ_EARLY);
-    want("which one", early.request, 1);
-    want("its estimate", (uint32_t)early.first, 10);
+    want("busy", twodfq_foresee(&scheduler, 0, 0, 0).kind, TWODFQ_REFUSED_BUSY);
+    foresees(twodfq_foresee(&scheduler, 3, 1, 11), 1, 1, 1);
+    foresees(twodfq_foresee(&scheduler, 2, 1, 11), 1, 0, 0);
     twodfq_workers(&scheduler, 0, 0, 1);
-    want("retired", twodfq_due(&scheduler, 0, 1).kind, TWODFQ_RETIRED);
+    want("retired", twodfq_foresee(&scheduler, 0, 1, 0).kind, TWODFQ_RETIRED);
     twodfq_free(&scheduler);
 }
 

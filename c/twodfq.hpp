@@ -82,8 +82,7 @@ enum class ReplyKind : std::uint32_t {
     retired = TWODFQ_RETIRED,
     withdrawn = TWODFQ_WITHDRAWN,
     nothing = TWODFQ_NOTHING,
-    eligible = TWODFQ_ELIGIBLE,
-    early = TWODFQ_EARLY,
+    foreseen = TWODFQ_FORESEEN,
     refused_closed = TWODFQ_REFUSED_CLOSED,
     refused_tenant = TWODFQ_REFUSED_TENANT,
     refused_kind = TWODFQ_REFUSED_KIND,
@@ -105,6 +104,12 @@ struct Reply {
     ReplyKind kind;
     std::uint32_t request;
     std::uint64_t first, second;
+    /// Of a foreseen request.
+    std::uint32_t tenant, request_kind;
+    /// Whether a foreseen request is eligible for the worker; else no tenant's head is.
+    bool is_eligible;
+    /// Whether the head of some tenant is eligible for the worker and has an estimate below the one that was asked about.
+    bool has_smaller;
 
     /// Whether the call is refused, and has changed nothing.
     bool refused() const noexcept { return kind >= ReplyKind::refused_closed; }
@@ -193,8 +198,10 @@ public:
     Reply withdraw(std::uint32_t who, std::uint64_t moment, std::uint32_t request) noexcept {
         return reply(twodfq_withdraw(&handle_, who, moment, request));
     }
-    /// Foresees a take by the worker at this moment; it changes nothing.
-    Reply due(std::uint64_t moment, std::uint32_t worker) noexcept { return reply(twodfq_due(&handle_, moment, worker)); }
+    /// Foresees a take by the worker at this moment; it changes nothing. `below`: an estimate in microseconds.
+    Reply foresee(std::uint64_t moment, std::uint32_t worker, std::uint64_t below = 0) noexcept {
+        return reply(twodfq_foresee(&handle_, moment, worker, below));
+    }
     /// The entry of the history with this index.
     Entry entry(std::uint64_t index) noexcept {
         const twodfq_line line = twodfq_entry(&handle_, index);
@@ -206,7 +213,8 @@ public:
 
 private:
     static Reply reply(const twodfq_reply &numbers) noexcept {
-        return { static_cast<ReplyKind>(numbers.kind), numbers.request, numbers.first, numbers.second };
+        return { static_cast<ReplyKind>(numbers.kind), numbers.request, numbers.first, numbers.second, numbers.tenant,
+            numbers.request_kind, numbers.is_eligible != 0, numbers.has_smaller != 0 };
     }
     // Of a handle and its copy only one is used: the other holds no scheduler from here on.
     void take_over(Scheduler &other) noexcept {

@@ -69,19 +69,19 @@ func (p *Pool) choose(h *history, now time.Duration) (worker uint32, longest tim
 	if low == high && !gains {
 		return low, 0
 	}
-	due := h.due(now, low)
-	if due.Kind == DueEligible {
+	next := h.foresee(now, low)
+	if next.Eligible {
 		return low, 0
 	}
 	if low != high {
-		if due = h.due(now, high); due.Kind == DueEligible {
+		if next = h.foresee(now, high); next.Eligible {
 			return h.lowestEligible(free, now), 0
 		}
 	}
 	if !gains {
 		return high, 0
 	}
-	longest = p.patience.allows(free, h.waiting, due.Estimate, now)
+	longest = p.patience.allows(free, h.waiting, next.Estimate, now)
 	if longest <= 0 {
 		p.patience.takesEarly(free)
 	}
@@ -94,19 +94,19 @@ func (p *Pool) mayGain(h *history) bool {
 	return p.patience.part > 0 && p.tenants.open > 1 && h == p.rolling.newest() && !p.closed
 }
 
-func (h *history) due(now time.Duration, worker uint32) Due {
-	due, err := h.scheduler.Due(moment(now), worker)
+func (h *history) foresee(now time.Duration, worker uint32) Foreseen {
+	foreseen, err := h.scheduler.Foresee(moment(now), worker, 0)
 	if err != nil {
 		panic("twodfq: a free worker may not ask: " + err.Error())
 	}
-	return due
+	return foreseen
 }
 
 // The lowest of these workers with an eligible request. The highest has one, and a request that is eligible for a
 // worker is eligible for all above it.
 func (h *history) lowestEligible(free workerSet, now time.Duration) uint32 {
 	workers := free.members()
-	return workers[sort.Search(len(workers)-1, func(i int) bool { return h.due(now, workers[i]).Kind == DueEligible })]
+	return workers[sort.Search(len(workers)-1, func(i int) bool { return h.foresee(now, workers[i]).Eligible })]
 }
 
 // The worker takes a request, which begins.

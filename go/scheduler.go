@@ -133,21 +133,22 @@ const (
 	Retired TakenKind = C.TWODFQ_RETIRED // the worker is not among those that there are now; it may ask again
 )
 
-// Due is the foreseen answer to a Take.
-type Due struct {
-	Kind     DueKind
-	Request  uint32 // these two are of a DueEarly
-	Estimate uint64
+// Foreseen is the foreseen answer to a Take. All but the kind is of a ForeseenRun.
+type Foreseen struct {
+	Kind                         ForeseenKind
+	Request, Tenant, RequestKind uint32
+	Estimate                     uint64
+	Eligible                     bool // for the worker; else no tenant's head is
+	Smaller                      bool // a head that is eligible for the worker has an estimate below the one asked about
 }
 
-// DueKind is the kind of a Due.
-type DueKind uint32
+// ForeseenKind is the kind of a Foreseen.
+type ForeseenKind uint32
 
 const (
-	DueNothing  DueKind = C.TWODFQ_NOTHING  // nothing waits, whether or not more may come
-	DueEligible DueKind = C.TWODFQ_ELIGIBLE // some tenant's head is eligible for the worker
-	DueEarly    DueKind = C.TWODFQ_EARLY    // requests wait, no head is eligible, and a Take would give this request
-	DueRetired  DueKind = C.TWODFQ_RETIRED  // the worker is not among those that there are now
+	ForeseenNothing ForeseenKind = C.TWODFQ_NOTHING  // nothing waits, whether or not more may come
+	ForeseenRun     ForeseenKind = C.TWODFQ_FORESEEN // a Take would give this request
+	ForeseenRetired ForeseenKind = C.TWODFQ_RETIRED  // the worker is not among those that there are now
 )
 
 // Request is a request to submit.
@@ -238,18 +239,21 @@ func (s *Scheduler) Withdraw(who uint32, moment uint64, request uint32) (uint64,
 	return uint64(reply.second), nil
 }
 
-// Due foresees a Take by the worker at this moment. It changes nothing, and calls after it may be at earlier moments.
-// Refused as a Take would be.
-func (s *Scheduler) Due(moment uint64, worker uint32) (Due, error) {
-	reply := C.twodfq_due(&s.handle, C.uint64_t(moment), C.uint32_t(worker))
+// Foresee foresees a Take by the worker at this moment, and whether a head that is eligible for the worker then has an
+// estimate below this one, in microseconds. It changes nothing, and calls after it may be at earlier moments. Refused as
+// a Take would be.
+func (s *Scheduler) Foresee(moment uint64, worker uint32, below uint64) (Foreseen, error) {
+	reply := C.twodfq_foresee(&s.handle, C.uint64_t(moment), C.uint32_t(worker), C.uint64_t(below))
 	if err := refusal(reply); err != nil {
-		return Due{}, err
+		return Foreseen{}, err
 	}
-	due := Due{Kind: DueKind(reply.kind)}
-	if due.Kind == DueEarly {
-		due.Request, due.Estimate = uint32(reply.request), uint64(reply.first)
+	foreseen := Foreseen{Kind: ForeseenKind(reply.kind)}
+	if foreseen.Kind == ForeseenRun {
+		foreseen.Request, foreseen.Tenant = uint32(reply.request), uint32(reply.tenant)
+		foreseen.RequestKind, foreseen.Estimate = uint32(reply.request_kind), uint64(reply.first)
+		foreseen.Eligible, foreseen.Smaller = reply.is_eligible == 1, reply.has_smaller == 1
 	}
-	return due, nil
+	return foreseen, nil
 }
 
 // Act says which call an entry is of.

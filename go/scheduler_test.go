@@ -31,7 +31,7 @@ func TestWithdraw(t *testing.T) {
 
 // Virtual time rises by 2 units a microsecond; the second request starts at 10 and has the length 10, so it is eligible
 // for worker 1 of 2 from virtual time 5 on.
-func TestDue(t *testing.T) {
+func TestForesee(t *testing.T) {
 	config := Default(1)
 	config.Workers, config.Policy, config.Estimate = 2, TwoDFQ, Declared
 	scheduler, err := Open(config)
@@ -39,31 +39,31 @@ func TestDue(t *testing.T) {
 		t.Fatal(err)
 	}
 	defer scheduler.Free()
-	finds := func(moment uint64, worker uint32, wanted Due) {
+	finds := func(moment uint64, worker uint32, below uint64, wanted Foreseen) {
 		t.Helper()
-		if due, err := scheduler.Due(moment, worker); err != nil || due != wanted {
-			t.Fatalf("due %v, error %v, and %v is wanted", due, err, wanted)
+		if foreseen, err := scheduler.Foresee(moment, worker, below); err != nil || foreseen != wanted {
+			t.Fatalf("foreseen %v, error %v, and %v is wanted", foreseen, err, wanted)
 		}
 	}
-	finds(0, 0, Due{Kind: DueNothing})
+	finds(0, 0, 11, Foreseen{Kind: ForeseenNothing})
 	for label := uint64(0); label < 2; label++ {
 		if _, err := scheduler.Submit(0, 0, Request{Declared: 10, Label: label}); err != nil {
 			t.Fatal(err)
 		}
 	}
-	finds(0, 0, Due{Kind: DueEligible})
+	finds(0, 0, 10, Foreseen{Kind: ForeseenRun, Estimate: 10, Eligible: true})
 	if taken, err := scheduler.Take(1, 0, 0); err != nil || taken.Kind != Run {
 		t.Fatalf("taken %v, error %v", taken, err)
 	}
-	if _, err := scheduler.Due(0, 0); err != RefusedBusy {
+	if _, err := scheduler.Foresee(0, 0, 0); err != RefusedBusy {
 		t.Fatalf("error %v of a worker that runs a request", err)
 	}
-	finds(3, 1, Due{Kind: DueEligible})
-	finds(2, 1, Due{Kind: DueEarly, Request: 1, Estimate: 10})
+	finds(3, 1, 11, Foreseen{Kind: ForeseenRun, Request: 1, Estimate: 10, Eligible: true, Smaller: true})
+	finds(2, 1, 11, Foreseen{Kind: ForeseenRun, Request: 1, Estimate: 10})
 	if err := scheduler.SetWorkers(0, 0, 1); err != nil {
 		t.Fatal(err)
 	}
-	finds(0, 1, Due{Kind: DueRetired})
+	finds(0, 1, 11, Foreseen{Kind: ForeseenRetired})
 }
 
 func TestStatus(t *testing.T) {

@@ -98,8 +98,7 @@ enum {
     TWODFQ_RETIRED,     /* the worker is not among those that there are now; first: their number. It may ask again */
     TWODFQ_WITHDRAWN,   /* the request is withdrawn; second: its label */
     TWODFQ_NOTHING,     /* foreseen: nothing waits, whether or not more may come */
-    TWODFQ_ELIGIBLE,    /* foreseen: some tenant's head is eligible for the worker */
-    TWODFQ_EARLY,       /* foreseen: requests wait, no head is eligible; a take gives request; first: its estimate */
+    TWODFQ_FORESEEN,    /* foreseen: a take gives request; first: its estimate, and the four last numbers of a reply */
     TWODFQ_REFUSED_CLOSED = 16, /* the history is closed */
     TWODFQ_REFUSED_TENANT,      /* no tenant has this number; first: the number */
     TWODFQ_REFUSED_KIND,        /* no kind has this number; first: the number */
@@ -116,10 +115,13 @@ enum {
     TWODFQ_NO_SCHEDULER = 255
 };
 
-/* Numbers that a kind does not use are 0. */
+/* Numbers that a kind does not use are 0. The four last are of a foreseen request: its tenant and its kind; 1 where it is
+   eligible for the worker, else no tenant's head is; and 1 where the head of some tenant is eligible for the worker and
+   has an estimate below the one that was asked about. */
 typedef struct {
     uint32_t kind, request;
     uint64_t first, second;
+    uint32_t tenant, request_kind, is_eligible, has_smaller;
 } twodfq_reply;
 
 /* A request comes; it gets the next number. declared: the cost that its submitter names. label: any number, which comes
@@ -151,9 +153,10 @@ twodfq_reply twodfq_workers(twodfq *handle, uint32_t who, uint64_t moment, uint3
    Refused: NOT_WAITING. */
 twodfq_reply twodfq_withdraw(twodfq *handle, uint32_t who, uint64_t moment, uint32_t request);
 
-/* Foresees a take by the worker at this moment: NOTHING, ELIGIBLE, EARLY or RETIRED. It changes nothing, and calls
-   after it may be at earlier moments. Refused as a take would be: WORKER, BUSY. */
-twodfq_reply twodfq_due(twodfq *handle, uint64_t moment, uint32_t worker);
+/* Foresees a take by the worker at this moment: NOTHING, FORESEEN or RETIRED. `below` is an estimate in microseconds, and
+   0 where nobody asks for smaller heads. It changes nothing, and calls after it may be at earlier moments. Refused as a
+   take would be: WORKER, BUSY. */
+twodfq_reply twodfq_foresee(twodfq *handle, uint64_t moment, uint32_t worker, uint64_t below);
 
 /* An entry of the history, which has one for each call that was answered REQUEST, RUN, ACCEPTED or WITHDRAWN. */
 enum {

@@ -157,7 +157,7 @@ void done(service *to, uint64_t moment, uint32_t worker, uint32_t place) {
 // Whether the worker's next request is early, and then its estimate.
 bool is_early(service *by, uint64_t moment, uint32_t worker, uint64_t *estimate) {
     if (!is_by_library(by) || !by->waiting) return false;
-    twodfq_reply due = twodfq_due(&by->scheduler, moment, worker);
-    *estimate = due.first;
-    return due.kind == TWODFQ_EARLY;
+    twodfq_reply next = twodfq_foresee(&by->scheduler, moment, worker, 0);
+    *estimate = next.first;
+    return next.kind == TWODFQ_FORESEEN && !next.is_eligible;
 }

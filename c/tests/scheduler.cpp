@@ -45,10 +45,13 @@ static void calls() {
     want("submit", is(scheduler.submit(11, 100, 3, 1, 50, 42), ReplyKind::request, 0, 0, 0));
     want("submit", is(scheduler.submit(11, 100, 3, 1, 50, 43), ReplyKind::request, 1, 0, 0));
     want("its entry", is(scheduler.entry(0), { EntryKind::submit, 11, 100, 0, 3, 1, 0, 50, 42 }));
-    want("due", is(scheduler.due(101, 2), ReplyKind::eligible, 0, 0, 0));
+    const Reply foreseen = scheduler.foresee(101, 2, 51);
+    want("foresee", is(foreseen, ReplyKind::foreseen, 0, 50, 0));
+    want("what it tells", foreseen.tenant == 3 && foreseen.request_kind == 1 && foreseen.is_eligible && foreseen.has_smaller);
+    want("none smaller", !scheduler.foresee(101, 2, 50).has_smaller);
     want("take", is(scheduler.take(12, 101, 2), ReplyKind::run, 0, 50, 42));
     want("its entry", is(scheduler.entry(2), { EntryKind::take, 12, 101, 0, 0, 0, 2, 50, 0 }));
-    want("due of a busy worker", is(scheduler.due(101, 2), ReplyKind::refused_busy, 0, 0, 0));
+    want("foresee for a busy worker", is(scheduler.foresee(101, 2), ReplyKind::refused_busy, 0, 0, 0));
     want("report", is(scheduler.report(13, 102, 2, 7), ReplyKind::accepted, 0, 0, 0));
     want("its entry", is(scheduler.entry(3), { EntryKind::report, 13, 102, 0, 0, 0, 2, 7, 0 }));
     const twodfq_standing standing = scheduler.status();

@@ -38,22 +38,22 @@ pub enum Taken {
     Retired { workers: u32 },
 }
 
-/// A take as [`Scheduler::due`](crate::Scheduler::due) foresees it.
+/// A take as [`Scheduler::foresee`](crate::Scheduler::foresee) foresees it.
 ///
 /// ```
-/// use twodfq::{Config, Due, Scheduler};
+/// use twodfq::{Config, Foreseen, Scheduler};
 ///
 /// let mut scheduler = Scheduler::open(&Config { weights: &[1, 2], ..Config::default() }).unwrap();
-/// assert_eq!(scheduler.due(0, 0), Ok(Due::Nothing));
+/// assert_eq!(scheduler.foresee(0, 0, 0), Ok(Foreseen::Nothing));
 /// ```
 #[derive(Clone, Copy, Debug, PartialEq, Eq)]
-pub enum Due {
+pub enum Foreseen {
     /// No request waits, whether or not more may come.
     Nothing,
-    /// Some tenant's head is eligible for the worker.
-    Eligible,
-    /// Requests wait, and no head is eligible for the worker: it would take this request early, charged this estimate.
-    Early { request: u32, estimate: u64 },
+    /// The worker would run this request, charged this estimate. Where it is not eligible for the worker no tenant's
+    /// head is, and it would be taken early. `has_smaller` says whether the head of some tenant is eligible for the
+    /// worker and has an estimate below the one that was asked about.
+    Run { request: u32, tenant: u32, kind: u32, estimate: u64, is_eligible: bool, has_smaller: bool },
     /// The worker is not in the pool, which has this number of workers now.
     Retired { workers: u32 },
 }

@@ -8,7 +8,7 @@ use std::sync::{Arc, Condvar, Mutex, PoisonError};
 
 use crate::pool::Job;
 use crate::service::withdraw::Withdrawn;
-use crate::{Act, Due, Entry, Refusal, Taken};
+use crate::{Act, Entry, Foreseen, Refusal, Taken};
 
 #[repr(C)]
 #[derive(Debug)]
@@ -35,6 +35,10 @@ pub(crate) struct Reply {
     pub(crate) request: u32,
     pub(crate) first: u64,
     pub(crate) second: u64,
+    pub(crate) tenant: u32,
+    pub(crate) request_kind: u32,
+    pub(crate) is_eligible: u32,
+    pub(crate) has_smaller: u32,
 }
 
 #[repr(C)]
@@ -81,7 +85,7 @@ extern "C" {
     pub(crate) fn twodfq_weight(handle: *mut Handle, who: u32, moment: u64, tenant: u32, weight: u32) -> Reply;
     pub(crate) fn twodfq_workers(handle: *mut Handle, who: u32, moment: u64, count: u32) -> Reply;
     pub(crate) fn twodfq_withdraw(handle: *mut Handle, who: u32, moment: u64, request: u32) -> Reply;
-    pub(crate) fn twodfq_due(handle: *mut Handle, moment: u64, worker: u32) -> Reply;
+    pub(crate) fn twodfq_foresee(handle: *mut Handle, moment: u64, worker: u32, below: u64) -> Reply;
     pub(crate) fn twodfq_entry(handle: *mut Handle, index: u64) -> Line;
     pub(crate) fn twodfq_status(handle: *mut Handle) -> Standing;
     pub(crate) fn twodfq_free(handle: *mut Handle);
@@ -123,14 +127,15 @@ impl Reply {
         }
     }
 
-    /// The reply to a `due` that is not refused.
-    pub(crate) fn due(self) -> Due {
+    /// The reply to a `foresee` that is not refused.
+    pub(crate) fn foreseen(self) -> Foreseen {
+        let Reply { request, tenant, request_kind: kind, first: estimate, .. } = self;
+        let (is_eligible, has_smaller) = (self.is_eligible == 1, self.has_smaller == 1);
         match self.kind {
-            5 => Due::Retired { workers: self.first as u32 },
-            7 => Due::Nothing,
-            8 => Due::Eligible,
-            9 => Due::Early { request: self.request, estimate: self.first },
-            kind => unreachable!("nothing of kind {kind} is found"),
+            5 => Foreseen::Retired { workers: self.first as u32 },
+            7 => Foreseen::Nothing,
+            8 => Foreseen::Run { request, tenant, kind, estimate, is_eligible, has_smaller },
+            kind => unreachable!("nothing of kind {kind} is foreseen"),
         }
     }
 }

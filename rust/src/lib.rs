@@ -41,7 +41,7 @@ mod refusal;
 mod scheduler;
 mod service;
 
-pub use calls::{Act, Due, Entry, Standing, Submit, Taken};
+pub use calls::{Act, Entry, Foreseen, Standing, Submit, Taken};
 pub use config::{Config, Estimator, Policy};
 pub use permits::{Acquire, Permit, Permits};
 pub use pool::{tick, Handle, JoinError, Pool, Scope};

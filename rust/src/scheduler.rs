@@ -1,7 +1,7 @@
 //! The calls of the library, safe for Rust.
 use std::ptr;
 
-use crate::calls::{Due, Entry, Standing, Submit, Taken};
+use crate::calls::{Entry, Foreseen, Standing, Submit, Taken};
 use crate::config::Config;
 use crate::ffi;
 use crate::refusal::{OpenFault, Refusal};
@@ -161,11 +161,12 @@ impl Scheduler {
         Ok(unsafe { ffi::twodfq_withdraw(&mut self.handle, who, moment, request) }.accepted()?.second)
     }
 
-    /// Foresees a take by the worker at this moment. The call changes nothing, and calls after it may be at earlier
-    /// moments. Refused as a take would be.
+    /// Foresees a take by the worker at this moment, and whether a head that is eligible for the worker then has an
+    /// estimate below `below`, in microseconds. The call changes nothing, and calls after it may be at earlier moments.
+    /// Refused as a take would be.
     ///
     /// ```
-    /// use twodfq::{Config, Due, Estimator, Policy, Refusal, Scheduler, Submit};
+    /// use twodfq::{Config, Estimator, Foreseen, Policy, Refusal, Scheduler, Submit};
     ///
     /// let (policy, estimate) = (Policy::TwoDfq, Estimator::Declared);
     /// let config = Config { weights: &[1], workers: 2, policy, estimate, ..Config::default() };
@@ -173,18 +174,22 @@ impl Scheduler {
     /// for label in [42, 43] {
     ///     scheduler.submit(0, 0, Submit { tenant: 0, kind: 0, declared: 10, label }).unwrap();
     /// }
-    /// assert_eq!(scheduler.due(0, 0), Ok(Due::Eligible));
+    /// assert!(matches!(scheduler.foresee(0, 0, 0), Ok(Foreseen::Run { request: 0, is_eligible: true, .. })));
     /// scheduler.take(1, 0, 0).unwrap();
-    /// assert_eq!(scheduler.due(0, 0), Err(Refusal::Busy(0)));
+    /// assert_eq!(scheduler.foresee(0, 0, 0), Err(Refusal::Busy(0)));
     /// // the second starts at 10, where virtual time comes at 2 units a microsecond, and worker 1 may begin it half its
     /// // length before
-    /// assert_eq!(scheduler.due(2, 1), Ok(Due::Early { request: 1, estimate: 10 }));
-    /// assert_eq!(scheduler.due(3, 1), Ok(Due::Eligible));
+    /// let second = |is_eligible, has_smaller| {
+    ///     Ok(Foreseen::Run { request: 1, tenant: 0, kind: 0, estimate: 10, is_eligible, has_smaller })
+    /// };
+    /// assert_eq!(scheduler.foresee(2, 1, 11), second(false, false));
+    /// assert_eq!(scheduler.foresee(3, 1, 11), second(true, true));
+    /// assert_eq!(scheduler.foresee(3, 1, 10), second(true, false));
     /// scheduler.workers(0, 0, 1).unwrap();
-    /// assert_eq!(scheduler.due(0, 1), Ok(Due::Retired { workers: 1 }));
+    /// assert_eq!(scheduler.foresee(0, 1, 0), Ok(Foreseen::Retired { workers: 1 }));
     /// ```
-    pub fn due(&mut self, moment: u64, worker: u32) -> Result<Due, Refusal> {
-        Ok(unsafe { ffi::twodfq_due(&mut self.handle, moment, worker) }.accepted()?.due())
+    pub fn foresee(&mut self, moment: u64, worker: u32, below: u64) -> Result<Foreseen, Refusal> {
+        Ok(unsafe { ffi::twodfq_foresee(&mut self.handle, moment, worker, below) }.accepted()?.foreseen())
     }
 
     /// The entry of the history with this index, in order of time, the first with 0, if there is one and it is kept.

@@ -16,13 +16,7 @@ use tag_rules::foresees::Foresees;
 impl<J: Job + Drop, X: Foresees> DeskOf<Floor<J, X>> {
     /// Foresees a take by this worker at this moment, and whether a head that is eligible for it then has an estimate
     /// below `below`, both in microseconds. It waits for its turn, takes no memory, and changes nothing.
-    pub fn foresee<R: Wait>(
-        &self,
-        rt: &R,
-        worker: &mut Worker,
-        moment: u64,
-        below: u64,
-    ) -> Foreseen
+    pub fn foresee<R: Wait>(&self, rt: &R, worker: &mut Worker, moment: u64, below: u64) -> Foreseen
         requires { IsOf self.now.lock worker.old.pass }
         ensures stays { Stays self.now.lock worker.old.pass worker.new.pass }
         ensures found { IsFound self.now.lock.frame worker.old.pass moment worker.old.worker below result

@@ -8,7 +8,7 @@ use crate::samples::{
 };
 use desk::{Desk, DoneRefusal, LiveRefusal, Running, Submitter, Took, Worker};
 use eligible_index::index::IndexChooser;
-use fq_model::event::{Cause, Due, Entry};
+use fq_model::event::{Cause, Entry, Foreseen, ForeseenRun};
 use sched_state::{AlreadyClosed, Refused};
 use std::alloc::Global;
 use std::process::Abort;
@@ -196,28 +196,40 @@ fn a_job_that_is_withdrawn(rt: HostRuntime) {
     expect_true(&rt, are_callers(past.as_slice(), &[0, 0, 0, 1, 1]));
 }
 
+// A take of this request is foreseen, at an estimate of 5; whether it is eligible, and whether a smaller one is.
+fn is_foreseen(foreseen: Foreseen, number: u32, is_eligible: bool, has_smaller: bool) -> bool {
+    match foreseen {
+        Foreseen::Run(
+            ForeseenRun {
+                request,
+                estimate: 5,
+                is_eligible: eligible,
+                has_smaller: smaller,
+                ..
+            },
+        ) => (request, eligible, smaller) == (number, is_eligible, has_smaller),
+        _ => false,
+    }
+}
+
 // A desk's entries after a worker's take was foreseen: where nothing waits, where two requests do, and once the first
 // has ended, a microsecond before the second is eligible and then.
 fn questions<X: Foresees + Drop, R: Wait + Abort>(rt: &R, alloc: Global) -> Vec<Entry> {
     let (desk, mut who, mut worker) = small::<X, R>(rt, alloc);
-    expect_true(rt, matches!(desk.due(rt, &mut worker, 50), Due::Nothing));
-    expect_same(rt, submit(rt, &desk, &mut who, 50, 7), Ok(0));
-    expect_same(rt, submit(rt, &desk, &mut who, 50, 8), Ok(1));
-    expect_true(rt, matches!(desk.due(rt, &mut worker, 50), Due::Eligible));
-    let (running, _job) = taken_now(rt, &desk, worker, 50);
-    let mut worker = done(rt, &desk, running, 50, 5);
-    let early = desk.due(rt, &mut worker, 54);
     expect_true(
         rt,
-        matches!(
-            early,
-            Due::Early {
-                request: 1,
-                estimate: 5
-            }
-        ),
+        matches!(desk.foresee(rt, &mut worker, 50, 0), Foreseen::Nothing),
     );
-    expect_true(rt, matches!(desk.due(rt, &mut worker, 55), Due::Eligible));
+    expect_same(rt, submit(rt, &desk, &mut who, 50, 7), Ok(0));
+    expect_same(rt, submit(rt, &desk, &mut who, 50, 8), Ok(1));
+    let first = desk.foresee(rt, &mut worker, 50, 5);
+    expect_true(rt, is_foreseen(first, 0, true, false));
+    let (running, _job) = taken_now(rt, &desk, worker, 50);
+    let mut worker = done(rt, &desk, running, 50, 5);
+    let early = desk.foresee(rt, &mut worker, 54, 6);
+    expect_true(rt, is_foreseen(early, 1, false, false));
+    let second = desk.foresee(rt, &mut worker, 55, 6);
+    expect_true(rt, is_foreseen(second, 1, true, true));
     ended(rt, alloc, desk, who, worker)
 }
 

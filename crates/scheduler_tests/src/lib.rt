@@ -12,11 +12,11 @@ mod choosers;
 #[cfg(test)]
 mod clock_tests;
 #[cfg(test)]
-mod due_tests;
-#[cfg(test)]
 mod estimate_tests;
 #[cfg(test)]
 mod fitted_tests;
+#[cfg(test)]
+mod foresee_tests;
 #[cfg(test)]
 mod gap_tests;
 #[cfg(test)]

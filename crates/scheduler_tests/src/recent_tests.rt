@@ -1,6 +1,6 @@
 use crate::samples::{expect_same, expect_true};
 use fq_model::config::Checked;
-use fq_model::event::{Call, Cause, Due, Reply};
+use fq_model::event::{Call, Cause, Foreseen, ForeseenRun, Reply};
 use rival_policies::plain::PlainChooser;
 use sched_state::{Recent, Scheduler};
 use std::alloc::Global;
@@ -167,6 +167,23 @@ fn one_is_withdrawn_where_two_are_kept(rt: HostRuntime) {
     expect_last(&rt, rt.alloc(), 2, &withdrawals(), 6);
 }
 
+// The second request of tenant 0 is foreseen; whether it is eligible, and whether a smaller one is.
+fn is_second(foreseen: Foreseen, is_eligible: bool, has_smaller: bool) -> bool {
+    match foreseen {
+        Foreseen::Run(
+            ForeseenRun {
+                request: 1,
+                tenant: 0,
+                kind: 0,
+                estimate: 5,
+                is_eligible: eligible,
+                has_smaller: smaller,
+            },
+        ) => (eligible, smaller) == (is_eligible, has_smaller),
+        _ => false,
+    }
+}
+
 // The second of two requests is eligible once its tenant's charge of 4 has passed in virtual time, from the moment 1
 // on.
 #[test]
@@ -176,27 +193,18 @@ fn a_worker_that_asks_what_it_would_find(rt: HostRuntime) {
         short_history(&rt, rt.alloc()),
         1,
     ).expect(&rt, "memory for a scheduler");
-    expect_true(&rt, matches!(recent.due(1, 0), Due::Nothing));
+    expect_true(&rt, matches!(recent.foresee(1, 0, 0), Foreseen::Nothing));
     for call in [submit(1, 0), submit(1, 0), take(1), done(2)] {
         sched_state::answer(&mut recent, call);
     }
     for moment in [0, 4] {
-        let early = recent.due(moment, 0);
-        expect_true(
-            &rt,
-            matches!(
-                early,
-                Due::Early {
-                    request: 1,
-                    estimate: 5
-                }
-            ),
-        );
+        expect_true(&rt, is_second(recent.foresee(moment, 0, 6), false, false));
     }
-    expect_true(&rt, matches!(recent.due(5, 0), Due::Eligible));
+    expect_true(&rt, is_second(recent.foresee(5, 0, 6), true, true));
+    expect_true(&rt, is_second(recent.foresee(5, 0, 5), true, false));
     expect_true(
         &rt,
-        matches!(recent.due(5, 1), Due::Refused(Cause::Worker(1))),
+        matches!(recent.foresee(5, 1, 0), Foreseen::Refused(Cause::Worker(1))),
     );
     expect_same(&rt, recent.len(), 4);
     drop(recent);

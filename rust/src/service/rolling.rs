@@ -5,7 +5,7 @@ use std::sync::Arc;
 
 use super::requests::Submitted;
 use super::settings::{Settings, ONE_REQUEST_AND_CLOSE};
-use crate::{Due, OpenFault, Refusal, Scheduler, Submit, Taken};
+use crate::{Foreseen, OpenFault, Refusal, Scheduler, Submit, Taken};
 
 /// The caller in entries that no worker made.
 const CALLER: u32 = 64;
@@ -217,7 +217,10 @@ impl Rolling {
     /// Whether a head is eligible for the worker in the scheduler that it would take from.
     pub(crate) fn is_eligible(&mut self, moment: u64, worker: u32) -> bool {
         let oldest = self.histories.iter_mut().find(|history| history.waiting > 0);
-        oldest.is_some_and(|history| matches!(history.scheduler.due(moment, worker), Ok(Due::Eligible)))
+        oldest.is_some_and(|history| {
+            let foreseen = history.scheduler.foresee(moment, worker, 0);
+            matches!(foreseen, Ok(Foreseen::Run { is_eligible: true, .. }))
+        })
     }
 
     /// The estimate of the job that the worker would take before its time. None while an older scheduler has jobs that
@@ -227,8 +230,8 @@ impl Rolling {
         if newest.waiting == 0 || older.iter().any(|history| history.waiting > 0) {
             return None;
         }
-        match newest.scheduler.due(moment, worker) {
-            Ok(Due::Early { estimate, .. }) => Some(estimate),
+        match newest.scheduler.foresee(moment, worker, 0) {
+            Ok(Foreseen::Run { estimate, is_eligible: false, .. }) => Some(estimate),
             _ => None,
         }
     }

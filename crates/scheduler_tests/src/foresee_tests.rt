@@ -2,7 +2,7 @@ use crate::samples::{expect_same, expect_true};
 use eligible_index::index::IndexChooser;
 use fitted_chooser::chooser::ProgramChooser;
 use fq_model::config::{Checked, Policy};
-use fq_model::event::{Call, Cause, Due, Reply};
+use fq_model::event::{Call, Cause, Foreseen, ForeseenRun, Reply};
 use rival_policies::plain::PlainChooser;
 use sched_state::{Scheduler, answer};
 use shared_order::chooser::SharedChooser;
@@ -11,7 +11,7 @@ use std::process::Abort;
 use tag_rules::chooser::Chooser;
 use tag_rules::foresees::Foresees;
 use tag_rules::head_keys::Keys;
-use tag_rules::turn::Turn;
+use tag_rules::turn::{Turn, finishes_before};
 use test_samples::sample_config;
 
 // Numbers drawn one after another.
@@ -34,6 +34,7 @@ struct Tally {
     nothing: u32,
     eligible: u32,
     early: u32,
+    smaller: u32,
 }
 
 // Three tenants share at most four workers.
@@ -86,17 +87,22 @@ fn drawn(draw: &mut Draw, moment: u64, submits: u32) -> Call {
 }
 
 // A worker's take, foreseen by the definitions: by the virtual time at the moment, and the keys of each head.
-fn found_by_keys<X: Foresees>(scheduler: &Scheduler<u64, X>, moment: u64, worker: u32) -> Due {
+fn found_by_keys<X: Foresees>(
+    scheduler: &Scheduler<u64, X>,
+    moment: u64,
+    worker: u32,
+    below: u64,
+) -> Foreseen {
     let config = scheduler.config();
     if worker >= config.workers() {
-        return Due::Refused(Cause::Worker(worker));
+        return Foreseen::Refused(Cause::Worker(worker));
     }
     if let Some(row) = scheduler.running(worker) {
-        return Due::Refused(Cause::Busy(row.request));
+        return Foreseen::Refused(Cause::Busy(row.request));
     }
     let workers = scheduler.pool();
     if worker >= workers {
-        return Due::Retired(workers);
+        return Foreseen::Retired(workers);
     }
     let turn = Turn {
         policy: config.policy(),
@@ -104,79 +110,94 @@ fn found_by_keys<X: Foresees>(scheduler: &Scheduler<u64, X>, moment: u64, worker
         worker,
         virtual_time: scheduler.virtual_time_at(moment),
     };
-    let mut soonest: Option<Keys> = None;
+    let mut best: Option<Head> = None;
+    let mut has_smaller = false;
     for tenant in 0..config.tenants() {
         if let Some(keys) = scheduler.keys(tenant) {
-            if turn.is_eligible(keys) {
-                return Due::Eligible;
-            }
-            soonest = Some(sooner(turn, soonest, keys));
+            best = Some(better(turn, best, Head { tenant, keys }));
+            has_smaller = has_smaller || (turn.is_eligible(keys) && cost_of(keys.request) < below);
         }
     }
-    match soonest {
-        Some(keys) => Due::Early {
-            request: keys.request,
-            estimate: cost_of(keys.request),
-        },
-        None => Due::Nothing,
+    match best {
+        Some(head) => Foreseen::Run(ForeseenRun {
+            request: head.keys.request,
+            tenant: head.tenant,
+            kind: 0,
+            estimate: cost_of(head.keys.request),
+            is_eligible: turn.is_eligible(head.keys),
+            has_smaller,
+        }),
+        None => Foreseen::Nothing,
     }
 }
 
-// Of two heads, or one, that which is eligible sooner.
-fn sooner(turn: Turn, soonest: Option<Keys>, keys: Keys) -> Keys {
-    match soonest {
-        Some(first) if turn.eligible_before(first, keys) => first,
-        _ => keys,
+// A tenant's head.
+#[derive(Clone, Copy)]
+struct Head {
+    tenant: u32,
+    keys: Keys,
+}
+
+// Of two heads, or one, that which is taken: an eligible one by its finish, or else the one that becomes so soonest.
+fn better(turn: Turn, best: Option<Head>, head: Head) -> Head {
+    match best {
+        Some(first) if goes_first(turn, first.keys, head.keys) => first,
+        _ => head,
     }
 }
 
-fn is_same(a: Due, b: Due) -> bool {
+fn goes_first(turn: Turn, a: Keys, b: Keys) -> bool {
+    match (turn.is_eligible(a), turn.is_eligible(b)) {
+        (true, true) => finishes_before(a, b),
+        (false, false) => turn.eligible_before(a, b),
+        (is_eligible, _) => is_eligible,
+    }
+}
+
+fn is_same_run(a: ForeseenRun, b: ForeseenRun) -> bool {
+    (a.request, a.tenant, a.kind, a.estimate) == (b.request, b.tenant, b.kind, b.estimate)
+        && (a.is_eligible, a.has_smaller) == (b.is_eligible, b.has_smaller)
+}
+
+fn is_same(a: Foreseen, b: Foreseen) -> bool {
     match (a, b) {
-        (Due::Nothing, Due::Nothing) | (Due::Eligible, Due::Eligible) => true,
-        (
-            Due::Early { request, estimate },
-            Due::Early {
-                request: r,
-                estimate: e,
-            },
-        ) => request == r && estimate == e,
-        (Due::Retired(a), Due::Retired(b)) => a == b,
-        (Due::Refused(a), Due::Refused(b)) => a == b,
+        (Foreseen::Nothing, Foreseen::Nothing) => true,
+        (Foreseen::Run(a), Foreseen::Run(b)) => is_same_run(a, b),
+        (Foreseen::Retired(a), Foreseen::Retired(b)) => a == b,
+        (Foreseen::Refused(a), Foreseen::Refused(b)) => a == b,
         _ => false,
     }
 }
 
-// A take is answered as was found before it.
-fn agrees(due: Due, reply: Reply) -> bool {
-    match (due, reply) {
-        (Due::Nothing, Reply::Idle) | (Due::Eligible, Reply::Run { .. }) => true,
+// A take is answered as was foreseen.
+fn agrees(foreseen: Foreseen, reply: Reply) -> bool {
+    match (foreseen, reply) {
+        (Foreseen::Nothing, Reply::Idle) => true,
         (
-            Due::Early { request, estimate },
+            Foreseen::Run(run),
             Reply::Run {
-                request: r,
-                estimate: e,
+                request,
+                estimate,
                 ..
             },
-        ) => request == r && estimate == e,
-        (Due::Retired(a), Reply::Retired(b)) => a == b,
-        (Due::Refused(a), Reply::Refused(b)) => a == b,
+        ) => run.request == request && run.estimate == estimate,
+        (Foreseen::Retired(a), Reply::Retired(b)) => a == b,
+        (Foreseen::Refused(a), Reply::Refused(b)) => a == b,
         _ => false,
     }
 }
 
 // The tally with one answer more.
-fn counted(tally: Tally, due: Due) -> Tally {
-    match due {
-        Due::Nothing => Tally {
+fn counted(tally: Tally, foreseen: Foreseen) -> Tally {
+    match foreseen {
+        Foreseen::Nothing => Tally {
             nothing: tally.nothing.wrapping_add(1),
             ..tally
         },
-        Due::Eligible => Tally {
-            eligible: tally.eligible.wrapping_add(1),
-            ..tally
-        },
-        Due::Early { .. } => Tally {
-            early: tally.early.wrapping_add(1),
+        Foreseen::Run(run) => Tally {
+            eligible: tally.eligible.wrapping_add(run.is_eligible as u32),
+            early: tally.early.wrapping_add(!run.is_eligible as u32),
+            smaller: tally.smaller.wrapping_add(run.has_smaller as u32),
             ..tally
         },
         _ => tally,
@@ -198,9 +219,11 @@ fn ask_all<X: Foresees, R: Abort>(
             moment.saturating_add(2),
             moment.saturating_add(40),
         ] {
-            let due = scheduler.due(other, worker);
-            expect_true(rt, is_same(due, found_by_keys(scheduler, other, worker)));
-            tally = counted(tally, due);
+            let below = other.wrapping_add(worker as u64 * 20) % 80;
+            let foreseen = scheduler.foresee(other, worker, below);
+            let by_keys = found_by_keys(scheduler, other, worker, below);
+            expect_true(rt, is_same(foreseen, by_keys));
+            tally = counted(tally, foreseen);
         }
     }
     tally
@@ -211,9 +234,9 @@ fn made<X: Foresees, R: Abort>(rt: &R, scheduler: &mut Scheduler<u64, X>, call: 
     let Call::Take { moment, worker, .. } = call else {
         return answer(scheduler, call);
     };
-    let due = scheduler.due(moment, worker);
+    let foreseen = scheduler.foresee(moment, worker, 0);
     let reply = answer(scheduler, call);
-    expect_true(rt, agrees(due, reply));
+    expect_true(rt, agrees(foreseen, reply));
     reply
 }
 
@@ -280,6 +303,7 @@ fn expect_exact<X: Foresees + Drop, R: Abort>(rt: &R, alloc: Global, policy: Pol
             nothing: 0,
             eligible: 0,
             early: 0,
+            smaller: 0,
         },
     };
     for _ in 0..100 {
@@ -300,6 +324,7 @@ fn expect_under_each<X: Foresees + Drop, R: Abort>(rt: &R, alloc: Global) {
         expect_true(rt, tally.nothing > 0);
         expect_true(rt, tally.eligible > 0);
         expect_true(rt, tally.early > 0);
+        expect_true(rt, tally.smaller > 0);
     }
     let by_finish = expect_exact::<X, R>(rt, alloc, Policy::Wfq);
     expect_same(rt, by_finish.early, 0);
