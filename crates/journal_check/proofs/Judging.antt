@@ -65,7 +65,11 @@ module _ (C : Config) (old new : List Entry) (given : Entry) (reply : Reply) (wa
   adds : Added old new wanted
   adds = subst (Added old new) (sym is) (call_adds C old new given reply answers)
 
-  -- it adds another entry, or none
+  -- it adds the entry that is wanted, or none
+  pub gained : history_of new ≡ with_gained wanted (history_of old)
+  gained = gained_is old new wanted adds
+
+  -- which is another entry, or none
   pub first_bad : InLimits C → IsLegal C (history_of old) → ¬ (wanted ≡ Some given) → IsFirstBad C (old ++ given ∷ []) (length old + 1) reply wanted
   first_bad limits before other = record {
     before = old;
@@ -79,7 +83,7 @@ module _ (C : Config) (old new : List Entry) (given : Entry) (reply : Reply) (wa
         let last : slice_get new (length old) ≡ Some given = ap (λ (l : List Entry). slice_get l (length old)) (added_last old new given grown) ∙ last_is old given in
         other (is ∙ last)
         );
-    answered = subst (Answers C (history_of old) (call_of given) reply) (gained_is old new wanted adds) answers;
+    answered = subst (Answers C (history_of old) (call_of given) reply) gained answers;
   }
 
   -- or it adds the entry

@@ -7,6 +7,7 @@ ghost use Rattle.program_model.specs.Document.{config_of};
 ghost use Rattle.program_model.specs.Journal.{call_of};
 ghost use Rattle.program_model.specs.declared.verdict.Verdict.TheVariants.{Legal};
 ghost use Rattle.program_model.specs.Verdicts.{IsVerdict};
+ghost use Rattle.journal_check.specs.Judged.{IsAsAnswered};
 
 use fq_model::config::{Checked, Config, Weights};
 use fq_model::event::{Act, Call, Entry};
@@ -44,12 +45,13 @@ fn judge<X: Chooser>(scheduler: &mut Scheduler<u64, X>, entries: &[Entry]) -> Ve
 }
 
 /// Makes the call of an entry, and judges the scheduler's entries with this entry after them: it is the first that is
-/// not legal where its call adds another entry, or none.
+/// not legal where its call adds another entry, or none. The scheduler then has the entry that its own answer added.
 pub fn judge_next<X: Chooser>(scheduler: &mut Scheduler<u64, X>, given: Entry) -> Verdict
     requires { InLimits scheduler.old.config }
     ensures config { scheduler.new.config ≡ scheduler.old.config }
     ensures verdict { IsVerdict scheduler.old.config (scheduler.old.past ++ given ∷ []) result }
     ensures past { result ≡ Legal → scheduler.new.past ≡ scheduler.old.past ++ given ∷ [] }
+    ensures bad { IsAsAnswered scheduler.old given result scheduler.new }
 {
     let k = scheduler.past().len();
     let reply = answer(scheduler, call_of(given));
