@@ -124,7 +124,7 @@ func TestEntries(t *testing.T) {
 // The zero values stand for the policy and the estimator of Default. Under WFQ no request is ever before its time;
 // under TwoDFQPlus the second request of a tenant is, for worker 0.
 func TestZeroPolicy(t *testing.T) {
-	for policy, wanted := range map[Policy]DueKind{0: DueEarly, TwoDFQPlus: DueEarly, WFQ: DueEligible} {
+	for policy, isEligible := range map[Policy]bool{0: false, TwoDFQPlus: false, WFQ: true} {
 		config := Default(1)
 		config.Policy, config.Estimate = policy, 0
 		s, err := Open(config)
@@ -139,8 +139,9 @@ func TestZeroPolicy(t *testing.T) {
 		if taken, err := s.Take(1, 0, 1); err != nil || taken.Estimate != config.Initial {
 			t.Errorf("an estimate of %d, error %v", taken.Estimate, err)
 		}
-		if due, err := s.Due(0, 0); err != nil || due.Kind != wanted {
-			t.Errorf("policy %d: %v, error %v", policy, due, err)
+		foreseen, err := s.Foresee(0, 0, 0)
+		if err != nil || foreseen.Kind != ForeseenRun || foreseen.Eligible != isEligible {
+			t.Errorf("policy %d: %v, error %v", policy, foreseen, err)
 		}
 		s.Free()
 	}

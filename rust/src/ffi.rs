@@ -257,10 +257,21 @@ pub(crate) fn lending<'env, R>(body: impl for<'scope> FnOnce(&'scope Lender<'sco
 mod tests {
     use super::*;
 
+    fn accepted() -> Reply {
+        let (tenant, request_kind, is_eligible, has_smaller) = (0, 0, 0, 0);
+        Reply { kind: 2, request: 0, first: 0, second: 0, tenant, request_kind, is_eligible, has_smaller }
+    }
+
     #[test]
     #[should_panic = "no reply of kind 2"]
     fn a_take_that_is_answered_otherwise() {
-        Reply { kind: 2, request: 0, first: 0, second: 0 }.taken();
+        accepted().taken();
+    }
+
+    #[test]
+    #[should_panic = "nothing of kind 2 is foreseen"]
+    fn a_take_that_is_foreseen_otherwise() {
+        accepted().foreseen();
     }
 
     #[test]

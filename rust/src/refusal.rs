@@ -47,7 +47,7 @@ pub enum Refusal {
 impl Refusal {
     /// The reply as a refusal, if it is one.
     pub(crate) fn of_reply(reply: &Reply) -> Option<Refusal> {
-        let Reply { kind, request, first, second } = *reply;
+        let Reply { kind, request, first, second, .. } = *reply;
         Some(match kind {
             0..=9 => return None,
             16 => Refusal::Closed,
