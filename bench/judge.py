@@ -7,8 +7,9 @@ import collections
 # Steps of virtual time in a unit, the greatest moment and the greatest cost, both in microseconds.
 UNIT, GREATEST_MOMENT, GREATEST_COST = 1 << 20, 10**15, 10**9
 
-# The rules of 2dfq+ by name: virtual time never passes the greatest finish at which a request was taken; a take makes it at
-# least the eligible key of its request; and a submit that finds none of its tenant's requests waiting raises the tag to it.
+# The rules that keep leads short under 2dfq+, by name: virtual time never passes the greatest finish at which a request was taken;
+# a take makes it at least the eligible key of its request; and a submit that finds none of its tenant's requests waiting raises the
+# tag to it. (With any of them a tenant that lingers counts in the rate of virtual time.)
 RULES = ("cap", "lift", "raise")
 
 Config = collections.namedtuple("Config", "workers policy estimate initial entries requests")
@@ -70,9 +71,14 @@ class History:
         self.requests, self.costs, self.runs = [], {}, {}
         self.length, self.waiting, self.closed = 0, 0, False
 
+    def is_served(self, tenant):
+        """Whether the fluid serves a tenant: it has an open request, or it lingers, as its start is above virtual time."""
+        lingers = self.config.policy == "2dfq+" and self.virtual < tenant.charged + tenant.base
+        return bool(tenant.open) or lingers
+
     def advance(self, moment):
-        """The rise of virtual time from the last entry to this moment."""
-        weights = sum(t.weight for t in self.tenants if t.open)
+        """The rise of virtual time by the clock from the last entry to this moment."""
+        weights = sum(t.weight for t in self.tenants if self.is_served(t))
         return (moment - self.moment) * self.workers * UNIT // weights if weights else 0
 
     def time_at(self, moment):

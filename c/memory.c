@@ -1,6 +1,6 @@
-// The memory that the scheduler takes, by a heap that counts: all at the opening, each block given back, and a status,
-// with nothing lost, where any of the blocks is wanting. It defines the functions of the heap itself, in place of
-// heap.c.
+// The memory that the scheduler takes, by a heap that counts: all at the opening, under each policy and estimator and
+// whatever is called; each block given back; and a status, with nothing lost, if any of the blocks is wanting. It
+// defines the functions of the heap itself, in place of heap.c.
 #include <malloc.h>
 #include <stdio.h>
 #include <stdlib.h>
@@ -50,51 +50,89 @@ static void want(const char *what, bool is_so) {
     exit(1);
 }
 
-enum { MOST_TENANTS = 4096, WORKERS = 8, ROUNDS = 20000 };
+enum { MOST_TENANTS = 4096, WORKERS = 8, ROUNDS = 8000 };
 
 static uint32_t weights[MOST_TENANTS + 1];
 
-static twodfq_opening opening_for(uint32_t tenants, uint32_t estimate) {
+static twodfq_opening opening_for(uint32_t tenants, uint32_t policy, uint32_t estimate) {
     return (twodfq_opening){
         .workers = WORKERS,
         .kinds = 2,
-        .entries = 4 * ROUNDS + 3 * tenants + 5, // a withdraw, a weight, the workers and the close beside the requests
+        .entries = 6 * ROUNDS + 3 * tenants + 1, // some rounds have a change beside a request, and one close comes
         .requests = 2 * tenants,
-        .policy = TWODFQ_2DFQ,
+        .policy = policy,
         .estimate = estimate,
         .initial = 1000,
     };
 }
 
-// Some of every call, with a backlog in each tenant, until nothing waits.
-static void serve(twodfq *scheduler, uint32_t tenants) {
-    for (uint32_t i = 0; i < tenants; i++)
-        want("a request comes", twodfq_submit(scheduler, 0, i, i, i % 2, 10, i).kind == TWODFQ_REQUEST);
-    for (uint32_t i = 0; i < ROUNDS; i++) {
-        uint32_t worker = i % WORKERS, moment = tenants + i;
-        want("a request comes", twodfq_submit(scheduler, 0, moment, i * 7 % tenants, i % 2, 10, i).kind == TWODFQ_REQUEST);
-        want("a worker runs one", twodfq_take(scheduler, 1, moment, worker).kind == TWODFQ_RUN);
-        if (i % 2) want("it reports", twodfq_report(scheduler, 1, moment, worker, i % 5).kind == TWODFQ_ACCEPTED);
-        want("it is done", twodfq_done(scheduler, 1, moment, worker, 5 + i % 100).kind == TWODFQ_ACCEPTED);
+static bool is(uint32_t wanted, twodfq_reply reply) {
+    return reply.kind == wanted;
+}
+
+// A call of each kind that is refused, while worker 0 runs a request or nothing does.
+static void refuse(twodfq *to, uint32_t tenants, bool runs) {
+    want("no tenant has the number", is(TWODFQ_REFUSED_TENANT, twodfq_submit(to, 0, 0, tenants, 0, 10, 0)));
+    want("no worker has the number", is(TWODFQ_REFUSED_WORKER, twodfq_due(to, 0, WORKERS)));
+    want("no weight is 0", is(TWODFQ_REFUSED_WEIGHT, twodfq_weight(to, 0, 0, 0, 0)));
+    want("no pool is empty", is(TWODFQ_REFUSED_WORKERS, twodfq_workers(to, 0, 0, 0)));
+    want("nothing has the number", is(TWODFQ_REFUSED_NOT_WAITING, twodfq_withdraw(to, 0, 0, 4000000000)));
+    if (runs) want("the worker is busy", is(TWODFQ_REFUSED_BUSY, twodfq_take(to, 1, 0, 0)));
+    else want("the worker runs nothing", is(TWODFQ_REFUSED_NOT_RUNNING, twodfq_report(to, 1, 0, 0, 1)));
+    want("a cost is too great", runs == is(TWODFQ_REFUSED_COST, twodfq_done(to, 1, 0, 0, 4000000000)));
+}
+
+// Beside the request of a round: a withdrawal, another weight, and fewer workers or as many as at first.
+static void change(twodfq *of, uint32_t tenants, uint32_t round, uint64_t moment) {
+    uint32_t tenant = round * 11 % tenants, last = twodfq_submit(of, 0, moment, tenant, round % 2, 10, 0).request;
+    want("one is withdrawn", is(TWODFQ_WITHDRAWN, twodfq_withdraw(of, 0, moment, last)));
+    want("a weight changes", is(TWODFQ_ACCEPTED, twodfq_weight(of, 0, moment, tenant, 1 + round % 1000)));
+    want("the workers change", is(TWODFQ_ACCEPTED, twodfq_workers(of, 0, moment, round % 3 ? WORKERS : 1)));
+}
+
+// Looks at what is there, with a worker that runs nothing.
+static void look(twodfq *at, uint64_t moment, uint32_t worker) {
+    uint32_t due = twodfq_due(at, moment, worker).kind;
+    want("a take is foreseen", due == TWODFQ_ELIGIBLE || due == TWODFQ_EARLY || due == TWODFQ_RETIRED);
+    uint64_t entries = twodfq_status(at).entries;
+    want("an entry is read", twodfq_entry(at, entries - 1).kind != TWODFQ_ENTRY_NONE);
+    want("no further one is there", twodfq_entry(at, entries).kind == TWODFQ_ENTRY_NONE);
+}
+
+// Calls of every kind, until nothing waits. For the first half of the rounds each tenant has a backlog; then tenants come
+// and go.
+static void serve(twodfq *by, uint32_t tenants) {
+    for (uint32_t i = 0; i < tenants; i++) want("a request comes", is(TWODFQ_REQUEST, twodfq_submit(by, 0, i, i, i % 2, 10, i)));
+    uint64_t moment = tenants;
+    for (uint32_t i = 0; i < ROUNDS; i++, moment += 1 + i % 3) {
+        if (i == ROUNDS / 2) {
+            want("all workers are back", is(TWODFQ_ACCEPTED, twodfq_workers(by, 0, moment, WORKERS)));
+            while (is(TWODFQ_RUN, twodfq_take(by, 1, moment, 0)))
+                want("it is done", is(TWODFQ_ACCEPTED, twodfq_done(by, 1, moment, 0, 1)));
+            want("nothing is foreseen", is(TWODFQ_NOTHING, twodfq_due(by, moment, 0)));
+        }
+        want("a request comes", is(TWODFQ_REQUEST, twodfq_submit(by, 0, moment, i * 7 % tenants, i % 2, 10, i)));
+        if (i % 16 == 0) change(by, tenants, i / 16, moment);
+        uint32_t worker = i % WORKERS;
+        look(by, moment, worker);
+        if (is(TWODFQ_RETIRED, twodfq_take(by, 1, moment, worker)))
+            want("worker 0 runs one", is(TWODFQ_RUN, twodfq_take(by, 1, moment, worker = 0)));
+        if (i % 16 == 1) refuse(by, tenants, worker == 0);
+        if (i % 2) want("it reports", is(TWODFQ_ACCEPTED, twodfq_report(by, 1, moment, worker, i % 5)));
+        want("it is done", is(TWODFQ_ACCEPTED, twodfq_done(by, 1, moment, worker, 5 + i % 100)));
     }
-    uint32_t last = twodfq_submit(scheduler, 0, 0, 0, 0, 10, 0).request;
-    want("one is withdrawn", twodfq_withdraw(scheduler, 0, 0, last).kind == TWODFQ_WITHDRAWN);
-    want("a weight changes", twodfq_weight(scheduler, 0, 0, 3, 1000).kind == TWODFQ_ACCEPTED);
-    want("the workers change", twodfq_workers(scheduler, 0, 0, 1).kind == TWODFQ_ACCEPTED);
-    want("one is retired", twodfq_take(scheduler, 1, 0, 1).kind == TWODFQ_RETIRED);
-    want("it closes", twodfq_close(scheduler, 0, 0).kind == TWODFQ_ACCEPTED);
-    want("an entry is read", twodfq_entry(scheduler, 5).kind == TWODFQ_ENTRY_SUBMIT);
-    want("it tells what waits", twodfq_status(scheduler).waiting == tenants);
-    uint32_t kind;
-    while ((kind = twodfq_take(scheduler, 1, 0, 0).kind) == TWODFQ_RUN)
-        want("it is done", twodfq_done(scheduler, 1, 0, 0, 1).kind == TWODFQ_ACCEPTED);
-    want("nothing is left", kind == TWODFQ_DRAINED);
+    want("it closes", is(TWODFQ_ACCEPTED, twodfq_close(by, 0, moment)));
+    want("it closes once", is(TWODFQ_REFUSED_CLOSED, twodfq_close(by, 0, moment)));
+    want("nothing comes", is(TWODFQ_REFUSED_CLOSED, twodfq_submit(by, 0, moment, 0, 0, 10, 0)));
+    while (is(TWODFQ_RUN, twodfq_take(by, 1, moment, 0)))
+        want("it is done", is(TWODFQ_ACCEPTED, twodfq_done(by, 1, moment, 0, 1)));
+    want("nothing is left", is(TWODFQ_DRAINED, twodfq_take(by, 1, moment, 0)));
 }
 
 // How many blocks the opening takes; no call after it asks the heap for anything, and all blocks come back at the end.
-static long count_blocks(uint32_t tenants, uint32_t estimate) {
+static long count_blocks(uint32_t tenants, uint32_t policy, uint32_t estimate) {
     twodfq scheduler = TWODFQ_NONE;
-    twodfq_opening opening = opening_for(tenants, estimate);
+    twodfq_opening opening = opening_for(tenants, policy, estimate);
     taken = 0;
     failing = -1;
     want("a scheduler opens", twodfq_open(&scheduler, &opening, weights, tenants) == TWODFQ_OPENED);
@@ -107,9 +145,9 @@ static long count_blocks(uint32_t tenants, uint32_t estimate) {
     return blocks;
 }
 
-static void fail_each(long blocks, uint32_t tenants, uint32_t estimate) {
+static void fail_each(long blocks, uint32_t tenants, uint32_t policy, uint32_t estimate) {
     twodfq scheduler = TWODFQ_NONE;
-    twodfq_opening opening = opening_for(tenants, estimate);
+    twodfq_opening opening = opening_for(tenants, policy, estimate);
     for (failing = 0; failing < blocks; failing++) {
         taken = 0;
         want("memory is wanting", twodfq_open(&scheduler, &opening, weights, tenants) == TWODFQ_OPEN_NO_MEMORY);
@@ -121,7 +159,7 @@ static void fail_each(long blocks, uint32_t tenants, uint32_t estimate) {
 // The memory of a service that keeps 1,024 entries of the longest history, where 4,096 requests may wait.
 static void of_a_service(void) {
     twodfq scheduler = TWODFQ_NONE;
-    twodfq_opening opening = opening_for(64, TWODFQ_PESSIMISTIC);
+    twodfq_opening opening = opening_for(64, TWODFQ_2DFQ_PLUS, TWODFQ_PESSIMISTIC);
     opening.entries = 4000000000;
     opening.requests = 4096;
     opening.keep = 1024;
@@ -133,10 +171,30 @@ static void of_a_service(void) {
     want("all bytes come back", bytes == 0);
 }
 
+// The bytes of an opening for so many tenants with one kind each, and little else.
+static size_t bytes_for(uint32_t tenants, uint32_t policy, uint32_t estimate) {
+    twodfq scheduler = TWODFQ_NONE;
+    twodfq_opening opening = opening_for(tenants, policy, estimate);
+    opening.kinds = 1;
+    opening.entries = opening.requests = 4;
+    failing = -1;
+    want("a scheduler opens", twodfq_open(&scheduler, &opening, weights, tenants) == TWODFQ_OPENED);
+    size_t taken_by_it = bytes;
+    twodfq_free(&scheduler);
+    return taken_by_it;
+}
+
+static void of_a_tenant(uint32_t policy) {
+    printf("memory: bytes for each of 4,096 tenants under policy %u, by estimate:", policy);
+    for (uint32_t estimate = TWODFQ_DECLARED; estimate <= TWODFQ_PESSIMISTIC; estimate++)
+        printf(" %zu", (bytes_for(MOST_TENANTS, policy, estimate) - bytes_for(1, policy, estimate)) / (MOST_TENANTS - 1));
+    puts("");
+}
+
 // The weights of too many tenants are not read.
 static void too_many(void) {
     twodfq scheduler = TWODFQ_NONE;
-    twodfq_opening opening = opening_for(64, TWODFQ_DECLARED);
+    twodfq_opening opening = opening_for(64, TWODFQ_2DFQ, TWODFQ_DECLARED);
     long before = calls;
     want("it is refused", twodfq_open(&scheduler, &opening, weights, MOST_TENANTS + 1) == TWODFQ_OPEN_TENANTS);
     want("the heap is not asked", calls == before);
@@ -144,12 +202,17 @@ static void too_many(void) {
 
 int main(void) {
     for (uint32_t tenant = 0; tenant < MOST_TENANTS; tenant++) weights[tenant] = 1 + tenant % 1000;
-    for (uint32_t estimate = TWODFQ_DECLARED; estimate <= TWODFQ_PESSIMISTIC; estimate++) {
-        long few = count_blocks(64, estimate), many = count_blocks(MOST_TENANTS, estimate);
-        fail_each(few, 64, estimate);
-        printf("memory: estimate %u, %ld blocks at the opening for 64 tenants, each failed in turn; %ld for %d; none after it\n",
-            estimate, few, many, MOST_TENANTS);
+    for (uint32_t policy = TWODFQ_WFQ; policy <= TWODFQ_2DFQ_PLUS; policy++) {
+        printf("memory: policy %u, blocks at the opening for 64 and for %d tenants, by estimate:", policy, MOST_TENANTS);
+        for (uint32_t estimate = TWODFQ_DECLARED; estimate <= TWODFQ_PESSIMISTIC; estimate++) {
+            long few = count_blocks(64, policy, estimate), many = count_blocks(MOST_TENANTS, policy, estimate);
+            fail_each(few, 64, policy, estimate);
+            printf(" %ld and %ld", few, many);
+        }
+        puts("; of the former each failed in turn; none after it");
     }
     of_a_service();
+    of_a_tenant(TWODFQ_2DFQ);
+    of_a_tenant(TWODFQ_2DFQ_PLUS);
     too_many();
 }

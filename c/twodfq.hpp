@@ -175,7 +175,7 @@ public:
     Reply report(std::uint32_t who, std::uint64_t moment, std::uint32_t worker, std::uint64_t used) noexcept {
         return reply(twodfq_report(&handle_, who, moment, worker, used));
     }
-    /// The worker's request has ended, and this is its measured cost.
+    /// The worker's request has ended, and this is its measured cost: at least 1, as twodfq.h says.
     Reply done(std::uint32_t who, std::uint64_t moment, std::uint32_t worker, std::uint64_t cost) noexcept {
         return reply(twodfq_done(&handle_, who, moment, worker, cost));
     }

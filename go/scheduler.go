@@ -207,7 +207,8 @@ func (s *Scheduler) Report(who uint32, moment uint64, worker uint32, used uint64
 	return refusal(C.twodfq_report(&s.handle, C.uint32_t(who), C.uint64_t(moment), C.uint32_t(worker), C.uint64_t(used)))
 }
 
-// Done names the measured cost of the worker's request, which has ended.
+// Done names the measured cost of the worker's request, which has ended. A tenant whose requests cost 0 may be taken for
+// ever while others wait, so count at least 1.
 func (s *Scheduler) Done(who uint32, moment uint64, worker uint32, cost uint64) error {
 	return refusal(C.twodfq_done(&s.handle, C.uint32_t(who), C.uint64_t(moment), C.uint32_t(worker), C.uint64_t(cost)))
 }

@@ -1,7 +1,8 @@
 /* A request scheduler that shares workers fairly among tenants (Two-Dimensional Fair Queuing, Mace and others, 2016).
 
    Every function is proved to keep its promise, which stands at its declaration, for all arguments; only version and
-   messages are not. The caller keeps these rules, which no proof can see:
+   messages are not, and that memory is taken at the opening alone is tested. The caller keeps these rules, which no
+   proof can see:
    - a handle begins as TWODFQ_NONE, nobody else writes its fields, and of a handle and its copies only one is used;
    - pointers are valid: to a handle, to an opening, and to one weight a tenant (with no tenant, to anything but null);
    - one call at a time is made on a handle: where threads share it, each call is made under one lock, the caller's own.
@@ -132,7 +133,8 @@ twodfq_reply twodfq_take(twodfq *handle, uint32_t who, uint64_t moment, uint32_t
 /* The worker names the use of its request so far; it runs on. Refused: WORKER, NOT_RUNNING, COST, FALLING, FULL. */
 twodfq_reply twodfq_report(twodfq *handle, uint32_t who, uint64_t moment, uint32_t worker, uint64_t used);
 
-/* The worker's request has ended, and this is its measured cost. Refused: WORKER, NOT_RUNNING, COST, FALLING. */
+/* The worker's request has ended, and this is its measured cost. A tenant whose requests cost 0 may be taken for ever
+   while others wait, so count at least 1. Refused: WORKER, NOT_RUNNING, COST, FALLING. */
 twodfq_reply twodfq_done(twodfq *handle, uint32_t who, uint64_t moment, uint32_t worker, uint64_t cost);
 
 /* Nothing more is submitted; workers that sleep have to be woken to learn it. Refused: CLOSED. */

@@ -1,8 +1,9 @@
-//! `twodfq script` under `2dfq` and `pessimistic`, for scripts of the first version, in ordinary Rust without contracts: the same
-//! design, and memory that never runs out. With the argument `journal` it prints the journal in place of the replies. With the
-//! arguments `run`, `journal` or `report`, and a number of workers, it works like `twodfq run` on a trace. `bench/run` measures the
-//! program against it.
+//! `twodfq script` under `2dfq` or `2dfq+` and `pessimistic`, for scripts of the first version, in ordinary Rust without contracts:
+//! the same design, and memory that never runs out. With the argument `journal` it prints the journal in place of the replies. With
+//! the arguments `run`, `journal` or `report`, a number of workers, and `2dfq+` if it is not to be `2dfq`, it works like
+//! `twodfq run` on a trace. `bench/run` measures the program against it.
 mod entry;
+mod pace;
 mod report;
 mod scheduler;
 mod text;
@@ -30,14 +31,19 @@ fn open(input: &[u8]) -> (Scheduler, Cursor<'_>) {
         fail(2)
     }
     let workers = c.small();
-    if c.next_word() != b"2dfq" || c.next_word() != b"pessimistic" {
+    let is_plus = match c.next_word() {
+        b"2dfq" => false,
+        b"2dfq+" => true,
+        _ => fail(2),
+    };
+    if c.next_word() != b"pessimistic" {
         fail(2)
     }
     let (initial, entries, requests) = (c.number(), c.small(), c.small());
     c.end_line();
     let (tenants, kinds) = names(&mut c);
     (
-        Scheduler::open([workers, entries, requests, kinds], initial, tenants),
+        Scheduler::open([workers, entries, requests, kinds], is_plus, initial, tenants),
         c,
     )
 }
@@ -146,9 +152,9 @@ fn script(input: &[u8], journal: bool) -> Vec<u8> {
 }
 
 /// The output of `run`.
-fn run(input: &[u8], journal: bool, workers: u32) -> Vec<u8> {
+fn run(input: &[u8], journal: bool, workers: u32, is_plus: bool) -> Vec<u8> {
     let trace = trace::read(std::str::from_utf8(input).unwrap_or_else(|_| exit(3)));
-    let s = trace::simulate(&trace, workers);
+    let s = trace::simulate(&trace, workers, is_plus);
     let mut text = Vec::new();
     if journal {
         let mut head = Vec::new();
@@ -167,7 +173,10 @@ fn main() {
     let text = match words.iter().map(String::as_str).collect::<Vec<_>>()[..] {
         [] => script(&input, false),
         ["journal"] => script(&input, true),
-        ["run", what, workers] => run(&input, what == "journal", workers.parse().unwrap_or_else(|_| exit(2))),
+        ["run", what, workers, ref policy @ ..] if matches!(policy, [] | ["2dfq+"]) => {
+            let workers = workers.parse().unwrap_or_else(|_| exit(2));
+            run(&input, what == "journal", workers, !policy.is_empty())
+        }
         _ => exit(2),
     };
     std::io::stdout().write_all(&text).unwrap_or_else(|_| exit(5));

@@ -1,5 +1,6 @@
 //! The scheduler.
 use crate::entry::{Act, Entry, Refusal};
+use crate::pace::Pace;
 use crate::tree::{Key, WorkerTrees};
 
 pub const SCALE: u64 = 1 << 20;
@@ -13,6 +14,13 @@ pub struct Keys {
     pub start: i128,
     pub len: i128,
     pub request: u32,
+}
+
+impl Keys {
+    /// The eligible key for a worker of so many.
+    pub fn at(&self, worker: u32, workers: usize) -> i128 {
+        self.start - quotient(worker as u128 * self.len as u128, workers as u64)
+    }
 }
 
 #[derive(Clone, Copy)]
@@ -69,14 +77,22 @@ pub struct Scheduler {
     pub tenants: Vec<Tenant>,
     pub greatest: Vec<u64>,
     pub moment: u64,
+    /// The sum of the weights of the tenants that the fluid serves: they have open requests, or linger.
     pub weights: u64,
     pub time: i128,
+    /// Under `2dfq+` alone.
+    pub pace: Option<Pace>,
     pub table: Vec<Option<Keys>>,
     pub trees: Vec<WorkerTrees>,
 }
 
 impl Scheduler {
-    pub fn open([workers, entries, requests, kinds]: [u32; 4], initial: u64, tenants: Vec<Tenant>) -> Scheduler {
+    pub fn open(
+        [workers, entries, requests, kinds]: [u32; 4],
+        is_plus: bool,
+        initial: u64,
+        tenants: Vec<Tenant>,
+    ) -> Scheduler {
         let count = tenants.len();
         Scheduler {
             entries: entries as usize,
@@ -96,6 +112,7 @@ impl Scheduler {
             moment: 0,
             weights: 0,
             time: 0,
+            pace: is_plus.then(|| Pace::open(count)),
             table: vec![None; count],
             trees: (0..workers).map(|_| WorkerTrees::open(count)).collect(),
         }
@@ -125,7 +142,11 @@ impl Scheduler {
     pub fn pass(&mut self, moment: u64) {
         if self.weights != 0 {
             let dt = moment - self.moment;
-            self.time += quotient(dt as u128 * self.rows.len() as u128 * SCALE as u128, self.weights);
+            let advance = quotient(dt as u128 * self.rows.len() as u128 * SCALE as u128, self.weights);
+            match &self.pace {
+                None => self.time += advance,
+                Some(pace) => self.rise_to((self.time + advance).min(pace.reached)),
+            }
         }
         self.moment = moment;
     }
@@ -152,13 +173,13 @@ impl Scheduler {
         }
     }
     pub fn choose(&mut self, worker: u32) -> Option<u32> {
-        let workers = self.rows.len() as u32;
+        let workers = self.rows.len();
         let trees = &mut self.trees[worker as usize];
         for &tenant in &trees.noted {
             trees.is_noted[tenant as usize] = false;
             let (mut later, mut eligible) = (None, None);
             if let Some(k) = self.table[tenant as usize] {
-                let at = k.start - quotient(worker as u128 * k.len as u128, workers as u64);
+                let at = k.at(worker, workers);
                 let finish = k.start + k.len;
                 if at <= self.time {
                     eligible = Some(Key {
@@ -246,10 +267,10 @@ impl Scheduler {
         let moment = self.effective(moment);
         let request = self.submits;
         self.pass(moment);
-        let t = &mut self.tenants[tenant as usize];
-        if t.undone == 0 {
-            self.weights += t.weight as u64;
+        if self.tenants[tenant as usize].undone == 0 {
+            self.come(tenant);
         }
+        let t = &mut self.tenants[tenant as usize];
         t.undone += 1;
         if self.ends[tenant as usize].is_none() {
             t.base = t.base.max(self.time - t.charge);
@@ -283,6 +304,7 @@ impl Scheduler {
         let moment = self.effective(moment);
         self.pass(moment);
         let tenant = self.choose(worker).unwrap();
+        self.lift(worker, self.table[tenant as usize].unwrap());
         let ends = self.ends[tenant as usize].unwrap();
         let Slot { item, next } = self.slots[ends.first as usize];
         self.ends[tenant as usize] = next.map(|first| Ends { first, last: ends.last });
@@ -366,7 +388,7 @@ impl Scheduler {
         let t = &mut self.tenants[row.tenant as usize];
         t.undone -= 1;
         if t.undone == 0 {
-            self.weights -= t.weight as u64;
+            self.leave(row.tenant);
         }
         self.renew(row.tenant);
         self.running -= 1;

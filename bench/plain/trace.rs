@@ -97,7 +97,7 @@ impl Staff {
 }
 
 /// The simulated history of a trace.
-pub fn simulate(trace: &Trace, workers: u32) -> Scheduler {
+pub fn simulate(trace: &Trace, workers: u32, is_plus: bool) -> Scheduler {
     let rows = &trace.rows;
     let reports: u64 = rows.iter().map(|row| (row.cost - 1) / REFRESH).sum();
     let entries = (3 * rows.len() as u64 + 1 + reports).max(4) as u32;
@@ -111,7 +111,7 @@ pub fn simulate(trace: &Trace, workers: u32) -> Scheduler {
         })
         .collect();
     let numbers = [workers, entries, requests, trace.kinds.len().max(1) as u32];
-    let mut s = Scheduler::open(numbers, INITIAL, tenants);
+    let mut s = Scheduler::open(numbers, is_plus, INITIAL, tenants);
     let first = rows.iter().map(|row| row.submitter + 1).max().unwrap_or(1);
     let mut staff = Staff::open(workers);
     let (mut moment, mut submitted) = (0, 0);
@@ -165,7 +165,8 @@ pub fn simulate(trace: &Trace, workers: u32) -> Scheduler {
 /// The head of the journal of a trace's history.
 pub fn head(out: &mut Vec<u8>, trace: &Trace, s: &Scheduler) {
     let numbers = [INITIAL, s.entries as u64, s.requests as u64];
-    row(out, &format!("config {} 2dfq pessimistic", s.rows.len()), &numbers);
+    let policy = if s.pace.is_some() { "2dfq+" } else { "2dfq" };
+    row(out, &format!("config {} {policy} pessimistic", s.rows.len()), &numbers);
     for (name, &weight) in trace.tenants.iter().zip(&trace.weights) {
         row(out, &format!("tenant {name}"), &[weight as u64]);
     }

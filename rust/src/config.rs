@@ -18,7 +18,8 @@ pub enum Policy {
     Msf2q,
     /// As `Wf2q`, with eligible keys that differ from worker to worker.
     TwoDfq,
-    /// As `TwoDfq`, with a virtual time that has a cap, and that takes may lift.
+    /// As `TwoDfq`, with a virtual time that counts a tenant as long as its start is above it, that has a cap, and that
+    /// takes may lift.
     #[default]
     TwoDfqPlus,
 }

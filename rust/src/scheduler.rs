@@ -90,7 +90,8 @@ impl Scheduler {
         unsafe { ffi::twodfq_report(&mut self.handle, who, moment, worker, used) }.accepted().map(drop)
     }
 
-    /// The worker's request has ended, at this measured cost.
+    /// The worker's request has ended, at this measured cost. A tenant whose requests cost 0 may be taken for ever
+    /// while others wait, so count at least 1.
     ///
     /// ```
     /// use twodfq::{Config, Scheduler, Submit};

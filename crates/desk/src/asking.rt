@@ -64,7 +64,9 @@ pub enum DeskReply<J> {
 
 /// Asks to foresee a take by this worker at this moment, in microseconds.
 #[derive(Clone, Copy)]
-pub struct AskDue {
+pub struct AskForeseen {
     pub moment: u64,
     pub worker: u32,
+    /// The estimate, in microseconds, below which a head is a smaller one.
+    pub below: u64,
 }

@@ -5,10 +5,10 @@ ghost use Rattle.desk.specs.Floors.{opened, KeepsFloor};
 ghost use Rattle.desk.specs.Shown.{board_of, Shows};
 
 use crate::answering::answer;
-use crate::asking::{Ask, AskDue, DeskReply};
+use crate::asking::{Ask, AskForeseen, DeskReply};
 use crate::shown::{Shown, show_past};
 use fq_model::config::Checked;
-use fq_model::event::Due;
+use fq_model::event::Foreseen;
 use fq_model::job::Job;
 use history_lock::{Inspect, Machine};
 use sched_state::Scheduler;
@@ -111,15 +111,16 @@ impl<J: Job + Drop, X: Chooser> Machine for Floor<J, X> {
 }
 
 impl<J: Job + Drop, X: Foresees> Inspect for Floor<J, X> {
-    ghost use Rattle.desk.specs.Found.{finds_due};
+    ghost use Rattle.desk.specs.Found.{finds_foreseen};
 
-    type Question = AskDue;
+    type Question = AskForeseen;
 
-    type Finding = Due;
+    type Finding = Foreseen;
 
-    ghost finds = { finds_due };
+    ghost finds = { finds_foreseen };
 
-    fn inspect(&self, question: AskDue) -> Due {
-        self.scheduler.due(question.moment, question.worker)
+    fn inspect(&self, question: AskForeseen) -> Foreseen {
+        self.scheduler
+            .foresee(question.moment, question.worker, question.below)
     }
 }

@@ -15,7 +15,7 @@ mod refusals;
 mod shown;
 mod tokens;
 
-pub use asking::{Ask, AskDue, DeskReply};
+pub use asking::{Ask, AskForeseen, DeskReply};
 pub use bell::Heard;
 pub use desk::{Desk, DeskOf, MOST_SUBMITTERS};
 pub use floor::{Crew, Floor};

@@ -9,7 +9,7 @@ use fq_model::config::{Checked, Policy};
 use std::alloc::{AllocError, Global};
 use std::marker::Model;
 use tag_rules::chooser::Chooser;
-use tag_rules::foresees::{Foreseen, Foresees, foreseen_in};
+use tag_rules::foresees::{Foresees, ForeseenChoice, foreseen_in};
 use tag_rules::head_keys::Keys;
 use tag_rules::turn::Turn;
 use winner_tree::Tree;
@@ -100,14 +100,14 @@ impl Chooser for IndexChooser {
 
 impl Foresees for IndexChooser {
     /// The trees are brought up to date at a choice alone, so this looks at the keys of each tenant.
-    fn foresee(&self, worker: u32, v: i128) -> Foreseen {
+    fn foresee(&self, worker: u32, v: i128, below: u64, weights: &[u32]) -> Option<ForeseenChoice> {
         let turn = Turn {
             policy: self.policy,
             workers: self.workers,
             worker,
             virtual_time: v,
         };
-        foreseen_in(turn, &self.table)
+        foreseen_in(turn, &self.table, below, weights)
     }
 }
 

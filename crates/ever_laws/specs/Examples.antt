@@ -59,10 +59,10 @@ cap_history = entry 1 0 (Submit 4 1 0 4 5) ∷ late_taken
 unfoldable pub lead_history : History
 unfolding late_taken
 lead_history =
-    entry 10 6 (Done 0 5 4)
-    ∷ entry 11 6 (Done 1 4 4)
-    ∷ entry 0 6 (Submit 7 0 0 1 8)
-    ∷ entry 10 1 (Take 0 5 1)
+    entry 10 9 (Done 0 5 4)
+    ∷ entry 11 9 (Done 1 4 4)
+    ∷ entry 0 9 (Submit 7 0 0 1 8)
+    ∷ entry 10 3 (Take 0 5 1)
     ∷ entry 11 0 (Take 1 4 1)
     ∷ entry 11 0 (Done 1 3 4)
     ∷ entry 10 0 (Done 0 0 2)
@@ -131,10 +131,10 @@ three_begun =
 unfoldable pub three_lead_history : History
 unfolding three_begun
 three_lead_history =
-    entry 12 4 (Done 2 7 3)
-    ∷ entry 11 4 (Done 1 6 3)
-    ∷ entry 10 4 (Done 0 5 3)
-    ∷ entry 0 4 (Submit 9 0 0 1 10)
+    entry 12 5 (Done 2 7 3)
+    ∷ entry 11 5 (Done 1 6 3)
+    ∷ entry 10 5 (Done 0 5 3)
+    ∷ entry 0 5 (Submit 9 0 0 1 10)
     ∷ entry 12 0 (Take 2 7 1)
     ∷ entry 11 0 (Take 1 6 1)
     ∷ entry 10 0 (Take 0 5 1)

@@ -1,5 +1,5 @@
 -- Bounds of the lead of one tenant over another that waits, under 2dfq+.
-use Rattle.std.specs.Prelude.{ℕ, ◌+◌, ◌*◌, ◌/◌, ◌≤◌, ◌≡◌, ◌≢◌, ◌==◌, if◌then◌else◌, length, ◌∷◌, ◌++◌, Some, ℤ, pos, ◌+ℤ◌, ◌-ℤ◌, ◌≤ℤ◌}
+use Rattle.std.specs.Prelude.{ℕ, ◌+◌, ◌*◌, ◌≤◌, ◌≡◌, ◌≢◌, ◌==◌, if◌then◌else◌, length, ◌∷◌, ◌++◌, Some, ℤ, pos, ◌+ℤ◌, ◌-ℤ◌, ◌≤ℤ◌}
 use Rattle.vt_fixed.specs.Rounding.{length_of}
 use Rattle.fq_model.specs.Ever.{longest_of_all, greatest_part, most_lead, ever_bound, measured_ever_bound}
 use Rattle.fq_model.specs.Gap.{start_difference}

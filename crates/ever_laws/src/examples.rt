@@ -37,10 +37,12 @@ pub fn cap()
 
 /// The lead. As before virtual time is 4 and the cap is 10. Tenant 0 comes, and starts at 4. Tenant 1 waits from 4 on,
 /// but its running request costs 2, and it is back at 2: its head of 4 finishes at 6. Worker 1 takes a request of
-/// tenant 0 that finishes at 5, and worker 0, a microsecond later, one that finishes at 6 too. At moment 6 virtual time
-/// has come to the cap, and tenant 0 starts there with one request more. Its two others turn out to cost 4 in place of
-/// 1: it is at 16, and tenant 1 at 2. The bound is 4 times 4 and a part of 2, less a step; requests of 1 take the 4
-/// missing units away. (A lead that begins at 0 where both begin to wait stays below 3 times 4.)
+/// tenant 0 that finishes at 5. Two workers over three weights then make 2 units in 3 microseconds, as tenant 2, which
+/// has no request any more, starts at 10. So worker 0 takes one that starts at 5 and finishes at 6 too. At moment 9 the
+/// time is 6 + 6 * 2/3: it has come to the cap, and tenant 0 starts there with one request more. Its two others turn
+/// out to cost 4 in place of 1: it is at 16, and tenant 1 at 2. The bound is 4 times 4 and a part of 2, less a step;
+/// requests of 1 take the 4 missing units away. (A lead that begins at 0 where both begin to wait stays below 3 times
+/// 4.)
 pub fn lead()
     ensures within { IsPacedWithin pair_config lead_history (units 4) }
     ensures waits { head lead_history 1 ≡ Some 6 }
@@ -63,11 +65,11 @@ pub fn cap_of_three()
 /// The lead with three workers. A request of each tenant is taken from 0 to 3. That of tenant 2 costs 3, and its next
 /// one 2, so that the third one starts at 5: it lifts virtual time to 5 - 2, and the cap to 5 + 3. Tenants 0 and 1 then
 /// wait from 3 on; their running requests cost nothing, and both are back at 0. The head of tenant 1 finishes at 3, and
-/// the three requests of 1 of tenant 0 at 1, 2 and 3: all workers take these. In 4 microseconds three workers over two
-/// weights make 6 units, and virtual time comes to the cap, 8. There tenant 0 starts with one request more. The three
-/// others turn out to cost 3 in place of 1: it is at 14, and tenant 1 at 0. The bound is 5 times 3 and a part of 2,
-/// less a step; the 3 units that are missing are the lengths at which the three were taken. (A lead that begins at 0
-/// where both begin to wait stays below 4 times 3.)
+/// the three requests of 1 of tenant 0 at 1, 2 and 3: all workers take these. In 5 microseconds three workers over three
+/// weights make 5 units, as tenant 2, which has no request any more, starts at 8: virtual time comes to the cap, 8.
+/// There tenant 0 starts with one request more. The three others turn out to cost 3 in place of 1: it is at 14, and
+/// tenant 1 at 0. The bound is 5 times 3 and a part of 2, less a step; the 3 units that are missing are the lengths at
+/// which the three were taken. (A lead that begins at 0 where both begin to wait stays below 4 times 3.)
 pub fn lead_of_three()
     ensures within { IsPacedWithin three_config three_lead_history (units 3) }
     ensures waits { head three_lead_history 1 ≡ Some 8 }

@@ -9,7 +9,7 @@ use rival_policies::plain::PlainChooser;
 use shared_order::chooser::SharedChooser;
 use std::alloc::{AllocError, Global};
 use tag_rules::chooser::Chooser;
-use tag_rules::foresees::{Foreseen, Foresees};
+use tag_rules::foresees::{Foresees, ForeseenChoice};
 use tag_rules::head_keys::Keys;
 
 /// The program's chooser: a look at each head where there are few tenants, and else one order of heads.
@@ -60,10 +60,10 @@ impl<F: Chooser, M: Chooser> Chooser for FittedChooser<F, M> {
 }
 
 impl<F: Foresees, M: Foresees> Foresees for FittedChooser<F, M> {
-    fn foresee(&self, worker: u32, v: i128) -> Foreseen {
+    fn foresee(&self, worker: u32, v: i128, below: u64, weights: &[u32]) -> Option<ForeseenChoice> {
         match self {
-            FittedChooser::ForFew(inner) => inner.foresee(worker, v),
-            FittedChooser::ForMany(inner) => inner.foresee(worker, v),
+            FittedChooser::ForFew(inner) => inner.foresee(worker, v, below, weights),
+            FittedChooser::ForMany(inner) => inner.foresee(worker, v, below, weights),
         }
     }
 }

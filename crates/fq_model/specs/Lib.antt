@@ -10,7 +10,7 @@ pub mod Pace
 pub mod Keys
 pub mod Rules
 pub mod Outcome
-pub mod Due
+pub mod Foresee
 pub mod Gap
 pub mod Lead
 pub mod Ever

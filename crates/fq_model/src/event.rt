@@ -229,16 +229,27 @@ pub enum Reply {
     Refused(Cause),
 }
 
+/// The request that a worker would get.
+#[derive(Clone, Copy)]
+pub struct ForeseenRun {
+    pub request: u32,
+    pub tenant: u32,
+    pub kind: u32,
+    /// Its charge at first, in microseconds.
+    pub estimate: u64,
+    /// Whether it is eligible for the worker. If it is not, no head is, and the worker would get it before its time.
+    pub is_eligible: bool,
+    /// Whether some head that is eligible for the worker has an estimate below the one that was asked about.
+    pub has_smaller: bool,
+}
+
 /// The foreseen answer to a take.
 #[derive(Clone, Copy)]
-pub enum Due {
+pub enum Foreseen {
     /// Nothing waits, whether or not more may come.
     Nothing,
-    /// Some head is eligible for the worker.
-    Eligible,
-    /// Requests wait, and no head is eligible for the worker: it would get this request before its time, charged
-    /// this estimate.
-    Early { request: u32, estimate: u64 },
+    /// The worker would run this request.
+    Run(ForeseenRun),
     /// There is this number of workers now, and the worker is not among them.
     Retired(u32),
     /// It would be refused, for this cause: no worker has its number, or it runs a request.

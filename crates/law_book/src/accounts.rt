@@ -1,5 +1,5 @@
 //! Laws of charges, estimates, virtual time and tags.
-ghost use Rattle.fq_laws.specs.AccountLaws.{ChargeSteps, FinalCharge, ChargeCoversUse, ChargeLimit, TenantSteps, TenantLimits, EstimateRange, GreatestRuns, TimeIsByClock, TimeSteps, TakesLift, TimeRises, TimeIsCapped, TimeLimit, IdleSteps, IdleLimit, BaseRises, TagCatchesUp, StartLimit, PaceLimit};
+ghost use Rattle.fq_laws.specs.AccountLaws.{ChargeSteps, FinalCharge, ChargeCoversUse, ChargeLimit, TenantSteps, TenantLimits, EstimateRange, GreatestRuns, TimeIsByClock, TimeSteps, RateIsOfActive, TimeIsNotAhead, TakesLift, TimeRises, TimeIsCapped, TimeLimit, IdleSteps, IdleLimit, BaseRises, TagCatchesUp, StartLimit, PaceLimit};
 
 /// A Take charges its request the estimate, a Report raises the charge to the use, and a Done makes it the cost.
 pub fn charge_steps()
@@ -49,6 +49,16 @@ pub fn time_is_by_clock()
 /// Virtual time makes one advance from each entry to the next, but not past the cap of `2dfq+`.
 pub fn time_steps()
     ensures { TimeSteps }
+{}
+
+/// Where every tenant is active, it goes on over the weight of the active tenants under `2dfq+` too.
+pub fn rate_is_of_active()
+    ensures { RateIsOfActive }
+{}
+
+/// And where some tenant is active, it is never ahead of what that weight would make of it.
+pub fn time_is_not_ahead()
+    ensures { TimeIsNotAhead }
 {}
 
 /// Under `2dfq+` a Take lifts virtual time to the eligible key of its request, and the cap to its finish.

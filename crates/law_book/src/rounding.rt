@@ -1,5 +1,5 @@
 //! Laws of rounding.
-ghost use Rattle.vt_fixed.specs.Rounding.{LengthIsMonotone, LengthFallsWithWeight, LengthCovers, DecayIsMonotone, PartIsAtMostLength};
+ghost use Rattle.vt_fixed.specs.Rounding.{LengthIsMonotone, LengthFallsWithWeight, LengthCovers, CostIsReadBack, DecayIsMonotone, PartIsAtMostLength};
 
 /// A greater cost has no smaller length.
 pub fn length_is_monotone()
@@ -14,6 +14,11 @@ pub fn length_falls_with_weight()
 /// A length times the weight covers the cost, and no smaller number does.
 pub fn length_covers()
     ensures { LengthCovers }
+{}
+
+/// A length tells its cost, at a weight of no more than the steps of a virtual unit.
+pub fn cost_is_read_back()
+    ensures { CostIsReadBack }
 {}
 
 /// A greater number has no smaller decay.

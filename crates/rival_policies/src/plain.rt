@@ -6,7 +6,7 @@ use fq_model::config::{Checked, Policy};
 use std::alloc::{AllocError, Global};
 use std::marker::Model;
 use tag_rules::chooser::Chooser;
-use tag_rules::foresees::{Foreseen, Foresees, foreseen_in};
+use tag_rules::foresees::{Foresees, ForeseenChoice, foreseen_in};
 use tag_rules::head_keys::Keys;
 use tag_rules::scan::choice_in;
 use tag_rules::turn::Turn;
@@ -73,8 +73,8 @@ impl Chooser for PlainChooser {
 }
 
 impl Foresees for PlainChooser {
-    fn foresee(&self, worker: u32, v: i128) -> Foreseen {
-        foreseen_in(self.turn(worker, v), &self.table)
+    fn foresee(&self, worker: u32, v: i128, below: u64, weights: &[u32]) -> Option<ForeseenChoice> {
+        foreseen_in(self.turn(worker, v), &self.table, below, weights)
     }
 }
 

@@ -120,11 +120,12 @@ module _ (C : Config) (P : History) (m : ℕ) (x : ChooserView) (l : IsLegal C P
   same_turn i v e = rw (is.setting_is, e) refl
 
   -- the choice over the table is the choice of the history
+  pub choice_of : (i t : ℕ) (v : ℤ) (k : HeadKeys) → v ≡ pos (virtual_time C P m) → IsChoice (turn_of x.setting i v) (Has x.table) t k → IsChoiceAt C P m i t k
+  choice_of i t v k at chosen =
+      subst (λ turn. IsChoice turn (HasKeys C P m) t k) (same_turn i v at) (choice_over (turn_of x.setting i v) (Has x.table) (HasKeys C P m) t k has_keys keys_have chosen)
+
   pub choice_is : (i t : ℕ) (v : ℤ) → v ≡ pos (virtual_time C P m) → IsTableChoice x.setting x.table i v t → (k : HeadKeys) × IsChoiceAt C P m i t k
-  choice_is i t v at chosen = (
-    chosen.0,
-    subst (λ turn. IsChoice turn (HasKeys C P m) t chosen.0) (same_turn i v at) (choice_over (turn_of x.setting i v) (Has x.table) (HasKeys C P m) t chosen.0 has_keys keys_have chosen.1),
-  )
+  choice_is i t v at chosen = (chosen.0, choice_of i t v chosen.0 at chosen.1)
 
   -- where no tenant has keys nothing waits
   pub nothing_waits : NoneHas x.table → waiting P ≡ 0

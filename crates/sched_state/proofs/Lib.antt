@@ -7,4 +7,4 @@ pub mod ChargeLemmas
 pub mod KeyLemmas
 pub mod TrackerLemmas
 pub mod CallLemmas
-pub mod DueLemmas
+pub mod ForeseeLemmas

@@ -1,5 +1,5 @@
 -- The tracker beside a journal at one entry more.
-use Rattle.std.proofs.Common.{true, ℕ, ◌+◌, ◌<◌, ◌≤◌, ◌≡◌, ◌≢◌, ◌^◌, arith, refl, sym, ap, subst, ◌∙◌, inl, inr, ◌⊎◌, [], ◌∷◌, ◌++◌, length, drop, Option, Some, None, ℤ, pos, ◌≤ℤ◌}
+use Rattle.std.proofs.Common.{true, ℕ, ◌+◌, ◌<◌, ◌≤◌, ◌≡◌, ◌≢◌, ◌^◌, arith, refl, sym, ap, subst, ◌∙◌, inl, inr, ◌⊎◌, [], ◌∷◌, ◌++◌, length, drop, Option, Some, None, ℤ, pos, ◌+ℤ◌, ◌≤ℤ◌}
 use Rattle.std.specs.Prelude.{slice_get, is_none, if◌then◌else◌, IfSome, IfNone, IsSome}
 use Rattle.std.proofs.lemmas.Bool.{eq-eqb, ne_eqb}
 use Rattle.std.proofs.lemmas.Int.{ints}
@@ -16,16 +16,17 @@ use Rattle.vt_fixed.specs.declared.limits.TheConstants.{GREATEST_COST, GREATEST_
 use Rattle.fq_model.specs.History.{History, Request, request_at, head, waiting, weight_at, pool_at}
 use Rattle.fq_model.specs.Time.{last_moment, virtual_idle_time}
 use Rattle.fq_model.specs.Pace.{virtual_time}
+use Rattle.fq_model.specs.Limits.{InLimits}
 use Rattle.fq_model.specs.Charge.{virtual_charge, completed, estimate_at}
-use Rattle.fq_model.specs.Keys.{HeadKeys, head_keys as head_keys_of, keys_at, start, start_for, tag, IsChoiceAt}
+use Rattle.fq_model.specs.Keys.{HeadKeys, head_keys as head_keys_of, keys_at, start, start_for, tag, IsChoice, IsChoiceAt}
 use Rattle.fq_model.specs.Rules.{IsLegal, IsChosen, take_refusal}
 use Rattle.fq_laws.specs.Words.{one_more, is_quiet}
-use Rattle.fq_laws.specs.Steps.{Submits, Ends}
+use Rattle.fq_laws.specs.Steps.{Submits, Passes, Ends}
 use Rattle.fq_laws.proofs.Charge.Estimates.{estimate_range}
 use Rattle.fq_laws.proofs.History.Asked.{of_other}
 use Rattle.fq_laws.proofs.History.Requests.{request_known}
 use Rattle.fq_laws.proofs.Keys.Choices.{head_keys_are, no_head_no_keys, keys_tenant_known}
-use Rattle.fq_laws.proofs.Keys.Tags.{start_within}
+use Rattle.fq_laws.proofs.Keys.Tags.{start_within, tag_within}
 use Rattle.fq_laws.proofs.Rules.Limits.{last_moment_small}
 use Rattle.fq_laws.proofs.Rules.Refusals.{take_free}
 use Rattle.fq_laws.proofs.Rules.Takes.{keys_head, choice_head}
@@ -34,12 +35,11 @@ use Rattle.fq_laws.proofs.History.Weights.{pool_step}
 use Rattle.charge_book.specs.declared.row.RunRow.{RunRow}
 use Rattle.charge_book.specs.Book.{row_of_run, begun, reported, report_change, finished, finish_change}
 use Rattle.charge_book.proofs.Steps.{book_submit, book_withdraw, book_quiet}
-use Rattle.tag_rules.proofs.AccountSteps.{accounts_withdraw, accounts_quiet}
-use Rattle.tag_rules.specs.Tables.{ChooserView, Setting, setting_at, with_workers, resized, NoneHas, IsTableChoice, asked_at}
-use Rattle.tag_rules.specs.Accounts.{raised, charged}
+use Rattle.tag_rules.proofs.AccountSteps.{accounts_withdraw, accounts_quiet, tag_is_sum}
+use Rattle.tag_rules.specs.Tables.{ChooserView, Setting, setting_at, with_workers, resized, Has, NoneHas, turn_of, IsTableChoice, asked_at}
+use Rattle.tag_rules.specs.Accounts.{AccountsView, AccountsAre, charge_of, base_of, raised, charged}
 use Rattle.virtual_clock.specs.declared.times.Times.{Times}
 use Rattle.virtual_clock.specs.Histories.{TimesAre, TimesAt, ComesTo, TakesChoice, IsTimeOf, IsWeightOf}
-use Rattle.virtual_clock.proofs.TimeSteps.{times_pass}
 use Rattle.waiting_lists.specs.declared.item.Item.{Item}
 use Rattle.waiting_lists.specs.Lists as lists
 use Rattle.sched_state.specs.declared.tracker.Tracker.{Tracker}
@@ -48,7 +48,7 @@ use Rattle.sched_state.specs.Tracker.{Mirrors, Tracks, TracksBut, TracksSomeBut,
 use Rattle.sched_state.proofs.ListLemmas.{item_head, no_item_head, first_is, lists_report, lists_done, lists_quiet, pushed, taken, removed_asked, withdrawn}
 use Rattle.sched_state.proofs.CostLemmas.{costs_stay, completed_quiet}
 use Rattle.sched_state.proofs.ChargeLemmas.{accounts_submit, step_accounts, BeginStep, ReportStep, FinishStep}
-use Rattle.sched_state.proofs.KeyLemmas.{keys_of_others, setting_stays, latest_at, choice_is, nothing_waits}
+use Rattle.sched_state.proofs.KeyLemmas.{keys_of_others, setting_stays, latest_at, choice_of, nothing_waits}
 
 -- ---- where a tenant starts
 
@@ -73,6 +73,10 @@ not_plus q p e is = λ plus. (let both : Msf2q ≡ TwoDfqPlus = sym is ∙ (e �
 -- a natural number as it is handed on
 pub handed_on : (z : ℤ) (n : ℕ) → z ≡ pos n → n ≤ 10 ^ 25 → to_z w128 (of_z w128 z) ≡ pos n
 handed_on z n e low = omega (arith, ints, e, low)
+
+-- where a tenant starts by its tag, as it is handed on
+pub tag_handed_on : (C : Config) (P : History) (a : AccountsView) (t : ℕ) (z : ℤ) → InLimits C → IsLegal C P → t < length C.weights → AccountsAre C P a → z ≡ charge_of a t +ℤ base_of a t → to_z w128 (of_z w128 z) ≡ pos (tag C P t)
+tag_handed_on C P a t z lim l known are is = omega (arith, ints, is, tag_is_sum C P a t known are, tag_within C P t lim l)
 
 module _ {J X : Type 0} (label : J → ℕ) (C : Config) (P : History) (t : ℕ) (k : Tracker J X) (m : Mirrors label C P k) (known : t < length C.weights) where
   pub start_low : start C P (last_moment P) t ≤ 10 ^ 25
@@ -141,8 +145,8 @@ module _ {J X : Type 0} (label : J → ℕ) (seen : X → ChooserView) (C : Conf
       }
 
   -- a Report of a use of the row's request
-  pub report_but : (who m w used : ℕ) (row : RunRow) (change : ℤ) → ReportStep C P k.book k.accounts who m w used row → ComesTo m k.times n.times → change ≡ report_change k.book w used → n.book ≡ reported k.book w used → n.accounts ≡ charged k.accounts row.tenant (to_z w128 (of_z w128 change)) → n.lists ≡ k.lists → n.costs ≡ k.costs → n.chooser ≡ k.chooser → TracksBut label seen row.tenant C (one_more who m (Report w row.request used) P) n
-  report_but who m w used row change x passes changed books accounts listed costs chooses =
+  pub report_but : (who m w used : ℕ) (row : RunRow) (change : ℤ) → ReportStep C P k.book k.accounts who m w used row → ((e : Entry) → Passes m P e → IsLegal C (e ∷ P) → TimesAre C (e ∷ P) n.times) → change ≡ report_change k.book w used → n.book ≡ reported k.book w used → n.accounts ≡ charged k.accounts row.tenant (to_z w128 (of_z w128 change)) → n.lists ≡ k.lists → n.costs ≡ k.costs → n.chooser ≡ k.chooser → TracksBut label seen row.tenant C (one_more who m (Report w row.request used) P) n
+  report_but who m w used row change x follow changed books accounts listed costs chooses =
       let e : Entry = record { who = who; moment = m; act = Report w row.request used } in
       let o = old.mirrors in
       record {
@@ -153,15 +157,15 @@ module _ {J X : Type 0} (label : J → ℕ) (seen : X → ChooserView) (C : Conf
           book_is = rw books x.step.follows.book_is;
           accounts_are = step_accounts C P e k.accounts row.tenant _ _ change x.step changed n.accounts refl accounts;
           costs_are = rw costs (costs_stay C P (e ∷ P) k.costs o.costs_are refl);
-          times_are = times_pass C P e n.times refl refl (passes C P o.limits o.legal o.times_are);
+          times_are = follow e (record { moment_is = refl; passes = refl }) x.step.legal;
         };
         tenant_known = x.step.tenant_known;
         chooser_is = rw chooses (keys_of_others C P e (seen k.chooser) (seen k.chooser) (λ u. u ≢ row.tenant) o.limits x.step.legal x.others old.chooser_is (setting_stays C P e (seen k.chooser) (pool_step C P e) old.chooser_is) refl (latest_at C P m (seen k.chooser) x.step.legal.1 old.chooser_is));
       }
 
   -- a Done of the row's request
-  pub done_but : (who m w cost : ℕ) (row : RunRow) (change : ℤ) → FinishStep C P k.book k.accounts who m w cost row → ((e : Entry) → Ends m row.tenant P e → IsLegal C (e ∷ P) → TimesAre C (e ∷ P) n.times) → change ≡ finish_change k.book w cost → n.book ≡ finished k.book w cost → n.accounts ≡ charged k.accounts row.tenant (to_z w128 (of_z w128 change)) → CostsAre C (one_more who m (Done w row.request cost) P) n.costs → n.lists ≡ k.lists → n.chooser ≡ k.chooser → TracksBut label seen row.tenant C (one_more who m (Done w row.request cost) P) n
-  done_but who m w cost row change x follow changed books accounts learned listed chooses =
+  pub done_but : (who m w cost : ℕ) (row : RunRow) (change : ℤ) → FinishStep C P k.book k.accounts who m w cost row → TimesAre C (one_more who m (Done w row.request cost) P) n.times → change ≡ finish_change k.book w cost → n.book ≡ finished k.book w cost → n.accounts ≡ charged k.accounts row.tenant (to_z w128 (of_z w128 change)) → CostsAre C (one_more who m (Done w row.request cost) P) n.costs → n.lists ≡ k.lists → n.chooser ≡ k.chooser → TracksBut label seen row.tenant C (one_more who m (Done w row.request cost) P) n
+  done_but who m w cost row change x times changed books accounts learned listed chooses =
       let e : Entry = record { who = who; moment = m; act = Done w row.request cost } in
       let o = old.mirrors in
       record {
@@ -172,7 +176,7 @@ module _ {J X : Type 0} (label : J → ℕ) (seen : X → ChooserView) (C : Conf
           book_is = rw books x.step.follows.book_is;
           accounts_are = step_accounts C P e k.accounts row.tenant _ _ change x.step changed n.accounts refl accounts;
           costs_are = learned;
-          times_are = follow e x.ends x.step.legal;
+          times_are = times;
         };
         tenant_known = x.step.tenant_known;
         chooser_is = rw chooses (keys_of_others C P e (seen k.chooser) (seen k.chooser) (λ u. u ≢ row.tenant) o.limits x.step.legal x.others old.chooser_is (setting_stays C P e (seen k.chooser) (pool_step C P e) old.chooser_is) refl (latest_at C P m (seen k.chooser) x.step.legal.1 old.chooser_is));
@@ -201,8 +205,8 @@ module _ {J X : Type 0} (label : J → ℕ) (seen : X → ChooserView) (C : Conf
   pub withdraw_ends : (who m t r : ℕ) (i : Item J) (left : lists.ListsView J) → lists.IsRemoved k.lists r t i left → Ends m t P (record { who = who; moment = m; act = Withdraw r })
   withdraw_ends who m t r i left x = record { request = r; asked = _; moment_is = refl; ends = eq-eqb r r refl; asked_is = removed_asked label C P r t i k.lists left old.mirrors.lists_are x; tenant_is = refl }
 
-  pub withdraw_but : (who m t r : ℕ) (i : Item J) → IsLegal C (one_more who m (Withdraw r) P) → lists.IsRemoved k.lists r t i n.lists → ((e : Entry) → Ends m t P e → IsLegal C (e ∷ P) → TimesAre C (e ∷ P) n.times) → n.book ≡ k.book → n.accounts ≡ k.accounts → n.costs ≡ k.costs → n.chooser ≡ k.chooser → TracksBut label seen t C (one_more who m (Withdraw r) P) n
-  withdraw_but who m t r i l x follow books accounts costs chooses =
+  pub withdraw_but : (who m t r : ℕ) (i : Item J) → IsLegal C (one_more who m (Withdraw r) P) → lists.IsRemoved k.lists r t i n.lists → TimesAre C (one_more who m (Withdraw r) P) n.times → n.book ≡ k.book → n.accounts ≡ k.accounts → n.costs ≡ k.costs → n.chooser ≡ k.chooser → TracksBut label seen t C (one_more who m (Withdraw r) P) n
+  withdraw_but who m t r i l x times books accounts costs chooses =
       let e : Entry = record { who = who; moment = m; act = Withdraw r } in
       let o = old.mirrors in
       let asked = removed_asked label C P r t i k.lists n.lists o.lists_are x in
@@ -214,7 +218,7 @@ module _ {J X : Type 0} (label : J → ℕ) (seen : X → ChooserView) (C : Conf
           book_is = rw books (book_withdraw C P k.book who m r o.book_is);
           accounts_are = rw accounts (accounts_withdraw C P k.accounts who m r o.accounts_are);
           costs_are = rw costs (costs_stay C P (e ∷ P) k.costs o.costs_are refl);
-          times_are = follow e (withdraw_ends who m t r i n.lists x) l;
+          times_are = times;
         };
         tenant_known = omega (arith, x.known, o.lists_are.tenants);
         chooser_is = rw chooses (keys_of_others C P e (seen k.chooser) (seen k.chooser) (λ u. u ≢ t) o.limits l (λ u ne. of_other P u r _ asked (λ z. ne (sym z))) old.chooser_is (setting_stays C P e (seen k.chooser) (pool_step C P e) old.chooser_is) refl (latest_at C P m (seen k.chooser) l.1 old.chooser_is));
@@ -245,11 +249,11 @@ reweigh_but label seen C P k n who m t w old l times listed books accounts costs
     }
 
 -- a Close changes no keys
-pub close_tracks : {J X : Type 0} (label : J → ℕ) (seen : X → ChooserView) (C : Config) (P : History) (k n : Tracker J X) (who m : ℕ) → Tracks label seen C P k → IsLegal C (one_more who m Close P) → ComesTo m k.times n.times → n.lists ≡ k.lists → n.book ≡ k.book → n.accounts ≡ k.accounts → n.costs ≡ k.costs → n.chooser ≡ k.chooser → Tracks label seen C (one_more who m Close P) n
-close_tracks label seen C P k n who m old l passes listed books accounts costs chooses =
+pub close_tracks : {J X : Type 0} (label : J → ℕ) (seen : X → ChooserView) (C : Config) (P : History) (k n : Tracker J X) (who m : ℕ) → Tracks label seen C P k → IsLegal C (one_more who m Close P) → TimesAre C (one_more who m Close P) n.times → n.lists ≡ k.lists → n.book ≡ k.book → n.accounts ≡ k.accounts → n.costs ≡ k.costs → n.chooser ≡ k.chooser → Tracks label seen C (one_more who m Close P) n
+close_tracks label seen C P k n who m old l times listed books accounts costs chooses =
     let e : Entry = record { who = who; moment = m; act = Close } in
     record {
-      mirrors = mirrors_quiet label C P k n old.mirrors who m Close refl l (times_pass C P e n.times refl refl (passes C P old.mirrors.limits old.mirrors.legal old.mirrors.times_are)) listed books accounts costs;
+      mirrors = mirrors_quiet label C P k n old.mirrors who m Close refl l times listed books accounts costs;
       chooser_is = rw chooses (keys_of_others C P e (seen k.chooser) (seen k.chooser) (λ t. Unit {0}) old.mirrors.limits l (λ u among. refl) old.chooser_is (setting_stays C P e (seen k.chooser) (pool_step C P e) old.chooser_is) refl (latest_at C P m (seen k.chooser) l.1 old.chooser_is));
     }
 
@@ -291,12 +295,17 @@ module _ {J X : Type 0} (label : J → ℕ) (seen : X → ChooserView) (C : Conf
     pub known : t < length C.weights
     pub is_head : head P t ≡ Some keys.request
 
+  pub turns_with : (t : ℕ) (z : ℤ) (keys : HeadKeys) → z ≡ pos (virtual_time C P m) → IsChoice (turn_of (seen k.chooser).setting w z) (Has (seen k.chooser).table) t keys → Turns t
+  turns_with t z keys at chosen =
+      let choice : IsChoiceAt C P m w t keys = choice_of C P m (seen k.chooser) old.mirrors.legal old.chooser_is w t z keys at chosen in
+      let keys_are = choice_head C P m w t keys choice in
+      record { keys = keys; choice = choice; known = keys_tenant_known C P m t keys old.mirrors.legal keys_are; is_head = (keys_head C P m t keys keys_are).1 }
+
   pub turns : (o : Option ℕ) (t : ℕ) (z : ℤ) → z ≡ pos (virtual_time C P m) → o ≡ Some t → IfSome o (IsTableChoice (seen k.chooser).setting (seen k.chooser).table w z) → Turns t
   turns (Some u) t z at same chosen =
       let e : u ≡ t = cc in
-      let x = choice_is C P m (seen k.chooser) old.mirrors.legal old.chooser_is w t z at (subst (IsTableChoice (seen k.chooser).setting (seen k.chooser).table w z) e chosen) in
-      let keys_are = choice_head C P m w t x.0 x.1 in
-      record { keys = x.0; choice = x.1; known = keys_tenant_known C P m t x.0 old.mirrors.legal keys_are; is_head = (keys_head C P m t x.0 keys_are).1 }
+      let x : IsTableChoice (seen k.chooser).setting (seen k.chooser).table w z t = subst (IsTableChoice (seen k.chooser).setting (seen k.chooser).table w z) e chosen in
+      turns_with t z x.0 at x.1
   turns None t z at same chosen = absurd (cc)
 
   -- its list is not empty
@@ -309,6 +318,11 @@ module _ {J X : Type 0} (label : J → ℕ) (seen : X → ChooserView) (C : Conf
   item_chosen t estimate i x top costs =
       let number : Some i.request ≡ Some x.keys.request = sym (is_head label C P t k old.mirrors x.known i top) ∙ x.is_head in
       record { tenant = t; keys = x.keys; choice = x.choice; request_is = cc; asked = was_asked label C P t k old.mirrors x.known i top; estimate_is = costs }
+
+  -- by the keys of the choice
+  pub chosen_keys : (t estimate : ℕ) (i : Item J) (z : ℤ) (keys : HeadKeys) (at : z ≡ pos (virtual_time C P m)) (chosen : IsChoice (turn_of (seen k.chooser).setting w z) (Has (seen k.chooser).table) t keys) (top : slice_get (lists.list_of k.lists t) 0 ≡ Some i) (costs : estimate ≡ estimate_at C P t i.kind i.declared) → (item_chosen t estimate i (turns_with t z keys at chosen) top costs).keys ≡ keys
+  unfolding turns_with item_chosen
+  chosen_keys t estimate i z keys at chosen top costs = refl
 
   pub legal_take : (who t estimate : ℕ) (i : Item J) → IsChosen C P m w i.request estimate (record { tenant = t; kind = i.kind; declared = i.declared; label = label i.job }) → IsLegal C (one_more who m (Take w i.request estimate) P)
   legal_take who t estimate i chosen = (old.mirrors.legal, later, in_range, record { worker_known = pooled; free = take_free C P w old.mirrors.legal free; asked = _; chosen = chosen })

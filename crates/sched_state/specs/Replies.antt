@@ -2,8 +2,8 @@
 use Rattle.std.specs.Prelude.{ℕ, ◌≡◌, Result, Ok, Err, Some}
 use Rattle.std.specs.FinMap as map
 use Rattle.fq_model.specs.declared.event.Call.{Call}
-use Rattle.fq_model.specs.declared.event.Due.{Due}
-use Rattle.fq_model.specs.declared.event.Due.TheVariants as due
+use Rattle.fq_model.specs.declared.event.Foreseen.{Foreseen}
+use Rattle.fq_model.specs.declared.event.Foreseen.TheVariants as foreseen
 use Rattle.fq_model.specs.declared.event.Reply.{Reply}
 use Rattle.fq_model.specs.declared.event.Reply.TheVariants as answer
 use Rattle.fq_model.specs.declared.event.Cause.{Cause}
@@ -30,11 +30,11 @@ take_reply label taken.Drained = answer.Drained
 take_reply label taken.Idle = answer.Idle
 
 -- the foreseen take that has this result, without work
-abbrev pub due_by : {J : Type 0} → Taken J → Due
-due_by (taken.UnknownWorker worker) = due.Refused (cause.Worker worker)
-due_by (taken.Busy request) = due.Refused (cause.Busy request)
-due_by (taken.Retired workers) = due.Retired workers
-due_by _ = due.Nothing
+abbrev pub foreseen_by : {J : Type 0} → Taken J → Foreseen
+foreseen_by (taken.UnknownWorker worker) = foreseen.Refused (cause.Worker worker)
+foreseen_by (taken.Busy request) = foreseen.Refused (cause.Busy request)
+foreseen_by (taken.Retired workers) = foreseen.Retired workers
+foreseen_by _ = foreseen.Nothing
 
 -- of a Report, a Done, a Weight and a Workers
 abbrev pub change_reply : Result (Unit {0}) Cause → Reply

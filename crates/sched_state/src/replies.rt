@@ -1,8 +1,8 @@
 //! The results of the calls of a scheduler.
 ghost use Rattle.std.specs.Prelude.{◌≡◌};
-ghost use Rattle.sched_state.specs.Replies.{due_by};
+ghost use Rattle.sched_state.specs.Replies.{foreseen_by};
 
-use fq_model::event::{Cause, Due};
+use fq_model::event::{Cause, Foreseen};
 use std::error::Error;
 use std::fmt;
 
@@ -51,13 +51,13 @@ pub enum Taken<J> {
 }
 
 /// The foreseen take of a worker whose take would have this result, without work.
-pub(crate) fn due_of<J: Drop>(told: Taken<J>) -> Due
-    ensures { result ≡ due_by told }
+pub(crate) fn foreseen_of<J: Drop>(told: Taken<J>) -> Foreseen
+    ensures { result ≡ foreseen_by told }
 {
     match told {
-        Taken::UnknownWorker(worker) => Due::Refused(Cause::Worker(worker)),
-        Taken::Busy(request) => Due::Refused(Cause::Busy(request)),
-        Taken::Retired(workers) => Due::Retired(workers),
-        Taken::Run { .. } | Taken::Drained | Taken::Idle => Due::Nothing,
+        Taken::UnknownWorker(worker) => Foreseen::Refused(Cause::Worker(worker)),
+        Taken::Busy(request) => Foreseen::Refused(Cause::Busy(request)),
+        Taken::Retired(workers) => Foreseen::Retired(workers),
+        Taken::Run { .. } | Taken::Drained | Taken::Idle => Foreseen::Nothing,
     }
 }

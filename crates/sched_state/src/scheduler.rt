@@ -2,7 +2,7 @@
 ghost use Rattle.std.specs.Prelude.{ℕ, ◌≡◌, ◌<◌, ◌≤◌, [], ◌∷◌, IfOk, IfErr, OnErr, length, pos, ◌≤ℤ◌};
 ghost use Rattle.std.specs.FinMap as map;
 ghost use Rattle.fq_model.specs.declared.event.Call.TheVariants as call;
-ghost use Rattle.fq_model.specs.Due.{IsDue};
+ghost use Rattle.fq_model.specs.Foresee.{IsForeseen};
 ghost use Rattle.fq_model.specs.History.{history_of, pool_at};
 ghost use Rattle.fq_model.specs.Keys.{keys_at};
 ghost use Rattle.fq_model.specs.Rules.{IsLegal};
@@ -18,11 +18,11 @@ ghost use Rattle.sched_state.specs.Scheduler.{opened_keeping, virtual_time_now};
 ghost use Rattle.sched_state.specs.Replies.{submit_reply, take_reply, change_reply, withdraw_reply, close_reply, AnswersCall, HandsOut, HandsBack};
 
 use crate::refusals;
-use crate::replies::{AlreadyClosed, Refused, Taken, due_of};
+use crate::replies::{AlreadyClosed, Refused, Taken, foreseen_of};
 use crate::tracker::Tracker;
 use charge_book::row::RunRow;
 use fq_model::config::Checked;
-use fq_model::event::{Act, Cause, Due, Entry};
+use fq_model::event::{Act, Cause, Entry, Foreseen};
 use fq_model::job::Job;
 use fq_model::limits::GREATEST_VIRTUAL_TIME;
 use fq_model::parts::Status;
@@ -367,13 +367,14 @@ impl<J: Job + Drop, X: Chooser, S: Store + Drop> Scheduler<J, X, S> {
 }
 
 impl<J: Job + Drop, X: Foresees, S: Store + Drop> Scheduler<J, X, S> {
-    /// Foresees a take by the worker at this moment. Nothing changes, and later calls may be at earlier moments.
-    pub fn due(&self, moment: u64, worker: u32) -> Due
-        ensures { IsDue self.now.config (history_of self.now.past) moment worker result }
+    /// Foresees a take by the worker at this moment, and whether a head that is eligible for it then has an estimate
+    /// below `below`, in microseconds. Nothing changes, and later calls may be at earlier moments.
+    pub fn foresee(&self, moment: u64, worker: u32, below: u64) -> Foreseen
+        ensures { IsForeseen self.now.config (history_of self.now.past) moment worker below result }
     {
         match refusals::take(&self.journal, &self.tracker, worker) {
-            Some(told) => due_of(told),
-            None => self.tracker.due(&self.journal, moment, worker),
+            Some(told) => foreseen_of(told),
+            None => Foreseen::Run(self.tracker.foresee(&self.journal, moment, worker, below)),
         }
     }
 }

@@ -3,7 +3,7 @@ ghost use Rattle.std.specs.Prelude.{◌≡◌, ◌<◌, [], Some, IfOk, length, 
 ghost use Rattle.std.specs.FinMap as map;
 ghost use Rattle.fq_model.specs.declared.event.Act.TheVariants as act;
 ghost use Rattle.fq_model.specs.History.{History, request_at};
-ghost use Rattle.fq_model.specs.Due.{IsDueOfWaiting};
+ghost use Rattle.fq_model.specs.Foresee.{IsForeseenRun};
 ghost use Rattle.fq_model.specs.Time.{last_moment, effective_moment};
 ghost use Rattle.fq_model.specs.Keys.{keys_at, start};
 ghost use Rattle.fq_model.specs.Rules.{label_of};
@@ -21,14 +21,14 @@ use charge_book::row::RunRow;
 use cost_estimate::any::AnyCost;
 use cost_estimate::estimate::Estimate;
 use fq_model::config::{Checked, Policy};
-use fq_model::event::Due;
+use fq_model::event::ForeseenRun;
 use fq_model::job::Job;
 use fq_model::limits::GREATEST_VIRTUAL_TIME;
 use sched_journal::Ledger;
 use std::alloc::{AllocError, Global};
 use tag_rules::accounts::Accounts;
 use tag_rules::chooser::Chooser;
-use tag_rules::foresees::{Foreseen, Foresees};
+use tag_rules::foresees::Foresees;
 use tag_rules::head_keys::Keys;
 use tag_rules::keys::keys;
 use virtual_clock::times::Times;
@@ -112,7 +112,7 @@ impl<J: Job + Drop, X: Chooser> Tracker<J, X> {
         requires may { MayBegin journal.now moment worker }
         ensures { Begins J.label_of X.seen journal.now moment worker self.old result.0 result.1 self.new }
     {
-        self.times.pass(moment);
+        self.times.come_to(moment);
         let tenant = self.chooser.choose(worker, self.times.now()).unwrap();
         let item = self.lists.pop(tenant).unwrap();
         let estimate = self.costs.now(tenant, item.kind, item.declared);
@@ -155,7 +155,9 @@ impl<J: Job + Drop, X: Chooser> Tracker<J, X> {
         let correction = self.book.record_cost(worker, row, cost);
         self.accounts.charge(row.tenant, correction);
         self.costs.learn(row.tenant, row.kind, cost);
-        self.times.end(moment, row.tenant);
+        let start = self.accounts.tag(row.tenant); // after the correction
+        let policy = journal.config().policy();
+        self.times.end(policy, moment, row.tenant, start);
         self.renew(journal.config(), row.tenant);
     }
 
@@ -201,7 +203,9 @@ impl<J: Job + Drop, X: Chooser> Tracker<J, X> {
         ensures jobs { jobs_in self.new.lists.lists ≡ map.remove (jobs_in self.old.lists.lists) request }
     {
         let (tenant, item) = self.lists.remove(request).unwrap();
-        self.times.end(moment, tenant);
+        let start = self.accounts.tag(tenant);
+        let policy = journal.config().policy();
+        self.times.end(policy, moment, tenant, start);
         self.renew(journal.config(), tenant);
         item.job
     }
@@ -246,25 +250,26 @@ impl<J: Job + Drop, X: Chooser> Tracker<J, X> {
 }
 
 impl<J: Job + Drop, X: Foresees> Tracker<J, X> {
-    /// Foresees a take by the worker at this moment, in microseconds, where it would get work. Nothing changes.
-    pub fn due(&self, journal: &Ledger, moment: u64, worker: u32) -> Due
+    /// Foresees a take by the worker at this moment, in microseconds, where it would get work; and whether a head that is
+    /// eligible for it then has an estimate below this. Nothing changes.
+    pub fn foresee(&self, journal: &Ledger, moment: u64, worker: u32, below: u64) -> ForeseenRun
         requires tracked { Tracks J.label_of X.seen journal.now.config (history journal.now) self.now }
         requires gets { GetsWork journal.now.config (history journal.now) worker }
-        ensures { IsDueOfWaiting journal.now.config (history journal.now)
-            (effective_moment (history journal.now) moment) worker result }
+        ensures { IsForeseenRun journal.now.config (history journal.now)
+            (effective_moment (history journal.now) moment) worker below result }
     {
         let v = self.times.at(journal.effective(moment));
-        match self.chooser.foresee(worker, v) {
-            Foreseen::Nothing => Due::Nothing,
-            Foreseen::Eligible => Due::Eligible,
-            Foreseen::Early(tenant) => {
-                let item = self.lists.head(tenant).unwrap();
-                let estimate = self.costs.now(tenant, item.kind, item.declared);
-                Due::Early {
-                    request: item.request,
-                    estimate,
-                }
-            }
+        let weights = self.times.weights();
+        let choice = self.chooser.foresee(worker, v, below, weights).unwrap();
+        let item = self.lists.head(choice.tenant).unwrap();
+        let estimate = self.costs.now(choice.tenant, item.kind, item.declared);
+        ForeseenRun {
+            request: item.request,
+            tenant: choice.tenant,
+            kind: item.kind,
+            estimate,
+            is_eligible: choice.is_eligible,
+            has_smaller: choice.has_smaller,
         }
     }
 }

@@ -1,19 +1,20 @@
 -- The head that is chosen in an order is the choice over its table.
-use Rattle.std.proofs.Common.{ℕ, ◌<◌, ◌≡◌, ◌⊎◌, inl, inr, arith, sym, ◌∙◌, ap, subst, List, [], ◌∷◌, pos, ◌≤ℤ◌, ◌<ℤ◌}
+use Rattle.std.proofs.Common.{ℕ, ◌<◌, ◌≡◌, ◌↔◌, ◌⊎◌, Option, Some, None, length, get_or, inl, inr, arith, sym, ◌∙◌, ap, subst, List, [], ◌∷◌, pos, ◌≤ℤ◌, ◌<ℤ◌}
 use Rattle.std.specs.List.{All, Contains}
 use Rattle.std.proofs.lemmas.Int.{ints}
+use Rattle.std.proofs.lemmas.Option.{slice_get_within}
 use Rattle.std.proofs.lemmas.List.Elements.{All-contains, Contains-append_cases}
 use Rattle.vt_fixed.specs.declared.limits.TheConstants.{GREATEST_LENGTH}
 use Rattle.fq_model.specs.Keys.{HeadKeys, Turn, finish, eligible_key, IsEligible, FinishBefore, EligibleBefore, IsFirst, Every, IsChoice, NoneIsEligible}
 use Rattle.tag_rules.specs.Tables.{Table, Has, NoneHas}
-use Rattle.tag_rules.specs.Foreseen.{IsForeseenOver}
-use Rattle.tag_rules.specs.declared.foresees.Foreseen.{Foreseen}
-use Rattle.tag_rules.specs.declared.foresees.Foreseen.TheVariants.{Nothing, Eligible, Early}
+use Rattle.tag_rules.specs.Foreseen.{SomeIsShort, IsForeseenOver}
+use Rattle.tag_rules.specs.declared.foresees.ForeseenChoice.{ForeseenChoice}
 use Rattle.shared_order.specs.Reach.{key_by_finish, IsInReach}
 use Rattle.shared_order.proofs.Reach.{eligible_in_reach, key_by_its_finish}
 use Rattle.shared_order.specs.Heads.{HeadView, head_of, HeadBefore, IsSorted}
 use Rattle.shared_order.specs.Search.{IsReached, key_of, IsSooner, IsFirstThat, IsLeast}
-use Rattle.shared_order.specs.Mirrors.{keys_of, Mirrors, IsChosen, IsOutlook}
+use Rattle.shared_order.specs.Mirrors.{keys_of, Mirrors, IsChosen}
+use Rattle.shared_order.specs.Outlook.{IsWeighed, SomeIsSought, IsOutlook}
 use Rattle.shared_order.proofs.Pieces.{back_pairs, across_pairs, holds_middle}
 use Rattle.shared_order.proofs.Mirroring.{among}
 
@@ -99,12 +100,40 @@ none_chosen table heads m is = λ t k has. nothing (head_of t k) (subst (λ (xs 
 
 -- ---- the foreseen choice
 
-pub foreseen : (at : Turn) (table : Table) (heads : List HeadView) (found : Foreseen) → at.worker < at.workers → Mirrors table heads → IsSorted heads → IsOutlook at heads found → IsForeseenOver at table found
-foreseen at table heads Nothing lt m sorted is = none_chosen table heads m is
-foreseen at table heads Eligible lt m sorted o =
-    let first = by_finish at table heads o.0 lt m sorted o.1 in
-    record { tenant = o.0.tenant; keys = keys_of o.0; has = first.has; eligible = first.passes }
-foreseen at table heads (Early t) lt m sorted o = (
-  none_eligible at table heads lt m o.1.1.0,
-  (keys_of o.0, subst (λ u. IsChoice at (Has table) u (keys_of o.0)) o.1.0 (chosen at table heads o.0 lt m sorted (inr o.1.1))),
+-- each head's tenant has a weight, where there is one a tenant
+pub all_weighed : (table : Table) (heads : List HeadView) (weights : List ℕ) → Mirrors table heads → length weights ≡ length table → All (IsWeighed weights) heads
+all_weighed table heads weights m same = λ k d within. omega (arith, same, slice_get_within table (get_or heads k d).tenant _ (m.known k d within))
+
+some_smaller : (at : Turn) (table : Table) (heads : List HeadView) (weights : List ℕ) (below : ℕ) → at.worker < at.workers → Mirrors table heads → SomeIsSought at heads weights below ↔ SomeIsShort at table weights below
+some_smaller at table heads weights below lt m = (
+  λ s. record {
+    tenant = s.0.tenant;
+    keys = keys_of s.0;
+    has = has_keys table heads s.0 m s.1.0;
+    eligible = is_eligible at s.0 lt (low table heads s.0 m s.1.0) s.1.1.0;
+    smaller = s.1.1.1;
+  },
+  λ s. let there : Contains heads (head_of s.tenant s.keys) = m.held s.tenant s.keys s.has in (
+    head_of s.tenant s.keys,
+    (there, (is_reached at s.tenant s.keys lt (low table heads (head_of s.tenant s.keys) m there) s.eligible, s.smaller)),
+  ),
 )
+
+pub foreseen : (at : Turn) (table : Table) (heads : List HeadView) (weights : List ℕ) (below : ℕ) (found : Option ForeseenChoice) → at.worker < at.workers → Mirrors table heads → IsSorted heads → IsOutlook at heads weights below found → IsForeseenOver at table weights below found
+foreseen at table heads weights below None lt m sorted is = none_chosen table heads m is
+foreseen at table heads weights below (Some f) lt m sorted o =
+    let there : Contains heads o.head = chosen_there at heads o.head o.chosen in
+    let some = some_smaller at table heads weights below lt m in
+    record {
+      keys = keys_of o.head;
+      choice = subst (λ u. IsChoice at (Has table) u (keys_of o.head)) o.tenant_is (chosen at table heads o.head lt m sorted o.chosen);
+      eligible = (λ t. is_eligible at o.head lt (low table heads o.head m there) (o.eligible.0 t), λ e. o.eligible.1 (reached_again at o.head lt (low table heads o.head m there) e));
+      smaller = (λ t. some.0 (o.smaller.0 t), λ s. o.smaller.1 (some.1 s));
+    }
+  where
+    chosen_there : (at : Turn) (heads : List HeadView) (h : HeadView) → IsChosen at heads h → Contains heads h
+    chosen_there at heads h (inl f) = subst (λ (xs : List HeadView). Contains xs h) (sym f.stands) (holds_middle f.front h f.back)
+    chosen_there at heads h (inr l) = subst (λ (xs : List HeadView). Contains xs h) (sym l.1.stands) (holds_middle l.1.front h l.1.back)
+
+    reached_again : (at : Turn) (h : HeadView) → at.worker < at.workers → pos 0 ≤ℤ h.len → IsEligible at (keys_of h) → IsReached at h
+    reached_again at h lt l e = subst (λ z. IsInReach at z h.len) (finish_back h) ((eligible_in_reach at (keys_of h) lt l).0 e)

@@ -5,6 +5,7 @@ pub mod InBlock
 pub mod Places
 pub mod Pieces
 pub mod Searching
+pub mod Smaller
 pub mod Mirroring
 pub mod Choosing
 pub mod InRow

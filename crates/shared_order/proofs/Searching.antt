@@ -39,7 +39,7 @@ max_right x y z h = omega (arith, ints, clamps)
 max_least : (x y z : ℤ) → x ≤ℤ z → y ≤ℤ z → int_max x y ≤ℤ z
 max_least x y z h k = omega (arith, ints, clamps)
 
-longest_low : (heads : List HeadView) → pos 0 ≤ℤ greatest_length heads
+pub longest_low : (heads : List HeadView) → pos 0 ≤ℤ greatest_length heads
 longest_low [] = omega (arith, ints)
 longest_low (h ∷ heads) = max_right h.len (greatest_length heads) (pos 0) (longest_low heads)
 
@@ -47,7 +47,7 @@ longest_high : (heads : List HeadView) → AreInRange heads → greatest_length 
 longest_high [] r = omega (arith, ints)
 longest_high (h ∷ heads) r = max_least h.len (greatest_length heads) GREATEST_LENGTH (r 0 h (omega arith)).1 (longest_high heads (All-tail (λ (k : HeadView). (pos 0 ≤ℤ k.len) × (k.len ≤ℤ GREATEST_LENGTH)) h heads r))
 
-longest_covers : (heads : List HeadView) → All (λ (h : HeadView). h.len ≤ℤ greatest_length heads) heads
+pub longest_covers : (heads : List HeadView) → All (λ (h : HeadView). h.len ≤ℤ greatest_length heads) heads
 longest_covers [] = All-nil (λ (h : HeadView). h.len ≤ℤ pos 0)
 longest_covers (h ∷ heads) =
     All-cons (λ (k : HeadView). k.len ≤ℤ int_max h.len (greatest_length heads)) h heads (max_left h.len (greatest_length heads)) (All-weaker (λ (k : HeadView). k.len ≤ℤ greatest_length heads) (λ (k : HeadView). k.len ≤ℤ int_max h.len (greatest_length heads)) (λ k le. max_right h.len (greatest_length heads) k.len le) heads (longest_covers heads))
@@ -86,7 +86,7 @@ bound_limits finish len z heads r longest = rw (reads_finish finish len r, longe
   len_high = longest.high;
 })
 
-first_least : (heads : List HeadView) (first : HeadView) → IsSorted heads → slice_get heads 0 ≡ Some first → All (λ (h : HeadView). first.finish ≤ℤ h.finish) heads
+pub first_least : (heads : List HeadView) (first : HeadView) → IsSorted heads → slice_get heads 0 ≡ Some first → All (λ (h : HeadView). first.finish ≤ℤ h.finish) heads
 first_least [] first sorted is = absurd (let none : None ≡ Some first = is in cc)
 first_least (x ∷ heads) first sorted is =
     let same : Some x ≡ Some first = is in

@@ -5,3 +5,4 @@ pub mod Heads
 pub mod Blocks
 pub mod Search
 pub mod Mirrors
+pub mod Outlook

@@ -1,10 +1,8 @@
 -- An order of the heads whose keys a table has, and the choice over it.
-use Rattle.std.specs.Prelude.{ℕ, ◌≡◌, ◌≢◌, ◌⊎◌, List, [], is_some, length, ◌≤◌, ℤ, pos, ◌-ℤ◌, ◌≤ℤ◌}
+use Rattle.std.specs.Prelude.{ℕ, ◌≡◌, ◌≢◌, ◌⊎◌, List, is_some, length, ◌≤◌, ℤ, pos, ◌-ℤ◌, ◌≤ℤ◌}
 use Rattle.std.specs.List.{All, AllPairs, Contains, count_by}
 use Rattle.fq_model.specs.Keys.{HeadKeys, Turn}
 use Rattle.tag_rules.specs.Tables.{Table, Has, RequestsDiffer}
-use Rattle.tag_rules.specs.declared.foresees.Foreseen.{Foreseen}
-use Rattle.tag_rules.specs.declared.foresees.Foreseen.TheVariants.{Nothing, Eligible, Early}
 use Rattle.shared_order.specs.Heads.{HeadView, head_of}
 use Rattle.shared_order.specs.Blocks.{OrderView}
 use Rattle.shared_order.specs.Search.{AreInRange, IsReached, IsSooner, IsFirstThat, IsLeast}
@@ -32,11 +30,3 @@ pub record KeepsChooser (table : Table) (order : OrderView) (latest : ℤ) : Typ
 abbrev pub IsChosen : Turn → List HeadView → HeadView → Type 0
 IsChosen at heads h =
     IsFirstThat (IsReached at) heads h ⊎ (All (λ other. ¬ IsReached at other) heads × IsLeast (IsSooner at) heads h)
-
--- the result of a look at the heads: no head; some head is eligible; or none is, and the tenant of the head that
--- becomes eligible soonest
-abbrev pub IsOutlook : Turn → List HeadView → Foreseen → Type 0
-IsOutlook at heads Nothing = heads ≡ []
-IsOutlook at heads Eligible = (h : HeadView) × IsFirstThat (IsReached at) heads h
-IsOutlook at heads (Early t) = (h : HeadView)
-    × ((h.tenant ≡ t) × (All (λ other. ¬ IsReached at other) heads × IsLeast (IsSooner at) heads h))

@@ -6,12 +6,13 @@ ghost use Rattle.shared_order.specs.Heads.{head_of, Gains};
 
 use crate::head::Head;
 use crate::order::Order;
-use crate::search::{choice, outlook};
+use crate::outlook::outlook;
+use crate::search::choice;
 use fq_model::config::{Checked, Policy};
 use std::alloc::{AllocError, Global};
 use std::marker::Model;
 use tag_rules::chooser::Chooser;
-use tag_rules::foresees::{Foreseen, Foresees};
+use tag_rules::foresees::{ForeseenChoice, Foresees};
 use tag_rules::head_keys::Keys;
 use tag_rules::turn::Turn;
 
@@ -94,15 +95,15 @@ impl Chooser for SharedChooser {
 }
 
 impl Foresees for SharedChooser {
-    /// Looks for the head that becomes eligible soonest, as a choice does where none is eligible.
-    fn foresee(&self, worker: u32, v: i128) -> Foreseen {
+    /// Looks at the heads as a choice does, and then at those of the first blocks for a small one.
+    fn foresee(&self, worker: u32, v: i128, below: u64, weights: &[u32]) -> Option<ForeseenChoice> {
         let turn = Turn {
             policy: self.policy,
             workers: self.workers,
             worker,
             virtual_time: v,
         };
-        outlook(turn, self.order.blocks())
+        outlook(turn, self.order.blocks(), below, weights)
     }
 }
 

@@ -8,4 +8,5 @@ pub mod examples;
 pub mod head;
 pub mod laws;
 pub mod order;
+pub mod outlook;
 pub mod search;

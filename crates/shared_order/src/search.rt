@@ -4,13 +4,12 @@ ghost use Rattle.std.specs.List.{All};
 ghost use Rattle.shared_order.specs.Reach.{key_by_finish, Reaches, IsInReach};
 ghost use Rattle.shared_order.specs.Blocks.{all_heads};
 ghost use Rattle.shared_order.specs.Search.{AreInRange, AreInOrder, AreInLimits, IsReached, IsSooner, IsFirstThat, IsLeast, TakesSoonest};
-ghost use Rattle.shared_order.specs.Mirrors.{IsChosen, IsOutlook};
+ghost use Rattle.shared_order.specs.Mirrors.{IsChosen};
 
 use crate::block::Block;
 use crate::head::Head;
 use fq_model::config::Policy;
 use fq_model::limits::{GREATEST_LENGTH, GREATEST_START};
-use tag_rules::foresees::Foreseen;
 use tag_rules::turn::Turn;
 use vt_fixed::part;
 
@@ -24,21 +23,6 @@ pub fn choice(turn: Turn, blocks: &[Block]) -> Option<Head>
     match first_eligible(turn, blocks) {
         Some(head) => Some(head),
         None => soonest(turn, blocks),
-    }
-}
-
-/// Foresees the worker's choice. It stops at the first eligible head.
-pub fn outlook(turn: Turn, blocks: &[Block]) -> Foreseen
-    requires begun { pos 0 ≤ℤ turn.virtual_time }
-    requires in_order { AreInOrder (all_heads blocks.now) }
-    ensures { IsOutlook turn (all_heads blocks.now) result }
-{
-    if first_eligible(turn, blocks).is_some() {
-        return Foreseen::Eligible;
-    }
-    match soonest(turn, blocks) {
-        Some(head) => Foreseen::Early(head.tenant),
-        None => Foreseen::Nothing,
     }
 }
 
@@ -173,7 +157,7 @@ fn key(turn: Turn, finish: i128, len: i128) -> i128
 
 // Whether a head with this finish and this length is eligible. Virtual time is 0 at least, so that no product leaves
 // the range of its type.
-fn is_in_reach(turn: Turn, finish: i128, len: i128) -> bool
+pub(crate) fn is_in_reach(turn: Turn, finish: i128, len: i128) -> bool
     requires begun { pos 0 ≤ℤ turn.virtual_time }
     requires in_limits { AreInLimits finish len }
     ensures { IsTrue result ↔ IsInReach turn finish len }

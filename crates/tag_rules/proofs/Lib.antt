@@ -2,4 +2,4 @@ pub mod AccountSteps
 pub mod Ranges
 pub mod Comparing
 pub mod Scanning
-pub mod Soonest
+pub mod Shorter

@@ -1,16 +1,26 @@
 -- Replies in plain numbers.
-use Rattle.std.specs.Prelude.{ℕ}
+use Rattle.std.specs.Prelude.{ℕ, Bool, if◌then◌else◌}
 use Rattle.fq_model.specs.declared.event.Cause.{Cause}
 use Rattle.fq_model.specs.declared.event.Cause.TheVariants as cause
-use Rattle.fq_model.specs.declared.event.Due.{Due}
-use Rattle.fq_model.specs.declared.event.Due.TheVariants as due
+use Rattle.fq_model.specs.declared.event.Foreseen.{Foreseen}
+use Rattle.fq_model.specs.declared.event.Foreseen.TheVariants as foreseen
+use Rattle.fq_model.specs.declared.event.ForeseenRun.{ForeseenRun}
 use Rattle.fq_model.specs.declared.event.Reply.{Reply}
 use Rattle.fq_model.specs.declared.event.Reply.TheVariants as answer
 use Rattle.twodfq_c.specs.declared.reply.PlainReply.{PlainReply}
 
 -- a reply that names a request
 abbrev pub requested : ℕ → ℕ → ℕ → ℕ → PlainReply
-requested kind request first second = record { kind = kind; request = request; first = first; second = second }
+requested kind request first second = record {
+  kind = kind;
+  request = request;
+  first = first;
+  second = second;
+  tenant = 0;
+  request_kind = 0;
+  is_eligible = 0;
+  has_smaller = 0;
+}
 
 -- a reply that names no request
 abbrev pub numbered : ℕ → ℕ → ℕ → PlainReply
@@ -45,10 +55,26 @@ plain_reply (answer.Retired workers) = numbered 5 workers 0
 plain_reply (answer.Withdrawn label) = numbered 6 0 label
 plain_reply (answer.Refused why) = plain_cause why
 
+-- 1 for true
+abbrev pub flag_of : Bool → ℕ
+flag_of b = if b then 1 else 0
+
+-- a request that a worker would get
+abbrev pub plain_run : ForeseenRun → PlainReply
+plain_run run = record {
+  kind = 8;
+  request = run.request;
+  first = run.estimate;
+  second = 0;
+  tenant = run.tenant;
+  request_kind = run.kind;
+  is_eligible = flag_of run.is_eligible;
+  has_smaller = flag_of run.has_smaller;
+}
+
 -- a foreseen take
-abbrev pub plain_due : Due → PlainReply
-plain_due due.Nothing = numbered 7 0 0
-plain_due due.Eligible = numbered 8 0 0
-plain_due (due.Early request estimate) = requested 9 request estimate 0
-plain_due (due.Retired workers) = numbered 5 workers 0
-plain_due (due.Refused why) = plain_cause why
+abbrev pub plain_foreseen : Foreseen → PlainReply
+plain_foreseen foreseen.Nothing = numbered 7 0 0
+plain_foreseen (foreseen.Run run) = plain_run run
+plain_foreseen (foreseen.Retired workers) = numbered 5 workers 0
+plain_foreseen (foreseen.Refused why) = plain_cause why

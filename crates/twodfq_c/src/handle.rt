@@ -70,16 +70,22 @@ impl Handle {
     }
 
     /// Foresees a take by the worker at this moment.
-    pub(crate) fn due(&mut self, alloc: Global, moment: u64, worker: u32) -> PlainReply
-        ensures due { FindsHeld self.old.slot.held moment worker result }
+    pub(crate) fn foresee(
+        &mut self,
+        alloc: Global,
+        moment: u64,
+        worker: u32,
+        below: u64,
+    ) -> PlainReply
+        ensures foreseen { FindsHeld self.old.slot.held moment worker below result }
         ensures unchanged { self.new.slot.held ≡ self.old.slot.held }
     {
         let Some(held) = self.take(alloc) else {
             return PlainReply::no_scheduler();
         };
-        let due = held.due(moment, worker);
+        let foreseen = held.foresee(moment, worker, below);
         *self = Handle::holding(held);
-        PlainReply::of_due(due)
+        PlainReply::of_foreseen(foreseen)
     }
 
     /// Reads the entry with this index, if it is kept.

@@ -198,18 +198,20 @@ pub extern "C" fn twodfq_withdraw(
     handle.call(alloc, call)
 }
 
-/// Foresees a take by the worker at this moment; nothing changes.
+/// Foresees a take by the worker at this moment, and whether a head that is eligible for it then has an estimate below
+/// `below`, in microseconds; nothing changes.
 #[unsafe(no_mangle)]
-pub extern "C" fn twodfq_due(
+pub extern "C" fn twodfq_foresee(
     handle: &mut Handle,
     alloc: Global,
     moment: u64,
     worker: u32,
+    below: u64,
 ) -> PlainReply
-    ensures due { FindsHeld handle.old.slot.held moment worker result }
+    ensures foreseen { FindsHeld handle.old.slot.held moment worker below result }
     ensures unchanged { handle.new.slot.held ≡ handle.old.slot.held }
 {
-    handle.due(alloc, moment, worker)
+    handle.foresee(alloc, moment, worker, below)
 }
 
 /// Reads one entry of the history, if it is among the last that are kept; the first of all has the index 0.

@@ -1,8 +1,8 @@
 //! Replies in plain numbers.
 ghost use Rattle.std.specs.Prelude.{◌≡◌};
-ghost use Rattle.twodfq_c.specs.Replies.{plain_reply, plain_due, plain_cause, requested, numbered, no_scheduler};
+ghost use Rattle.twodfq_c.specs.Replies.{plain_reply, plain_foreseen, plain_run, plain_cause, requested, numbered, no_scheduler, flag_of};
 
-use fq_model::event::{Cause, Due, Reply};
+use fq_model::event::{Cause, Foreseen, ForeseenRun, Reply};
 
 /// A reply to a call, or a foreseen take: its kind, and the numbers that come with it, 0 where none does.
 ///
@@ -13,8 +13,8 @@ use fq_model::event::{Cause, Due, Reply};
 /// | 2, 3, 4 | accepted, idle, drained | | | |
 /// | 5 | retired | | workers now | |
 /// | 6 | withdrawn | | | label |
-/// | 7, 8 | foreseen: nothing waits; some head is eligible | | | |
-/// | 9 | foreseen: no head is eligible, and this head would be taken | its number | estimate, in microseconds | |
+/// | 7 | foreseen: nothing waits | | | |
+/// | 8 | foreseen: this head would be taken, with the four last fields | its number | estimate, in microseconds | |
 /// | 16 | refused: closed | | | |
 /// | 17, 18 | refused: no such tenant, kind | | the number given | |
 /// | 19 | refused: cost out of its range | | the cost given | |
@@ -33,6 +33,14 @@ pub struct PlainReply {
     pub request: u32,
     pub first: u64,
     pub second: u64,
+    /// The tenant of a foreseen request.
+    pub tenant: u32,
+    /// The kind of a foreseen request.
+    pub request_kind: u32,
+    /// 1 where a foreseen request is eligible for the worker.
+    pub is_eligible: u32,
+    /// 1 where some eligible head has an estimate below the one that was asked about.
+    pub has_smaller: u32,
 }
 
 impl PlainReply {
@@ -53,12 +61,7 @@ impl PlainReply {
                 request,
                 estimate,
                 label,
-            } => PlainReply {
-                kind: 1,
-                request,
-                first: estimate,
-                second: label,
-            },
+            } => running(request, estimate, label),
             Reply::Accepted => numbered(2, 0, 0),
             Reply::Idle => numbered(3, 0, 0),
             Reply::Drained => numbered(4, 0, 0),
@@ -69,22 +72,39 @@ impl PlainReply {
     }
 
     /// The foreseen take in numbers.
-    pub(crate) fn of_due(due: Due) -> PlainReply
-        ensures { result ≡ plain_due due }
+    pub(crate) fn of_foreseen(foreseen: Foreseen) -> PlainReply
+        ensures { result ≡ plain_foreseen foreseen }
     {
-        match due {
-            Due::Nothing => numbered(7, 0, 0),
-            Due::Eligible => numbered(8, 0, 0),
-            Due::Early { request, estimate } => PlainReply {
-                kind: 9,
-                request,
-                first: estimate,
-                second: 0,
-            },
-            Due::Retired(workers) => numbered(5, workers as u64, 0),
-            Due::Refused(cause) => refused(cause),
+        match foreseen {
+            Foreseen::Nothing => numbered(7, 0, 0),
+            Foreseen::Run(run) => foreseen_run(run),
+            Foreseen::Retired(workers) => numbered(5, workers as u64, 0),
+            Foreseen::Refused(cause) => refused(cause),
         }
     }
+}
+
+// The request that a worker would get.
+fn foreseen_run(run: ForeseenRun) -> PlainReply
+    ensures { result ≡ plain_run run }
+{
+    PlainReply {
+        kind: 8,
+        request: run.request,
+        first: run.estimate,
+        second: 0,
+        tenant: run.tenant,
+        request_kind: run.kind,
+        is_eligible: flag_of(run.is_eligible),
+        has_smaller: flag_of(run.has_smaller),
+    }
+}
+
+// 1 for true.
+fn flag_of(flag: bool) -> u32
+    ensures { result ≡ flag_of flag }
+{
+    if flag { 1 } else { 0 }
 }
 
 // The refusal for this cause.
@@ -108,15 +128,23 @@ fn refused(cause: Cause) -> PlainReply
     }
 }
 
+// The request that the worker runs.
+fn running(request: u32, estimate: u64, label: u64) -> PlainReply
+    ensures { result ≡ requested 1 request estimate label }
+{
+    PlainReply {
+        request,
+        ..numbered(1, estimate, label)
+    }
+}
+
 // A reply that names a request and no more.
 fn requested(kind: u32, request: u32) -> PlainReply
     ensures { result ≡ requested kind request 0 0 }
 {
     PlainReply {
-        kind,
         request,
-        first: 0,
-        second: 0,
+        ..numbered(kind, 0, 0)
     }
 }
 
@@ -129,5 +157,9 @@ fn numbered(kind: u32, first: u64, second: u64) -> PlainReply
         request: 0,
         first,
         second,
+        tenant: 0,
+        request_kind: 0,
+        is_eligible: 0,
+        has_smaller: 0,
     }
 }

@@ -1,7 +1,7 @@
 use crate::{
-    Handle, Opening, twodfq_close, twodfq_done, twodfq_due, twodfq_entry, twodfq_free, twodfq_open,
-    twodfq_report, twodfq_status, twodfq_submit, twodfq_take, twodfq_weight, twodfq_withdraw,
-    twodfq_workers,
+    Handle, Opening, twodfq_close, twodfq_done, twodfq_entry, twodfq_foresee, twodfq_free,
+    twodfq_open, twodfq_report, twodfq_status, twodfq_submit, twodfq_take, twodfq_weight,
+    twodfq_withdraw, twodfq_workers,
 };
 use std::fmt::Debug;
 use std::process::Abort;
@@ -106,10 +106,18 @@ fn a_request_is_withdrawn(rt: HostRuntime) {
 #[test]
 fn what_a_worker_would_find(rt: HostRuntime) {
     let mut handle = Handle::empty();
-    expect_same(&rt, twodfq_due(&mut handle, rt.alloc(), 0, 0).kind, 255);
+    expect_same(
+        &rt,
+        twodfq_foresee(&mut handle, rt.alloc(), 0, 0, 0).kind,
+        255,
+    );
     expect_same(&rt, twodfq_open(&mut handle, rt.alloc(), &OPENING, &[1]), 0);
-    expect_same(&rt, twodfq_due(&mut handle, rt.alloc(), 0, 0).kind, 7);
-    let unknown = twodfq_due(&mut handle, rt.alloc(), 0, 2);
+    expect_same(
+        &rt,
+        twodfq_foresee(&mut handle, rt.alloc(), 0, 0, 0).kind,
+        7,
+    );
+    let unknown = twodfq_foresee(&mut handle, rt.alloc(), 0, 2, 0);
     expect_same(&rt, (unknown.kind, unknown.first), (22, 2));
     for label in [77, 78] {
         expect_same(
@@ -118,20 +126,26 @@ fn what_a_worker_would_find(rt: HostRuntime) {
             0,
         );
     }
-    expect_same(&rt, twodfq_due(&mut handle, rt.alloc(), 0, 0).kind, 8);
+    let first = twodfq_foresee(&mut handle, rt.alloc(), 0, 0, 10);
+    expect_same(&rt, (first.kind, first.request), (8, 0));
+    expect_same(&rt, (first.is_eligible, first.has_smaller), (1, 0));
     expect_same(&rt, twodfq_take(&mut handle, rt.alloc(), 9, 0, 0).kind, 1);
-    let busy = twodfq_due(&mut handle, rt.alloc(), 0, 0);
+    let busy = twodfq_foresee(&mut handle, rt.alloc(), 0, 0, 0);
     expect_same(&rt, (busy.kind, busy.request), (23, 0));
-    expect_same(&rt, twodfq_due(&mut handle, rt.alloc(), 3, 1).kind, 8);
-    let early = twodfq_due(&mut handle, rt.alloc(), 2, 1);
-    expect_same(&rt, (early.kind, early.request), (9, 1));
+    let due = twodfq_foresee(&mut handle, rt.alloc(), 3, 1, 11);
+    expect_same(&rt, (due.kind, due.request), (8, 1));
+    expect_same(&rt, (due.is_eligible, due.has_smaller), (1, 1));
+    let early = twodfq_foresee(&mut handle, rt.alloc(), 2, 1, 11);
+    expect_same(&rt, (early.kind, early.request), (8, 1));
     expect_same(&rt, (early.first, early.second), (10, 0));
+    expect_same(&rt, (early.tenant, early.request_kind), (0, 0));
+    expect_same(&rt, (early.is_eligible, early.has_smaller), (0, 0));
     expect_same(
         &rt,
         twodfq_workers(&mut handle, rt.alloc(), 5, 0, 1).kind,
         2,
     );
-    let retired = twodfq_due(&mut handle, rt.alloc(), 0, 1);
+    let retired = twodfq_foresee(&mut handle, rt.alloc(), 0, 1, 0);
     expect_same(&rt, (retired.kind, retired.first), (5, 1));
     twodfq_free(&mut handle, rt.alloc());
 }

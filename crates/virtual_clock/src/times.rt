@@ -1,6 +1,7 @@
 //! The virtual time of a history, the weights at its end, and for how long each tenant was not active.
-ghost use Rattle.std.specs.Prelude.{◌<◌, ◌≤◌, ◌≡◌, ◌≢◌, [], pos, ◌≤ℤ◌, length, slice_index, IfOk, IfNone, IfSome};
+ghost use Rattle.std.specs.Prelude.{◌<◌, ◌≤◌, ◌≡◌, ◌≢◌, [], pos, ◌≤ℤ◌, length, slice_index, All, IfOk, IfNone, IfSome};
 ghost use Rattle.fq_model.specs.declared.config.Policy.TheVariants.{TwoDfqPlus};
+ghost use Rattle.fq_model.specs.Limits.{IsWeight};
 ghost use Rattle.fq_laws.specs.Steps.{Awaits, Follows, Submits, Passes, Reweighs, Staffs};
 ghost use Rattle.virtual_clock.specs.Idles.{idle_of};
 ghost use Rattle.virtual_clock.specs.Lingering.{IsCounted, counts, Settles, NoneIsReached, IsReachedAt, HasRoomFor, Retires, rejoined};
@@ -259,6 +260,14 @@ impl Times {
         ensures high { result ≤ GREATEST_WEIGHT }
     {
         self.weights.of(tenant)
+    }
+
+    /// By tenant, its weight at the last entry.
+    pub fn weights(&self) -> &[u32]
+        ensures value { result.now ≡ self.now.weights }
+        ensures range { All IsWeight result.now }
+    {
+        self.weights.as_slice()
     }
 
     /// The virtual time up to the last entry that passed while the tenant was not active, in steps.

@@ -1,5 +1,5 @@
 //! The weights that tenants have now.
-ghost use Rattle.std.specs.Prelude.{◌≡◌, ◌<◌, length, slice_index, slice_set, IfOk};
+ghost use Rattle.std.specs.Prelude.{◌≡◌, ◌<◌, length, slice_index, slice_set, All, IfOk};
 ghost use Rattle.fq_model.specs.Limits.{IsWeight};
 
 use fq_model::config::Checked;
@@ -40,6 +40,14 @@ impl WeightsNow {
         ensures range { IsWeight result }
     {
         self.items[tenant as usize]
+    }
+
+    /// By tenant, its weight.
+    pub fn as_slice(&self) -> &[u32]
+        ensures weights { result.now ≡ self.now }
+        ensures range { All IsWeight self.now }
+    {
+        &self.items
     }
 
     /// Gives a tenant another weight.

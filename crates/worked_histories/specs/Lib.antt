@@ -1,4 +1,5 @@
 pub mod Examples
 pub mod Paced
+pub mod Served
 pub mod Withdrawn
 pub mod Gaps

@@ -59,6 +59,11 @@ unfoldable pub other_ended : History
 unfolding other_withdrawn
 other_ended = entry 10 10 (Done 0 0 10) ∷ other_withdrawn
 
+-- or that request ends first, and then tenant 0 withdraws the one that waits
+unfoldable pub last_withdrawn : History
+unfolding both_wait
+last_withdrawn = entry 0 14 (Withdraw 1) ∷ entry 10 10 (Done 0 0 10) ∷ both_wait
+
 -- ---- the place in a list
 
 -- the worker is free; three requests of tenant 0 wait, which are 10, 3 and 7 long, and one of tenant 1 that is 9 long

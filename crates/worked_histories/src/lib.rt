@@ -4,4 +4,5 @@
 pub mod examples;
 pub mod gaps;
 pub mod paced;
+pub mod served;
 pub mod withdrawn;

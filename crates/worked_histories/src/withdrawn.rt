@@ -10,12 +10,13 @@ ghost use Rattle.fq_model.specs.declared.event.Reply.TheVariants.{Withdrawn, Dra
 ghost use Rattle.fq_model.specs.Limits.{InLimits};
 ghost use Rattle.fq_model.specs.History.{waiting, head, queue};
 ghost use Rattle.fq_model.specs.Time.{is_active, virtual_idle_time};
-ghost use Rattle.fq_model.specs.Pace.{virtual_time};
+ghost use Rattle.fq_model.specs.Pace.{time_for, virtual_time};
 ghost use Rattle.fq_model.specs.Keys.{tag, start, HasKeys, IsChoiceAt};
 ghost use Rattle.fq_model.specs.Rules.{IsLegal, Answers};
 ghost use Rattle.worked_histories.specs.Examples.{entry, units, keys};
 ghost use Rattle.worked_histories.specs.Paced.{PaceIs, IsLegalUnderBoth};
-ghost use Rattle.worked_histories.specs.Withdrawn.{withdraw_config, IsNotWithdrawn, both_wait, only_withdrawn, worker_free, back_again, other_withdrawn, other_ended, list_waits, one_withdrawn, closed_ended, closed_withdrawn, paced_waits, paced_withdrawn, paced_again};
+ghost use Rattle.worked_histories.specs.Served.{GoesOnOver};
+ghost use Rattle.worked_histories.specs.Withdrawn.{withdraw_config, IsNotWithdrawn, both_wait, only_withdrawn, worker_free, back_again, other_withdrawn, other_ended, last_withdrawn, list_waits, one_withdrawn, closed_ended, closed_withdrawn, paced_waits, paced_withdrawn, paced_again};
 
 /// The only request of a tenant. Until moment 4 one worker over two weights makes 2 units. There tenant 1 withdraws the
 /// one request that it has: it has no head and is not active, and one worker over one weight makes 6 units until
@@ -47,14 +48,28 @@ pub fn answers()
 
 /// A request of a tenant that runs another one. At moment 4 tenant 0 withdraws its waiting request: it has no head, but
 /// is active until its other request ends at moment 10. Up to there one worker over two weights makes 5 units, and 4
-/// more over the weight of tenant 1 until moment 14.
+/// more over the weight of tenant 1 until moment 14. Under `2dfq+` tenant 0 still counts, as it was charged 10 and so
+/// starts above the time, and one worker over two weights makes 2 units more.
 pub fn running_tenant()
     ensures legal { (p : Policy) → IsLegal (withdraw_config p) other_ended }
     ensures no_head { head other_withdrawn 0 ≡ None }
     ensures active { is_active other_withdrawn 0 ≡ true }
     ensures not_active { is_active other_ended 0 ≡ false }
     ensures time_then { (p : Policy) → virtual_time (withdraw_config p) other_withdrawn 10 ≡ units 5 }
-    ensures time { (p : Policy) → virtual_time (withdraw_config p) other_ended 14 ≡ units 9 }
+    ensures time { (p : Policy) → virtual_time (withdraw_config p) other_ended 14 ≡ units (time_for p 9 7) }
+{}
+
+/// The last request of a tenant that was charged. The request that runs ends at moment 10, and at moment 14 tenant 0
+/// withdraws the one that waits. Up to there one worker over two weights makes 7 units, and 4 more over the weight of
+/// tenant 1 until moment 18. Under `2dfq+` tenant 0 still counts, as it starts at 10, and one worker over two weights
+/// makes 2 units more. In `only_request` tenant 1 starts at 0, and counts no more under any policy.
+pub fn last_request()
+    ensures legal { IsLegal (withdraw_config TwoDfqPlus) last_withdrawn }
+    ensures not_active { is_active last_withdrawn 0 ≡ false }
+    ensures stays { PaceIs (withdraw_config TwoDfqPlus) last_withdrawn 7 10 }
+    ensures counts { GoesOnOver (withdraw_config TwoDfqPlus) last_withdrawn 2 }
+    ensures counts_no_more { GoesOnOver (withdraw_config TwoDfqPlus) only_withdrawn 1 }
+    ensures time { (p : Policy) → virtual_time (withdraw_config p) last_withdrawn 18 ≡ units (time_for p 11 9) }
 {}
 
 /// Idle time under `msf2q`. Tenant 1 has nothing open from its Withdraw at moment 4 on, and 6 units pass until moment

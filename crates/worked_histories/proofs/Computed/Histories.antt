@@ -1,7 +1,7 @@
 -- The definitions count and sum over all numbers of 32 bits, which are too many to compute. On a history whose requests
 -- are below n the numbers below n give the same results: here each definition stands once more over these, with
 -- `within` in its name, and with a lemma that it is the same.
-use Rattle.std.proofs.Common.{ℕ, nat_lt, Bool, true, ◌&&◌, [], ◌∷◌, ◌≤◌, ◌≡◌, ◌-◌, ◌<◌, arith, Option, None, refl, false, nat_eq, inl, inr, zero, suc, ◌∙◌, Some, ap, if◌then◌else◌, length, ◌+◌, ap₂, max, min, is_none, pos, ◌==◌}
+use Rattle.std.proofs.Common.{ℕ, nat_lt, Bool, true, ◌&&◌, [], ◌∷◌, ◌≤◌, ◌≡◌, ◌-◌, ◌<◌, arith, Option, None, refl, false, nat_eq, inl, inr, zero, suc, ◌∙◌, Some, ap, ◌||◌, if◌then◌else◌, length, ◌+◌, ap₂, max, min, is_none, pos, ◌==◌}
 use Rattle.std.proofs.Math.Path.{fun_ext}
 use Rattle.std.proofs.lemmas.Bool.{and_parts, ltb-true, ne_eqb, or_from, cases_Bool, cases_eq, and_left}
 use Rattle.vt_fixed.specs.Rounding.{advance_of, length_of, part_of, decay_of}
@@ -11,7 +11,7 @@ use Rattle.fq_model.specs.History.{History, Request, request_in, request_at, is_
 use Rattle.fq_model.specs.declared.event.Entry.{Entry}
 use Rattle.fq_model.specs.Sums.{sum_below, count_below, least_below, first_of}
 use Rattle.fq_model.specs.Time.{is_open, open_requests, is_active, weight_if_active, active_weight, last_moment, virtual_advance, clock_time, virtual_idle_time}
-use Rattle.fq_model.specs.Pace.{is_submit_for, clock_base, Pace, paced_to, pace_of_take, tenant_of, pace_after, pace, time_for, virtual_time, base_for, tag_base}
+use Rattle.fq_model.specs.Pace.{is_submit_for, clock_base, Pace, weight_if_served, served_weight, paced_advance, paced_to, pace_of_take, tenant_of, pace_after, pace, time_for, virtual_time, base_for, tag_base}
 use Rattle.fq_model.specs.declared.config.Config.{Config}
 use Rattle.fq_model.specs.declared.config.Policy.{Policy}
 use Rattle.fq_model.specs.declared.config.Policy.TheVariants.{TwoDfqPlus}
@@ -211,6 +211,24 @@ clock_base_is n k C (e ∷ P) t s =
     let b = clock_base_is n k C P t r in
     rw (h, v, c, b) refl
 
+-- tenant t is active or starts above virtual time
+abbrev served_within : ℕ → Config → History → Pace → ℕ → Bool
+served_within n C P s t = is_active_within n P t || nat_lt s.now (virtual_charge_within n C P t + s.base t)
+
+unfoldable pub served_weight_within : ℕ → Config → History → Pace → ℕ
+served_weight_within n C P s = sum_below (λ t. if served_within n C P s t then weight_at C P t else 0) (length C.weights)
+
+pub served_weight_is : (n k : ℕ) (C : Config) (P : History) (s : Pace) → IsShort n k P → served_weight C P s ≡ served_weight_within n C P s
+unfolding served_weight_within served_weight
+served_weight_is n k C P s h = sum_same (weight_if_served C P s) _ (length C.weights) (λ t b. ap₂ (λ a c. if a || nat_lt s.now (c + s.base t) then weight_at C P t else 0) (is_active_is n k P t h) (virtual_charge_is n k C P t h))
+
+unfoldable pub paced_advance_within : ℕ → Config → History → Pace → ℕ → ℕ
+paced_advance_within n C P s m = advance_of (m - last_moment P) (pool_at C P) (served_weight_within n C P s)
+
+paced_advance_is : (n k : ℕ) (C : Config) (P : History) (s : Pace) (m : ℕ) → IsShort n k P → paced_advance C P s m ≡ paced_advance_within n C P s m
+unfolding paced_advance_within paced_advance
+paced_advance_is n k C P s m h = ap (advance_of (m - last_moment P) (pool_at C P)) (served_weight_is n k C P s h)
+
 -- the pace after one act more, where the advance to it, the virtual charges and the heads are these
 abbrev pub pace_by : Config → History → ℕ → (ℕ → ℕ) → (ℕ → Option ℕ) → Act → Pace → Pace
 pace_by C P advance charge_of head_of (Submit request tenant kind declared label) s = record {
@@ -227,7 +245,7 @@ pace_by C P advance charge_of head_of (Take worker request estimate) s = pace_of
     (pool_at C P)
 pace_by C P advance charge_of head_of _ s = record { now = min (s.now + advance) s.reached; reached = s.reached; base = s.base }
 
-by_parts : (C : Config) (P : History) (m : ℕ) (a : Act) (s : Pace) → pace_after C P m a s ≡ pace_by C P (virtual_advance C P m) (virtual_charge C P) (head P) a s
+by_parts : (C : Config) (P : History) (m : ℕ) (a : Act) (s : Pace) → pace_after C P m a s ≡ pace_by C P (paced_advance C P s m) (virtual_charge C P) (head P) a s
 by_parts C P m (Submit request tenant kind declared label) s = refl
 by_parts C P m (Take worker request estimate) s = refl
 by_parts C P m _ s = refl
@@ -237,23 +255,24 @@ same_parts C P a v w f g h l s t e1 e2 e3 e4 = rw (e1, e2, e3, e4) refl
 
 unfoldable pub pace_within : ℕ → Config → History → Pace
 pace_within n C [] = record { now = 0; reached = 0; base = λ t. 0 }
-pace_within n C (e ∷ P) = pace_by C P (advance_within n C P e.moment) (virtual_charge_within n C P) (head_within n P) e.act (pace_within n C P)
+pace_within n C (e ∷ P) = pace_by C P (paced_advance_within n C P (pace_within n C P) e.moment) (virtual_charge_within n C P) (head_within n P) e.act (pace_within n C P)
 
 pub pace_is : (n k : ℕ) (C : Config) (P : History) → IsShort n k P → pace C P ≡ pace_within n C P
 unfolding pace_within pace
 pace_is n k C [] s = refl
 pace_is n k C (e ∷ P) s =
     let r = shorter n k e P s in
+    let older = pace_is n k C P r in
     by_parts C P e.moment e.act (pace C P)
-    ∙ same_parts C P e.act _ _ _ _ _ _ _ _ (advance_is n k C P e.moment r) (fun_ext (λ u. virtual_charge_is n k C P u r)) (fun_ext (λ u. head_is n k P u r)) (pace_is n k C P r)
+    ∙ same_parts C P e.act _ _ _ _ _ _ _ _ (paced_advance_is n k C P (pace C P) e.moment r ∙ ap (λ t. paced_advance_within n C P t e.moment) older) (fun_ext (λ u. virtual_charge_is n k C P u r)) (fun_ext (λ u. head_is n k P u r)) older
 
 -- one of the two alone is computed
 abbrev time_by : Policy → ℕ → Config → History → ℕ → ℕ
-time_by TwoDfqPlus n C P m = min ((pace_within n C P).now + advance_within n C P m) (pace_within n C P).reached
+time_by TwoDfqPlus n C P m = min ((pace_within n C P).now + paced_advance_within n C P (pace_within n C P) m) (pace_within n C P).reached
 time_by _ n C P m = clock_time_within n C P m
 
 time_by_is : (p : Policy) (n k : ℕ) (C : Config) (P : History) (m : ℕ) → IsShort n k P → time_for p (clock_time C P m) (paced_to C P (pace C P) m) ≡ time_by p n C P m
-time_by_is TwoDfqPlus n k C P m s = rw (pace_is n k C P s, advance_is n k C P m s) refl
+time_by_is TwoDfqPlus n k C P m s = rw (paced_advance_is n k C P (pace C P) m s, pace_is n k C P s) refl
 time_by_is _ n k C P m s = clock_time_is n k C P m s
 
 unfoldable pub virtual_time_within : ℕ → Config → History → ℕ → ℕ
@@ -334,5 +353,5 @@ turn_is n k C P m i s = ap (λ (v : ℕ). record { policy = C.policy; workers = 
 
 -- the line `unfolding computing` opens all of these
 unfoldable pub computing : Unit {0}
-unfolding sum_below count_below least_below weight_at pool_at length_of advance_of part_of decay_of estimate_at is_submitted is_taken is_done is_removed is_ended is_closed is_waiting is_running waits_for is_open is_taken_of waiting_within running_within head_within is_active_within active_weight_within advance_within clock_time_within idle_time_within virtual_charge_within clock_base_within pace_within virtual_time_within tag_base_within tag_within start_within keys_within turn_within
+unfolding sum_below count_below least_below weight_at pool_at length_of advance_of part_of decay_of estimate_at is_submitted is_taken is_done is_removed is_ended is_closed is_waiting is_running waits_for is_open is_taken_of waiting_within running_within head_within is_active_within active_weight_within advance_within clock_time_within idle_time_within virtual_charge_within clock_base_within served_weight_within paced_advance_within pace_within virtual_time_within tag_base_within tag_within start_within keys_within turn_within
 computing = tt

@@ -1,7 +1,7 @@
 use Rattle.std.proofs.Common.{ap, ◌∙◌}
 use Rattle.fq_model.specs.History.{history_of, running_on}
 use Rattle.desk.proofs.Turned.{numbered_kept, known_kept}
-use Rattle.desk.proofs.foreseeing.DeskOf+Floor+J+X.due.Goals as goal
+use Rattle.desk.proofs.foreseeing.DeskOf+Floor+J+X.foresee.Goals as goal
 
 pub invariant_of-worker : goal.invariant_of-worker
 invariant_of-worker g c =

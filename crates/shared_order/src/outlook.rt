@@ -1,0 +1,138 @@
+//! A choice among heads in blocks, foreseen, and the search for an eligible head with a small estimate.
+ghost use Rattle.std.specs.Prelude.{◌≡◌, ◌<◌, ◌↔◌, pos, ◌≤ℤ◌, length, true, false, IsTrue, IfSome, IfNone};
+ghost use Rattle.std.specs.List.{All};
+ghost use Rattle.fq_model.specs.Limits.{IsWeight};
+ghost use Rattle.shared_order.specs.Blocks.{all_heads};
+ghost use Rattle.shared_order.specs.Search.{AreInOrder, AreInLimits, IsReached, IsFirstThat};
+ghost use Rattle.shared_order.specs.Outlook.{IsWeighed, IsSought, SomeIsSought, IsOutlook, IsLongestBelow, EndsBefore};
+
+use crate::block::Block;
+use crate::head::Head;
+use crate::search::{first_eligible, is_in_reach, soonest};
+use fq_model::limits::{GREATEST_COST, GREATEST_LENGTH};
+use tag_rules::foresees::ForeseenChoice;
+use tag_rules::turn::Turn;
+use vt_fixed::{cost, length};
+
+/// Foresees the worker's choice, and whether an eligible head has an estimate below this, in microseconds. `weights`
+/// has, by tenant, those by which the heads' lengths were reckoned. Where the choice is not eligible no head is.
+pub fn outlook(turn: Turn, blocks: &[Block], below: u64, weights: &[u32]) -> Option<ForeseenChoice>
+    requires begun { pos 0 ≤ℤ turn.virtual_time }
+    requires in_order { AreInOrder (all_heads blocks.now) }
+    requires weights { All IsWeight weights.now }
+    requires weighed { All (IsWeighed weights.now) (all_heads blocks.now) }
+    ensures { IsOutlook turn (all_heads blocks.now) weights.now below result }
+{
+    match first_eligible(turn, blocks) {
+        Some(head) => Some(ForeseenChoice {
+            tenant: head.tenant,
+            is_eligible: true,
+            has_smaller: has_smaller(turn, blocks, below, weights),
+        }),
+        None => {
+            let head = soonest(turn, blocks)?;
+            Some(ForeseenChoice {
+                tenant: head.tenant,
+                is_eligible: false,
+                has_smaller: false,
+            })
+        }
+    }
+}
+
+// Whether an eligible head has an estimate below this, in microseconds. None is below 0: whoever asks of 0 pays nothing.
+fn has_smaller(turn: Turn, blocks: &[Block], below: u64, weights: &[u32]) -> bool
+    requires begun { pos 0 ≤ℤ turn.virtual_time }
+    requires in_order { AreInOrder (all_heads blocks.now) }
+    requires weights { All IsWeight weights.now }
+    requires weighed { All (IsWeighed weights.now) (all_heads blocks.now) }
+    ensures { IsTrue result ↔ SomeIsSought turn (all_heads blocks.now) weights.now below }
+{
+    below > 0 && first_smaller(turn, blocks, below, weights).is_some()
+}
+
+/// The first eligible head with an estimate below this, in microseconds.
+///
+/// Such a head is shorter than that estimate is at weight 1. Where a head of this length that finishes with the first of
+/// a block would not be eligible, neither this block nor a later one has what is sought, and the search ends there.
+pub fn first_smaller(turn: Turn, blocks: &[Block], below: u64, weights: &[u32]) -> Option<Head>
+    requires begun { pos 0 ≤ℤ turn.virtual_time }
+    requires in_order { AreInOrder (all_heads blocks.now) }
+    requires weights { All IsWeight weights.now }
+    requires weighed { All (IsWeighed weights.now) (all_heads blocks.now) }
+    ensures first { IfSome result (IsFirstThat (IsSought turn weights.now below) (all_heads blocks.now)) }
+    ensures none { IfNone result (All (λ h. ¬ IsSought turn weights.now below h) (all_heads blocks.now)) }
+{
+    let longest = longest_below(below);
+    for block in blocks {
+        if ends_before(turn, block, longest) {
+            return None;
+        }
+        if may_have(turn, block, longest) {
+            let found = smaller_in(turn, block.heads(), below, weights);
+            if found.is_some() {
+                return found;
+            }
+        }
+    }
+    None
+}
+
+// A length that no head with an estimate below this exceeds, in steps.
+fn longest_below(below: u64) -> i128
+    ensures { IsLongestBelow below result }
+{
+    length(below.min(GREATEST_COST), 1)
+}
+
+// Whether no head of the block or of a later one is eligible that is at most so long.
+fn ends_before(turn: Turn, block: &Block, longest: i128) -> bool
+    requires begun { pos 0 ≤ℤ turn.virtual_time }
+    requires low { pos 0 ≤ℤ longest }
+    requires high { longest ≤ℤ GREATEST_LENGTH }
+    ensures { result ≡ true → EndsBefore turn block.now longest }
+{
+    match block.first() {
+        Some(first) => !is_in_reach(turn, first.finish, longest),
+        None => false,
+    }
+}
+
+// Whether a head of the block that is at most so long may be eligible.
+fn may_have(turn: Turn, block: &Block, longest: i128) -> bool
+    requires begun { pos 0 ≤ℤ turn.virtual_time }
+    requires in_order { AreInOrder block.now }
+    requires low { pos 0 ≤ℤ longest }
+    requires high { longest ≤ℤ GREATEST_LENGTH }
+    ensures { result ≡ false → All (λ h. h.len ≤ℤ longest → ¬ IsReached turn h) block.now }
+{
+    match block.first() {
+        Some(first) => is_in_reach(turn, first.finish, longest.min(block.longest())),
+        None => false,
+    }
+}
+
+// The first of the heads that is sought.
+fn smaller_in(turn: Turn, heads: &[Head], below: u64, weights: &[u32]) -> Option<Head>
+    requires begun { pos 0 ≤ℤ turn.virtual_time }
+    requires weighed { All (IsWeighed weights.now) heads.now }
+    ensures first { IfSome result (IsFirstThat (IsSought turn weights.now below) heads.now) }
+    ensures none { IfNone result (All (λ h. ¬ IsSought turn weights.now below h) heads.now) }
+{
+    for head in heads {
+        if is_sought(turn, *head, below, weights) {
+            return Some(*head);
+        }
+    }
+    None
+}
+
+// Whether the head is eligible and has an estimate below this, in microseconds.
+fn is_sought(turn: Turn, head: Head, below: u64, weights: &[u32]) -> bool
+    requires begun { pos 0 ≤ℤ turn.virtual_time }
+    requires weighed { IsWeighed weights.now head }
+    ensures { IsTrue result ↔ IsSought turn weights.now below head }
+{
+    cost(head.len, weights[head.tenant as usize]) < below
+        && is_in_reach(turn, head.finish, head.len)
+}
