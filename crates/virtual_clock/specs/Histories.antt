@@ -151,7 +151,8 @@ FollowsTake worker start len before after =
 
 -- ---- at a Done or a Withdraw
 
--- the times are those of a history after which a request of the tenant may end at this moment; it then starts at `start`
+-- the times are those of a history after which a request of the tenant may end at this moment; the tenant then starts
+-- at `start`
 pub record AwaitsEnd (policy : Policy) (moment tenant : ℕ) (start : ℤ) (times : Times) : Type 0 where
   pub config : Config
   pub history : History

@@ -75,8 +75,8 @@ lingers_on t start x = record x { lingering = slice_set x.lingering t (Some (key
 abbrev pub leaves_at_once : ℕ → Times → Times
 leaves_at_once t x = record x { clock = left x.clock (slice_index x.weights t) }
 
--- the tenant, which is active no more, lingers under 2dfq+ where it starts above virtual time, or else its weight leaves
--- the clock
+-- the tenant, which is active no more, lingers under 2dfq+ where it starts above virtual time, or else its weight
+-- leaves the clock
 abbrev pub Retires : Policy → ℕ → ℤ → Times → Times → Type 0
 Retires policy t start before after =
     ((policy ≡ TwoDfqPlus) × (before.clock.time <ℤ start) × (after ≡ lingers_on t start before))

@@ -92,7 +92,7 @@ impl Times {
         self.settle();
     }
 
-    // One request of the tenant more is open from this moment on.
+    // The tenant has one more open request from this moment on.
     fn open_request(&mut self, moment: u64, tenant: u32)
         requires { Awaits TimesAre (Submits moment tenant) self.old }
         ensures { self.new ≡ submitted moment tenant self.old }
@@ -127,7 +127,7 @@ impl Times {
         self.settle();
     }
 
-    // One request of the tenant less is open from this moment on.
+    // The tenant has one open request less from this moment on. It starts at `start` then.
     fn close_request(&mut self, policy: Policy, moment: u64, tenant: u32, start: i128)
         requires { AwaitsEnd policy moment tenant start self.old }
         ensures { Ended policy moment tenant start self.old self.new }
@@ -166,7 +166,7 @@ impl Times {
         self.settle();
     }
 
-    // The tenant has the weight from this moment on.
+    // The tenant has this weight from this moment on. Where it counts, it does so in place of the one before.
     fn trade(&mut self, moment: u64, tenant: u32, weight: u32)
         requires { Awaits TimesAre (Reweighs moment tenant weight) self.old }
         ensures { self.new ≡ reweighed moment tenant weight self.old }
