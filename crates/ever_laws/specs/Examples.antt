@@ -1,5 +1,6 @@
 -- Worked histories that come to the bounds, the newest entry first. Three tenants have the weight 1. With two workers
--- no request is longer than 4 units, and with three no request is longer than 3. At the end a request of 9 is withdrawn.
+-- no request is longer than 4 units, and with three no request is longer than 3. At the end stand histories in which a
+-- request of 9 is withdrawn.
 use Rattle.std.specs.Prelude.{[], ◌∷◌}
 use Rattle.fq_model.specs.declared.config.Config.{Config}
 use Rattle.fq_model.specs.declared.config.Policy.TheVariants.{TwoDfqPlus}

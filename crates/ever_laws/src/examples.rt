@@ -66,9 +66,9 @@ pub fn cap_of_three()
 /// The lead with three workers. A request of each tenant is taken from 0 to 3. That of tenant 2 costs 3, and its next
 /// one 2, so that the third one starts at 5: it lifts virtual time to 5 - 2, and the cap to 5 + 3. Tenants 0 and 1 then
 /// wait from 3 on; their running requests cost nothing, and both are back at 0. The head of tenant 1 finishes at 3, and
-/// the three requests of 1 of tenant 0 at 1, 2 and 3: all workers take these. In 5 microseconds three workers over three
-/// weights make 5 units, as tenant 2, which has no request any more, starts at 8: virtual time comes to the cap, 8.
-/// There tenant 0 starts with one request more. The three others turn out to cost 3 in place of 1: it is at 14, and
+/// the three requests of 1 of tenant 0 at 1, 2 and 3: all workers take these. In 5 microseconds three workers over
+/// three weights make 5 units, as tenant 2, which has no request any more, starts at 8: virtual time comes to the cap,
+/// 8. There tenant 0 starts with one request more. The three others turn out to cost 3 in place of 1: it is at 14, and
 /// tenant 1 at 0. The bound is 5 times 3 and a part of 2, less a step; the 3 units that are missing are the lengths at
 /// which the three were taken. (A lead that begins at 0 where both begin to wait stays below 4 times 3.)
 pub fn lead_of_three()

@@ -1,5 +1,5 @@
--- The greatest length that a request has in a history, by its charge or as a head just before a Take, and by it the bound
--- of each lead over a tenant that waits, whatever came before, under 2dfq+.
+-- The greatest length that a request has in a history, by its charge or as a head just before a Take, and by it the
+-- bound of each lead over a tenant that waits, whatever came before, under 2dfq+.
 use Rattle.std.specs.Prelude.{ℕ, ◌+◌, ◌-◌, ◌*◌, ◌/◌, max, [], ◌∷◌, Option, Some, None, length, ℤ, pos, ◌-ℤ◌}
 use Rattle.vt_fixed.specs.Rounding.{part_of}
 use Rattle.fq_model.specs.declared.config.Config.{Config}

@@ -19,8 +19,8 @@ use std::alloc::{AllocError, Global};
 use tag_rules::chooser::Chooser;
 use tag_rules::head_keys::Keys;
 
-/// The greatest length of a request at the prefixes so far, by its charge or as a head just before a Take, in steps; the
-/// tenant of each request, by its number; and the tenants whose heads were not read since an entry may have changed
+/// The greatest length of a request at the prefixes so far, by its charge or as a head just before a Take, in steps;
+/// the tenant of each request, by its number; and the tenants whose heads were not read since an entry may have changed
 /// them. An entry changes the lengths of one tenant's requests at most, so a Take reads few heads.
 #[derive(Drop)]
 pub struct Greatest {
