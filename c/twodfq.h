@@ -115,9 +115,9 @@ enum {
     TWODFQ_NO_SCHEDULER = 255
 };
 
-/* Numbers that a kind does not use are 0. The four last are of a foreseen request: its tenant and its kind; 1 where it is
-   eligible for the worker, else no tenant's head is; and 1 where the head of some tenant is eligible for the worker and
-   has an estimate below the one that was asked about. */
+/* Numbers that a kind does not use are 0. The four last are of a foreseen request: its tenant and its kind; 1 where it
+   is eligible for the worker, else no tenant's head is; and 1 where the head of some tenant is eligible for the worker
+   and has an estimate below the one that was asked about. */
 typedef struct {
     uint32_t kind, request;
     uint64_t first, second;
@@ -153,9 +153,9 @@ twodfq_reply twodfq_workers(twodfq *handle, uint32_t who, uint64_t moment, uint3
    Refused: NOT_WAITING. */
 twodfq_reply twodfq_withdraw(twodfq *handle, uint32_t who, uint64_t moment, uint32_t request);
 
-/* Foresees a take by the worker at this moment: NOTHING, FORESEEN or RETIRED. `below` is an estimate in microseconds, and
-   0 where nobody asks for smaller heads. It changes nothing, and calls after it may be at earlier moments. Refused as a
-   take would be: WORKER, BUSY. */
+/* Foresees a take by the worker at this moment: NOTHING, FORESEEN or RETIRED. `below` is an estimate in microseconds,
+   and 0 where nobody asks for smaller heads. It changes nothing, and calls after it may be at earlier moments. Refused
+   as a take would be: WORKER, BUSY. */
 twodfq_reply twodfq_foresee(twodfq *handle, uint64_t moment, uint32_t worker, uint64_t below);
 
 /* An entry of the history, which has one for each call that was answered REQUEST, RUN, ACCEPTED or WITHDRAWN. */

@@ -108,7 +108,7 @@ struct Reply {
     std::uint32_t tenant, request_kind;
     /// Whether a foreseen request is eligible for the worker; else no tenant's head is.
     bool is_eligible;
-    /// Whether the head of some tenant is eligible for the worker and has an estimate below the one that was asked about.
+    /// Whether the head of some tenant is eligible for the worker, with an estimate below the one that was asked about.
     bool has_smaller;
 
     /// Whether the call is refused, and has changed nothing.

@@ -110,9 +110,14 @@ fn found_by_keys<X: Foresees>(
         worker,
         virtual_time: scheduler.virtual_time_at(moment),
     };
+    run_by_keys(scheduler, turn, below)
+}
+
+// The request of a take at this turn, if one waits.
+fn run_by_keys<X: Foresees>(scheduler: &Scheduler<u64, X>, turn: Turn, below: u64) -> Foreseen {
     let mut best: Option<Head> = None;
     let mut has_smaller = false;
-    for tenant in 0..config.tenants() {
+    for tenant in 0..scheduler.config().tenants() {
         if let Some(keys) = scheduler.keys(tenant) {
             best = Some(better(turn, best, Head { tenant, keys }));
             has_smaller = has_smaller || (turn.is_eligible(keys) && cost_of(keys.request) < below);
