@@ -12,7 +12,8 @@ use Rattle.sched_state.specs.Replies.{AnswersCall}
 
 -- it answered the call of this entry so, and gained the entry that is wanted in its place, or none
 pub record AnswersInstead
-    (old : SchedulerView ℕ) (given : Entry) (reply : Reply) (wanted : Option Entry) (new : SchedulerView ℕ) : Type 0 where
+    (old : SchedulerView ℕ) (given : Entry) (reply : Reply) (wanted : Option Entry)
+    (new : SchedulerView ℕ) : Type 0 where
   pub answers : AnswersCall old (call_of given) reply new
   pub gained : history_of new.past ≡ with_gained wanted (history_of old.past)
 

@@ -1,5 +1,5 @@
 -- The lines by courses and by the table of the fluid service are those of the definitions.
-use Rattle.std.proofs.Common.{ℕ, zero, suc, ◌-◌, ◌*◌, ◌<◌, ◌≤◌, ◌≡◌, true, List, [], length, arith, refl, ap, ap₂, sym, ◌∙◌, filter, sum_by, ℤ, pos, ◌-ℤ◌, All, slice_index}
+use Rattle.std.proofs.Common.{ℕ, zero, suc, ◌-◌, ◌*◌, ◌<◌, ◌≤◌, ◌≡◌, true, List, [], length, arith, refl, ap, ap₂, sym, ◌∙◌, filter, sum_by, ℤ, pos, ◌-ℤ◌, All, slice_index, subst}
 use Rattle.std.specs.List.Sorted.{IsPermutation}
 use Rattle.std.proofs.lemmas.List.Sums.{length-filter, sum_by_push}
 use Rattle.std.proofs.lemmas.List.Sorted.{sum_by-IsPermutation}
@@ -39,12 +39,12 @@ cell_is C rows H Q n k t l m = ap (λ row. number_at row t) (slot_is C rows H Q 
 table_long : (C : Config) (rows : List FluidRow) (H : History) (Q n : ℕ) → length (fluid_table C rows H Q n) ≡ n
 table_long C rows H Q n = list_length (λ k. list_below (λ t. fluid C rows H Q t (suc k)) (length C.weights)) n
 
-pub is_table : (C : Config) (rows : List FluidRow) (H : History) (Q n : ℕ) → 1 ≤ n → n ≤ 4000000 → All (IsRowOf (length C.weights)) rows → length rows ≤ 2000000 → IsTable (length C.weights) (fluid_table C rows H Q n)
+pub is_table : (C : Config) (rows : List FluidRow) (H : History) (Q n : ℕ) → 1 ≤ n → n * length C.weights ≤ 4000000 → All (IsRowOf (length C.weights)) rows → length rows ≤ 2000000 → IsTable (length C.weights) (fluid_table C rows H Q n)
 is_table C rows H Q n some few in_range count =
     let long : length (fluid_table C rows H Q n) ≡ n = table_long C rows H Q n in
     record {
       some = omega (arith, long, some);
-      few = omega (arith, long, few);
+      few = subst (λ k. k * length C.weights ≤ 4000000) (sym long) few;
       tenants_are = λ k l. ap length (slot_is C rows H Q n k (omega (arith, l, long))) ∙ list_length (λ t. fluid C rows H Q t (suc k)) (length C.weights);
       low = λ k t l m. omega (arith, cell_is C rows H Q n k t (omega (arith, l, long)) m, served_low C (length C.weights) rows H Q t (suc k) in_range count);
     }

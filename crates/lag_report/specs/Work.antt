@@ -58,11 +58,11 @@ line_of weight served courses Q = record {
 
 -- ---- all tenants
 
--- a table by slots for this number of tenants: it has a slot, no more slots than there may be cells, and no number
--- above the limit
+-- a table by slots for this number of tenants: it has a slot, a cell for each slot and tenant and no more of them than
+-- there may be, and no number above the limit
 pub record IsTable (tenants : ℕ) (table : List (List ℕ)) : Type 0 where
   pub some : 1 ≤ length table
-  pub few : length table ≤ MOST_CELLS
+  pub few : length table * tenants ≤ MOST_CELLS
   pub tenants_are : (k : ℕ) → k < length table → length (slot_at table k) ≡ tenants
   pub low : (k t : ℕ) → k < length table → t < tenants → number_at (slot_at table k) t ≤ GREATEST_BACKLOG
 

@@ -8,6 +8,7 @@ use Rattle.fq_model.specs.declared.lag.TenantLag.{TenantLag}
 use Rattle.lag_report.specs.declared.course.Course.{Course}
 use Rattle.lag_report.specs.Work.{EndsWithin, line_of, line_for}
 use Rattle.lag_report.proofs.Groups.{is_own, own_low}
+use Rattle.lag_report.proofs.Refusals.{few_slots}
 use Rattle.lag_report.proofs.lines.lines.Goals as goal
 use Rattle.lag_report.proofs.lines.lines.Goals.{After-as_slice}
 
@@ -24,7 +25,9 @@ pub line-requires-clause-some : goal.line-requires-clause-some
 line-requires-clause-some c = omega (arith, as_many c, c.requires.table.some)
 
 pub line-requires-clause-few : goal.line-requires-clause-few
-line-requires-clause-few c = omega (arith, as_many c, c.requires.table.few)
+line-requires-clause-few c =
+    let some : 1 ≤ length c.args.weights.now = omega (arith, c.loop-t-test.true) in
+    subst (λ n. n ≤ 4000000) (sym (as_many c)) (few_slots (length c.args.fluid.now) (length c.args.weights.now) some c.requires.table.few)
 
 pub line-requires-clause-served : goal.line-requires-clause-served
 line-requires-clause-served c = subst (All (λ s. s ≤ 2000000000000000)) (sym (served_is c)) (λ k d l.

@@ -18,7 +18,7 @@ use Rattle.lag_report.proofs.Totals.{unfinished_is, all_ended}
 use Rattle.lag_report.proofs.Ends.{courses_end}
 use Rattle.lag_report.proofs.Counts.{courses_in, submits_few, costs_few, rows_few, rows_in, changes_in, changes_order}
 use Rattle.lag_report.proofs.TenantLines.{is_table, lines_from, table_is, report_of}
-use Rattle.lag_report.proofs.Refusals.{small, for_request, for_none, for_fluid, few_slots, none_from, given_reason}
+use Rattle.lag_report.proofs.Refusals.{small, for_request, for_none, for_fluid, none_from, given_reason}
 use Rattle.lag_report.specs.Faults.{fault_from}
 use Rattle.std.specs.List.Sorted.{IsPermutation}
 use Rattle.lag_report.proofs.reporting.report_of.Goals as goal
@@ -106,7 +106,7 @@ lines-requires-clause-table c =
     let H = history_of c.args.contents.now.past.items in
     let lim = c.weights-weights.ensures.limits in
     let rows : rows_of H ≡ fluid_rows_of H = rows_are C H c.requires.legal in
-    let table : IsTable (length C.weights) (fluid_table C (fluid_rows_of H) H c.args.slot (slots_of H c.args.slot)) = is_table C (fluid_rows_of H) H c.args.slot (slots_of H c.args.slot) (omega arith) (few_slots _ _ lim.tenants.0 (cells_few b)) (subst (All (IsRowOf (length C.weights))) rows (rows_in C H c.requires.legal)) (subst (λ rs. length rs ≤ 2000000) rows (rows_few C H lim c.requires.room c.requires.legal)) in
+    let table : IsTable (length C.weights) (fluid_table C (fluid_rows_of H) H c.args.slot (slots_of H c.args.slot)) = is_table C (fluid_rows_of H) H c.args.slot (slots_of H c.args.slot) (omega arith) (cells_few b) (subst (All (IsRowOf (length C.weights))) rows (rows_in C H c.requires.legal)) (subst (λ rs. length rs ≤ 2000000) rows (rows_few C H lim c.requires.room c.requires.legal)) in
     subst (λ ws. IsTable (length ws) c.in_ok-fluid.fluid) (sym c.weights-weights.ensures.value) (subst (IsTable (length C.weights)) (sym (table_now b)) table)
 
 pub lines-requires-clause-order : goal.lines-requires-clause-order
