@@ -1,0 +1,5 @@
+pub mod Classes
+pub mod Demand
+pub mod Kept
+pub mod Rule
+pub mod Reserve
