@@ -3,3 +3,4 @@ pub mod Demand
 pub mod Kept
 pub mod Rule
 pub mod Reserve
+pub mod Credit

@@ -5,10 +5,13 @@
 #![tactic(auto)]
 
 pub mod class;
+pub mod credit;
 pub mod demand;
+pub mod laws;
 pub mod reserve;
 pub mod rule;
 
+pub use credit::{Credit, Passed};
 pub use demand::{Demand, Ended};
 pub use reserve::{Finished, Reserve};
 pub use rule::{Budget, Question};
