@@ -1,5 +1,5 @@
 -- The credit of workers for staying free.
-use Rattle.std.specs.Prelude.{ℕ, ◌≤◌, ◌+◌, ◌-◌, ◌*◌, min, List, [], ◌∷◌}
+use Rattle.std.specs.Prelude.{ℕ, ◌≡◌, ◌⊎◌, ◌≤◌, ◌+◌, ◌-◌, ◌*◌, min, List, [], ◌∷◌}
 use Rattle.worker_reserve.specs.declared.credit.Passed.{Passed}
 
 -- The view of a credit in contracts: the part of all time that may be idle, in millionths; the number of workers; how far
@@ -56,3 +56,19 @@ all_spent v (p ∷ older) = all_spent v older + spent (after v older) p
 -- the end: so beyond the idle part of all busy time it is the cap, and the debt where there is one
 abbrev pub SpendingIsBounded : Type 0
 SpendingIsBounded = (v : CreditView) (run : List Passed) → all_spent v run ≤ all_earned v run + (after v run).used
+
+-- What declines is asked again in time: up to a millisecond past that moment no more is spent than is there, and a
+-- millisecond and a microsecond of each worker that declines. So it is where the pause is that of the credit.
+abbrev pub IsTimely : CreditView → Passed → Type 0
+IsTimely v p = (spent v p ≡ 0)
+    ⊎ (v.used + 1000000 * (p.declining * (p.asked_again + 1000 - v.moment)) ≤ cap v + 1001000000 * p.declining)
+
+abbrev pub IsTimelyRun : CreditView → List Passed → Type 0
+IsTimelyRun v [] = Unit
+IsTimelyRun v (p ∷ older) = IsTimelyRun v older × (p.declining ≤ v.workers) × IsTimely (after v older) p
+
+-- from a full credit on, where workers are asked again in time, what they spend by declining is at most the idle part of
+-- all busy time, the cap, and a millisecond and a microsecond of each worker
+abbrev pub IdlingIsBounded : Type 0
+IdlingIsBounded = (v : CreditView) (run : List Passed) → v.used ≡ 0 → IsTimelyRun v run
+    → all_spent v run ≤ all_earned v run + cap v + 1001000000 * v.workers
