@@ -8,6 +8,8 @@
 pub mod laws;
 pub mod refusal;
 pub mod room;
+#[cfg(test)]
+mod tests;
 
 pub use refusal::Refusal;
 pub use room::Room;

@@ -61,7 +61,9 @@ fn limit_alone(rt: HostRuntime) {
     if let Ok(mut room) = opened {
         flood(&rt, &mut room, 0, 3, Refusal::TenantFull);
         flood(&rt, &mut room, 1, 2, Refusal::TooManyWait);
-        room.leave(0);
+        if room.waiting_of(0) > 0 {
+            room.leave(0);
+        }
         flood(&rt, &mut room, 0, 1, Refusal::TooManyWait);
     }
 }
