@@ -21,7 +21,7 @@ abbrev pub IsWorth : Budget → ℕ → Type 0
 IsWorth b n = (worker_unit ≤ n) ⊎ (1000000 * (worker_unit - n) ≤ 4 * b.idle_ppm * b.workers * worker_unit)
 
 -- after the take fewer workers would be left to smaller requests than these keep busy, and up to one more or one less by
--- the credit, where so many requests run that they would wait for
+-- the credit, beside the requests that run and that they would wait for
 abbrev pub IsShort : Budget → ℕ → ℕ → Type 0
 IsShort b longer n = (b.workers - longer) * worker_unit * cap_of b < n * cap_of b + 2 * b.credit * worker_unit
 

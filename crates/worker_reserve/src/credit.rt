@@ -73,7 +73,7 @@ impl Credit {
         self.moment = passed.moment;
     }
 
-    /// There are so many workers from now on.
+    /// The number of workers is this from now on.
     pub fn set_workers(&mut self, workers: u32)
         requires { workers ≤ 4096 }
         ensures { self.new ≡ with_workers self.old workers }
@@ -99,7 +99,7 @@ impl Credit {
         }
     }
 
-    // The cap with so many workers.
+    // The cap with this number of workers.
     fn cap_of(&self, workers: u32) -> u128
         requires { workers ≤ 4096 }
         ensures cap { result ≡ self.now.idle_ppm * 1000000 * workers }
@@ -110,7 +110,7 @@ impl Credit {
 }
 
 impl Budget {
-    /// How many microseconds later workers that decline are asked again, so many of them, at the latest.
+    /// How many microseconds later this number of workers, which decline, are asked again at the latest.
     pub fn pause(&self, declining: u32) -> u64
         requires { 0 < declining }
         ensures { result ≡ max 61 (min 1000 (self.now.credit / 1000000 / declining + 1)) }
@@ -121,7 +121,7 @@ impl Budget {
     }
 }
 
-// The time of so many workers, each this long.
+// The time of this number of workers, each this long.
 fn times(workers: u32, time: u64) -> u128
     requires workers { workers ≤ 4096 }
     requires time { time ≤ 1000000000000000 }
