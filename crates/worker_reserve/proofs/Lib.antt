@@ -1,0 +1,4 @@
+pub mod Powers
+pub mod Windows
+pub mod Lowered
+pub mod Spending

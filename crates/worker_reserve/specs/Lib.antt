@@ -1,0 +1,6 @@
+pub mod Classes
+pub mod Demand
+pub mod Kept
+pub mod Rule
+pub mod Reserve
+pub mod Credit
