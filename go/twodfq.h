@@ -25,8 +25,8 @@ extern "C" {
 
 /* The version of this header. Below 1.0 another minor version may change any name, number or struct. */
 #define TWODFQ_VERSION_MAJOR 0
-#define TWODFQ_VERSION_MINOR 14
-#define TWODFQ_VERSION "0.14"
+#define TWODFQ_VERSION_MINOR 15
+#define TWODFQ_VERSION "0.15"
 
 /* The version of the library that the program runs with, written as TWODFQ_VERSION is. */
 const char *twodfq_version(void);
