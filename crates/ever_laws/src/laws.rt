@@ -44,8 +44,8 @@ pub fn takes_are_bounded()
     ensures { TakesAreBounded }
 {}
 
-/// Meanwhile it is charged no more, in steps, than twice the bound and one request of the greatest length for each
-/// worker, whatever its least length.
+/// Meanwhile it is charged no more, in steps, than twice the bound, two more, and one request of the greatest length for
+/// each worker, whatever its least length.
 pub fn charge_is_bounded()
     ensures { ChargeIsBounded }
 {}

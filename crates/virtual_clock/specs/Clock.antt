@@ -7,7 +7,7 @@ use Rattle.fq_model.specs.declared.config.Policy.{Policy}
 use Rattle.fq_model.specs.declared.config.Policy.TheVariants.{TwoDfqPlus}
 use Rattle.fq_model.specs.declared.limits.TheConstants.{GREATEST_VIRTUAL_TIME}
 
--- the number of workers, the moment that it has come to, the sum of the active weights, virtual time, and its cap
+-- the number of workers, the moment that it has come to, the sum of the weights that count, virtual time, and its cap
 pub record ClockView : Type 0 where
   pub workers : ℕ
   pub moment : ℕ
@@ -35,7 +35,7 @@ moved_to c moment = record {
   cap = c.cap;
 }
 
--- with one more active weight
+-- with one more weight that counts
 abbrev pub entered : ClockView → ℕ → ClockView
 entered c weight = record {
   workers = c.workers;
@@ -45,7 +45,7 @@ entered c weight = record {
   cap = c.cap;
 }
 
--- with one active weight less
+-- with one weight less that counts
 abbrev pub left : ClockView → ℕ → ClockView
 left c weight = record {
   workers = c.workers;

@@ -10,9 +10,10 @@ use std::marker::Model;
 use vt_fixed::advance;
 
 /// Virtual time along a history, in steps. It rises at the rate of generalized processor sharing (Parekh and
-/// Gallager, 1993): the number of workers over the sum of the active tenants' weights, and it stands while no tenant
-/// is active. Under `2dfq+` it does not pass a cap, and may be lifted. Each piece between two moments is rounded down
-/// by itself, so `to` belongs at each entry and nowhere else.
+/// Gallager, 1993): the number of workers over the sum of the weights that count, and it stands while none counts. The
+/// weight of an active tenant counts, and under `2dfq+` that of a tenant that lingers. Under `2dfq+` virtual time does
+/// not pass a cap, and may be lifted. Each piece between two moments is rounded down by itself, so `to` belongs at each
+/// entry and nowhere else.
 #[derive(Drop)]
 pub struct Clock128 {
     workers: u32,
@@ -47,7 +48,7 @@ impl Model for Clock128 {
 }
 
 impl Clock128 {
-    /// A clock at moment 0 and virtual time 0, with no active tenant. Under `2dfq+` its cap is 0 until a request is
+    /// A clock at moment 0 and virtual time 0, when no weight counts. Under `2dfq+` its cap is 0 until a request is
     /// taken.
     pub fn new(policy: Policy, workers: u32) -> Clock128
         requires workers_positive { 1 ≤ workers }
@@ -89,7 +90,7 @@ impl Clock128 {
         moved.min(self.cap)
     }
 
-    /// A tenant of this weight becomes active.
+    /// The weight of one tenant more counts from now on.
     pub fn enter(&mut self, weight: u32)
         requires weight_positive { 1 ≤ weight }
         requires weight_in_range { weight ≤ GREATEST_WEIGHT }
@@ -99,7 +100,7 @@ impl Clock128 {
         self.weights += weight as u64;
     }
 
-    /// A tenant of this weight is active no more.
+    /// The weight of one tenant counts no more.
     pub fn leave(&mut self, weight: u32)
         requires weight_positive { 1 ≤ weight }
         requires weight_in_range { weight ≤ GREATEST_WEIGHT }
