@@ -9,7 +9,7 @@ use fq_model::config::{Checked, Policy};
 use std::alloc::{AllocError, Global};
 use std::marker::Model;
 use tag_rules::chooser::Chooser;
-use tag_rules::foresees::{Foresees, ForeseenChoice, foreseen_in};
+use tag_rules::foresees::{ForeseenChoice, Foresees, foreseen_in};
 use tag_rules::head_keys::Keys;
 use tag_rules::turn::Turn;
 use winner_tree::Tree;

@@ -9,7 +9,7 @@ use rival_policies::plain::PlainChooser;
 use shared_order::chooser::SharedChooser;
 use std::alloc::{AllocError, Global};
 use tag_rules::chooser::Chooser;
-use tag_rules::foresees::{Foresees, ForeseenChoice};
+use tag_rules::foresees::{ForeseenChoice, Foresees};
 use tag_rules::head_keys::Keys;
 
 /// The program's chooser: a look at each head where there are few tenants, and else one order of heads.
