@@ -33,7 +33,7 @@ class Progress:
         if time.monotonic() > self.next:
             self.next = time.monotonic() + TELLING
             of = f" of {self.size / 1e6:.0f}" if self.size else ""
-            print(f"{tool_name()}: {self.name}: {self.read / 1e6:.0f}{of} MB read", file=sys.stderr, flush=True)
+            say(f"{self.name}: {self.read / 1e6:.0f}{of} MB read")
 
 
 def tool_name():
@@ -55,6 +55,25 @@ def opened(name):
     else:
         with open(name, **how) as file:
             yield file, name
+
+
+def say(text):
+    """Says something beside the output."""
+    print(f"{tool_name()}: {text}", file=sys.stderr, flush=True)
+
+
+def printable(text):
+    """A text of an input, with bytes and halves of characters that are no text in digits."""
+    try:
+        text = text.encode(errors="surrogateescape")
+    except UnicodeEncodeError:
+        text = text.encode(errors="backslashreplace")
+    return text.decode(errors="backslashreplace")
+
+
+def counted(count, what):
+    """A number of things, as 1 line or 2 lines."""
+    return f"{count} {what}" if count == 1 else f"{count} {what}s"
 
 
 def processors():
