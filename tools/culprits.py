@@ -1,9 +1,9 @@
 """Who took more than its share while others waited, and who waited for it, for `turnaround`.
 
-Only the time in which some request waits counts, cut into slots. In a slot a tenant wants the time of its open requests,
-those that wait and those that run, and has the time of those that run. What all had is divided by weight among the
-tenants with open requests: its part of that is a tenant's share, and what it gets where nobody gets more than it wants
-is its due. A tenant that has more than its due in a slot took that of others, who were short of it.
+Only the time in which some request waits counts, cut into slots. In a slot a tenant wants the time of its open
+requests, those that wait and those that run, and has the time of those that run. What all had is divided by weight
+among the tenants with open requests: its part of that is a tenant's share, and what it gets where nobody gets more than
+it wants is its due. A tenant that has more than its due in a slot took that of others, who were short of it.
 
 Over all slots a tenant was short by a part of what was due to it, and a slot counts by what the tenant waited in it. So
 much of its waiting is wrongful: the rest it owes to itself, or all waited alike. A victim was short by a fifth or more.
@@ -147,8 +147,8 @@ def standing_of(cells):
 
 class Verdict:
     """The verdict on a journal, by the numbers of tenants: `standings`; `taken`, the work that each had beyond its due;
-    `held`, the wrongful waiting of others while its requests ran; `times`, how many times its share it had where victims
-    waited; and `victims` and `culprits`, the worst first."""
+    `held`, the wrongful waiting of others while its requests ran; `times`, how many times its share it had where
+    victims waited; and `victims` and `culprits`, the worst first."""
 
     def __init__(self, journal):
         slots = list(cells_of(journal))
@@ -169,7 +169,9 @@ class Verdict:
         # (waits of whole tenants, each while requests of each other tenant ran)
         asked = [it for it in range(count) if of(it).short]
         self.pairs = pairs_of(journal, asked)
-        self.held = [sum(of(it).short * self.pairs.get((it, runs), 0) for it in asked if it != runs) for runs in range(count)]
+        self.held = [0] * count
+        for (it, runs), held in self.pairs.items():
+            self.held[runs] += of(it).short * held if it != runs else 0
 
     def times_of_share(self, slots):
         """How many times its share each tenant had; a slot counts by what victims waited in it."""
@@ -200,7 +202,8 @@ def waits_table(journal, verdict, shown):
 
 
 def culprits_table(journal, verdict):
-    rows = [[journal.tenants[it], verdict.times[it], verdict.taken[it], verdict.held[it] / PARTS] for it in verdict.culprits]
+    of = lambda it: [journal.tenants[it], verdict.times[it], verdict.taken[it], verdict.held[it] / PARTS]
+    rows = map(of, verdict.culprits)
     return Table("culprits", [Name("tenant"), Ratio("times-share", "times_share"), Time("taken"), Time("held")], rows)
 
 

@@ -8,7 +8,7 @@ from log_times import Unread
 
 # A text in quotes, without these.
 QUOTED = r'[^"\\]*(?:\\.[^"\\]*)*'
-# The parts of a line: ADDRESS IDENTITY USER [TIME] "METHOD PATH PROTOCOL" STATUS SIZE "REFERER" "AGENT", and more behind.
+# The parts of a line: ADDRESS IDENTITY USER [TIME] "METHOD PATH PROTOCOL" STATUS SIZE "REFERER" "AGENT", and more.
 ACCESS = re.compile(
     r"(?P<address>\S+) (?P<identity>\S+) (?P<user>\S+|.+?) \[(?P<time>[^\]]+)\] "
     r'"(?P<method>\S+) (?P<path>\S+)(?: [^" ]*)?" (?P<status>\d{3}) (?P<size>\d+|-)'

@@ -68,7 +68,8 @@ def expect_span(came):
     """Refuses requests whose moments lie too far apart for a trace."""
     if came[-1][0] - came[0][0] > GREATEST_MOMENT:
         place, what = gap_note(came) or (place_of(came[-1][1]), "this request is the last")
-        raise Fault(f"{place}: {what}, and a trace has at most {GREATEST_MOMENT} microseconds: --from and --to take a part")
+        most = f"a trace has at most {GREATEST_MOMENT} microseconds"
+        raise Fault(f"{place}: {what}, and {most}: --from and --to take a part")
 
 
 def arrival_notes(given):

@@ -4,17 +4,28 @@ import contextlib
 import csv
 import gzip
 import io
+import itertools
 import operator
 import re
 import sys
 import zlib
 
-from log_formats import FORMATS, PART, Passed, words_of
+import log_formats
+import log_servers
+from log_formats import PART, Passed, words_of
 from log_times import Unread
 from tool import Fault, Progress, printable
 
 # The greatest part of a line that is shown, and the number of letters after which progress is counted.
 MOST_SHOWN, MOST_UNTOLD = 160, 100_000
+FORMATS = {**log_formats.FORMATS, **log_servers.FORMATS}
+# What begins the texts of this program, and what reads them.
+OURS = {
+    r"tenant,[^,]*,\d+$|request,\d+,\d+,": "a trace: give it to ./twodfq run or tools/one_queue",
+    r"journal [1-9]$": "a journal: give it to tools/turnaround",
+    r"(script|report) [1-9]$": "no log, but a text of this program: docs/FORMATS.md tells what reads it",
+}
+TEXTS = {str}
 csv.field_size_limit(1 << 30)
 
 
@@ -55,7 +66,7 @@ def values_of(names, path):
     def values(columns):
         try:
             found = pick(columns)
-            if all(it.__class__ is str for it in found):
+            if set(map(type, found)) == TEXTS:
                 return found
         except KeyError:
             pass
@@ -103,9 +114,9 @@ def rows_of_file(rows, lines, needed, name):
 
 
 def rows_of(file, format_name, needed, name, progress):
-    """The number of each line of a log, its text, and its columns, or None where it can't be read, or why it is no
-    request."""
-    form, lines = FORMATS[format_name], told_lines(file, progress)
+    """The number of each line of a log, its text, and its columns, or None where it can't be read, or why it can't, or
+    why it is no request."""
+    form, lines = FORMATS[format_name], known(told_lines(file, progress), name)
     if form.rows:
         yield from rows_of_file(form.rows, lines, needed, name)
         return
@@ -114,9 +125,24 @@ def rows_of(file, format_name, needed, name, progress):
         line = line.rstrip("\r\n")
         try:
             columns = read(line)
-        except Passed as why:
+        except (Passed, Unread) as why:
             columns = why
         yield number, line, columns
+
+
+def expect_log(line, name):
+    """Refuses the first line of a text of this program."""
+    for shape, what in OURS.items():
+        if re.match(shape, line.rstrip("\r\n")):
+            raise Fault(f"{name}: it is {what}")
+
+
+def known(lines, name):
+    """The lines of a log."""
+    for line in itertools.islice(lines, 1):
+        expect_log(line, name)
+        yield line
+    yield from lines
 
 
 def shown(line):
@@ -129,9 +155,9 @@ def count_lines(name):
     if name == "-":
         return None
     with opened_log(name) as (file, _, _):
-        count = 0
-        while True:
-            block = file.buffer.read(1 << 20)
-            if not block:
-                return count
+        count, block = 0, file.buffer.read(1 << 20)
+        expect_log(block.partition(b"\n")[0].decode(errors="replace"), name)
+        while block:
             count += block.count(b"\n")
+            block = file.buffer.read(1 << 20)
+        return count
