@@ -46,6 +46,9 @@ class Count:
 
     def add(self):
         self.done += 1
+        self.tell()
+
+    def tell(self):
         if time.monotonic() > self.next:
             self.next = time.monotonic() + TELLING
             say(f"{self.done} of {self.whole} {self.what}")

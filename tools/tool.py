@@ -17,6 +17,15 @@ class Fault(Exception):
     """The fault of an input, and its place."""
 
 
+class Ended(SystemExit):
+    """A tool was told to end, by SIGTERM, and has something to put in order first."""
+
+
+def end_in_order(*_):
+    """Raises `Ended`, as the handler of SIGTERM."""
+    raise Ended
+
+
 class Progress:
     """The bytes of a file that are read: shown on standard error where it takes long, and every few seconds."""
 
@@ -109,9 +118,10 @@ def run(main):
         sys.stdout.flush()
     except Fault as fault:
         sys.exit(f"{tool_name()}: {fault}")
-    except KeyboardInterrupt:
-        signal.signal(signal.SIGINT, signal.SIG_DFL)
-        os.kill(os.getpid(), signal.SIGINT)
+    except (KeyboardInterrupt, Ended) as why:
+        number = signal.SIGTERM if isinstance(why, Ended) else signal.SIGINT
+        signal.signal(number, signal.SIG_DFL)
+        os.kill(os.getpid(), number)
     except OSError as error:
         # (text that could not be written is not tried again at the end)
         os.dup2(os.open(os.devnull, os.O_WRONLY), sys.stdout.fileno())
