@@ -2,7 +2,8 @@
 
 import collections
 
-from tables import Column, Name, Part, Table, Time
+from matter import waiting
+from tables import Name, Part, Table, Time
 
 # The parts of a microsecond in which time is shared.
 PARTS = 1 << 20
@@ -10,94 +11,59 @@ SUBMIT, TAKE, DONE, WITHDRAW = range(4)
 # An event is one number, so that many events are sorted fast: the moment, the request in this number of bits, and its
 # change in two bits more.
 BITS = 40
-
-
-def coded(moment, number, what):
-    return moment << BITS + 2 | number << 2 | what
+# The bits of a sum of waits: of 2^18 requests, for 2^64 microseconds, in parts of these, and some more.
+SUM_BITS = 128
 
 
 def events(journal):
     """The changes of waiting and running requests, in the order of moments."""
-    found = [coded(moment, number, SUBMIT) for number, moment in enumerate(journal.submitted)]
+    shift = BITS + 2
+    found = [moment << shift | number << 2 | SUBMIT for number, moment in enumerate(journal.submitted)]
     for moments, what in ((journal.taken, TAKE), (journal.done, DONE)):
-        found += [coded(moment, number, what) for number, moment in enumerate(moments) if moment is not None]
-    found += [coded(moment, number, WITHDRAW) for number, moment in journal.withdrawn.items()]
+        found += [it << shift | number << 2 | what for number, it in enumerate(moments) if it is not None]
+    found += [moment << shift | number << 2 | WITHDRAW for number, moment in journal.withdrawn.items()]
     found.sort()
     return found
 
 
-class Waits:
-    """The waits of requests, by tenant: `waited` of its own requests, `held` of those of others while its own ran,
-    `own` of its own while its own ran; and `pairs`, of each tenant that is asked for while requests of each tenant ran.
-    All but the first are in parts of microseconds.
+def pairs_of(journal, asked):
+    """The waits of each tenant that is asked for while requests of each tenant ran, in parts of microseconds.
 
-    Where w requests wait and r run, each running request gets w/r of a microsecond in a microsecond. The sum of w/r
-    over time is `all`, and that of 1/r is `one`. So a running request gets the growth of `all` meanwhile. The waits of
-    its own tenant in that are added whenever the waiting or running requests of this tenant change, by the growth of
-    `one` since."""
+    While a request waits and r run, each of these gets 1/r of a microsecond in a microsecond. So a request gets from a
+    tenant the growth of a sum: that of r'/r over time, of which r' is the number of the tenant's running requests. The
+    sums of all tenants stand side by side in one large number, of SUM_BITS bits each, since Python adds large numbers
+    fast. A row of such sums loses them at each submit of its tenant, and gets those of the take."""
+    rows, running, sums, runs, now = {tenant: 0 for tenant in asked}, 0, 0, 0, 0
+    tenant_of, waiting, mask = journal.tenant, collections.Counter(), (1 << BITS) - 1
+    for event in events(journal):
+        moment, number, what = event >> BITS + 2, event >> 2 & mask, event & 3
+        if moment > now:
+            if runs:
+                sums += running * ((moment - now) * PARTS // runs)
+            now = moment
+        tenant = tenant_of[number]
+        if what != DONE and tenant in rows:
+            rows[tenant] += -sums if what == SUBMIT else sums
+            waiting[tenant] += 1 if what == SUBMIT else -1
+        if what in (TAKE, DONE):
+            change = 1 if what == TAKE else -1
+            running += change << SUM_BITS * tenant
+            runs += change
+    if runs:
+        sums += running * ((journal.now - now) * PARTS // runs)
+    found = {}
+    for tenant, row in rows.items():
+        for other, held in enumerate(unpacked(row + waiting[tenant] * sums, len(journal.tenants))):
+            if held:
+                found[tenant, other] = held
+    return found
 
-    def __init__(self, journal, asked=()):
-        count = len(journal.tenants)
-        self.waited, self.held, self.own = [0] * count, [0] * count, [0] * count
-        # the numbers of waiting and of running requests of each tenant, and `one` at their last change
-        self.waiting, self.running, self.since = [0] * count, [0] * count, [0] * count
-        self.all = self.one = 0
-        self.asked, self.pairs, self.pair_since = asked, collections.Counter(), collections.Counter()
-        self.follow(journal)
-        for tenant in range(count):
-            self.settle(tenant)
-            self.settle_pairs(tenant)
-            self.held[tenant] += self.running[tenant] * self.all - self.own[tenant]
-            self.waited[tenant] += self.waiting[tenant] * journal.now
 
-    def settle(self, tenant):
-        """Adds the time that the tenant waited for itself up to now."""
-        self.own[tenant] += self.waiting[tenant] * self.running[tenant] * (self.one - self.since[tenant])
-        self.since[tenant] = self.one
-
-    def settle_pairs(self, tenant):
-        """Adds the times of pairs that are asked for, before the waiting or running requests of this tenant change."""
-        for waits in self.asked:
-            of_all = [it for it, count in enumerate(self.running) if count or it == tenant]
-            for runs in of_all if waits == tenant else [tenant]:
-                passed = self.one - self.pair_since[waits, runs]
-                self.pairs[waits, runs] += self.waiting[waits] * self.running[runs] * passed
-                self.pair_since[waits, runs] = self.one
-
-    def follow(self, journal):
-        """Reads all events, and then the time up to the last entry."""
-        tenant_of, now, waits, runs = journal.tenant, 0, 0, 0
-        for event in events(journal):
-            moment, number, what = event >> BITS + 2, event >> 2 & (1 << BITS) - 1, event & 3
-            if moment > now:
-                self.pass_time(moment - now, waits, runs)
-                now = moment
-            tenant = tenant_of[number]
-            self.settle(tenant)
-            if self.asked:
-                self.settle_pairs(tenant)
-            if what == SUBMIT:
-                waits += 1
-                self.waiting[tenant] += 1
-                self.waited[tenant] -= moment
-            elif what == DONE:
-                runs -= 1
-                self.running[tenant] -= 1
-                self.held[tenant] += self.all
-            else:
-                waits -= 1
-                self.waiting[tenant] -= 1
-                self.waited[tenant] += moment
-                if what == TAKE:
-                    runs += 1
-                    self.running[tenant] += 1
-                    self.held[tenant] -= self.all
-        self.pass_time(journal.now - now, waits, runs)
-
-    def pass_time(self, passed, waits, runs):
-        if runs:
-            self.all += passed * PARTS * waits // runs
-            self.one += passed * PARTS // runs
+def unpacked(row, count):
+    """The sums that stand side by side in a number."""
+    size = SUM_BITS // 8
+    digits = row.to_bytes(size * count, "little")
+    return [int.from_bytes(digits[at : at + size], "little") for at in range(0, size * count, size)]
 
 
 def busy(journal, column="tenant"):
@@ -133,29 +99,14 @@ def workers_table(journal, shown):
     return Table("workers", columns, ranked(rows, 1))
 
 
-def waits_table(journal, shown):
-    """The tenants whose requests ran while those of others waited."""
-    waits, ran = Waits(journal), [sum(own) for own in busy(journal)]
-    held, weights = sum(waits.held), sum(journal.weights)
-    rows = []
-    for tenant, name in enumerate(journal.tenants):
-        if shown(name):
-            weight, waited = journal.weights[tenant], waits.waited[tenant]
-            parts = [weight, weight / weights, ratio(ran[tenant], sum(ran))]
-            other, own = waits.held[tenant], waits.own[tenant]
-            rows.append([name, *parts, round(other / PARTS), ratio(other, held), waited, ratio(own, waited * PARTS)])
-    columns = [Name("tenant"), Column("weight"), Part("due"), Part("had")]
-    columns += [Time("held"), Part("part"), Time("waited"), Part("own")]
-    return Table("waits", columns, ranked(rows, 4))
-
-
 def pairs_table(journal, shown):
     """The tenants for whom each shown tenant waited."""
     asked = [tenant for tenant, name in enumerate(journal.tenants) if shown(name)]
-    waits, rows = Waits(journal, asked), []
+    rows, found, waited = [], {tenant: [] for tenant in asked}, waiting(journal)
+    for (tenant, runs), held in pairs_of(journal, asked).items():
+        found[tenant].append((held, runs))
     for tenant in asked:
-        own = [(held, runs) for (it, runs), held in waits.pairs.items() if it == tenant and held]
-        whole = waits.waited[tenant] * PARTS
-        for held, runs in sorted(own, key=lambda it: (-it[0], it[1])):
+        whole = waited[tenant] * PARTS
+        for held, runs in sorted(found[tenant], key=lambda it: (-it[0], it[1])):
             rows.append([journal.tenants[tenant], journal.tenants[runs], round(held / PARTS), ratio(held, whole)])
     return Table("pairs", [Name("tenant"), Name("waited-for"), Time("held"), Part("part")], rows)

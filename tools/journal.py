@@ -13,6 +13,8 @@ from lines import Lines
 
 NAME = re.compile(r"[A-Za-z0-9_.-]{1,64}")
 POLICIES = ("wfq", "wf2q", "msf2q", "2dfq", "2dfq+")
+# What `one_queue` writes in the place of a policy.
+ONE_QUEUE = "one_queue"
 ESTIMATORS = ("declared", "recent", "pessimistic")
 REPLIES = ("request", "run", "ok", "retired", "idle", "drained", "refused", "withdrawn")
 VERSIONS = (["journal", "1"], ["journal", "2"], ["journal", "3"])
@@ -88,7 +90,7 @@ class Journal:
         self.lines.fields(words, 7)
         self.workers = self.lines.number_within(words, 1, 1, 64)
         self.policy, self.estimator = words[2:4]
-        self.expect(self.policy in POLICIES, f"{self.policy} is no policy")
+        self.expect(self.policy in (*POLICIES, ONE_QUEUE), f"{self.policy} is no policy")
         self.expect(self.estimator in ESTIMATORS, f"{self.estimator} is no estimator")
         self.lines.numbers(words, 4)
         self.config = " ".join(words)

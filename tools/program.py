@@ -5,7 +5,7 @@ import subprocess
 import sys
 import time
 
-from tool import PATIENCE, TELLING, Fault, tool_name
+from tool import PATIENCE, TELLING, Fault, say
 
 # (by the path that the tool was called by: beside a folder that is a link there is another program)
 HERE = os.path.dirname(os.path.abspath(sys.argv[0]))
@@ -46,6 +46,9 @@ class Count:
 
     def add(self):
         self.done += 1
+        self.tell()
+
+    def tell(self):
         if time.monotonic() > self.next:
             self.next = time.monotonic() + TELLING
-            print(f"{tool_name()}: {self.done} of {self.whole} {self.what}", file=sys.stderr, flush=True)
+            say(f"{self.done} of {self.whole} {self.what}")

@@ -17,6 +17,15 @@ class Fault(Exception):
     """The fault of an input, and its place."""
 
 
+class Ended(SystemExit):
+    """A tool was told to end, by SIGTERM, and has something to put in order first."""
+
+
+def end_in_order(*_):
+    """Raises `Ended`, as the handler of SIGTERM."""
+    raise Ended
+
+
 class Progress:
     """The bytes of a file that are read: shown on standard error where it takes long, and every few seconds."""
 
@@ -33,7 +42,7 @@ class Progress:
         if time.monotonic() > self.next:
             self.next = time.monotonic() + TELLING
             of = f" of {self.size / 1e6:.0f}" if self.size else ""
-            print(f"{tool_name()}: {self.name}: {self.read / 1e6:.0f}{of} MB read", file=sys.stderr, flush=True)
+            say(f"{self.name}: {self.read / 1e6:.0f}{of} MB read")
 
 
 def tool_name():
@@ -55,6 +64,25 @@ def opened(name):
     else:
         with open(name, **how) as file:
             yield file, name
+
+
+def say(text):
+    """Says something beside the output."""
+    print(f"{tool_name()}: {text}", file=sys.stderr, flush=True)
+
+
+def printable(text):
+    """A text of an input, with bytes and halves of characters that are no text in digits."""
+    try:
+        text = text.encode(errors="surrogateescape")
+    except UnicodeEncodeError:
+        text = text.encode(errors="backslashreplace")
+    return text.decode(errors="backslashreplace")
+
+
+def counted(count, what):
+    """A number of things, as 1 line or 2 lines."""
+    return f"{count} {what}" if count == 1 else f"{count} {what}s"
 
 
 def processors():
@@ -90,9 +118,10 @@ def run(main):
         sys.stdout.flush()
     except Fault as fault:
         sys.exit(f"{tool_name()}: {fault}")
-    except KeyboardInterrupt:
-        signal.signal(signal.SIGINT, signal.SIG_DFL)
-        os.kill(os.getpid(), signal.SIGINT)
+    except (KeyboardInterrupt, Ended) as why:
+        number = signal.SIGTERM if isinstance(why, Ended) else signal.SIGINT
+        signal.signal(number, signal.SIG_DFL)
+        os.kill(os.getpid(), number)
     except OSError as error:
         # (text that could not be written is not tried again at the end)
         os.dup2(os.open(os.devnull, os.O_WRONLY), sys.stdout.fileno())

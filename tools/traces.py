@@ -4,8 +4,7 @@ import collections
 import itertools
 import re
 
-from logs import parts_of
-from tool import Fault
+from tool import Fault, printable
 
 MOST_REQUESTS, MOST_TENANTS, MOST_KINDS, MOST_PAIRS = 262_144, 4_096, 64, 65_536
 GREATEST_MOMENT = 10**14
@@ -15,17 +14,18 @@ MOST_TOLD = 10
 # The name of the tenant of users who gave no name.
 ANONYMOUS = "anonymous"
 
-# A request: the time of its line, its user, its kind, its declared cost, and its cost.
-Row = collections.namedtuple("Row", "time user kind declared cost")
+# A request: the time of its line, the time from its coming to that, its user, its kind, its declared cost, its cost,
+# and its log and line.
+Row = collections.namedtuple("Row", "time before user kind declared cost log line")
 
 
 class Route:
-    """The paths of one pattern, as /api/users/{id} or /static/*, which have one kind."""
+    """The paths of one pattern, as /api/users/{id}, /shops/*/items or /static/*, which have one kind."""
 
     def __init__(self, pattern):
         parts = pattern.strip("/").split("/")
         self.kind = ".".join(it.strip("{}") for it in parts if it != "*") or "-"
-        shapes = ["[^/]+" if it.startswith("{") and it.endswith("}") else re.escape(it) for it in parts]
+        shapes = list(map(shape_of, parts))
         # (a * at the end is whatever follows)
         whole = "/".join(shapes[:-1]) + "(?:/.*)?" if parts[-1] == "*" else "/".join(shapes)
         self.shape = re.compile(whole, re.DOTALL)
@@ -34,15 +34,20 @@ class Route:
         return bool(self.shape.fullmatch(path))
 
 
+def shape_of(part):
+    """The expression for a part of a path: any part for {name} and for *, and * in a part for any letters of it."""
+    if part == "*" or (part.startswith("{") and part.endswith("}")):
+        return "[^/]+"
+    return "[^/]*".join(map(re.escape, part.split("*")))
+
+
 def kind_of(path, depth, routes):
     """The kind of the first route that a path fits, or else the first parts of the path."""
-    parts = parts_of(path)
-    if routes:
-        plain = "/".join(parts)
-        for route in routes:
-            if route.fits(plain):
-                return route.kind
-    return ".".join(parts[:depth]) or "-"
+    plain = path.partition("?")[0].partition("#")[0].strip("/")
+    for route in routes:
+        if route.fits(plain):
+            return route.kind
+    return ".".join(plain.split("/", depth)[:depth]) or "-"
 
 
 class Names:
@@ -69,32 +74,28 @@ class Names:
         """The names that differ from the log, as lines."""
         changed = [(text, name) for text, name in zip(self.found, self.names) if text != name]
         for text, name in changed[:MOST_TOLD]:
-            text = text.encode(errors="surrogateescape").decode(errors="backslashreplace")
-            yield f"{self.what} {text!r} is named {name}"
+            yield f"{self.what} {printable(text)!r} is named {name}"
         if len(changed) > MOST_TOLD:
             yield f"{len(changed) - MOST_TOLD} more {self.what}s have other names than in the log"
 
 
-def are_coarse(rows):
-    """Whether all times are whole seconds, and two requests have an equal time."""
+def place_of(row):
+    return f"{row.log}: line {row.line}"
+
+
+def spread(times):
+    """Times, of which equal ones are spread evenly over the second from them on, in their order."""
+    count, place = collections.Counter(times), collections.Counter()
+    for time in times:
+        yield time + place[time] * SECOND // count[time]
+        place[time] += 1
+
+
+def begun(rows, is_spread):
+    """The moments at which requests came, and the requests, in the order of these moments."""
     times = [row.time for row in rows]
-    return not any(time % SECOND for time in times) and len(set(times)) < len(times)
-
-
-def spread(rows):
-    """The requests of each time, spread evenly over the second from it on, in their order."""
-    count, place = collections.Counter(row.time for row in rows), collections.Counter()
-    for row in rows:
-        yield row._replace(time=row.time + place[row.time] * SECOND // count[row.time])
-        place[row.time] += 1
-
-
-def begun(rows, is_spread, time_is):
-    """The requests in the order in which they came; their times are then those moments."""
-    rows = spread(rows) if is_spread else rows
-    if time_is == "end":
-        rows = (row._replace(time=row.time - row.cost) for row in rows)
-    return sorted(rows, key=lambda it: it.time)
+    came = [time - row.before for time, row in zip(spread(times) if is_spread else times, rows)]
+    return sorted(zip(came, rows), key=lambda it: it[0])
 
 
 def means(rows):
@@ -106,19 +107,17 @@ def means(rows):
     return {kind: (2 * total + count) // (2 * count) for kind, (total, count) in sums.items()}
 
 
-def trace(rows, name, given):
-    """The lines of the trace, and the notes on its names."""
+def trace(came, name, given):
+    """The lines of the trace of requests with the moments at which they came, and the notes on its names."""
     tenants = Names("tenant", MOST_TENANTS, f"{name}: more than {MOST_TENANTS} tenants", {"-": ANONYMOUS})
     too_many = f"{name}: more than {MOST_KINDS} kinds: take less of the paths, or another column"
     kinds = Names("kind", MOST_KINDS, too_many)
-    first, mean, requests = rows[0].time, means(rows), []
-    for row in rows:
+    first, mean, requests = came[0][0], means(row for _, row in came) if given.mean else None, []
+    for moment, row in came:
         tenant, kind = tenants.add(row.user), kinds.add(row.kind)
         names = f"{tenants.names[tenant]},{kinds.names[kind]}"
-        declared = mean[row.kind] if given.mean else row.declared
-        requests.append(f"request,{row.time - first},{tenant % given.submitters},{names},{declared},{row.cost}\n")
-    if rows[-1].time - first > GREATEST_MOMENT:
-        raise Fault(f"{name}: the times are more than {GREATEST_MOMENT} microseconds apart")
+        declared = mean[row.kind] if mean else row.declared
+        requests.append(f"request,{moment - first},{tenant % given.submitters},{names},{declared},{row.cost}\n")
     if len(tenants.names) * len(kinds.names) > MOST_PAIRS:
         raise Fault(f"{name}: more than {MOST_PAIRS} pairs of a tenant and a kind")
     for user in given.weight:
