@@ -73,7 +73,7 @@ static bool is(uint32_t wanted, twodfq_reply reply) {
 // A call of each kind that is refused, while worker 0 runs a request or nothing does.
 static void refuse(twodfq *to, uint32_t tenants, bool runs) {
     want("no tenant has the number", is(TWODFQ_REFUSED_TENANT, twodfq_submit(to, 0, 0, tenants, 0, 10, 0)));
-    want("no worker has the number", is(TWODFQ_REFUSED_WORKER, twodfq_due(to, 0, WORKERS)));
+    want("no worker has the number", is(TWODFQ_REFUSED_WORKER, twodfq_foresee(to, 0, WORKERS, 0)));
     want("no weight is 0", is(TWODFQ_REFUSED_WEIGHT, twodfq_weight(to, 0, 0, 0, 0)));
     want("no pool is empty", is(TWODFQ_REFUSED_WORKERS, twodfq_workers(to, 0, 0, 0)));
     want("nothing has the number", is(TWODFQ_REFUSED_NOT_WAITING, twodfq_withdraw(to, 0, 0, 4000000000)));
@@ -92,8 +92,8 @@ static void change(twodfq *of, uint32_t tenants, uint32_t round, uint64_t moment
 
 // Looks at what is there, with a worker that runs nothing.
 static void look(twodfq *at, uint64_t moment, uint32_t worker) {
-    uint32_t due = twodfq_due(at, moment, worker).kind;
-    want("a take is foreseen", due == TWODFQ_ELIGIBLE || due == TWODFQ_EARLY || due == TWODFQ_RETIRED);
+    uint32_t kind = twodfq_foresee(at, moment, worker, 100).kind;
+    want("a take is foreseen", kind == TWODFQ_FORESEEN || kind == TWODFQ_RETIRED);
     uint64_t entries = twodfq_status(at).entries;
     want("an entry is read", twodfq_entry(at, entries - 1).kind != TWODFQ_ENTRY_NONE);
     want("no further one is there", twodfq_entry(at, entries).kind == TWODFQ_ENTRY_NONE);
