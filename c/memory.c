@@ -109,7 +109,7 @@ static void serve(twodfq *by, uint32_t tenants) {
             want("all workers are back", is(TWODFQ_ACCEPTED, twodfq_workers(by, 0, moment, WORKERS)));
             while (is(TWODFQ_RUN, twodfq_take(by, 1, moment, 0)))
                 want("it is done", is(TWODFQ_ACCEPTED, twodfq_done(by, 1, moment, 0, 1)));
-            want("nothing is foreseen", is(TWODFQ_NOTHING, twodfq_due(by, moment, 0)));
+            want("nothing is foreseen", is(TWODFQ_NOTHING, twodfq_foresee(by, moment, 0, 0)));
         }
         want("a request comes", is(TWODFQ_REQUEST, twodfq_submit(by, 0, moment, i * 7 % tenants, i % 2, 10, i)));
         if (i % 16 == 0) change(by, tenants, i / 16, moment);
