@@ -117,7 +117,8 @@ impl Sums {
     fn and(&self, end: Ended) -> Sums
         requires window { self.now.latest ≡ window_of end.moment }
         requires class { end.class < 30 }
-        ensures { (past : List Ended) → HasWindows past self.now → IsPast past end.moment → Keeps (past ++ end ∷ []) result }
+        ensures { (past : List Ended) → HasWindows past self.now → IsPast past end.moment
+            → Keeps (past ++ end ∷ []) result }
     {
         let mut sums = *self;
         let before = self.current[end.class as usize];
