@@ -24,7 +24,7 @@ use crate::table::{
     TRACE_OPTIONS,
 };
 use fq_model::config::{Estimator, Policy};
-use fq_model::limits::{GREATEST_COST, MOST_WORKERS};
+use fq_model::limits::{GREATEST_COST, TEXT_WORKERS};
 use program_model::argument::Argument;
 use program_model::command::{
     Command, GenPrint, HistoryPrint, LiveOptions, PlainCommand, ScriptPrint,
@@ -111,7 +111,7 @@ fn run_options(
     initial: Value,
     refresh: Value,
 ) -> RunOptions
-    requires workers { IsNumberFrom 1 MOST_WORKERS workers }
+    requires workers { IsNumberFrom 1 TEXT_WORKERS workers }
     requires initial { IsNumberFrom 1 GREATEST_COST initial }
     requires refresh { IsNumberFrom 0 GREATEST_COST refresh }
     ensures value { result ≡ run_options_of (workers ∷ policy ∷ estimate ∷ initial ∷ refresh ∷ []) }

@@ -4,7 +4,7 @@ use crate::options::{Absent, OptionRow, Values};
 use fq_model::config::{Estimator, Policy};
 use fq_model::limits::{
     GREATEST_BURST, GREATEST_COST, GREATEST_RATE, GREATEST_SLOT, MOST_ROWS, MOST_STATUSES,
-    MOST_TENANTS, MOST_WORKERS,
+    TEXT_TENANTS, TEXT_WORKERS,
 };
 use program_model::command::{GenPrint, HistoryPrint, ScriptPrint};
 
@@ -93,7 +93,7 @@ pub const GEN_OPTIONS: [OptionRow; 4] = [
         name: "--tenants",
         values: Values::Within {
             low: 1,
-            high: MOST_TENANTS as u64,
+            high: TEXT_TENANTS as u64,
         },
         absent: Absent::Required,
     },
@@ -167,7 +167,7 @@ const WORKERS: OptionRow = OptionRow {
     name: "--workers",
     values: Values::Within {
         low: 1,
-        high: MOST_WORKERS as u64,
+        high: TEXT_WORKERS as u64,
     },
     absent: Absent::Default("4"),
 };

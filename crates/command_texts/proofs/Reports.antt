@@ -4,9 +4,9 @@ use Rattle.std.proofs.lemmas.Bool.{false≢true, ltb-true, ltb-false, lt-ltb}
 use Rattle.fluid_reference.proofs.Lists.{list_length}
 use Rattle.fq_model.specs.declared.config.Config.{Config}
 use Rattle.fq_model.specs.declared.event.Entry.{Entry}
-use Rattle.fq_model.specs.declared.limits.TheConstants.{MOST_ENTRIES, MOST_TENANTS, MOST_ROWS}
+use Rattle.fq_model.specs.declared.limits.TheConstants.{MOST_ENTRIES, TEXT_TENANTS, MOST_ROWS}
 use Rattle.fq_model.specs.History.{History, history_of}
-use Rattle.fq_model.specs.Limits.{HasShortHistory, IsWithin}
+use Rattle.fq_model.specs.Limits.{HasTextLimits, IsWithin}
 use Rattle.fq_model.specs.Report.{LagReport, lag_report, slot_for, tenant_lag}
 use Rattle.fq_model.specs.Rules.{IsLegal}
 use Rattle.program_model.specs.declared.command.GenPrint.{GenPrint}
@@ -74,9 +74,9 @@ few_entries needed s fault over = go (has_many_entries needed) refl
     go true e = let clash : Ok s ≡ Err fault = over (ltb-true MOST_ENTRIES needed e) in absurd (cc)
     go false e = e
 
--- and may be kept whole
-pub short_run : (T : Trace) (O : RunOptions) (C : Config) → C ≡ run_config T O → has_many_entries (needed_entries T.rows O.refresh) ≡ false → HasShortHistory C
-short_run T O C same few = subst HasShortHistory (sym same) (omega (arith, ltb-false MOST_ENTRIES (needed_entries T.rows O.refresh) few))
+-- and it keeps the limits of texts
+pub run_limits : (T : Trace) (O : RunOptions) (C : Config) → C ≡ run_config T O → HasTextLimits C
+run_limits T O C same = ap (λ (D : Config). D.limits) same
 
 -- an answer from a history is an answer from the history that was asked for
 pub of_history : (IsOne : History → Type 0) (needed : ℕ) (print : HistoryPrint) (slot : ℕ) (C D : Config) (tenants kinds : List (List ℕ)) (past : List Entry) (made : Result Output Stop)
@@ -103,7 +103,7 @@ else_made Else needed made few x = makes_as (IsAnswerUnless (has_many_entries ne
     go false e answer y = y
 
 -- the summary of a generated trace: its history has few enough entries
-pub summary_made : (seed tenants requests : ℕ) (what : GenPrint) (T : Trace) (made : Result Output Stop) → IsWithin 1 MOST_TENANTS tenants → requests ≤ MOST_ROWS → what ≡ gen.Summary
+pub summary_made : (seed tenants requests : ℕ) (what : GenPrint) (T : Trace) (made : Result Output Stop) → IsWithin 1 TEXT_TENANTS tenants → requests ≤ MOST_ROWS → what ≡ gen.Summary
     → T ≡ generated_trace seed tenants requests → Makes (IsSimulationAnswer default_run_options 0 prints.Summary T) made → Makes (IsGenAnswer seed tenants requests what) made
 summary_made seed tenants requests what T made some few is same x =
     let G = generated_trace seed tenants requests in

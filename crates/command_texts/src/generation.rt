@@ -1,6 +1,6 @@
 //! `gen`: a generated trace, or the summary of its simulated history.
 ghost use Rattle.std.specs.Prelude.{◌≤◌};
-ghost use Rattle.fq_model.specs.declared.limits.TheConstants.{MOST_TENANTS, MOST_ROWS};
+ghost use Rattle.fq_model.specs.declared.limits.TheConstants.{TEXT_TENANTS, MOST_ROWS};
 ghost use Rattle.fq_model.specs.Limits.{IsWithin};
 ghost use Rattle.program_model.specs.GenCommand.{IsGenAnswer};
 ghost use Rattle.command_texts.specs.Making.{Makes};
@@ -32,7 +32,7 @@ pub fn answer(
     requests: u32,
     what: GenPrint,
 ) -> Result<Output, Stop>
-    requires tenants { IsWithin 1 MOST_TENANTS tenants }
+    requires tenants { IsWithin 1 TEXT_TENANTS tenants }
     requires requests { requests ≤ MOST_ROWS }
     ensures { Makes (IsGenAnswer seed tenants requests what) result }
 {

@@ -2,7 +2,7 @@
 ghost use Rattle.std.specs.Prelude.{◌≡◌, ◌≤◌, None, length, string_bytes, MatchResult, IfOk};
 ghost use Rattle.fq_model.specs.declared.limits.TheConstants.{GREATEST_SLOT};
 ghost use Rattle.fq_model.specs.History.{history_of};
-ghost use Rattle.fq_model.specs.Limits.{HasShortHistory};
+ghost use Rattle.fq_model.specs.Limits.{HasTextLimits};
 ghost use Rattle.fq_model.specs.Report.{unfinished};
 ghost use Rattle.fq_model.specs.Rules.{IsLegal};
 ghost use Rattle.program_model.specs.HistoryAnswer.{history_answer, cells_answer, cells_text};
@@ -36,7 +36,7 @@ pub fn last_history(
     kinds: &Kinds,
 ) -> Result<Output, Stop>
     requires slot { slot ≤ GREATEST_SLOT }
-    requires room { HasShortHistory history.config }
+    requires text { HasTextLimits history.config }
     requires names { length tenants.now ≡ length history.config.weights }
     requires done { unfinished (history_of history.past) ≡ None }
     ensures { Makes (λ answer. answer ≡ history_answer what slot history.config
@@ -79,7 +79,7 @@ fn journal(
 
 fn reported(alloc: Global, slot: u64, history: History, tenants: &Tenants) -> Result<Vec<u8>, Stop>
     requires slot { slot ≤ GREATEST_SLOT }
-    requires room { HasShortHistory history.config }
+    requires text { HasTextLimits history.config }
     requires names { length tenants.now ≡ length history.config.weights }
     requires done { unfinished (history_of history.past) ≡ None }
     ensures { MatchResult result
@@ -95,7 +95,7 @@ fn reported(alloc: Global, slot: u64, history: History, tenants: &Tenants) -> Re
 // The report by the slot that is asked for, or by the automatic one.
 fn made_report(alloc: Global, slot: u64, history: History) -> Result<Report, Stop>
     requires slot { slot ≤ GREATEST_SLOT }
-    requires room { HasShortHistory history.config }
+    requires text { HasTextLimits history.config }
     requires done { unfinished (history_of history.past) ≡ None }
     ensures legal { IsLegal history.config (history_of history.past) }
     ensures report { MatchResult result

@@ -6,7 +6,7 @@ use Rattle.fq_model.specs.declared.config.Estimator.{Estimator}
 use Rattle.fq_model.specs.declared.config.Policy.{Policy}
 use Rattle.fq_model.specs.declared.limits.TheConstants.{MOST_ENTRIES}
 use Rattle.fq_model.specs.History.{History}
-use Rattle.fq_model.specs.Limits.{HasShortHistory}
+use Rattle.fq_model.specs.Limits.{HasTextLimits}
 use Rattle.fq_model.specs.Report.{slots_of, are_cells_few, unfinished}
 use Rattle.fq_model.specs.Rows.{first_true}
 use Rattle.fq_model.specs.Rules.{IsLegal}
@@ -35,9 +35,9 @@ module _ (T : Trace) (o : CompareOptions) (pair : Policy × Estimator) (H : Hist
   pub made_of : (C : Config) (made : Result CompareRow RowFault) → C ≡ run_config T (run_options o pair) → IsMadeOf o.slot pair C H made → IsMade T o pair made
   made_of C made same x = made_here made (subst (λ D. IsMadeOf o.slot pair D H made) same x)
 
--- a simulated history that has few enough entries may be kept whole
-pub short_run : (T : Trace) (O : RunOptions) (C : Config) → C ≡ run_config T O → needed_entries T.rows O.refresh ≤ MOST_ENTRIES → HasShortHistory C
-short_run T O C same few = subst HasShortHistory (sym same) (omega (arith, few))
+-- a simulated history keeps the limits of texts
+pub run_limits : (T : Trace) (O : RunOptions) (C : Config) → C ≡ run_config T O → HasTextLimits C
+run_limits T O C same = ap (λ (D : Config). D.limits) same
 
 -- why there is no report, where all requests are done, is how many slots it would have
 long_parts : (C : Config) (H : History) (Q slots tenants : ℕ) → unfinished H ≡ None → report_refusal C H Q ≡ Some (faults.TooLong slots tenants) → slots ≡ slots_of H Q

@@ -2,7 +2,7 @@
 ghost use Rattle.std.specs.Prelude.{◌≡◌, ◌≤◌, ◌+◌, ◌*◌, length, None, IfOk};
 ghost use Rattle.std.specs.List.{AllZip};
 ghost use Rattle.fq_model.specs.History.{history_of};
-ghost use Rattle.fq_model.specs.Limits.{HasShortHistory};
+ghost use Rattle.fq_model.specs.Limits.{HasTextLimits};
 ghost use Rattle.fq_model.specs.Report.{unfinished};
 ghost use Rattle.fq_model.specs.declared.limits.TheConstants.{MOST_ENTRIES, GREATEST_SLOT};
 ghost use Rattle.vt_fixed.specs.declared.limits.TheConstants.{GREATEST_MOMENT};
@@ -113,7 +113,7 @@ fn row_of_history(
     asked: u64,
 ) -> Result<CompareRow, RowFault>
     requires slot { asked ≤ GREATEST_SLOT }
-    requires room { HasShortHistory history.config }
+    requires text { HasTextLimits history.config }
     requires done { unfinished (history_of history.past) ≡ None }
     ensures { IsMadeOf asked (policy, estimate) history.config (history_of history.past) result }
 {

@@ -12,6 +12,7 @@ use tag_rules::chooser::Chooser;
 use tag_rules::foresees::{ForeseenChoice, Foresees, foreseen_in};
 use tag_rules::head_keys::Keys;
 use tag_rules::turn::Turn;
+use winner_tree::tree::MOST_LEAVES;
 use winner_tree::Tree;
 
 /// Keeps the keys by tenant, and two trees a worker. A change of a tenant's keys costs a note a worker; a choice costs
@@ -133,7 +134,7 @@ impl IndexChooser {
 // Trees for each of `workers` workers, with `tenants` tenants as leaves.
 fn open_trees(alloc: Global, workers: u32, tenants: u32) -> Result<Vec<WorkerTrees>, AllocError>
     requires some { 1 ≤ tenants }
-    requires few { tenants ≤ 4096 }
+    requires few { tenants ≤ MOST_LEAVES }
     ensures { IfOk result (λ trees. trees.items ≡ replicate workers (empty_trees tenants)) }
 {
     let mut trees = Vec::with_capacity(alloc, workers as usize)?;

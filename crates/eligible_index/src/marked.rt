@@ -4,6 +4,7 @@ ghost use Rattle.winner_tree.specs.Order.{HasNoKey, IsFirst};
 
 use std::alloc::{AllocError, Global};
 use std::marker::Model;
+use winner_tree::tree::MOST_LEAVES;
 use winner_tree::{Key, Tree};
 
 /// A tree of winners, and beside it which of its leaves have a key. The marks are small and lie close together: where a
@@ -29,7 +30,7 @@ impl Marked {
     /// A tree of `leaves` leaves, none of which has a key.
     pub fn open(alloc: Global, leaves: u32) -> Result<Marked, AllocError>
         requires some { 1 ≤ leaves }
-        requires few { leaves ≤ 4096 }
+        requires few { leaves ≤ MOST_LEAVES }
         ensures { IfOk result (λ m. m ≡ replicate leaves None) }
     {
         let tree = Tree::open(alloc, leaves)?;

@@ -9,6 +9,7 @@ use std::alloc::{AllocError, Global};
 use std::marker::Model;
 use tag_rules::head_keys::Keys;
 use tag_rules::turn::Turn;
+use winner_tree::tree::MOST_LEAVES;
 use winner_tree::Tree;
 
 /// The trees of one worker, whose leaves are the tenants, and the tenants that are noted: those whose keys have changed
@@ -36,7 +37,7 @@ impl WorkerTrees {
     /// Trees for `tenants` tenants, none of which has a key or is noted. All memory is taken here.
     pub fn open(alloc: Global, tenants: u32) -> Result<WorkerTrees, AllocError>
         requires some { 1 ≤ tenants }
-        requires few { tenants ≤ 4096 }
+        requires few { tenants ≤ MOST_LEAVES }
         ensures { IfOk result (λ w. w ≡ empty_trees tenants) }
     {
         Ok(WorkerTrees {

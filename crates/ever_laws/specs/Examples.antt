@@ -3,6 +3,7 @@
 -- request of 9 is withdrawn.
 use Rattle.std.specs.Prelude.{[], ◌∷◌}
 use Rattle.fq_model.specs.declared.config.Config.{Config}
+use Rattle.fq_model.specs.declared.limits.Limits.TheVariants.{Text}
 use Rattle.fq_model.specs.declared.config.Policy.TheVariants.{TwoDfqPlus}
 use Rattle.fq_model.specs.declared.config.Estimator.TheVariants.{Declared}
 use Rattle.fq_model.specs.declared.event.Act.TheVariants.{Submit, Take, Done, Withdraw}
@@ -14,6 +15,7 @@ use Rattle.worked_histories.specs.Paced.{config_for}
 
 unfoldable pub pair_config : Config
 pair_config = record {
+  limits = Text;
   workers = 2;
   weights = 1 ∷ 1 ∷ 1 ∷ [];
   kinds = 1;
@@ -77,6 +79,7 @@ lead_history =
 
 unfoldable pub three_config : Config
 three_config = record {
+  limits = Text;
   workers = 3;
   weights = 1 ∷ 1 ∷ 1 ∷ [];
   kinds = 1;

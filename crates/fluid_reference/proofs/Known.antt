@@ -13,7 +13,7 @@ use Rattle.fq_model.specs.declared.level.Backlog.{Backlog}
 use Rattle.fq_model.specs.Sums.{list_below}
 use Rattle.fq_model.specs.History.{History, weight_at, pool_at}
 use Rattle.fq_model.specs.declared.level.Level.{Level}
-use Rattle.fq_model.specs.Limits.{IsWeight}
+use Rattle.fq_model.specs.Limits.{IsTextWeight}
 use Rattle.fq_model.specs.Level.{gift, level, IsLevel}
 use Rattle.water_level.specs.Backlogs.{IsBacklog}
 use Rattle.water_level.proofs.TheOne.{the_one}
@@ -91,7 +91,7 @@ served_low C n rows H Q t (suc k) a few = omega (arith, within C rows H Q t k, c
 
 -- ---- backlogs are in their limits
 
-pub wants_in_range : (costs served weights : List ℕ) → ((t : ℕ) → t < length costs → number_at costs t ≤ 2000000000000000) → length weights ≡ length costs → All IsWeight weights → All IsBacklog (wants_of costs served weights)
+pub wants_in_range : (costs served weights : List ℕ) → ((t : ℕ) → t < length costs → number_at costs t ≤ 2000000000000000) → length weights ≡ length costs → All IsTextWeight weights → All IsBacklog (wants_of costs served weights)
 wants_in_range costs served weights low same heavy k d l =
     let here : k < length costs = omega (arith, l, list_length (want_of costs served weights) (length costs)) in
     subst IsBacklog (sym (list_at (want_of costs served weights) (length costs) k d here)) (record {

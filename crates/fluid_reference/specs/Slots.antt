@@ -1,8 +1,8 @@
 -- Requests and changes in their limits, costs and settings at a slot's start, and the service by the levels of slots.
 use Rattle.std.specs.Prelude.{ℕ, zero, suc, ◌+◌, ◌-◌, ◌*◌, ◌<◌, ◌≤◌, ◌≡◌, ◌==◌, nat_lt, Bool, if◌then◌else◌, List, [], filter, length, All, take, sum_by, count_by, slice_index_or}
 use Rattle.std.specs.List.Sorted.{IsNonDecreasingBy}
-use Rattle.vt_fixed.specs.declared.limits.TheConstants.{GREATEST_COST, MOST_WORKERS}
-use Rattle.fq_model.specs.declared.limits.TheConstants.{MOST_CELLS, MOST_TENANTS, MOST_FLUID_ROWS, GREATEST_BACKLOG}
+use Rattle.vt_fixed.specs.declared.limits.TheConstants.{GREATEST_COST}
+use Rattle.fq_model.specs.declared.limits.TheConstants.{TEXT_WORKERS, MOST_CELLS, TEXT_TENANTS, MOST_FLUID_ROWS, GREATEST_BACKLOG}
 use Rattle.fq_model.specs.declared.config.Config.{Config}
 use Rattle.fq_model.specs.declared.fluid.FluidRow.{FluidRow}
 use Rattle.fq_model.specs.declared.fluid.Change.{Change}
@@ -13,7 +13,7 @@ use Rattle.fq_model.specs.declared.level.Level.{Level}
 use Rattle.fq_model.specs.declared.level.Level.TheVariants as levels
 use Rattle.fluid_reference.specs.declared.fault.FluidFault.{FluidFault}
 use Rattle.fluid_reference.specs.declared.fault.FluidFault.TheVariants.{TooLong}
-use Rattle.fq_model.specs.Limits.{IsWeight, IsWithin}
+use Rattle.fq_model.specs.Limits.{IsTextWeight, IsWithin}
 use Rattle.fq_model.specs.History.{History, weight_at, pool_at}
 use Rattle.fq_model.specs.Level.{gift, level}
 use Rattle.fq_model.specs.Sums.{list_below}
@@ -26,8 +26,8 @@ pub record IsRowOf (tenants : ℕ) (row : FluidRow) : Type 0 where
 
 -- so are the numbers that a change sets
 abbrev pub SetsInRange : ℕ → What → Type 0
-SetsInRange tenants (changed.Weight tenant weight) = (tenant < tenants) × IsWeight weight
-SetsInRange tenants (changed.Workers count) = IsWithin 1 MOST_WORKERS count
+SetsInRange tenants (changed.Weight tenant weight) = (tenant < tenants) × IsTextWeight weight
+SetsInRange tenants (changed.Workers count) = IsWithin 1 TEXT_WORKERS count
 
 abbrev pub IsChangeOf : ℕ → Change → Type 0
 IsChangeOf tenants change = SetsInRange tenants change.what
@@ -70,12 +70,12 @@ AreBacklogged costs served tenants =
 
 -- costs, services and weights of the tenants are in their limits
 pub record CanShare (costs served weights : List ℕ) : Type 0 where
-  pub few : length costs ≤ MOST_TENANTS
+  pub few : length costs ≤ TEXT_TENANTS
   pub served_len : length served ≡ length costs
   pub weights_len : length weights ≡ length costs
   pub costs_low : (t : ℕ) → t < length costs → number_at costs t ≤ GREATEST_BACKLOG
   pub served_low : (t : ℕ) → t < length costs → number_at served t ≤ GREATEST_BACKLOG
-  pub in_range : All IsWeight weights
+  pub in_range : All IsTextWeight weights
 
 -- the weights and the number of workers are those after these changes
 pub record SettingIs (C : Config) (changes : List Change) (weights : List ℕ) (workers : ℕ) : Type 0 where
@@ -137,7 +137,7 @@ column_of table t = list_below (λ k. number_at (slot_at table k) t) (length tab
 -- the tenant whose weight a change sets; a number that no tenant has, where it sets none
 abbrev pub owner_of_set : What → ℕ
 owner_of_set (changed.Weight tenant weight) = tenant
-owner_of_set (changed.Workers count) = MOST_TENANTS
+owner_of_set (changed.Workers count) = TEXT_TENANTS
 
 abbrev pub owner_of : Change → ℕ
 owner_of change = owner_of_set change.what

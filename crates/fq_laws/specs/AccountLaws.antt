@@ -125,7 +125,7 @@ TimeRises = (C : Config) (P : History) → TimeKeepsUp C P
 abbrev pub TimeIsCapped : Type 0
 TimeIsCapped = (C : Config) (P : History) (m : ℕ) → C.policy ≡ TwoDfqPlus → virtual_time C P m ≤ (pace C P).reached
 
--- under the other policies it makes at most 64 units in a microsecond
+-- under the other policies it makes in a microsecond at most a unit for each of the most workers
 abbrev pub TimeLimit : Type 0
 TimeLimit =
     (C : Config) (P : History) (m : ℕ) → C.policy ≢ TwoDfqPlus → InLimits C → IsLegal C P → last_moment P ≤ m

@@ -11,8 +11,8 @@ use Rattle.fq_model.specs.declared.event.Cause.{Cause}
 use Rattle.fq_model.specs.declared.event.Cause.TheVariants as cause
 use Rattle.fq_model.specs.History.{History, Request, request_at, is_waiting, waiting, running, running_on, submits, is_closed, Runs, last_use, pool_at}
 pub use Rattle.fq_model.specs.Rows.{first_true}
-use Rattle.fq_model.specs.Limits.{IsWithin, IsWeight, is_outside}
-use Rattle.vt_fixed.specs.declared.limits.TheConstants.{GREATEST_COST, GREATEST_MOMENT, GREATEST_WEIGHT}
+use Rattle.fq_model.specs.Limits.{IsWithin, is_outside, greatest_weight}
+use Rattle.vt_fixed.specs.declared.limits.TheConstants.{GREATEST_COST, GREATEST_MOMENT}
 use Rattle.fq_model.specs.Time.{last_moment, effective_moment}
 use Rattle.fq_model.specs.Charge.{request_estimate}
 use Rattle.fq_model.specs.Keys.{HeadKeys, IsChoiceAt}
@@ -65,7 +65,7 @@ pub record FitsUse (P : History) (worker request used : ℕ) : Type 0 where
 -- a Weight that fits
 pub record FitsWeight (C : Config) (P : History) (tenant weight : ℕ) : Type 0 where
   pub tenant_known : tenant < length C.weights
-  pub weight_in_range : IsWeight weight
+  pub weight_in_range : IsWithin 1 (greatest_weight C.limits) weight
   pub room : HasRoom C P 2
 
 -- a Workers that fits: the configuration's number is the most
@@ -137,7 +137,7 @@ close_refusal P = first_true ((is_closed P, cause.Closed) ∷ [])
 abbrev pub weight_refusal : Config → History → ℕ → ℕ → Option Cause
 weight_refusal C P tenant weight = first_true
     ((nat_le (length C.weights) tenant, cause.Tenant tenant)
-    ∷ (is_outside 1 GREATEST_WEIGHT weight, cause.Weight weight)
+    ∷ (is_outside 1 (greatest_weight C.limits) weight, cause.Weight weight)
     ∷ (nat_lt C.entries (needed_room P 2), cause.Full C.entries)
     ∷ [])
 

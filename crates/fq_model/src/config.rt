@@ -2,19 +2,15 @@
 ghost use Rattle.std.specs.Prelude.{◌≡◌, ◌<◌, ◌≤◌, length, IfOk, IfErr, IfNone, All, Some, None, slice_index};
 ghost use Rattle.fq_model.specs.Limits.{
   InLimits,
-  HasShortHistory,
-  IsWeight,
+  IsWithinOwn,
+  IsWithin,
+  greatest_weight,
   is_outside,
   bad_weight,
-  fault_by,
   config_fault,
-  long_config_fault,
 };
 
-use crate::limits::{
-    GREATEST_COST, GREATEST_WEIGHT, LEAST_ENTRIES, MOST_ENTRIES, MOST_KINDS, MOST_LONG_ENTRIES,
-    MOST_PAIRS, MOST_REQUESTS, MOST_TENANTS, MOST_WORKERS,
-};
+use crate::limits::{GREATEST_COST, GREATEST_WEIGHT, LEAST_ENTRIES, Limits, MOST_KINDS};
 use crate::messages::{out_of_range, two_numbers};
 use std::error::Error;
 use std::fmt;
@@ -90,15 +86,17 @@ impl Weights {
 /// A configuration that nobody has looked at: `check` says whether its numbers are in their limits.
 #[derive(Drop)]
 pub struct Config {
-    /// 1 to 64.
+    /// Which limits the other numbers keep; the ranges below are the widest.
+    pub limits: Limits,
+    /// 1 to 4,096.
     pub workers: u32,
-    /// One weight a tenant, each 1 to 1,000; 1 to 4,096 tenants.
+    /// One weight a tenant, each 1 to 100,000; 1 to 65,536 tenants.
     pub weights: Weights,
-    /// 1 to 64; tenants times kinds is at most 65,536.
+    /// 1 to 64; tenants times kinds is at most 1,048,576.
     pub kinds: u32,
-    /// How many entries the history may have: 4 to 4,194,304 where it is kept whole, else up to 4,000,000,000.
+    /// The number of entries that the history may have: 4 to 4,000,000,000.
     pub entries: u32,
-    /// How many requests may wait at once: 1 to 262,144.
+    /// The number of requests that may wait at once: 1 to 1,048,576.
     pub requests: u32,
     pub policy: Policy,
     pub estimate: Estimator,
@@ -106,25 +104,24 @@ pub struct Config {
     pub initial: u64,
 }
 
-/// The first number of a configuration that is out of its limit, in the order of these variants.
+/// The first number of a configuration that is out of its limit, in the order of these variants. `most` is the greatest
+/// number by the limits that the configuration keeps.
 #[derive(Clone, Copy, Debug, PartialEq, Eq)]
 pub enum ConfigFault {
-    /// This number of workers; there may be 1 to 64.
-    Workers(u32),
-    /// This number of tenants; there may be 1 to 4,096.
-    Tenants(u64),
-    /// The least tenant whose weight is not from 1 to 1,000.
-    Weight(u32),
+    /// This number of workers; there may be 1 to `most`.
+    Workers { count: u32, most: u32 },
+    /// This number of tenants; there may be 1 to `most`.
+    Tenants { count: u64, most: u32 },
+    /// The least tenant whose weight is not from 1 to `most`.
+    Weight { tenant: u32, most: u32 },
     /// This number of kinds; there may be 1 to 64.
     Kinds(u32),
-    /// This number of pairs of a tenant and a kind; there may be up to 65,536.
-    Pairs(u64),
-    /// This number of entries; there may be 4 to 4,194,304.
-    Entries(u32),
-    /// This number of entries of a long history; there may be 4 to 4,000,000,000.
-    LongEntries(u32),
-    /// This number of requests that may wait; there may be 1 to 262,144.
-    Requests(u32),
+    /// This number of pairs of a tenant and a kind; there may be up to `most`.
+    Pairs { count: u64, most: u64 },
+    /// This number of entries; there may be 4 to `most`.
+    Entries { count: u32, most: u32 },
+    /// This number of requests that may wait; there may be 1 to `most`.
+    Requests { count: u32, most: u32 },
     /// This initial value, in microseconds; it may be 1 to 10^9.
     Initial(u64),
 }
@@ -132,50 +129,33 @@ pub enum ConfigFault {
 impl fmt::Display for ConfigFault {
     fn fmt<W: fmt::Write>(&self, f: &mut fmt::Formatter<W>) -> fmt::Result {
         match *self {
-            ConfigFault::Workers(n) => out_of_range(f, n as u64, "workers", 1, MOST_WORKERS as u64),
-            ConfigFault::Tenants(n) => out_of_range(f, n, "tenants", 1, MOST_TENANTS as u64),
-            ConfigFault::Weight(t) => two_numbers(
+            ConfigFault::Workers { count, most } => {
+                out_of_range(f, count as u64, "workers", 1, most as u64)
+            }
+            ConfigFault::Tenants { count, most } => {
+                out_of_range(f, count, "tenants", 1, most as u64)
+            }
+            ConfigFault::Weight { tenant, most } => two_numbers(
                 f,
                 "the weight of tenant ",
-                t as u64,
+                tenant as u64,
                 " is not from 1 to ",
-                GREATEST_WEIGHT as u64,
+                most as u64,
                 "",
             ),
             ConfigFault::Kinds(n) => out_of_range(f, n as u64, "kinds", 1, MOST_KINDS as u64),
-            ConfigFault::Pairs(n) => out_of_range(
+            ConfigFault::Pairs { count, most } => {
+                out_of_range(f, count, "pairs of a tenant and a kind", 1, most)
+            }
+            ConfigFault::Entries { count, most } => out_of_range(
                 f,
-                n,
-                "pairs of a tenant and a kind",
-                1,
-                MOST_PAIRS,
+                count as u64,
+                "entries",
+                LEAST_ENTRIES as u64,
+                most as u64,
             ),
-            ConfigFault::Entries(n) => {
-                out_of_range(
-                    f,
-                    n as u64,
-                    "entries",
-                    LEAST_ENTRIES as u64,
-                    MOST_ENTRIES as u64,
-                )
-            }
-            ConfigFault::LongEntries(n) => {
-                out_of_range(
-                    f,
-                    n as u64,
-                    "entries",
-                    LEAST_ENTRIES as u64,
-                    MOST_LONG_ENTRIES as u64,
-                )
-            }
-            ConfigFault::Requests(n) => {
-                out_of_range(
-                    f,
-                    n as u64,
-                    "requests that may wait",
-                    1,
-                    MOST_REQUESTS as u64,
-                )
+            ConfigFault::Requests { count, most } => {
+                out_of_range(f, count as u64, "requests that may wait", 1, most as u64)
             }
             ConfigFault::Initial(n) => {
                 out_of_range(f, n, "microseconds as the initial value", 1, GREATEST_COST)
@@ -186,7 +166,7 @@ impl fmt::Display for ConfigFault {
 
 impl Error for ConfigFault {}
 
-/// A configuration whose numbers are in their limits. Its history may be long, unless `Config::check` made it.
+/// A configuration whose numbers are in their limits.
 #[derive(Drop)]
 pub struct Checked {
     config: Config,
@@ -204,7 +184,15 @@ impl Model for Checked {
 }
 
 impl Checked {
-    /// 1 to 64.
+    /// Which limits the numbers keep.
+    pub fn limits(&self) -> Limits
+        ensures value { result ≡ self.now.limits }
+        ensures own { IsWithinOwn self.now }
+    {
+        self.config.limits
+    }
+
+    /// 1 to 4,096.
     pub fn workers(&self) -> u32
         ensures value { result ≡ self.now.workers }
         ensures limits { InLimits self.now }
@@ -212,7 +200,7 @@ impl Checked {
         self.config.workers
     }
 
-    /// 1 to 4,096.
+    /// 1 to 65,536.
     pub fn tenants(&self) -> u32
         ensures value { result ≡ length self.now.weights }
         ensures limits { InLimits self.now }
@@ -220,7 +208,7 @@ impl Checked {
         self.config.weights.as_slice().len() as u32
     }
 
-    /// 1 to 1,000.
+    /// 1 to 100,000.
     pub fn weight(&self, t: u32) -> u32
         requires { t < length self.now.weights }
         ensures value { result ≡ slice_index self.now.weights t }
@@ -254,7 +242,7 @@ impl Checked {
         self.config.entries
     }
 
-    /// 1 to 262,144.
+    /// 1 to 1,048,576.
     pub fn requests(&self) -> u32
         ensures value { result ≡ self.now.requests }
         ensures limits { InLimits self.now }
@@ -293,59 +281,61 @@ impl Config {
         ensures ok { IfOk result (λ c. c ≡ self) }
         ensures sound { IfOk result (λ _. config_fault self ≡ None) }
         ensures limits { IfOk result (λ _. InLimits self) }
-        ensures short { IfOk result (λ _. HasShortHistory self) }
         ensures fault { IfErr result (λ f. config_fault self ≡ Some f) }
     {
-        match self.fault_by(MOST_ENTRIES, ConfigFault::Entries(self.entries)) {
+        match self.first_fault() {
             Some(fault) => Err(fault),
             None => Ok(Checked { config: self }),
         }
     }
 
-    /// As `check`, for a scheduler that keeps the last of its entries alone: there may be 4 to 4,000,000,000. Takes no
-    /// memory.
-    pub fn check_long(self) -> Result<Checked, ConfigFault>
-        ensures ok { IfOk result (λ c. c ≡ self) }
-        ensures sound { IfOk result (λ _. long_config_fault self ≡ None) }
-        ensures limits { IfOk result (λ _. InLimits self) }
-        ensures fault { IfErr result (λ f. long_config_fault self ≡ Some f) }
-    {
-        match self.fault_by(MOST_LONG_ENTRIES, ConfigFault::LongEntries(self.entries)) {
-            Some(fault) => Err(fault),
-            None => Ok(Checked { config: self }),
-        }
-    }
-
-    // The first number that is out of its limit, where there may be `most` entries at most, and `many` is the fault of
-    // any other number of them.
-    fn fault_by(&self, most: u32, many: ConfigFault) -> Option<ConfigFault>
-        requires { most ≤ MOST_LONG_ENTRIES }
-        ensures first { result ≡ fault_by most many self.now }
+    // The first number that is out of its limit.
+    fn first_fault(&self) -> Option<ConfigFault>
+        ensures first { result ≡ config_fault self.now }
         ensures limits { IfNone result (InLimits self.now) }
-        ensures entries { IfNone result (self.now.entries ≤ most) }
     {
+        let limits = self.limits;
         let tenants = self.weights.as_slice().len();
-        if is_outside(1, MOST_WORKERS, self.workers) {
-            return Some(ConfigFault::Workers(self.workers));
+        if is_outside(1, limits.most_workers(), self.workers) {
+            return Some(ConfigFault::Workers {
+                count: self.workers,
+                most: limits.most_workers(),
+            });
         }
-        if tenants < 1 || tenants > MOST_TENANTS as usize {
-            return Some(ConfigFault::Tenants(tenants as u64));
+        if tenants < 1 || tenants > limits.most_tenants() as usize {
+            return Some(ConfigFault::Tenants {
+                count: tenants as u64,
+                most: limits.most_tenants(),
+            });
         }
-        if let Some(t) = bad_weight(self.weights.as_slice()) {
-            return Some(ConfigFault::Weight(t as u32));
+        let most = limits.greatest_weight();
+        if let Some(tenant) = bad_weight(self.weights.as_slice(), most) {
+            return Some(ConfigFault::Weight {
+                tenant: tenant as u32,
+                most,
+            });
         }
         if is_outside(1, MOST_KINDS, self.kinds) {
             return Some(ConfigFault::Kinds(self.kinds));
         }
-        let pairs = tenants as u64 * self.kinds as u64;
-        if pairs > MOST_PAIRS {
-            return Some(ConfigFault::Pairs(pairs));
+        let count = tenants as u64 * self.kinds as u64;
+        if count > limits.most_pairs() {
+            return Some(ConfigFault::Pairs {
+                count,
+                most: limits.most_pairs(),
+            });
         }
-        if is_outside(LEAST_ENTRIES, most, self.entries) {
-            return Some(many);
+        if is_outside(LEAST_ENTRIES, limits.most_entries(), self.entries) {
+            return Some(ConfigFault::Entries {
+                count: self.entries,
+                most: limits.most_entries(),
+            });
         }
-        if is_outside(1, MOST_REQUESTS, self.requests) {
-            return Some(ConfigFault::Requests(self.requests));
+        if is_outside(1, limits.most_requests(), self.requests) {
+            return Some(ConfigFault::Requests {
+                count: self.requests,
+                most: limits.most_requests(),
+            });
         }
         if self.initial < 1 || self.initial > GREATEST_COST {
             return Some(ConfigFault::Initial(self.initial));
@@ -360,12 +350,10 @@ fn is_outside(low: u32, high: u32, n: u32) -> bool
     n < low || n > high
 }
 
-// The least tenant whose weight is out of its limit.
-fn bad_weight(weights: &[u32]) -> Option<usize>
-    ensures place { result ≡ bad_weight weights.now }
-    ensures none { IfNone result (All IsWeight weights.now) }
+// The least tenant whose weight is not from 1 to the greatest.
+fn bad_weight(weights: &[u32], greatest: u32) -> Option<usize>
+    ensures place { result ≡ bad_weight greatest weights.now }
+    ensures none { IfNone result (All (IsWithin 1 greatest) weights.now) }
 {
-    weights
-        .iter()
-        .position(|w| is_outside(1, GREATEST_WEIGHT, *w))
+    weights.iter().position(|w| is_outside(1, greatest, *w))
 }

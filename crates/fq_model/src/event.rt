@@ -1,6 +1,6 @@
 //! Entries of a history, calls and replies, and the foreseen answer to a take.
 
-use crate::limits::{GREATEST_COST, GREATEST_WEIGHT};
+use crate::limits::GREATEST_COST;
 use crate::messages::{numbered, plain, two_numbers};
 use std::error::Error;
 use std::fmt;
@@ -82,7 +82,7 @@ pub enum Cause {
     NotRunning,
     /// The use or cost `given` is less than `last`, the greatest use reported so far.
     Falling { last: u64, given: u64 },
-    /// A weight that is out of its range.
+    /// A weight that is 0, or above the greatest by the limits of the configuration.
     Weight(u32),
     /// A number of workers that is 0, or more than the scheduler was opened with.
     Workers(u32),
@@ -122,13 +122,11 @@ impl fmt::Display for Cause {
                 last,
                 " was reported",
             ),
-            Cause::Weight(w) => two_numbers(
+            Cause::Weight(w) => numbered(
                 f,
                 "a weight of ",
                 w as u64,
-                ", and it may be 1 to ",
-                GREATEST_WEIGHT as u64,
-                "",
+                ", and it may be 1 to the greatest of the configuration's limits",
             ),
             Cause::Workers(n) => numbered(
                 f,

@@ -1,4 +1,6 @@
 //! The limits of all numbers. Those that virtual time is reckoned from stand beside its formulas.
+ghost use Rattle.std.specs.Prelude.{◌≡◌};
+ghost use Rattle.fq_model.specs.Limits.{most_workers, most_tenants, greatest_weight, most_pairs, most_entries, most_requests};
 
 pub use vt_fixed::limits::{
     GREATEST_ACTIVE_WEIGHT, GREATEST_COST, GREATEST_LENGTH, GREATEST_MOMENT, GREATEST_WEIGHT,
@@ -6,25 +8,40 @@ pub use vt_fixed::limits::{
 };
 
 /// The most tenants; the fewest is 1.
-pub const MOST_TENANTS: u32 = 4096;
+pub const MOST_TENANTS: u32 = 65536;
 
 /// The most kinds of requests; the fewest is 1.
 pub const MOST_KINDS: u32 = 64;
 
 /// The most pairs of a tenant and a kind.
-pub const MOST_PAIRS: u64 = 65536;
+pub const MOST_PAIRS: u64 = 1048576;
 
 /// The fewest entries that a history may be given room for: one request's Submit, Take and Done, and the Close.
 pub const LEAST_ENTRIES: u32 = 4;
 
-/// The most entries that a history may be given room for where it is kept whole.
+/// The most entries that a history may be given room for if it is kept whole.
 pub const MOST_ENTRIES: u32 = 4194304;
 
-/// The most entries that a history may be given room for where only its last entries are kept.
+/// The most entries that a history may be given room for if only its last entries are kept.
 pub const MOST_LONG_ENTRIES: u32 = 4000000000;
 
 /// The most requests that may be let wait at once; the fewest is 1.
-pub const MOST_REQUESTS: u32 = 262144;
+pub const MOST_REQUESTS: u32 = 1048576;
+
+/// The most workers of a text: a trace, a script or a journal.
+pub const TEXT_WORKERS: u32 = 64;
+
+/// The most tenants of a text.
+pub const TEXT_TENANTS: u32 = 4096;
+
+/// The greatest weight of a tenant of a text.
+pub const TEXT_WEIGHT: u32 = 1000;
+
+/// The most pairs of a tenant and a kind of a text.
+pub const TEXT_PAIRS: u64 = 65536;
+
+/// The most requests of a text that may be let wait at once.
+pub const TEXT_REQUESTS: u32 = 262144;
 
 /// The most requests of a trace; there may be none.
 pub const MOST_ROWS: u32 = 262144;
@@ -68,3 +85,76 @@ pub const GREATEST_VIRTUAL_CHARGE: i128 = 10000000000000000000000000;
 
 /// More than a tenant's start reaches, in steps.
 pub const GREATEST_START: i128 = 20000000000000000000000000;
+
+/// Which limits the numbers of a configuration keep.
+#[derive(Clone, Copy, Debug, PartialEq, Eq)]
+pub enum Limits {
+    /// Those of the program's texts (traces, scripts, journals). The history is kept whole.
+    Text,
+    /// The widest. The history is kept whole.
+    Whole,
+    /// The widest. Only the last entries of the history are kept.
+    Long,
+}
+
+impl Limits {
+    /// The most workers; the fewest is 1.
+    pub fn most_workers(self) -> u32
+        ensures { result ≡ most_workers self }
+    {
+        match self {
+            Limits::Text => TEXT_WORKERS,
+            Limits::Whole | Limits::Long => MOST_WORKERS,
+        }
+    }
+
+    /// The most tenants; the fewest is 1.
+    pub fn most_tenants(self) -> u32
+        ensures { result ≡ most_tenants self }
+    {
+        match self {
+            Limits::Text => TEXT_TENANTS,
+            Limits::Whole | Limits::Long => MOST_TENANTS,
+        }
+    }
+
+    /// The greatest weight of a tenant; the least is 1.
+    pub fn greatest_weight(self) -> u32
+        ensures { result ≡ greatest_weight self }
+    {
+        match self {
+            Limits::Text => TEXT_WEIGHT,
+            Limits::Whole | Limits::Long => GREATEST_WEIGHT,
+        }
+    }
+
+    /// The most pairs of a tenant and a kind.
+    pub fn most_pairs(self) -> u64
+        ensures { result ≡ most_pairs self }
+    {
+        match self {
+            Limits::Text => TEXT_PAIRS,
+            Limits::Whole | Limits::Long => MOST_PAIRS,
+        }
+    }
+
+    /// The most entries that the history may be given room for; the fewest is `LEAST_ENTRIES`.
+    pub fn most_entries(self) -> u32
+        ensures { result ≡ most_entries self }
+    {
+        match self {
+            Limits::Text | Limits::Whole => MOST_ENTRIES,
+            Limits::Long => MOST_LONG_ENTRIES,
+        }
+    }
+
+    /// The most requests that may be let wait at once; the fewest is 1.
+    pub fn most_requests(self) -> u32
+        ensures { result ≡ most_requests self }
+    {
+        match self {
+            Limits::Text => TEXT_REQUESTS,
+            Limits::Whole | Limits::Long => MOST_REQUESTS,
+        }
+    }
+}

@@ -150,6 +150,7 @@ pub fn copy_of(alloc: Global, config: &Checked) -> Result<Checked, AllocError>
     ensures limits { IfOk result (λ copy. InLimits copy) }
 {
     let copy = Config {
+        limits: config.limits(),
         workers: config.workers(),
         weights: Weights::from_vec(config.weights().to_vec(alloc)?),
         kinds: config.kinds(),
@@ -159,5 +160,5 @@ pub fn copy_of(alloc: Global, config: &Checked) -> Result<Checked, AllocError>
         estimate: config.estimate(),
         initial: config.initial(),
     };
-    Ok(copy.check_long().unwrap()) // whatever room the history has
+    Ok(copy.check().unwrap())
 }

@@ -4,9 +4,9 @@ use borrow.Author.Tests.{ltb-false}
 use Rattle.std.specs.Prelude.{codes}
 use Rattle.std.proofs.lemmas.Bool.{eqb-true, eqb-false}
 use Rattle.std.proofs.lemmas.List.Elements.{All-append}
-use Rattle.fq_model.specs.Limits.{IsWithin, IsWeight, InLimits, HasShortHistory}
-use Rattle.vt_fixed.specs.declared.limits.TheConstants.{GREATEST_COST, GREATEST_WEIGHT, MOST_WORKERS}
-use Rattle.fq_model.specs.declared.limits.TheConstants.{MOST_TENANTS, MOST_KINDS, MOST_PAIRS, LEAST_ENTRIES, MOST_ENTRIES, MOST_REQUESTS}
+use Rattle.fq_model.specs.Limits.{IsWithin, IsTextWeight, InLimits, HasTextLimits}
+use Rattle.vt_fixed.specs.declared.limits.TheConstants.{GREATEST_COST}
+use Rattle.fq_model.specs.declared.limits.TheConstants.{TEXT_WEIGHT, TEXT_WORKERS, TEXT_TENANTS, MOST_KINDS, TEXT_PAIRS, LEAST_ENTRIES, MOST_ENTRIES, TEXT_REQUESTS}
 use Rattle.program_model.specs.declared.fault.ScriptKind.{ScriptKind}
 use Rattle.program_model.specs.declared.fault.ScriptKind.TheVariants.{TooMany}
 use Rattle.program_model.specs.Document.{Settings, Document, config_of, settings_of, new_among, not_too_many, with_tenant, with_kind, opened, config_line}
@@ -35,27 +35,27 @@ ranged_at-within words k low high n h =
     (omega (arith, ltb-false b.0 low t.0, t.2), omega (arith, ltb-false high b.0 t.1, t.2))
 
 pub record SettingsAreWithin (s : Settings) : Type 0 where
-  pub workers : IsWithin 1 MOST_WORKERS s.workers
+  pub workers : IsWithin 1 TEXT_WORKERS s.workers
   pub initial : IsWithin 1 GREATEST_COST s.initial
   pub entries : IsWithin LEAST_ENTRIES MOST_ENTRIES s.entries
-  pub requests : IsWithin 1 MOST_REQUESTS s.requests
+  pub requests : IsWithin 1 TEXT_REQUESTS s.requests
 
 pub settings_of-within : (line : Words) (s : Settings) → settings_of line ≡ Ok s → SettingsAreWithin s
 unfolding settings_of
 settings_of-within line s h =
     let words = bind_ok (with_count 7 line) _ s h in
-    let workers = bind_ok (ranged_at words.0 1 1 MOST_WORKERS) _ s words.2 in
+    let workers = bind_ok (ranged_at words.0 1 1 TEXT_WORKERS) _ s words.2 in
     let policy = bind_ok (policy_at words.0 2) _ s workers.2 in
     let estimate = bind_ok (estimator_at words.0 3) _ s policy.2 in
     let initial = bind_ok (ranged_at words.0 4 1 GREATEST_COST) _ s estimate.2 in
     let entries = bind_ok (ranged_at words.0 5 LEAST_ENTRIES MOST_ENTRIES) _ s initial.2 in
-    let requests = bind_ok (ranged_at words.0 6 1 MOST_REQUESTS) _ s entries.2 in
+    let requests = bind_ok (ranged_at words.0 6 1 TEXT_REQUESTS) _ s entries.2 in
     let same : Ok (record { workers = workers.0; policy = policy.0; estimate = estimate.0; initial = initial.0; entries = entries.0; requests = requests.0 }) ≡ Ok s = requests.2 in
     subst SettingsAreWithin (Ok-injective same) (record {
-      workers = ranged_at-within words.0 1 1 MOST_WORKERS workers.0 workers.1;
+      workers = ranged_at-within words.0 1 1 TEXT_WORKERS workers.0 workers.1;
       initial = ranged_at-within words.0 4 1 GREATEST_COST initial.0 initial.1;
       entries = ranged_at-within words.0 5 LEAST_ENTRIES MOST_ENTRIES entries.0 entries.1;
-      requests = ranged_at-within words.0 6 1 MOST_REQUESTS requests.0 requests.1;
+      requests = ranged_at-within words.0 6 1 TEXT_REQUESTS requests.0 requests.1;
     })
 
 -- the invariant of a head that is being read
@@ -63,10 +63,10 @@ pub record IsKept {A : Type 0} (s : Document A) : Type 0 where
   pub bodyless : s.body ≡ []
   pub settings : SettingsAreWithin s.settings
   pub same : length s.weights ≡ length s.tenants
-  pub weights : All IsWeight s.weights
-  pub tenants : length s.tenants ≤ MOST_TENANTS
+  pub weights : All IsTextWeight s.weights
+  pub tenants : length s.tenants ≤ TEXT_TENANTS
   pub kinds : length s.kinds ≤ MOST_KINDS
-  pub pairs : length s.tenants * length s.kinds ≤ MOST_PAIRS
+  pub pairs : length s.tenants * length s.kinds ≤ TEXT_PAIRS
   pub order : 0 < length s.kinds → 0 < length s.tenants
 
 few : {A : Type 0} (t k p : Bool) (s u : Document A) → (if t || (k || p) then Err TooMany else Ok s) ≡ Ok u → (t ≡ false) × (k ≡ false) × (p ≡ false) × (s ≡ u)
@@ -76,22 +76,22 @@ few false false true s u h = absurd (cc)
 few false false false s u h = (refl, refl, refl, Ok-injective h)
 
 pub record IsFew {A : Type 0} (s u : Document A) : Type 0 where
-  pub tenants : length s.tenants ≤ MOST_TENANTS
+  pub tenants : length s.tenants ≤ TEXT_TENANTS
   pub kinds : length s.kinds ≤ MOST_KINDS
-  pub pairs : length s.tenants * length s.kinds ≤ MOST_PAIRS
+  pub pairs : length s.tenants * length s.kinds ≤ TEXT_PAIRS
   pub same : s ≡ u
 
 pub not_too_many-few : {A : Type 0} (s u : Document A) → not_too_many s ≡ Ok u → IsFew s u
 not_too_many-few s u h =
-    let t = few (nat_lt MOST_TENANTS (length s.tenants)) (nat_lt MOST_KINDS (length s.kinds)) (nat_lt MOST_PAIRS (length s.tenants * length s.kinds)) s u h in
+    let t = few (nat_lt TEXT_TENANTS (length s.tenants)) (nat_lt MOST_KINDS (length s.kinds)) (nat_lt TEXT_PAIRS (length s.tenants * length s.kinds)) s u h in
     record {
-      tenants = ltb-false MOST_TENANTS (length s.tenants) t.0;
+      tenants = ltb-false TEXT_TENANTS (length s.tenants) t.0;
       kinds = ltb-false MOST_KINDS (length s.kinds) t.1;
-      pairs = ltb-false MOST_PAIRS (length s.tenants * length s.kinds) t.2;
+      pairs = ltb-false TEXT_PAIRS (length s.tenants * length s.kinds) t.2;
       same = t.3;
     }
 
-all_one : (w : ℕ) → IsWeight w → All IsWeight (w ∷ [])
+all_one : (w : ℕ) → IsTextWeight w → All IsTextWeight (w ∷ [])
 all_one w h zero d lt = h
 all_one w h (suc k) d lt = absurd (omega arith)
 
@@ -100,7 +100,7 @@ unfolding with_tenant
 with_tenant-kept s u line none kept h =
     let words = bind_ok (with_count 3 line) _ u h in
     let name = bind_ok (name_at words.0 1) _ u words.2 in
-    let weight = bind_ok (ranged_at words.0 2 1 GREATEST_WEIGHT) _ u name.2 in
+    let weight = bind_ok (ranged_at words.0 2 1 TEXT_WEIGHT) _ u name.2 in
     let new = bind_ok (new_among s.tenants name.0) _ u weight.2 in
     let more : Document _ = record s { tenants = s.tenants ++ new.0 ∷ []; weights = s.weights ++ weight.0 ∷ [] } in
     let is_few = not_too_many-few more u new.2 in
@@ -108,7 +108,7 @@ with_tenant-kept s u line none kept h =
       bodyless = kept.bodyless;
       settings = kept.settings;
       same = omega (arith, kept.same, length-append s.tenants (new.0 ∷ []), length-append s.weights (weight.0 ∷ []));
-      weights = All-append IsWeight s.weights (weight.0 ∷ []) kept.weights (all_one weight.0 (ranged_at-within words.0 2 1 GREATEST_WEIGHT weight.0 weight.1));
+      weights = All-append IsTextWeight s.weights (weight.0 ∷ []) kept.weights (all_one weight.0 (ranged_at-within words.0 2 1 TEXT_WEIGHT weight.0 weight.1));
       tenants = is_few.tenants;
       kinds = is_few.kinds;
       pairs = is_few.pairs;
@@ -205,5 +205,5 @@ config_of-in_limits s kept some =
     }
 
 -- and its history is a short one
-pub config_of-short : {A : Type 0} (s : Document A) → IsKept s → HasShortHistory (config_of s)
+pub config_of-short : {A : Type 0} (s : Document A) → IsKept s → HasTextLimits (config_of s)
 config_of-short s kept = kept.settings.entries.1

@@ -3,7 +3,7 @@ use Rattle.std.specs.Prelude.{ℕ, ◌*◌, ◌≡◌, nat_lt, Bool, not, ◌&&�
 use Rattle.std.specs.Prelude.{if◌then◌else◌, codes, List, length, Result, Ok, Err}
 use Rattle.program_model.specs.declared.fault.ScriptKind.{ScriptKind}
 use Rattle.fq_model.specs.declared.config.Config.{Config}
-use Rattle.fq_model.specs.declared.limits.TheConstants.{MOST_TENANTS, MOST_KINDS, MOST_PAIRS}
+use Rattle.fq_model.specs.declared.limits.TheConstants.{TEXT_TENANTS, MOST_KINDS, TEXT_PAIRS}
 use Rattle.program_model.specs.Document.{Settings, Document, with_tenant, with_kind, config_line}
 use Rattle.program_model.specs.declared.fault.ScriptKind.TheVariants.{Word}
 use Rattle.program_model.specs.Reading.{begins_with, is_empty}
@@ -77,4 +77,4 @@ with_head_line d words =
 -- more tenants, kinds or pairs of both than there may be
 abbrev pub are_too_many : ℕ → ℕ → Bool
 are_too_many tenants kinds =
-    nat_lt MOST_TENANTS tenants || (nat_lt MOST_KINDS kinds || nat_lt MOST_PAIRS (tenants * kinds))
+    nat_lt TEXT_TENANTS tenants || (nat_lt MOST_KINDS kinds || nat_lt TEXT_PAIRS (tenants * kinds))

@@ -4,7 +4,7 @@ ghost use Rattle.program_model.specs.Document.{settings_of};
 
 use crate::words::Words;
 use fq_model::config::{Estimator, Policy};
-use fq_model::limits::{GREATEST_COST, LEAST_ENTRIES, MOST_ENTRIES, MOST_REQUESTS, MOST_WORKERS};
+use fq_model::limits::{GREATEST_COST, LEAST_ENTRIES, MOST_ENTRIES, TEXT_REQUESTS, TEXT_WORKERS};
 use program_model::fault::ScriptKind;
 use std::marker::Model;
 
@@ -44,12 +44,12 @@ pub fn read_settings(words: &Words) -> Result<Settings, ScriptKind>
     ensures { result ≡ settings_of words.now }
 {
     words.expect_count(7)?;
-    let workers = words.small_at(1, 1, MOST_WORKERS)?;
+    let workers = words.small_at(1, 1, TEXT_WORKERS)?;
     let policy = words.policy_at(2)?;
     let estimate = words.estimator_at(3)?;
     let initial = words.ranged_at(4, 1, GREATEST_COST)?;
     let entries = words.small_at(5, LEAST_ENTRIES, MOST_ENTRIES)?;
-    let requests = words.small_at(6, 1, MOST_REQUESTS)?;
+    let requests = words.small_at(6, 1, TEXT_REQUESTS)?;
     Ok(Settings {
         workers,
         policy,

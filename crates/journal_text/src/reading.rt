@@ -18,7 +18,7 @@ use crate::head::{Settings, read_settings};
 use crate::lines::next_line;
 use crate::words::Words;
 use fq_model::config::{Config, Weights};
-use fq_model::limits::{GREATEST_WEIGHT, MOST_KINDS, MOST_PAIRS, MOST_TENANTS};
+use fq_model::limits::{Limits, MOST_KINDS, TEXT_PAIRS, TEXT_TENANTS, TEXT_WEIGHT};
 use program_model::fault::ScriptKind;
 use program_model::version::Version;
 use std::alloc::{AllocError, Global};
@@ -85,6 +85,7 @@ impl<A: Line> Draft<A> {
         } = self;
         let (tenants, kinds) = (tenants.finish()?, kinds.finish()?);
         let config = Config {
+            limits: Limits::Text,
             workers: settings.workers,
             weights: Weights::from_vec(tenants.weights(alloc)?),
             kinds: kinds.len(),
@@ -104,7 +105,7 @@ impl<A: Line> Draft<A> {
     {
         words.expect_count(3)?;
         let name = words.name_at(1)?;
-        let weight = words.small_at(2, 1, GREATEST_WEIGHT)?;
+        let weight = words.small_at(2, 1, TEXT_WEIGHT)?;
         expect_new_tenant(&self.tenants, name)?;
         if are_too_many(self.tenants.len() + 1, self.kinds.len()) {
             return Err(LineError::Fault(ScriptKind::TooMany));
@@ -174,7 +175,7 @@ fn expect_new_kind(kinds: &KindsBuilder, name: &str) -> Result<(), LineError>
 fn are_too_many(tenants: u32, kinds: u32) -> bool
     ensures { result ≡ are_too_many tenants kinds }
 {
-    tenants > MOST_TENANTS || kinds > MOST_KINDS || tenants as u64 * kinds as u64 > MOST_PAIRS
+    tenants > TEXT_TENANTS || kinds > MOST_KINDS || tenants as u64 * kinds as u64 > TEXT_PAIRS
 }
 
 #[tactic(auto, unfolding(program_model::specs::Document::config_line))]

@@ -10,7 +10,7 @@ use Rattle.fq_model.specs.declared.event.Act.TheVariants.{Submit, Take, Report, 
 use Rattle.fq_model.specs.declared.fluid.FluidRow.{FluidRow}
 use Rattle.fq_model.specs.declared.fluid.Change.{Change}
 use Rattle.fq_model.specs.declared.fluid.What.TheVariants as changed
-use Rattle.fq_model.specs.Limits.{InLimits, HasShortHistory}
+use Rattle.fq_model.specs.Limits.{InLimits, HasTextLimits, greatest_weight}
 use Rattle.fq_model.specs.History.{History, submits, waiting, running}
 use Rattle.fq_model.specs.Time.{last_moment}
 use Rattle.fq_model.specs.Rules.{IsLegal, Fits}
@@ -21,6 +21,7 @@ use Rattle.fq_laws.proofs.Rules.Room.{has_room}
 use Rattle.fq_laws.proofs.History.Requests.{use_known, request_known}
 use Rattle.fq_laws.proofs.History.Numbers.{waiting_submitted, waiting_taken, waiting_withdrawn, running_taken, running_finished}
 use Rattle.fq_laws.proofs.History.Counts.{submits_le_length, running_submit, running_report, running_withdraw, waiting_report, waiting_done, running_quiet, waiting_quiet, waiting_none, running_none}
+use Rattle.fq_laws.proofs.Limits.{within_text}
 use Rattle.lag_report.specs.declared.course.Course.{Course}
 use Rattle.lag_report.specs.Courses.{course_at, courses_after, courses_of, rows_after, rows_of, submitted, NamesOneOf}
 use Rattle.lag_report.proofs.CoursesAre.{tenant_in, courses_are, names_known, names_submitted}
@@ -63,11 +64,11 @@ counted : (C : Config) (H : History) → InLimits C → IsLegal C H → Counted 
 counted C [] lim l = record { some = omega (arith, waiting_none, running_none); entries = omega (arith, running_none) }
 counted C (e ∷ P) lim l = counted_at C P e.who e.moment e.act (rows_of P) lim l.0 l.3 (counted C P lim l.0)
 
-pub submits_few : (C : Config) (H : History) → InLimits C → HasShortHistory C → IsLegal C H → submits H ≤ 4194304
-submits_few C H lim short l = omega (arith, submits_le_length H, has_room C H lim l, short)
+pub submits_few : (C : Config) (H : History) → InLimits C → HasTextLimits C → IsLegal C H → submits H ≤ 4194304
+submits_few C H lim text l = omega (arith, submits_le_length H, has_room C H lim l, (within_text C lim text).entries)
 
-pub rows_few : (C : Config) (H : History) → InLimits C → HasShortHistory C → IsLegal C H → length (rows_of H) ≤ 2000000
-rows_few C H lim short l = let n = counted C H lim l in omega (arith, n.some, n.entries, has_room C H lim l, short)
+pub rows_few : (C : Config) (H : History) → InLimits C → HasTextLimits C → IsLegal C H → length (rows_of H) ≤ 2000000
+rows_few C H lim text l = let n = counted C H lim l in omega (arith, n.some, n.entries, has_room C H lim l, (within_text C lim text).entries)
 
 row_in : (C : Config) (P : History) (m : ℕ) (a : Act) (rows : List FluidRow) → IsLegal C P → Fits C P m a → All (IsRowOf (length C.weights)) rows → All (IsRowOf (length C.weights)) (rows_after (courses_of P) a rows)
 row_in C P m (Done w q cost) rows l f ih =
@@ -114,19 +115,20 @@ costs_by_rows : (C : Config) (H : History) → IsLegal C H → sum_by (λ c. c.c
 costs_by_rows C [] l = omega arith
 costs_by_rows C (e ∷ P) l = costs_at C P e.moment e.act (courses_of P) (rows_of P) l.3 (names_submitted C (e ∷ P) l).1 (costs_by_rows C P l.0)
 
-pub costs_few : (C : Config) (H : History) → InLimits C → HasShortHistory C → IsLegal C H → sum_by (λ c. c.cost) (courses_of H) ≤ 2000000000000000
-costs_few C H lim short l = omega (arith, costs_by_rows C H l, rows_few C H lim short l)
+pub costs_few : (C : Config) (H : History) → InLimits C → HasTextLimits C → IsLegal C H → sum_by (λ c. c.cost) (courses_of H) ≤ 2000000000000000
+costs_few C H lim text l = omega (arith, costs_by_rows C H l, rows_few C H lim text l)
 
 -- ---- changes
 
-change_in : (C : Config) (P : History) (m : ℕ) (a : Act) (changes : List Change) → InLimits C → Fits C P m a → All (IsChangeOf (length C.weights)) changes → All (IsChangeOf (length C.weights)) (with_change m a changes)
-change_in C P m (Weight tenant weight) changes lim f ih = All-push (IsChangeOf (length C.weights)) changes _ ih (f.tenant_known, f.weight_in_range)
-change_in C P m (Workers count) changes lim f ih = All-push (IsChangeOf (length C.weights)) changes _ ih (f.count_in_range.0, omega (arith, f.count_in_range.1, lim.workers.1))
-change_in C P m _ changes lim f ih = ih
+change_in : (C : Config) (P : History) (m : ℕ) (a : Act) (changes : List Change) → InLimits C → HasTextLimits C → Fits C P m a → All (IsChangeOf (length C.weights)) changes → All (IsChangeOf (length C.weights)) (with_change m a changes)
+change_in C P m (Weight tenant weight) changes lim text f ih =
+    All-push (IsChangeOf (length C.weights)) changes _ ih (f.tenant_known, f.weight_in_range.0, omega (arith, f.weight_in_range.1, ap greatest_weight text))
+change_in C P m (Workers count) changes lim text f ih = All-push (IsChangeOf (length C.weights)) changes _ ih (f.count_in_range.0, omega (arith, f.count_in_range.1, (within_text C lim text).workers))
+change_in C P m _ changes lim text f ih = ih
 
-pub changes_in : (C : Config) (H : History) → InLimits C → IsLegal C H → All (IsChangeOf (length C.weights)) (changes_of H)
-changes_in C [] lim l = λ k d b. absurd (omega (arith, b))
-changes_in C (e ∷ P) lim l = change_in C P e.moment e.act (changes_of P) lim l.3 (changes_in C P lim l.0)
+pub changes_in : (C : Config) (H : History) → InLimits C → HasTextLimits C → IsLegal C H → All (IsChangeOf (length C.weights)) (changes_of H)
+changes_in C [] lim text l = λ k d b. absurd (omega (arith, b))
+changes_in C (e ∷ P) lim text l = change_in C P e.moment e.act (changes_of P) lim text l.3 (changes_in C P lim text l.0)
 
 -- changes come in order of time, and none after the last entry
 record InTime (last : ℕ) (changes : List Change) : Type 0 where

@@ -10,7 +10,7 @@ use crate::work::gains;
 use fluid_reference::owned::of_tenant;
 use fluid_reference::reference::FluidReference;
 use fq_model::lag::TenantLag;
-use fq_model::limits::{GREATEST_BACKLOG, GREATEST_SLOT, MOST_CELLS, MOST_ENTRIES, MOST_TENANTS};
+use fq_model::limits::{GREATEST_BACKLOG, GREATEST_SLOT, MOST_CELLS, MOST_ENTRIES, TEXT_TENANTS};
 use std::alloc::{AllocError, Global};
 
 /// The report's line of each tenant, by number. The courses are in the order of their tenants, and `fluid` has the
@@ -24,7 +24,7 @@ pub fn lines(
 ) -> Result<Vec<TenantLag>, AllocError>
     requires positive { 1 ≤ slot }
     requires short { slot ≤ GREATEST_SLOT }
-    requires tenants { length weights.now ≤ MOST_TENANTS }
+    requires tenants { length weights.now ≤ TEXT_TENANTS }
     requires table { IsTable (length weights.now) fluid.now }
     requires order { IsNonDecreasingBy (λ c. c.tenant) courses.now }
     requires requests { length courses.now ≤ MOST_ENTRIES }

@@ -9,7 +9,7 @@ ghost use Rattle.lag_report.specs.Texts.{with_counts, with_range, with_totals};
 use crate::extremes::{greatest_lag, least_lag};
 use crate::report::Report;
 use fq_model::lag::TenantLag;
-use fq_model::limits::MOST_TENANTS;
+use fq_model::limits::TEXT_TENANTS;
 use itoa::Buffer;
 use std::alloc::{AllocError, Global};
 use tenant_table::tenants::Tenants;
@@ -59,7 +59,7 @@ fn add_range(rows: &[TenantLag], text: &mut Vec<u8>) -> Result<(), AllocError>
 
 // How many requests all tenants submitted.
 fn requests(rows: &[TenantLag]) -> u64
-    requires { length rows.now ≤ MOST_TENANTS }
+    requires { length rows.now ≤ TEXT_TENANTS }
     ensures { result ≡ requests_of rows.now }
 {
     let mut requests = 0;

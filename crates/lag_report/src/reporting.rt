@@ -1,7 +1,7 @@
 //! The report of a history.
 ghost use Rattle.std.specs.Prelude.{◌≡◌, ◌≤◌, length, IfOk, IfErr, None};
 ghost use Rattle.fq_model.specs.History.{history_of};
-ghost use Rattle.fq_model.specs.Limits.{HasShortHistory};
+ghost use Rattle.fq_model.specs.Limits.{HasTextLimits};
 ghost use Rattle.fq_model.specs.Rules.{IsLegal};
 ghost use Rattle.fq_model.specs.Fluid.{changes_of};
 ghost use Rattle.fq_model.specs.Time.{last_moment};
@@ -31,7 +31,7 @@ pub fn report(
     slot: u64,
 ) -> Result<Report, ReportFault>
     requires legal { IsLegal config.now (history_of past.now) }
-    requires room { HasShortHistory config.now }
+    requires text { HasTextLimits config.now }
     requires positive { 1 ≤ slot }
     requires short { slot ≤ GREATEST_SLOT }
     ensures report { IfOk result (λ r. r ≡ lag_report config.now (history_of past.now) slot) }
@@ -54,7 +54,7 @@ pub fn last_report(
     slot: u64,
 ) -> Result<Report, ReportFault>
     requires legal { IsLegal config.now (history_of past.items) }
-    requires room { HasShortHistory config.now }
+    requires text { HasTextLimits config.now }
     requires positive { 1 ≤ slot }
     requires short { slot ≤ GREATEST_SLOT }
     ensures report { IfOk result (λ r. r ≡ lag_report config.now (history_of past.items) slot) }
@@ -80,7 +80,7 @@ fn report_of(
     slot: u64,
 ) -> Result<Report, ReportFault>
     requires legal { IsLegal config.now (history_of contents.old.past.items) }
-    requires room { HasShortHistory config.now }
+    requires text { HasTextLimits config.now }
     requires positive { 1 ≤ slot }
     requires short { slot ≤ GREATEST_SLOT }
     requires courses { contents.old.courses.items ≡ courses_of (history_of contents.old.past.items) }

@@ -10,9 +10,9 @@ use Rattle.std.proofs.lemmas.List.Elements.{All-head, All-tail}
 use Rattle.std.proofs.lemmas.Nat.{mul-le}
 use Rattle.fq_model.specs.declared.config.Config.{Config}
 use Rattle.fq_model.specs.declared.event.Entry.{Entry}
-use Rattle.fq_model.specs.declared.limits.TheConstants.{MOST_TENANTS, MOST_KINDS, MOST_PAIRS}
+use Rattle.fq_model.specs.declared.limits.TheConstants.{TEXT_TENANTS, MOST_KINDS, TEXT_PAIRS}
 use Rattle.fq_model.specs.History.{is_change, is_withdraw}
-use Rattle.fq_model.specs.Limits.{InLimits, HasShortHistory, IsWeight}
+use Rattle.fq_model.specs.Limits.{InLimits, HasTextLimits, IsTextWeight}
 use Rattle.fq_model.specs.Names.{AreNames}
 use Rattle.fq_model.specs.Spelling.{is_name, policy_word, estimator_word}
 use Rattle.program_model.specs.declared.version.Version.{Version}
@@ -95,15 +95,15 @@ next_name limit done name names are =
     }
 
 module _ (reader : LineReader Entry) (s : Settings) (tenants : List (List ℕ)) (weights : List ℕ) (below : List ℕ) (u : Journal)
-    (some : (length tenants == 0) ≡ false) (few : length tenants ≤ MOST_TENANTS) where
+    (some : (length tenants == 0) ≡ false) (few : length tenants ≤ TEXT_TENANTS) where
   kinds_read : (kinds : List (List ℕ)) (place : ℕ) (done : List (List ℕ))
-      → AreNames MOST_KINDS (done ++ kinds) → length tenants * length (done ++ kinds) ≤ MOST_PAIRS
+      → AreNames MOST_KINDS (done ++ kinds) → length tenants * length (done ++ kinds) ≤ TEXT_PAIRS
       → ((p : ℕ) → with_lines reader p (document s tenants weights (done ++ kinds) []) (lines_of below) ≡ Ok u)
       → with_lines reader place (document s tenants weights done []) (lines_of (kinds_text kinds ++ below)) ≡ Ok u
   kinds_read [] place done are pairs rest_reads = rw (append-nil done) at (rest_reads place)
   kinds_read (name ∷ names) place done are pairs rest_reads =
       let next = next_name MOST_KINDS done name names are in
-      let fits : length tenants * length (done ++ name ∷ []) ≤ MOST_PAIRS =
+      let fits : length tenants * length (done ++ name ∷ []) ≤ TEXT_PAIRS =
       omega (arith, mul-le (length tenants) (length (done ++ name ∷ [])) (length tenants) (length (done ++ name ∷ names)) (omega arith) next.within, pairs) in
       let whole : (done ++ name ∷ []) ++ names ≡ done ++ name ∷ names = append_assoc done (name ∷ []) names in
       line_read reader place (document s tenants weights done []) (document s tenants weights (done ++ name ∷ []) [])
@@ -116,15 +116,15 @@ module _ (reader : LineReader Entry) (s : Settings) (tenants : List (List ℕ)) 
 -- ---- the tenants
 
 tenants_read : (reader : LineReader Entry) (s : Settings) (below : List ℕ) (u : Journal) (names : List (List ℕ)) (weights : List ℕ) (place : ℕ) (done : List (List ℕ)) (weighed : List ℕ)
-    → AreNames MOST_TENANTS (done ++ names) → length weights ≡ length names → All IsWeight weights
+    → AreNames TEXT_TENANTS (done ++ names) → length weights ≡ length names → All IsTextWeight weights
     → ((p : ℕ) → with_lines reader p (document s (done ++ names) (weighed ++ weights) [] []) (lines_of below) ≡ Ok u)
     → with_lines reader place (document s done weighed [] []) (lines_of (tenants_text names weights ++ below)) ≡ Ok u
 tenants_read reader s below u [] [] place done weighed are same limits rest_reads = rw (append-nil done, append-nil weighed) at (rest_reads place)
 tenants_read reader s below u [] (weight ∷ weights) place done weighed are same limits rest_reads = absurd (omega (arith, same))
 tenants_read reader s below u (name ∷ names) [] place done weighed are same limits rest_reads = absurd (omega (arith, same))
 tenants_read reader s below u (name ∷ names) (weight ∷ weights) place done weighed are same limits rest_reads =
-    let next = next_name MOST_TENANTS done name names are in
-    let within : IsWeight weight = limits 0 weight (omega arith) in
+    let next = next_name TEXT_TENANTS done name names are in
+    let within : IsTextWeight weight = limits 0 weight (omega arith) in
     let names_same : (done ++ name ∷ []) ++ names ≡ done ++ name ∷ names = append_assoc done (name ∷ []) names in
     let weights_same : (weighed ++ weight ∷ []) ++ weights ≡ weighed ++ weight ∷ weights = append_assoc weighed (weight ∷ []) weights in
     let small : weight < 2 ^ 64 = omega (arith, within.1) in
@@ -183,7 +183,7 @@ settings_are_words C limits = (
 some_names : (names : List (List ℕ)) → 1 ≤ length names → (length names == 0) ≡ false
 some_names names some = false_from_ne_true (length names == 0) (λ none. omega (arith, eqb-true (length names) 0 none, some))
 
-module _ (C : Config) (tenants kinds : List (List ℕ)) (past : List Entry) (limits : InLimits C) (short : HasShortHistory C) (names : AreNamesFor C tenants kinds) (are : AreEntries past) where
+module _ (C : Config) (tenants kinds : List (List ℕ)) (past : List Entry) (limits : InLimits C) (short : HasTextLimits C) (names : AreNamesFor C tenants kinds) (are : AreEntries past) where
   abbrev below_tenants : List ℕ
   below_tenants = kinds_text kinds ++ entries_text past
 
@@ -194,7 +194,7 @@ module _ (C : Config) (tenants kinds : List (List ℕ)) (past : List Entry) (lim
   head_read v of =
       let some_tenant = some_names tenants (omega (arith, names.weighed, limits.tenants.0)) in
       let some_kind = some_names kinds (omega (arith, names.counted, limits.kinds.0)) in
-      let pairs : length tenants * length kinds ≤ MOST_PAIRS = rw (← names.weighed, ← names.counted) limits.pairs in
+      let pairs : length tenants * length kinds ≤ TEXT_PAIRS = rw (← names.weighed, ← names.counted) limits.pairs in
       let words = settings_are_words C limits in
       let word : IsWord (codes "config") = omega arith in
       let has = words_first (codes "config") (settings_words C) below_settings word words in

@@ -13,6 +13,7 @@ use Rattle.fq_laws.proofs.History.Numbers.{next_small, take_request_small, waits
 use Rattle.fq_laws.proofs.History.Weights.{pool_high}
 use Rattle.fq_laws.proofs.History.Workers.{runs_worker_known}
 use Rattle.program_model.specs.Document.{config_of}
+use Rattle.fq_laws.proofs.Limits.{no_greater_weight}
 use Rattle.journal_check.proofs.OneVerdict.{legal_among, legal_is_legal}
 use Rattle.law_book.specs.Journals.{FitsTypes, FitsLabel, IsEntry, IsUnreadFit, LegalEntriesFit, IsReadBack, IsJudgedLegal, LegalIsJudgedLegal, StreamedIsJudgedLegal, journal_with}
 use Rattle.law_book.proofs.JournalsRead.{read_back, streamed_back}
@@ -44,7 +45,7 @@ act_fits C P m (Done worker request cost) limits legal f unread = (
 )
 act_fits C P m Close limits legal f unread = tt
 act_fits C P m (Weight tenant weight) limits legal f unread =
-    (omega (arith, f.tenant_known, limits.tenants.1), omega (arith, f.weight_in_range.1))
+    (omega (arith, f.tenant_known, limits.tenants.1), omega (arith, f.weight_in_range.1, no_greater_weight C.limits))
 act_fits C P m (Workers count) limits legal f unread = omega (arith, f.count_in_range.1, limits.workers.1)
 act_fits C P m (Withdraw request) limits legal f unread = waits_number_small C P request limits legal f
 

@@ -5,7 +5,7 @@ use Rattle.std.specs.Fmt.{decimal}
 use Rattle.std.specs.List.{list_any, list_all}
 use Rattle.std.proofs.lemmas.Bool.{and_parts, cases_lt, eqb-true, false_from_ne_true, le-ltb, leb-true}
 use Rattle.std.proofs.lemmas.Slice.Eq.{bytes_eq-Decides}
-use Rattle.vt_fixed.specs.declared.limits.TheConstants.{GREATEST_COST, GREATEST_WEIGHT, MOST_WORKERS}
+use Rattle.vt_fixed.specs.declared.limits.TheConstants.{GREATEST_COST}
 use Rattle.fq_model.specs.declared.config.Config.{Config}
 use Rattle.fq_model.specs.declared.config.Estimator.{Estimator}
 use Rattle.fq_model.specs.declared.config.Estimator.TheVariants.{Declared, Recent, Pessimistic}
@@ -14,9 +14,9 @@ use Rattle.fq_model.specs.declared.config.Policy.TheVariants.{Wfq, Wf2q, Msf2q, 
 use Rattle.fq_model.specs.declared.event.Act.{Act}
 use Rattle.fq_model.specs.declared.event.Act.TheVariants.{Submit, Take, Report, Done, Close, Weight, Workers, Withdraw}
 use Rattle.fq_model.specs.declared.event.Entry.{Entry}
-use Rattle.fq_model.specs.declared.limits.TheConstants.{LEAST_ENTRIES, MOST_ENTRIES, MOST_REQUESTS, MOST_TENANTS, MOST_KINDS, MOST_PAIRS}
+use Rattle.fq_model.specs.declared.limits.TheConstants.{TEXT_WEIGHT, TEXT_WORKERS, LEAST_ENTRIES, MOST_ENTRIES, TEXT_REQUESTS, TEXT_TENANTS, MOST_KINDS, TEXT_PAIRS}
 use Rattle.fq_model.specs.History.{is_change, is_withdraw}
-use Rattle.fq_model.specs.Limits.{InLimits, HasShortHistory, IsWeight, IsWithin}
+use Rattle.fq_model.specs.Limits.{InLimits, HasTextLimits, IsTextWeight, IsWithin}
 use Rattle.fq_model.specs.Spelling.{is_name, is_name_byte, policy_word, estimator_word}
 use Rattle.fq_laws.proofs.Rules.Passes.{within}
 use Rattle.program_model.specs.declared.version.Version.{Version}
@@ -247,29 +247,29 @@ is_new names name other = rw (none names other) refl
         rw (differs, none names (λ k b. other (suc k) (omega arith))) refl
 
 pub few : (s : Settings) (tenants : List (List ℕ)) (weights : List ℕ) (kinds : List (List ℕ))
-    → length tenants ≤ MOST_TENANTS → length kinds ≤ MOST_KINDS → length tenants * length kinds ≤ MOST_PAIRS
+    → length tenants ≤ TEXT_TENANTS → length kinds ≤ MOST_KINDS → length tenants * length kinds ≤ TEXT_PAIRS
     → not_too_many (document s tenants weights kinds []) ≡ Ok (document s tenants weights kinds [])
 few s tenants weights kinds a b c = rw (
-  le-ltb MOST_TENANTS (length tenants) a,
+  le-ltb TEXT_TENANTS (length tenants) a,
   le-ltb MOST_KINDS (length kinds) b,
-  le-ltb MOST_PAIRS (length tenants * length kinds) c,
+  le-ltb TEXT_PAIRS (length tenants * length kinds) c,
 ) refl
 
 pub tenant_read : (reader : LineReader Entry) (s : Settings) (tenants : List (List ℕ)) (weights : List ℕ) (name : List ℕ) (weight : ℕ)
-    → is_name name ≡ true → new_among tenants name ≡ Ok name → IsWeight weight → length (tenants ++ name ∷ []) ≤ MOST_TENANTS
+    → is_name name ≡ true → new_among tenants name ≡ Ok name → IsTextWeight weight → length (tenants ++ name ∷ []) ≤ TEXT_TENANTS
     → with_line reader (document s tenants weights [] []) (codes "tenant" ∷ name ∷ decimal weight ∷ []) ≡ Ok (document s (tenants ++ name ∷ []) (weights ++ weight ∷ []) [] [])
 unfolding with_line with_tenant
 tenant_read reader s tenants weights name weight spelled new limits fits =
     let words = codes "tenant" ∷ name ∷ decimal weight ∷ [] in
     rw (
       name_read words 1 name refl spelled,
-      ranged_read words 2 1 GREATEST_WEIGHT weight refl (omega (arith, limits.1)) limits,
+      ranged_read words 2 1 TEXT_WEIGHT weight refl (omega (arith, limits.1)) limits,
       new,
     ) (few s (tenants ++ name ∷ []) (weights ++ weight ∷ []) [] fits (omega arith) (omega arith))
 
 pub kind_read : (reader : LineReader Entry) (s : Settings) (tenants : List (List ℕ)) (weights : List ℕ) (kinds : List (List ℕ)) (name : List ℕ)
     → (length tenants == 0) ≡ false → is_name name ≡ true → new_among kinds name ≡ Ok name
-    → length tenants ≤ MOST_TENANTS → length (kinds ++ name ∷ []) ≤ MOST_KINDS → length tenants * length (kinds ++ name ∷ []) ≤ MOST_PAIRS
+    → length tenants ≤ TEXT_TENANTS → length (kinds ++ name ∷ []) ≤ MOST_KINDS → length tenants * length (kinds ++ name ∷ []) ≤ TEXT_PAIRS
     → with_line reader (document s tenants weights kinds []) (codes "kind" ∷ name ∷ []) ≡ Ok (document s tenants weights (kinds ++ name ∷ []) [])
 unfolding with_line with_kind
 kind_read reader s tenants weights kinds name some spelled new a b c =
@@ -279,20 +279,20 @@ kind_read reader s tenants weights kinds name some spelled new a b c =
 abbrev pub config_words : Config → Words
 config_words C = codes "config" ∷ decimal C.workers ∷ policy_word C.policy ∷ estimator_word C.estimate ∷ decimal C.initial ∷ decimal C.entries ∷ decimal C.requests ∷ []
 
-settings_read : (C : Config) → InLimits C → HasShortHistory C → settings_of (config_words C) ≡ Ok (settings_in C)
+settings_read : (C : Config) → InLimits C → HasTextLimits C → settings_of (config_words C) ≡ Ok (settings_in C)
 unfolding settings_of
 settings_read C limits short =
     let words = config_words C in
     rw (
-      ranged_read words 1 1 MOST_WORKERS C.workers refl (omega (arith, limits.workers.1)) limits.workers,
+      ranged_read words 1 1 TEXT_WORKERS C.workers refl (omega (arith, limits.workers.1)) limits.workers,
       policy_read words 2 C.policy refl,
       estimator_read words 3 C.estimate refl,
       ranged_read words 4 1 GREATEST_COST C.initial refl (omega (arith, limits.initial.1)) limits.initial,
       ranged_read words 5 LEAST_ENTRIES MOST_ENTRIES C.entries refl (omega (arith, short)) (limits.entries.0, short),
-      ranged_read words 6 1 MOST_REQUESTS C.requests refl (omega (arith, limits.requests.1)) limits.requests,
+      ranged_read words 6 1 TEXT_REQUESTS C.requests refl (omega (arith, limits.requests.1)) limits.requests,
     ) refl
 
-pub config_read : (C : Config) → InLimits C → HasShortHistory C → config_line (config_words C) ≡ Ok (document (settings_in C) [] [] [] [])
+pub config_read : (C : Config) → InLimits C → HasTextLimits C → config_line (config_words C) ≡ Ok (document (settings_in C) [] [] [] [])
 unfolding config_line
 config_read C limits short = rw (settings_read C limits short) refl
 

@@ -2,12 +2,12 @@
 use Rattle.std.specs.Prelude.{ℕ, ◌^◌, ◌<◌, ◌≡◌, List, length, Ok}
 use Rattle.std.specs.List.{All}
 use Rattle.fq_model.specs.declared.config.Config.{Config}
-use Rattle.fq_model.specs.declared.limits.TheConstants.{MOST_TENANTS, MOST_KINDS}
+use Rattle.fq_model.specs.declared.limits.TheConstants.{TEXT_TENANTS, MOST_KINDS}
 use Rattle.fq_model.specs.declared.event.Act.{Act}
 use Rattle.fq_model.specs.declared.event.Act.TheVariants.{Submit, Take, Report, Done, Close, Weight, Workers, Withdraw}
 use Rattle.fq_model.specs.declared.event.Entry.{Entry}
 use Rattle.fq_model.specs.History.{history_of}
-use Rattle.fq_model.specs.Limits.{InLimits, HasShortHistory}
+use Rattle.fq_model.specs.Limits.{InLimits, HasTextLimits}
 use Rattle.fq_model.specs.Names.{AreNames}
 use Rattle.fq_model.specs.Rules.{IsLegal}
 use Rattle.program_model.specs.Document.{config_of}
@@ -51,7 +51,7 @@ JournalsTellHistories =
 -- a scheduler with this configuration has tenants and kinds of these names, by number: each a name, and no two of the
 -- same sort alike
 pub record AreNamesFor (C : Config) (tenants kinds : List (List ℕ)) : Type 0 where
-  pub tenants_are : AreNames MOST_TENANTS tenants
+  pub tenants_are : AreNames TEXT_TENANTS tenants
   pub kinds_are : AreNames MOST_KINDS kinds
   pub weighed : length C.weights ≡ length tenants
   pub counted : C.kinds ≡ length kinds
@@ -76,14 +76,14 @@ pub record IsReadBack (C : Config) (tenants kinds : List (List ℕ)) (past : Lis
 abbrev pub JournalsReadBack : Type 0
 JournalsReadBack =
     (C : Config) (tenants kinds : List (List ℕ)) (past : List Entry)
-    → InLimits C → HasShortHistory C → AreNamesFor C tenants kinds → AreEntries past
+    → InLimits C → HasTextLimits C → AreNamesFor C tenants kinds → AreEntries past
     → IsReadBack C tenants kinds past (journal_text C tenants kinds past)
 
 -- and so is one that was written as the entries came
 abbrev pub StreamedReadBack : Type 0
 StreamedReadBack =
     (C : Config) (tenants kinds : List (List ℕ)) (past : List Entry)
-    → InLimits C → HasShortHistory C → AreNamesFor C tenants kinds → AreEntries past
+    → InLimits C → HasTextLimits C → AreNamesFor C tenants kinds → AreEntries past
     → IsReadBack C tenants kinds past (streamed_text C tenants kinds past)
 
 -- the numbers that no rule looks at fit their types: the number of the caller, and the label of a Submit
@@ -114,12 +114,12 @@ pub record IsJudgedLegal (C : Config) (past : List Entry) (text : List ℕ) : Ty
 abbrev pub LegalIsJudgedLegal : Type 0
 LegalIsJudgedLegal =
     (C : Config) (tenants kinds : List (List ℕ)) (past : List Entry)
-    → InLimits C → HasShortHistory C → AreNamesFor C tenants kinds → All IsUnreadFit past → IsLegal C (history_of past)
+    → InLimits C → HasTextLimits C → AreNamesFor C tenants kinds → All IsUnreadFit past → IsLegal C (history_of past)
     → IsJudgedLegal C past (journal_text C tenants kinds past)
 
 -- and so is the journal that was written as its entries came
 abbrev pub StreamedIsJudgedLegal : Type 0
 StreamedIsJudgedLegal =
     (C : Config) (tenants kinds : List (List ℕ)) (past : List Entry)
-    → InLimits C → HasShortHistory C → AreNamesFor C tenants kinds → All IsUnreadFit past
+    → InLimits C → HasTextLimits C → AreNamesFor C tenants kinds → All IsUnreadFit past
     → IsLegal C (history_of past) → IsJudgedLegal C past (streamed_text C tenants kinds past)

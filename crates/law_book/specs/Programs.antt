@@ -1,7 +1,7 @@
 -- Laws of the program's answers and runs.
 use Rattle.std.specs.Prelude.{ℕ, ◌<◌, ◌≤◌, ◌≡◌, ◌≢◌, ◌↔◌, false, List, [], ◌∷◌, length, codes, Option, Some, Ok, All}
 use Rattle.fq_memory.specs.Clean.{IsClean}
-use Rattle.fq_model.specs.declared.limits.TheConstants.{MOST_TENANTS, MOST_ROWS}
+use Rattle.fq_model.specs.declared.limits.TheConstants.{TEXT_TENANTS, MOST_ROWS}
 use Rattle.fq_model.specs.History.{history_of}
 use Rattle.fq_model.specs.Limits.{IsWithin}
 use Rattle.fq_model.specs.Rules.{IsLegal}
@@ -43,7 +43,7 @@ CheckTellsLegal =
 
 -- a trace that is to be generated is within the limits
 abbrev pub IsPlainWithinLimits : PlainCommand → Type 0
-IsPlainWithinLimits (Gen seed tenants requests print) = IsWithin 1 MOST_TENANTS tenants × (requests ≤ MOST_ROWS)
+IsPlainWithinLimits (Gen seed tenants requests print) = IsWithin 1 TEXT_TENANTS tenants × (requests ≤ MOST_ROWS)
 IsPlainWithinLimits _ = Unit {0}
 
 abbrev pub IsWithinLimits : Command → Type 0

@@ -5,7 +5,7 @@ use Rattle.std.specs.Fmt.{signed_decimal}
 use Rattle.std.proofs.lemmas.Bool.{cases_lt, false≢true, false_from_ne_true, ne_eqb}
 use Rattle.std.proofs.lemmas.Option.{get_or_from_slice_get}
 use Rattle.std.proofs.lemmas.Slice.Eq.{bytes_eq-Decides}
-use Rattle.fq_model.specs.declared.limits.TheConstants.{MOST_TENANTS}
+use Rattle.fq_model.specs.declared.limits.TheConstants.{TEXT_TENANTS}
 use Rattle.fq_model.specs.declared.config.Config.{Config}
 use Rattle.fq_model.specs.declared.event.Entry.{Entry}
 use Rattle.fq_model.specs.Ever.{measured_ever_bound}
@@ -47,7 +47,7 @@ pub found_here : (tenants : List (List ℕ × ℕ)) (name found : List ℕ) (t :
 found_here tenants name found t limits below is e =
     let at : get_or (names_of tenants) t [] ≡ name = get_or_from_slice_get (names_of tenants) t found [] is ∙ (bytes_eq-Decides found name).0 e in
     let within : t < length (names_of tenants) = omega (arith, below, length_names tenants) in
-    sym (ap (number_among (names_of tenants)) (sym at) ∙ finds MOST_TENANTS (names_of tenants) t limits.names within)
+    sym (ap (number_among (names_of tenants)) (sym at) ∙ finds TEXT_TENANTS (names_of tenants) t limits.names within)
 
 other_way : (found name : List ℕ) → bytes_eq found name ≡ false → bytes_eq name found ≡ false
 other_way found name ne = false_from_ne_true (bytes_eq name found) (λ e. false≢true (sym ne ∙ (bytes_eq-Decides found name).1 (sym ((bytes_eq-Decides name found).0 e))))

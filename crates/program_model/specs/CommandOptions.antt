@@ -4,8 +4,8 @@ use Rattle.fq_model.specs.declared.config.Policy.{Policy}
 use Rattle.fq_model.specs.declared.config.Policy.TheVariants.{Wfq, Wf2q, Msf2q, TwoDfq, TwoDfqPlus}
 use Rattle.fq_model.specs.declared.config.Estimator.{Estimator}
 use Rattle.fq_model.specs.declared.config.Estimator.TheVariants.{Declared, Recent, Pessimistic}
-use Rattle.vt_fixed.specs.declared.limits.TheConstants.{GREATEST_COST, MOST_WORKERS}
-use Rattle.fq_model.specs.declared.limits.TheConstants.{GREATEST_SLOT}
+use Rattle.vt_fixed.specs.declared.limits.TheConstants.{GREATEST_COST}
+use Rattle.fq_model.specs.declared.limits.TheConstants.{TEXT_WORKERS, GREATEST_SLOT}
 use Rattle.program_model.specs.declared.argument.Argument.TheVariants.{Number, Name}
 use Rattle.program_model.specs.Lines.{Words}
 use Rattle.fq_model.specs.Spelling.{policy_word, estimator_word}
@@ -55,7 +55,7 @@ name_option name = record { name = name; values = Named; absent = Required }
 
 -- how many workers there are
 abbrev pub workers_option : OptionRow
-workers_option = number_option (codes "--workers") 1 MOST_WORKERS (codes "4")
+workers_option = number_option (codes "--workers") 1 TEXT_WORKERS (codes "4")
 
 -- which waiting request a worker takes
 abbrev pub policy_option : OptionRow

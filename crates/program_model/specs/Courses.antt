@@ -1,6 +1,7 @@
 -- The rows of a trace in a history: each is submitted, and a worker serves it from a Take to a Done.
 use Rattle.std.specs.Prelude.{ℕ, zero, suc, ◌+◌, ◌-◌, ◌*◌, ◌/◌, ◌==◌, max, Bool, false, if◌then◌else◌, List, [], ◌∷◌, length, filter}
 use Rattle.fq_model.specs.declared.config.Config.{Config}
+use Rattle.fq_model.specs.declared.limits.Limits.TheVariants.{Text}
 use Rattle.fq_model.specs.declared.event.Act.{Act}
 use Rattle.fq_model.specs.declared.event.Act.TheVariants.{Take, Report, Done}
 use Rattle.fq_model.specs.declared.event.Entry.{Entry}
@@ -35,6 +36,7 @@ sum_over f (row ∷ rows) = f row + sum_over f rows
 -- the configuration of a trace's scheduler whose history may have this number of entries: all rows may wait at once
 abbrev pub trace_config : Trace → RunOptions → ℕ → Config
 trace_config T O entries = record {
+  limits = Text;
   workers = O.workers;
   weights = T.weights;
   kinds = length T.kinds;

@@ -6,12 +6,13 @@ use Rattle.std.specs.List.{list_any}
 use Rattle.fq_model.specs.declared.config.Policy.{Policy}
 use Rattle.fq_model.specs.declared.config.Estimator.{Estimator}
 use Rattle.fq_model.specs.declared.config.Config.{Config}
+use Rattle.fq_model.specs.declared.limits.Limits.TheVariants.{Text}
 use Rattle.program_model.specs.declared.fault.ScriptKind.{ScriptKind}
 use Rattle.program_model.specs.declared.fault.ScriptKind.TheVariants.{Word, Twice, TooMany, Header, Missing}
 use Rattle.program_model.specs.declared.version.Version.{Version}
 use Rattle.program_model.specs.declared.version.Version.TheVariants.{First, Second, Third}
-use Rattle.vt_fixed.specs.declared.limits.TheConstants.{GREATEST_COST, GREATEST_WEIGHT, MOST_WORKERS}
-use Rattle.fq_model.specs.declared.limits.TheConstants.{MOST_TENANTS, MOST_KINDS, MOST_PAIRS, LEAST_ENTRIES, MOST_ENTRIES, MOST_REQUESTS}
+use Rattle.vt_fixed.specs.declared.limits.TheConstants.{GREATEST_COST}
+use Rattle.fq_model.specs.declared.limits.TheConstants.{TEXT_WEIGHT, TEXT_WORKERS, TEXT_TENANTS, MOST_KINDS, TEXT_PAIRS, LEAST_ENTRIES, MOST_ENTRIES, TEXT_REQUESTS}
 use Rattle.program_model.specs.Reading.{◌>>=◌, at_line, begins_with, is_empty}
 use Rattle.program_model.specs.Lines.{lines_of, Words, words_of, with_count, ranged_at, name_at, policy_at, estimator_at}
 
@@ -40,6 +41,7 @@ LineReader A = Words → Result A ScriptKind
 -- the configuration of the scheduler that a document is about
 abbrev pub config_of : {A : Type 0} → Document A → Config
 config_of d = record {
+  limits = Text;
   workers = d.settings.workers;
   weights = d.weights;
   kinds = length d.kinds;
@@ -57,8 +59,8 @@ new_among names name = if list_any (λ other. bytes_eq other name) names then Er
 -- there are no more tenants and kinds than there may be
 abbrev pub not_too_many : {A : Type 0} → Document A → Result (Document A) ScriptKind
 not_too_many d =
-    if nat_lt MOST_TENANTS (length d.tenants)
-    || (nat_lt MOST_KINDS (length d.kinds) || nat_lt MOST_PAIRS (length d.tenants * length d.kinds))
+    if nat_lt TEXT_TENANTS (length d.tenants)
+    || (nat_lt MOST_KINDS (length d.kinds) || nat_lt TEXT_PAIRS (length d.tenants * length d.kinds))
     then Err TooMany
     else Ok d
 
@@ -66,12 +68,12 @@ not_too_many d =
 unfoldable pub settings_of : Words → Result Settings ScriptKind
 settings_of line = do
   words ← with_count 7 line
-  workers ← ranged_at words 1 1 MOST_WORKERS
+  workers ← ranged_at words 1 1 TEXT_WORKERS
   policy ← policy_at words 2
   estimate ← estimator_at words 3
   initial ← ranged_at words 4 1 GREATEST_COST
   entries ← ranged_at words 5 LEAST_ENTRIES MOST_ENTRIES
-  requests ← ranged_at words 6 1 MOST_REQUESTS
+  requests ← ranged_at words 6 1 TEXT_REQUESTS
   Ok (record {
     workers = workers;
     policy = policy;
@@ -86,7 +88,7 @@ unfoldable pub with_tenant : {A : Type 0} → Document A → Words → Result (D
 with_tenant d line = do
   words ← with_count 3 line
   name ← name_at words 1
-  weight ← ranged_at words 2 1 GREATEST_WEIGHT
+  weight ← ranged_at words 2 1 TEXT_WEIGHT
   new ← new_among d.tenants name
   not_too_many (record d { tenants = d.tenants ++ new ∷ []; weights = d.weights ++ weight ∷ [] })
 

@@ -2,7 +2,7 @@
 use Rattle.std.specs.Prelude.{ℕ, ◌≡◌, false, List, [], ◌∷◌, map, slice_index_or, codes}
 use Rattle.fq_model.specs.declared.config.Policy.TheVariants.{TwoDfq}
 use Rattle.fq_model.specs.declared.config.Estimator.TheVariants.{Pessimistic}
-use Rattle.fq_model.specs.declared.limits.TheConstants.{MOST_TENANTS, MOST_ROWS}
+use Rattle.fq_model.specs.declared.limits.TheConstants.{TEXT_TENANTS, MOST_ROWS}
 use Rattle.program_model.specs.declared.command.Command.{Command}
 use Rattle.program_model.specs.declared.command.Command.TheVariants.{Plain}
 use Rattle.program_model.specs.declared.command.PlainCommand.TheVariants as commands
@@ -31,7 +31,7 @@ gen_print_word gen.Summary = codes "summary"
 abbrev pub gen_options : List OptionRow
 gen_options =
     required_option (codes "--seed") 0 18446744073709551615
-    ∷ required_option (codes "--tenants") 1 MOST_TENANTS
+    ∷ required_option (codes "--tenants") 1 TEXT_TENANTS
     ∷ required_option (codes "--requests") 0 MOST_ROWS
     ∷ listed_option (codes "--print") (map gen_print_word gen_prints) (codes "trace")
     ∷ []

@@ -7,8 +7,8 @@ use Rattle.csv.specs.Reading.{records, default_config, strip_bom}
 use Rattle.program_model.specs.declared.fault.TraceKind.{TraceKind}
 use Rattle.program_model.specs.declared.fault.TraceKind.TheVariants.{NotUtf8, Word, Fields, Number, Range, UnknownTenant, Twice, Backward, TooMany, NoTenants}
 use Rattle.program_model.specs.declared.trace.TraceRow.{TraceRow}
-use Rattle.vt_fixed.specs.declared.limits.TheConstants.{GREATEST_COST, GREATEST_WEIGHT}
-use Rattle.fq_model.specs.declared.limits.TheConstants.{MOST_TENANTS, MOST_KINDS, MOST_PAIRS, MOST_ROWS, GREATEST_TRACE_MOMENT, GREATEST_SUBMITTER}
+use Rattle.vt_fixed.specs.declared.limits.TheConstants.{GREATEST_COST}
+use Rattle.fq_model.specs.declared.limits.TheConstants.{TEXT_WEIGHT, TEXT_TENANTS, MOST_KINDS, TEXT_PAIRS, MOST_ROWS, GREATEST_TRACE_MOMENT, GREATEST_SUBMITTER}
 use Rattle.fq_model.specs.Limits.{is_outside}
 use Rattle.fq_model.specs.Names.{number_among}
 use Rattle.program_model.specs.Numbers.{number_of}
@@ -71,9 +71,9 @@ tenant_at tenants fields k = name_at fields k >>= λ name. or_fault UnknownTenan
 -- the trace has no more tenants, kinds, pairs of both and requests than there may be
 abbrev pub not_too_many : Trace → Result Trace TraceKind
 not_too_many t =
-    if nat_lt MOST_TENANTS (length t.tenants)
+    if nat_lt TEXT_TENANTS (length t.tenants)
     || (nat_lt MOST_KINDS (length t.kinds)
-    || (nat_lt MOST_ROWS (length t.rows) || nat_lt MOST_PAIRS (length t.tenants * length t.kinds)))
+    || (nat_lt MOST_ROWS (length t.rows) || nat_lt TEXT_PAIRS (length t.tenants * length t.kinds)))
     then Err TooMany
     else Ok t
 
@@ -82,7 +82,7 @@ unfoldable pub with_tenant : Trace → Record → Result Trace TraceKind
 with_tenant t whole = do
   fields ← with_count 3 whole
   name ← new_name_at t.tenants fields 1
-  weight ← ranged_at fields 2 1 GREATEST_WEIGHT
+  weight ← ranged_at fields 2 1 TEXT_WEIGHT
   not_too_many (record t { tenants = t.tenants ++ name ∷ []; weights = t.weights ++ weight ∷ [] })
 
 -- `request,<moment>,<submitter>,<tenant>,<kind>,<declared>,<cost>`

@@ -4,8 +4,8 @@ use Rattle.std.specs.Fmt.{decimal}
 use Rattle.std.specs.List.Sorted.{IsNonDecreasing}
 use Rattle.program_model.specs.declared.trace.TraceRow.{TraceRow}
 use Rattle.vt_fixed.specs.declared.limits.TheConstants.{GREATEST_COST}
-use Rattle.fq_model.specs.declared.limits.TheConstants.{MOST_TENANTS, MOST_KINDS, MOST_PAIRS, MOST_ROWS, GREATEST_TRACE_MOMENT, GREATEST_SUBMITTER}
-use Rattle.fq_model.specs.Limits.{IsWithin, IsWeight}
+use Rattle.fq_model.specs.declared.limits.TheConstants.{TEXT_TENANTS, MOST_KINDS, TEXT_PAIRS, MOST_ROWS, GREATEST_TRACE_MOMENT, GREATEST_SUBMITTER}
+use Rattle.fq_model.specs.Limits.{IsWithin, IsTextWeight}
 use Rattle.fq_model.specs.Names.{AreNames}
 use Rattle.program_model.specs.Trace.{Trace}
 
@@ -23,11 +23,11 @@ pub record IsLawfulRow (tenants kinds : ℕ) (row : TraceRow) : Type 0 where
 pub record IsLawfulTrace (t : Trace) : Type 0 where
   pub some_tenant : 0 < length t.tenants
   pub some_kind : 0 < length t.kinds
-  pub tenants : AreNames MOST_TENANTS t.tenants
+  pub tenants : AreNames TEXT_TENANTS t.tenants
   pub kinds : AreNames MOST_KINDS t.kinds
-  pub pairs : length t.tenants * length t.kinds ≤ MOST_PAIRS
+  pub pairs : length t.tenants * length t.kinds ≤ TEXT_PAIRS
   pub weighed : length t.weights ≡ length t.tenants
-  pub weights : All IsWeight t.weights
+  pub weights : All IsTextWeight t.weights
   pub few : length t.rows ≤ MOST_ROWS
   pub rows : All (IsLawfulRow (length t.tenants) (length t.kinds)) t.rows
   pub in_order : IsNonDecreasing (map (λ row. row.moment) t.rows)

@@ -15,7 +15,7 @@ use crate::tracker::Tracker;
 use charge_book::row::RunRow;
 use fq_model::event::Cause;
 use fq_model::job::Job;
-use fq_model::limits::{GREATEST_COST, GREATEST_WEIGHT};
+use fq_model::limits::GREATEST_COST;
 use sched_journal::Ledger;
 use tag_rules::chooser::Chooser;
 
@@ -134,7 +134,7 @@ pub fn weight<J: Job + Drop, X: Chooser>(
 {
     if tenant >= journal.config().tenants() {
         Err(Cause::Tenant(tenant))
-    } else if weight < 1 || weight > GREATEST_WEIGHT {
+    } else if weight < 1 || weight > journal.config().limits().greatest_weight() {
         Err(Cause::Weight(weight))
     } else {
         room(journal, tracker.lists().len(), 2)

@@ -2,7 +2,7 @@
 ghost use Rattle.std.specs.Prelude.{◌≡◌, ◌≤◌, length};
 
 use fq_model::config::{Checked, Config, Policy};
-use fq_model::limits::MOST_WORKERS;
+use fq_model::limits::{Limits, MOST_WORKERS};
 use std::alloc::Global;
 use std::fmt::{Debug, Display};
 use std::marker::Send;
@@ -28,6 +28,7 @@ pub fn configured<R: Abort>(
 {
     let weights = vec![in alloc; 1; tenants].expect(rt, "memory for weights");
     let config = Config {
+        limits: Limits::Whole,
         workers,
         policy,
         ..sample_config(weights)

@@ -4,7 +4,7 @@ use Rattle.std.specs.Prelude.{slice_index}
 use Rattle.std.specs.Result.{IsErr, IsErrAnd}
 use Rattle.std.proofs.lemmas.Bool.{le-leb, lt-leb}
 use Rattle.std.proofs.lemmas.List.{take_more}
-use Rattle.fq_model.specs.Limits.{IsWeight, is_outside}
+use Rattle.fq_model.specs.Limits.{IsTextWeight, is_outside}
 use Rattle.fq_model.specs.Spelling.{is_name}
 use Rattle.tenant_table.specs.declared.fault.NameFault.{NameFault}
 use Rattle.tenant_table.specs.declared.fault.NameFault.TheVariants.{Word, Twice, TooMany, NoMemory}
@@ -27,19 +27,19 @@ kind_new kinds name spelled none room = rw (spelled, none, lt-leb 64 (length kin
 
 -- ---- a tenant
 
-weighs : (weight : ℕ) → IsWeight weight → is_outside 1 1000 weight ≡ false
+weighs : (weight : ℕ) → IsTextWeight weight → is_outside 1 1000 weight ≡ false
 weighs weight is = grind arith
 
 pub tenant_word : (tenants : List (List ℕ × ℕ)) (name : List ℕ) (weight : ℕ) → is_name name ≡ false → tenant_refusal tenants name weight ≡ Some Word
 tenant_word tenants name weight word = rw word refl
 
-pub tenant_twice : (tenants : List (List ℕ × ℕ)) (name : List ℕ) (weight t : ℕ) → is_name name ≡ true → IsWeight weight → number_among (names_of tenants) name ≡ Some t → tenant_refusal tenants name weight ≡ Some (Twice t)
+pub tenant_twice : (tenants : List (List ℕ × ℕ)) (name : List ℕ) (weight t : ℕ) → is_name name ≡ true → IsTextWeight weight → number_among (names_of tenants) name ≡ Some t → tenant_refusal tenants name weight ≡ Some (Twice t)
 tenant_twice tenants name weight t spelled is among = rw (spelled, weighs weight is, among) refl
 
-pub tenant_full : (tenants : List (List ℕ × ℕ)) (name : List ℕ) (weight : ℕ) → is_name name ≡ true → IsWeight weight → number_among (names_of tenants) name ≡ None → 4096 ≤ length tenants → tenant_refusal tenants name weight ≡ Some (TooMany 4096)
+pub tenant_full : (tenants : List (List ℕ × ℕ)) (name : List ℕ) (weight : ℕ) → is_name name ≡ true → IsTextWeight weight → number_among (names_of tenants) name ≡ None → 4096 ≤ length tenants → tenant_refusal tenants name weight ≡ Some (TooMany 4096)
 tenant_full tenants name weight spelled is none full = rw (spelled, weighs weight is, none, le-leb 4096 (length tenants) full) refl
 
-pub tenant_new : (tenants : List (List ℕ × ℕ)) (name : List ℕ) (weight : ℕ) → is_name name ≡ true → IsWeight weight → number_among (names_of tenants) name ≡ None → length tenants < 4096 → tenant_refusal tenants name weight ≡ None
+pub tenant_new : (tenants : List (List ℕ × ℕ)) (name : List ℕ) (weight : ℕ) → is_name name ≡ true → IsTextWeight weight → number_among (names_of tenants) name ≡ None → length tenants < 4096 → tenant_refusal tenants name weight ≡ None
 tenant_new tenants name weight spelled is none room = rw (spelled, weighs weight is, none, lt-leb 4096 (length tenants) room) refl
 
 -- ---- either

@@ -8,7 +8,7 @@ use Rattle.std.proofs.lemmas.List.Quantifiers.{position-Some, all_pairs_push}
 use Rattle.std.proofs.lemmas.List.Sums.{prefix_len_passes, position_or_len_is}
 use Rattle.std.proofs.lemmas.Option.{slice_get-get_or, slice_get-map, get_or_from_slice_get, none-some}
 use Rattle.std.proofs.lemmas.Slice.Eq.{bytes_eq-Decides}
-use Rattle.fq_model.specs.Limits.{IsWeight}
+use Rattle.fq_model.specs.Limits.{IsTextWeight}
 use Rattle.fq_model.specs.Spelling.{is_name}
 use Rattle.tenant_table.specs.Names.{names_of, weights_of, number_among, AreNames, AreTenants}
 use Rattle.tenant_table.specs.Rows.{tenants_of, kinds_of}
@@ -106,10 +106,10 @@ weights_of_push : (ts : List (List ℕ × ℕ)) (t : List ℕ × ℕ) → weight
 weights_of_push [] t = refl
 weights_of_push (u ∷ us) t = ap (λ l. u.1 ∷ l) (weights_of_push us t)
 
-pub tenants_push : (ts : List (List ℕ × ℕ)) (name : List ℕ) (weight : ℕ) → AreTenants ts → is_name name ≡ true → IsWeight weight → number_among (names_of ts) name ≡ None → length ts < 4096 → AreTenants (ts ++ (name, weight) ∷ [])
+pub tenants_push : (ts : List (List ℕ × ℕ)) (name : List ℕ) (weight : ℕ) → AreTenants ts → is_name name ≡ true → IsTextWeight weight → number_among (names_of ts) name ≡ None → length ts < 4096 → AreTenants (ts ++ (name, weight) ∷ [])
 tenants_push ts name weight are spelled weighs none room = record {
   names = rw (names_of_push ts (name, weight)) (names_push 4096 (names_of ts) name are.names spelled none (omega (arith, length_names ts)));
-  weights = rw (weights_of_push ts (name, weight)) (All-push IsWeight (weights_of ts) weight are.weights weighs);
+  weights = rw (weights_of_push ts (name, weight)) (All-push IsTextWeight (weights_of ts) weight are.weights weighs);
 }
 
 -- a row more shows its name and weight last

@@ -1,9 +1,8 @@
 -- Names of tenants and kinds, each a list of bytes, numbered from 0 in the order in which they were added.
 use Rattle.std.specs.Prelude.{ℕ, ◌≡◌, nat_le, not, List, [], ◌∷◌, length, map, All, Option, Some, None, is_some, unwrap_or, Result, Ok, Err}
-use Rattle.vt_fixed.specs.declared.limits.TheConstants.{GREATEST_WEIGHT}
-use Rattle.fq_model.specs.declared.limits.TheConstants.{MOST_TENANTS, MOST_KINDS}
+use Rattle.fq_model.specs.declared.limits.TheConstants.{TEXT_WEIGHT, TEXT_TENANTS, MOST_KINDS}
 use Rattle.fq_model.specs.Rows.{first_true}
-use Rattle.fq_model.specs.Limits.{IsWeight, is_outside}
+use Rattle.fq_model.specs.Limits.{IsTextWeight, is_outside}
 use Rattle.fq_model.specs.Spelling.{is_name}
 pub use Rattle.fq_model.specs.Names.{number_among, AreNames}
 use Rattle.tenant_table.specs.declared.fault.NameFault.{NameFault}
@@ -19,8 +18,8 @@ weights_of tenants = map (λ t. t.1) tenants
 
 -- at most 4,096 names, and each weight from 1 to 1,000
 pub record AreTenants (tenants : List (List ℕ × ℕ)) : Type 0 where
-  pub names : AreNames MOST_TENANTS (names_of tenants)
-  pub weights : All IsWeight (weights_of tenants)
+  pub names : AreNames TEXT_TENANTS (names_of tenants)
+  pub weights : All IsTextWeight (weights_of tenants)
 
 -- why a kind of this name is not added, if it is not (the number is read only below the row that asks for it)
 abbrev pub kind_refusal : List (List ℕ) → List ℕ → Option NameFault
@@ -34,9 +33,9 @@ kind_refusal kinds name = first_true
 abbrev pub tenant_refusal : List (List ℕ × ℕ) → List ℕ → ℕ → Option NameFault
 tenant_refusal tenants name weight = first_true
     ((not (is_name name), Word)
-    ∷ (is_outside 1 GREATEST_WEIGHT weight, Weight weight)
+    ∷ (is_outside 1 TEXT_WEIGHT weight, Weight weight)
     ∷ (is_some (number_among (names_of tenants) name), Twice (unwrap_or (number_among (names_of tenants) name) 0))
-    ∷ (nat_le MOST_TENANTS (length tenants), TooMany MOST_TENANTS)
+    ∷ (nat_le TEXT_TENANTS (length tenants), TooMany TEXT_TENANTS)
     ∷ [])
 
 -- the fault is the reason; want of memory comes only where there is no other

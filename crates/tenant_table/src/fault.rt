@@ -2,7 +2,7 @@
 ghost use Rattle.std.specs.Prelude.{◌≡◌};
 ghost use Rattle.tenant_table.specs.declared.fault.NameFault.TheVariants.{NoMemory};
 
-use fq_model::limits::GREATEST_WEIGHT;
+use fq_model::limits::TEXT_WEIGHT;
 use std::alloc::AllocError;
 use thiserror::Error;
 
@@ -14,7 +14,7 @@ pub enum NameFault {
     #[error("not a name: it has to be 1 to 64 ASCII letters, digits, `_`, `-` or `.`")]
     Word,
     /// A tenant's weight, which is not from 1 to 1,000.
-    #[error("the weight {0} is not from 1 to {GREATEST_WEIGHT}")]
+    #[error("the weight {0} is not from 1 to {TEXT_WEIGHT}")]
     Weight(u32),
     /// The number that has the name already.
     #[error("number {0} has the name already")]

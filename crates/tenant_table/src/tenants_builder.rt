@@ -1,13 +1,13 @@
 //! Tenants while they are added.
 ghost use Rattle.std.specs.Prelude.{◌≡◌, ◌<◌, ◌==◌, ◌++◌, [], ◌∷◌, IsTrue, length, Some, None, IfOk, OnOk, OnErr, IfSome, IfNone, Contains, slice_get};
-ghost use Rattle.fq_model.specs.Limits.{IsWeight};
+ghost use Rattle.fq_model.specs.Limits.{IsTextWeight};
 ghost use Rattle.fq_model.specs.Spelling.{is_name};
 ghost use Rattle.tenant_table.specs.Names.{names_of, number_among, AreTenants, tenant_refusal, IsAnswer};
 ghost use Rattle.tenant_table.specs.Rows.{tenants_of};
 
 use crate::fault::NameFault;
 use crate::tenants::Tenants;
-use fq_model::limits::{GREATEST_WEIGHT, MOST_TENANTS};
+use fq_model::limits::{TEXT_WEIGHT, TEXT_TENANTS};
 use fq_model::names::is_name;
 use indexmap::IndexMap;
 use std::alloc::{AllocError, Global};
@@ -54,15 +54,15 @@ impl TenantsBuilder {
         if !is_name(name.as_bytes()) {
             return Err(NameFault::Word);
         }
-        if weight < 1 || weight > GREATEST_WEIGHT {
+        if weight < 1 || weight > TEXT_WEIGHT {
             return Err(NameFault::Weight(weight));
         }
         if let Some(t) = self.find(name) {
             return Err(NameFault::Twice(t));
         }
         let number = self.len();
-        if number >= MOST_TENANTS {
-            return Err(NameFault::TooMany(MOST_TENANTS));
+        if number >= TEXT_TENANTS {
+            return Err(NameFault::TooMany(TEXT_TENANTS));
         }
         Ok(self.add_new(name, weight)?)
     }
@@ -71,9 +71,9 @@ impl TenantsBuilder {
     /// Where memory runs out, the tenants stay as they were.
     pub fn add_new(&mut self, name: &str, weight: u32) -> Result<u32, AllocError>
         requires spelled { IsTrue (is_name name.now) }
-        requires weighs { IsWeight weight }
+        requires weighs { IsTextWeight weight }
         requires absent { number_among (names_of self.old) name.now ≡ None }
-        requires room { length self.old < MOST_TENANTS }
+        requires room { length self.old < TEXT_TENANTS }
         ensures number { IfOk result (λ t. t ≡ length self.old) }
         ensures added { OnOk result (self.new ≡ self.old ++ (name.now, weight) ∷ []) }
         ensures unchanged { OnErr result (self.new ≡ self.old) }

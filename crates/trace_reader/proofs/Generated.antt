@@ -15,7 +15,7 @@ use Rattle.std.proofs.lemmas.Slice.Eq.{bytes_eq-Decides}
 use Rattle.rand_pcg.specs.Lcg.{Lcg}
 use Rattle.rand_pcg.specs.Pcg.{pcg32}
 use Rattle.vt_fixed.specs.declared.limits.TheConstants.{GREATEST_COST}
-use Rattle.fq_model.specs.declared.limits.TheConstants.{MOST_TENANTS, MOST_KINDS, MOST_ROWS, MOST_ENTRIES}
+use Rattle.fq_model.specs.declared.limits.TheConstants.{TEXT_TENANTS, MOST_KINDS, MOST_ROWS, MOST_ENTRIES}
 use Rattle.program_model.specs.declared.trace.TraceRow.{TraceRow}
 use Rattle.program_model.specs.GenCommand.{default_run_options}
 use Rattle.program_model.specs.Courses.{sum_over, reports_below}
@@ -173,7 +173,7 @@ record IsGenerated (n j : ℕ) (t : Trace) : Type 0 where
   moment : last_row_moment t.rows ≤ 199 * j
   costs : All (λ row. row.cost < 100000) t.rows
 
-none_generated : (n : ℕ) → n ≤ MOST_TENANTS → IsGenerated n 0 (generated_tenants n)
+none_generated : (n : ℕ) → n ≤ TEXT_TENANTS → IsGenerated n 0 (generated_tenants n)
 none_generated n few = record {
   kept = record {
     tenants = are_names n few;
@@ -193,7 +193,7 @@ none_generated n few = record {
   costs = λ k d b. absurd (omega arith);
 }
 
-one_generated : (n j : ℕ) (t : Trace) (a b c : ℕ) → 1 ≤ n → n ≤ MOST_TENANTS → j < MOST_ROWS → IsGenerated n j t → IsGenerated n (suc j) (with_generated n j t a b c)
+one_generated : (n j : ℕ) (t : Trace) (a b c : ℕ) → 1 ≤ n → n ≤ TEXT_TENANTS → j < MOST_ROWS → IsGenerated n j t → IsGenerated n (suc j) (with_generated n j t a b c)
 one_generated n j t a b c some few room is =
     let tenant = b % n in
     let kind = generated_kind tenant in
@@ -223,7 +223,7 @@ one_generated n j t a b c some few room is =
       costs = All-push (λ r. r.cost < 100000) t.rows row is.costs cost.1;
     }
 
-is_generated : (seed n j : ℕ) → 1 ≤ n → n ≤ MOST_TENANTS → j ≤ MOST_ROWS → IsGenerated n j (generated_requests seed n j)
+is_generated : (seed n j : ℕ) → 1 ≤ n → n ≤ TEXT_TENANTS → j ≤ MOST_ROWS → IsGenerated n j (generated_requests seed n j)
 unfolding generated_requests
 is_generated seed n zero some few room = none_generated n few
 is_generated seed n (suc j) some few room =
@@ -232,7 +232,7 @@ is_generated seed n (suc j) some few room =
 
 -- ---- consequences
 
-pub has_room : (seed n j : ℕ) (t : Trace) → t ≡ generated_requests seed n j → 1 ≤ n → n ≤ MOST_TENANTS → j ≤ MOST_ROWS → HasRoomForOne t
+pub has_room : (seed n j : ℕ) (t : Trace) → t ≡ generated_requests seed n j → 1 ≤ n → n ≤ TEXT_TENANTS → j ≤ MOST_ROWS → HasRoomForOne t
 has_room seed n j t same some few room = subst HasRoomForOne (sym same) (go (is_generated seed n j some few room))
   where
     go : {u : Trace} → IsGenerated n j u → HasRoomForOne u
@@ -242,23 +242,23 @@ has_room seed n j t same some few room = subst HasRoomForOne (sym same) (go (is_
       moment = omega (arith, is.moment);
     }
 
-pub as_many_as_asked : (seed n j : ℕ) → 1 ≤ n → n ≤ MOST_TENANTS → j ≤ MOST_ROWS → length (generated_requests seed n j).tenants ≡ n
+pub as_many_as_asked : (seed n j : ℕ) → 1 ≤ n → n ≤ TEXT_TENANTS → j ≤ MOST_ROWS → length (generated_requests seed n j).tenants ≡ n
 as_many_as_asked seed n j some few room = (is_generated seed n j some few room).tenants
 
-pub generated_lawful : (seed n j : ℕ) → 1 ≤ n → n ≤ MOST_TENANTS → j ≤ MOST_ROWS → IsLawfulTrace (generated_trace seed n j)
+pub generated_lawful : (seed n j : ℕ) → 1 ≤ n → n ≤ TEXT_TENANTS → j ≤ MOST_ROWS → IsLawfulTrace (generated_trace seed n j)
 unfolding generated_trace
 generated_lawful seed n j some few room =
     let is = is_generated seed n j some few room in
     let t = generated_requests seed n j in
     lawful_at_end t (is_empty t.rows) refl (false_from_ne_true (is_empty t.tenants) (λ none. omega (arith, is.tenants, eqb-true (length t.tenants) 0 none))) is.kept
 
-in_order : (seed n j : ℕ) → 1 ≤ n → n ≤ MOST_TENANTS → j ≤ MOST_ROWS → HasKindsInOrder (generated_trace seed n j)
+in_order : (seed n j : ℕ) → 1 ≤ n → n ≤ TEXT_TENANTS → j ≤ MOST_ROWS → HasKindsInOrder (generated_trace seed n j)
 unfolding generated_trace
 in_order seed n j some few room =
     let t = generated_requests seed n j in
     in_order_at_end t.tenants t.weights t.kinds t.rows (is_generated seed n j some few room).appear
 
-pub generated_read : (seed n j : ℕ) → 1 ≤ n → n ≤ MOST_TENANTS → j ≤ MOST_ROWS → trace_of (trace_text (generated_trace seed n j)) ≡ Ok (generated_trace seed n j)
+pub generated_read : (seed n j : ℕ) → 1 ≤ n → n ≤ TEXT_TENANTS → j ≤ MOST_ROWS → trace_of (trace_text (generated_trace seed n j)) ≡ Ok (generated_trace seed n j)
 generated_read seed n j some few room = reads_back (generated_trace seed n j) (generated_lawful seed n j some few room) (in_order seed n j some few room)
 
 same_rows : (t : Trace) → (with_some_kind t).rows ≡ t.rows
@@ -276,7 +276,7 @@ all_reports-few : (rows : List TraceRow) → All (λ row. row.cost < 100000) row
 all_reports-few [] costs = omega arith
 all_reports-few (row ∷ rows) costs = omega (arith, reports-few row.cost (costs 0 row (omega arith)), all_reports-few rows (λ k d b. costs (suc k) d (omega arith)))
 
-pub generated_short : (seed n j : ℕ) → 1 ≤ n → n ≤ MOST_TENANTS → j ≤ MOST_ROWS → needed_entries (generated_trace seed n j).rows default_run_options.refresh ≤ MOST_ENTRIES
+pub generated_short : (seed n j : ℕ) → 1 ≤ n → n ≤ TEXT_TENANTS → j ≤ MOST_ROWS → needed_entries (generated_trace seed n j).rows default_run_options.refresh ≤ MOST_ENTRIES
 unfolding generated_trace
 generated_short seed n j some few room =
     let is = is_generated seed n j some few room in

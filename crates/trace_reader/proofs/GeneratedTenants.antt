@@ -6,9 +6,9 @@ use Rattle.std.proofs.lemmas.Bool.{le-leb}
 use Rattle.std.proofs.lemmas.List.{length-map, map-append}
 use Rattle.std.proofs.lemmas.Fmt.{decimal_injective, length-decimal-le}
 use Rattle.std.proofs.lemmas.List.FromFn.{get_or-map-range_with_len, length-map-range_with_len, map-range_with_len_more}
-use Rattle.fq_model.specs.declared.limits.TheConstants.{MOST_TENANTS}
+use Rattle.fq_model.specs.declared.limits.TheConstants.{TEXT_TENANTS}
 use Rattle.program_model.specs.Generator.{generated_name, generated_weight}
-use Rattle.fq_model.specs.Limits.{IsWeight}
+use Rattle.fq_model.specs.Limits.{IsTextWeight}
 use Rattle.fq_model.specs.Names.{AreNames, number_among}
 use Rattle.fq_model.specs.Spelling.{is_name}
 use Rattle.tenant_table.specs.Names.{names_of, weights_of}
@@ -45,7 +45,7 @@ name_absent t few = none_among (first_names t) (generated_name t) (λ k b same.
     let equal : k ≡ t = name_injective k t (omega arith) few (sym (name_at t k [] below) ∙ same) in
     omega (arith, equal, below))
 
-pub are_names : (n : ℕ) → n ≤ MOST_TENANTS → AreNames MOST_TENANTS (first_names n)
+pub are_names : (n : ℕ) → n ≤ TEXT_TENANTS → AreNames TEXT_TENANTS (first_names n)
 are_names n few = record {
   few = omega (arith, count n);
   spelled = λ k d b. rw (name_at n k d (omega (arith, b, count n))) (name_spelled k (omega (arith, b, count n)));
@@ -55,7 +55,7 @@ are_names n few = record {
       omega (arith, equal, before);
 }
 
-pub are_weights : (n : ℕ) → All IsWeight (first_weights n)
+pub are_weights : (n : ℕ) → All IsTextWeight (first_weights n)
 are_weights n = λ k d b.
     rw (get_or-map-range_with_len generated_weight 0 n k k d (omega (arith, b, length-map-range_with_len generated_weight 0 n)) (omega arith)) (omega arith, omega arith)
 

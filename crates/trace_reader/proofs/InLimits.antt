@@ -2,7 +2,7 @@
 use Rattle.std.proofs.Common.{ℕ, ◌*◌, ◌≤◌, ◌≡◌, max, length, arith, List, Result, Ok, Err, IsOk, IfErr, subst, sym, ap, refl, ◌∙◌, Some, None}
 use Rattle.fq_model.specs.declared.config.Config.{Config}
 use Rattle.program_model.specs.declared.trace.RunOptions.{RunOptions}
-use Rattle.fq_model.specs.declared.limits.TheConstants.{MOST_PAIRS, LEAST_ENTRIES, MOST_ENTRIES}
+use Rattle.fq_model.specs.declared.limits.TheConstants.{TEXT_PAIRS, LEAST_ENTRIES, MOST_ENTRIES}
 use Rattle.fq_model.specs.declared.config.ConfigFault.{ConfigFault}
 use Rattle.program_model.specs.Courses.{trace_config}
 use Rattle.fq_model.specs.Limits.{InLimits, IsWithin, config_fault}
@@ -18,7 +18,7 @@ module _ (T : Trace) (O : RunOptions) where
     tenants = (omega (arith, lawful.weighed, lawful.some_tenant), omega (arith, lawful.weighed, lawful.tenants.few));
     weights = lawful.weights;
     kinds = (lawful.some_kind, lawful.kinds.few);
-    pairs = subst (λ n. n * length T.kinds ≤ MOST_PAIRS) (sym lawful.weighed) lawful.pairs;
+    pairs = subst (λ n. n * length T.kinds ≤ TEXT_PAIRS) (sym lawful.weighed) lawful.pairs;
     entries = (within.0, omega (arith, within.1));
     requests = (omega arith, omega (arith, lawful.few));
     initial = options.initial;

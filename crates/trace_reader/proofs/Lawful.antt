@@ -11,11 +11,11 @@ use Rattle.std.proofs.lemmas.List.Elements.{All-push}
 use Rattle.std.proofs.lemmas.List.Quantifiers.{position-Some}
 use Rattle.std.proofs.lemmas.List.Sorted.{IsNonDecreasingBy-push}
 use Rattle.csv.specs.Reading.{default_config, records, strip_bom}
-use Rattle.vt_fixed.specs.declared.limits.TheConstants.{GREATEST_COST, GREATEST_WEIGHT}
-use Rattle.fq_model.specs.declared.limits.TheConstants.{MOST_TENANTS, MOST_KINDS, MOST_PAIRS, MOST_ROWS, GREATEST_TRACE_MOMENT, GREATEST_SUBMITTER}
+use Rattle.vt_fixed.specs.declared.limits.TheConstants.{GREATEST_COST}
+use Rattle.fq_model.specs.declared.limits.TheConstants.{TEXT_WEIGHT, TEXT_TENANTS, MOST_KINDS, TEXT_PAIRS, MOST_ROWS, GREATEST_TRACE_MOMENT, GREATEST_SUBMITTER}
 use Rattle.program_model.specs.declared.fault.TraceKind.TheVariants.{Word, Range, UnknownTenant, Twice, Backward, TooMany, NoTenants}
 use Rattle.program_model.specs.declared.trace.TraceRow.{TraceRow}
-use Rattle.fq_model.specs.Limits.{IsWithin, IsWeight, is_outside}
+use Rattle.fq_model.specs.Limits.{IsWithin, IsTextWeight, is_outside}
 use Rattle.fq_model.specs.Names.{AreNames, number_among, number_by_appearance, with_appearance}
 use Rattle.fq_model.specs.Spelling.{is_name}
 use Rattle.program_model.specs.Reading.{◌>>=◌, at_line, begins_with, is_empty, or_fault}
@@ -99,20 +99,20 @@ tenant-below names fields k t h =
 
 -- the properties of a trace that is being read
 pub record IsKept (t : Trace) : Type 0 where
-  pub tenants : AreNames MOST_TENANTS t.tenants
+  pub tenants : AreNames TEXT_TENANTS t.tenants
   pub kinds : AreNames MOST_KINDS t.kinds
-  pub pairs : length t.tenants * length t.kinds ≤ MOST_PAIRS
+  pub pairs : length t.tenants * length t.kinds ≤ TEXT_PAIRS
   pub weighed : length t.weights ≡ length t.tenants
-  pub weights : All IsWeight t.weights
+  pub weights : All IsTextWeight t.weights
   pub few : length t.rows ≤ MOST_ROWS
   pub rows : All (IsLawfulRow (length t.tenants) (length t.kinds)) t.rows
   pub in_order : IsNonDecreasing (map (λ row. row.moment) t.rows)
 
 pub record IsFew (t u : Trace) : Type 0 where
-  pub tenants : length t.tenants ≤ MOST_TENANTS
+  pub tenants : length t.tenants ≤ TEXT_TENANTS
   pub kinds : length t.kinds ≤ MOST_KINDS
   pub rows : length t.rows ≤ MOST_ROWS
-  pub pairs : length t.tenants * length t.kinds ≤ MOST_PAIRS
+  pub pairs : length t.tenants * length t.kinds ≤ TEXT_PAIRS
   pub same : t ≡ u
 
 few : (a b c d : Bool) (t u : Trace) → (if a || (b || (c || d)) then Err TooMany else Ok t) ≡ Ok u → (a ≡ false) × (b ≡ false) × (c ≡ false) × (d ≡ false) × (t ≡ u)
@@ -124,12 +124,12 @@ few false false false false t u h = (refl, refl, refl, refl, Ok-injective h)
 
 not_too_many-few : (t u : Trace) → not_too_many t ≡ Ok u → IsFew t u
 not_too_many-few t u h =
-    let f = few (nat_lt MOST_TENANTS (length t.tenants)) (nat_lt MOST_KINDS (length t.kinds)) (nat_lt MOST_ROWS (length t.rows)) (nat_lt MOST_PAIRS (length t.tenants * length t.kinds)) t u h in
+    let f = few (nat_lt TEXT_TENANTS (length t.tenants)) (nat_lt MOST_KINDS (length t.kinds)) (nat_lt MOST_ROWS (length t.rows)) (nat_lt TEXT_PAIRS (length t.tenants * length t.kinds)) t u h in
     record {
-      tenants = ltb-false MOST_TENANTS (length t.tenants) f.0;
+      tenants = ltb-false TEXT_TENANTS (length t.tenants) f.0;
       kinds = ltb-false MOST_KINDS (length t.kinds) f.1;
       rows = ltb-false MOST_ROWS (length t.rows) f.2;
-      pairs = ltb-false MOST_PAIRS (length t.tenants * length t.kinds) f.3;
+      pairs = ltb-false TEXT_PAIRS (length t.tenants * length t.kinds) f.3;
       same = f.4;
     }
 
@@ -148,18 +148,18 @@ unfolding with_tenant
 with_tenant-kept t u whole kept h =
     let fields = bind_ok (with_count 3 whole) _ u h in
     let name = bind_ok (new_name_at t.tenants fields.0 1) _ u fields.2 in
-    let weight = bind_ok (ranged_at fields.0 2 1 GREATEST_WEIGHT) _ u name.2 in
+    let weight = bind_ok (ranged_at fields.0 2 1 TEXT_WEIGHT) _ u name.2 in
     let more : Trace = record t { tenants = t.tenants ++ name.0 ∷ []; weights = t.weights ++ weight.0 ∷ [] } in
     let is_few = not_too_many-few more u weight.2 in
     let new = new_named t.tenants fields.0 1 name.0 name.1 in
     let tenants : length (t.tenants ++ name.0 ∷ []) ≡ length t.tenants + 1 = omega (arith, length-append t.tenants (name.0 ∷ [])) in
     let weights : length (t.weights ++ weight.0 ∷ []) ≡ length t.weights + 1 = omega (arith, length-append t.weights (weight.0 ∷ [])) in
     subst IsKept is_few.same (record {
-      tenants = names_push MOST_TENANTS t.tenants name.0 kept.tenants new.0 new.1 (omega (arith, is_few.tenants, tenants));
+      tenants = names_push TEXT_TENANTS t.tenants name.0 kept.tenants new.0 new.1 (omega (arith, is_few.tenants, tenants));
       kinds = kept.kinds;
       pairs = is_few.pairs;
       weighed = omega (arith, kept.weighed, tenants, weights);
-      weights = All-push IsWeight t.weights weight.0 kept.weights (ranged-within fields.0 2 1 GREATEST_WEIGHT weight.0 weight.1);
+      weights = All-push IsTextWeight t.weights weight.0 kept.weights (ranged-within fields.0 2 1 TEXT_WEIGHT weight.0 weight.1);
       few = kept.few;
       rows = λ k d b. widen (length t.tenants) (length (t.tenants ++ name.0 ∷ [])) (length t.kinds) (length t.kinds) (get_or t.rows k d) (omega (arith, tenants)) (omega arith) (kept.rows k d b);
       in_order = kept.in_order;
@@ -270,7 +270,7 @@ no_names limit = record { few = omega arith; spelled = λ k d b. absurd (omega a
 
 none_kept : IsKept no_records
 none_kept = record {
-  tenants = no_names MOST_TENANTS;
+  tenants = no_names TEXT_TENANTS;
   kinds = no_names MOST_KINDS;
   pairs = omega arith;
   weighed = refl;

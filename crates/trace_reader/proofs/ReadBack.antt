@@ -14,10 +14,10 @@ use Rattle.std.proofs.lemmas.List.{append-nil, length-map, map-append, get_or-ta
 use Rattle.std.proofs.lemmas.Nat.{mul-le}
 use Rattle.std.proofs.lemmas.List.Sums.{position_or_len_is}
 use Rattle.std.proofs.lemmas.Slice.Eq.{bytes_eq-Decides}
-use Rattle.vt_fixed.specs.declared.limits.TheConstants.{GREATEST_COST, GREATEST_WEIGHT}
-use Rattle.fq_model.specs.declared.limits.TheConstants.{MOST_TENANTS, MOST_KINDS, MOST_PAIRS, MOST_ROWS, GREATEST_TRACE_MOMENT, GREATEST_SUBMITTER}
+use Rattle.vt_fixed.specs.declared.limits.TheConstants.{GREATEST_COST}
+use Rattle.fq_model.specs.declared.limits.TheConstants.{TEXT_WEIGHT, TEXT_TENANTS, MOST_KINDS, TEXT_PAIRS, MOST_ROWS, GREATEST_TRACE_MOMENT, GREATEST_SUBMITTER}
 use Rattle.program_model.specs.declared.trace.TraceRow.{TraceRow}
-use Rattle.fq_model.specs.Limits.{IsWithin, IsWeight, is_outside}
+use Rattle.fq_model.specs.Limits.{IsWithin, IsTextWeight, is_outside}
 use Rattle.fq_model.specs.Names.{AreNames, number_among, number_by_appearance, with_appearance}
 use Rattle.fq_model.specs.Spelling.{is_name}
 use Rattle.program_model.specs.Trace.{Trace, last_row_moment, with_row}
@@ -47,29 +47,29 @@ new_named : (names : List (List ℕ)) (fields : Record) (k : ℕ) (name : List �
 unfolding new_name_at
 new_named names fields k name is spelled none = rw (named fields k name is spelled, none) refl
 
-few : (t : Trace) → length t.tenants ≤ MOST_TENANTS → length t.kinds ≤ MOST_KINDS → length t.rows ≤ MOST_ROWS → length t.tenants * length t.kinds ≤ MOST_PAIRS → not_too_many t ≡ Ok t
+few : (t : Trace) → length t.tenants ≤ TEXT_TENANTS → length t.kinds ≤ MOST_KINDS → length t.rows ≤ MOST_ROWS → length t.tenants * length t.kinds ≤ TEXT_PAIRS → not_too_many t ≡ Ok t
 few t tenants kinds rows pairs = rw (
-  not_above MOST_TENANTS (length t.tenants) tenants,
+  not_above TEXT_TENANTS (length t.tenants) tenants,
   not_above MOST_KINDS (length t.kinds) kinds,
   not_above MOST_ROWS (length t.rows) rows,
-  not_above MOST_PAIRS (length t.tenants * length t.kinds) pairs,
+  not_above TEXT_PAIRS (length t.tenants * length t.kinds) pairs,
 ) refl
 
 -- a trace with one tenant more
 abbrev more_tenant : Trace → List ℕ → ℕ → Trace
 more_tenant t name weight = record t { tenants = t.tenants ++ name ∷ []; weights = t.weights ++ weight ∷ [] }
 
-tenant_read : (t : Trace) (name : List ℕ) (weight : ℕ) → is_name name ≡ true → number_among t.tenants name ≡ None → IsWeight weight
+tenant_read : (t : Trace) (name : List ℕ) (weight : ℕ) → is_name name ≡ true → number_among t.tenants name ≡ None → IsTextWeight weight
     → not_too_many (more_tenant t name weight) ≡ Ok (more_tenant t name weight)
     → with_tenant t (tenant_fields name weight) ≡ Ok (more_tenant t name weight)
 unfolding with_tenant
 tenant_read t name weight spelled none limits fits =
     rw (
       new_named t.tenants (tenant_fields name weight) 1 name refl spelled none,
-      ranged (tenant_fields name weight) 2 1 GREATEST_WEIGHT weight refl (omega (arith, limits.1)) limits,
+      ranged (tenant_fields name weight) 2 1 TEXT_WEIGHT weight refl (omega (arith, limits.1)) limits,
     ) fits
 
-tenant_recorded : (t : Trace) (name : List ℕ) (weight : ℕ) → is_name name ≡ true → number_among t.tenants name ≡ None → IsWeight weight
+tenant_recorded : (t : Trace) (name : List ℕ) (weight : ℕ) → is_name name ≡ true → number_among t.tenants name ≡ None → IsTextWeight weight
     → not_too_many (more_tenant t name weight) ≡ Ok (more_tenant t name weight)
     → with_record t (tenant_fields name weight) ≡ Ok (more_tenant t name weight)
 unfolding with_record
@@ -107,7 +107,7 @@ abbrev base : List (List ℕ) → List ℕ → Trace
 base tenants weights = record { tenants = tenants; weights = weights; kinds = []; rows = [] }
 
 tenants_read : (names : List (List ℕ)) (weights : List ℕ) (place : ℕ) (done : List (List ℕ)) (weighed : List ℕ) (more : List Record) (u : Trace)
-    → AreNames MOST_TENANTS (done ++ names) → length weights ≡ length names → All IsWeight weights
+    → AreNames TEXT_TENANTS (done ++ names) → length weights ≡ length names → All IsTextWeight weights
     → ((place : ℕ) → with_records place (base (done ++ names) (weighed ++ weights)) more ≡ Ok u)
     → with_records place (base done weighed) (tenant_rows names weights ++ more) ≡ Ok u
 tenants_read [] [] place done weighed more u are same limits rest_reads = rw (append-nil done, append-nil weighed) at (rest_reads place)
@@ -142,7 +142,7 @@ tenant_is names fields k name t is spelled some = rw (named fields k name is spe
 abbrev next_of : Trace → List (List ℕ) → TraceRow → Trace
 next_of t kinds row = with_row t row.moment row.submitter row.tenant (get_or kinds row.kind []) row.declared row.cost
 
-request_read : (t : Trace) (kinds : List (List ℕ)) (row : TraceRow) → AreNames MOST_TENANTS t.tenants → AreNames MOST_KINDS kinds → IsLawfulRow (length t.tenants) (length kinds) row
+request_read : (t : Trace) (kinds : List (List ℕ)) (row : TraceRow) → AreNames TEXT_TENANTS t.tenants → AreNames MOST_KINDS kinds → IsLawfulRow (length t.tenants) (length kinds) row
     → last_row_moment t.rows ≤ row.moment → not_too_many (next_of t kinds row) ≡ Ok (next_of t kinds row)
     → with_request t (request_fields t.tenants kinds row) ≡ Ok (next_of t kinds row)
 unfolding with_request
@@ -151,13 +151,13 @@ request_read t kinds row tenants are is last fits =
     rw (
       moment_read t.rows fields 1 row.moment refl (omega (arith, is.moment)) (omega arith, is.moment) last,
       ranged fields 2 0 GREATEST_SUBMITTER row.submitter refl (omega (arith, is.submitter)) (omega arith, is.submitter),
-      tenant_is t.tenants fields 3 (get_or t.tenants row.tenant []) row.tenant refl (tenants.spelled row.tenant [] is.tenant) (finds MOST_TENANTS t.tenants row.tenant tenants is.tenant),
+      tenant_is t.tenants fields 3 (get_or t.tenants row.tenant []) row.tenant refl (tenants.spelled row.tenant [] is.tenant) (finds TEXT_TENANTS t.tenants row.tenant tenants is.tenant),
       named fields 4 (get_or kinds row.kind []) refl (are.spelled row.kind [] is.kind),
       ranged fields 5 1 GREATEST_COST row.declared refl (omega (arith, is.declared.1)) is.declared,
       ranged fields 6 1 GREATEST_COST row.cost refl (omega (arith, is.cost.1)) is.cost,
     ) fits
 
-request_recorded : (t : Trace) (kinds : List (List ℕ)) (row : TraceRow) → AreNames MOST_TENANTS t.tenants → AreNames MOST_KINDS kinds → IsLawfulRow (length t.tenants) (length kinds) row
+request_recorded : (t : Trace) (kinds : List (List ℕ)) (row : TraceRow) → AreNames TEXT_TENANTS t.tenants → AreNames MOST_KINDS kinds → IsLawfulRow (length t.tenants) (length kinds) row
     → last_row_moment t.rows ≤ row.moment → not_too_many (next_of t kinds row) ≡ Ok (next_of t kinds row)
     → with_record t (request_fields t.tenants kinds row) ≡ Ok (next_of t kinds row)
 unfolding with_record
@@ -230,7 +230,7 @@ requests_read t (row ∷ rows) place done seen is all appear some any same =
     let longer : length (done ++ row ∷ []) ≡ length done + 1 = length-append done (row ∷ []) in
     let most : max seen (row.kind + 1) ≤ length t.kinds = omega (arith, lawful.kind, some) in
     let size : length (take (max seen (row.kind + 1)) t.kinds) ≡ max seen (row.kind + 1) = length-take-le (max seen (row.kind + 1)) t.kinds most in
-    let pairs : length t.tenants * length (take (max seen (row.kind + 1)) t.kinds) ≤ MOST_PAIRS =
+    let pairs : length t.tenants * length (take (max seen (row.kind + 1)) t.kinds) ≤ TEXT_PAIRS =
     rw size (omega (arith, mul-le (length t.tenants) (max seen (row.kind + 1)) (length t.tenants) (length t.kinds) (omega arith) most, is.pairs)) in
     let fits : not_too_many next ≡ Ok next = few next is.tenants.few (omega (arith, size, most, is.kinds.few)) (omega (arith, longer, counted, is.few)) pairs in
     let first : with_record now (request_fields t.tenants t.kinds row) ≡ Ok (next_of now t.kinds row) =

@@ -1,6 +1,6 @@
 -- The results of the generator of traces, against the numbers that it is asked for.
 use Rattle.std.specs.Prelude.{ℕ, ◌<◌, ◌≤◌, ◌≡◌, nat_lt, [], ◌∷◌, length, Option, None, Some, Result, Ok, Err}
-use Rattle.fq_model.specs.declared.limits.TheConstants.{MOST_TENANTS, MOST_KINDS, MOST_ROWS, GREATEST_TRACE_MOMENT}
+use Rattle.fq_model.specs.declared.limits.TheConstants.{TEXT_TENANTS, MOST_KINDS, MOST_ROWS, GREATEST_TRACE_MOMENT}
 use Rattle.fq_model.specs.Limits.{is_outside}
 use Rattle.fq_model.specs.Rows.{first_true}
 use Rattle.program_model.specs.Trace.{Trace, last_row_moment}
@@ -10,7 +10,7 @@ use Rattle.trace_reader.specs.declared.fault.GenFault.TheVariants.{Tenants, Requ
 -- why no trace with these numbers of tenants and requests is generated, if none is
 abbrev pub gen_refusal : ℕ → ℕ → Option GenFault
 gen_refusal tenants requests = first_true
-    ((is_outside 1 MOST_TENANTS tenants, Tenants tenants)
+    ((is_outside 1 TEXT_TENANTS tenants, Tenants tenants)
     ∷ (nat_lt MOST_ROWS requests, Requests requests)
     ∷ [])
 

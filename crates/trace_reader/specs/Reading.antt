@@ -5,7 +5,7 @@ use Rattle.csv.specs.Reading.{ReadRecord}
 use Rattle.csv.specs.declared.reader.Reader.{Reader}
 use Rattle.program_model.specs.declared.fault.TraceKind.{TraceKind}
 use Rattle.program_model.specs.declared.trace.TraceRow.{TraceRow}
-use Rattle.fq_model.specs.declared.limits.TheConstants.{MOST_TENANTS, MOST_KINDS, MOST_PAIRS, MOST_ROWS}
+use Rattle.fq_model.specs.declared.limits.TheConstants.{TEXT_TENANTS, MOST_KINDS, TEXT_PAIRS, MOST_ROWS}
 use Rattle.program_model.specs.Trace.{Trace}
 use Rattle.program_model.specs.TraceGrammar.{Record}
 use Rattle.tenant_table.specs.Names.{names_of, weights_of}
@@ -22,8 +22,8 @@ trace_in tenants kinds rows =
 -- more tenants, kinds, requests or pairs of a tenant and a kind than there may be
 abbrev pub are_too_many : ℕ → ℕ → ℕ → Bool
 are_too_many tenants kinds rows =
-    nat_lt MOST_TENANTS tenants
-    || (nat_lt MOST_KINDS kinds || (nat_lt MOST_ROWS rows || nat_lt MOST_PAIRS (tenants * kinds)))
+    nat_lt TEXT_TENANTS tenants
+    || (nat_lt MOST_KINDS kinds || (nat_lt MOST_ROWS rows || nat_lt TEXT_PAIRS (tenants * kinds)))
 
 -- reading has this fault, unless memory ran out
 abbrev pub Fails : {Y : Type 0} → RecordError → Result Y TraceKind → Type 0

@@ -5,7 +5,7 @@ ghost use Rattle.trace_reader.specs.declared.fault.TraceFault.TheVariants as tra
 ghost use Rattle.trace_reader.specs.declared.fault.GenFault.TheVariants as gen_faults;
 ghost use Rattle.trace_reader.specs.Reading.{fault_at};
 
-use fq_model::limits::{MOST_ROWS, MOST_TENANTS};
+use fq_model::limits::{MOST_ROWS, TEXT_TENANTS};
 use program_model::fault::TraceKind;
 use std::alloc::{AllocError, AllocFailed};
 use thiserror::Error;
@@ -33,7 +33,7 @@ impl From<AllocError> for TraceFault {
 #[derive(Clone, Copy, Debug, PartialEq, Eq, Error)]
 pub enum GenFault {
     /// How many tenants were asked for, which is not from 1 to 4,096.
-    #[error("the number of tenants {0} is not from 1 to {MOST_TENANTS}")]
+    #[error("the number of tenants {0} is not from 1 to {TEXT_TENANTS}")]
     Tenants(u32),
     /// How many requests were asked for, which is over 262,144.
     #[error("the number of requests {0} is over {MOST_ROWS}")]

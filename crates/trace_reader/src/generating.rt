@@ -13,7 +13,7 @@ use crate::draft::Draft;
 use crate::fault::GenFault;
 use crate::fields::last_moment;
 use crate::trace::Trace;
-use fq_model::limits::{MOST_KINDS, MOST_ROWS, MOST_TENANTS};
+use fq_model::limits::{MOST_KINDS, MOST_ROWS, TEXT_TENANTS};
 use program_model::trace::TraceRow;
 use rand_core::SeedableRng;
 use rand_core::utils::NextWord;
@@ -29,7 +29,7 @@ pub fn generate(alloc: Global, seed: u64, tenants: u32, requests: u32) -> Result
     ensures lawful { IfOk result IsLawfulTrace }
     ensures fault { FaultsOnly result (gen_refusal tenants requests) }
 {
-    if tenants < 1 || tenants > MOST_TENANTS {
+    if tenants < 1 || tenants > TEXT_TENANTS {
         return Err(GenFault::Tenants(tenants));
     }
     if requests > MOST_ROWS {
@@ -40,7 +40,7 @@ pub fn generate(alloc: Global, seed: u64, tenants: u32, requests: u32) -> Result
 
 // The trace of a seed, where the numbers of tenants and of requests are within their limits.
 fn generated(alloc: Global, seed: u64, tenants: u32, requests: u32) -> Result<Trace, AllocError>
-    requires tenants { IsWithin 1 MOST_TENANTS tenants }
+    requires tenants { IsWithin 1 TEXT_TENANTS tenants }
     requires requests { requests ≤ MOST_ROWS }
     ensures { IfOk result (λ t. t ≡ generated_trace seed tenants requests) }
 {
@@ -58,7 +58,7 @@ fn generated(alloc: Global, seed: u64, tenants: u32, requests: u32) -> Result<Tr
 
 // The tenants, each with the name and the weight of its number.
 fn generated_tenants(alloc: Global, count: u32) -> Result<TenantsBuilder, AllocError>
-    requires { count ≤ MOST_TENANTS }
+    requires { count ≤ TEXT_TENANTS }
     ensures { IfOk result (λ tenants. trace_in tenants [] [] ≡ generated_tenants count) }
 {
     let mut tenants = TenantsBuilder::new(alloc);

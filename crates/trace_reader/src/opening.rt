@@ -9,7 +9,7 @@ ghost use Rattle.trace_reader.specs.Rows.{row_at};
 
 use crate::trace::Trace;
 use fq_model::config::{Checked, Config, Weights};
-use fq_model::limits::GREATEST_SUBMITTER;
+use fq_model::limits::{GREATEST_SUBMITTER, Limits};
 use program_model::trace::{RunOptions, TraceRow};
 use std::alloc::{AllocError, Global};
 
@@ -26,6 +26,7 @@ pub fn config_of(
     ensures { IfOk result (λ c. c ≡ trace_config trace.now options entries) }
 {
     let config = Config {
+        limits: Limits::Text,
         workers: options.workers,
         weights: Weights::from_vec(trace.tenants().weights(alloc)?),
         kinds: trace.kinds().len(),

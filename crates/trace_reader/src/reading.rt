@@ -22,8 +22,8 @@ use crate::fields::{
 use crate::trace::Trace;
 use csv::{ByteRecord, Reader, ReaderBuilder, StringRecord};
 use fq_model::limits::{
-    GREATEST_COST, GREATEST_SUBMITTER, GREATEST_WEIGHT, MOST_KINDS, MOST_PAIRS, MOST_ROWS,
-    MOST_TENANTS,
+    GREATEST_COST, GREATEST_SUBMITTER, TEXT_WEIGHT, MOST_KINDS, TEXT_PAIRS, MOST_ROWS,
+    TEXT_TENANTS,
 };
 use program_model::fault::TraceKind;
 use program_model::trace::TraceRow;
@@ -32,10 +32,10 @@ use std::alloc::Global;
 fn are_too_many(tenants: u32, kinds: u32, rows: usize) -> bool
     ensures { result ≡ are_too_many tenants kinds rows }
 {
-    tenants > MOST_TENANTS
+    tenants > TEXT_TENANTS
         || kinds > MOST_KINDS
         || rows > MOST_ROWS as usize
-        || tenants as u64 * kinds as u64 > MOST_PAIRS
+        || tenants as u64 * kinds as u64 > TEXT_PAIRS
 }
 
 #[tactic(auto, unfolding(program_model::specs::TraceGrammar::with_tenant))]
@@ -44,7 +44,7 @@ fn add_tenant(draft: &mut Draft, fields: &StringRecord) -> Result<(), RecordErro
 {
     expect_count(fields, 3)?;
     let name = new_name_at(&draft.tenants, fields, 1)?;
-    let weight = small_at(fields, 2, 1, GREATEST_WEIGHT)?;
+    let weight = small_at(fields, 2, 1, TEXT_WEIGHT)?;
     if are_too_many(draft.tenants.len() + 1, draft.kinds.len(), draft.rows.len()) {
         return Err(RecordError::Fault(TraceKind::TooMany));
     }

@@ -6,7 +6,7 @@ ghost use Rattle.trace_runner.specs.Agenda.{event_of_work, event_of_row, comes_b
 ghost use Rattle.trace_runner.specs.Agenda.{IsTimed, NothingTimed, IsNext, NothingNext};
 
 use crate::staff::{Staff, Work};
-use fq_model::limits::{GREATEST_SUBMITTER, MOST_ROWS, MOST_WORKERS};
+use fq_model::limits::{GREATEST_SUBMITTER, MOST_ROWS, TEXT_WORKERS};
 use program_model::trace::TraceRow;
 use std::alloc::{AllocError, Global};
 
@@ -49,7 +49,7 @@ impl Agenda {
     /// The agenda of a simulation that begins, with this number of workers.
     pub fn open(alloc: Global, workers: u32, first_caller: u32) -> Result<Agenda, AllocError>
         requires some { 1 ≤ workers }
-        requires few { workers ≤ MOST_WORKERS }
+        requires few { workers ≤ TEXT_WORKERS }
         ensures opened { IfOk result (λ a. a ≡ opened_agenda workers first_caller) }
     {
         Ok(Agenda {
@@ -64,7 +64,7 @@ impl Agenda {
     /// The caller that is this worker.
     pub fn caller(&self, worker: u32) -> u32
         requires callers { self.now.first_caller ≤ GREATEST_SUBMITTER + 1 }
-        requires workers { worker < MOST_WORKERS }
+        requires workers { worker < TEXT_WORKERS }
         ensures { result ≡ self.now.first_caller + worker }
     {
         self.first_caller + worker

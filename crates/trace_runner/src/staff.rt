@@ -3,7 +3,7 @@ ghost use Rattle.std.specs.Prelude.{◌≡◌, ◌<◌, ◌≤◌, None, IfOk, I
 ghost use Rattle.trace_runner.specs.Staff.{busy_key, idle_key, new_work, reported_work, work_key, work_moment, IsSmall};
 ghost use Rattle.trace_runner.specs.Staff.{NoneWorks, NoneIdle, IsFirstWork, IsFirstIdle};
 
-use fq_model::limits::{GREATEST_COST, MOST_WORKERS};
+use fq_model::limits::{GREATEST_COST, TEXT_WORKERS};
 use std::alloc::{AllocError, Global};
 use std::marker::Model;
 use winner_tree::{Key, Tree};
@@ -112,7 +112,7 @@ impl Staff {
     /// This number of workers, all of them idle.
     pub fn open(alloc: Global, workers: u32) -> Result<Staff, AllocError>
         requires some { 1 ≤ workers }
-        requires few { workers ≤ MOST_WORKERS }
+        requires few { workers ≤ TEXT_WORKERS }
         ensures opened { IfOk result (λ s. s ≡ replicate workers None) }
     {
         let works = vec![in alloc; None; workers as usize]?;

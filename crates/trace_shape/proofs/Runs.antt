@@ -13,7 +13,7 @@ use Rattle.program_model.specs.declared.trace.TraceRow.{TraceRow}
 use Rattle.program_model.specs.Conforms.{gain, IsLeastConforming, too_big, too_late}
 use Rattle.program_model.specs.Trace.{Trace}
 use Rattle.program_model.specs.TraceText.{IsLawfulTrace}
-use Rattle.fq_model.specs.Limits.{IsWeight}
+use Rattle.fq_model.specs.Limits.{IsTextWeight}
 use Rattle.trace_shape.specs.declared.bucket.Bucket.{Bucket}
 use Rattle.trace_shape.specs.Buckets.{full, taken, IsBucket}
 use Rattle.trace_shape.specs.Reasons.{IsFirstLate}
@@ -26,7 +26,7 @@ pub all_served : (T : Trace) (rate burst : ℕ) → IsLawfulTrace T → 1 ≤ ra
 all_served T rate burst lawful some small k d l =
     let row = get_or T.rows k d in
     let tenant : row.tenant < length T.tenants = (lawful.rows k d l).tenant in
-    let weight : IsWeight (slice_index T.weights row.tenant) = lawful.weights row.tenant 0 (omega (arith, tenant, lawful.weighed)) in
+    let weight : IsTextWeight (slice_index T.weights row.tenant) = lawful.weights row.tenant 0 (omega (arith, tenant, lawful.weighed)) in
     record {
       tenant = tenant;
       gains = omega (arith, mul-le 1 1 rate (slice_index T.weights row.tenant) some weight.0);

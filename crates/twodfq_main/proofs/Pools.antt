@@ -7,7 +7,7 @@ use Rattle.fq_model.specs.declared.event.Entry.{Entry}
 use Rattle.fq_model.specs.declared.limits.TheConstants.{MOST_ENTRIES}
 use Rattle.fq_model.specs.declared.parts.Status.{Status}
 use Rattle.fq_model.specs.History.{History, history_of}
-use Rattle.fq_model.specs.Limits.{HasShortHistory}
+use Rattle.fq_model.specs.Limits.{HasTextLimits}
 use Rattle.fq_model.specs.Report.{unfinished}
 use Rattle.program_model.specs.declared.command.LiveOptions.{LiveOptions}
 use Rattle.program_model.specs.declared.ending.Stop.{Stop}
@@ -26,9 +26,9 @@ use Rattle.trace_runner.proofs.Finished.{none_is_unfinished}
 pub none_unfinished : (T : Trace) (O : RunOptions) (H : History) → IsPoolHistory T O H → unfinished H ≡ None
 none_unfinished T O H s = none_is_unfinished H (λ r is. (s.served r is).done)
 
--- the history may be kept whole
-pub short_pool : (T : Trace) (O : RunOptions) (C : Config) → C ≡ pool_config T O → has_many_entries (needed_pool_entries T.rows O.refresh) ≡ false → HasShortHistory C
-short_pool T O C same few = subst HasShortHistory (sym same) (omega (arith, ltb-false MOST_ENTRIES (needed_pool_entries T.rows O.refresh) few))
+-- the history keeps the limits of texts
+pub pool_limits : (T : Trace) (O : RunOptions) (C : Config) → C ≡ pool_config T O → HasTextLimits C
+pool_limits T O C same = ap (λ (D : Config). D.limits) same
 
 -- a history of the pool, and the statuses that were read while it grew
 pub record IsServed (Told : ℕ → Type 0) (T : Trace) (o : LiveOptions) (past : List Entry) (statuses : List Status) : Type 0 where

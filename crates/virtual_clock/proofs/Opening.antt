@@ -13,6 +13,7 @@ use Rattle.fq_model.specs.Rules.{IsLegal, Fits}
 use Rattle.fq_laws.specs.Words.{one_more, is_take}
 use Rattle.fq_laws.specs.Steps.{Submits, Ends, Reweighs, Staffs}
 use Rattle.fq_laws.proofs.Time.Clock.{SameWeight, active_weight_at}
+use Rattle.fq_laws.proofs.Limits.{no_greater_weight}
 use Rattle.fq_laws.proofs.History.Weights.{weight_step, pool_step}
 use Rattle.fq_laws.proofs.History.Requests.{request_known}
 use Rattle.fq_laws.proofs.History.Asked.{of_own, of_other}
@@ -137,7 +138,7 @@ reweighs_at : (C : Config) (P : History) (who m t w : ℕ) → Fits C P m (Weigh
 unfolding weight_at pool_at
 reweighs_at C P who m t w f = record {
   known = f.tenant_known;
-  in_range = f.weight_in_range;
+  in_range = (f.weight_in_range.0, omega (arith, f.weight_in_range.1, no_greater_weight C.limits));
   open_stay = λ u. open_quiet P who m u (Weight t w) refl;
   others_stay = λ u other. rw (ne_eqb t u (λ e. other (sym e))) refl;
   weight_is = rw (eq-eqb t t refl) refl;

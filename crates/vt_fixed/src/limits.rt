@@ -7,13 +7,13 @@ pub const GREATEST_COST: u64 = 1000000000;
 pub const GREATEST_MOMENT: u64 = 1000000000000000;
 
 /// The greatest weight of a tenant; the least is 1.
-pub const GREATEST_WEIGHT: u32 = 1000;
+pub const GREATEST_WEIGHT: u32 = 100000;
 
 /// The most workers; the fewest is 1.
-pub const MOST_WORKERS: u32 = 64;
+pub const MOST_WORKERS: u32 = 4096;
 
-/// The greatest sum of the weights of the active tenants: each of 4,096 tenants at the greatest weight.
-pub const GREATEST_ACTIVE_WEIGHT: u64 = 4096000;
+/// The greatest sum of the weights of the active tenants: each of 65,536 tenants at the greatest weight.
+pub const GREATEST_ACTIVE_WEIGHT: u64 = 6553600000;
 
 /// The greatest length, in steps: the greatest cost at weight 1.
 pub const GREATEST_LENGTH: i128 = 1048576000000000;

@@ -48,5 +48,5 @@ gifts_step x (b ∷ rows) a =
     rw (sum_by-cons (gift_at (x + 1)) b rows, sum_by-cons (gift_at x) b rows, sum_by-cons (λ c. cond (ltb 0 c.units) 1 0) b rows) (omega (arith, one, rest))
 
 -- the units of few backlogs in all
-pub total_bound : (rows : List Backlog) → All IsBacklog rows → length rows ≤ 4096 → total_units rows ≤ 8192000000000000000
+pub total_bound : (rows : List Backlog) → All IsBacklog rows → length rows ≤ TEXT_TENANTS → total_units rows ≤ 8192000000000000000
 total_bound rows a h = omega (arith, sum_by-le (λ b. b.units) 2000000000000000 rows (λ k d l. (a k d l).units))

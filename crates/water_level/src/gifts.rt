@@ -4,7 +4,7 @@ ghost use Rattle.fq_model.specs.Level.{gift, gift_at, gifts_at, total_units};
 ghost use Rattle.water_level.specs.Backlogs.{IsBacklog};
 
 use fq_model::level::{Backlog, Level};
-use fq_model::limits::MOST_TENANTS;
+use fq_model::limits::TEXT_TENANTS;
 
 /// The gift to a backlog at a level, in microseconds of work.
 pub fn give(level: Level, row: Backlog) -> u64
@@ -24,7 +24,7 @@ fn gift_at(x: u64, row: Backlog) -> u64
 
 /// The sum of the gifts at a level.
 pub(crate) fn sum_of_gifts(x: u64, rows: &[Backlog]) -> u64
-    requires few { length rows.now ≤ MOST_TENANTS }
+    requires few { length rows.now ≤ TEXT_TENANTS }
     requires in_range { All IsBacklog rows.now }
     ensures { result ≡ gifts_at x rows.now }
 {
@@ -37,7 +37,7 @@ pub(crate) fn sum_of_gifts(x: u64, rows: &[Backlog]) -> u64
 
 /// The sum of the units.
 pub(crate) fn sum_of_units(rows: &[Backlog]) -> u64
-    requires few { length rows.now ≤ MOST_TENANTS }
+    requires few { length rows.now ≤ TEXT_TENANTS }
     requires in_range { All IsBacklog rows.now }
     ensures { result ≡ total_units rows.now }
 {
@@ -63,7 +63,7 @@ pub(crate) struct Measure {
 
 /// The sums over these backlogs.
 pub(crate) fn measured(x: u64, rows: &[Backlog]) -> Measure
-    requires few { length rows.now ≤ MOST_TENANTS }
+    requires few { length rows.now ≤ TEXT_TENANTS }
     requires in_range { All IsBacklog rows.now }
     ensures { result.sum ≡ gifts_at x rows.now }
 {

@@ -5,7 +5,7 @@ ghost use Rattle.water_level.specs.Backlogs.{IsBacklog};
 
 use crate::gifts::{Measure, measured, next_rise, sum_of_gifts, sum_of_units};
 use fq_model::level::{Backlog, Level};
-use fq_model::limits::MOST_TENANTS;
+use fq_model::limits::TEXT_TENANTS;
 
 /// Levels that are nearer to one another are halved: for them a look at the next rise is not worth its time.
 const NARROW: u64 = 16;
@@ -17,7 +17,7 @@ const HIGHEST: u64 = 2048000000000000000;
 /// to the greatest level whose gifts fit. It is found by guesses, each by the units that the last guess leaves; nothing
 /// here takes a step for each level, or memory.
 pub fn level(cap: u64, rows: &[Backlog]) -> Level
-    requires few { length rows.now ≤ MOST_TENANTS }
+    requires few { length rows.now ≤ TEXT_TENANTS }
     requires in_range { All IsBacklog rows.now }
     ensures level { IsLevel cap rows.now result }
     ensures leaves { LeavesFewUnits cap rows.now result }
@@ -38,7 +38,7 @@ struct Bounds {
 
 // A level whose gifts fit, and a greater one whose gifts do not.
 fn between(cap: u64, rows: &[Backlog]) -> Bounds
-    requires few { length rows.now ≤ MOST_TENANTS }
+    requires few { length rows.now ≤ TEXT_TENANTS }
     requires in_range { All IsBacklog rows.now }
     requires over { cap < total_units rows.now }
     ensures fits { gifts_at result.low rows.now ≤ cap }
@@ -86,7 +86,7 @@ fn quotient(number: u128, by: u64) -> u64 {
 
 // The greatest level whose gifts fit, from `low`, where they do, to below `high`, where they don't.
 fn search(cap: u64, rows: &[Backlog], low: u64, high: u64) -> u64
-    requires few { length rows.now ≤ MOST_TENANTS }
+    requires few { length rows.now ≤ TEXT_TENANTS }
     requires in_range { All IsBacklog rows.now }
     requires fits { gifts_at low rows.now ≤ cap }
     requires over { cap < gifts_at high rows.now }

@@ -8,6 +8,9 @@ use crate::replay::set_leaf;
 use std::alloc::{AllocError, Global};
 use std::marker::Model;
 
+/// The most leaves of a tree.
+pub const MOST_LEAVES: u32 = 65536;
+
 /// Leaves, numbered from 0, of which each has a key or none. Contracts see the keys as a list by leaf.
 #[derive(Drop)]
 pub struct Tree {
@@ -29,10 +32,10 @@ impl Model for Tree {
 }
 
 impl Tree {
-    /// A tree of 1 to 4,096 leaves of which none has a key.
+    /// A tree of 1 to 65,536 leaves of which none has a key.
     pub fn open(alloc: Global, leaves: u32) -> Result<Tree, AllocError>
         requires at_least_one { 1 ≤ leaves }
-        requires in_range { leaves ≤ 4096 }
+        requires in_range { leaves ≤ MOST_LEAVES }
         ensures { IfOk result (λ t. t ≡ replicate leaves None) }
     {
         let width = (leaves as usize).next_power_of_two();

@@ -4,6 +4,7 @@
 use Rattle.std.specs.Prelude.{ℕ, ◌*◌, [], ◌∷◌, pos}
 use Rattle.vt_fixed.specs.Rounding.{steps_per_unit}
 use Rattle.fq_model.specs.declared.config.Config.{Config}
+use Rattle.fq_model.specs.declared.limits.Limits.TheVariants.{Text}
 use Rattle.fq_model.specs.declared.config.Policy.{Policy}
 use Rattle.fq_model.specs.declared.config.Policy.TheVariants.{Wf2q, TwoDfq}
 use Rattle.fq_model.specs.declared.config.Estimator.TheVariants.{Declared, Recent, Pessimistic}
@@ -34,6 +35,7 @@ NoneIsEligibleAt C P m i = NoneIsEligible (turn_at C P m i) (HasKeys C P m)
 -- two workers, and two tenants of weight 1, under 2dfq
 unfoldable pub stagger_config : Config
 stagger_config = record {
+  limits = Text;
   workers = 2;
   weights = 1 ∷ 1 ∷ [];
   kinds = 1;
@@ -87,6 +89,7 @@ sixth_ended = entry 10 5 (Done 0 7 1) ∷ stagger_history
 -- two workers, and two tenants of weight 1, under wf2q
 unfoldable pub fallback_config : Config
 fallback_config = record {
+  limits = Text;
   workers = 2;
   weights = 1 ∷ 1 ∷ [];
   kinds = 1;
@@ -119,6 +122,7 @@ fallback_taken request estimate = entry 10 1 (Take 0 request estimate) ∷ fallb
 -- one worker, and tenants of the weights 1 and 2, with pessimistic estimates that begin at 990
 unfoldable pub refund_config : Config
 refund_config = record {
+  limits = Text;
   workers = 1;
   weights = 1 ∷ 2 ∷ [];
   kinds = 1;
@@ -148,6 +152,7 @@ refund_history =
 -- one worker, and two tenants of weight 1
 unfoldable pub weights_config : Config
 weights_config = record {
+  limits = Text;
   workers = 1;
   weights = 1 ∷ 1 ∷ [];
   kinds = 1;
@@ -175,6 +180,7 @@ weights_history =
 -- two workers at the opening, and two tenants of weight 1
 unfoldable pub workers_config : Config
 workers_config = record {
+  limits = Text;
   workers = 2;
   weights = 1 ∷ 1 ∷ [];
   kinds = 1;
@@ -200,6 +206,7 @@ workers_history =
 -- one worker, and two tenants of weight 1, under each policy
 unfoldable pub pause_config : Policy → Config
 pause_config policy = record {
+  limits = Text;
   workers = 1;
   weights = 1 ∷ 1 ∷ [];
   kinds = 1;
@@ -228,6 +235,7 @@ pause_history =
 -- one worker, and one tenant
 unfoldable pub single_config : Config
 single_config = record {
+  limits = Text;
   workers = 1;
   weights = 1 ∷ [];
   kinds = 1;
@@ -256,6 +264,7 @@ single_ended cost = entry 0 9 Close ∷ entry 10 8 (Done 0 0 cost) ∷ single_re
 -- one worker, and one tenant, whose estimates are the mean of its recent costs
 unfoldable pub recent_config : Config
 recent_config = record {
+  limits = Text;
   workers = 1;
   weights = 1 ∷ [];
   kinds = 1;
@@ -282,6 +291,7 @@ recent_history =
 -- one worker, one tenant and one kind, and the least number of entries
 unfoldable pub small_config : Config
 small_config = record {
+  limits = Text;
   workers = 1;
   weights = 1 ∷ [];
   kinds = 1;

@@ -3,6 +3,7 @@
 -- worker request estimate, Done worker request cost, Weight tenant weight.
 use Rattle.std.specs.Prelude.{ℕ, [], ◌∷◌, pos}
 use Rattle.fq_model.specs.declared.config.Config.{Config}
+use Rattle.fq_model.specs.declared.limits.Limits.TheVariants.{Text}
 use Rattle.fq_model.specs.declared.config.Policy.TheVariants.{Wfq, Wf2q, TwoDfq}
 use Rattle.fq_model.specs.declared.config.Estimator.TheVariants.{Declared}
 use Rattle.fq_model.specs.declared.event.Act.TheVariants.{Submit, Take, Done, Weight}
@@ -19,6 +20,7 @@ gap_of largest bound = record { largest = pos (units largest); bound = pos (unit
 -- two workers, and two tenants of weight 1, under 2dfq
 unfoldable pub stagger_config : Config
 stagger_config = record {
+  limits = Text;
   workers = 2;
   weights = 1 ∷ 1 ∷ [];
   kinds = 1;
@@ -48,6 +50,7 @@ stagger_history =
 -- one worker, and two tenants of weight 1, under wf2q
 unfoldable pub begun_config : Config
 begun_config = record {
+  limits = Text;
   workers = 1;
   weights = 1 ∷ 1 ∷ [];
   kinds = 1;
@@ -75,6 +78,7 @@ begun_history =
 -- two workers, and tenants of the weights 1 and 2, under wfq
 unfoldable pub weights_config : Config
 weights_config = record {
+  limits = Text;
   workers = 2;
   weights = 1 ∷ 2 ∷ [];
   kinds = 1;
@@ -103,6 +107,7 @@ weights_history =
 -- one worker, and two tenants of weight 1, under wfq
 unfoldable pub doubt_config : Config
 doubt_config = record {
+  limits = Text;
   workers = 1;
   weights = 1 ∷ 1 ∷ [];
   kinds = 1;

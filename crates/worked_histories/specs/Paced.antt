@@ -2,6 +2,7 @@
 -- newest entry stands first.
 use Rattle.std.specs.Prelude.{ℕ, ◌≡◌, [], ◌∷◌}
 use Rattle.fq_model.specs.declared.config.Config.{Config}
+use Rattle.fq_model.specs.declared.limits.Limits.TheVariants.{Text}
 use Rattle.fq_model.specs.declared.config.Policy.{Policy}
 use Rattle.fq_model.specs.declared.config.Policy.TheVariants.{TwoDfq, TwoDfqPlus}
 use Rattle.fq_model.specs.declared.config.Estimator.TheVariants.{Declared}
@@ -14,6 +15,7 @@ use Rattle.worked_histories.specs.Examples.{entry, units}
 -- this number of workers, and two tenants of weight 1
 abbrev pub config_for : ℕ → Policy → Config
 config_for workers policy = record {
+  limits = Text;
   workers = workers;
   weights = 1 ∷ 1 ∷ [];
   kinds = 1;

@@ -2,6 +2,7 @@
 -- long as its start is above virtual time. The newest entry stands first.
 use Rattle.std.specs.Prelude.{ℕ, ◌≡◌, [], ◌∷◌}
 use Rattle.fq_model.specs.declared.config.Config.{Config}
+use Rattle.fq_model.specs.declared.limits.Limits.TheVariants.{Text}
 use Rattle.fq_model.specs.declared.config.Policy.{Policy}
 use Rattle.fq_model.specs.declared.config.Estimator.TheVariants.{Declared}
 use Rattle.fq_model.specs.declared.event.Act.TheVariants.{Submit, Take, Done, Weight, Workers}
@@ -50,6 +51,7 @@ back_later = entry 0 10 (Submit 3 0 0 5 4) ∷ come_to
 -- one worker, and three tenants
 unfoldable pub weighted_config : Policy → Config
 weighted_config policy = record {
+  limits = Text;
   workers = 1;
   weights = 1 ∷ 2 ∷ 1 ∷ [];
   kinds = 1;

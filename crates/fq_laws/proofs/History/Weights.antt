@@ -7,11 +7,12 @@ use Rattle.fq_model.specs.declared.config.Config.{Config}
 use Rattle.fq_model.specs.declared.event.Act.{Act}
 use Rattle.fq_model.specs.declared.event.Act.TheVariants.{Weight, Workers}
 use Rattle.fq_model.specs.declared.event.Entry.{Entry}
-use Rattle.fq_model.specs.Limits.{InLimits, IsWithin}
+use Rattle.fq_model.specs.Limits.{InLimits, IsWithin, greatest_weight}
 use Rattle.fq_model.specs.History.{History, weight_at, weight_after, pool_at, pool_after, is_take_of, is_taken}
 use Rattle.fq_model.specs.Charge.{taken_weight}
 use Rattle.fq_model.specs.Rules.{IsLegal, Fits}
 use Rattle.fq_laws.specs.Words.{concerns}
+use Rattle.fq_laws.proofs.Limits.{no_greater_weight}
 
 -- ---- at one entry more
 
@@ -56,14 +57,18 @@ pool_low C (e ∷ P) lim l = pool_at_least C P e.moment (pool_at C P) e.act l.3 
 pub pool_range : (C : Config) (P : History) → InLimits C → IsLegal C P → IsWithin 1 MOST_WORKERS (pool_at C P)
 pool_range C P lim l = (pool_low C P lim l, omega (arith, pool_high C P l, lim.workers.1))
 
-weight_at_most : (C : Config) (P : History) (m t older : ℕ) (a : Act) → Fits C P m a → older ≤ GREATEST_WEIGHT → weight_after t a older ≤ GREATEST_WEIGHT
+weight_at_most : (C : Config) (P : History) (m t older : ℕ) (a : Act) → Fits C P m a → older ≤ greatest_weight C.limits → weight_after t a older ≤ greatest_weight C.limits
 weight_at_most C P m t older (Weight tenant weight) f h = elim (cases_Bool (tenant == t)) [ inl e ↦ rw e f.weight_in_range.1 | inr e ↦ rw e h ]
 weight_at_most C P m t older _ f h = h
 
-pub weight_high : (C : Config) (P : History) (t : ℕ) → InLimits C → IsLegal C P → weight_at C P t ≤ GREATEST_WEIGHT
+-- a weight is never above those that the configuration allows
+pub weight_allowed : (C : Config) (P : History) (t : ℕ) → InLimits C → IsLegal C P → weight_at C P t ≤ greatest_weight C.limits
 unfolding weight_at
-weight_high C [] t lim l = elim (cases_lt t (length C.weights)) [ inl b ↦ (lim.weights t 0 b).1 | inr b ↦ (let e : get_or C.weights t 0 ≡ 0 = get_or_past C.weights t 0 b in omega arith) ]
-weight_high C (e ∷ P) t lim l = weight_at_most C P e.moment t (weight_at C P t) e.act l.3 (weight_high C P t lim l.0)
+weight_allowed C [] t lim l = elim (cases_lt t (length C.weights)) [ inl b ↦ lim.own.weights t 0 b | inr b ↦ (let e : get_or C.weights t 0 ≡ 0 = get_or_past C.weights t 0 b in omega arith) ]
+weight_allowed C (e ∷ P) t lim l = weight_at_most C P e.moment t (weight_at C P t) e.act l.3 (weight_allowed C P t lim l.0)
+
+pub weight_high : (C : Config) (P : History) (t : ℕ) → InLimits C → IsLegal C P → weight_at C P t ≤ GREATEST_WEIGHT
+weight_high C P t lim l = omega (arith, weight_allowed C P t lim l, no_greater_weight C.limits)
 
 weight_at_least : (C : Config) (P : History) (m t older : ℕ) (a : Act) → Fits C P m a → 1 ≤ older → 1 ≤ weight_after t a older
 weight_at_least C P m t older (Weight tenant weight) f h = elim (cases_Bool (tenant == t)) [ inl e ↦ rw e f.weight_in_range.0 | inr e ↦ rw e h ]

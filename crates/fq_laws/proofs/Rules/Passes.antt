@@ -1,10 +1,10 @@
 -- An act that fits a history is not refused.
 use Rattle.std.proofs.Common.{ℕ, ◌<◌, ◌≤◌, ◌≡◌, ◌≢◌, ◌^◌, ◌==◌, true, false, length, Some, None, arith, refl, leb, ltb}
 use Rattle.std.proofs.lemmas.Bool.{ne_eqb, le-ltb, lt-leb}
-use Rattle.vt_fixed.specs.declared.limits.TheConstants.{GREATEST_COST, GREATEST_MOMENT, GREATEST_WEIGHT}
+use Rattle.vt_fixed.specs.declared.limits.TheConstants.{GREATEST_COST, GREATEST_MOMENT}
 use Rattle.fq_model.specs.declared.config.Config.{Config}
 use Rattle.fq_model.specs.History.{History, waiting, is_waiting, running_on, last_use, is_closed, request_bound}
-use Rattle.fq_model.specs.Limits.{InLimits, is_outside}
+use Rattle.fq_model.specs.Limits.{InLimits, is_outside, greatest_weight}
 use Rattle.fq_model.specs.Rules.{IsLegal, FitsUse, FitsSubmit, FitsTake, FitsWeight, FitsWorkers, HasRoom, needed_room, submit_refusal, take_refusal, report_refusal, done_refusal, weight_refusal, workers_refusal, withdraw_refusal}
 use Rattle.fq_model.specs.Time.{last_moment, effective_moment}
 use Rattle.fq_laws.proofs.History.Asked.{waits_submitted}
@@ -60,7 +60,7 @@ within low high n l h =
 pub weight_passes : (C : Config) (P : History) (tenant weight : ℕ) → FitsWeight C P tenant weight → weight_refusal C P tenant weight ≡ None
 weight_passes C P tenant weight f =
     let tenant_known : leb (length C.weights) tenant ≡ false = lt-leb _ _ f.tenant_known in
-    let in_range : is_outside 1 GREATEST_WEIGHT weight ≡ false = within _ _ _ f.weight_in_range.0 f.weight_in_range.1 in
+    let in_range : is_outside 1 (greatest_weight C.limits) weight ≡ false = within _ _ _ f.weight_in_range.0 f.weight_in_range.1 in
     let room : ltb C.entries (needed_room P 2) ≡ false = le-ltb _ _ f.room in
     rw (tenant_known, in_range, room) refl
 

@@ -3,13 +3,13 @@ use Rattle.std.proofs.Common.{◌≡◌, Bool, false, not, List, [], ◌∷◌, 
 use Rattle.std.specs.Prelude.{nat_le, is_some, is_none}
 use Rattle.std.proofs.lemmas.Bool.Decides.{nat_tests}
 use Rattle.std.proofs.lemmas.Bool.{or_parts, false≢true}
-use Rattle.vt_fixed.specs.declared.limits.TheConstants.{GREATEST_COST, GREATEST_WEIGHT}
+use Rattle.vt_fixed.specs.declared.limits.TheConstants.{GREATEST_COST}
 use Rattle.fq_model.specs.declared.event.Cause.{Cause}
 use Rattle.fq_model.specs.Rules.{first_true, RefusedOrElse, needed_room, IsLegal, FitsSubmit, submit_refusal, RunsNothing, request_on, take_refusal, FitsUse, use_refusals, HasRoom, report_refusal, done_refusal, close_refusal, FitsWeight, FitsWorkers, weight_refusal, workers_refusal, withdraw_refusal}
 use Rattle.fq_model.specs.declared.event.Reply.{Reply}
 use Rattle.fq_model.specs.History.{History, is_closed, is_waiting, waiting, submits, running_on, Runs, last_use}
 use Rattle.fq_model.specs.declared.config.Config.{Config}
-use Rattle.fq_model.specs.Limits.{InLimits, IsWithin, is_outside}
+use Rattle.fq_model.specs.Limits.{InLimits, IsWithin, is_outside, greatest_weight}
 use Rattle.fq_model.specs.declared.event.Cause.TheVariants as cause
 use Rattle.fq_model.specs.declared.event.Reply.TheVariants as answer
 use Rattle.fq_laws.proofs.Rules.Limits.{waiting_slots}
@@ -137,7 +137,7 @@ within_range low high n h = let x = or_parts (nat_lt n low) (nat_lt high n) h in
 abbrev weight_rows : Config → History → ℕ → ℕ → List (Bool × Cause)
 weight_rows C P tenant weight =
     (nat_le (length C.weights) tenant, cause.Tenant tenant)
-    ∷ (is_outside 1 GREATEST_WEIGHT weight, cause.Weight weight)
+    ∷ (is_outside 1 (greatest_weight C.limits) weight, cause.Weight weight)
     ∷ (nat_lt C.entries (needed_room P 2), cause.Full C.entries)
     ∷ []
 
@@ -146,7 +146,7 @@ weight_fits C P tenant weight h =
     let x : AllFalse (weight_rows C P tenant weight) = all_false (weight_rows C P tenant weight) h in
     record {
       tenant_known = le_false (length C.weights) tenant x.0;
-      weight_in_range = within_range 1 GREATEST_WEIGHT weight x.1.0;
+      weight_in_range = within_range 1 (greatest_weight C.limits) weight x.1.0;
       room = lt_false C.entries (needed_room P 2) x.1.1.0;
     }
 

@@ -130,13 +130,13 @@ unfolding advance_of
 advance_low dt n w h = elim (cases_Bool (w == 0)) [
   | inl e ↦ rw e (omega arith)
   | inr e ↦ rw e (
-      let a : dt * n ≤ dt * 64 = mul-le dt n dt 64 (omega arith) h in
+      let a : dt * n ≤ dt * MOST_WORKERS = mul-le dt n dt MOST_WORKERS (omega arith) h in
       let b : dt * n * 1048576 / w ≤ dt * n * 1048576 = div-le_self (dt * n * 1048576) w in
       omega arith
       )
 ]
 
--- at most 64 units in a microsecond
+-- in a microsecond it makes at most a unit for each of the most workers
 pub virtual_advance_low : (C : Config) (P : History) (m : ℕ) → InLimits C → IsLegal C P → virtual_advance C P m ≤ (m - last_moment P) * greatest_rate
 unfolding virtual_advance
 virtual_advance_low C P m lim l = advance_low (m - last_moment P) (pool_at C P) (active_weight C P) (pool_range C P lim l).1

@@ -1,5 +1,5 @@
 -- Tests of legality, and of the limits of a configuration, that compute.
-use Rattle.std.proofs.Common.{ℕ, ◌+◌, ◌*◌, nat_le, Bool, length, ◌≡◌, true, arith, nat_eq, false, ◌&&◌, Option, Some, None, refl, is_none, not, nat_lt, [], ◌∷◌, ap, ◌∙◌, List, All}
+use Rattle.std.proofs.Common.{ℕ, ◌+◌, ◌*◌, ◌≤◌, nat_le, Bool, length, ◌≡◌, true, arith, nat_eq, false, ◌&&◌, Option, Some, None, refl, is_none, not, nat_lt, [], ◌∷◌, ap, ◌∙◌, List, All}
 use Rattle.std.proofs.lemmas.Bool.{leb-true, eqb-true, and_parts, false≢true, not-true, ltb-true, eqb-false}
 use Rattle.std.proofs.lemmas.List.Elements.{All-nil, All-cons}
 use Rattle.fq_model.specs.declared.config.Config.{Config}
@@ -10,11 +10,12 @@ use Rattle.fq_model.specs.Charge.{request_estimate}
 use Rattle.fq_model.specs.declared.event.Act.{Act}
 use Rattle.fq_model.specs.declared.event.Act.TheVariants.{Submit, Take, Report, Done, Close, Weight, Workers, Withdraw}
 use Rattle.fq_model.specs.Time.{last_moment}
-use Rattle.fq_model.specs.Limits.{IsWithin, IsWeight, InLimits}
-use Rattle.vt_fixed.specs.declared.limits.TheConstants.{GREATEST_WEIGHT, GREATEST_COST, MOST_WORKERS, GREATEST_MOMENT}
-use Rattle.fq_model.specs.declared.limits.TheConstants.{MOST_ENTRIES, MOST_REQUESTS, MOST_PAIRS, MOST_TENANTS, MOST_KINDS, LEAST_ENTRIES}
+use Rattle.fq_model.specs.Limits.{IsWithin, IsTextWeight, InLimits}
+use Rattle.vt_fixed.specs.declared.limits.TheConstants.{GREATEST_COST, GREATEST_MOMENT}
+use Rattle.fq_model.specs.declared.limits.TheConstants.{MOST_ENTRIES, MOST_KINDS, LEAST_ENTRIES, TEXT_WORKERS, TEXT_TENANTS, TEXT_WEIGHT, TEXT_PAIRS, TEXT_REQUESTS}
 use Rattle.worked_histories.proofs.Computed.Histories.{waiting_within, running_within, IsShort, waiting_is, running_is, keys_within, turn_within, shorter}
 use Rattle.worked_histories.proofs.Computed.Choice.{choice_test, choice_is}
+use Rattle.fq_laws.proofs.Limits.{texts_keep_least}
 use Rattle.fq_laws.proofs.History.Workers.{running_nothing}
 use Rattle.fq_laws.proofs.Keys.Choices.{chosen_keys}
 
@@ -73,7 +74,7 @@ fits_test n k C P m (Take worker request estimate) = nat_lt worker (pool_at C P)
 fits_test n k C P m (Report worker request used) = use_test P worker request used && room_test n C P 2
 fits_test n k C P m (Done worker request cost) = use_test P worker request cost
 fits_test n k C P m Close = not (is_closed P)
-fits_test n k C P m (Weight tenant weight) = nat_lt tenant (length C.weights) && (nat_le 1 weight && (nat_le weight GREATEST_WEIGHT && room_test n C P 2))
+fits_test n k C P m (Weight tenant weight) = nat_lt tenant (length C.weights) && (nat_le 1 weight && (nat_le weight TEXT_WEIGHT && room_test n C P 2))
 fits_test n k C P m (Workers count) = nat_le 1 count && (nat_le count C.workers && room_test n C P 2)
 fits_test n k C P m (Withdraw request) = is_waiting P request
 
@@ -113,7 +114,7 @@ fits_true n k C P m (Weight tenant weight) s l h =
     let p1 = and_parts _ _ h in
     let p2 = and_parts _ _ p1.1 in
     let p3 = and_parts _ _ p2.1 in
-    record { tenant_known = ltb-true _ _ p1.0; weight_in_range = (leb-true _ _ p2.0, leb-true _ _ p3.0); room = room_true n k C P 2 s p3.1 }
+    record { tenant_known = ltb-true _ _ p1.0; weight_in_range = (leb-true 1 weight p2.0, omega (arith, leb-true weight TEXT_WEIGHT p3.0, (texts_keep_least C.limits).weight)); room = room_true n k C P 2 s p3.1 }
 fits_true n k C P m (Workers count) s l h =
     let p1 = and_parts _ _ h in
     let p2 = and_parts _ _ p1.1 in
@@ -152,16 +153,16 @@ within_true low high n h = let p = and_parts _ _ h in (leb-true low n p.0, leb-t
 
 abbrev weights_test : List ℕ → Bool
 weights_test [] = true
-weights_test (w ∷ ws) = within 1 GREATEST_WEIGHT w && weights_test ws
+weights_test (w ∷ ws) = within 1 TEXT_WEIGHT w && weights_test ws
 
-weights_true : (ws : List ℕ) → weights_test ws ≡ true → All IsWeight ws
-weights_true [] h = All-nil IsWeight
-weights_true (w ∷ ws) h = let p = and_parts _ _ h in All-cons IsWeight w ws (within_true 1 GREATEST_WEIGHT w p.0) (weights_true ws p.1)
+weights_true : (ws : List ℕ) → weights_test ws ≡ true → All IsTextWeight ws
+weights_true [] h = All-nil IsTextWeight
+weights_true (w ∷ ws) h = let p = and_parts _ _ h in All-cons IsTextWeight w ws (within_true 1 TEXT_WEIGHT w p.0) (weights_true ws p.1)
 
 abbrev pub limits_test : Config → Bool
-limits_test C = within 1 MOST_WORKERS C.workers && (within 1 MOST_TENANTS (length C.weights) && (weights_test C.weights && (within 1 MOST_KINDS C.kinds && (nat_le (length C.weights * C.kinds) MOST_PAIRS && (within LEAST_ENTRIES MOST_ENTRIES C.entries && (within 1 MOST_REQUESTS C.requests && within 1 GREATEST_COST C.initial))))))
+limits_test C = within 1 TEXT_WORKERS C.workers && (within 1 TEXT_TENANTS (length C.weights) && (weights_test C.weights && (within 1 MOST_KINDS C.kinds && (nat_le (length C.weights * C.kinds) TEXT_PAIRS && (within LEAST_ENTRIES MOST_ENTRIES C.entries && (within 1 TEXT_REQUESTS C.requests && within 1 GREATEST_COST C.initial))))))
 
--- the test shows that the numbers of a configuration are in their limits
+-- the test shows that the numbers of a configuration are in their limits, whichever it keeps
 pub limits_are : (C : Config) → limits_test C ≡ true → InLimits C
 limits_are C h =
     let p1 = and_parts _ _ h in
@@ -171,13 +172,28 @@ limits_are C h =
     let p5 = and_parts _ _ p4.1 in
     let p6 = and_parts _ _ p5.1 in
     let p7 = and_parts _ _ p6.1 in
+    let least = texts_keep_least C.limits in
+    let workers : IsWithin 1 TEXT_WORKERS C.workers = within_true 1 TEXT_WORKERS C.workers p1.0 in
+    let tenants : IsWithin 1 TEXT_TENANTS (length C.weights) = within_true 1 TEXT_TENANTS (length C.weights) p2.0 in
+    let weights : All IsTextWeight C.weights = weights_true C.weights p3.0 in
+    let pairs : length C.weights * C.kinds ≤ TEXT_PAIRS = leb-true _ _ p5.0 in
+    let entries : IsWithin LEAST_ENTRIES MOST_ENTRIES C.entries = within_true LEAST_ENTRIES MOST_ENTRIES C.entries p6.0 in
+    let requests : IsWithin 1 TEXT_REQUESTS C.requests = within_true 1 TEXT_REQUESTS C.requests p7.0 in
     record {
-      workers = within_true 1 MOST_WORKERS _ p1.0;
-      tenants = within_true 1 MOST_TENANTS _ p2.0;
-      weights = weights_true C.weights p3.0;
+      workers = (workers.0, omega (arith, workers.1));
+      tenants = (tenants.0, omega (arith, tenants.1));
+      weights = λ k d lt. ((weights k d lt).0, omega (arith, (weights k d lt).1));
       kinds = within_true 1 MOST_KINDS _ p4.0;
-      pairs = leb-true _ _ p5.0;
-      entries = let within = within_true LEAST_ENTRIES MOST_ENTRIES _ p6.0 in (within.0, omega (arith, within.1));
-      requests = within_true 1 MOST_REQUESTS _ p7.0;
+      pairs = omega (arith, pairs);
+      entries = (entries.0, omega (arith, entries.1));
+      requests = (requests.0, omega (arith, requests.1));
       initial = within_true 1 GREATEST_COST _ p7.1;
+      own = record {
+        workers = omega (arith, workers.1, least.workers);
+        tenants = omega (arith, tenants.1, least.tenants);
+        weights = λ k d lt. omega (arith, (weights k d lt).1, least.weight);
+        pairs = omega (arith, pairs, least.pairs);
+        entries = omega (arith, entries.1, least.entries);
+        requests = omega (arith, requests.1, least.requests);
+      };
     }

@@ -9,8 +9,8 @@ use Rattle.program_model.specs.Options.{Value, values_in}
 use Rattle.program_model.specs.LiveCommand.{live_options, live_of_values}
 use Rattle.program_model.specs.TraceCommand.{history_prints, run_options_of}
 use Rattle.std.specs.Prelude.{codes}
-use Rattle.vt_fixed.specs.declared.limits.TheConstants.{GREATEST_COST, MOST_WORKERS}
-use Rattle.fq_model.specs.declared.limits.TheConstants.{GREATEST_SLOT, MOST_STATUSES}
+use Rattle.vt_fixed.specs.declared.limits.TheConstants.{GREATEST_COST}
+use Rattle.fq_model.specs.declared.limits.TheConstants.{TEXT_WORKERS, GREATEST_SLOT, MOST_STATUSES}
 use Rattle.program_model.specs.CommandOptions.{number_given, workers_option, initial_option, refresh_option, slot_option, number_option}
 use Rattle.command_line.proofs.InRange.{read_from, number_at_most}
 use Rattle.command_line.proofs.Lengths.{values_length, value_there}
@@ -44,7 +44,7 @@ returns-clause-asked c =
 
 pub run_options-requires-clause-workers : goal.run_options-requires-clause-workers
 run_options-requires-clause-workers c =
-    read_from live_options (map string_bytes c.args.words.now) c.in_ok-workers.field-0 0 1 MOST_WORKERS (codes "4") workers_option c.index-branch-0.result
+    read_from live_options (map string_bytes c.args.words.now) c.in_ok-workers.field-0 0 1 TEXT_WORKERS (codes "4") workers_option c.index-branch-0.result
     (read_here (goal.at.run_options-requires-clause-workers c).In_ok-workers) refl refl refl
 
 pub run_options-requires-clause-initial : goal.run_options-requires-clause-initial

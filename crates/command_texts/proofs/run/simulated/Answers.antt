@@ -1,16 +1,14 @@
 use Rattle.program_model.specs.Simulated.{needed_entries, run_config, IsSimulated}
 use Rattle.trace_runner.specs.Plan.{too_long}
 use Rattle.trace_runner.proofs.Finished.{none_unfinished}
-use Rattle.command_texts.proofs.Reports.{few_entries, of_history, short_run}
+use Rattle.command_texts.proofs.Reports.{few_entries, of_history, run_limits}
 use Rattle.command_texts.proofs.run.simulated.Goals as goal
 
 pub last_history-requires-clause-done : goal.last_history-requires-clause-done
 last_history-requires-clause-done c = none_unfinished c.args.trace c.args.options _ c.in-Ok.ensures.simulated
 
-pub last_history-requires-clause-room : goal.last_history-requires-clause-room
-last_history-requires-clause-room c =
-    let few = few_entries (needed_entries c.args.trace.rows c.args.options.refresh) c.in-Ok.history (too_long c.args.trace c.args.options) c.in-Ok.ensures.too_many in
-    short_run c.args.trace c.args.options c.in-Ok.history.config c.in-Ok.ensures.config few
+pub last_history-requires-clause-text : goal.last_history-requires-clause-text
+last_history-requires-clause-text c = run_limits c.args.trace c.args.options c.in-Ok.history.config c.in-Ok.ensures.config
 
 pub returns-in-Ok : goal.returns-in-Ok
 returns-in-Ok c =

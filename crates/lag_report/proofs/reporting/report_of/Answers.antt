@@ -3,6 +3,8 @@ use Rattle.std.specs.List.{position}
 use Rattle.std.specs.List.Sorted.{IsNonDecreasingBy}
 use Rattle.std.proofs.lemmas.List.Sorted.{All-permutation, length_permutation, sum_by-IsPermutation}
 use Rattle.std.proofs.lemmas.List.{length-reverse}
+use Rattle.fq_model.specs.declared.limits.TheConstants.{TEXT_TENANTS}
+use Rattle.fq_laws.proofs.Limits.{within_text}
 use Rattle.fluid_reference.specs.Slots.{IsRowOf, IsChangeOf}
 use Rattle.fluid_reference.proofs.Lists.{list_length}
 use Rattle.fq_model.specs.declared.fluid.Change.{Change}
@@ -53,13 +55,13 @@ count_is : (c : After-as_slice-2) → c.args.end / c.args.slot + 1 ≡ slots_of 
 count_is c = ap (λ n. n / c.args.slot + 1) c.requires.end
 
 pub last_slots-requires-clause-few : goal.last_slots-requires-clause-few
-last_slots-requires-clause-few c = omega (arith, ap length (rows_now c), rows_few c.args.config.now (history_of c.args.contents.now.past.items) c.weights-weights.ensures.limits c.requires.room c.requires.legal)
+last_slots-requires-clause-few c = omega (arith, ap length (rows_now c), rows_few c.args.config.now (history_of c.args.contents.now.past.items) c.weights-weights.ensures.limits c.requires.text c.requires.legal)
 
 pub last_slots-requires-clause-rows : goal.last_slots-requires-clause-rows
 last_slots-requires-clause-rows c = subst (All (IsRowOf (length c.args.config.now.weights))) (sym (rows_now c)) (rows_in c.args.config.now (history_of c.args.contents.now.past.items) c.requires.legal)
 
 pub last_slots-requires-clause-changes : goal.last_slots-requires-clause-changes
-last_slots-requires-clause-changes c = subst (All (IsChangeOf (length c.args.config.now.weights))) (sym (changes_now c)) (changes_in c.args.config.now (history_of c.args.contents.now.past.items) c.weights-weights.ensures.limits c.requires.legal)
+last_slots-requires-clause-changes c = subst (All (IsChangeOf (length c.args.config.now.weights))) (sym (changes_now c)) (changes_in c.args.config.now (history_of c.args.contents.now.past.items) c.weights-weights.ensures.limits c.requires.text c.requires.legal)
 
 pub last_slots-requires-clause-order : goal.last_slots-requires-clause-order
 last_slots-requires-clause-order c = subst (IsNonDecreasingBy (λ (x : Change). x.moment)) (sym (changes_now c)) (changes_order c.args.config.now (history_of c.args.contents.now.past.items) c.requires.legal)
@@ -89,7 +91,7 @@ courses_now c =
 pub by_tenant-requires : goal.by_tenant-requires
 by_tenant-requires c =
     let taken : c.replace-taken.result.items ≡ courses_of (history_of c.args.contents.now.past.items) = ap (λ v. v.items) c.replace-taken.ensures.value ∙ c.requires.courses in
-    subst (All (λ (x : Course). x.tenant ≤ 4096)) (sym taken) (λ k d l. omega (arith, courses_in c.args.config.now (history_of c.args.contents.now.past.items) c.requires.legal k d l, c.weights-weights.ensures.limits.tenants.1))
+    subst (All (λ (x : Course). x.tenant ≤ TEXT_TENANTS)) (sym taken) (λ k d l. omega (arith, courses_in c.args.config.now (history_of c.args.contents.now.past.items) c.requires.legal k d l, (within_text c.args.config.now c.weights-weights.ensures.limits c.requires.text).tenants))
 
 all_are_ended : (c : After-as_slice-3) → (r : ℕ) → r < submits (history_of c.args.contents.now.past.items) → is_ended (history_of c.args.contents.now.past.items) r ≡ true
 all_are_ended c =
@@ -106,7 +108,7 @@ lines-requires-clause-table c =
     let H = history_of c.args.contents.now.past.items in
     let lim = c.weights-weights.ensures.limits in
     let rows : rows_of H ≡ fluid_rows_of H = rows_are C H c.requires.legal in
-    let table : IsTable (length C.weights) (fluid_table C (fluid_rows_of H) H c.args.slot (slots_of H c.args.slot)) = is_table C (fluid_rows_of H) H c.args.slot (slots_of H c.args.slot) (omega arith) (cells_few b) (subst (All (IsRowOf (length C.weights))) rows (rows_in C H c.requires.legal)) (subst (λ rs. length rs ≤ 2000000) rows (rows_few C H lim c.requires.room c.requires.legal)) in
+    let table : IsTable (length C.weights) (fluid_table C (fluid_rows_of H) H c.args.slot (slots_of H c.args.slot)) = is_table C (fluid_rows_of H) H c.args.slot (slots_of H c.args.slot) (omega arith) (cells_few b) (subst (All (IsRowOf (length C.weights))) rows (rows_in C H c.requires.legal)) (subst (λ rs. length rs ≤ 2000000) rows (rows_few C H lim c.requires.text c.requires.legal)) in
     subst (λ ws. IsTable (length ws) c.in_ok-fluid.fluid) (sym c.weights-weights.ensures.value) (subst (IsTable (length C.weights)) (sym (table_now b)) table)
 
 pub lines-requires-clause-order : goal.lines-requires-clause-order
@@ -117,12 +119,12 @@ lines-requires-clause-order c =
 pub lines-requires-clause-requests : goal.lines-requires-clause-requests
 lines-requires-clause-requests c =
     let b : After-as_slice-3 = (goal.at.lines-requires-clause-requests c).After-as_slice-3 in
-    omega (arith, length_permutation _ _ (courses_now b), (courses_are c.args.config.now (history_of c.args.contents.now.past.items) c.requires.legal).counted, submits_few c.args.config.now (history_of c.args.contents.now.past.items) c.weights-weights.ensures.limits c.requires.room c.requires.legal)
+    omega (arith, length_permutation _ _ (courses_now b), (courses_are c.args.config.now (history_of c.args.contents.now.past.items) c.requires.legal).counted, submits_few c.args.config.now (history_of c.args.contents.now.past.items) c.weights-weights.ensures.limits c.requires.text c.requires.legal)
 
 pub lines-requires-clause-costs : goal.lines-requires-clause-costs
 lines-requires-clause-costs c =
     let b : After-as_slice-3 = (goal.at.lines-requires-clause-costs c).After-as_slice-3 in
-    omega (arith, sum_by-IsPermutation (λ (x : Course). x.cost) _ _ (courses_now b), costs_few c.args.config.now (history_of c.args.contents.now.past.items) c.weights-weights.ensures.limits c.requires.room c.requires.legal)
+    omega (arith, sum_by-IsPermutation (λ (x : Course). x.cost) _ _ (courses_now b), costs_few c.args.config.now (history_of c.args.contents.now.past.items) c.weights-weights.ensures.limits c.requires.text c.requires.legal)
 
 pub lines-requires-clause-end : goal.lines-requires-clause-end
 lines-requires-clause-end c =
@@ -138,7 +140,7 @@ new-requires-3 c = omega (
   ap length c.in_ok-rows.ensures,
   list_length (line_for c.weights-weights.result.now c.as_slice-3.result.now c.in_ok-fluid.fluid c.args.slot) (length c.weights-weights.result.now),
   ap length c.weights-weights.ensures.value,
-  c.weights-weights.ensures.limits.tenants.1,
+  (within_text c.args.config.now c.weights-weights.ensures.limits c.requires.text).tenants,
 )
 
 pub returns-clause-report : goal.returns-clause-report
