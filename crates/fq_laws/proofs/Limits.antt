@@ -1,5 +1,5 @@
 -- Which limits are the least, and which the greatest.
-use Rattle.std.proofs.Common.{ℕ, ◌≤◌, ◌≡◌, arith, ap}
+use Rattle.std.proofs.Common.{◌≤◌, ◌≡◌, arith, ap}
 use Rattle.vt_fixed.specs.declared.limits.TheConstants.{GREATEST_WEIGHT}
 use Rattle.fq_model.specs.declared.limits.TheConstants.{MOST_ENTRIES, TEXT_WORKERS, TEXT_TENANTS, TEXT_WEIGHT, TEXT_PAIRS, TEXT_REQUESTS}
 use Rattle.fq_model.specs.declared.limits.Limits.{Limits}
