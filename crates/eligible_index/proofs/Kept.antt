@@ -1,17 +1,18 @@
 -- The invariant of an index through a change, and through a choice.
-use Rattle.std.proofs.Common.{ℕ, ◌≡◌, ◌≢◌, ◌<◌, ◌≤◌, true, false, List, ◌++◌, Option, Some, None, IfSome, length, replicate, get_or, set, take, drop, arith, refl, sym, ap, ◌∙◌, subst, inl, inr, ◌⊎◌, ℤ, ◌≤ℤ◌}
+use Rattle.std.proofs.Common.{ℕ, pos, ◌≡◌, ◌≢◌, ◌<◌, ◌≤◌, true, false, List, ◌++◌, Option, Some, None, IfSome, length, replicate, get_or, set, take, drop, arith, refl, sym, ap, ◌∙◌, subst, inl, inr, ◌⊎◌, ℤ, ◌≤ℤ◌}
 use Rattle.std.proofs.lemmas.Bool.{cases_eq, cases_lt}
 use Rattle.std.proofs.lemmas.Int.{ints}
 use Rattle.std.proofs.lemmas.List.{get_or-set_same, get_or-set_other, length-set, get_or-replicate, get_or_past, length-replicate, take_at}
 use Rattle.std.proofs.lemmas.Option.{slice_get-get_or, slice_get_within, get_or_from_slice_get}
 use Rattle.fq_model.specs.declared.config.Policy.{Policy}
 use Rattle.fq_model.specs.Keys.{HeadKeys, Turn}
+use Rattle.fq_model.specs.declared.limits.TheConstants.{MOST_TENANTS}
 use Rattle.tag_rules.specs.Tables.{Table, Has, RequestsDiffer, IsNewTo}
 use Rattle.winner_tree.specs.declared.key.Key.{Key}
 use Rattle.winner_tree.specs.Order.{key_of, HasNoKey}
 use Rattle.winner_tree.proofs.Least.{none_not_some}
 use Rattle.eligible_index.specs.Noted.{IsNoted}
-use Rattle.eligible_index.specs.Trees.{TreesView, Stands, Follow, HaveNoKey, with_noted, cleared}
+use Rattle.eligible_index.specs.Trees.{TreesView, Stands, Follow, HaveNoKey, with_noted, cleared, empty_trees}
 use Rattle.eligible_index.specs.Index.{KeepsIndex, trees_of, AreNoted, AreCleared}
 
 -- a list that was written back whole
@@ -51,6 +52,39 @@ follow_on policy workers i v later_v table w le h = record { sized = h.sized; st
 
 -- ---- all workers
 
+-- nobody has keys, and the trees are empty
+none_has : (tenants t : ℕ) (k : HeadKeys) → Has (replicate {A = Option HeadKeys} tenants None) t k → ⊥
+none_has tenants t k has =
+    let none = replicate {A = Option HeadKeys} tenants None in
+    let lt : t < tenants = omega (arith, slice_get_within none t (Some k) has, length-replicate {A = Option HeadKeys} tenants None) in
+    let clash : None ≡ Some k = sym (get_or-replicate tenants t None None lt) ∙ get_or_from_slice_get none t (Some k) None has in
+    absurd (cc)
+
+no_key : (n : ℕ) → HasNoKey (replicate {A = Option Key} n None)
+no_key n leaf = elim (cases_lt leaf n) [ inl lt ↦ get_or-replicate n leaf None None lt | inr le ↦ get_or_past (replicate {A = Option Key} n None) leaf None (omega (arith, length-replicate {A = Option Key} n None, le)) ]
+
+follow_empty : (at : Turn) (tenants : ℕ) → Follow at (replicate tenants None) (empty_trees tenants)
+follow_empty at tenants = record {
+  sized =
+      let table = length-replicate {A = Option HeadKeys} tenants None in
+      record { later = length-replicate tenants None ∙ sym table; eligible = length-replicate tenants None ∙ sym table; noted = length-replicate tenants false ∙ sym table };
+  stands = λ t lt fresh.
+      let known : t < tenants = omega (arith, lt, length-replicate {A = Option HeadKeys} tenants None) in
+      subst (λ keys. Stands at keys (key_of (replicate tenants None) t) (key_of (replicate tenants None) t)) (sym (get_or-replicate tenants t None None known)) (no_key tenants t, no_key tenants t);
+}
+
+pub keeps_opened : (policy : Policy) (workers tenants : ℕ) (table : Table) (trees : List TreesView) → table ≡ replicate tenants None → trees ≡ replicate workers (empty_trees tenants) → tenants ≤ MOST_TENANTS → KeepsIndex policy workers table (pos 0) trees
+keeps_opened policy workers tenants table trees none empty few = rw (none, empty) (record {
+  few = omega (arith, few, length-replicate {A = Option HeadKeys} tenants None);
+  differ = λ t k has. absurd (none_has tenants t k has);
+  staffed = omega (arith, length-replicate workers (empty_trees tenants));
+  follow = λ i lt. subst (Follow _ _) (sym (here i lt)) (follow_empty _ tenants);
+  retired = λ i le lt. subst HaveNoKey (sym (here i lt)) (no_key tenants, no_key tenants);
+})
+  where
+    here : (i : ℕ) → i < length (replicate workers (empty_trees tenants)) → trees_of (replicate workers (empty_trees tenants)) i ≡ empty_trees tenants
+    here i lt = get_or-replicate workers i (empty_trees tenants) _ (omega (arith, lt, length-replicate workers (empty_trees tenants)))
+
 -- the keys of a tenant change, and it is noted for each worker
 pub keeps_set : (policy : Policy) (workers : ℕ) (table : Table) (latest : ℤ) (trees newer : List TreesView) (t : ℕ) (keys : Option HeadKeys) → KeepsIndex policy workers table latest trees → RequestsDiffer (set table t keys) → AreNoted t trees newer → KeepsIndex policy workers (set table t keys) latest newer
 keeps_set policy workers table latest trees newer t keys k differ noted = record {
@@ -62,10 +96,7 @@ keeps_set policy workers table latest trees newer t keys k differ noted = record
 }
 
 no_key_cleared : (tenants : ℕ) → HaveNoKey (cleared tenants)
-no_key_cleared tenants = (none tenants, none tenants)
-  where
-    none : (n : ℕ) → HasNoKey (replicate {A = Option Key} n None)
-    none n leaf = elim (cases_lt leaf n) [ inl lt ↦ get_or-replicate n leaf None None lt | inr le ↦ get_or_past (replicate {A = Option Key} n None) leaf None (omega (arith, length-replicate {A = Option Key} n None, le)) ]
+no_key_cleared tenants = (no_key tenants, no_key tenants)
 
 -- all trees are cleared, and there are `fewer` workers
 pub keeps_resized : (policy : Policy) (workers fewer : ℕ) (table : Table) (latest : ℤ) (trees newer : List TreesView) → KeepsIndex policy workers table latest trees → fewer ≤ length trees → AreCleared (length table) trees newer → KeepsIndex policy fewer table latest newer

@@ -16,7 +16,7 @@ use Rattle.journal_text.specs.declared.fault.LineError.{LineError}
 use Rattle.journal_text.specs.declared.fault.LineError.TheVariants as errors
 use Rattle.journal_text.specs.declared.fault.ScriptFault.{ScriptFault}
 use Rattle.journal_text.specs.declared.fault.ScriptFault.TheVariants as faults
-use Rattle.journal_text.proofs.HeadLimits.{IsKept, config_of-in_limits, config_of-short, some_if}
+use Rattle.journal_text.proofs.HeadLimits.{IsKept, config_of-in_limits, some_if}
 
 -- these values before the later ones
 abbrev pub with_more : {A F : Type 0} → List A → Result (List A) F → Result (List A) F
@@ -119,7 +119,7 @@ opened_at : {A : Type 0} (text : Reads A) (version : Version) (place : ℕ) (d :
 opened_at text version place d rest same kept some starts = record {
   means = λ reader. sym (same reader) ∙ (with_lines-body (reader version) (lines_of rest) place d some starts ∙ extended-bodyless d _ kept.bodyless);
   bodyless = kept.bodyless;
-  fits = no_fault (config_of d) (config_of-in_limits d kept (some_if (length d.kinds) some)) (config_of-short d kept);
+  fits = no_fault (config_of d) (config_of-in_limits d kept (some_if (length d.kinds) some));
 }
 
 pub some_kinds : (none kind : Bool) → (not none && not kind) ≡ true → none ≡ false

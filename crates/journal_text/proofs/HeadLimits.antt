@@ -4,7 +4,7 @@ use borrow.Author.Tests.{ltb-false}
 use Rattle.std.specs.Prelude.{codes}
 use Rattle.std.proofs.lemmas.Bool.{eqb-true, eqb-false}
 use Rattle.std.proofs.lemmas.List.Elements.{All-append}
-use Rattle.fq_model.specs.Limits.{IsWithin, IsTextWeight, InLimits, HasTextLimits}
+use Rattle.fq_model.specs.Limits.{IsWithin, IsTextWeight, InLimits}
 use Rattle.vt_fixed.specs.declared.limits.TheConstants.{GREATEST_COST}
 use Rattle.fq_model.specs.declared.limits.TheConstants.{TEXT_WEIGHT, TEXT_WORKERS, TEXT_TENANTS, MOST_KINDS, TEXT_PAIRS, LEAST_ENTRIES, MOST_ENTRIES, TEXT_REQUESTS}
 use Rattle.program_model.specs.declared.fault.ScriptKind.{ScriptKind}
@@ -193,17 +193,23 @@ config_line-kept line s h =
 pub config_of-in_limits : {A : Type 0} (s : Document A) → IsKept s → 0 < length s.kinds → InLimits (config_of s)
 config_of-in_limits s kept some =
     let named : 0 < length s.tenants = kept.order some in
+    let tenants : length s.weights ≤ TEXT_TENANTS = omega (arith, kept.tenants, kept.same) in
+    let pairs : length s.weights * length s.kinds ≤ TEXT_PAIRS = rw kept.same kept.pairs in
     record {
-      workers = kept.settings.workers;
-      tenants = (omega (arith, named, kept.same), omega (arith, kept.tenants, kept.same));
-      weights = kept.weights;
+      workers = (kept.settings.workers.0, omega (arith, kept.settings.workers.1));
+      tenants = (omega (arith, named, kept.same), omega (arith, tenants));
+      weights = λ k d lt. ((kept.weights k d lt).0, omega (arith, (kept.weights k d lt).1));
       kinds = (omega (arith, some), kept.kinds);
-      pairs = rw kept.same kept.pairs;
+      pairs = omega (arith, pairs);
       entries = (kept.settings.entries.0, omega (arith, kept.settings.entries.1));
-      requests = kept.settings.requests;
+      requests = (kept.settings.requests.0, omega (arith, kept.settings.requests.1));
       initial = kept.settings.initial;
+      own = record {
+        workers = kept.settings.workers.1;
+        tenants = tenants;
+        weights = λ k d lt. (kept.weights k d lt).1;
+        pairs = pairs;
+        entries = kept.settings.entries.1;
+        requests = kept.settings.requests.1;
+      };
     }
-
--- and its history is a short one
-pub config_of-short : {A : Type 0} (s : Document A) → IsKept s → HasTextLimits (config_of s)
-config_of-short s kept = kept.settings.entries.1

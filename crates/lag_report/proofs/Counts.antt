@@ -122,7 +122,7 @@ costs_few C H lim text l = omega (arith, costs_by_rows C H l, rows_few C H lim t
 
 change_in : (C : Config) (P : History) (m : ℕ) (a : Act) (changes : List Change) → InLimits C → HasTextLimits C → Fits C P m a → All (IsChangeOf (length C.weights)) changes → All (IsChangeOf (length C.weights)) (with_change m a changes)
 change_in C P m (Weight tenant weight) changes lim text f ih =
-    All-push (IsChangeOf (length C.weights)) changes _ ih (f.tenant_known, f.weight_in_range.0, omega (arith, f.weight_in_range.1, ap greatest_weight text))
+    All-push (IsChangeOf (length C.weights)) changes _ ih (f.tenant_known, (f.weight_in_range.0, omega (arith, f.weight_in_range.1, ap greatest_weight text)))
 change_in C P m (Workers count) changes lim text f ih = All-push (IsChangeOf (length C.weights)) changes _ ih (f.count_in_range.0, omega (arith, f.count_in_range.1, (within_text C lim text).workers))
 change_in C P m _ changes lim text f ih = ih
 

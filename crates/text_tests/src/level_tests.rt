@@ -1,5 +1,5 @@
 ghost use Rattle.std.specs.Prelude.{◌≤◌, length, All};
-ghost use Rattle.fq_model.specs.Limits.{IsWeight};
+ghost use Rattle.fq_model.specs.Limits.{IsTextWeight};
 ghost use Rattle.water_level.specs.Backlogs.{IsBacklog};
 
 use crate::samples::expect_same;
@@ -11,7 +11,7 @@ use water_level::levels::level;
 // A backlog.
 fn backlog(units: u64, weight: u32) -> Backlog
     requires few { units ≤ 100 }
-    requires light { IsWeight weight }
+    requires light { IsTextWeight weight }
     ensures { IsBacklog result }
 {
     Backlog { units, weight }

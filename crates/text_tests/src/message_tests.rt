@@ -42,7 +42,7 @@ fn says_why_a_call_is_refused(rt: HostRuntime) {
         ),
         (
             Cause::Weight(1001),
-            "a weight of 1001, and it may be 1 to 1000",
+            "a weight of 1001, and it may be 1 to the greatest of the configuration's limits",
         ),
         (
             Cause::Workers(0),
@@ -86,32 +86,46 @@ fn says_why_a_book_refuses(rt: HostRuntime) {
 fn says_what_is_wrong_with_a_configuration(rt: HostRuntime) {
     let messages = [
         (
-            ConfigFault::Workers(65),
+            ConfigFault::Workers {
+                count: 65,
+                most: 64,
+            },
             "65 workers, and there may be 1 to 64",
         ),
         (
-            ConfigFault::Tenants(0),
+            ConfigFault::Tenants {
+                count: 0,
+                most: 4096,
+            },
             "0 tenants, and there may be 1 to 4096",
         ),
         (
-            ConfigFault::Weight(3),
+            ConfigFault::Weight {
+                tenant: 3,
+                most: 1000,
+            },
             "the weight of tenant 3 is not from 1 to 1000",
         ),
         (ConfigFault::Kinds(65), "65 kinds, and there may be 1 to 64"),
         (
-            ConfigFault::Pairs(65537),
+            ConfigFault::Pairs {
+                count: 65537,
+                most: 65536,
+            },
             "65537 pairs of a tenant and a kind, and there may be 1 to 65536",
         ),
         (
-            ConfigFault::Entries(3),
+            ConfigFault::Entries {
+                count: 3,
+                most: 4194304,
+            },
             "3 entries, and there may be 4 to 4194304",
         ),
         (
-            ConfigFault::LongEntries(4000000001),
-            "4000000001 entries, and there may be 4 to 4000000000",
-        ),
-        (
-            ConfigFault::Requests(0),
+            ConfigFault::Requests {
+                count: 0,
+                most: 262144,
+            },
             "0 requests that may wait, and there may be 1 to 262144",
         ),
         (

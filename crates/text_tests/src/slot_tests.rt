@@ -1,6 +1,6 @@
 ghost use Rattle.std.specs.Prelude.{◌≡◌, ◌≤◌, ◌<◌, ◌+◌, ℕ, length, All};
 ghost use Rattle.std.specs.List.Sorted.{IsNonDecreasingBy};
-ghost use Rattle.fq_model.specs.Limits.{IsWeight};
+ghost use Rattle.fq_model.specs.Limits.{IsTextWeight};
 ghost use Rattle.fluid_reference.specs.Slots.{IsRowOf, IsChangeOf, slot_at};
 
 use crate::samples::{expect_same, expect_same_at, two_tenants};
@@ -27,7 +27,7 @@ fn row(tenant: u32, submit: u64, cost: u64) -> FluidRow
 // A change of a weight, and one of the number of workers.
 fn weight_set(moment: u64, tenant: u32, weight: u32) -> Change
     requires known { tenant < 2 }
-    requires weight { IsWeight weight }
+    requires weight { IsTextWeight weight }
     ensures range { IsChangeOf 2 result }
     ensures moment { result.moment ≡ moment }
 {

@@ -7,7 +7,9 @@ use Rattle.fq_model.specs.declared.config.Estimator.{Estimator}
 use Rattle.fq_model.specs.declared.config.Estimator.TheVariants as estimator
 use Rattle.fq_model.specs.declared.config.ConfigFault.{ConfigFault}
 use Rattle.fq_model.specs.declared.config.ConfigFault.TheVariants as fault
-use Rattle.fq_model.specs.Limits.{InLimits, config_fault, long_config_fault}
+use Rattle.fq_model.specs.declared.limits.Limits.{Limits}
+use Rattle.fq_model.specs.declared.limits.Limits.TheVariants.{Whole, Long}
+use Rattle.fq_model.specs.Limits.{InLimits, config_fault}
 use Rattle.sched_state.specs.Scheduler.{opened_keeping}
 use Rattle.twodfq_c.specs.declared.opening.Opening.{Opening}
 use Rattle.twodfq_c.specs.declared.opening.Refusal.{Refusal}
@@ -27,14 +29,13 @@ estimator_number estimator.Recent = 1
 estimator_number estimator.Pessimistic = 2
 
 abbrev pub fault_status : ConfigFault → ℕ
-fault_status (fault.Workers workers) = 16
-fault_status (fault.Tenants tenants) = 17
-fault_status (fault.Weight tenant) = 18
+fault_status (fault.Workers workers most) = 16
+fault_status (fault.Tenants tenants most) = 17
+fault_status (fault.Weight tenant most) = 18
 fault_status (fault.Kinds kinds) = 19
-fault_status (fault.Pairs pairs) = 20
-fault_status (fault.Entries entries) = 21
-fault_status (fault.LongEntries entries) = 21
-fault_status (fault.Requests requests) = 22
+fault_status (fault.Pairs pairs most) = 20
+fault_status (fault.Entries entries most) = 21
+fault_status (fault.Requests requests most) = 22
 fault_status (fault.Initial initial) = 23
 
 abbrev pub status : Result (Unit {0}) Refusal → ℕ
@@ -45,8 +46,13 @@ status (Err refusal.Estimator) = 3
 status (Err refusal.NoMemory) = 4
 status (Err (refusal.Config why)) = fault_status why
 
+-- the widest limits, for a history that is kept whole or for a long one
+abbrev pub limits_of : Opening → Limits
+limits_of o = if o.keep == 0 then Whole else Long
+
 -- the configuration of these numbers and these weights
 pub record IsConfigOf (o : Opening) (weights : List ℕ) (c : Config) : Type 0 where
+  pub limits : c.limits ≡ limits_of o
   pub workers : c.workers ≡ o.workers
   pub weights_are : c.weights ≡ weights
   pub kinds : c.kinds ≡ o.kinds
@@ -63,14 +69,10 @@ unnamed_number o =
     else if nat_le 3 o.estimate then Some refusal.Estimator
     else None
 
--- the first fault of the configuration: where all entries are kept its history is a short one, and else it may be long
-abbrev pub opening_fault : Opening → Config → Option ConfigFault
-opening_fault o c = if o.keep == 0 then config_fault c else long_config_fault c
-
 -- why nothing is opened from the numbers: the first that names nothing; else the configuration's first fault, or memory
 -- was wanting
 abbrev pub WhyRefused : Opening → List ℕ → Refusal → Type 0
-WhyRefused o weights (refusal.Config why) = (c : Config) × IsConfigOf o weights c × (opening_fault o c ≡ Some why)
+WhyRefused o weights (refusal.Config why) = (c : Config) × IsConfigOf o weights c × (config_fault c ≡ Some why)
 WhyRefused o weights refusal.NoMemory = unnamed_number o ≡ None
 WhyRefused o weights why = unnamed_number o ≡ Some why
 
@@ -83,7 +85,7 @@ pub record HoldsOpened (o : Opening) (weights : List ℕ) (new : Held) : Type 0 
   pub config : Config
   pub config_is : IsConfigOf o weights config
   pub in_limits : InLimits config
-  pub faultless : opening_fault o config ≡ None
+  pub faultless : config_fault config ≡ None
   pub held : new ≡ Some (opened_keeping (kept_of o) config)
 
 -- why no scheduler was opened: one is there; else it is the numbers

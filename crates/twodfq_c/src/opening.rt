@@ -2,21 +2,20 @@
 ghost use Rattle.std.specs.Prelude.{◌≡◌, ◌≤◌, length, IfOk, IfErr, IfSome, IfNone, Some, None};
 ghost use Rattle.fq_model.specs.declared.config.Config.{Config};
 ghost use Rattle.twodfq_c.specs.declared.opening.Refusal.TheVariants as refusal;
-ghost use Rattle.fq_model.specs.Limits.{InLimits};
-ghost use Rattle.twodfq_c.specs.Opening.{OpensWith, HoldsOpened, IsConfigOf, WhyRefused, unnamed_number, kept_of};
-ghost use Rattle.twodfq_c.specs.Opening.{opening_fault};
+ghost use Rattle.fq_model.specs.Limits.{config_fault};
+ghost use Rattle.twodfq_c.specs.Opening.{OpensWith, HoldsOpened, IsConfigOf, WhyRefused, unnamed_number, kept_of, limits_of};
 ghost use Rattle.twodfq_c.specs.Opening.{status, fault_status, policy_number, estimator_number};
 
 use crate::handle::Handle;
-use fq_model::config::{Checked, Config, ConfigFault, Estimator, Policy, Weights};
-use fq_model::limits::{MOST_TENANTS, MOST_WORKERS};
+use fq_model::config::{Config, ConfigFault, Estimator, Policy, Weights};
+use fq_model::limits::{Limits, MOST_TENANTS, MOST_WORKERS};
 use sched_state::Recent;
 use std::alloc::{AllocError, Global};
 
 /// A configuration without its weights. `policy` is 0 for wfq, 1 for wf2q, 2 for msf2q, 3 for 2dfq, 4 for 2dfq+;
 /// `estimate` is 0 for declared, 1 for recent, 2 for pessimistic. `keep` is how many of the last entries can be read;
-/// 0, and a number above that of the entries, keeps all. The other numbers have the limits of `fq_model`'s `Config`; a
-/// history may be long where `keep` is not 0.
+/// 0, and a number above that of the entries, keeps all. The other numbers have the widest limits of `fq_model`'s
+/// `Config`; a history may be long if `keep` is not 0.
 #[repr(C)]
 #[derive(Clone, Copy, Debug, PartialEq, Eq)]
 pub struct Opening {
@@ -75,7 +74,7 @@ fn opened(alloc: Global, opening: &Opening, weights: &[u32]) -> Result<Handle, R
     ensures why { IfErr result (WhyRefused opening.now weights.now) }
 {
     let config = opening.config(alloc, weights)?;
-    let checked = match opening.checked(config) {
+    let checked = match config.check() {
         Ok(checked) => checked,
         Err(fault) => return Err(Refusal::Config(fault)),
     };
@@ -104,13 +103,13 @@ fn fault_status(fault: ConfigFault) -> u32
     ensures { result ≡ fault_status fault }
 {
     match fault {
-        ConfigFault::Workers(_) => 16,
-        ConfigFault::Tenants(_) => 17,
-        ConfigFault::Weight(_) => 18,
+        ConfigFault::Workers { .. } => 16,
+        ConfigFault::Tenants { .. } => 17,
+        ConfigFault::Weight { .. } => 18,
         ConfigFault::Kinds(_) => 19,
-        ConfigFault::Pairs(_) => 20,
-        ConfigFault::Entries(_) | ConfigFault::LongEntries(_) => 21,
-        ConfigFault::Requests(_) => 22,
+        ConfigFault::Pairs { .. } => 20,
+        ConfigFault::Entries { .. } => 21,
+        ConfigFault::Requests { .. } => 22,
         ConfigFault::Initial(_) => 23,
     }
 }
@@ -127,37 +126,40 @@ impl Opening {
         }
     }
 
-    // The configuration, where its numbers are in their limits.
-    fn checked(&self, config: Config) -> Result<Checked, ConfigFault>
-        ensures ok { IfOk result (λ checked. checked ≡ config) }
-        ensures sound { IfOk result (λ _. opening_fault self.now config ≡ None) }
-        ensures limits { IfOk result (λ _. InLimits config) }
-        ensures fault { IfErr result (λ why. opening_fault self.now config ≡ Some why) }
+    // The widest limits, for a history that is kept whole or for a long one.
+    fn limits(&self) -> Limits
+        ensures { result ≡ limits_of self.now }
     {
         if self.keep == 0 {
-            config.check()
+            Limits::Whole
         } else {
-            config.check_long()
+            Limits::Long
         }
     }
 
-    // The first fault, where there are more weights than there may be tenants.
+    // The first fault, if there are more weights than there may be tenants.
     fn crowd_fault(&self, weights: &[u32]) -> Option<ConfigFault>
         ensures some { IfSome result (λ why. (c : Config) → IsConfigOf self.now weights.now c
-            → opening_fault self.now c ≡ Some why) }
+            → config_fault c ≡ Some why) }
         ensures none { IfNone result (length weights.now ≤ MOST_TENANTS) }
     {
         if weights.len() <= MOST_TENANTS as usize {
             None
         } else if self.workers < 1 || self.workers > MOST_WORKERS {
-            Some(ConfigFault::Workers(self.workers))
+            Some(ConfigFault::Workers {
+                count: self.workers,
+                most: MOST_WORKERS,
+            })
         } else {
-            Some(ConfigFault::Tenants(weights.len() as u64))
+            Some(ConfigFault::Tenants {
+                count: weights.len() as u64,
+                most: MOST_TENANTS,
+            })
         }
     }
 
-    // The configuration, whose limits nobody has looked at but for the number of weights: no more of them are read than
-    // there may be tenants.
+    // The configuration, of which only the number of weights was looked at: no more of them are read than there may be
+    // tenants.
     fn config(&self, alloc: Global, weights: &[u32]) -> Result<Config, Refusal>
         ensures config { IfOk result (IsConfigOf self.now weights.now) }
         ensures named { IfOk result (λ _. unnamed_number self.now ≡ None) }
@@ -173,6 +175,7 @@ impl Opening {
             return Err(Refusal::Config(fault));
         }
         Ok(Config {
+            limits: self.limits(),
             workers: self.workers,
             weights: Weights::from_vec(Vec::from_slice(alloc, weights)?),
             kinds: self.kinds,

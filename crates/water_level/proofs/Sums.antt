@@ -4,6 +4,7 @@ use Rattle.std.proofs.lemmas.List.Sums.{sum_by-le-sum_by, sum_by-le, sum_by-cons
 use Rattle.std.proofs.lemmas.Nat.{le-div, mul-le, div_below}
 use Rattle.std.proofs.Math.Nat.{div-mul-le_self, lt-div-mul-add, add-mul}
 use Rattle.std.proofs.lemmas.Bool.Decides.{nat_tests}
+use Rattle.fq_model.specs.declared.limits.TheConstants.{TEXT_TENANTS}
 use Rattle.fq_model.specs.declared.level.Backlog.{Backlog}
 use Rattle.fq_model.specs.Level.{gift_at, gifts_at, total_units, with_backlog}
 use Rattle.water_level.specs.Backlogs.{IsBacklog}
