@@ -12,8 +12,8 @@ use tag_rules::chooser::Chooser;
 use tag_rules::foresees::{ForeseenChoice, Foresees, foreseen_in};
 use tag_rules::head_keys::Keys;
 use tag_rules::turn::Turn;
-use winner_tree::tree::MOST_LEAVES;
 use winner_tree::Tree;
+use winner_tree::tree::MOST_LEAVES;
 
 /// Keeps the keys by tenant, and two trees a worker. A change of a tenant's keys costs a note a worker; a choice costs
 /// the paths of the tenants that were noted since the worker's last choice, or that have become eligible since.

@@ -9,8 +9,8 @@ use std::alloc::{AllocError, Global};
 use std::marker::Model;
 use tag_rules::head_keys::Keys;
 use tag_rules::turn::Turn;
-use winner_tree::tree::MOST_LEAVES;
 use winner_tree::Tree;
+use winner_tree::tree::MOST_LEAVES;
 
 /// The trees of one worker, whose leaves are the tenants, and the tenants that are noted: those whose keys have changed
 /// since the worker last chose.

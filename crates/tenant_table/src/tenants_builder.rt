@@ -7,7 +7,7 @@ ghost use Rattle.tenant_table.specs.Rows.{tenants_of};
 
 use crate::fault::NameFault;
 use crate::tenants::Tenants;
-use fq_model::limits::{TEXT_WEIGHT, TEXT_TENANTS};
+use fq_model::limits::{TEXT_TENANTS, TEXT_WEIGHT};
 use fq_model::names::is_name;
 use indexmap::IndexMap;
 use std::alloc::{AllocError, Global};

@@ -22,8 +22,7 @@ use crate::fields::{
 use crate::trace::Trace;
 use csv::{ByteRecord, Reader, ReaderBuilder, StringRecord};
 use fq_model::limits::{
-    GREATEST_COST, GREATEST_SUBMITTER, TEXT_WEIGHT, MOST_KINDS, TEXT_PAIRS, MOST_ROWS,
-    TEXT_TENANTS,
+    GREATEST_COST, GREATEST_SUBMITTER, MOST_KINDS, MOST_ROWS, TEXT_PAIRS, TEXT_TENANTS, TEXT_WEIGHT,
 };
 use program_model::fault::TraceKind;
 use program_model::trace::TraceRow;
