@@ -1,5 +1,6 @@
 use Rattle.std.proofs.Common.{◌≤◌, [], arith}
 use Rattle.std.proofs.lemmas.List.Elements.{All-nil, All-cons}
+use Rattle.vt_fixed.specs.declared.limits.TheConstants.{GREATEST_WEIGHT}
 use Rattle.fq_model.specs.Limits.{IsWeight, IsTextWeight, as_text}
 use Rattle.fq_model.specs.Rules.{FitsWeight, HasRoom}
 use Rattle.fq_laws.proofs.History.Counts.{waiting_none, running_none}
@@ -20,7 +21,7 @@ returns-clause-limits c = record {
   own = record {
     workers = omega arith;
     tenants = omega arith;
-    weights = All-cons (λ w. w ≤ 100000) 1 [] (omega arith) (All-nil (λ w. w ≤ 100000));
+    weights = All-cons (λ w. w ≤ GREATEST_WEIGHT) 1 [] (omega arith) (All-nil (λ w. w ≤ GREATEST_WEIGHT));
     pairs = omega arith;
     entries = omega arith;
     requests = omega arith;
