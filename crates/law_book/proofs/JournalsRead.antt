@@ -12,7 +12,8 @@ use Rattle.fq_model.specs.declared.config.Config.{Config}
 use Rattle.fq_model.specs.declared.event.Entry.{Entry}
 use Rattle.fq_model.specs.declared.limits.TheConstants.{TEXT_TENANTS, MOST_KINDS, TEXT_PAIRS}
 use Rattle.fq_model.specs.History.{is_change, is_withdraw}
-use Rattle.fq_model.specs.Limits.{InLimits, HasTextLimits, IsTextWeight}
+use Rattle.fq_model.specs.declared.limits.Limits.TheVariants.{Text}
+use Rattle.fq_model.specs.Limits.{InLimits, IsWithinText, IsTextWeight}
 use Rattle.fq_model.specs.Names.{AreNames}
 use Rattle.fq_model.specs.Spelling.{is_name, policy_word, estimator_word}
 use Rattle.program_model.specs.declared.version.Version.{Version}
@@ -183,7 +184,7 @@ settings_are_words C limits = (
 some_names : (names : List (List ℕ)) → 1 ≤ length names → (length names == 0) ≡ false
 some_names names some = false_from_ne_true (length names == 0) (λ none. omega (arith, eqb-true (length names) 0 none, some))
 
-module _ (C : Config) (tenants kinds : List (List ℕ)) (past : List Entry) (limits : InLimits C) (short : HasTextLimits C) (names : AreNamesFor C tenants kinds) (are : AreEntries past) where
+module _ (C : Config) (tenants kinds : List (List ℕ)) (past : List Entry) (limits : InLimits C) (text : IsWithinText C) (names : AreNamesFor C tenants kinds) (are : AreEntries past) where
   abbrev below_tenants : List ℕ
   below_tenants = kinds_text kinds ++ entries_text past
 
@@ -194,13 +195,13 @@ module _ (C : Config) (tenants kinds : List (List ℕ)) (past : List Entry) (lim
   head_read v of =
       let some_tenant = some_names tenants (omega (arith, names.weighed, limits.tenants.0)) in
       let some_kind = some_names kinds (omega (arith, names.counted, limits.kinds.0)) in
-      let pairs : length tenants * length kinds ≤ TEXT_PAIRS = rw (← names.weighed, ← names.counted) limits.pairs in
+      let pairs : length tenants * length kinds ≤ TEXT_PAIRS = rw (← names.weighed, ← names.counted) text.pairs in
       let words = settings_are_words C limits in
       let word : IsWord (codes "config") = omega arith in
       let has = words_first (codes "config") (settings_words C) below_settings word words in
       ap (below_header (entry_of_words v)) (ap lines_of (settings_text C below_settings) ∙ has.first.lines)
-      ∙ ap (λ r. at_line 2 r >>= λ d. with_lines (entry_of_words v) 3 d (lines_of below_settings)) (ap config_line has.split ∙ config_read C limits short)
-      ∙ tenants_read (entry_of_words v) (settings_in C) below_tenants (journal_with C tenants kinds past) tenants C.weights 3 [] [] names.tenants_are names.weighed limits.weights
+      ∙ ap (λ r. at_line 2 r >>= λ d. with_lines (entry_of_words v) 3 d (lines_of below_settings)) (ap config_line has.split ∙ config_read C limits text)
+      ∙ tenants_read (entry_of_words v) (settings_in C) below_tenants (journal_with C tenants kinds past) tenants C.weights 3 [] [] names.tenants_are names.weighed text.weights
       (λ p. kinds_read (entry_of_words v) (settings_in C) tenants C.weights (entries_text past) (journal_with C tenants kinds past) some_tenant names.tenants_are.few kinds p [] names.kinds_are pairs
       (λ q. entries_read v q (settings_in C) tenants C.weights kinds [] past some_kind are of))
 
@@ -222,12 +223,12 @@ module _ (C : Config) (tenants kinds : List (List ℕ)) (past : List Entry) (lim
   unfolding document_of
   text_of v of = record {
     read = ap (λ l. document_of_lines (codes "journal") entry_of_words (lines_of l)) (parts v) ∙ text_read v of;
-    config_is = ap (λ (n : ℕ). record C { kinds = n }) (sym names.counted);
+    config_is = ap (λ (n : ℕ). record C { limits = Text; kinds = n }) (sym names.counted);
   }
 
 pub read_back : JournalsReadBack
 unfolding journal_text
-read_back C tenants kinds past limits short names are = text_of C tenants kinds past limits short names are (version_for past) (of_version past)
+read_back C tenants kinds past limits text names are = text_of C tenants kinds past limits text names are (version_for past) (of_version past)
 
 pub streamed_back : StreamedReadBack
-streamed_back C tenants kinds past limits short names are = text_of C tenants kinds past limits short names are Third tt
+streamed_back C tenants kinds past limits text names are = text_of C tenants kinds past limits text names are Third tt

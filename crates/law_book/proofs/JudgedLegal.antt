@@ -13,7 +13,10 @@ use Rattle.fq_laws.proofs.History.Numbers.{next_small, take_request_small, waits
 use Rattle.fq_laws.proofs.History.Weights.{pool_high}
 use Rattle.fq_laws.proofs.History.Workers.{runs_worker_known}
 use Rattle.program_model.specs.Document.{config_of}
+use Rattle.fq_model.specs.declared.limits.TheConstants.{TEXT_WEIGHT}
 use Rattle.fq_laws.proofs.Limits.{no_greater_weight}
+use Rattle.limit_laws.specs.Words.{WeightsAtMost}
+use Rattle.limit_laws.proofs.Legal.{legal_text}
 use Rattle.journal_check.proofs.OneVerdict.{legal_among, legal_is_legal}
 use Rattle.law_book.specs.Journals.{FitsTypes, FitsLabel, IsEntry, IsUnreadFit, LegalEntriesFit, IsReadBack, IsJudgedLegal, LegalIsJudgedLegal, StreamedIsJudgedLegal, journal_with}
 use Rattle.law_book.proofs.JournalsRead.{read_back, streamed_back}
@@ -68,9 +71,9 @@ pub entries_fit : LegalEntriesFit
 entries_fit C past limits legal unread = all_fit C [] past limits legal unread
 
 -- the text of a legal history that is read back is judged legal
-judged : (C : Config) (tenants kinds : List (List ℕ)) (past : List Entry) (text : List ℕ) → IsReadBack C tenants kinds past text → IsLegal C (history_of past) → IsJudgedLegal C past text
-judged C tenants kinds past text back legal =
-    let here : IsLegal (config_of (journal_with C tenants kinds past)) (history_of past) = subst (λ (B : Config). IsLegal B (history_of past)) (sym back.config_is) legal in
+judged : (C : Config) (tenants kinds : List (List ℕ)) (past : List Entry) (text : List ℕ) → IsReadBack C tenants kinds past text → WeightsAtMost TEXT_WEIGHT (history_of past) → IsLegal C (history_of past) → IsJudgedLegal C past text
+judged C tenants kinds past text back weights legal =
+    let here : IsLegal (config_of (journal_with C tenants kinds past)) (history_of past) = subst (λ (B : Config). IsLegal B (history_of past)) (sym back.config_is) (legal_text C (history_of past) weights legal) in
     record {
       journal = journal_with C tenants kinds past;
       read = back.read;
@@ -81,9 +84,9 @@ judged C tenants kinds past text back legal =
     }
 
 pub judged_legal : LegalIsJudgedLegal
-judged_legal C tenants kinds past limits short names unread legal =
-    judged C tenants kinds past _ (read_back C tenants kinds past limits short names (entries_fit C past limits legal unread)) legal
+judged_legal C tenants kinds past limits text names unread weights legal =
+    judged C tenants kinds past _ (read_back C tenants kinds past limits text names (entries_fit C past limits legal unread)) weights legal
 
 pub streamed_legal : StreamedIsJudgedLegal
-streamed_legal C tenants kinds past limits short names unread legal =
-    judged C tenants kinds past _ (streamed_back C tenants kinds past limits short names (entries_fit C past limits legal unread)) legal
+streamed_legal C tenants kinds past limits text names unread weights legal =
+    judged C tenants kinds past _ (streamed_back C tenants kinds past limits text names (entries_fit C past limits legal unread)) weights legal

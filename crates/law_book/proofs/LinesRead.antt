@@ -16,7 +16,7 @@ use Rattle.fq_model.specs.declared.event.Act.TheVariants.{Submit, Take, Report, 
 use Rattle.fq_model.specs.declared.event.Entry.{Entry}
 use Rattle.fq_model.specs.declared.limits.TheConstants.{TEXT_WEIGHT, TEXT_WORKERS, LEAST_ENTRIES, MOST_ENTRIES, TEXT_REQUESTS, TEXT_TENANTS, MOST_KINDS, TEXT_PAIRS}
 use Rattle.fq_model.specs.History.{is_change, is_withdraw}
-use Rattle.fq_model.specs.Limits.{InLimits, HasTextLimits, IsTextWeight, IsWithin}
+use Rattle.fq_model.specs.Limits.{InLimits, IsWithinText, IsTextWeight, IsWithin}
 use Rattle.fq_model.specs.Spelling.{is_name, is_name_byte, policy_word, estimator_word}
 use Rattle.fq_laws.proofs.Rules.Passes.{within}
 use Rattle.program_model.specs.declared.version.Version.{Version}
@@ -279,22 +279,22 @@ kind_read reader s tenants weights kinds name some spelled new a b c =
 abbrev pub config_words : Config → Words
 config_words C = codes "config" ∷ decimal C.workers ∷ policy_word C.policy ∷ estimator_word C.estimate ∷ decimal C.initial ∷ decimal C.entries ∷ decimal C.requests ∷ []
 
-settings_read : (C : Config) → InLimits C → HasTextLimits C → settings_of (config_words C) ≡ Ok (settings_in C)
+settings_read : (C : Config) → InLimits C → IsWithinText C → settings_of (config_words C) ≡ Ok (settings_in C)
 unfolding settings_of
-settings_read C limits short =
+settings_read C limits text =
     let words = config_words C in
     rw (
-      ranged_read words 1 1 TEXT_WORKERS C.workers refl (omega (arith, limits.workers.1)) limits.workers,
+      ranged_read words 1 1 TEXT_WORKERS C.workers refl (omega (arith, limits.workers.1)) (limits.workers.0, text.workers),
       policy_read words 2 C.policy refl,
       estimator_read words 3 C.estimate refl,
       ranged_read words 4 1 GREATEST_COST C.initial refl (omega (arith, limits.initial.1)) limits.initial,
-      ranged_read words 5 LEAST_ENTRIES MOST_ENTRIES C.entries refl (omega (arith, short)) (limits.entries.0, short),
-      ranged_read words 6 1 TEXT_REQUESTS C.requests refl (omega (arith, limits.requests.1)) limits.requests,
+      ranged_read words 5 LEAST_ENTRIES MOST_ENTRIES C.entries refl (omega (arith, text.entries)) (limits.entries.0, text.entries),
+      ranged_read words 6 1 TEXT_REQUESTS C.requests refl (omega (arith, limits.requests.1)) (limits.requests.0, text.requests),
     ) refl
 
-pub config_read : (C : Config) → InLimits C → HasTextLimits C → config_line (config_words C) ≡ Ok (document (settings_in C) [] [] [] [])
+pub config_read : (C : Config) → InLimits C → IsWithinText C → config_line (config_words C) ≡ Ok (document (settings_in C) [] [] [] [])
 unfolding config_line
-config_read C limits short = rw (settings_read C limits short) refl
+config_read C limits text = rw (settings_read C limits text) refl
 
 -- ---- names and words
 

@@ -2,14 +2,15 @@
 use Rattle.std.specs.Prelude.{ℕ, ◌^◌, ◌<◌, ◌≡◌, List, length, Ok}
 use Rattle.std.specs.List.{All}
 use Rattle.fq_model.specs.declared.config.Config.{Config}
-use Rattle.fq_model.specs.declared.limits.TheConstants.{TEXT_TENANTS, MOST_KINDS}
+use Rattle.fq_model.specs.declared.limits.TheConstants.{TEXT_TENANTS, TEXT_WEIGHT, MOST_KINDS}
 use Rattle.fq_model.specs.declared.event.Act.{Act}
 use Rattle.fq_model.specs.declared.event.Act.TheVariants.{Submit, Take, Report, Done, Close, Weight, Workers, Withdraw}
 use Rattle.fq_model.specs.declared.event.Entry.{Entry}
 use Rattle.fq_model.specs.History.{history_of}
-use Rattle.fq_model.specs.Limits.{InLimits, HasTextLimits}
+use Rattle.fq_model.specs.Limits.{InLimits, IsWithinText, as_text}
 use Rattle.fq_model.specs.Names.{AreNames}
 use Rattle.fq_model.specs.Rules.{IsLegal}
+use Rattle.limit_laws.specs.Words.{WeightsAtMost}
 use Rattle.program_model.specs.Document.{config_of}
 use Rattle.program_model.specs.Journal.{Journal, journal_of}
 use Rattle.program_model.specs.JournalText.{journal_text}
@@ -66,24 +67,24 @@ journal_with C tenants kinds past = record {
   body = past;
 }
 
--- a text spells the journal of these entries, and that document is about this configuration
+-- a text spells the journal of these entries, and that document is about the configuration of these numbers
 pub record IsReadBack (C : Config) (tenants kinds : List (List ℕ)) (past : List Entry) (text : List ℕ) : Type 0 where
   pub read : journal_of text ≡ Ok (journal_with C tenants kinds past)
-  pub config_is : config_of (journal_with C tenants kinds past) ≡ C
+  pub config_is : config_of (journal_with C tenants kinds past) ≡ as_text C
 
--- so the text of a journal is read, where the configuration is in its limits, with a history that may be kept whole,
--- the names are lawful and each number of an entry fits its type
+-- so the text of a journal is read, if the numbers of the configuration are within the limits of texts, the names are
+-- lawful and each number of an entry fits its type
 abbrev pub JournalsReadBack : Type 0
 JournalsReadBack =
     (C : Config) (tenants kinds : List (List ℕ)) (past : List Entry)
-    → InLimits C → HasTextLimits C → AreNamesFor C tenants kinds → AreEntries past
+    → InLimits C → IsWithinText C → AreNamesFor C tenants kinds → AreEntries past
     → IsReadBack C tenants kinds past (journal_text C tenants kinds past)
 
 -- and so is one that was written as the entries came
 abbrev pub StreamedReadBack : Type 0
 StreamedReadBack =
     (C : Config) (tenants kinds : List (List ℕ)) (past : List Entry)
-    → InLimits C → HasTextLimits C → AreNamesFor C tenants kinds → AreEntries past
+    → InLimits C → IsWithinText C → AreNamesFor C tenants kinds → AreEntries past
     → IsReadBack C tenants kinds past (streamed_text C tenants kinds past)
 
 -- the numbers that no rule looks at fit their types: the number of the caller, and the label of a Submit
@@ -100,26 +101,28 @@ abbrev pub LegalEntriesFit : Type 0
 LegalEntriesFit =
     (C : Config) (past : List Entry) → InLimits C → IsLegal C (history_of past) → All IsUnreadFit past → AreEntries past
 
--- the text is read as a journal with this configuration and these entries, of which the one verdict is that they are
--- legal
+-- the text is read as a journal with the numbers of this configuration and these entries, of which the one verdict is
+-- that they are legal
 pub record IsJudgedLegal (C : Config) (past : List Entry) (text : List ℕ) : Type 0 where
   pub journal : Journal
   pub read : journal_of text ≡ Ok journal
-  pub config_is : config_of journal ≡ C
+  pub config_is : config_of journal ≡ as_text C
   pub body_is : journal.body ≡ past
   pub legal : IsVerdict (config_of journal) journal.body Legal
   pub no_other : (v : Verdict) → IsVerdict (config_of journal) journal.body v → v ≡ Legal
 
--- the printed journal of a legal history that may be kept whole is judged legal where it is read
+-- the printed journal of a legal history is judged legal, if its numbers are within the limits of texts, whichever
+-- limits its scheduler keeps
 abbrev pub LegalIsJudgedLegal : Type 0
 LegalIsJudgedLegal =
     (C : Config) (tenants kinds : List (List ℕ)) (past : List Entry)
-    → InLimits C → HasTextLimits C → AreNamesFor C tenants kinds → All IsUnreadFit past → IsLegal C (history_of past)
+    → InLimits C → IsWithinText C → AreNamesFor C tenants kinds → All IsUnreadFit past
+    → WeightsAtMost TEXT_WEIGHT (history_of past) → IsLegal C (history_of past)
     → IsJudgedLegal C past (journal_text C tenants kinds past)
 
 -- and so is the journal that was written as its entries came
 abbrev pub StreamedIsJudgedLegal : Type 0
 StreamedIsJudgedLegal =
     (C : Config) (tenants kinds : List (List ℕ)) (past : List Entry)
-    → InLimits C → HasTextLimits C → AreNamesFor C tenants kinds → All IsUnreadFit past
-    → IsLegal C (history_of past) → IsJudgedLegal C past (streamed_text C tenants kinds past)
+    → InLimits C → IsWithinText C → AreNamesFor C tenants kinds → All IsUnreadFit past
+    → WeightsAtMost TEXT_WEIGHT (history_of past) → IsLegal C (history_of past) → IsJudgedLegal C past (streamed_text C tenants kinds past)
