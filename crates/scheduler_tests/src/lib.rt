@@ -41,3 +41,5 @@ mod shared_tests;
 mod simulation_tests;
 #[cfg(test)]
 mod tree_tests;
+#[cfg(test)]
+mod wide_tests;

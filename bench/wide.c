@@ -1,0 +1,234 @@
+// Times the calls of a scheduler of many workers and tenants: in a service where each tenant always has one request that
+// waits, a worker that is done asks what it would take, takes it, and the tenant that it served submits again. The calls
+// are drawn by a first scheduler and made anew on a second one, whose answers have to be the same; a clock is read
+// around each. Then the dearest takes: no head is eligible, and each block of the order has one that is nearly so.
+#include <stdbool.h>
+#include <stdint.h>
+#include <stdio.h>
+#include <stdlib.h>
+#include <time.h>
+
+#include "twodfq.h"
+
+enum { CYCLES = 200000, MOST_WORKERS = 4096, MOST_TENANTS = 65536 };
+
+typedef struct {
+    uint64_t end;
+    uint32_t worker;
+} course;
+
+typedef struct {
+    uint64_t moment, cost;
+    uint32_t worker, request, tenant;
+    uint64_t next_cost;
+} cycle;
+
+typedef uint64_t (*cost_of)(uint32_t tenant);
+
+static course running[MOST_WORKERS]; // a heap by end
+static cycle cycles[CYCLES];
+static uint32_t weights[MOST_TENANTS];
+static uint64_t firsts[MOST_TENANTS], state;
+static double empty; // nanoseconds of two readings of the clock
+
+static double uniform(void) {
+    state = state * 6364136223846793005u + 1442695040888963407u;
+    return (double)(state >> 11) / 9007199254740992.0;
+}
+
+// one tenant of two asks for 0.3 ms, and the others for 100 ms
+static uint64_t two_costs(uint32_t tenant) { return tenant % 2 ? 100000 : 300; }
+
+// from 10 microseconds to 100 ms, each decade alike
+static uint64_t four_decades(uint32_t tenant) {
+    (void)tenant;
+    double cost = 10;
+    for (double decades = 4 * uniform(); decades > 0; decades -= 0.125) cost *= 1.333521432163324; // 10 ^ (1 / 8)
+    return (uint64_t)cost;
+}
+
+static void begin(uint32_t *count, course c) {
+    uint32_t at = (*count)++;
+    for (; at && running[(at - 1) / 2].end > c.end; at = (at - 1) / 2) running[at] = running[(at - 1) / 2];
+    running[at] = c;
+}
+
+static course first_end(uint32_t *count) {
+    course first = running[0], last = running[--*count];
+    uint32_t at = 0;
+    for (;;) {
+        uint32_t child = 2 * at + 1;
+        if (child >= *count) break;
+        if (child + 1 < *count && running[child + 1].end < running[child].end) child++;
+        if (running[child].end >= last.end) break;
+        running[at] = running[child];
+        at = child;
+    }
+    running[at] = last;
+    return first;
+}
+
+static double nanoseconds(void) {
+    struct timespec now;
+    clock_gettime(CLOCK_MONOTONIC, &now);
+    return (double)now.tv_sec * 1e9 + (double)now.tv_nsec;
+}
+
+static void want(bool holds, const char *what) {
+    if (holds) return;
+    fprintf(stderr, "bench/wide: %s\n", what);
+    exit(1);
+}
+
+static twodfq opened(uint32_t workers, uint32_t tenants, cost_of cost) {
+    twodfq_opening opening = {
+        .workers = workers,
+        .kinds = 1,
+        .entries = 4 * (tenants + workers + CYCLES),
+        .requests = tenants + workers + 1,
+        .policy = TWODFQ_2DFQ_PLUS,
+        .estimate = TWODFQ_RECENT,
+        .initial = 1000,
+        .keep = 1024,
+    };
+    twodfq scheduler = TWODFQ_NONE;
+    want(twodfq_open(&scheduler, &opening, weights, tenants) == TWODFQ_OPENED, "no scheduler was opened");
+    for (uint32_t tenant = 0; tenant < tenants; tenant++) {
+        firsts[tenant] = cost(tenant);
+        want(twodfq_submit(&scheduler, 0, 0, tenant, 0, firsts[tenant], tenant).kind == TWODFQ_REQUEST, "a first submit");
+    }
+    return scheduler;
+}
+
+// Draws the cycles; labels are tenants. Each worker begins with a request, whose tenant submits another.
+static void draw_cycles(uint32_t workers, uint32_t tenants, cost_of cost) {
+    static uint64_t costs[MOST_TENANTS]; // of what a tenant has waiting
+    static uint64_t taken[MOST_WORKERS];
+    static uint32_t served[MOST_WORKERS];
+    state = 7;
+    twodfq scheduler = opened(workers, tenants, cost);
+    for (uint32_t tenant = 0; tenant < tenants; tenant++) costs[tenant] = firsts[tenant];
+    uint32_t count = 0;
+    for (uint32_t i = 0; i < workers; i++) {
+        twodfq_reply run = twodfq_take(&scheduler, 0, 0, i);
+        if (run.kind != TWODFQ_RUN) continue; // fewer tenants than workers
+        served[i] = (uint32_t)run.second;
+        taken[i] = costs[served[i]];
+        begin(&count, (course){ taken[i], i });
+        costs[served[i]] = cost(served[i]);
+        want(twodfq_submit(&scheduler, 0, 0, served[i], 0, costs[served[i]], served[i]).kind == TWODFQ_REQUEST, "a submit");
+    }
+    for (uint32_t at = 0; at < CYCLES; at++) {
+        course end = first_end(&count);
+        cycle *c = &cycles[at];
+        *c = (cycle){ .moment = end.end, .cost = taken[end.worker], .worker = end.worker };
+        want(twodfq_done(&scheduler, 0, c->moment, c->worker, c->cost).kind == TWODFQ_ACCEPTED, "a done");
+        twodfq_reply run = twodfq_take(&scheduler, 0, c->moment, c->worker);
+        want(run.kind == TWODFQ_RUN, "a take");
+        c->request = run.request;
+        c->tenant = (uint32_t)run.second;
+        c->next_cost = cost(c->tenant);
+        want(twodfq_submit(&scheduler, 0, c->moment, c->tenant, 0, c->next_cost, c->tenant).kind == TWODFQ_REQUEST, "a submit");
+        taken[c->worker] = costs[c->tenant];
+        costs[c->tenant] = c->next_cost;
+        begin(&count, (course){ c->moment + taken[c->worker], c->worker });
+    }
+    twodfq_free(&scheduler);
+}
+
+enum { DONE, FORESEE, TAKE, SUBMIT, CALLS };
+
+// adds what a call took since `began`, and gives the clock
+static double add(double *sum, double *greatest, double began) {
+    double now = nanoseconds(), took = now - began - empty;
+    *sum += took;
+    if (took > *greatest) *greatest = took;
+    return nanoseconds();
+}
+
+static void time_cycles(const char *costs, uint32_t workers, uint32_t tenants, cost_of cost) {
+    draw_cycles(workers, tenants, cost);
+    state = 7;
+    twodfq scheduler = opened(workers, tenants, cost);
+    for (uint32_t i = 0; i < workers; i++) {
+        twodfq_reply run = twodfq_take(&scheduler, 0, 0, i);
+        if (run.kind != TWODFQ_RUN) continue;
+        uint32_t tenant = (uint32_t)run.second;
+        twodfq_submit(&scheduler, 0, 0, tenant, 0, cost(tenant), tenant);
+    }
+    double sums[CALLS] = { 0 }, greatest[CALLS] = { 0 };
+    for (uint32_t at = 0; at < CYCLES; at++) {
+        cycle *c = &cycles[at];
+        double began = nanoseconds();
+        twodfq_done(&scheduler, 0, c->moment, c->worker, c->cost);
+        began = add(&sums[DONE], &greatest[DONE], began);
+        twodfq_reply foreseen = twodfq_foresee(&scheduler, c->moment, c->worker, 1000);
+        began = add(&sums[FORESEE], &greatest[FORESEE], began);
+        twodfq_reply run = twodfq_take(&scheduler, 0, c->moment, c->worker);
+        began = add(&sums[TAKE], &greatest[TAKE], began);
+        twodfq_submit(&scheduler, 0, c->moment, c->tenant, 0, c->next_cost, c->tenant);
+        add(&sums[SUBMIT], &greatest[SUBMIT], began);
+        want(run.request == c->request && foreseen.request == c->request, "another request than at first");
+    }
+    twodfq_free(&scheduler);
+    double all = 0;
+    for (int call = 0; call < CALLS; call++) all += sums[call] / CYCLES;
+    printf("| %s | %u | %u |", costs, workers, tenants);
+    for (int call = 0; call < CALLS; call++) printf(" %.0f |", sums[call] / CYCLES);
+    printf(" %.0f | %.0f |\n", all, greatest[TAKE] / 1000);
+    fflush(stdout);
+}
+
+// The dearest takes: every tenant has run ahead, so that no head is eligible, and one head of some thirty is a hundred
+// times as long as the others: it may become eligible first, so its block is looked into. The last worker takes.
+static void time_worst(uint32_t workers, uint32_t tenants) {
+    enum { TAKES = 2000 };
+    twodfq_opening opening = {
+        .workers = workers,
+        .kinds = 1,
+        .entries = 16 * tenants + 64 * TAKES,
+        .requests = 2 * tenants,
+        .policy = TWODFQ_2DFQ,
+        .estimate = TWODFQ_DECLARED,
+        .initial = 1000,
+        .keep = 1024,
+    };
+    twodfq scheduler = TWODFQ_NONE;
+    want(twodfq_open(&scheduler, &opening, weights, tenants) == TWODFQ_OPENED, "no scheduler was opened");
+    for (uint32_t tenant = 0; tenant < tenants; tenant++) twodfq_submit(&scheduler, 0, 0, tenant, 0, 1000000, tenant);
+    for (uint32_t tenant = 0; tenant < tenants; tenant++) { // each is served once, at no time
+        twodfq_take(&scheduler, 0, 0, 0);
+        twodfq_done(&scheduler, 0, 0, 0, 1000000);
+    }
+    for (uint32_t tenant = 0; tenant < tenants; tenant++)
+        twodfq_submit(&scheduler, 0, 0, tenant, 0, tenant % 31 ? 1000 + tenant % 1000 : 100000 + tenant % 1000, tenant);
+    double sum = 0, greatest = 0;
+    for (uint32_t i = 0; i < TAKES; i++) {
+        double began = nanoseconds();
+        twodfq_reply run = twodfq_take(&scheduler, 0, 0, workers - 1);
+        add(&sum, &greatest, began);
+        want(run.kind == TWODFQ_RUN, "a take");
+        twodfq_done(&scheduler, 0, 0, workers - 1, 1000000);
+        uint32_t tenant = (uint32_t)run.second;
+        twodfq_submit(&scheduler, 0, 0, tenant, 0, tenant % 31 ? 1000 + tenant % 1000 : 100000 + tenant % 1000, tenant);
+    }
+    printf("| %u | %u | %.1f | %.1f |\n", workers, tenants, sum / TAKES / 1000, greatest / 1000);
+    fflush(stdout);
+    twodfq_free(&scheduler);
+}
+
+int main(int argc, char **argv) {
+    static const uint32_t all_workers[] = { 16, 64, 1024, 4096 }, all_tenants[] = { 100, 4096, 65536 };
+    bool few = argc > 1 && argv[1][0] == 'n'; // narrow: what a library of 64 workers and 4,096 tenants can do
+    for (uint32_t tenant = 0; tenant < MOST_TENANTS; tenant++) weights[tenant] = 1 + tenant % 4;
+    double began = nanoseconds();
+    for (int i = 0; i < 1000000; i++) nanoseconds();
+    empty = (nanoseconds() - began) / 1e6;
+    int workers_count = few ? 2 : 4, tenants_count = few ? 2 : 3;
+    for (int pattern = 0; pattern < 2; pattern++)
+        for (int t = 0; t < tenants_count; t++)
+            for (int w = 0; w < workers_count; w++)
+                time_cycles(pattern ? "four decades" : "0.3 and 100 ms", all_workers[w], all_tenants[t], pattern ? four_decades : two_costs);
+    printf("\n");
+    for (int t = 1; t < tenants_count; t++) time_worst(few ? 64 : 4096, all_tenants[t]);
+}
