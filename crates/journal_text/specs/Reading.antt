@@ -3,6 +3,7 @@ use Rattle.std.specs.Prelude.{ℕ, ◌*◌, ◌≡◌, nat_lt, Bool, not, ◌&&�
 use Rattle.std.specs.Prelude.{if◌then◌else◌, codes, List, length, Result, Ok, Err}
 use Rattle.program_model.specs.declared.fault.ScriptKind.{ScriptKind}
 use Rattle.fq_model.specs.declared.config.Config.{Config}
+use Rattle.fq_model.specs.Limits.{HasTextLimits}
 use Rattle.fq_model.specs.declared.limits.TheConstants.{TEXT_TENANTS, MOST_KINDS, TEXT_PAIRS}
 use Rattle.program_model.specs.Document.{Settings, Document, with_tenant, with_kind, config_line}
 use Rattle.program_model.specs.declared.fault.ScriptKind.TheVariants.{Word}
@@ -46,6 +47,7 @@ settings_in c = record {
 
 -- a scheduler with this configuration has these tenants and kinds
 pub record IsAbout (config : Config) (tenants : List (List ℕ × ℕ)) (kinds : List (List ℕ)) : Type 0 where
+  pub text : HasTextLimits config
   pub weighed : config.weights ≡ weights_of tenants
   pub counted : config.kinds ≡ length kinds
 
