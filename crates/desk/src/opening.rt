@@ -2,6 +2,7 @@
 ghost use Rattle.std.specs.Prelude.{◌≡◌, ◌≤◌, ◌+◌, ◌-◌, [], length, IfOk, IfErr, IfSome, None, false};
 ghost use Rattle.std.specs.Prelude.{option_map, vec_capacity};
 ghost use Rattle.std.specs.Arc.{arc_value};
+ghost use Rattle.vt_fixed.specs.declared.limits.TheConstants.{MOST_WORKERS};
 ghost use Rattle.fq_model.specs.Limits.{InLimits, IsWithin, is_outside};
 ghost use Rattle.desk.specs.declared.desk.TheConstants.{MOST_SUBMITTERS};
 ghost use Rattle.desk.specs.Floors.{crew_for};
@@ -98,7 +99,7 @@ fn split_workers<J: Job + Drop, X: Chooser>(
 )
     requires zero { IsSplit lock.now (lock.now.frame.submitters - 1) zero.old }
     requires some { (1 ≤ lock.now.frame.submitters) × (lock.now.frame.submitters ≤ MOST_SUBMITTERS) }
-    requires workers { (workers ≡ lock.now.frame.config.workers) × (workers ≤ 64) }
+    requires workers { (workers ≡ lock.now.frame.config.workers) × (workers ≤ MOST_WORKERS) }
     requires room { (tokens.old.items ≡ []) × (workers ≤ vec_capacity tokens.old) }
     ensures zero { IsSplit lock.now (lock.now.frame.submitters + workers - 1) zero.new }
     ensures tokens { AreWorkers lock.now 0 tokens.new.items }
