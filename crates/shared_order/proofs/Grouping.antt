@@ -33,9 +33,6 @@ begins blocks g l = omega (arith, (div_ceil_times blocks 32 (omega arith)).1, l)
 pub known_group : (blocks at : ℕ) → at < blocks → at / 32 < group_count blocks
 known_group blocks at l = omega (arith, (div_ceil_times blocks 32 (omega arith)).0, l)
 
-pub count_grows : (n m : ℕ) → n ≤ m → group_count n ≤ group_count m
-count_grows n m l = omega (arith, (div_ceil_times n 32 (omega arith)).1, (div_ceil_times m 32 (omega arith)).0, l)
-
 -- ---- a group
 
 -- its first head is that of its first block

@@ -47,7 +47,8 @@ pub fn outlook(turn: Turn, order: &Order, below: u64, weights: &[u32]) -> Option
     }
 }
 
-// Whether an eligible head has an estimate below this, in microseconds. None is below 0: whoever asks of 0 pays nothing.
+// Whether an eligible head has an estimate below this, in microseconds. None is below 0: whoever asks of 0 pays
+// nothing.
 fn has_smaller(turn: Turn, groups: &Groups, below: u64, weights: &[u32]) -> bool
     requires begun { pos 0 ≤ℤ turn.virtual_time }
     requires kept { KeepsOrder groups.now.used }
@@ -61,8 +62,8 @@ fn has_smaller(turn: Turn, groups: &Groups, below: u64, weights: &[u32]) -> bool
 
 /// The first eligible head with an estimate below this, in microseconds.
 ///
-/// Such a head is shorter than that estimate is at weight 1. Where a head of this length that finishes with the first of
-/// a group would not be eligible, neither this group nor a later one has what is sought, and the search ends there.
+/// Such a head is shorter than that estimate is at weight 1. Where a head of this length that finishes with the first
+/// of a group would not be eligible, neither this group nor a later one has what is sought, and the search ends there.
 pub(crate) fn first_smaller(
     turn: Turn,
     groups: &Groups,

@@ -57,8 +57,8 @@ pub(crate) fn first_eligible(turn: Turn, groups: &Groups) -> Option<Head>
 
 /// The head that becomes eligible soonest: by eligible key, then by finish, then by number.
 ///
-/// A group or a block is passed over where a head that finishes with the first and is as long as the longest in it would
-/// become eligible no sooner than the soonest head before it.
+/// A group or a block is passed over where a head that finishes with the first and is as long as the longest in it
+/// would become eligible no sooner than the soonest head before it.
 pub(crate) fn soonest(turn: Turn, groups: &Groups) -> Option<Head>
     requires kept { KeepsOrder groups.now.used }
     requires in_range { AreInRange (all_heads groups.now.used) }
