@@ -5,6 +5,7 @@ pub mod InBlock
 pub mod Places
 pub mod Pieces
 pub mod Searching
+pub mod Extents
 pub mod Smaller
 pub mod Mirroring
 pub mod Choosing
@@ -14,3 +15,6 @@ pub mod Dense
 pub mod Settling
 pub mod Splitting
 pub mod Changes
+pub mod Grouping
+pub mod Numbers
+pub mod Looking

@@ -1,11 +1,13 @@
 -- Lists put together of pieces.
-use Rattle.std.proofs.Common.{ℕ, ◌+◌, ◌<◌, ◌≡◌, arith, refl, sym, ◌∙◌, ap, subst, List, [], ◌∷◌, ◌++◌, length, take, drop, get_or, append_assoc, length-append, append-nil}
+use Rattle.std.proofs.Common.{ℕ, ◌+◌, ◌<◌, ◌≡◌, arith, refl, sym, ◌∙◌, ap, subst, List, [], ◌∷◌, ◌++◌, length, take, drop, get_or, append_assoc, length-append, append-nil, pos, ◌≤ℤ◌}
 use Rattle.std.specs.List.{All, AllPairs, Contains}
 use Rattle.std.proofs.lemmas.List.{get_or_append_left, get_or-append-add, get_or_default, take_more, drop_more, take-append-drop}
 use Rattle.std.proofs.lemmas.List.Concat.{flat_map-append}
 use Rattle.std.proofs.lemmas.List.Elements.{All-append, All-cons, Contains-append_right}
-use Rattle.shared_order.specs.Heads.{HeadView}
+use Rattle.vt_fixed.specs.declared.limits.TheConstants.{GREATEST_LENGTH}
+use Rattle.shared_order.specs.Heads.{HeadView, HeadBefore}
 use Rattle.shared_order.specs.Blocks.{all_heads}
+use Rattle.shared_order.specs.Search.{AreInOrder}
 
 -- ---- pairs
 
@@ -35,6 +37,18 @@ all_middle P front x back f p b = All-append P front (x ∷ back) f (All-cons P 
 pub holds_middle : {X : Type 0} (front : List X) (x : X) (back : List X) → Contains (front ++ x ∷ back) x
 holds_middle front x back = Contains-append_right front (x ∷ back) x (0, omega arith, refl)
 
+-- ---- heads of which some stand before a part, and the rest after it
+
+pub cut_pairs : (R : HeadView → HeadView → Type 0) (heads front part rest : List HeadView) → heads ≡ front ++ (part ++ rest) → AllPairs R heads → AllPairs R part
+cut_pairs R heads front part rest cut h = front_pairs R part rest (back_pairs R front (part ++ rest) (subst (AllPairs R) cut h))
+
+pub cut_all : (P : HeadView → Type 0) (heads front part rest : List HeadView) → heads ≡ front ++ (part ++ rest) → All P heads → All P part
+cut_all P heads front part rest cut h = all_front P part rest (all_back P front (part ++ rest) (subst (All P) cut h))
+
+-- the part and what stands before it
+pub cut_so_far : (R : HeadView → HeadView → Type 0) (heads front part rest : List HeadView) → heads ≡ front ++ (part ++ rest) → AllPairs R heads → AllPairs R (front ++ part)
+cut_so_far R heads front part rest cut h = front_pairs R (front ++ part) rest (subst (AllPairs R) (cut ∙ sym (append_assoc front part rest)) h)
+
 -- ---- blocks
 
 -- one block more
@@ -50,17 +64,11 @@ blocks_cut blocks i block within is =
     ap all_heads (sym (take-append-drop i blocks) ∙ ap (λ t. take i blocks ++ t) e) ∙ flat_map-append (λ b. b) (take i blocks) (block ∷ drop (i + 1) blocks)
 
 pub block_pairs : (R : HeadView → HeadView → Type 0) (blocks : List (List HeadView)) (i : ℕ) (block : List HeadView) → i < length blocks → block ≡ get_or blocks i block → AllPairs R (all_heads blocks) → AllPairs R block
-block_pairs R blocks i block within is h =
-    let parts : AllPairs R (all_heads (take i blocks) ++ (block ++ all_heads (drop (i + 1) blocks))) = subst (AllPairs R) (blocks_cut blocks i block within is) h in
-    front_pairs R block (all_heads (drop (i + 1) blocks)) (back_pairs R (all_heads (take i blocks)) (block ++ all_heads (drop (i + 1) blocks)) parts)
+block_pairs R blocks i block within is = cut_pairs R _ _ block _ (blocks_cut blocks i block within is)
 
 pub block_all : (P : HeadView → Type 0) (blocks : List (List HeadView)) (i : ℕ) (block : List HeadView) → i < length blocks → block ≡ get_or blocks i block → All P (all_heads blocks) → All P block
-block_all P blocks i block within is h =
-    let parts : All P (all_heads (take i blocks) ++ (block ++ all_heads (drop (i + 1) blocks))) = subst (All P) (blocks_cut blocks i block within is) h in
-    all_front P block (all_heads (drop (i + 1) blocks)) (all_back P (all_heads (take i blocks)) (block ++ all_heads (drop (i + 1) blocks)) parts)
+block_all P blocks i block within is = cut_all P _ _ block _ (blocks_cut blocks i block within is)
 
--- the blocks so far stand at the front
-pub so_far_pairs : (R : HeadView → HeadView → Type 0) (blocks : List (List HeadView)) (i : ℕ) (block : List HeadView) → i < length blocks → block ≡ get_or blocks i block → AllPairs R (all_heads blocks) → AllPairs R (all_heads (take i blocks) ++ block)
-so_far_pairs R blocks i block within is h =
-    let parts : AllPairs R ((all_heads (take i blocks) ++ block) ++ all_heads (drop (i + 1) blocks)) = subst (AllPairs R) (blocks_cut blocks i block within is ∙ sym (append_assoc (all_heads (take i blocks)) block (all_heads (drop (i + 1) blocks)))) h in
-    front_pairs R (all_heads (take i blocks) ++ block) (all_heads (drop (i + 1) blocks)) parts
+pub block_order : (blocks : List (List HeadView)) (i : ℕ) (block : List HeadView) → i < length blocks → block ≡ get_or blocks i block → AreInOrder (all_heads blocks) → AreInOrder block
+block_order blocks i block within is r =
+    record { sorted = block_pairs HeadBefore blocks i block within is r.sorted; in_range = block_all (λ (h : HeadView). (pos 0 ≤ℤ h.len) × (h.len ≤ℤ GREATEST_LENGTH)) blocks i block within is r.in_range }

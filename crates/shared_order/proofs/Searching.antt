@@ -18,7 +18,7 @@ use Rattle.shared_order.specs.Heads.{HeadView, HeadBefore, IsSorted, greatest_le
 use Rattle.shared_order.specs.Blocks.{all_heads}
 use Rattle.shared_order.specs.Search.{AreInRange, AreInLimits, IsReached, key_of, IsSooner, IsFirstThat, IsLeast, IsSoonest, TakesSoonest}
 use Rattle.shared_order.specs.declared.search.Candidate.{Candidate}
-use Rattle.shared_order.proofs.Pieces.{front_pairs, back_pairs, across_pairs, all_middle, holds_middle, blocks_more, blocks_cut, so_far_pairs}
+use Rattle.shared_order.proofs.Pieces.{front_pairs, back_pairs, across_pairs, all_middle, holds_middle, cut_so_far, blocks_more, blocks_cut}
 
 -- ---- a number that fits, read back
 
@@ -43,7 +43,7 @@ pub longest_low : (heads : List HeadView) → pos 0 ≤ℤ greatest_length heads
 longest_low [] = omega (arith, ints)
 longest_low (h ∷ heads) = max_right h.len (greatest_length heads) (pos 0) (longest_low heads)
 
-longest_high : (heads : List HeadView) → AreInRange heads → greatest_length heads ≤ℤ GREATEST_LENGTH
+pub longest_high : (heads : List HeadView) → AreInRange heads → greatest_length heads ≤ℤ GREATEST_LENGTH
 longest_high [] r = omega (arith, ints)
 longest_high (h ∷ heads) r = max_least h.len (greatest_length heads) GREATEST_LENGTH (r 0 h (omega arith)).1 (longest_high heads (All-tail (λ (k : HeadView). (pos 0 ≤ℤ k.len) × (k.len ≤ℤ GREATEST_LENGTH)) h heads r))
 
@@ -56,20 +56,7 @@ no_later : (x y : HeadView) → HeadBefore x y → x.finish ≤ℤ y.finish
 no_later x y (inl h) = omega (arith, ints, h)
 no_later x y (inr h) = omega (arith, ints, h.0)
 
--- the greatest length where it is read, and its range
-pub record LongestRead (z : ℤ) (heads : List HeadView) : Type 0 where
-  pub low : pos 0 ≤ℤ z
-  pub high : z ≤ℤ GREATEST_LENGTH
-  pub same : to_z w128 (of_z w128 z) ≡ z
-
-pub longest_read : (z : ℤ) (heads : List HeadView) → z ≡ greatest_length heads → AreInRange heads → LongestRead z heads
-longest_read z heads is r =
-    let low : pos 0 ≤ℤ z = subst (λ x. pos 0 ≤ℤ x) (sym is) (longest_low heads) in
-    let high : z ≤ℤ GREATEST_LENGTH = subst (λ x. x ≤ℤ GREATEST_LENGTH) (sym is) (longest_high heads r) in
-    record { low = low; high = high; same = reads_length z low high }
-
--- the preconditions of a test and a key: of a head that was read, and of the first finish and the greatest length of
--- a block
+-- the preconditions of a test and a key: of a head that was read, and of the finish of one and another length
 pub head_limits : (finish len : ℤ) → IsInRange (finish -ℤ len) len → AreInLimits (to_z w128 (of_z w128 finish)) (to_z w128 (of_z w128 len))
 head_limits finish len r = rw (reads_finish finish len r, reads_length len r.len_low r.len_high) (record {
   finish_low = omega (arith, ints, r.start_low, r.len_low);
@@ -78,12 +65,12 @@ head_limits finish len r = rw (reads_finish finish len r, reads_length len r.len
   len_high = r.len_high;
 })
 
-pub bound_limits : (finish len z : ℤ) (heads : List HeadView) → IsInRange (finish -ℤ len) len → LongestRead z heads → AreInLimits (to_z w128 (of_z w128 finish)) (to_z w128 (of_z w128 z))
-bound_limits finish len z heads r longest = rw (reads_finish finish len r, longest.same) (record {
+pub bound_limits : (finish len z : ℤ) → IsInRange (finish -ℤ len) len → pos 0 ≤ℤ z → z ≤ℤ GREATEST_LENGTH → AreInLimits (to_z w128 (of_z w128 finish)) z
+bound_limits finish len z r low high = rw (reads_finish finish len r) (record {
   finish_low = omega (arith, ints, r.start_low, r.len_low);
   finish_high = omega (arith, ints, r.start_high, r.len_high);
-  len_low = longest.low;
-  len_high = longest.high;
+  len_low = low;
+  len_high = high;
 })
 
 pub first_least : (heads : List HeadView) (first : HeadView) → IsSorted heads → slice_get heads 0 ≡ Some first → All (λ (h : HeadView). first.finish ≤ℤ h.finish) heads
@@ -122,19 +109,19 @@ first_at P heads i h within is p none = record {
   none_earlier = none;
 }
 
--- it is in a block before which none is
+-- it is in a part before which none is
+pub first_in_part : (P : HeadView → Type 0) (heads front part rest : List HeadView) (h : HeadView) → heads ≡ front ++ (part ++ rest) → All (λ x. ¬ P x) front → IsFirstThat P part h → IsFirstThat P heads h
+first_in_part P heads front part rest h cut none f = record {
+  front = front ++ f.front;
+  back = f.back ++ rest;
+  stands = cut ∙ (ap (λ b. front ++ (b ++ rest)) f.stands ∙ simp append_assoc);
+  passes = f.passes;
+  none_earlier = All-append (λ x. ¬ P x) front f.front none f.none_earlier;
+}
+
+-- in a block
 pub first_in_block : (P : HeadView → Type 0) (blocks : List (List HeadView)) (i : ℕ) (block : List HeadView) (h : HeadView) → i < length blocks → block ≡ get_or blocks i block → All (λ x. ¬ P x) (all_heads (take i blocks)) → IsFirstThat P block h → IsFirstThat P (all_heads blocks) h
-first_in_block P blocks i block h within is none f =
-    let rest : List HeadView = all_heads (drop (i + 1) blocks) in
-    let A : List HeadView = all_heads (take i blocks) in
-    let cut : all_heads blocks ≡ A ++ (block ++ rest) = blocks_cut blocks i block within is in
-    record {
-      front = A ++ f.front;
-      back = f.back ++ rest;
-      stands = cut ∙ (ap (λ b. A ++ (b ++ rest)) f.stands ∙ simp append_assoc);
-      passes = f.passes;
-      none_earlier = All-append (λ x. ¬ P x) A f.front none f.none_earlier;
-    }
+first_in_block P blocks i block h within is = first_in_part P _ _ block _ h (blocks_cut blocks i block within is)
 
 -- a block in which none is
 pub none_in_more : (P : HeadView → Type 0) (blocks : List (List HeadView)) (i : ℕ) (block : List HeadView) → i < length blocks → block ≡ get_or blocks i block → All P (all_heads (take i blocks)) → All P block → All P (all_heads (take (i + 1) blocks))
@@ -224,10 +211,9 @@ pub nothing_there : (at : Turn) (older : Option Candidate) (heads : List HeadVie
 nothing_there at older [] is = takes_none at older
 nothing_there at older (h ∷ heads) is = absurd (let some : Some h ≡ None = is in cc)
 
--- a block more
-pub soonest_more : (at : Turn) (blocks : List (List HeadView)) (i : ℕ) (block : List HeadView) (older newer : Option Candidate) → i < length blocks → block ≡ get_or blocks i block → IsSorted (all_heads blocks) → IsSoonest at (all_heads (take i blocks)) older → TakesSoonest at older block newer → IsSoonest at (all_heads (take (i + 1) blocks)) newer
-soonest_more at blocks i block older newer within is sorted so_far takes =
-    subst (λ e. IsSoonest at e newer) (sym (blocks_more blocks i block within is)) (takes (all_heads (take i blocks)) (so_far_pairs HeadBefore blocks i block within is sorted) so_far)
+-- a part more
+pub soonest_part : (at : Turn) (heads front part rest : List HeadView) (older newer : Option Candidate) → heads ≡ front ++ (part ++ rest) → IsSorted heads → IsSoonest at front older → TakesSoonest at older part newer → IsSoonest at (front ++ part) newer
+soonest_part at heads front part rest older newer cut sorted so_far takes = takes front (cut_so_far HeadBefore heads front part rest cut sorted) so_far
 
 pub soonest_found : (at : Turn) (heads : List HeadView) (found : Option Candidate) (best : Candidate) → found ≡ Some best → IsSoonest at heads found → IsLeast (IsSooner at) heads best.head
 soonest_found at heads found best is h = (subst (λ o. IsSoonest at heads o) is h).0

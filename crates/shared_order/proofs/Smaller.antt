@@ -1,5 +1,5 @@
 -- The search for an eligible head with a small estimate.
-use Rattle.std.proofs.Common.{ℕ, ◌+◌, ◌*◌, ◌<◌, ◌≤◌, ◌≡◌, ◌↔◌, min, arith, sym, ◌∙◌, ap, subst, Bool, false, IsTrue, List, [], ◌∷◌, ◌++◌, length, take, drop, get_or, slice_get, slice_index_or, inr, Option, Some, None, is_some, IfSome, IfNone, ℤ, pos, negsuc, unsigned_abs, ◌≤ℤ◌, to_z, of_z}
+use Rattle.std.proofs.Common.{ℕ, ◌*◌, ◌<◌, ◌≤◌, ◌≡◌, ◌↔◌, min, arith, sym, ◌∙◌, ap, subst, Bool, false, IsTrue, List, [], ◌∷◌, ◌++◌, get_or, slice_get, slice_index_or, inr, Option, Some, None, is_some, IfSome, IfNone, ℤ, pos, negsuc, unsigned_abs, ◌≤ℤ◌, to_z, of_z}
 use mir.Syntax.{w128}
 use Rattle.std.specs.List.{All, Contains}
 use Rattle.std.specs.Int.{int_min}
@@ -13,13 +13,15 @@ use Rattle.vt_fixed.proofs.Bounds.{length_covers, length_high}
 use Rattle.fq_model.specs.Limits.{IsWeight}
 use Rattle.fq_model.specs.Keys.{Turn}
 use Rattle.shared_order.specs.Reach.{IsInReach}
-use Rattle.shared_order.specs.Heads.{HeadView, HeadBefore, IsSorted, greatest_length}
-use Rattle.shared_order.specs.Blocks.{all_heads}
+use Rattle.shared_order.specs.declared.extent.Extent.{Extent}
+use Rattle.shared_order.specs.Heads.{HeadView, HeadBefore, IsSorted}
+use Rattle.shared_order.specs.Extents.{extent_of, NoneSoLongIsReached, EndsBefore}
 use Rattle.shared_order.specs.Search.{AreInRange, IsReached, IsSooner, IsFirstThat, IsLeast}
-use Rattle.shared_order.specs.Outlook.{IsWeighed, IsSought, SomeIsSought, IsOutlookOn, IsLongestBelow, EndsBefore}
+use Rattle.shared_order.specs.Outlook.{IsWeighed, IsSought, SomeIsSought, IsOutlookOn, IsLongestBelow}
 use Rattle.shared_order.proofs.Reach.{reach_bounded}
-use Rattle.shared_order.proofs.Pieces.{back_pairs, all_back, blocks_cut, holds_middle}
-use Rattle.shared_order.proofs.Searching.{LongestRead, first_least, longest_covers, longest_low, longest_read, reads_length}
+use Rattle.shared_order.proofs.Pieces.{back_pairs, all_back, holds_middle}
+use Rattle.shared_order.proofs.Searching.{first_least, longest_covers, reads_length}
+use Rattle.shared_order.proofs.Extents.{first_of, longest_of}
 
 -- ---- the greatest length
 
@@ -62,54 +64,53 @@ module _ (at : Turn) (weights : List ℕ) (below : ℕ) (longest : ℤ) (lt : at
   not_sought F h out later low high known s =
       out (reach_bounded at F longest h.finish h.len lt (record { no_later = later; no_shorter = sought_bound h low high known s; some_length = low }) s.0)
 
-  pub none_later : (blocks : List (List HeadView)) (i : ℕ) (block : List HeadView) → i < length blocks → block ≡ get_or blocks i block → IsSorted (all_heads blocks) → AreInRange (all_heads blocks) → All (IsWeighed weights) (all_heads blocks) → EndsBefore at block longest → All (λ h. ¬ IsSought at weights below h) (all_heads (take i blocks)) → All (λ h. ¬ IsSought at weights below h) (all_heads blocks)
-  none_later blocks i block within is sorted in_range known ends so_far =
-      let A : List HeadView = all_heads (take i blocks) in
-      let rest : List HeadView = block ++ all_heads (drop (i + 1) blocks) in
-      let cut : all_heads blocks ≡ A ++ rest = blocks_cut blocks i block within is in
-      let least : All (λ (h : HeadView). ends.first.finish ≤ℤ h.finish) rest = first_least rest ends.first (back_pairs HeadBefore A rest (subst IsSorted cut sorted)) (first_of block (all_heads (drop (i + 1) blocks)) ends.first ends.first_is) in
-      let ranges : AreInRange rest = all_back (λ (h : HeadView). (pos 0 ≤ℤ h.len) × (h.len ≤ℤ GREATEST_LENGTH)) A rest (subst AreInRange cut in_range) in
-      let tenants : All (IsWeighed weights) rest = all_back (IsWeighed weights) A rest (subst (All (IsWeighed weights)) cut known) in
-      All-same (λ h. ¬ IsSought at weights below h) (all_heads blocks) (A ++ rest) cut (All-append (λ h. ¬ IsSought at weights below h) A rest so_far (λ k d inside.
-      not_sought ends.first.finish (get_or rest k d) ends.out_of_reach (least k d inside) (ranges k d inside).0 (ranges k d inside).1 (tenants k d inside)))
+  -- nor is one of a part whose extent is out of reach, nor one after it
+  pub none_later : (heads front part rest : List HeadView) (x : Extent) → heads ≡ front ++ (part ++ rest) → x ≡ extent_of part → IsSorted heads → AreInRange heads → All (IsWeighed weights) heads → EndsBefore at x longest → All (λ h. ¬ IsSought at weights below h) front → All (λ h. ¬ IsSought at weights below h) heads
+  none_later heads front part rest x cut is sorted in_range known ends so_far =
+      let first = ends.first in
+      let from : List HeadView = part ++ rest in
+      let least : All (λ (h : HeadView). first.finish ≤ℤ h.finish) from = first_least from first (back_pairs HeadBefore front from (subst IsSorted cut sorted)) (first_there part rest first (first_of x part is ∙ ends.first_is)) in
+      let ranges : AreInRange from = all_back (λ (h : HeadView). (pos 0 ≤ℤ h.len) × (h.len ≤ℤ GREATEST_LENGTH)) front from (subst AreInRange cut in_range) in
+      let tenants : All (IsWeighed weights) from = all_back (IsWeighed weights) front from (subst (All (IsWeighed weights)) cut known) in
+      All-same (λ h. ¬ IsSought at weights below h) heads (front ++ from) cut (All-append (λ h. ¬ IsSought at weights below h) front from so_far (λ k d inside.
+      not_sought first.finish (get_or from k d) ends.out_of_reach (least k d inside) (ranges k d inside).0 (ranges k d inside).1 (tenants k d inside)))
     where
-      first_of : (xs ys : List HeadView) (first : HeadView) → slice_get xs 0 ≡ Some first → slice_get (xs ++ ys) 0 ≡ Some first
-      first_of [] ys first is = absurd (let none : None ≡ Some first = is in cc)
-      first_of (x ∷ xs) ys first is = is
+      first_there : (xs ys : List HeadView) (first : HeadView) → slice_get xs 0 ≡ Some first → slice_get (xs ++ ys) 0 ≡ Some first
+      first_there [] ys first is = absurd (let none : None ≡ Some first = is in cc)
+      first_there (x ∷ xs) ys first is = is
 
-  -- none of a block in which none so long is eligible
-  pub none_in_block : (block : List HeadView) → AreInRange block → All (IsWeighed weights) block → All (λ h. h.len ≤ℤ longest → ¬ IsReached at h) block → All (λ h. ¬ IsSought at weights below h) block
-  none_in_block block in_range known out = λ k d inside s.
+  -- none of a part in which none so long is eligible
+  pub none_in_part : (block : List HeadView) → AreInRange block → All (IsWeighed weights) block → All (λ h. h.len ≤ℤ longest → ¬ IsReached at h) block → All (λ h. ¬ IsSought at weights below h) block
+  none_in_part block in_range known out = λ k d inside s.
       out k d inside (sought_bound (get_or block k d) (in_range k d inside).0 (in_range k d inside).1 (known k d inside) s) s.0
 
--- where the first finish, with the lesser of a length and of the longest in the block, is out of reach
-pub out_of_block : (at : Turn) (heads : List HeadView) (first : HeadView) (longest F L : ℤ) (result : Bool) → at.worker < at.workers → IsSorted heads → AreInRange heads → slice_get heads 0 ≡ Some first → F ≡ first.finish → L ≡ int_min longest (greatest_length heads) → (IsTrue result ↔ IsInReach at F L) → result ≡ false → All (λ (h : HeadView). h.len ≤ℤ longest → ¬ IsReached at h) heads
-out_of_block at heads first longest F L result lt sorted r is at_finish at_length h fails = λ k d within short reached.
-    let x : HeadView = get_or heads k d in
-    let bound : IsInReach at first.finish (int_min longest (greatest_length heads)) = reach_bounded at first.finish (int_min longest (greatest_length heads)) x.finish x.len lt (record {
-      no_later = first_least heads first sorted is k d within;
-      no_shorter = at_most x.len longest (greatest_length heads) short (longest_covers heads k d within);
-      some_length = (r k d within).0;
+-- where the first finish, with the lesser of a length and of the longest, is out of reach
+pub none_so_long : (at : Turn) (x : Extent) (first : HeadView) (longest F L : ℤ) (result : Bool) → at.worker < at.workers → x.first ≡ Some first → F ≡ first.finish → L ≡ int_min longest x.longest → (IsTrue result ↔ IsInReach at F L) → result ≡ false → NoneSoLongIsReached at longest x
+none_so_long at x first longest F L result lt some at_finish at_length tells fails = λ heads in_order e k d within short reached.
+    let h : HeadView = get_or heads k d in
+    let covers : h.len ≤ℤ x.longest = subst (λ z. h.len ≤ℤ z) (sym (longest_of x heads e)) (longest_covers heads k d within) in
+    let bound : IsInReach at first.finish (int_min longest x.longest) = reach_bounded at first.finish (int_min longest x.longest) h.finish h.len lt (record {
+      no_later = first_least heads first in_order.sorted (first_of x heads e ∙ some) k d within;
+      no_shorter = at_most h.len longest x.longest short covers;
+      some_length = (in_order.in_range k d within).0;
     }) reached in
-    let same : IsInReach at F L = subst (λ z. IsInReach at F z) (sym at_length) (subst (λ z. IsInReach at z (int_min longest (greatest_length heads))) (sym at_finish) bound) in
-    false≢true (sym fails ∙ h.1 same)
+    let same : IsInReach at F L = subst (λ z. IsInReach at F z) (sym at_length) (subst (λ z. IsInReach at z (int_min longest x.longest)) (sym at_finish) bound) in
+    false≢true (sym fails ∙ tells.1 same)
   where
     at_most : (x y z : ℤ) → x ≤ℤ y → x ≤ℤ z → x ≤ℤ int_min y z
     at_most x y z p q = omega (arith, ints, clamps, p, q)
 
--- the lesser of a length and of the longest in a block, as it is read
-pub least_is : (a b z : ℤ) (heads : List HeadView) → pos 0 ≤ℤ a → a ≤ℤ GREATEST_LENGTH → b ≡ greatest_length heads → AreInRange heads → z ≡ int_min (to_z w128 (of_z w128 a)) (to_z w128 (of_z w128 b)) → z ≡ int_min a (greatest_length heads)
-least_is a b z heads low high b_is r is =
-    is ∙ (ap (λ x. int_min x (to_z w128 (of_z w128 b))) (reads_length a low high) ∙ ap (λ x. int_min a x) ((longest_read b heads b_is r).same ∙ b_is))
+-- the lesser length, and as it is read
+pub min_low : (a b : ℤ) → pos 0 ≤ℤ a → pos 0 ≤ℤ b → pos 0 ≤ℤ int_min a b
+min_low a b p q = omega (arith, ints, clamps, p, q)
 
-pub least_read : (a z : ℤ) (heads : List HeadView) → pos 0 ≤ℤ a → a ≤ℤ GREATEST_LENGTH → z ≡ int_min a (greatest_length heads) → LongestRead z heads
-least_read a z heads low high is =
-    let z_low : pos 0 ≤ℤ z = at_least a (greatest_length heads) z low (longest_low heads) is in
-    let z_high : z ≤ℤ GREATEST_LENGTH = omega (arith, ints, clamps, is, high) in
-    record { low = z_low; high = z_high; same = reads_length z z_low z_high }
-  where
-    at_least : (x y z : ℤ) → pos 0 ≤ℤ x → pos 0 ≤ℤ y → z ≡ int_min x y → pos 0 ≤ℤ z
-    at_least x y z p q is = omega (arith, ints, clamps, p, q, is)
+pub min_high : (a b : ℤ) → a ≤ℤ GREATEST_LENGTH → int_min a b ≤ℤ GREATEST_LENGTH
+min_high a b p = omega (arith, ints, clamps, p)
+
+pub least_is : (a b z : ℤ) → pos 0 ≤ℤ a → a ≤ℤ GREATEST_LENGTH → pos 0 ≤ℤ b → b ≤ℤ GREATEST_LENGTH → z ≡ int_min (to_z w128 (of_z w128 a)) (to_z w128 (of_z w128 b)) → to_z w128 (of_z w128 z) ≡ int_min a b
+least_is a b z low high b_low b_high is =
+    let plain : z ≡ int_min a b = is ∙ (ap (λ x. int_min x (to_z w128 (of_z w128 b))) (reads_length a low high) ∙ ap (int_min a) (reads_length b b_low b_high)) in
+    reads_length z (subst (λ x. pos 0 ≤ℤ x) (sym plain) (min_low a b low b_low)) (subst (λ x. x ≤ℤ GREATEST_LENGTH) (sym plain) (min_high a b high)) ∙ plain
 
 -- ---- what is found
 

@@ -6,3 +6,5 @@ pub mod Blocks
 pub mod Search
 pub mod Mirrors
 pub mod Outlook
+pub mod Extents
+pub mod Groups

@@ -1,12 +1,11 @@
 -- A choice among heads in order, foreseen.
-use Rattle.std.specs.Prelude.{ℕ, ◌≡◌, ◌<◌, ◌≤◌, ◌↔◌, IsTrue, List, [], length, slice_get, Option, Some, None, ℤ, pos, unsigned_abs, ◌≤ℤ◌}
+use Rattle.std.specs.Prelude.{ℕ, ◌≡◌, ◌<◌, ◌≤◌, ◌↔◌, IsTrue, List, [], length, Option, Some, None, ℤ, pos, unsigned_abs, ◌≤ℤ◌}
 use Rattle.std.specs.List.{Contains}
 use Rattle.vt_fixed.specs.declared.limits.TheConstants.{GREATEST_LENGTH}
 use Rattle.vt_fixed.specs.Rounding.{cost_of}
 use Rattle.fq_model.specs.Keys.{Turn}
 use Rattle.tag_rules.specs.Foreseen.{IsShort}
 use Rattle.tag_rules.specs.declared.foresees.ForeseenChoice.{ForeseenChoice}
-use Rattle.shared_order.specs.Reach.{IsInReach}
 use Rattle.shared_order.specs.Heads.{HeadView}
 use Rattle.shared_order.specs.Search.{IsReached}
 use Rattle.shared_order.specs.Mirrors.{keys_of, IsChosen}
@@ -43,9 +42,3 @@ pub record IsLongestBelow (below : ℕ) (longest : ℤ) : Type 0 where
   pub high : longest ≤ℤ GREATEST_LENGTH
   pub bounds : (len : ℤ) (weight : ℕ) → pos 0 ≤ℤ len → len ≤ℤ GREATEST_LENGTH → 1 ≤ weight
       → cost_of (unsigned_abs len) weight < below → len ≤ℤ longest
-
--- a head that is so long and finishes with the first of the block would not be eligible
-pub record EndsBefore (at : Turn) (block : List HeadView) (longest : ℤ) : Type 0 where
-  pub first : HeadView
-  pub first_is : slice_get block 0 ≡ Some first
-  pub out_of_reach : ¬ IsInReach at first.finish longest

@@ -3,7 +3,9 @@ ghost use Rattle.std.specs.Prelude.{◌≡◌, ◌≢◌, ◌≤◌, ◌<◌, �
 ghost use Rattle.std.specs.Int.{int_max};
 ghost use Rattle.std.specs.List.{All, Contains};
 ghost use Rattle.shared_order.specs.Heads.{HeadBefore, IsSorted, IsPlaceOf, Gains, greatest_length};
+ghost use Rattle.shared_order.specs.Extents.{extent_of};
 
+use crate::extent::Extent;
 use crate::head::Head;
 use std::alloc::{AllocError, Global};
 use std::marker::Model;
@@ -67,6 +69,17 @@ impl Block {
         ensures { result ≡ slice_get self.now 0 }
     {
         self.heads.first().copied()
+    }
+
+    /// The first head and the greatest length.
+    #[inline]
+    pub fn extent(&self) -> Extent
+        ensures { result ≡ extent_of self.now }
+    {
+        Extent {
+            first: self.first(),
+            longest: self.longest,
+        }
     }
 
     /// Whether all heads come after this one.

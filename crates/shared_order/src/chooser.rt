@@ -17,7 +17,7 @@ use tag_rules::head_keys::Keys;
 use tag_rules::turn::Turn;
 
 /// Keeps the heads in one order for all workers. A change of one tenant's keys costs the search of its block and the
-/// moves within it, whatever the number of workers; a choice looks at the blocks in order, and into few of them.
+/// moves within it, whatever the number of workers; a choice looks at groups of blocks in order, and into few of them.
 #[derive(Drop)]
 pub struct SharedChooser {
     policy: Policy,
@@ -89,7 +89,7 @@ impl Chooser for SharedChooser {
             worker,
             virtual_time: v,
         };
-        let head = choice(turn, self.order.blocks())?;
+        let head = choice(turn, &self.order)?;
         Some(head.tenant)
     }
 }
@@ -103,7 +103,7 @@ impl Foresees for SharedChooser {
             worker,
             virtual_time: v,
         };
-        outlook(turn, self.order.blocks(), below, weights)
+        outlook(turn, &self.order, below, weights)
     }
 }
 

@@ -5,6 +5,8 @@ pub mod block;
 mod blocks;
 pub mod chooser;
 pub mod examples;
+pub mod extent;
+pub mod groups;
 pub mod head;
 pub mod laws;
 pub mod order;

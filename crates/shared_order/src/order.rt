@@ -1,15 +1,15 @@
 //! The order of all heads.
 //!
 //! Its blocks are as the leaves of a B-tree (Bayer and McCreight, 1972): a full one is split, and two neighbours that
-//! have become small are joined. With at most some hundreds of them no nodes are needed above: the block of a head is
-//! found by halving their row.
+//! have become small are joined. Above them stand groups of neighbours, with what a choice asks of all their heads. No
+//! nodes are needed to find the block of a head: that is done by halving the row.
 ghost use Rattle.std.specs.Prelude.{◌≡◌, ◌≢◌, ◌≤◌, ◌<◌, ◌+◌, ◌↔◌, [], IfOk, IsTrue, MatchOption, ℕ, length};
 ghost use Rattle.std.specs.List.{All, Contains};
 ghost use Rattle.shared_order.specs.Heads.{IsSorted, Gains};
 ghost use Rattle.shared_order.specs.Blocks.{all_heads, block_at, block_count, room_in, NoneIsEmpty, IsBlockOf, AreSmall, IsSmallPair, IsThinned, IsRearranged, KeepsOrder};
 
 use crate::block::{BLOCK, Block, HALF};
-use crate::blocks::Blocks;
+use crate::groups::Groups;
 use crate::head::Head;
 use std::alloc::{AllocError, Global};
 use std::marker::Model;
@@ -18,7 +18,7 @@ use std::marker::Model;
 /// after `open` takes memory.
 #[derive(Drop)]
 pub struct Order {
-    blocks: Blocks,
+    blocks: Groups,
 }
 
 impl Model for Order {
@@ -37,7 +37,7 @@ impl Order {
         ensures none { IfOk result (λ o. o.heads ≡ []) }
         ensures room { IfOk result (λ o. most ≤ o.room) }
     {
-        let blocks = Blocks::open(alloc, most as usize / (HALF / 2) + 2)?;
+        let blocks = Groups::open(alloc, most as usize / (HALF / 2) + 2)?;
         Ok(Order { blocks })
     }
 
@@ -49,6 +49,15 @@ impl Order {
         ensures sorted { IsSorted self.now.heads }
     {
         self.blocks.used()
+    }
+
+    /// The same blocks, in their groups.
+    #[inline]
+    pub fn groups(&self) -> &Groups
+        ensures heads { all_heads result.now.used ≡ self.now.heads }
+        ensures kept { KeepsOrder result.now.used }
+    {
+        &self.blocks
     }
 
     /// Puts in a head of a request that has none here.
@@ -79,7 +88,7 @@ impl Order {
 }
 
 /// The block that a head belongs to, with room for it: where it is full it is split.
-fn room_at(blocks: &mut Blocks, head: &Head) -> usize
+fn room_at(blocks: &mut Groups, head: &Head) -> usize
     requires some { 0 < length blocks.old.used }
     requires kept { KeepsOrder blocks.old.used }
     requires room { length (all_heads blocks.old.used) < room_in (block_count blocks.old) }
@@ -101,7 +110,7 @@ fn room_at(blocks: &mut Blocks, head: &Head) -> usize
 
 /// Joins the block that has lost a head with a neighbour where both are small now, or takes it out of use where it was
 /// its last head.
-fn settle(blocks: &mut Blocks, at: usize)
+fn settle(blocks: &mut Groups, at: usize)
     requires { IsThinned blocks.old.used at }
     ensures { IsRearranged blocks.old blocks.new }
 {

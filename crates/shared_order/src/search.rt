@@ -1,46 +1,54 @@
-//! The choice among heads in blocks.
+//! The choice among the heads of an order.
 ghost use Rattle.std.specs.Prelude.{◌≡◌, ◌↔◌, ℤ, pos, ◌+ℤ◌, ◌≤ℤ◌, [], ◌∷◌, false, IsTrue, IfSome, IfNone};
 ghost use Rattle.std.specs.List.{All};
 ghost use Rattle.shared_order.specs.Reach.{key_by_finish, Reaches, IsInReach};
-ghost use Rattle.shared_order.specs.Blocks.{all_heads};
+ghost use Rattle.shared_order.specs.Heads.{IsSorted};
+ghost use Rattle.shared_order.specs.Blocks.{all_heads, KeepsOrder};
+ghost use Rattle.shared_order.specs.Extents.{extent_of, IsShortEnough, NoneIsReached, NoneIsSooner};
 ghost use Rattle.shared_order.specs.Search.{AreInRange, AreInOrder, AreInLimits, IsReached, IsSooner, IsFirstThat, IsLeast, TakesSoonest};
 ghost use Rattle.shared_order.specs.Mirrors.{IsChosen};
 
 use crate::block::Block;
+use crate::extent::Extent;
+use crate::groups::Groups;
 use crate::head::Head;
+use crate::order::Order;
 use fq_model::config::Policy;
 use fq_model::limits::{GREATEST_LENGTH, GREATEST_START};
 use tag_rules::turn::Turn;
 use vt_fixed::part;
 
 /// The choice: the first eligible head, or, where none is eligible, the head that becomes eligible soonest.
-pub fn choice(turn: Turn, blocks: &[Block]) -> Option<Head>
+pub fn choice(turn: Turn, order: &Order) -> Option<Head>
     requires begun { pos 0 ≤ℤ turn.virtual_time }
-    requires in_order { AreInOrder (all_heads blocks.now) }
-    ensures chosen { IfSome result (IsChosen turn (all_heads blocks.now)) }
-    ensures none { IfNone result (all_heads blocks.now ≡ []) }
+    requires in_range { AreInRange order.now.heads }
+    ensures sorted { IsSorted order.now.heads }
+    ensures chosen { IfSome result (IsChosen turn order.now.heads) }
+    ensures none { IfNone result (order.now.heads ≡ []) }
 {
-    match first_eligible(turn, blocks) {
+    let groups = order.groups();
+    match first_eligible(turn, groups) {
         Some(head) => Some(head),
-        None => soonest(turn, blocks),
+        None => soonest(turn, groups),
     }
 }
 
 /// The eligible head that comes first in the order.
 ///
-/// Where a head that finishes with the first of a block and is as long as the longest in it would not be eligible, no
-/// head of the block is, and the block is passed over.
-pub fn first_eligible(turn: Turn, blocks: &[Block]) -> Option<Head>
+/// Where a head that finishes with the first of a group and is as long as the longest in it would not be eligible, no
+/// head of the group is, and the group is passed over. In the other groups, so is a block.
+pub(crate) fn first_eligible(turn: Turn, groups: &Groups) -> Option<Head>
     requires begun { pos 0 ≤ℤ turn.virtual_time }
-    requires in_order { AreInOrder (all_heads blocks.now) }
-    ensures first { IfSome result (IsFirstThat (IsReached turn) (all_heads blocks.now)) }
-    ensures none { IfNone result (All (λ h. ¬ IsReached turn h) (all_heads blocks.now)) }
+    requires kept { KeepsOrder groups.now.used }
+    requires in_range { AreInRange (all_heads groups.now.used) }
+    ensures first { IfSome result (IsFirstThat (IsReached turn) (all_heads groups.now.used)) }
+    ensures none { IfNone result (All (λ h. ¬ IsReached turn h) (all_heads groups.now.used)) }
 {
-    for block in blocks {
-        if may_reach(turn, block) {
-            let found = first_in(turn, block.heads());
-            if found.is_some() {
-                return found;
+    for at in 0..groups.count() {
+        if may_reach(turn, &groups.extent(at)) {
+            let head = first_in_blocks(turn, groups.group(at));
+            if head.is_some() {
+                return head;
             }
         }
     }
@@ -49,16 +57,17 @@ pub fn first_eligible(turn: Turn, blocks: &[Block]) -> Option<Head>
 
 /// The head that becomes eligible soonest: by eligible key, then by finish, then by number.
 ///
-/// A block is passed over where a head that finishes with the first and is as long as the longest in it would become
-/// eligible no sooner than the soonest head of the blocks before it.
-pub fn soonest(turn: Turn, blocks: &[Block]) -> Option<Head>
-    requires { AreInOrder (all_heads blocks.now) }
-    ensures soonest { IfSome result (IsLeast (IsSooner turn) (all_heads blocks.now)) }
-    ensures none { IfNone result (all_heads blocks.now ≡ []) }
+/// A group or a block is passed over where a head that finishes with the first and is as long as the longest in it
+/// would become eligible no sooner than the soonest head before it.
+pub(crate) fn soonest(turn: Turn, groups: &Groups) -> Option<Head>
+    requires kept { KeepsOrder groups.now.used }
+    requires in_range { AreInRange (all_heads groups.now.used) }
+    ensures soonest { IfSome result (IsLeast (IsSooner turn) (all_heads groups.now.used)) }
+    ensures none { IfNone result (all_heads groups.now.used ≡ []) }
 {
     let mut best: Option<Candidate> = None;
-    for block in blocks {
-        best = with_block(turn, best, block);
+    for at in 0..groups.count() {
+        best = with_group(turn, best, &groups.extent(at), groups.group(at));
     }
     best.map(|candidate| candidate.head)
 }
@@ -70,16 +79,34 @@ struct Candidate {
     key: i128,
 }
 
-// Whether a head of the block may be eligible.
-fn may_reach(turn: Turn, block: &Block) -> bool
+// Whether one of the heads that have this extent may be eligible.
+fn may_reach(turn: Turn, heads: &Extent) -> bool
     requires begun { pos 0 ≤ℤ turn.virtual_time }
-    requires in_order { AreInOrder block.now }
-    ensures { result ≡ false → All (λ h. ¬ IsReached turn h) block.now }
+    requires short { IsShortEnough heads.now }
+    ensures { result ≡ false → NoneIsReached turn heads.now }
 {
-    match block.first() {
-        Some(first) => is_in_reach(turn, first.finish, block.longest()),
+    match heads.first {
+        Some(first) => is_in_reach(turn, first.finish, heads.longest),
         None => false,
     }
+}
+
+// The first of the heads of these blocks that is eligible.
+fn first_in_blocks(turn: Turn, blocks: &[Block]) -> Option<Head>
+    requires begun { pos 0 ≤ℤ turn.virtual_time }
+    requires in_order { AreInOrder (all_heads blocks.now) }
+    ensures first { IfSome result (IsFirstThat (IsReached turn) (all_heads blocks.now)) }
+    ensures none { IfNone result (All (λ h. ¬ IsReached turn h) (all_heads blocks.now)) }
+{
+    for block in blocks {
+        if may_reach(turn, &block.extent()) {
+            let found = first_in(turn, block.heads());
+            if found.is_some() {
+                return found;
+            }
+        }
+    }
+    None
 }
 
 // The first of the heads that is eligible.
@@ -96,28 +123,59 @@ fn first_in(turn: Turn, heads: &[Head]) -> Option<Head>
     None
 }
 
+// The soonest of the best so far and of the heads of a group, which has this extent and these blocks.
+fn with_group(
+    turn: Turn,
+    best: Option<Candidate>,
+    group: &Extent,
+    blocks: &[Block],
+) -> Option<Candidate>
+    requires in_range { AreInRange (all_heads blocks.now) }
+    requires extent { group.now ≡ extent_of (all_heads blocks.now) }
+    ensures { TakesSoonest turn best (all_heads blocks.now) result }
+{
+    if may_lead(turn, &best, group) {
+        with_blocks(turn, best, blocks)
+    } else {
+        best
+    }
+}
+
+// The soonest of the best so far and of the heads of these blocks.
+fn with_blocks(turn: Turn, best: Option<Candidate>, blocks: &[Block]) -> Option<Candidate>
+    requires { AreInRange (all_heads blocks.now) }
+    ensures { TakesSoonest turn best (all_heads blocks.now) result }
+{
+    let mut best = best;
+    for block in blocks {
+        best = with_block(turn, best, block);
+    }
+    best
+}
+
 // The soonest of the best so far and of the heads of a block.
 fn with_block(turn: Turn, best: Option<Candidate>, block: &Block) -> Option<Candidate>
     requires { AreInRange block.now }
     ensures { TakesSoonest turn best block.now result }
 {
-    if may_lead(turn, &best, block) {
+    if may_lead(turn, &best, &block.extent()) {
         with_heads(turn, best, block.heads())
     } else {
         best
     }
 }
 
-// Whether a head of the block may become eligible sooner than the best so far, whose key it would have to undercut.
-fn may_lead(turn: Turn, best: &Option<Candidate>, block: &Block) -> bool
-    requires { AreInRange block.now }
-    ensures { result ≡ false → TakesSoonest turn best.now block.now best.now }
+// Whether one of the heads that have this extent may become eligible sooner than the best so far, whose key it would
+// have to undercut.
+fn may_lead(turn: Turn, best: &Option<Candidate>, heads: &Extent) -> bool
+    requires { IsShortEnough heads.now }
+    ensures { result ≡ false → NoneIsSooner turn best.now heads.now }
 {
-    let Some(first) = block.first() else {
+    let Some(first) = heads.first else {
         return false;
     };
     match best {
-        Some(best) => key(turn, first.finish, block.longest()) < best.key,
+        Some(best) => key(turn, first.finish, heads.longest) < best.key,
         None => true,
     }
 }

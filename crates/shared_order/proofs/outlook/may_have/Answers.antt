@@ -1,24 +1,24 @@
-use Rattle.std.proofs.Common.{sym, ◌∙◌, ◌≡◌, ap, arith, Some, slice_get}
+use Rattle.std.proofs.Common.{◌≡◌, ◌∙◌, ap, sym, subst, arith, to_z, of_z}
+use mir.Syntax.{w128}
 use Rattle.std.specs.Int.{int_min}
-use Rattle.shared_order.specs.Heads.{HeadView, greatest_length}
+use Rattle.shared_order.specs.Heads.{HeadView}
+use Rattle.shared_order.specs.Search.{AreInLimits}
 use Rattle.shared_order.proofs.Searching.{reads_finish, bound_limits}
-use Rattle.shared_order.proofs.Smaller.{out_of_block, least_is, least_read}
+use Rattle.shared_order.proofs.Smaller.{none_so_long, least_is, min_low, min_high}
 use Rattle.shared_order.proofs.outlook.may_have.Goals as goal
-use Rattle.shared_order.proofs.outlook.may_have.Goals.{After-first-in-Some}
+use Rattle.shared_order.proofs.outlook.may_have.Goals.{After-min}
 
--- the lesser length
-least : (c : After-first-in-Some) → c.min.result ≡ int_min c.args.longest (greatest_length c.args.block.now)
-least c = least_is c.args.longest c.longest.result c.min.result c.args.block.now c.requires.low c.requires.high c.longest.ensures c.requires.in_order.in_range c.min.ensures.value
+-- the lesser length, as it is handed on
+lesser : (c : After-min) → to_z w128 (of_z w128 c.min.result) ≡ int_min c.args.longest c.args.heads.now.longest
+lesser c = least_is c.args.longest c.args.heads.now.longest c.min.result c.requires.low c.requires.high c.requires.short.low c.requires.short.high c.min.ensures.value
 
 pub is_in_reach-requires-clause-in_limits : goal.is_in_reach-requires-clause-in_limits
 is_in_reach-requires-clause-in_limits c =
-    let i = c.first-in-Some.inside in
-    bound_limits i.finish i.len c.min.result c.args.block.now c.first-in-Some.invariant (least_read c.args.longest c.min.result c.args.block.now c.requires.low c.requires.high (least c))
+    let i = c.first.inside in
+    let x = c.args.heads.now in
+    subst (AreInLimits (to_z w128 (of_z w128 i.finish))) (sym (lesser (goal.at.is_in_reach-requires-clause-in_limits c).After-min)) (bound_limits i.finish i.len (int_min c.args.longest x.longest) c.first.invariant (min_low c.args.longest x.longest c.requires.low c.requires.short.low) (min_high c.args.longest x.longest c.requires.high))
 
 pub returns-in-Some : goal.returns-in-Some
 returns-in-Some c =
-    let is = least (goal.at.returns-in-Some c).After-first-in-Some in
-    let read = least_read c.args.longest c.min.result c.args.block.now c.requires.low c.requires.high is in
-    let i = c.first-in-Some.inside in
-    let first_is : slice_get c.args.block.now 0 ≡ Some c.in-Some.first = sym c.first.ensures ∙ c.in-Some.is in
-    out_of_block c.args.turn c.args.block.now c.in-Some.first c.args.longest _ _ c.is_in_reach.result (omega arith) c.requires.in_order.sorted c.requires.in_order.in_range first_is (reads_finish i.finish i.len c.first-in-Some.invariant ∙ ap (λ (h : HeadView). h.finish) c.first-in-Some.view_is) (read.same ∙ is) c.is_in_reach.ensures
+    let i = c.first.inside in
+    none_so_long c.args.turn c.args.heads.now c.in-Some.first c.args.longest _ _ c.is_in_reach.result (omega arith) c.in-Some.is (reads_finish i.finish i.len c.first.invariant ∙ ap (λ (h : HeadView). h.finish) c.first.view_is) (lesser (goal.at.returns-in-Some c).After-min) c.is_in_reach.ensures
