@@ -1,6 +1,7 @@
 -- The credit of workers for staying free.
 use Rattle.std.specs.Prelude.{ℕ, ◌≡◌, ◌⊎◌, ◌≤◌, ◌+◌, ◌-◌, ◌*◌, min, List, [], ◌∷◌}
 use Rattle.worker_reserve.specs.declared.credit.Passed.{Passed}
+use Rattle.worker_reserve.specs.declared.rule.Budget.{Budget}
 
 -- The view of a credit in contracts: the part of all time that may be idle, in millionths; the number of workers; how far
 -- the credit is below the cap, in millionths of a microsecond; and the last moment. It may be below by more than the cap.
@@ -12,6 +13,10 @@ pub record CreditView : Type 0 where
 
 abbrev pub cap : CreditView → ℕ
 cap v = v.idle_ppm * 1000000 * v.workers
+
+-- what the rule reads
+abbrev pub budget_of : CreditView → Budget
+budget_of v = record { idle_ppm = v.idle_ppm; workers = v.workers; credit = cap v - v.used }
 
 -- a part of the time for which requests ran comes back
 abbrev pub earned : CreditView → Passed → ℕ

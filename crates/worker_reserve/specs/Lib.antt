@@ -4,3 +4,5 @@ pub mod Kept
 pub mod Rule
 pub mod Reserve
 pub mod Credit
+pub mod Course
+pub mod Bounds

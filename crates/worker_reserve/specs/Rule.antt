@@ -1,5 +1,5 @@
 -- When a free worker declines what the policy has for it.
-use Rattle.std.specs.Prelude.{ℕ, ◌≡◌, ◌+◌, ◌-◌, ◌*◌, ◌<◌, ◌≤◌, ◌⊎◌, true, false}
+use Rattle.std.specs.Prelude.{ℕ, ◌≡◌, ◌+◌, ◌-◌, ◌*◌, ◌/◌, ◌<◌, ◌≤◌, ◌⊎◌, min, max, true, false}
 use Rattle.worker_reserve.specs.Demand.{worker_unit}
 use Rattle.worker_reserve.specs.declared.rule.Budget.{Budget}
 use Rattle.worker_reserve.specs.declared.rule.Question.{Question}
@@ -34,6 +34,10 @@ pub record Declines (b : Budget) (q : Question) (n v : ℕ) : Type 0 where
   pub worth : IsWorth b n
   pub short : IsShort b q.longer n
   pub none_small : q.small_is_eligible ≡ false
+
+-- so many microseconds after workers declined they are asked again at the latest: the credit of each, and a microsecond
+abbrev pub pause_of : Budget → ℕ → ℕ
+pause_of b declining = max 61 (min 1000 (b.credit / 1000000 / declining + 1))
 
 -- the numbers of a budget are in their limits
 pub record IsInRange (b : Budget) : Type 0 where
