@@ -38,7 +38,7 @@ abbrev pub course : CreditView → List Event → Course
 course v [] = begun v
 course v (e ∷ older) = after_event (course v older) e
 
--- a worker declines by the rule beside so many that decline already, whatever its choice and the demand are
+-- a worker that declines by the rule beside so many that decline already: what it knows, and the demands
 pub record DeclinesBeside (b : Budget) (declining : ℕ) : Type 0 where
   pub asked : Question
   pub smaller : ℕ

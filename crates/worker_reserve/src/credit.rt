@@ -6,8 +6,8 @@ ghost use Rattle.worker_reserve.specs.Rule.{IsInRange, pause_of};
 use crate::rule::Budget;
 use std::marker::Model;
 
-/// What passed up to a moment since the last one, in microseconds: how many requests ran, how many workers declined, and
-/// when these were to be asked again.
+/// What passed up to a moment since the last one, in microseconds: how many requests ran, how many workers declined,
+/// and when these were to be asked again.
 #[derive(Clone, Copy, Debug)]
 pub struct Passed {
     pub moment: u64,
