@@ -3,3 +3,4 @@ pub mod Windows
 pub mod Lowered
 pub mod Spending
 pub mod Courses
+pub mod Signed

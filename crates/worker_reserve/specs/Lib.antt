@@ -6,3 +6,4 @@ pub mod Reserve
 pub mod Credit
 pub mod Course
 pub mod Bounds
+pub mod Signed

@@ -1,6 +1,22 @@
 //! The laws, one function a law: its contract is the law, and its body is empty.
 ghost use Rattle.worker_reserve.specs.Credit.{SpendingIsBounded, IdlingIsBounded};
+ghost use Rattle.worker_reserve.specs.Signed.{CreditIsEarnedAndSpent, CreditIsLowered, CreditIsRead};
 ghost use Rattle.worker_reserve.specs.Bounds.{PausesAreTimely, DecliningIsBounded, ChangesAddNothing};
+
+/// As time passes the credit comes back up to the cap, and then what was spent goes off: it may fall below 0.
+pub fn credit_is_earned_and_spent()
+    ensures { CreditIsEarnedAndSpent }
+{}
+
+/// Another number of workers lowers the credit to the new cap, where it is above that, and leaves it else.
+pub fn credit_is_lowered()
+    ensures { CreditIsLowered }
+{}
+
+/// The rule reads the credit, and a debt as no credit.
+pub fn credit_is_read()
+    ensures { CreditIsRead }
+{}
 
 /// All that workers spend by declining is at most what requests earned while they ran, and what is used at the end.
 pub fn spending_is_bounded()
