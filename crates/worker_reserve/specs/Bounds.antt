@@ -16,8 +16,8 @@ abbrev pub DecliningIsBounded : Type 0
 DecliningIsBounded = (v : CreditView) (run : List Event) → v.used ≡ 0 → IsCourse v run → KeepsWorkers run
     → 1000000 * all_idle v run ≤ v.idle_ppm * all_busy v run + cap v + 1001000000 * v.workers
 
--- The same from any credit on, and while the number of workers changes. A raise adds nothing, since it leaves the credit
--- as it is, and a lower number takes credit away at most. So what counts is the credit at the beginning, and a
+-- The same from any credit on, and while the number of workers changes. A raise adds nothing, since it leaves the
+-- credit as it is, and a lower number takes credit away at most. So what counts is the credit at the beginning, and a
 -- millisecond and a microsecond of each of the most workers that there were.
 abbrev pub ChangesAddNothing : Type 0
 ChangesAddNothing = (v : CreditView) (run : List Event) → IsCourse v run

@@ -4,8 +4,8 @@ use Rattle.worker_reserve.specs.declared.credit.Passed.{Passed}
 use Rattle.worker_reserve.specs.declared.rule.Budget.{Budget}
 
 -- The view of a credit in contracts: the part of all time that may be idle, in millionths; the number of workers; how
--- far the credit is below the cap, in millionths of a microsecond; and the last moment. It may be below by more than the
--- cap: that is a debt.
+-- far the credit is below the cap, in millionths of a microsecond; and the last moment. It may be below by more than
+-- the cap: that is a debt.
 pub record CreditView : Type 0 where
   pub idle_ppm : ℕ
   pub workers : ℕ

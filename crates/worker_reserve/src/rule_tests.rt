@@ -73,8 +73,8 @@ fn visitors_need_a_hundredth(rt: HostRuntime) {
     expect_answer(&rt, four(61000001), beside(4, 0), WORKER, 171798692, true);
 }
 
-// Less than a worker has to be worth a whole one: with a sixteenth of one worker's time it is from three quarters on, and
-// with none of it never.
+// Less than a worker has to be worth a whole one: with a sixteenth of one worker's time it is from three quarters on,
+// and with none of it never.
 #[test]
 fn a_worker_is_worth_its_part(rt: HostRuntime) {
     expect_answer(&rt, one(0), beside(1, 0), WORKER - 1, WORKER - 1, false);
