@@ -1,9 +1,11 @@
 -- The credit of workers for staying free.
 use Rattle.std.specs.Prelude.{ℕ, ◌≡◌, ◌⊎◌, ◌≤◌, ◌+◌, ◌-◌, ◌*◌, min, List, [], ◌∷◌}
 use Rattle.worker_reserve.specs.declared.credit.Passed.{Passed}
+use Rattle.worker_reserve.specs.declared.rule.Budget.{Budget}
 
--- The view of a credit in contracts: the part of all time that may be idle, in millionths; the number of workers; how far
--- the credit is below the cap, in millionths of a microsecond; and the last moment. It may be below by more than the cap.
+-- The view of a credit in contracts: the part of all time that may be idle, in millionths; the number of workers; how
+-- far the credit is below the cap, in millionths of a microsecond; and the last moment. It may be below by more than
+-- the cap: that is a debt.
 pub record CreditView : Type 0 where
   pub idle_ppm : ℕ
   pub workers : ℕ
@@ -12,6 +14,10 @@ pub record CreditView : Type 0 where
 
 abbrev pub cap : CreditView → ℕ
 cap v = v.idle_ppm * 1000000 * v.workers
+
+-- what the rule reads
+abbrev pub budget_of : CreditView → Budget
+budget_of v = record { idle_ppm = v.idle_ppm; workers = v.workers; credit = cap v - v.used }
 
 -- a part of the time for which requests ran comes back
 abbrev pub earned : CreditView → Passed → ℕ
@@ -67,8 +73,8 @@ abbrev pub IsTimelyRun : CreditView → List Passed → Type 0
 IsTimelyRun v [] = Unit
 IsTimelyRun v (p ∷ older) = IsTimelyRun v older × (p.declining ≤ v.workers) × IsTimely (after v older) p
 
--- from a full credit on, where workers are asked again in time, what they spend by declining is at most the idle part of
--- all busy time, the cap, and a millisecond and a microsecond of each worker
+-- from a full credit on, where workers are asked again in time, what they spend by declining is at most the idle part
+-- of all busy time, the cap, and a millisecond and a microsecond of each worker
 abbrev pub IdlingIsBounded : Type 0
 IdlingIsBounded = (v : CreditView) (run : List Passed) → v.used ≡ 0 → IsTimelyRun v run
     → all_spent v run ≤ all_earned v run + cap v + 1001000000 * v.workers

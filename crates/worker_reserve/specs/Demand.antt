@@ -13,11 +13,12 @@ ran_of window class e = if window_of e.moment == window then (if e.class == clas
 abbrev pub ran_in : List Ended → ℕ → ℕ → ℕ
 ran_in past window class = sum_by (ran_of window class) past
 
--- What the ends of this class say at a moment: the time of the present window counts whole, and that of the window before
--- by the part of it that the last 131,072 microseconds still hold.
+-- What the ends of this class say at a moment: the time of the present window counts whole, and that of the window
+-- before by the part of it that the last 131,072 microseconds still hold.
 abbrev pub class_demand : List Ended → ℕ → ℕ → ℕ
 class_demand past moment class =
-    ran_in past (window_of moment - 1) class * (131072 - moment % 131072) + ran_in past (window_of moment) class * 131072
+    ran_in past (window_of moment - 1) class * (131072 - moment % 131072)
+    + ran_in past (window_of moment) class * 131072
 
 -- the demand of all classes below one, in workers times the square of 131,072
 unfoldable pub demand : List Ended → ℕ → ℕ → ℕ

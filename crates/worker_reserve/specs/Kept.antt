@@ -6,7 +6,8 @@ use Rattle.worker_reserve.specs.Demand.{window_of, ran_in, IsPast}
 
 -- these are the times of a window by class, as far as 64 bits hold them
 abbrev pub AreSums : List Ended → ℕ → List ℕ → Type 0
-AreSums past window sums = (class : ℕ) → class < 30 → slice_index sums class ≡ min (ran_in past window class) (2 ^ 64 - 1)
+AreSums past window sums = (class : ℕ) → class < 30
+    → slice_index sums class ≡ min (ran_in past window class) (2 ^ 64 - 1)
 
 -- the sums are those of the latest window and of the one before, and nothing ended later
 pub record HasWindows (past : List Ended) (s : Sums) : Type 0 where

@@ -4,3 +4,6 @@ pub mod Kept
 pub mod Rule
 pub mod Reserve
 pub mod Credit
+pub mod Course
+pub mod Bounds
+pub mod Signed

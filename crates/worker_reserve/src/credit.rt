@@ -1,13 +1,13 @@
 //! The credit of workers for staying free.
 ghost use Rattle.std.specs.Prelude.{◌≡◌, ◌<◌, ◌≤◌, ◌+◌, ◌-◌, ◌*◌, ◌/◌, min, max};
-ghost use Rattle.worker_reserve.specs.Credit.{after_passed, cap, counted, with_workers};
-ghost use Rattle.worker_reserve.specs.Rule.{IsInRange};
+ghost use Rattle.worker_reserve.specs.Credit.{after_passed, budget_of, with_workers};
+ghost use Rattle.worker_reserve.specs.Rule.{IsInRange, pause_of};
 
 use crate::rule::Budget;
 use std::marker::Model;
 
-/// What passed up to a moment since the last one, in microseconds: how many requests ran, how many workers declined, and
-/// when these were to be asked again.
+/// What passed up to a moment since the last one, in microseconds: how many requests ran, how many workers declined,
+/// and when these were to be asked again.
 #[derive(Clone, Copy, Debug)]
 pub struct Passed {
     pub moment: u64,
@@ -86,9 +86,7 @@ impl Credit {
 
     /// What the rule reads.
     pub fn budget(&self) -> Budget
-        ensures idle { result.idle_ppm ≡ self.now.idle_ppm }
-        ensures workers { result.workers ≡ self.now.workers }
-        ensures credit { result.credit ≡ cap self.now - self.now.used }
+        ensures budget { result ≡ budget_of self.now }
         ensures in_range { IsInRange result }
     {
         let cap = self.cap_of(self.workers);
@@ -113,7 +111,7 @@ impl Budget {
     /// How many microseconds later this number of workers, which decline, are asked again at the latest.
     pub fn pause(&self, declining: u32) -> u64
         requires { 0 < declining }
-        ensures { result ≡ max 61 (min 1000 (self.now.credit / 1000000 / declining + 1)) }
+        ensures { result ≡ pause_of self.now declining }
     {
         (self.credit / 1000000 / declining as u64 + 1)
             .min(1000)

@@ -1,8 +1,7 @@
 //! The reserve: the demand of all requests and of visitors', and the answer to a free worker.
-ghost use Rattle.std.specs.Prelude.{◌≡◌, ◌/◌, ◌≤◌, ◌++◌, ◌∷◌, [], ◌↔◌, IsTrue, if◌then◌else◌};
-ghost use Rattle.worker_reserve.specs.Classes.{class_of};
-ghost use Rattle.worker_reserve.specs.Demand.{IsPast, demand};
-ghost use Rattle.worker_reserve.specs.Reserve.{ReserveView, end_of, with_end};
+ghost use Rattle.std.specs.Prelude.{◌≡◌, ◌≤◌, ◌++◌, ◌∷◌, [], ◌↔◌, IsTrue, if◌then◌else◌};
+ghost use Rattle.worker_reserve.specs.Demand.{IsPast};
+ghost use Rattle.worker_reserve.specs.Reserve.{ReserveView, demand_beside, end_of, with_end};
 ghost use Rattle.worker_reserve.specs.Rule.{Declines, IsInRange};
 
 use crate::class::class_of;
@@ -10,8 +9,8 @@ use crate::demand::{Demand, Ended};
 use crate::rule::{Budget, Question};
 use std::marker::Model;
 
-/// The end of a request: the moment, how long it ran, its estimate and its cost, all in microseconds, and whether it was
-/// a visitor's when it was taken.
+/// The end of a request: the moment, how long it ran, its estimate and its cost, all in microseconds, and whether it
+/// was a visitor's when it was taken.
 #[derive(Clone, Copy, Debug)]
 pub struct Finished {
     pub moment: u64,
@@ -21,8 +20,8 @@ pub struct Finished {
     pub is_visitor: bool,
 }
 
-/// The demand of requests by size, of all and of visitors alone. It takes no memory after opening, and a call takes time
-/// for 30 classes. Contracts see the ends of all requests, and those of visitors' alone.
+/// The demand of requests by size, of all and of visitors alone. It takes no memory after opening, and a call takes
+/// time for 30 classes. Contracts see the ends of all requests, and those of visitors' alone.
 #[derive(Drop)]
 pub struct Reserve {
     all: Demand,
@@ -73,8 +72,8 @@ impl Reserve {
         requires visits_in_order { IsPast self.now.visits moment }
         requires estimate { estimate ≤ 1000000000 }
         requires budget { IsInRange budget.now }
-        ensures { IsTrue result ↔ Declines budget.now question.now (demand self.now.ends moment (class_of (estimate / 8)))
-            (demand self.now.visits moment (class_of (estimate / 8))) }
+        ensures { IsTrue result ↔ Declines budget.now question.now (demand_beside estimate self.now.ends moment)
+            (demand_beside estimate self.now.visits moment) }
     {
         let class = class_of(estimate / 8);
         let smaller = self.all.below(class, moment);
