@@ -27,28 +27,28 @@ pub missed : (C : Config) (H : History) → ((i : ℕ) → i < 41 → few_after 
 unfolding auto_slot
 missed C H below = ap (λ o. doubled_slot (unwrap_or o 0)) (sym (least_by (few_after C H) 41 None below))
 
-few_at_30 : (C : Config) (H : History) → InLimits C → IsLegal C H → few_after C H 30 ≡ true
-few_at_30 C H lim l =
+few_at_34 : (C : Config) (H : History) → InLimits C → IsLegal C H → few_after C H 34 ≡ true
+few_at_34 C H lim l =
     let low : last_moment H ≤ 10 ^ 15 = last_moment_small C H l in
-    let slots : slots_of H (doubled_slot 30) ≤ 932 = omega arith in
+    let slots : slots_of H (doubled_slot 34) ≤ 59 = omega arith in
     le-leb _ _ (omega (arith, mul-le _ _ _ _ slots lim.tenants.1))
 
 pub slot_low : (j : ℕ) → 1 ≤ doubled_slot j
 slot_low j = omega (arith, one-le-pow j 2 (lit≤ tt))
 
-slot_high : (j : ℕ) → j ≤ 30 → doubled_slot j ≤ 10 ^ 15
+slot_high : (j : ℕ) → j ≤ 34 → doubled_slot j ≤ 10 ^ 15
 slot_high j h = omega (arith, pow-le-pow_right {n = 2} (lit≤ tt) h)
 
 pub auto_slot_serves : AutoSlotServes
 auto_slot_serves C H lim l =
-    let some = least_exists (few_after C H) 41 30 (lit≤ tt) (few_at_30 C H lim l) in
+    let some = least_exists (few_after C H) 41 34 (lit≤ tt) (few_at_34 C H lim l) in
     let least : IsLeast (few_after C H) 41 (Some some.0) = least_some (few_after C H) 41 some.0 some.1 in
     let is : doubled_slot some.0 ≡ auto_slot C H = found C H some.0 least.1 least.0 least.2 in
-    let low : some.0 ≤ 30 = elim (cases_order some.0 30) [
+    let low : some.0 ≤ 34 = elim (cases_order some.0 34) [
       | inl e ↦ omega (arith, e)
       | inr o ↦ elim o [
         | inl less ↦ omega (arith, less)
-        | inr more ↦ absurd (false≢true (sym (least.2 30 more) ∙ few_at_30 C H lim l))
+        | inr more ↦ absurd (false≢true (sym (least.2 34 more) ∙ few_at_34 C H lim l))
       ]
     ] in
     subst (Serves C H) is (record { in_range = (slot_low some.0, slot_high some.0 low); few = least.0 })

@@ -61,14 +61,14 @@ fn a_request_from_its_submit_to_its_entry(rt: HostRuntime) {
 #[test]
 fn too_many_weights(rt: HostRuntime) {
     let mut handle = Handle::empty();
-    let weights = [0; 4097];
+    let weights = [0; 65537];
     expect_same(
         &rt,
         twodfq_open(&mut handle, rt.alloc(), &OPENING, &weights),
         17,
     );
     let workers = Opening {
-        workers: 65,
+        workers: 4097,
         ..OPENING
     };
     expect_same(
