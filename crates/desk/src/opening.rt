@@ -60,7 +60,9 @@ fn locked<J: Job + Drop, X: Chooser + Drop>(
     requires shown { Shows config [] shown }
     ensures { IfSome result (λ r. IsFresh (crew_for config submitters (board_of shown)) r.0 r.1) }
 {
-    let floor = Floor::open(alloc, config, submitters, shown).ok()?;
+    let Ok(floor) = Floor::open(alloc, config, submitters, shown) else {
+        return None;
+    };
     match HistoryLock::open(alloc, floor) {
         Ok((lock, pass)) => Some((lock, pass)),
         Err(_) => None,
